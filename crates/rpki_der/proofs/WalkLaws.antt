@@ -1,0 +1,111 @@
+-- From what a walk reads and refuses: that nothing else is read or refused.
+use Rattle.std.proofs.Common.{◌≡◌, ◌≢◌, ◌⊎◌, ℕ, ◌≤◌, List, [], ◌++◌, length, take, drop, refl, sym, ap, ◌∙◌, subst, arith, inl, inr, Result, Ok, Err, IfOk, IfErr, take-append-drop, length-append}
+use Rattle.std.proofs.lemmas.List.{length-take-le, drop_at}
+use Rattle.rpki_der.specs.declared.error.DecodeError.{DecodeError}
+use Rattle.rpki_der.specs.declared.error.DecodeError.TheVariants.{Truncated, BadTag, BadLength, Unexpected, Content, Trailing, OutOfMemory}
+use Rattle.rpki_der.specs.Reading.{Spells, Accepts, Refuses, Refusal, OrMemoryWhere}
+use Rattle.rpki_der.specs.Members.{IsValueOf, SpellsValue}
+use Rattle.rpki_der.specs.NestedFault.{IsNestedFault, IsCaptureFault}
+use Rattle.rpki_der.specs.Walk.{IsNotEmpty, SpellsAnyValue, CountsHeaders}
+use Rattle.rpki_der.proofs.ReadingLaws.{UnlessMemory-from, Refusal-weaker, Refusal-or-memory-where}
+use Rattle.rpki_der.proofs.MembersLaws.{one_beginning, half_of, value_some}
+use Rattle.rpki_der.proofs.NestedFaultLaws.{fault_or_value, fault_not_empty, one_fault}
+
+-- what a spelling of a value begins with is the value
+value_parts : {s v r : List ℕ} → Spells SpellsValue s v r → s ≡ v ++ r
+value_parts {s} {v} {r} sp = sp.parts ∙ ap (λ (x : List ℕ). x ++ r) sp.spelled.same
+
+no_value : {s : List ℕ} {e : DecodeError} → IsNestedFault s e → Refuses SpellsValue s
+no_value fault v r sp = fault_or_value r fault sp.spelled.value (value_parts sp)
+
+-- a fault, or want of memory where something is left
+refusal_of : (s : List ℕ) (e : DecodeError) → s ≢ [] → (e ≡ OutOfMemory) ⊎ IsNestedFault s e → Refusal SpellsValue (OrMemoryWhere IsNotEmpty IsNestedFault) s s e
+refusal_of s e some (inl z) = subst (λ (x : DecodeError). Refusal SpellsValue (OrMemoryWhere IsNotEmpty IsNestedFault) s s x) (sym z) (record { unchanged = refl; refuses = tt; kind = some })
+refusal_of s e some (inr f) = Refusal-or-memory-where IsNotEmpty IsNestedFault s s e (λ k. some) (record { unchanged = refl; refuses = UnlessMemory-from e (no_value f); kind = f })
+
+module _ (r : Result ℕ DecodeError) (s : List ℕ) (m : ℕ) (within : IfOk r (λ k. k ≤ length s)) (accepted : IfOk r (λ k. IsValueOf m (take k s))) (refused : IfErr r (λ e. (e ≡ OutOfMemory) ⊎ IsNestedFault s e)) where
+  pub front_accepted : IfOk r (λ k. Accepts SpellsValue s (take k s) (drop k s))
+  front_accepted = go r within accepted
+    where
+      go : (r : Result ℕ DecodeError) → IfOk r (λ k. k ≤ length s) → IfOk r (λ k. IsValueOf m (take k s)) → IfOk r (λ k. Accepts SpellsValue s (take k s) (drop k s))
+      go (Ok k) w a = record {
+        spells = record { front = take k s; parts = sym (take-append-drop k s); spelled = record { same = refl; value = a.0 } };
+        only = λ v q sp.
+            let parts : s ≡ v ++ q = value_parts sp in
+            let same = one_beginning (take k s) v (drop k s) q a.0 sp.spelled.value (take-append-drop k s ∙ parts) in
+            let size : length v ≡ k = ap length (sym same.0) ∙ length-take-le k s w in
+            (sym same.0, sym (ap (λ (x : List ℕ). drop k x) parts ∙ drop_at v q k size));
+      }
+      go (Err e) w a = tt
+
+  pub front_counted : IfOk r (λ k. CountsHeaders s (drop k s) m)
+  front_counted = go r accepted
+    where
+      go : (r : Result ℕ DecodeError) → IfOk r (λ k. IsValueOf m (take k s)) → IfOk r (λ k. CountsHeaders s (drop k s) m)
+      go (Ok k) a = record { value = take k s; parts = sym (take-append-drop k s); headers = a; half = half_of (take k s) m a }
+      go (Err e) a = tt
+
+  pub front_refused : s ≢ [] → IfErr r (λ e. Refusal SpellsValue (OrMemoryWhere IsNotEmpty IsNestedFault) s s e)
+  front_refused some = go r refused
+    where
+      go : (r : Result ℕ DecodeError) → IfErr r (λ e. (e ≡ OutOfMemory) ⊎ IsNestedFault s e) → IfErr r (λ e. Refusal SpellsValue (OrMemoryWhere IsNotEmpty IsNestedFault) s s e)
+      go (Ok k) f = tt
+      go (Err e) f = refusal_of s e some f
+
+  pub fault_named : (e : DecodeError) → IsNestedFault s e → (r ≡ Err OutOfMemory) ⊎ (r ≡ Err e)
+  fault_named e f = go r accepted refused
+    where
+      go : (r : Result ℕ DecodeError) → IfOk r (λ k. IsValueOf m (take k s)) → IfErr r (λ d. (d ≡ OutOfMemory) ⊎ IsNestedFault s d) → (r ≡ Err OutOfMemory) ⊎ (r ≡ Err e)
+      go (Ok k) a g = absurd (fault_or_value (drop k s) f a.0 (sym (take-append-drop k s)))
+      go (Err d) a (inl h) = inl (ap (λ (x : DecodeError). Err x) h)
+      go (Err d) a (inr h) = inr (ap (λ (x : DecodeError). Err x) (one_fault h f refl))
+
+-- ---- one value, whichever
+
+value_of_any : {s r : List ℕ} {v : Unit {0}} (sp : Spells SpellsAnyValue s v r) → Spells SpellsValue s sp.front r
+value_of_any sp = record { front = sp.front; parts = sp.parts; spelled = record { same = refl; value = sp.spelled } }
+
+pub any_accepted : {s v r : List ℕ} → Accepts SpellsValue s v r → Accepts SpellsAnyValue s tt r
+any_accepted {s} {v} {r} a = record {
+  spells = record { front = v; parts = value_parts a.spells; spelled = a.spells.spelled.value };
+  only = λ w q sp. (refl, (a.only sp.front q (value_of_any sp)).1);
+}
+
+pub any_refused : {K : List ℕ → DecodeError → Type 0} {s r : List ℕ} {e : DecodeError} → Refusal SpellsValue K s r e → Refusal SpellsAnyValue K s r e
+any_refused = Refusal-weaker (λ none v q sp. none sp.front q (value_of_any sp)) (λ k. k)
+
+-- what a value begins is something
+pub some_left : {s v r : List ℕ} → Accepts SpellsValue s v r → s ≢ []
+some_left {s} {v} {r} a z =
+    let parts = value_parts a.spells in
+    omega (arith, value_some a.spells.spelled.value, ap length (sym z ∙ parts), length-append v r)
+
+-- ---- capturing
+
+pub capture_refused : {s r : List ℕ} {e : DecodeError} → Refusal SpellsValue (OrMemoryWhere IsNotEmpty IsNestedFault) s r e → Refusal SpellsValue (OrMemoryWhere IsNotEmpty IsCaptureFault) s r e
+capture_refused {s} {r} {e} h = Refusal-weaker (λ none. none) (kind e) h
+  where
+    kind : (e : DecodeError) → OrMemoryWhere IsNotEmpty IsNestedFault s e → OrMemoryWhere IsNotEmpty IsCaptureFault s e
+    kind Truncated k = inr k
+    kind BadTag k = inr k
+    kind BadLength k = inr k
+    kind Unexpected k = inr k
+    kind (Content x) k = inr k
+    kind Trailing k = inr k
+    kind OutOfMemory k = k
+
+-- nothing is left
+pub capture_nothing : (s : List ℕ) → s ≡ [] → Refusal SpellsValue (OrMemoryWhere IsNotEmpty IsCaptureFault) s s Truncated
+capture_nothing s z = record {
+  unchanged = refl;
+  refuses = λ v r sp. omega (arith, value_some sp.spelled.value, ap length (sym z ∙ value_parts sp), length-append v r);
+  kind = inl (z, refl);
+}
+
+pub capture_fault : {s : List ℕ} {e : DecodeError} → s ≢ [] → IsCaptureFault s e → IsNestedFault s e
+capture_fault some (inl z) = absurd (some z.0)
+capture_fault some (inr f) = f
+
+pub nothing_fault : {s : List ℕ} {e : DecodeError} → s ≡ [] → IsCaptureFault s e → e ≡ Truncated
+nothing_fault none (inl z) = z.1
+nothing_fault none (inr f) = absurd (fault_not_empty f none)

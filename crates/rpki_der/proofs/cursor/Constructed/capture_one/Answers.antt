@@ -1,0 +1,20 @@
+use Rattle.std.proofs.Common.{◌≡◌, length, ap, sym, ◌∙◌, inr, Err}
+use Rattle.std.proofs.lemmas.List.{nil_from_length}
+use Rattle.std.proofs.lemmas.Bool.{eqb-true}
+use Rattle.rpki_der.specs.declared.error.DecodeError.{DecodeError}
+use Rattle.rpki_der.specs.Cursor.{left}
+use Rattle.rpki_der.proofs.WalkLaws.{capture_refused, capture_nothing, nothing_fault}
+use Rattle.rpki_der.proofs.cursor.Constructed.capture_one.Goals as goal
+
+pub returns-then-is_empty-clause-reads : goal.returns-then-is_empty-clause-reads
+returns-then-is_empty-clause-reads c =
+    let none : length c.rest-octets.result.now ≡ 0 = eqb-true _ _ (sym c.is_empty.ensures ∙ c.if-is_empty.true) in
+    capture_nothing (left c.args.self.now) (sym c.rest-octets.ensures ∙ nil_from_length c.rest-octets.result.now none)
+
+pub returns-then-is_empty-clause-fault : goal.returns-then-is_empty-clause-fault
+returns-then-is_empty-clause-fault c = λ e f.
+    let none : length c.rest-octets.result.now ≡ 0 = eqb-true _ _ (sym c.is_empty.ensures ∙ c.if-is_empty.true) in
+    inr (ap (λ (x : DecodeError). Err x) (sym (nothing_fault (sym c.rest-octets.ensures ∙ nil_from_length c.rest-octets.result.now none) f)))
+
+pub returns-in-Err-clause-reads : goal.returns-in-Err-clause-reads
+returns-in-Err-clause-reads c = rw (← c.rest-octets.ensures) (capture_refused c.in-Err.ensures.refused)

@@ -1,0 +1,39 @@
+use Rattle.std.proofs.Common.{arith}
+use Rattle.rpki_der.specs.Cursor.{left}
+use Rattle.rpki_der.proofs.CursorLaws.{front-of-cut, back-of-cut, seam-within}
+use Rattle.rpki_der.proofs.cursor.Constructed.split_at.Goals as goal
+
+pub overflow_add-seam : goal.overflow_add-seam
+unfolding left
+overflow_add-seam c =
+    let self = c.args.self.now in
+    let within = seam-within self.source.now self.start self.end c.args.at self.ordered self.inside c.requires in
+    omega arith
+
+pub invariant_of-front : goal.invariant_of-front
+unfolding left
+invariant_of-front c =
+    let self = c.args.self.now in
+    let within = seam-within self.source.now self.start self.end c.args.at self.ordered self.inside c.requires in
+    let inside = self.inside in
+    record { ordered = omega arith; inside = omega arith }
+
+pub invariant_of-behind : goal.invariant_of-behind
+unfolding left
+invariant_of-behind c =
+    let self = c.args.self.now in
+    let within = seam-within self.source.now self.start self.end c.args.at self.ordered self.inside c.requires in
+    let inside = self.inside in
+    record { ordered = omega arith; inside = omega arith }
+
+pub returns-clause-front : goal.returns-clause-front
+unfolding left
+returns-clause-front c =
+    let self = c.args.self.now in
+    front-of-cut self.source.now self.start self.end c.args.at (seam-within self.source.now self.start self.end c.args.at self.ordered self.inside c.requires)
+
+pub returns-clause-behind : goal.returns-clause-behind
+unfolding left
+returns-clause-behind c =
+    let self = c.args.self.now in
+    back-of-cut self.source.now self.start self.end c.args.at (seam-within self.source.now self.start self.end c.args.at self.ordered self.inside c.requires)

@@ -1,0 +1,31 @@
+use Rattle.std.proofs.Common.{false, refl, ◌∙◌}
+use Rattle.std.proofs.lemmas.Bool.{iff_false}
+use Rattle.rpki_der.specs.Cursor.{left}
+use Rattle.rpki_der.specs.Leaves.{IsBits}
+use Rattle.rpki_der.specs.Reading.{Finds}
+use Rattle.rpki_der.specs.TagName.{bit_string}
+use Rattle.rpki_der.specs.Values.{IsLeafFault, SpellsLeaf}
+use Rattle.rpki_der.proofs.ReadingLaws.{Refusal-or-memory-where}
+use Rattle.rpki_der.proofs.LeavesLaws.{leaf-refused, leaf-accepted, leaf-bad, bits-one, bits-empty, bits-unread, bits-read}
+use Rattle.rpki_der.proofs.cursor.Constructed.take_bit_string.Goals as goal
+
+pub returns-in-Err : goal.returns-in-Err
+returns-in-Err c = Refusal-or-memory-where (Finds (SpellsLeaf bit_string false IsBits)) (IsLeafFault bit_string false IsBits) _ _ c.in-Err.e (λ z. absurd z) (leaf-refused bit_string false IsBits _ _ _ c.in-Err.e refl c.in-Err.ensures)
+
+pub returns-in_default : goal.returns-in_default
+returns-in_default c =
+    Refusal-or-memory-where (Finds (SpellsLeaf bit_string false IsBits)) (IsLeafFault bit_string false IsBits) _ _ _ (λ z. absurd z)
+    (leaf-bad bit_string false IsBits _ (left c.in-Ok.contents) _ _ c.from_static.result refl c.in-Ok.ensures
+    (bits-empty (left c.in-Ok.contents) (rw (← c.rest.ensures) c.in_default.len_below)))
+
+pub returns-then-not-are_bits : goal.returns-then-not-are_bits
+returns-then-not-are_bits c =
+    Refusal-or-memory-where (Finds (SpellsLeaf bit_string false IsBits)) (IsLeafFault bit_string false IsBits) _ _ _ (λ z. absurd z)
+    (leaf-bad bit_string false IsBits _ (left c.in-Ok.contents) _ _ c.from_static-then-not-are_bits.result refl c.in-Ok.ensures
+    (bits-unread c.rest.result.now (left c.in-Ok.contents) c.rest.ensures c.in-len1-up.len_at_least (iff_false c.are_bits.ensures c.if-not-are_bits.true)))
+
+pub returns : goal.returns
+returns c =
+    let is = bits-read c.rest.result.now (left c.in-Ok.contents) c.in_ok-bytes.bytes c.new.result c.rest.ensures c.in-len1-up.len_at_least
+    (c.are_bits.ensures.0 c.if-not-are_bits.false) (c.in_ok-bytes.ensures ∙ c.split_at.ensures.behind) c.new.ensures in
+    leaf-accepted bit_string false IsBits _ (left c.in-Ok.contents) _ c.new.result c.in-Ok.ensures is (λ w p. bits-one c.new.result (left c.in-Ok.contents) w is p)

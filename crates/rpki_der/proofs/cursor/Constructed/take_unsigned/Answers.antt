@@ -1,0 +1,21 @@
+use Rattle.std.proofs.Common.{false, refl}
+use Rattle.rpki_der.specs.Cursor.{left}
+use Rattle.rpki_der.specs.Integer.{IsUnsigned}
+use Rattle.rpki_der.specs.TagName.{integer}
+use Rattle.rpki_der.proofs.LeavesLaws.{leaf-refused, leaf-accepted, leaf-bad}
+use Rattle.rpki_der.specs.Number.{number_of}
+use Rattle.rpki_der.proofs.Integers.{one-number}
+use Rattle.rpki_der.proofs.cursor.Constructed.take_unsigned.Goals as goal
+
+pub returns-in-Err : goal.returns-in-Err
+returns-in-Err c = leaf-refused integer false IsUnsigned _ _ _ c.in-Err.e refl c.in-Err.ensures
+
+pub returns-in-Some : goal.returns-in-Some
+returns-in-Some c =
+    let is = rw c.rest.ensures at c.in-Some.ensures.value in
+    leaf-accepted integer false IsUnsigned _ (left c.in-Ok.contents) _ (number_of c.in-Some.number) c.in-Ok.ensures is (λ w h. one-number w (number_of c.in-Some.number) (left c.in-Ok.contents) h is)
+
+pub returns-in-None : goal.returns-in-None
+returns-in-None c =
+    let none = rw c.rest.ensures at c.in-None.ensures.none in
+    leaf-bad integer false IsUnsigned _ (left c.in-Ok.contents) _ _ c.from_static.result refl c.in-Ok.ensures none

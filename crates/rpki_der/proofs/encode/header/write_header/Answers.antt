@@ -1,0 +1,5 @@
+use Rattle.rpki_der.proofs.Writing.{writes_of_cut}
+use Rattle.rpki_der.proofs.encode.header.write_header.Goals as goal
+
+pub returns : goal.returns
+returns g c = rw (← c.of_header.ensures, ← c.as_slice.ensures) (writes_of_cut _ _ _ _ c.write_whole.ensures)

@@ -1,0 +1,14 @@
+use Rattle.std.proofs.Common.{◌+◌, ◌-◌, ◌*◌, ◌≤◌, length}
+use Rattle.rpki_der.proofs.Walking.{IsWithin}
+use Rattle.rpki_der.proofs.walk.walk_value.Given as goal
+
+abbrev pub invariant-values : goal.invariant-values
+invariant-values l = record {
+  low : l.place ≤ length l.octets;
+  raised : l.fn.steps ≤ l.steps;
+  half : 2 * (l.steps - l.fn.steps) ≤ l.place;
+  within : IsWithin l.octets l.ends.items l.place (l.steps - l.fn.steps);
+}
+
+abbrev pub decreases-values : goal.decreases-values
+decreases-values l = (length l.octets - l.place) + length l.ends.items

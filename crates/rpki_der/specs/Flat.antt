@@ -1,0 +1,36 @@
+-- Values of any tag and form that is wanted: what take_value and its kin read.
+use Rattle.std.specs.Prelude.{ℕ, ◌≡◌, Bool, ◌⊎◌, List, Option, Some, None}
+use Rattle.rpki_der.specs.declared.error.DecodeError.{DecodeError}
+use Rattle.rpki_der.specs.declared.error.DecodeError.TheVariants.{Truncated, BadTag, BadLength, Unexpected, Content, Trailing, OutOfMemory}
+use Rattle.rpki_der.specs.declared.tag.Header.{Header}
+use Rattle.rpki_der.specs.TagName.{TagName}
+use Rattle.rpki_der.specs.Reading.{Spells, IsCut}
+use Rattle.rpki_der.specs.Values.{SpellsHeader, SpellsContents, IsHeaderFault}
+
+-- a value whose tag and form are wanted: its tag, its form and its contents
+pub record SpellsFlat (W : TagName → Bool → Type 0) (x : TagName × Bool × List ℕ) (p : List ℕ) : Type 0 where
+  pub wanted : W x.0 x.1
+  pub value : SpellsContents x.0 x.1 x.2 p
+
+-- every tag and form
+abbrev pub IsAnyTag : TagName → Bool → Type 0
+IsAnyTag t f = Unit {0}
+
+-- the first fault: that of the header; then another tag or form; then contents that are longer than what is left
+abbrev pub IsFlatFault : (TagName → Bool → Type 0) → List ℕ → DecodeError → Type 0
+IsFlatFault W s Truncated = IsCut SpellsHeader s ⊎ IsCut (SpellsFlat W) s
+IsFlatFault W s BadTag = IsHeaderFault s BadTag
+IsFlatFault W s BadLength = IsHeaderFault s BadLength
+IsFlatFault W s Unexpected = (h : Header) × (r : List ℕ) × Spells SpellsHeader s h r × (W h.tag h.constructed → ⊥)
+IsFlatFault W s (Content e) = ⊥
+IsFlatFault W s Trailing = ⊥
+IsFlatFault W s OutOfMemory = ⊥
+
+-- this tag, in either form
+abbrev pub IsTagged : TagName → TagName → Bool → Type 0
+IsTagged tag t f = t ≡ tag
+
+-- the tag that is wanted, or every tag
+abbrev pub IsWanted : Option TagName → TagName → Bool → Type 0
+IsWanted None t f = IsAnyTag t f
+IsWanted (Some tag) t f = IsTagged tag t f

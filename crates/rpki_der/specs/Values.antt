@@ -1,0 +1,82 @@
+-- Values by their header, and the first fault of who reads one.
+use Rattle.std.specs.Prelude.{◌≡◌, ℕ, Bool, ◌<◌, ◌^◌, ◌⊎◌, List, length}
+use Rattle.rpki_der.specs.declared.error.DecodeError.{DecodeError}
+use Rattle.rpki_der.specs.declared.error.DecodeError.TheVariants.{Truncated, BadTag, BadLength, Unexpected, Content, Trailing, OutOfMemory}
+use Rattle.rpki_der.specs.declared.tag.Header.{Header}
+use Rattle.rpki_der.specs.TagName.{TagName, IsTag}
+use Rattle.rpki_der.specs.Header.{identifier_octets, header_octets, IsHeader, tlv}
+use Rattle.rpki_der.specs.Reading.{Spells, Refuses, IsCut, TakesNoMemory}
+
+-- identifier octets
+pub record SpellsIdentifier (i : TagName × Bool) (p : List ℕ) : Type 0 where
+  pub legal : IsTag i.0
+  pub octets : p ≡ identifier_octets i.0 i.1
+
+-- a header
+pub record SpellsHeader (h : Header) (p : List ℕ) : Type 0 where
+  pub legal : IsHeader h
+  pub octets : p ≡ header_octets h
+
+-- a value of this tag and form, whatever its contents
+pub record SpellsContents (t : TagName) (f : Bool) (contents p : List ℕ) : Type 0 where
+  pub tag : IsTag t
+  pub fits : length contents < 2 ^ 32
+  pub octets : p ≡ tlv t f contents
+
+-- a value of this tag and form, whose contents spell v
+pub record SpellsLeaf {V : Type 0} (t : TagName) (f : Bool) (C : V → List ℕ → Type 0) (v : V) (p : List ℕ) : Type 0 where
+  pub contents : List ℕ
+  pub value : SpellsContents t f contents p
+  pub spelled : C v contents
+
+-- s begins with the identifier octets of the tag, in one form or the other
+abbrev pub HasTag : TagName → List ℕ → Type 0
+HasTag t s = (f : Bool) × (r : List ℕ) × Spells SpellsIdentifier s (t, f) r
+
+-- s begins with identifier octets
+abbrev pub HasIdentifier : List ℕ → Type 0
+HasIdentifier s = (i : TagName × Bool) × (r : List ℕ) × Spells SpellsIdentifier s i r
+
+-- The fault of a list that no header begins: Truncated if it is a proper beginning of one; BadTag if no identifier
+-- octets begin it and it begins none; else BadLength.
+abbrev pub IsHeaderFault : List ℕ → DecodeError → Type 0
+IsHeaderFault s Truncated = IsCut SpellsHeader s
+IsHeaderFault s BadTag = (HasIdentifier s → ⊥) × (IsCut SpellsIdentifier s → ⊥)
+IsHeaderFault s BadLength = HasIdentifier s × Refuses SpellsHeader s × (IsCut SpellsHeader s → ⊥)
+IsHeaderFault s Unexpected = ⊥
+IsHeaderFault s (Content e) = ⊥
+IsHeaderFault s Trailing = ⊥
+IsHeaderFault s OutOfMemory = ⊥
+
+-- a header of another tag or form begins s
+abbrev pub HasOther : TagName → Bool → List ℕ → Type 0
+HasOther t f s = (h : Header) × (r : List ℕ) × Spells SpellsHeader s h r × ((h.tag ≡ t) × (h.constructed ≡ f) → ⊥)
+
+-- The first fault of a reader of values of one tag and form: that of the header; then another tag or form; then
+-- contents that are longer than what is left.
+abbrev pub IsContentsFault : TagName → Bool → List ℕ → DecodeError → Type 0
+IsContentsFault t f s Truncated = IsCut SpellsHeader s ⊎ IsCut (SpellsContents t f) s
+IsContentsFault t f s BadTag = IsHeaderFault s BadTag
+IsContentsFault t f s BadLength = IsHeaderFault s BadLength
+IsContentsFault t f s Unexpected = HasOther t f s
+IsContentsFault t f s (Content e) = ⊥
+IsContentsFault t f s Trailing = ⊥
+IsContentsFault t f s OutOfMemory = ⊥
+
+-- The same of a leaf; and then contents that spell nothing.
+abbrev pub IsLeafFault : {V : Type 0} → TagName → Bool → (V → List ℕ → Type 0) → List ℕ → DecodeError → Type 0
+IsLeafFault t f C s Truncated = IsContentsFault t f s Truncated
+IsLeafFault t f C s BadTag = IsContentsFault t f s BadTag
+IsLeafFault t f C s BadLength = IsContentsFault t f s BadLength
+IsLeafFault t f C s Unexpected = IsContentsFault t f s Unexpected
+IsLeafFault {V} t f C s (Content e) = (c : List ℕ) × (r : List ℕ) × Spells (SpellsContents t f) s c r × ((v : V) → C v c → ⊥)
+IsLeafFault t f C s Trailing = ⊥
+IsLeafFault t f C s OutOfMemory = ⊥
+
+-- A composed reader of one value gives the very fault of that value where there is none; elsewhere any kind.
+abbrev pub GivesOuterFault : TagName → Bool → List ℕ → DecodeError → Type 0
+GivesOuterFault t f s e = Refuses (SpellsContents t f) s → IsContentsFault t f s e
+
+-- The same, and never want of memory.
+abbrev pub IsOuterFault : TagName → Bool → List ℕ → DecodeError → Type 0
+IsOuterFault t f = TakesNoMemory (GivesOuterFault t f)

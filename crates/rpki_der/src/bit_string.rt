@@ -1,0 +1,139 @@
+//! Bit strings.
+
+ghost use Rattle.std.specs.Prelude.{false, ◌≡◌, ◌<◌, ◌∷◌, length, drop, IsTrue, IfOk, ◌↔◌};
+ghost use Rattle.rpki_der.specs.Leaves.{AreBits, bits_of};
+
+use crate::cursor::Constructed;
+use crate::error::{ContentError, DecodeError};
+use crate::tag::Tag;
+use bytes::Bytes;
+use std::alloc::AllocError;
+use std::marker::Model;
+
+/// A bit string (X.690 8.6): shared octets, and how many bits of the last octet are not used.
+///
+/// At most seven bits are unused, none where there is no octet, and all of them are zero (X.690 11.2.1).
+#[derive(Debug, Drop)]
+pub struct BitString {
+    unused: u8,
+    bytes: Bytes,
+}
+
+impl Model for BitString {
+    ghost use Rattle.rpki_der.specs.Leaves.{Bits, AreBits, bits_of};
+
+    ghost Value = { Bits };
+
+    ghost view = { λ b. bits_of b.unused b.bytes };
+
+    ghost invariant = { λ b. AreBits (bits_of b.unused b.bytes) };
+}
+
+impl BitString {
+    /// The bit string of these octets, of whose last this many bits are unused. The count is at most 7, 0 where there
+    /// is no octet, and those bits are zero.
+    pub fn new(unused: u8, bytes: Bytes) -> BitString
+        requires { AreBits (bits_of unused bytes) }
+        ensures { result ≡ bits_of unused bytes }
+    {
+        BitString { unused, bytes }
+    }
+
+    /// How many bits of the last octet are not used: 0 to 7.
+    pub fn unused(&self) -> u8
+        ensures value { result ≡ self.now.unused }
+        ensures legal { AreBits self.now }
+    {
+        self.unused
+    }
+
+    /// The octets.
+    pub fn octet_slice(&self) -> &[u8]
+        ensures { result.now ≡ self.now.octets }
+    {
+        self.bytes.as_slice()
+    }
+
+    /// The octets, shared.
+    ///
+    /// AllocError where memory runs out.
+    pub fn octet_bytes(&self) -> Result<Bytes, AllocError>
+        ensures { IfOk result (λ b. b ≡ self.now.octets) }
+    {
+        self.bytes.clone()
+    }
+
+    /// The same bit string, whose octets are shared.
+    ///
+    /// AllocError where memory runs out.
+    pub fn clone(&self) -> Result<BitString, AllocError>
+        ensures { IfOk result (λ b. b ≡ self.now) }
+    {
+        let bytes = self.bytes.clone()?;
+        Ok(BitString {
+            unused: self.unused,
+            bytes,
+        })
+    }
+}
+
+/// Two bit strings are equal where their octets and their counts of unused bits are.
+impl PartialEq for BitString {
+    ghost use Rattle.rpki_der.specs.Equal.{same_bits, same_bits_equivalence};
+    ghost use Rattle.std.specs.Cmp.{partial_equiv_from_equiv};
+
+    ghost eq = { same_bits };
+
+    ghost laws = { partial_equiv_from_equiv same_bits_equivalence };
+
+    fn eq(&self, other: &BitString) -> bool {
+        self.unused == other.unused && self.bytes.as_slice() == other.bytes.as_slice()
+    }
+}
+
+impl Eq for BitString {
+    ghost use Rattle.rpki_der.specs.Equal.{same_bits_equivalence};
+
+    ghost laws = { same_bits_equivalence };
+}
+
+/// Whether the octets may have this many unused bits.
+pub(crate) fn are_bits(unused: u8, octets: &[u8]) -> bool
+    ensures { IsTrue result ↔ AreBits (bits_of unused octets.now) }
+{
+    match octets.last() {
+        None => unused == 0,
+        Some(last) => unused < 8 && *last % (1 << unused) == 0,
+    }
+}
+
+impl<'a> Constructed<'a> {
+    ghost use Rattle.rpki_der.specs.Cursor.{left};
+    ghost use Rattle.rpki_der.specs.TagName.{bit_string};
+    ghost use Rattle.rpki_der.specs.Reading.{Reads, OrMemoryWhere, Finds};
+    ghost use Rattle.rpki_der.specs.Values.{SpellsLeaf, IsLeafFault};
+    ghost use Rattle.rpki_der.specs.Leaves.{IsBits};
+
+    /// A bit string (X.690 8.6, 11.2). It shares the octets with the input.
+    ///
+    /// The refusals are those of a header; then Unexpected for another tag or form; then Truncated; then Content for
+    /// contents that are no bit string; then OutOfMemory.
+    pub fn take_bit_string(&mut self) -> Result<BitString, DecodeError>
+        ensures { Reads (λ b. b) (SpellsLeaf bit_string false IsBits) (OrMemoryWhere (Finds (SpellsLeaf bit_string false IsBits)) (IsLeafFault bit_string false IsBits)) (left self.old) (left self.new) result }
+    {
+        let mut after = *self;
+        let contents = match after.take_contents(Tag::BIT_STRING, false) {
+            Ok(contents) => contents,
+            Err(e) => return Err(e),
+        };
+        let [unused, octets @ ..] = contents.rest() else {
+            return Err(DecodeError::Content(ContentError::from_static("malformed BIT STRING")));
+        };
+        if !are_bits(*unused, octets) {
+            return Err(DecodeError::Content(ContentError::from_static("malformed BIT STRING")));
+        }
+        let bytes = contents.split_at(1).1.to_bytes()?;
+        *self = after;
+        Ok(BitString::new(*unused, bytes))
+    }
+}

@@ -1,0 +1,154 @@
+//! A cursor over shared octets.
+
+ghost use Rattle.std.specs.Prelude.{◌≡◌, ◌≢◌, ◌≤◌, ◌<◌, ◌+◌, ◌-◌, ◌^◌, ℕ, List, [], length, take, drop, IsTrue, ◌↔◌, MatchResult, IfOk, IfErr};
+
+use crate::error::DecodeError;
+use crate::header::{begins_with, header};
+use crate::tag::{Header, Steps, Tag};
+use bytes::Bytes;
+use std::alloc::AllocError;
+
+/// What is left of shared octets, or of the contents of a value in them.
+///
+/// A reader moves the cursor past what it reads. A reader that refuses leaves it where it was.
+#[derive(Clone, Copy)]
+pub struct Constructed<'a> {
+    source: &'a Bytes,
+    start: usize,
+    end: usize,
+    ghost ordered: { start ≤ end },
+    ghost inside: { end ≤ length source.now },
+}
+
+impl<'a> Constructed<'a> {
+    ghost use Rattle.rpki_der.specs.Cursor.{left};
+    ghost use Rattle.rpki_der.specs.Reading.{Reads, Accepts, Refuses};
+    ghost use Rattle.rpki_der.specs.Values.{SpellsHeader, HasTag, IsHeaderFault};
+
+    /// A cursor on all of the octets.
+    #[tactic(auto, using(crate::proofs::CursorLaws::cuts), unfolding(crate::specs::Cursor::left))]
+    pub fn new(source: &'a Bytes) -> Constructed<'a>
+        ensures { left result ≡ source.now }
+    {
+        Constructed {
+            source,
+            start: 0,
+            end: source.len(),
+        }
+    }
+
+    /// The octets that are left.
+    #[tactic(auto, using(crate::proofs::CursorLaws::cuts), unfolding(crate::specs::Cursor::left))]
+    pub fn rest(&self) -> &'a [u8]
+        ensures { result.now ≡ left self.now }
+    {
+        &self.source.as_slice()[self.start..self.end]
+    }
+
+    /// Whether nothing is left.
+    #[tactic(auto, using(crate::proofs::CursorLaws::cuts), unfolding(crate::specs::Cursor::left))]
+    pub fn is_empty(&self) -> bool
+        ensures { IsTrue result ↔ (left self.now ≡ []) }
+    {
+        self.start == self.end
+    }
+
+    /// How many octets are left.
+    #[tactic(auto, using(crate::proofs::CursorLaws::cuts), unfolding(crate::specs::Cursor::left))]
+    pub(crate) fn len(&self) -> usize
+        ensures { result ≡ length (left self.now) }
+    {
+        self.end - self.start
+    }
+
+    /// The first octets, as many as are asked for, and those behind them.
+    pub(crate) fn split_at(&self, at: usize) -> (Constructed<'a>, Constructed<'a>)
+        requires { at ≤ length (left self.now) }
+        ensures front { left result.0 ≡ take at (left self.now) }
+        ensures behind { left result.1 ≡ drop at (left self.now) }
+    {
+        let seam = self.start + at;
+        let front = Constructed {
+            source: self.source,
+            start: self.start,
+            end: seam,
+        };
+        let behind = Constructed {
+            source: self.source,
+            start: seam,
+            end: self.end,
+        };
+        (front, behind)
+    }
+
+    /// Ok where nothing is left, else Trailing. The last step of who reads all of something.
+    pub fn finish(self) -> Result<(), DecodeError>
+        ensures { MatchResult result (λ _. left self.entry ≡ []) (λ e. (e ≡ DecodeError.Trailing) × (left self.entry ≢ [])) }
+    {
+        if self.is_empty() {
+            Ok(())
+        } else {
+            Err(DecodeError::Trailing)
+        }
+    }
+
+    /// The header at the front, and a cursor on what is behind.
+    pub(crate) fn after_header(&self) -> Result<(Header, Constructed<'a>), DecodeError>
+        ensures ok { IfOk result (λ x. Accepts SpellsHeader (left self.now) x.0 (left x.1)) }
+        ensures err { IfErr result (λ e. Refuses SpellsHeader (left self.now) × IsHeaderFault (left self.now) e) }
+    {
+        match header(self.rest()) {
+            Ok((found, rest)) => Ok((
+                found,
+                Constructed {
+                    source: self.source,
+                    start: self.end - rest.len(),
+                    end: self.end,
+                },
+            )),
+            Err(e) => Err(e),
+        }
+    }
+
+    /// The header at the front (X.690 8.1.2, 8.1.3). The cursor moves past the header alone.
+    ///
+    /// The steps rise by one, also where the call refuses; their count is below 2^64 - 1. The refusals are Truncated,
+    /// BadTag and BadLength: the octets are looked at from the left, and the first that can't be continued to a
+    /// legal spelling decides.
+    pub fn take_header(&mut self, steps: &mut Steps) -> Result<Header, DecodeError>
+        requires { steps.old < 2 ^ 64 - 1 }
+        ensures reads { Reads (λ h. h) SpellsHeader IsHeaderFault (left self.old) (left self.new) result }
+        ensures counted { steps.new ≡ steps.old + 1 }
+    {
+        steps.raise();
+        match self.after_header() {
+            Ok((found, behind)) => {
+                *self = behind;
+                Ok(found)
+            }
+            Err(e) => Err(e),
+        }
+    }
+
+    /// Whether what is left begins with the identifier octets of this tag, in either form.
+    pub(crate) fn has_tag(&self, tag: Tag) -> bool
+        ensures { IsTrue result ↔ HasTag tag (left self.now) }
+    {
+        begins_with(self.rest(), tag)
+    }
+
+    /// Whether exactly these octets are left.
+    pub(crate) fn is_only(&self, expected: &[u8]) -> bool
+        ensures { IsTrue result ↔ (left self.now ≡ expected.now) }
+    {
+        self.rest() == expected
+    }
+
+    /// The octets that are left, shared.
+    #[tactic(auto, using(crate::proofs::CursorLaws::cuts), unfolding(crate::specs::Cursor::left))]
+    pub(crate) fn to_bytes(&self) -> Result<Bytes, AllocError>
+        ensures { IfOk result (λ b. b ≡ left self.now) }
+    {
+        self.source.slice(self.start..self.end)
+    }
+}

@@ -1,0 +1,37 @@
+//! Captured values, written as they stand.
+
+ghost use Rattle.rpki_der.specs.Members.{IsValueList};
+
+use super::values::Values;
+use super::whole::write_whole;
+use crate::captured::Captured;
+use std::io;
+use std::io::Write;
+
+/// The values as they stand.
+impl<'a> Values for &'a Captured {
+    ghost encoded = { λ x. x.now };
+
+    ghost is_short = { λ x. IsValueList x.now };
+
+    ghost are_values = { λ x h. h };
+
+    fn fits(&self) -> bool {
+        // their clauses say that these are values, and fewer than 2^63 octets
+        let _ = self.values();
+        let _ = self.as_slice();
+        true
+    }
+
+    fn count(&self) -> u64 {
+        self.values() as u64
+    }
+
+    fn encoded_len(&self) -> u64 {
+        self.as_slice().len() as u64
+    }
+
+    fn write_encoded<W: Write>(&self, out: &mut W) -> Result<(), io::Error> {
+        write_whole(out, self.as_slice())
+    }
+}

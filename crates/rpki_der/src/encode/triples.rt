@@ -1,0 +1,46 @@
+//! Three lists of values, one after another.
+
+ghost use Rattle.std.specs.Prelude.{◌++◌};
+
+use super::values::Values;
+use std::io;
+use std::io::Write;
+
+/// The values of the first, those of the second, and those of the third.
+#[tactic(auto, using(crate::proofs::Writing::writes_then, crate::proofs::Writing::beginning_more, crate::proofs::Writing::beginning_then, crate::specs::Joined::values_append, crate::proofs::EncodeLaws::count_at_most))]
+impl<A: Values, B: Values, C: Values> Values for (A, B, C) {
+    ghost encoded = { λ x. A.encoded x.0 ++ B.encoded x.1 ++ C.encoded x.2 };
+
+    ghost is_short = { λ x. A.is_short x.0 × B.is_short x.1 × C.is_short x.2 };
+
+    ghost use Rattle.rpki_der.specs.Joined.{value_lists_append};
+
+    ghost are_values = { λ x h. value_lists_append (A.encoded x.0 ++ B.encoded x.1) (C.encoded x.2)
+        (value_lists_append (A.encoded x.0) (B.encoded x.1) (A.are_values x.0 h.0) (B.are_values x.1 h.1)) (C.are_values x.2 h.2) };
+
+    fn fits(&self) -> bool {
+        if !(self.0.fits() && self.1.fits() && self.2.fits()) {
+            return false;
+        }
+        let first_two = self.0.encoded_len() + self.1.encoded_len();
+        first_two < 1 << 63 && first_two + self.2.encoded_len() < 1 << 63
+    }
+
+    fn count(&self) -> u64 {
+        self.0.count() + self.1.count() + self.2.count()
+    }
+
+    fn encoded_len(&self) -> u64 {
+        self.0.encoded_len() + self.1.encoded_len() + self.2.encoded_len()
+    }
+
+    fn write_encoded<W: Write>(&self, out: &mut W) -> Result<(), io::Error> {
+        match self.0.write_encoded(out) {
+            Ok(()) => match self.1.write_encoded(out) {
+                Ok(()) => self.2.write_encoded(out),
+                Err(e) => Err(e),
+            },
+            Err(e) => Err(e),
+        }
+    }
+}

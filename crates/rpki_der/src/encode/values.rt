@@ -1,0 +1,46 @@
+//! Lists of values that can be written.
+
+ghost use Rattle.std.specs.Prelude.{◌≡◌, ℕ, List, ◌<◌, ◌^◌, ◌↔◌, length, IsTrue};
+ghost use Rattle.rpki_der.specs.Written.{Writes};
+ghost use Rattle.rpki_der.specs.Members.{AreValues, IsValueList};
+
+use std::io;
+use std::io::Write;
+
+/// A list of well-formed values that can be written.
+///
+/// `fits` is the condition of the other three methods: a length announces fewer than 2^32 octets of contents, and
+/// what is written as a whole has fewer than 2^63 octets.
+pub trait Values {
+    /// The octets that are written.
+    ghost encoded: { Self → List ℕ };
+
+    /// Each value, at each depth, has contents of fewer than 2^32 octets.
+    ghost is_short: { Self → Type 0 };
+
+    /// Whether the values can be written: each value, at each depth, has contents of fewer than 2^32 octets, and all
+    /// together have fewer than 2^63.
+    fn fits(&self) -> bool
+        ensures { IsTrue result ↔ (is_short self.now × (length (encoded self.now) < 2 ^ 63)) };
+
+    /// How many values are written, those inside others aside.
+    fn count(&self) -> u64
+        requires { is_short self.now × (length (encoded self.now) < 2 ^ 63) }
+        ensures { AreValues result (encoded self.now) };
+
+    /// How many octets are written.
+    fn encoded_len(&self) -> u64
+        requires { is_short self.now × (length (encoded self.now) < 2 ^ 63) }
+        ensures { result ≡ length (encoded self.now) };
+
+    /// Writes the values.
+    ///
+    /// The first error of the writer ends the call and is answered; a write of 0 octets is an error of the kind
+    /// `WriteZero`. After an error the writer holds a beginning of the octets.
+    fn write_encoded<W: Write>(&self, out: &mut W) -> Result<(), io::Error>
+        requires { is_short self.now × (length (encoded self.now) < 2 ^ 63) }
+        ensures { Writes (W.contents out.old) (W.contents out.new) result (encoded self.now) };
+
+    /// What is written are values, one after another.
+    ghost are_values: { (x : Self) → is_short x → IsValueList (encoded x) };
+}

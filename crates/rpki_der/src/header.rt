@@ -1,0 +1,142 @@
+//! Headers, read from the front of a slice.
+
+ghost use Rattle.std.specs.Prelude.{◌≡◌, ◌≤◌, List, ℕ, IfOk, IfErr, IsTrue, ◌↔◌};
+ghost use Rattle.rpki_der.specs.Reading.{Accepts, Refuses};
+ghost use Rattle.rpki_der.specs.Values.{SpellsHeader, HasTag, IsHeaderFault};
+ghost use Rattle.rpki_der.specs.HeaderReading.{Gives, class_at, number_at, identifier_at, octets_at, length_at, header_at};
+
+use crate::error::DecodeError;
+use crate::tag::{Class, Header, Tag};
+
+/// The number of a tag, in digits of base 128 that all but the last have the top bit set.
+fn tag_number(s: &[u8]) -> Result<(u32, &[u8]), DecodeError>
+    ensures { Gives (λ x. (x.0, x.1.now)) result (number_at 4 0 s.now) }
+{
+    let mut number: u32 = 0;
+    for i in 0..4usize {
+        if i >= s.len() {
+            return Err(DecodeError::Truncated);
+        }
+        let octet = s[i];
+        number = number * 128 + u32::from(octet % 128);
+        if octet < 128 {
+            if number < 31 {
+                return Err(DecodeError::BadTag);
+            }
+            return Ok((number, &s[i + 1..]));
+        }
+        if number == 0 {
+            return Err(DecodeError::BadTag);
+        }
+    }
+    Err(DecodeError::BadTag)
+}
+
+/// The identifier octets at the front: the tag, whether the value is constructed, and what is behind.
+#[tactic(auto, unfolding(crate::specs::HeaderReading::identifier_at))]
+fn identifier(s: &[u8]) -> Result<(Tag, bool, &[u8]), DecodeError>
+    ensures { Gives (λ x. ((x.0, x.1), x.2.now)) result (identifier_at s.now) }
+{
+    let [first, rest @ ..] = s else {
+        return Err(DecodeError::Truncated);
+    };
+    let class = class_of(*first / 64);
+    let constructed = *first / 32 % 2 == 1;
+    let low = u32::from(*first % 32);
+    if low < 31 {
+        if *first / 64 == 0 && low == 0 {
+            return Err(DecodeError::BadTag);
+        }
+        return Ok((Tag::new(class, low), constructed, rest));
+    }
+    let (number, rest) = tag_number(rest)?;
+    Ok((Tag::new(class, number), constructed, rest))
+}
+
+/// The class with this number, from 0 to 3.
+fn class_of(number: u8) -> Class
+    ensures { result ≡ class_at number }
+{
+    match number {
+        0 => Class::Universal,
+        1 => Class::Application,
+        2 => Class::Context,
+        _ => Class::Private,
+    }
+}
+
+/// The length octets at the front, and what is behind.
+#[tactic(auto, unfolding(crate::specs::HeaderReading::length_at))]
+fn length(s: &[u8]) -> Result<(u32, &[u8]), DecodeError>
+    ensures { Gives (λ x. (x.0, x.1.now)) result (length_at s.now) }
+{
+    let [first, rest @ ..] = s else {
+        return Err(DecodeError::Truncated);
+    };
+    if *first < 128 {
+        return Ok((u32::from(*first), rest));
+    }
+    if *first == 128 || *first > 132 {
+        return Err(DecodeError::BadLength);
+    }
+    long_length(usize::from(*first) - 128, rest)
+}
+
+/// A length in this many octets, most significant first, and what is behind.
+fn long_length(count: usize, s: &[u8]) -> Result<(u32, &[u8]), DecodeError>
+    requires { count ≤ 4 }
+    ensures { Gives (λ x. (x.0, x.1.now)) result (octets_at count 0 s.now) }
+{
+    let mut length: u32 = 0;
+    for i in 0..count {
+        if i >= s.len() {
+            return Err(DecodeError::Truncated);
+        }
+        length = length * 256 + u32::from(s[i]);
+        if length == 0 {
+            return Err(DecodeError::BadLength);
+        }
+    }
+    if length < 128 {
+        return Err(DecodeError::BadLength);
+    }
+    Ok((length, &s[count..]))
+}
+
+/// The header at the front, and what is behind.
+pub fn header(s: &[u8]) -> Result<(Header, &[u8]), DecodeError>
+    ensures ok { IfOk result (λ x. Accepts SpellsHeader s.now x.0 x.1.now) }
+    ensures err { IfErr result (λ e. Refuses SpellsHeader s.now × IsHeaderFault s.now e) }
+{
+    plain_header(s)
+}
+
+#[tactic(auto, unfolding(crate::specs::HeaderReading::header_at))]
+fn plain_header(s: &[u8]) -> Result<(Header, &[u8]), DecodeError>
+    ensures { Gives (λ x. (x.0, x.1.now)) result (header_at s.now) }
+{
+    // `?` has no rule here, since a `Tag` has an invariant and stands beside a reference
+    let (tag, constructed, rest) = match identifier(s) {
+        Ok(found) => found,
+        Err(e) => return Err(e),
+    };
+    let (length, rest) = length(rest)?;
+    Ok((
+        Header {
+            tag,
+            constructed,
+            length,
+        },
+        rest,
+    ))
+}
+
+/// Whether the slice begins with the identifier octets of this tag, in either form.
+pub fn begins_with(s: &[u8], tag: Tag) -> bool
+    ensures { IsTrue result ↔ HasTag tag s.now }
+{
+    match identifier(s) {
+        Ok(found) => found.0.is_same(tag),
+        Err(_) => false,
+    }
+}

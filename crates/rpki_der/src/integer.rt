@@ -1,0 +1,138 @@
+//! Whole numbers that are not negative.
+
+ghost use Rattle.std.specs.Prelude.{false, ◌≡◌, ◌≢◌, ◌<◌, ◌↔◌, ℕ, [], length, drop, IfOk, IfErr, IfSome, IfNone};
+ghost use Rattle.rpki_der.specs.Number.{number_of};
+ghost use Rattle.rpki_der.specs.Integer.{IsUnsigned, IsMagnitude};
+
+use crate::cursor::Constructed;
+use crate::error::{ContentError, DecodeError};
+use crate::tag::Tag;
+use std::alloc::AllocError;
+use std::marker::Model;
+
+/// Why octets are taken for no number.
+#[derive(Clone, Copy, Debug, PartialEq, Eq)]
+pub enum InvalidInteger {
+    /// There are none.
+    Empty,
+    /// Memory ran out.
+    OutOfMemory,
+}
+
+impl From<AllocError> for InvalidInteger {
+    ghost use Rattle.std.specs.Prelude.{◌≡◌};
+    ghost use Rattle.rpki_der.specs.declared.integer.InvalidInteger.TheVariants.{OutOfMemory};
+
+    ghost from_gives = { λ _ e. e ≡ OutOfMemory };
+
+    fn from(_e: AllocError) -> InvalidInteger {
+        InvalidInteger::OutOfMemory
+    }
+}
+
+/// A whole number that is not negative: its octets, the most significant first, without zeros in front; zero is one
+/// octet.
+#[derive(Debug, Drop)]
+pub struct Unsigned<'a> {
+    octets: &'a [u8],
+}
+
+impl<'a> Model for Unsigned<'a> {
+    ghost use Rattle.std.specs.Prelude.{ℕ, List};
+    ghost use Rattle.rpki_der.specs.Integer.{IsMagnitude};
+
+    ghost Value = { List ℕ };
+
+    ghost view = { λ u. u.octets.now };
+
+    ghost invariant = { λ u. IsMagnitude u.octets.now };
+}
+
+/// How many zeros can be left out in front of the octets: all, but for the last octet.
+fn leading_zeros(octets: &[u8]) -> usize
+    requires { 0 < length octets.now }
+    ensures within { result < length octets.now }
+    ensures magnitude { IsMagnitude (drop result octets.now) }
+    ensures value { number_of (drop result octets.now) ≡ number_of octets.now }
+{
+    let mut start = 0;
+    while start + 1 < octets.len() && octets[start] == 0 {
+        start += 1;
+    }
+    start
+}
+
+impl<'a> Unsigned<'a> {
+    /// The number that the octets write, the most significant first. Zeros in front are left out.
+    ///
+    /// Empty where there are no octets. It takes no memory.
+    pub fn from_slice(octets: &'a [u8]) -> Result<Unsigned<'a>, InvalidInteger>
+        ensures value { IfOk result (λ u. number_of u ≡ number_of octets.now) }
+        ensures magnitude { IfOk result IsMagnitude }
+        ensures some { IfOk result (λ _. octets.now ≢ []) }
+        ensures refused { IfErr result (λ e. (e ≡ InvalidInteger.Empty) × (octets.now ≡ [])) }
+    {
+        if octets.is_empty() {
+            return Err(InvalidInteger::Empty);
+        }
+        let start = leading_zeros(octets);
+        Ok(Unsigned {
+            octets: &octets[start..],
+        })
+    }
+
+    /// The octets of the number, the most significant first, without zeros in front; zero is one octet.
+    pub fn as_slice(&self) -> &'a [u8]
+        ensures octets { result.now ≡ self.now }
+        ensures magnitude { IsMagnitude self.now }
+    {
+        self.octets
+    }
+}
+
+/// The number whose INTEGER has these contents, if it is not negative and none of its octets can be left out.
+fn unsigned_of(contents: &[u8]) -> Option<Unsigned<'_>>
+    ensures value { IfSome result (λ u. IsUnsigned (number_of u) contents.now) }
+    ensures none { IfNone result ((n : ℕ) → IsUnsigned n contents.now → ⊥) }
+{
+    if contents.is_empty() || contents[0] >= 128 {
+        return None;
+    }
+    if contents.len() == 1 || contents[0] > 0 {
+        return Some(Unsigned { octets: contents });
+    }
+    if contents[1] < 128 {
+        return None;
+    }
+    Some(Unsigned {
+        octets: &contents[1..],
+    })
+}
+
+impl<'a> Constructed<'a> {
+    ghost use Rattle.rpki_der.specs.Cursor.{left};
+    ghost use Rattle.rpki_der.specs.TagName.{integer};
+    ghost use Rattle.rpki_der.specs.Reading.{Reads};
+    ghost use Rattle.rpki_der.specs.Values.{SpellsLeaf, IsLeafFault};
+
+    /// An INTEGER that is not negative (X.690 8.3).
+    ///
+    /// The refusals are those of a header; then Unexpected for another tag or form; then Truncated; then Content for
+    /// a negative number and for contents whose first nine bits are equal.
+    pub fn take_unsigned(&mut self) -> Result<Unsigned<'a>, DecodeError>
+        ensures { Reads number_of (SpellsLeaf integer false IsUnsigned) (IsLeafFault integer false IsUnsigned) (left self.old) (left self.new) result }
+    {
+        let mut after = *self;
+        let contents = match after.take_contents(Tag::INTEGER, false) {
+            Ok(contents) => contents,
+            Err(e) => return Err(e),
+        };
+        match unsigned_of(contents.rest()) {
+            Some(number) => {
+                *self = after;
+                Ok(number)
+            }
+            None => Err(DecodeError::Content(ContentError::from_static("malformed INTEGER"))),
+        }
+    }
+}

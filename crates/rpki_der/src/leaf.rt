@@ -1,0 +1,91 @@
+//! Values that have no type of their own: NULL, BOOLEAN and OCTET STRING.
+
+ghost use Rattle.std.specs.Prelude.{false, ◌≡◌, Bool, IfSome, IfNone};
+ghost use Rattle.rpki_der.specs.Leaves.{boolean_contents};
+
+use crate::cursor::Constructed;
+use crate::error::{ContentError, DecodeError};
+use crate::tag::Tag;
+
+/// The truth value of these contents, if they are one octet of equal bits (X.690 8.2.2, 11.1).
+fn boolean_of(contents: &[u8]) -> Option<bool>
+    ensures value { IfSome result (λ b. contents.now ≡ boolean_contents b) }
+    ensures none { IfNone result ((b : Bool) → contents.now ≡ boolean_contents b → ⊥) }
+{
+    match contents {
+        [0xff] => Some(true),
+        [0] => Some(false),
+        _ => None,
+    }
+}
+
+impl<'a> Constructed<'a> {
+    ghost use Rattle.rpki_der.specs.Cursor.{left};
+    ghost use Rattle.rpki_der.specs.TagName.{null, boolean, octet_string};
+    ghost use Rattle.rpki_der.specs.Reading.{Reads, ReadsWhere};
+    ghost use Rattle.rpki_der.specs.Values.{SpellsContents, SpellsLeaf, HasTag, IsContentsFault, IsLeafFault};
+    ghost use Rattle.rpki_der.specs.Leaves.{IsNull, IsBoolean};
+
+    /// A NULL (X.690 8.8).
+    ///
+    /// The refusals are those of a header; then Unexpected for another tag or form; then Truncated; then Content for
+    /// contents that are not empty.
+    pub fn take_null(&mut self) -> Result<(), DecodeError>
+        ensures { Reads (λ _. tt) (SpellsLeaf null false IsNull) (IsLeafFault null false IsNull) (left self.old) (left self.new) result }
+    {
+        let mut after = *self;
+        let contents = match after.take_contents(Tag::NULL, false) {
+            Ok(contents) => contents,
+            Err(e) => return Err(e),
+        };
+        if !contents.is_empty() {
+            return Err(DecodeError::Content(ContentError::from_static("malformed NULL")));
+        }
+        *self = after;
+        Ok(())
+    }
+
+    /// A NULL where what is left begins with its identifier octets, in either form; else None.
+    pub fn take_opt_null(&mut self) -> Result<Option<()>, DecodeError>
+        ensures { ReadsWhere (HasTag null) (λ _. tt) (SpellsLeaf null false IsNull) (IsLeafFault null false IsNull) (left self.old) (left self.new) result }
+    {
+        if !self.has_tag(Tag::NULL) {
+            return Ok(None);
+        }
+        self.take_null()?;
+        Ok(Some(()))
+    }
+
+    /// A BOOLEAN (X.690 8.2, 11.1): one octet, FF for true and 00 for false.
+    ///
+    /// The refusals are those of a header; then Unexpected for another tag or form; then Truncated; then Content for
+    /// other contents.
+    pub fn take_bool(&mut self) -> Result<bool, DecodeError>
+        ensures { Reads (λ b. b) (SpellsLeaf boolean false IsBoolean) (IsLeafFault boolean false IsBoolean) (left self.old) (left self.new) result }
+    {
+        let mut after = *self;
+        let contents = match after.take_contents(Tag::BOOLEAN, false) {
+            Ok(contents) => contents,
+            Err(e) => return Err(e),
+        };
+        match boolean_of(contents.rest()) {
+            Some(value) => {
+                *self = after;
+                Ok(value)
+            }
+            None => Err(DecodeError::Content(ContentError::from_static("malformed BOOLEAN"))),
+        }
+    }
+
+    /// The octets of an OCTET STRING (X.690 8.7) in primitive form.
+    ///
+    /// The refusals are those of a header; then Unexpected for another tag or form; then Truncated.
+    pub fn take_octets(&mut self) -> Result<&'a [u8], DecodeError>
+        ensures { Reads (λ x. x.now) (SpellsContents octet_string false) (IsContentsFault octet_string false) (left self.old) (left self.new) result }
+    {
+        match self.take_contents(Tag::OCTET_STRING, false) {
+            Ok(contents) => Ok(contents.rest()),
+            Err(e) => Err(e),
+        }
+    }
+}

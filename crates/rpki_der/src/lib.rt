@@ -1,0 +1,36 @@
+//! The distinguished encoding rules of X.690: headers, values, a cursor that reads them, and what writes them.
+#![tactic(auto)]
+
+mod bit_string;
+mod captured;
+mod cursor;
+mod encode;
+mod error;
+mod from_values;
+mod header;
+mod integer;
+pub mod laws;
+mod leaf;
+mod oid;
+mod tag;
+mod text;
+mod value;
+mod walk;
+
+pub use bit_string::BitString;
+pub use captured::Captured;
+pub use cursor::Constructed;
+pub use encode::{Primitive, PrimitiveContent, Sequence, Set, Values, Wrapped, write_whole};
+pub use error::{ContentError, DecodeError};
+pub use integer::{InvalidInteger, Unsigned};
+pub use oid::{ConstOid, Oid};
+pub use tag::{Class, Header, Steps, Tag};
+pub use text::{PrintableString, Utf8String};
+pub use value::Content;
+
+#[cfg(test)]
+mod encode_tests;
+#[cfg(test)]
+mod tests;
+#[cfg(test)]
+mod walk_tests;

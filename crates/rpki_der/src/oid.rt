@@ -1,0 +1,128 @@
+//! Object identifiers.
+
+ghost use Rattle.std.specs.Prelude.{false, ◌≡◌, ◌↔◌, IsTrue};
+ghost use Rattle.rpki_der.specs.Leaves.{IsOid};
+
+use crate::cursor::Constructed;
+use crate::error::{ContentError, DecodeError};
+use crate::tag::Tag;
+
+/// An object identifier by its contents octets (X.690 8.19).
+#[derive(Clone, Copy, Debug, PartialEq, Eq)]
+pub struct Oid<T>(pub T);
+
+/// An object identifier that is known beforehand.
+pub type ConstOid = Oid<&'static [u8]>;
+
+/// Whether these are the contents of an object identifier (X.690 8.19.2).
+fn is_oid(contents: &[u8]) -> bool
+    ensures { IsTrue result ↔ IsOid contents.now }
+{
+    let mut at_start = true;
+    for octet in contents {
+        if at_start && *octet == 0x80 {
+            return false;
+        }
+        at_start = *octet < 0x80;
+    }
+    at_start && !contents.is_empty()
+}
+
+impl<'a> Oid<&'a [u8]> {
+    ghost use Rattle.std.specs.Prelude.{◌≡◌, ◌↔◌, IsTrue, false};
+    ghost use Rattle.rpki_der.specs.Leaves.{IsOid, IsOidOf, IsAnyOid, IsOnly};
+    ghost use Rattle.rpki_der.specs.Cursor.{left};
+    ghost use Rattle.rpki_der.specs.TagName.{oid};
+    ghost use Rattle.rpki_der.specs.Reading.{Reads};
+    ghost use Rattle.rpki_der.specs.Values.{SpellsLeaf, IsLeafFault};
+
+    /// Whether the octets are those of an object identifier: not empty, the top bit of the last octet clear, and no
+    /// subidentifier begins with 80 (X.690 8.19.2). Only an identifier made by hand may not be valid.
+    pub fn is_valid(&self) -> bool
+        ensures { IsTrue result ↔ IsOid self.now.0.now }
+    {
+        is_oid(self.0)
+    }
+
+    /// An object identifier, as [Constructed::take_oid].
+    pub fn take_from(cons: &mut Constructed<'a>) -> Result<Oid<&'a [u8]>, DecodeError>
+        ensures { Reads (λ o. o.0.now) (SpellsLeaf oid false IsOidOf) (IsLeafFault oid false IsOidOf) (left cons.old) (left cons.new) result }
+    {
+        cons.take_oid()
+    }
+
+    /// Moves past an object identifier, whichever it is. The refusals are those of [Constructed::take_oid].
+    pub fn skip_in(cons: &mut Constructed<'_>) -> Result<(), DecodeError>
+        ensures { Reads (λ _. tt) (SpellsLeaf oid false IsAnyOid) (IsLeafFault oid false IsAnyOid) (left cons.old) (left cons.new) result }
+    {
+        match cons.take_oid() {
+            Ok(_) => Ok(()),
+            Err(e) => Err(e),
+        }
+    }
+
+    /// Moves past this very object identifier, which is valid. The refusals are those of [Constructed::skip_oid_if].
+    pub fn skip_if(&self, cons: &mut Constructed<'_>) -> Result<(), DecodeError>
+        ensures { Reads (λ _. tt) (SpellsLeaf oid false (IsOnly self.now.0.now)) (IsLeafFault oid false (IsOnly self.now.0.now)) (left cons.old) (left cons.new) result }
+    {
+        cons.take_only_oid(self.0)
+    }
+}
+
+impl<'a> Constructed<'a> {
+    ghost use Rattle.rpki_der.specs.Cursor.{left};
+    ghost use Rattle.rpki_der.specs.TagName.{oid};
+    ghost use Rattle.rpki_der.specs.Reading.{Reads};
+    ghost use Rattle.rpki_der.specs.Values.{SpellsLeaf, IsLeafFault};
+    ghost use Rattle.rpki_der.specs.Leaves.{IsOnly, IsOidOf};
+
+    /// An object identifier (X.690 8.19): its contents octets.
+    ///
+    /// The refusals are those of a header; then Unexpected for another tag or form; then Truncated; then Content for
+    /// contents that are no identifier: empty, cut within a subidentifier, or with a subidentifier that begins with
+    /// 80.
+    pub fn take_oid(&mut self) -> Result<Oid<&'a [u8]>, DecodeError>
+        ensures { Reads (λ o. o.0.now) (SpellsLeaf oid false IsOidOf) (IsLeafFault oid false IsOidOf) (left self.old) (left self.new) result }
+    {
+        let mut after = *self;
+        let contents = match after.take_contents(Tag::OID, false) {
+            Ok(contents) => contents,
+            Err(e) => return Err(e),
+        };
+        if !is_oid(contents.rest()) {
+            return Err(DecodeError::Content(ContentError::from_static(
+                "malformed object identifier",
+            )));
+        }
+        *self = after;
+        Ok(Oid(contents.rest()))
+    }
+
+    /// Moves past this very object identifier.
+    ///
+    /// The refusals are those of a header; then Unexpected for another tag or form; then Truncated; then Content for
+    /// another identifier.
+    pub fn skip_oid_if(&mut self, expected: ConstOid) -> Result<(), DecodeError>
+        ensures { Reads (λ _. tt) (SpellsLeaf oid false (IsOnly expected.entry.0.now)) (IsLeafFault oid false (IsOnly expected.entry.0.now)) (left self.old) (left self.new) result }
+    {
+        self.take_only_oid(expected.0)
+    }
+
+    /// Moves past an object identifier with these contents.
+    fn take_only_oid(&mut self, expected: &[u8]) -> Result<(), DecodeError>
+        ensures { Reads (λ _. tt) (SpellsLeaf oid false (IsOnly expected.now)) (IsLeafFault oid false (IsOnly expected.now)) (left self.old) (left self.new) result }
+    {
+        let mut after = *self;
+        let contents = match after.take_contents(Tag::OID, false) {
+            Ok(contents) => contents,
+            Err(e) => return Err(e),
+        };
+        if !contents.is_only(expected) {
+            return Err(DecodeError::Content(ContentError::from_static(
+                "unexpected object identifier",
+            )));
+        }
+        *self = after;
+        Ok(())
+    }
+}

@@ -1,0 +1,153 @@
+//! Texts.
+
+ghost use Rattle.std.specs.Prelude.{false, ◌≡◌, ◌↔◌, IsTrue, IfSome, IfNone, List, ℕ};
+ghost use Rattle.rpki_der.specs.Text.{is_printable, are_printable, IsPrintableText, IsUtf8Text};
+
+use crate::cursor::Constructed;
+use crate::error::{ContentError, DecodeError};
+use crate::tag::Tag;
+use std::marker::Model;
+
+/// A text of the characters of a PrintableString: A to Z, a to z, 0 to 9, space and `'()+,-./:=?` (X.680 41.4).
+#[derive(Debug, Drop)]
+pub struct PrintableString<'a> {
+    text: &'a str,
+}
+
+impl<'a> Model for PrintableString<'a> {
+    ghost use Rattle.std.specs.Prelude.{ℕ, List, IsTrue};
+    ghost use Rattle.rpki_der.specs.Text.{are_printable};
+
+    ghost Value = { List ℕ };
+
+    ghost view = { λ p. p.text.now };
+
+    ghost invariant = { λ p. IsTrue (are_printable p.text.now) };
+}
+
+impl<'a> PrintableString<'a> {
+    /// The text.
+    pub fn as_str(&self) -> &'a str
+        ensures text { result.now ≡ self.now }
+        ensures printable { IsTrue (are_printable self.now) }
+    {
+        self.text
+    }
+}
+
+/// A text of any characters.
+#[derive(Debug, Drop)]
+pub struct Utf8String<'a> {
+    text: &'a str,
+}
+
+impl<'a> Model for Utf8String<'a> {
+    ghost use Rattle.std.specs.Prelude.{ℕ, List};
+
+    ghost Value = { List ℕ };
+
+    ghost view = { λ u. u.text.now };
+}
+
+impl<'a> Utf8String<'a> {
+    /// The text.
+    pub fn as_str(&self) -> &'a str
+        ensures { result.now ≡ self.now }
+    {
+        self.text
+    }
+}
+
+/// Whether the octet is a character of a PrintableString.
+fn is_printable(octet: u8) -> bool
+    ensures { result ≡ is_printable octet }
+{
+    octet.is_ascii_alphanumeric()
+        || matches!(
+            octet,
+            b' ' | b'\'' | b'(' | b')' | b'+' | b',' | b'-' | b'.' | b'/' | b':' | b'=' | b'?'
+        )
+}
+
+/// Whether all of them are.
+fn are_printable(contents: &[u8]) -> bool
+    ensures { result ≡ are_printable contents.now }
+{
+    contents.iter().all(|octet| is_printable(*octet))
+}
+
+/// The text of these contents, if each of them is a character of a PrintableString.
+fn printable_of(contents: &[u8]) -> Option<PrintableString<'_>>
+    ensures value { IfSome result (λ p. IsPrintableText p contents.now) }
+    ensures none { IfNone result ((text : List ℕ) → IsPrintableText text contents.now → ⊥) }
+{
+    if !are_printable(contents) {
+        return None;
+    }
+    match str::from_utf8(contents) {
+        Ok(text) => Some(PrintableString { text }),
+        Err(_) => None,
+    }
+}
+
+/// The text of these contents, if they are UTF-8.
+fn utf8_of(contents: &[u8]) -> Option<Utf8String<'_>>
+    ensures value { IfSome result (λ u. IsUtf8Text u contents.now) }
+    ensures none { IfNone result ((text : List ℕ) → IsUtf8Text text contents.now → ⊥) }
+{
+    match str::from_utf8(contents) {
+        Ok(text) => Some(Utf8String { text }),
+        Err(_) => None,
+    }
+}
+
+impl<'a> Constructed<'a> {
+    ghost use Rattle.rpki_der.specs.Cursor.{left};
+    ghost use Rattle.rpki_der.specs.TagName.{printable_string, utf8_string};
+    ghost use Rattle.rpki_der.specs.Reading.{Reads};
+    ghost use Rattle.rpki_der.specs.Values.{SpellsLeaf, IsLeafFault};
+
+    /// A PrintableString (X.690 8.23, X.680 41.4).
+    ///
+    /// The refusals are those of a header; then Unexpected for another tag or form; then Truncated; then Content for
+    /// another character.
+    pub fn take_printable(&mut self) -> Result<PrintableString<'a>, DecodeError>
+        ensures { Reads (λ p. p) (SpellsLeaf printable_string false IsPrintableText) (IsLeafFault printable_string false IsPrintableText) (left self.old) (left self.new) result }
+    {
+        let mut after = *self;
+        let contents = match after.take_contents(Tag::PRINTABLE_STRING, false) {
+            Ok(contents) => contents,
+            Err(e) => return Err(e),
+        };
+        match printable_of(contents.rest()) {
+            Some(text) => {
+                *self = after;
+                Ok(text)
+            }
+            None => Err(DecodeError::Content(ContentError::from_static(
+                "malformed PrintableString",
+            ))),
+        }
+    }
+
+    /// A UTF8String (X.690 8.23).
+    ///
+    /// The refusals are those of a header; then Unexpected for another tag or form; then Truncated; then Content for
+    /// contents that are not UTF-8.
+    pub fn take_utf8(&mut self) -> Result<Utf8String<'a>, DecodeError>
+        ensures { Reads (λ u. u) (SpellsLeaf utf8_string false IsUtf8Text) (IsLeafFault utf8_string false IsUtf8Text) (left self.old) (left self.new) result }
+    {
+        let mut after = *self;
+        let contents = match after.take_contents(Tag::UTF8_STRING, false) {
+            Ok(contents) => contents,
+            Err(e) => return Err(e),
+        };
+        match utf8_of(contents.rest()) {
+            Some(text) => {
+                *self = after;
+                Ok(text)
+            }
+            None => Err(DecodeError::Content(ContentError::from_static("malformed UTF8String"))),
+        }
+    }
+}

@@ -1,0 +1,174 @@
+//! Values of any type, by their tag and form.
+
+ghost use Rattle.std.specs.Prelude.{◌≡◌, ◌<◌, ◌≤◌, ◌↔◌, IsTrue, IfOk, IfErr, length, take, drop, true};
+ghost use Rattle.rpki_der.specs.Flat.{IsWanted};
+
+use crate::cursor::Constructed;
+use crate::error::DecodeError;
+use crate::tag::{Header, Tag};
+
+/// The contents of a value: octets, or values themselves (X.690 8.1.2.5).
+#[derive(Clone, Copy)]
+pub enum Content<'a> {
+    Primitive(&'a [u8]),
+    Constructed(Constructed<'a>),
+}
+
+/// Whether a value with this header is asked for: of the tag, or of any tag.
+fn is_wanted(wanted: Option<Tag>, found: &Header) -> bool
+    ensures { IsTrue result ↔ IsWanted wanted found.now.tag found.now.constructed }
+{
+    match wanted {
+        None => true,
+        Some(tag) => found.tag.is_same(tag),
+    }
+}
+
+impl<'a> Constructed<'a> {
+    ghost use Rattle.rpki_der.specs.Cursor.{left};
+    ghost use Rattle.rpki_der.specs.ContentView.{is_constructed, octets_of};
+    ghost use Rattle.rpki_der.specs.TagName.{sequence, set};
+    ghost use Rattle.rpki_der.specs.Reading.{Reads, ReadsWhere};
+    ghost use Rattle.rpki_der.specs.Values.{SpellsContents, HasTag, IsContentsFault};
+    ghost use Rattle.rpki_der.specs.Flat.{SpellsFlat, IsFlatFault, IsAnyTag, IsTagged};
+
+    /// The contents of a value of this tag and form; moves past the value. The contents are judged by who reads them.
+    pub(crate) fn take_contents(
+        &mut self,
+        tag: Tag,
+        constructed: bool,
+    ) -> Result<Constructed<'a>, DecodeError>
+        ensures { Reads left (SpellsContents tag constructed) (IsContentsFault tag constructed) (left self.old) (left self.new) result }
+    {
+        let (found, behind) = match self.after_header() {
+            Ok(found) => found,
+            Err(e) => return Err(e),
+        };
+        if !found.names(tag, constructed) {
+            return Err(DecodeError::Unexpected);
+        }
+        let length = found.length as usize;
+        if behind.len() < length {
+            return Err(DecodeError::Truncated);
+        }
+        let (contents, after) = behind.split_at(length);
+        *self = after;
+        Ok(contents)
+    }
+
+    /// A value of the tag that is wanted, or of any tag: its tag, its form and a cursor on its contents.
+    fn take_flat(
+        &mut self,
+        wanted: Option<Tag>,
+    ) -> Result<(Tag, bool, Constructed<'a>), DecodeError>
+        ensures { Reads (λ x. (x.0, x.1, left x.2)) (SpellsFlat (IsWanted wanted)) (IsFlatFault (IsWanted wanted)) (left self.old) (left self.new) result }
+    {
+        let (found, behind) = match self.after_header() {
+            Ok(found) => found,
+            Err(e) => return Err(e),
+        };
+        if !is_wanted(wanted, &found) {
+            return Err(DecodeError::Unexpected);
+        }
+        let length = found.length as usize;
+        if behind.len() < length {
+            return Err(DecodeError::Truncated);
+        }
+        let (contents, after) = behind.split_at(length);
+        *self = after;
+        Ok((found.tag, found.constructed, contents))
+    }
+
+    /// The value at the front, of any tag and form: its tag and its contents, which are not walked.
+    ///
+    /// The refusals are those of a header, and Truncated where the contents are not all there.
+    pub fn take_value(&mut self) -> Result<(Tag, Content<'a>), DecodeError>
+        ensures { Reads (λ x. (x.0, is_constructed x.1, octets_of x.1)) (SpellsFlat IsAnyTag) (IsFlatFault IsAnyTag) (left self.old) (left self.new) result }
+    {
+        match self.take_flat(None) {
+            Ok(found) => {
+                if found.1 {
+                    Ok((found.0, Content::Constructed(found.2)))
+                } else {
+                    Ok((found.0, Content::Primitive(found.2.rest())))
+                }
+            }
+            Err(e) => Err(e),
+        }
+    }
+
+    /// The contents of a value of this tag, in either form. They are not walked.
+    ///
+    /// The refusals are those of a header; then Unexpected for another tag; then Truncated.
+    pub fn take_value_if(&mut self, tag: Tag) -> Result<Content<'a>, DecodeError>
+        ensures { Reads (λ x. (tag, is_constructed x, octets_of x)) (SpellsFlat (IsTagged tag)) (IsFlatFault (IsTagged tag)) (left self.old) (left self.new) result }
+    {
+        match self.take_flat(Some(tag)) {
+            Ok(found) => {
+                if found.1 {
+                    Ok(Content::Constructed(found.2))
+                } else {
+                    Ok(Content::Primitive(found.2.rest()))
+                }
+            }
+            Err(e) => Err(e),
+        }
+    }
+
+    /// The same where what is left begins with the identifier octets of this tag, in either form; else None.
+    pub fn take_opt_value_if(&mut self, tag: Tag) -> Result<Option<Content<'a>>, DecodeError>
+        ensures { ReadsWhere (HasTag tag) (λ x. (tag, is_constructed x, octets_of x)) (SpellsFlat (IsTagged tag)) (IsFlatFault (IsTagged tag)) (left self.old) (left self.new) result }
+    {
+        if !self.has_tag(tag) {
+            return Ok(None);
+        }
+        match self.take_value_if(tag) {
+            Ok(content) => Ok(Some(content)),
+            Err(e) => Err(e),
+        }
+    }
+
+    /// A cursor on the contents of a SEQUENCE (X.690 8.9); moves past it. The contents are judged by who reads them.
+    ///
+    /// The refusals are those of a header; then Unexpected for another tag or form; then Truncated.
+    pub fn take_sequence(&mut self) -> Result<Constructed<'a>, DecodeError>
+        ensures { Reads left (SpellsContents sequence true) (IsContentsFault sequence true) (left self.old) (left self.new) result }
+    {
+        self.take_contents(Tag::SEQUENCE, true)
+    }
+
+    /// A cursor on the contents of a SET (X.690 8.11); moves past it. The contents are judged by who reads them.
+    ///
+    /// The refusals are those of a header; then Unexpected for another tag or form; then Truncated.
+    pub fn take_set(&mut self) -> Result<Constructed<'a>, DecodeError>
+        ensures { Reads left (SpellsContents set true) (IsContentsFault set true) (left self.old) (left self.new) result }
+    {
+        self.take_contents(Tag::SET, true)
+    }
+
+    /// The same where what is left begins with the identifier octets of a SEQUENCE, in either form; else None.
+    pub fn take_opt_sequence(&mut self) -> Result<Option<Constructed<'a>>, DecodeError>
+        ensures { ReadsWhere (HasTag sequence) left (SpellsContents sequence true) (IsContentsFault sequence true) (left self.old) (left self.new) result }
+    {
+        if !self.has_tag(Tag::SEQUENCE) {
+            return Ok(None);
+        }
+        match self.take_sequence() {
+            Ok(contents) => Ok(Some(contents)),
+            Err(e) => Err(e),
+        }
+    }
+
+    /// The same where what is left begins with the identifier octets of a SET, in either form; else None.
+    pub fn take_opt_set(&mut self) -> Result<Option<Constructed<'a>>, DecodeError>
+        ensures { ReadsWhere (HasTag set) left (SpellsContents set true) (IsContentsFault set true) (left self.old) (left self.new) result }
+    {
+        if !self.has_tag(Tag::SET) {
+            return Ok(None);
+        }
+        match self.take_set() {
+            Ok(contents) => Ok(Some(contents)),
+            Err(e) => Err(e),
+        }
+    }
+}

@@ -1,0 +1,161 @@
+//! One value, read to its end with all that is nested in it.
+//!
+//! The contents of a constructed value are values that fill them (X.690 8.1.2.5), to any depth. Structure alone counts:
+//! the contents of a primitive value are passed over by their length.
+
+ghost use Rattle.std.specs.Prelude.{◌≡◌, ◌+◌, ◌-◌, ◌*◌, ◌^◌, ◌<◌, ◌≤◌, ◌⊎◌, ℕ, List, [], length, take, drop, Ok, Err, IfOk, IfErr, IfSome, OnErr};
+ghost use Rattle.rpki_der.specs.declared.error.DecodeError.{DecodeError};
+ghost use Rattle.rpki_der.specs.Reading.{Spells, Accepts, Refusal, Reads, ReadsWhere, OrMemoryWhere};
+ghost use Rattle.rpki_der.specs.Values.{SpellsHeader};
+ghost use Rattle.rpki_der.specs.Members.{IsValueOf, SpellsValue};
+ghost use Rattle.rpki_der.specs.NestedFault.{IsNestedFault, IsCaptureFault};
+ghost use Rattle.rpki_der.specs.Walk.{IsNotEmpty, SpellsAnyValue, CountsHeaders};
+
+use crate::captured::Captured;
+use crate::cursor::Constructed;
+use crate::error::DecodeError;
+use crate::header::header;
+use crate::tag::{Header, Steps};
+use std::alloc::Global;
+
+/// The header at the front, whose contents are all there, and how many octets the header takes.
+fn enter(octets: &[u8], steps: &mut Steps) -> Result<(Header, usize), DecodeError>
+    requires some { 0 < length octets.now }
+    requires room { steps.old < 2 ^ 64 - 1 }
+    ensures counted { steps.new ≡ steps.old + 1 }
+    ensures within { IfOk result (λ x. x.1 + x.0.length ≤ length octets.now) }
+    ensures found { IfOk result (λ x. Spells SpellsHeader octets.now x.0 (drop x.1 octets.now)) }
+    ensures refused { IfErr result (λ e. IsNestedFault octets.now e) }
+{
+    steps.raise();
+    let (found, behind) = match header(octets) {
+        Ok(found) => found,
+        Err(e) => return Err(e),
+    };
+    if behind.len() < found.length as usize {
+        return Err(DecodeError::Truncated);
+    }
+    Ok((found, octets.len() - behind.len()))
+}
+
+/// How many octets the value at the front takes. The ends of the values that are still open stand on a stack, innermost
+/// last.
+fn walk_value(alloc: Global, octets: &[u8], steps: &mut Steps) -> Result<usize, DecodeError>
+    requires some { 0 < length octets.now }
+    requires room { steps.old + length octets.now < 2 ^ 64 }
+    ensures within { IfOk result (λ n. n ≤ length octets.now) }
+    ensures raised { steps.old ≤ steps.new }
+    ensures accepted { IfOk result (λ n. IsValueOf (steps.new - steps.old) (take n octets.now)) }
+    ensures refused { IfErr result (λ e. (e ≡ DecodeError.OutOfMemory) ⊎ IsNestedFault octets.now e) }
+    ensures bound { OnErr result (2 * (steps.new - steps.old) ≤ length octets.now + 2) }
+{
+    let (first, mut place) = match enter(octets, steps) {
+        Ok(entered) => entered,
+        Err(e) => return Err(e),
+    };
+    let past = place + first.length as usize;
+    if !first.constructed {
+        return Ok(past);
+    }
+    let mut ends = Vec::new(alloc);
+    ends.push(past)?;
+    'values: while let Some(end) = ends.last().copied() {
+        if place == end {
+            ends.pop();
+            continue;
+        }
+        let (found, size) = match enter(&octets[place..end], steps) {
+            Ok(entered) => entered,
+            Err(e) => return Err(e),
+        };
+        place += size;
+        let past = place + found.length as usize;
+        if !found.constructed {
+            place = past;
+            continue;
+        }
+        ends.push(past)?;
+    }
+    Ok(place)
+}
+
+/// The same, with what its contract says in the terms of a reader.
+fn walk_front(alloc: Global, octets: &[u8], steps: &mut Steps) -> Result<usize, DecodeError>
+    requires some { 0 < length octets.now }
+    requires room { steps.old + length octets.now < 2 ^ 64 }
+    ensures within { IfOk result (λ n. n ≤ length octets.now) }
+    ensures accepted { IfOk result (λ n. Accepts SpellsValue octets.now (take n octets.now) (drop n octets.now)) }
+    ensures refused { IfErr result (λ e. Refusal SpellsValue (OrMemoryWhere IsNotEmpty IsNestedFault) octets.now octets.now e) }
+    ensures fault { (e : DecodeError) → IsNestedFault octets.now e → (result ≡ Err DecodeError.OutOfMemory) ⊎ (result ≡ Err e) }
+    ensures raised { steps.old ≤ steps.new }
+    ensures counted { IfOk result (λ n. CountsHeaders octets.now (drop n octets.now) (steps.new - steps.old)) }
+    ensures bound { OnErr result (2 * (steps.new - steps.old) ≤ length octets.now + 2) }
+{
+    walk_value(alloc, octets, steps)
+}
+
+impl<'a> Constructed<'a> {
+    ghost use Rattle.rpki_der.specs.Cursor.{left};
+
+    /// Moves past one value with all that is nested in it (X.690 8.1.1, 8.1.2.5), or answers None where nothing is left.
+    ///
+    /// Each header that is looked at, at whatever depth, raises `steps` by one, the last one of a refused value too. A
+    /// refusal leaves the cursor where it was. It is the first one from the left: the fault of the octets where a value
+    /// has to begin and no header does, which is `Truncated`, `BadTag` or `BadLength`; or `Truncated` where a value passes
+    /// the end of what holds it. `OutOfMemory` where the stack of open values could not grow.
+    pub fn walk(&mut self, alloc: Global, steps: &mut Steps) -> Result<Option<()>, DecodeError>
+        requires room { steps.old + length (left self.old) < 2 ^ 64 }
+        ensures reads { ReadsWhere IsNotEmpty (λ _. tt) SpellsAnyValue (OrMemoryWhere IsNotEmpty IsNestedFault) (left self.old) (left self.new) result }
+        ensures fault { (e : DecodeError) → IsNestedFault (left self.old) e → (result ≡ Err DecodeError.OutOfMemory) ⊎ (result ≡ Err e) }
+        ensures raised { steps.old ≤ steps.new }
+        ensures nothing { left self.old ≡ [] → steps.new ≡ steps.old }
+        ensures counted { IfOk result (λ o. IfSome o (λ _. CountsHeaders (left self.old) (left self.new) (steps.new - steps.old))) }
+        ensures bound { OnErr result (2 * (steps.new - steps.old) ≤ length (left self.old) + 2) }
+    {
+        let octets = self.rest();
+        if octets.is_empty() {
+            return Ok(None);
+        }
+        let size = match walk_front(alloc, octets, steps) {
+            Ok(size) => size,
+            Err(e) => return Err(e),
+        };
+        let (_, behind) = self.split_at(size);
+        *self = behind;
+        Ok(Some(()))
+    }
+
+    /// Moves past one value, or answers None where nothing is left: as `walk`, with the same refusals, and no count.
+    pub fn skip_one(&mut self, alloc: Global) -> Result<Option<()>, DecodeError>
+        ensures reads { ReadsWhere IsNotEmpty (λ _. tt) SpellsAnyValue (OrMemoryWhere IsNotEmpty IsNestedFault) (left self.old) (left self.new) result }
+        ensures fault { (e : DecodeError) → IsNestedFault (left self.old) e → (result ≡ Err DecodeError.OutOfMemory) ⊎ (result ≡ Err e) }
+    {
+        if self.rest().is_empty() {
+            return Ok(None);
+        }
+        self.walk(alloc, &mut Steps::new())
+    }
+
+    /// The very octets of one value with all that is nested in it, shared; moves past them.
+    ///
+    /// Refused as by `walk`, with the cursor where it was, and `Truncated` where nothing is left. `OutOfMemory` also where
+    /// the octets could not be shared.
+    pub fn capture_one(&mut self, alloc: Global) -> Result<Captured, DecodeError>
+        ensures reads { Reads (λ c. c) SpellsValue (OrMemoryWhere IsNotEmpty IsCaptureFault) (left self.old) (left self.new) result }
+        ensures fault { (e : DecodeError) → IsCaptureFault (left self.old) e → (result ≡ Err DecodeError.OutOfMemory) ⊎ (result ≡ Err e) }
+    {
+        let octets = self.rest();
+        if octets.is_empty() {
+            return Err(DecodeError::Truncated);
+        }
+        let mut steps = Steps::new();
+        let size = match walk_front(alloc, octets, &mut steps) {
+            Ok(size) => size,
+            Err(e) => return Err(e),
+        };
+        let (value, behind) = self.split_at(size);
+        let bytes = value.to_bytes()?;
+        *self = behind;
+        Ok(Captured::of_one(bytes))
+    }
+}
