@@ -1,0 +1,134 @@
+-- The path below another, by the bytes of the two.
+use Rattle.std.proofs.Common.{◌≡◌, ℕ, ◌<◌, ◌≤◌, Bool, true, false, cond, ◌&&◌, List, [], ◌∷◌, ◌++◌, length, take, drop, Option, Some, None, bytes_eq, sym, refl, ap, ◌∙◌, ◌⊎◌, inl, inr, arith}
+use Rattle.std.specs.List.{join_with_byte}
+use Rattle.std.specs.Option.{option_map}
+use Rattle.std.proofs.lemmas.List.{take-append-drop, append_assoc, append-nil, length-append}
+use Rattle.std.proofs.lemmas.List.Splits.{join_with_byte-slice_split}
+use Rattle.std.proofs.lemmas.Slice.Eq.{bytes_eq-Decides}
+use Rattle.std.proofs.Math.Seq.{take-append_seam, drop-append_seam}
+use Rattle.rpki_text.specs.SegmentLaws.{IsFilled, pieces-filled, path_text-segments}
+use Rattle.rpki_text.specs.Segments.{pieces, has_empty_last, segments, is_dir, path_text}
+use Rattle.rpki_text.specs.UriText.{lowercase}
+use Rattle.rpki_text.specs.RsyncText.{strip_prefix, names_refusal, piece_refusal, path_left, relative, uri_of, authority_of, module_name_of, path_of}
+use Rattle.rpki_text.proofs.SegmentLemmas.{path_text-none}
+use Rattle.rpki_text.proofs.JoinLemmas.{segments-at_slash, is_dir-at_slash, open_path, strip_prefix-append, option_or-rest}
+use Rattle.rpki_text.proofs.RelativeLemmas.{relative-same_module}
+
+join-filled : (p : List ℕ) (qs : List (List ℕ)) → IsFilled qs → join_with_byte 47 (p ∷ qs) ≡ p ++ 47 ∷ join_with_byte 47 qs
+join-filled p qs f = rw f.is refl
+
+append-filled_left : (ps qs : List (List ℕ)) → IsFilled ps → IsFilled (ps ++ qs)
+append-filled_left ps qs f = record { first = f.first; others = f.others ++ qs; is = rw f.is refl }
+
+join-append : (ps qs : List (List ℕ)) → IsFilled ps → IsFilled qs → join_with_byte 47 (ps ++ qs) ≡ join_with_byte 47 ps ++ 47 ∷ join_with_byte 47 qs
+join-append [] qs f k = cc
+join-append (p ∷ []) qs f k = join-filled p qs k
+join-append (p ∷ q ∷ ps) qs f k =
+    ap (λ s. p ++ 47 ∷ s) (join-append (q ∷ ps) qs (record { first = q; others = ps; is = refl }) k)
+    ∙ sym (append_assoc p (47 ∷ join_with_byte 47 (q ∷ ps)) (47 ∷ join_with_byte 47 qs))
+
+bytes_eq-is : (u v : List ℕ) → bytes_eq u v ≡ true → u ≡ v
+bytes_eq-is u v h = (bytes_eq-Decides u v).0 h
+
+-- what is left comes behind the prefix
+pub strip_prefix-is : (us vs left : List (List ℕ)) → strip_prefix us vs ≡ Some left → us ≡ vs ++ left
+strip_prefix-is us [] left h = cc
+strip_prefix-is [] (v ∷ vs) left h = cc
+strip_prefix-is (u ∷ us) (v ∷ vs) left h = by_cases (bytes_eq u v) refl h (λ k. strip_prefix-is us vs left k) where
+  by_cases : (b : Bool) → bytes_eq u v ≡ b → cond b (strip_prefix us vs) None ≡ Some left → (strip_prefix us vs ≡ Some left → us ≡ vs ++ left) → u ∷ us ≡ (v ∷ vs) ++ left
+  by_cases true e k ih = let same : u ≡ v = bytes_eq-is u v e in let more : us ≡ vs ++ left = ih k in cc
+  by_cases false e k ih = cc
+
+-- the two ways in which a path is at or below another
+abbrev pub AtOrBelow : List ℕ → List ℕ → Type 0
+AtOrBelow path b = (path ≡ b) ⊎ ((r : List ℕ) × (path ≡ b ++ 47 ∷ r))
+
+below_by : (b : List ℕ) (more : List (List ℕ)) (path : List ℕ) → path ≡ join_with_byte 47 (pieces b ++ more) → AtOrBelow path b
+below_by b [] path h = inl (h ∙ ap (join_with_byte 47) (append-nil (pieces b)) ∙ join_with_byte-slice_split 47 b)
+below_by b (q ∷ qs) path h =
+    inr (join_with_byte 47 (q ∷ qs), h ∙ join-append (pieces b) (q ∷ qs) (pieces-filled b) (record { first = q; others = qs; is = refl }) ∙ ap (λ s. s ++ 47 ∷ join_with_byte 47 (q ∷ qs)) (join_with_byte-slice_split 47 b))
+
+pub at_or_below : (path b : List ℕ) (left : List (List ℕ)) → strip_prefix (segments path) (pieces b) ≡ Some left → AtOrBelow path b
+unfolding path_text
+at_or_below path b left h =
+    let mark : List (List ℕ) = cond (is_dir path) ([] ∷ []) [] in
+    below_by b (left ++ mark) path
+    (sym (path_text-segments path) ∙ ap (λ s. join_with_byte 47 (s ++ mark)) (strip_prefix-is (segments path) (pieces b) left h) ∙ ap (join_with_byte 47) (append_assoc (pieces b) left mark))
+
+none_from : (o : Option (List (List ℕ))) → ((left : List (List ℕ)) → o ≡ Some left → ⊥) → o ≡ None
+none_from None h = refl
+none_from (Some left) h = absurd (h left refl)
+
+pub path_left-none : (path b : List ℕ) → (AtOrBelow path b → ⊥) → path_left path (pieces b) ≡ None
+unfolding path_left
+path_left-none path b h = ap (option_map (λ left. path_text left (is_dir path))) (none_from (strip_prefix (segments path) (pieces b)) (λ left e. h (at_or_below path b left e)))
+
+pub path_left-same : (path b : List ℕ) → is_dir b ≡ false → path ≡ b → path_left path (pieces b) ≡ Some []
+unfolding path_left
+path_left-same path b h e =
+    let s : segments path ≡ pieces b ++ [] = ap segments e ∙ open_path b h ∙ sym (append-nil (pieces b)) in
+    ap (λ us. option_map (λ left. path_text left (is_dir path)) (strip_prefix us (pieces b))) s ∙ ap (option_map (λ left. path_text left (is_dir path))) (strip_prefix-append (pieces b) []) ∙ ap Some (path_text-none (is_dir path))
+
+pub path_left-below : (path b r : List ℕ) → path ≡ b ++ 47 ∷ r → path_left path (pieces b) ≡ Some r
+unfolding path_left
+path_left-below path b r e =
+    let s : segments path ≡ pieces b ++ segments r = ap segments e ∙ segments-at_slash b r in
+    let d : is_dir path ≡ is_dir r = ap is_dir e ∙ is_dir-at_slash b r in
+    ap (λ us. option_map (λ left. path_text left (is_dir path)) (strip_prefix us (pieces b))) s ∙ ap (option_map (λ left. path_text left (is_dir path))) (strip_prefix-append (pieces b) (segments r))
+    ∙ ap Some (ap (path_text (segments r)) d ∙ path_text-segments r)
+
+pub path_left-root : (path : List ℕ) → path_left path [] ≡ Some path
+unfolding path_left
+path_left-root path = ap Some (path_text-segments path)
+
+pub front_agrees : (path b : List ℕ) → AtOrBelow path b → take (length b) path ≡ b
+front_agrees path b (inl e) = ap (take (length b)) (e ∙ sym (append-nil b)) ∙ take-append_seam b []
+front_agrees path b (inr (r, e)) = ap (take (length b)) e ∙ take-append_seam b (47 ∷ r)
+
+pub fits_below : (path b : List ℕ) → AtOrBelow path b → length b ≤ length path
+fits_below path b (inl e) = omega (arith, ap length e)
+fits_below path b (inr (r, e)) = omega (arith, ap length e, length-append b (47 ∷ r))
+
+pub not_slash_below : (path b : List ℕ) (x : ℕ) (rest : List ℕ) → drop (length b) path ≡ x ∷ rest → (x ≡ 47 → ⊥) → AtOrBelow path b → ⊥
+not_slash_below path b x rest d h (inl e) =
+    let none : drop (length b) path ≡ [] = ap (drop (length b)) (e ∙ sym (append-nil b)) ∙ drop-append_seam b [] in cc
+not_slash_below path b x rest d h (inr (r, e)) =
+    let some : drop (length b) path ≡ 47 ∷ r = ap (drop (length b)) e ∙ drop-append_seam b (47 ∷ r) in
+    let at : x ≡ 47 = cc in h at
+
+pub path_left-short : (path b : List ℕ) → length path < length b → path_left path (pieces b) ≡ None
+path_left-short path b h = path_left-none path b (λ k. let l : length b ≤ length path = fits_below path b k in omega arith)
+
+pub path_left-differs : (path b : List ℕ) → bytes_eq (take (length b) path) b ≡ false → path_left path (pieces b) ≡ None
+path_left-differs path b h = path_left-none path b (λ k. let t : bytes_eq (take (length b) path) b ≡ true = (bytes_eq-Decides (take (length b) path) b).1 (front_agrees path b k) in cc)
+
+pub path_left-other : (path b : List ℕ) (x : ℕ) (rest : List ℕ) → drop (length b) path ≡ x ∷ rest → (x ≡ 47 → ⊥) → path_left path (pieces b) ≡ None
+path_left-other path b x rest d h = path_left-none path b (not_slash_below path b x rest d h)
+
+pub at_front : (path b rest : List ℕ) → bytes_eq (take (length b) path) b ≡ true → drop (length b) path ≡ rest → path ≡ b ++ rest
+at_front path b rest h d = sym (take-append-drop (length b) path) ∙ ap (λ f. f ++ drop (length b) path) (bytes_eq-is _ _ h) ∙ ap (λ r. b ++ r) d
+
+last_named : (ps : List (List ℕ)) → IsFilled ps → names_refusal ps ≡ None → has_empty_last ps ≡ false
+last_named [] f h = cc
+last_named ([] ∷ []) f h = cc
+last_named ((b ∷ bs) ∷ []) f h = refl
+last_named ([] ∷ q ∷ qs) f h = cc
+last_named ((b ∷ bs) ∷ q ∷ qs) f h = last_named (q ∷ qs) (record { first = q; others = qs; is = refl }) (option_or-rest (piece_refusal (b ∷ bs)) (names_refusal (q ∷ qs)) h)
+
+-- a path whose pieces are all good has no slash last
+pub named-open : (t : List ℕ) → names_refusal (pieces t) ≡ None → is_dir t ≡ false
+unfolding is_dir
+named-open t h = last_named (pieces t) (pieces-filled t) h
+
+pub relative-path_left : (u v : List ℕ) → (bytes_eq (lowercase (authority_of u)) (lowercase (authority_of v)) && bytes_eq (module_name_of u) (module_name_of v)) ≡ true
+    → relative (uri_of u) (uri_of v) ≡ path_left (path_of u) (segments (path_of v))
+unfolding path_left
+relative-path_left u v h = relative-same_module u v h
+
+option_map-some : (f : List (List ℕ) → List ℕ) (o : Option (List (List ℕ))) (p : List ℕ) → option_map f o ≡ Some p → (left : List (List ℕ)) × (o ≡ Some left)
+option_map-some f None p h = cc
+option_map-some f (Some left) p h = (left, refl)
+
+pub path_left-some : (path b p : List ℕ) → path_left path (pieces b) ≡ Some p → AtOrBelow path b
+unfolding path_left
+path_left-some path b p h = let k = option_map-some (λ left. path_text left (is_dir path)) (strip_prefix (segments path) (pieces b)) p h in at_or_below path b k.0 k.1

@@ -1,0 +1,26 @@
+use Rattle.std.proofs.Common.{sym}
+use Rattle.rpki_text.specs.RsyncText.{IsCut, uri_of}
+use Rattle.rpki_text.proofs.ParentLemmas.{parent_test-none, parent_test-some}
+use Rattle.rpki_text.proofs.MeaningLemmas.{parent_irreflexive, parent_transitive}
+use Rattle.rpki_text.proofs.uri.rsync.Rsync.is_parent_of.Goals as goal
+
+pub returns-in-None-clause-value : goal.returns-in-None-clause-value
+returns-in-None-clause-value c = sym (parent_test-none c.args.self.now c.args.other.now (sym c.in-None.ensures.path))
+
+pub returns-in-Some-clause-value : goal.returns-in-Some-clause-value
+returns-in-Some-clause-value c =
+    let theirs : IsCut c.args.other.now c.other.inside.module_start c.other.inside.path_start = rw (← c.other.view_is) c.other.invariant in
+    let test = parent_test-some c.args.self.now c.args.other.now _ _ theirs _ (sym c.in-Some.ensures.path) in
+    rw c.is_empty.ensures (sym test)
+
+pub returns-in-None-clause-irreflexive : goal.returns-in-None-clause-irreflexive
+returns-in-None-clause-irreflexive c = parent_irreflexive (uri_of c.args.self.now)
+
+pub returns-in-Some-clause-irreflexive : goal.returns-in-Some-clause-irreflexive
+returns-in-Some-clause-irreflexive c = parent_irreflexive (uri_of c.args.self.now)
+
+pub returns-in-None-clause-transitive : goal.returns-in-None-clause-transitive
+returns-in-None-clause-transitive c w = parent_transitive (uri_of c.args.self.now) (uri_of c.args.other.now) w
+
+pub returns-in-Some-clause-transitive : goal.returns-in-Some-clause-transitive
+returns-in-Some-clause-transitive c w = parent_transitive (uri_of c.args.self.now) (uri_of c.args.other.now) w

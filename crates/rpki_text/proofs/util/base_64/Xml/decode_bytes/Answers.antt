@@ -1,0 +1,16 @@
+use Rattle.std.proofs.Common.{sym, ap, ◌∙◌}
+use Rattle.rpki_text.specs.Base64Text.{xml_decode_of}
+use Rattle.rpki_text.proofs.Base64Lemmas.{xml_bytes-text, xml_bytes-other}
+use Rattle.rpki_text.proofs.util.base_64.Xml.decode_bytes.Goals as goal
+
+pub returns-in-Ok-clause-ok : goal.returns-in-Ok-clause-ok
+returns-in-Ok-clause-ok c =
+    rw (xml_bytes-text c.args.bytes.now c.in-Ok.ensures.cases.1 ∙ ap xml_decode_of (sym c.in-Ok.ensures.cases.0)) c.decode.ensures.ok
+
+pub returns-in-Ok-clause-err : goal.returns-in-Ok-clause-err
+returns-in-Ok-clause-err c =
+    rw (xml_bytes-text c.args.bytes.now c.in-Ok.ensures.cases.1 ∙ ap xml_decode_of (sym c.in-Ok.ensures.cases.0)) c.decode.ensures.err
+
+pub returns-in-Err-clause-err : goal.returns-in-Err-clause-err
+returns-in-Err-clause-err c =
+    xml_bytes-other c.args.bytes.now c.in-Err.ensures.cases.0 c.valid_up_to-offset.result (c.valid_up_to-offset.ensures ∙ c.in-Err.ensures.valid_len)

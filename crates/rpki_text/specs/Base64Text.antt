@@ -1,0 +1,48 @@
+-- Octets as base 64 text (RFC 4648 sections 4 and 5), in the flavours of the engines of `base64`.
+use Rattle.std.specs.Prelude.{◌≡◌, ℕ, not, List, filter, slice_index, if◌then◌else◌}
+use Rattle.std.specs.declared.result.Result.{Result}
+use Rattle.std.specs.declared.result.Result.TheVariants.{Err}
+use Rattle.std.specs.Char.{is_ascii_whitespace}
+use Rattle.std.specs.Str.{is_utf8}
+use Rattle.std.specs.Str.Lossy.{utf8_valid_len}
+use Rattle.base64.specs.declared.decode.DecodeError.{DecodeError}
+use Rattle.base64.specs.declared.decode.DecodeError.TheVariants.{InvalidByte}
+use Rattle.base64.specs.declared.decode.DecodeAllocError.{DecodeAllocError}
+use Rattle.base64.specs.declared.decode.DecodeAllocError.TheVariants.{DecodeError as Failed, OutOfMemory as NoMemory}
+use Rattle.base64.specs.Engines.{standard, url_safe_no_pad_indifferent}
+use Rattle.base64.specs.GeneralPurpose.{decode_of, encode_of}
+use Rattle.rpki_text.specs.declared.util.base_64.Base64Error.{Base64Error}
+use Rattle.rpki_text.specs.declared.util.base_64.Base64Error.TheVariants.{Refused, OutOfMemory}
+use Rattle.rpki_text.specs.declared.util.base_64.SlurmDisplay.{SlurmDisplay}
+use Rattle.rpki_text.specs.declared.util.base_64.XmlDecodeError.{XmlDecodeError}
+
+-- the text without space, tab, line feed, form feed and carriage return
+abbrev pub without_white_space : List ℕ → List ℕ
+without_white_space text = filter (λ b. not (is_ascii_whitespace b)) text
+
+-- what a text stands for: offsets of errors count in the text without white space
+abbrev pub xml_decode_of : List ℕ → Result (List ℕ) DecodeError
+xml_decode_of text = decode_of standard (without_white_space text)
+
+-- the same of octets: where they are no text, the octet after their longest beginning that is text is invalid
+abbrev pub xml_bytes_decode_of : List ℕ → Result (List ℕ) DecodeError
+xml_bytes_decode_of bytes =
+    if is_utf8 bytes then xml_decode_of bytes else Err (InvalidByte (utf8_valid_len bytes) (slice_index bytes (utf8_valid_len bytes)))
+
+-- the error of a decoding, against what should come out: want of memory may come at any time
+abbrev pub IsBase64Failure : Result (List ℕ) DecodeError → Base64Error → Type 0
+IsBase64Failure outcome (Refused error) = outcome ≡ Err error
+IsBase64Failure outcome OutOfMemory = Unit {0}
+
+-- what an error of the XML flavour was caused by
+abbrev pub xml_cause : XmlDecodeError → Base64Error
+xml_cause error = error.cause
+
+-- the same error in this crate's words
+abbrev pub base64_error : DecodeAllocError → Base64Error
+base64_error (Failed error) = Refused error
+base64_error NoMemory = OutOfMemory
+
+-- what a value to be printed prints
+abbrev pub slurm_text : SlurmDisplay → List ℕ
+slurm_text shown = encode_of url_safe_no_pad_indifferent shown.bytes.now

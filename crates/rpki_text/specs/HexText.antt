@@ -1,0 +1,11 @@
+-- Octets as hexadecimal digits in upper case (RFC 4648 section 8).
+use Rattle.std.specs.Prelude.{ℕ, ◌+◌, ◌/◌, ◌%◌, List, [], ◌∷◌, nat_lt, if◌then◌else◌}
+
+-- `0` to `9` and `A` to `F`
+abbrev pub hex_digit : ℕ → ℕ
+hex_digit n = if nat_lt n 10 then 48 + n else 55 + n
+
+-- two digits an octet, the high one first
+abbrev pub hex_text : List ℕ → List ℕ
+hex_text [] = []
+hex_text (b ∷ bytes) = hex_digit (b / 16) ∷ hex_digit (b % 16) ∷ hex_text bytes

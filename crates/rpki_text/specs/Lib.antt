@@ -1,0 +1,12 @@
+pub mod Segments
+pub mod UriText
+pub mod RsyncText
+pub mod HttpsText
+pub mod SchemeText
+pub mod HexText
+pub mod SegmentLaws
+pub mod SameUri
+pub mod ErrorText
+pub mod Laws
+pub mod SameHttps
+pub mod Base64Text

@@ -1,0 +1,38 @@
+//! Laws of the definitions. Each function does nothing, and its contract is the law that it is
+//! named for; the laws of single calls stand on those calls.
+ghost use Rattle.rpki_text.specs.Laws.{OneMeaning, EqualParts, EqualParents, EqualModuleAndPath, OneHttpsMeaning, EqualHttpsParts, EqualHttpsParents};
+
+/// A text stands for one rsync URI at most: what is read from it.
+pub fn rsync_texts_have_one_meaning()
+    ensures { OneMeaning }
+{}
+
+/// Two rsync URIs are equal exactly where their authorities, modules, segments and marks are.
+pub fn equal_rsync_uris_have_equal_parts()
+    ensures { EqualParts }
+{}
+
+/// Equal rsync URIs have equal parents.
+pub fn equal_rsync_uris_have_equal_parents()
+    ensures { EqualParents }
+{}
+
+/// Two rsync URIs are equal exactly where their canonical modules and their paths are.
+pub fn equal_rsync_uris_have_equal_modules_and_paths()
+    ensures { EqualModuleAndPath }
+{}
+
+/// A text stands for one https URI at most: what is read from it.
+pub fn https_texts_have_one_meaning()
+    ensures { OneHttpsMeaning }
+{}
+
+/// Two https URIs are equal exactly where their authorities and paths are.
+pub fn equal_https_uris_have_equal_parts()
+    ensures { EqualHttpsParts }
+{}
+
+/// Equal https URIs have equal parents.
+pub fn equal_https_uris_have_equal_parents()
+    ensures { EqualHttpsParents }
+{}

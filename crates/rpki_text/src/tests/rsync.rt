@@ -1,0 +1,610 @@
+//! Rsync URIs.
+use crate::uri::{Error, Rsync, Scheme, check_uri_ascii, starts_with_ignore_case};
+use bytes::Bytes;
+use std::alloc::Global;
+use std::fmt;
+use std::hash::{FoldHasher, Hash, Hasher};
+use std::test::Fail;
+
+fn parsed(alloc: Global, text: &str) -> Result<Rsync, Error> {
+    Rsync::from_bytes(Bytes::copy_from_slice(alloc, text.as_bytes())?)
+}
+
+fn refusal(alloc: Global, text: &str) -> u8 {
+    match parsed(alloc, text) {
+        Ok(_) => 0,
+        Err(e) => e.number(),
+    }
+}
+
+const REFUSALS: [(&str, u8); 53] = [
+    ("rsync://host/module/", 0),
+    ("rsync://host/module/foo/", 0),
+    ("rsync://host/module/foo/bar", 0),
+    ("rsync://host/module/foo/bar/", 0),
+    ("rSync://hOst/module/foo/bar", 0),
+    (
+        "rsync://host/module/$%&'()*+,-./0123456789:;=ABCDEFGHIJKLMNOPQRSTUVWXYZ_abcdefghijklmnopqrstuvwxyz~",
+        0,
+    ),
+    ("", 4),
+    ("fsync://host/module/foo/bar", 4),
+    ("rsync://", 2),
+    ("rsync://a", 2),
+    ("rsync://a/", 2),
+    ("rsync://host/", 2),
+    ("rsync://host/module", 2),
+    ("rsync:////foo", 6),
+    ("rsync://host//foo", 6),
+    ("rsync:///module/foo", 6),
+    ("rsync://host/module//foo/bar/", 6),
+    ("rsync://host/module/foo//bar/", 6),
+    ("rsync://host/m/a//..", 6),
+    ("rsync://host/./a//b", 5),
+    ("rsync://../module/", 5),
+    ("rsync://./", 5),
+    ("rsync://host/..", 5),
+    ("rsync://host/./foo/bar", 5),
+    ("rsync://host/module/foo/../bar", 5),
+    ("rsync://host/module/foo/bar/..", 5),
+    ("rsync://host/module/f oo/bar", 1),
+    ("rsync:// host/module/foo/bar", 1),
+    ("xsync://a b", 1),
+    ("rsync://host/module/ ", 1),
+    ("rsync://host/module/\"", 1),
+    ("rsync://host/module/#", 1),
+    ("rsync://host/module/<", 1),
+    ("rsync://host/module/>", 1),
+    ("rsync://host/module/?", 1),
+    ("rsync://host/module/[", 1),
+    ("rsync://host/module/\\", 1),
+    ("rsync://host/module/]", 1),
+    ("rsync://host/module/^", 1),
+    ("rsync://host/module/`", 1),
+    ("rsync://host/module/{", 1),
+    ("rsync://host/module/|", 1),
+    ("rsync://host/module/}", 1),
+    ("rsync://host/module/!", 0),
+    ("rsync://host/module/a.b/..c/...", 0),
+    ("rsync://host/module/.", 5),
+    ("RSYNC://HOST/MODULE/", 0),
+    ("rsync:/host/module/", 4),
+    ("rsync://host/module/a//", 6),
+    ("rsync://host/module/.//", 5),
+    ("rsync:///", 6),
+    ("https://host/module/", 4),
+    ("rsync://host/module/\u{e4}", 1),
+];
+
+#[test]
+fn refusals(rt: HostRuntime) {
+    for (text, want) in REFUSALS {
+        assert_eq!(rt; refusal(rt.alloc(), text), want, "{text}");
+    }
+}
+
+// A text of parts that are each repeated.
+fn repeated(alloc: Global, parts: &[(&str, usize)]) -> Result<String, Fail> {
+    let mut text = String::new(alloc);
+    for (part, times) in parts {
+        for _ in 0..*times {
+            text.push_str(part)?;
+        }
+    }
+    Ok(text)
+}
+
+fn repeated_refusal(alloc: Global, parts: &[(&str, usize)]) -> Result<u8, Fail> {
+    let text = repeated(alloc, parts)?;
+    Ok(refusal(alloc, text.as_str()))
+}
+
+const LIMITS: [(&[(&str, usize)], u8); 14] = [
+    (&[("rsync://", 1), ("a", 255), ("/m/", 1)], 0),
+    (&[("rsync://", 1), ("a", 256), ("/m/", 1)], 7),
+    (&[("rsync://host/", 1), ("a", 255), ("/", 1)], 0),
+    (&[("rsync://host/", 1), ("a", 256), ("/", 1)], 7),
+    (&[("rsync://host/module/", 1), ("a", 255)], 0),
+    (&[("rsync://host/module/", 1), ("a", 256)], 7),
+    (&[("rsync://host/module/", 1), ("a", 256), ("/..", 1)], 7),
+    (&[("rsync://host/module/../", 1), ("a", 256)], 5),
+    (&[("rsync://host/module/", 1), (SEGMENT, 11), ("a", 243)], 0),
+    (&[("rsync://host/module/", 1), (SEGMENT, 11), ("a", 244)], 3),
+    (
+        &[
+            ("rsync://host/module/", 1),
+            (SEGMENT, 11),
+            ("a", 243),
+            ("/", 1),
+        ],
+        3,
+    ),
+    (&[("rsync://../module/", 1), (SEGMENT, 11), ("a", 246)], 3),
+    (&[("rsync://../module/", 1), (SEGMENT, 11), ("a", 245)], 5),
+    (&[("rsync://host/module/", 1), (SEGMENT, 12), (" ", 1)], 1),
+];
+
+#[test]
+fn limits(rt: HostRuntime) -> Result<(), Fail> {
+    for (case, (parts, want)) in LIMITS.iter().enumerate() {
+        assert_eq!(rt; repeated_refusal(rt.alloc(), parts)?, *want, "limit {case}");
+    }
+    Ok(())
+}
+
+// 255 octets and a slash.
+const SEGMENT: &str =
+    "aaaaaaaaaaaaaaaaaaaaaaaaaaaaaaaaaaaaaaaaaaaaaaaaaaaaaaaaaaaaaaaaaaaaaaaaaaaaaaaaaaaaaaaaaaaaaaaaaaaaaaaaaaaaaaaaaaaaaaaaaaaaaaaaaaaaaaaaaaaaaaaaaaaaaaaaaaaaaaaaaaaaaaaaaaaaaaaaaaaaaaaaaaaaaaaaaaaaaaaaaaaaaaaaaaaaaaaaaaaaaaaaaaaaaaaaaaaaaaaaaaaaaaaaaaaaaaa/";
+
+fn relative(alloc: Global, of: &str, to: &str) -> Result<String, Fail> {
+    let (u, v) = (parsed(alloc, of)?, parsed(alloc, to)?);
+    match u.relative_to(&v) {
+        Some(path) => Ok(String::from_str(alloc, path)?),
+        None => Ok(String::from_str(alloc, "None")?),
+    }
+}
+
+const RELATIVES: [(&str, &str, &str); 17] = [
+    ("rsync://host/module/", "rsync://host/module/", ""),
+    ("rsync://host/module/", "rsync://host/module/a", "None"),
+    ("rsync://host/module/a", "rsync://host/module/", "a"),
+    ("rsync://host/module/a/", "rsync://host/module/", "a/"),
+    ("rsync://host/module/a", "rsync://host/module/a/b", "None"),
+    ("rsync://host/module/ab/", "rsync://host/module/a/", "None"),
+    ("rsync://host/module/a/b", "rsync://host/module/a/", "b"),
+    ("rsync://host/module/a/b/", "rsync://host/module/a", "b/"),
+    ("rsync://host/module/a/b/", "rsync://host/module/a/b", ""),
+    ("rsync://host/module/a/b", "rsync://host/module/ab", "None"),
+    ("rsync://host/module/a/b", "rsync://host/mod_b/a/b", "None"),
+    ("rsync://host/module/ab", "rsync://host/module/a", "None"),
+    ("rsync://host/module/a", "rsync://host/module/a/", ""),
+    ("rsync://host/M/a", "rsync://host/m/", "None"),
+    ("rsync://HOST/module/a/b/", "rSync://host/module/a", "b/"),
+    ("rsync://host/module/A/b", "rsync://host/module/a", "None"),
+    ("rsync://host/module/a/b/c", "rsync://host/module/a/b/", "c"),
+];
+
+#[test]
+fn relatives(rt: HostRuntime) -> Result<(), Fail> {
+    for (of, to, want) in RELATIVES {
+        assert_eq!(rt;
+            relative(rt.alloc(), of, to)?.as_str(),
+            want,
+            "{of} to {to}"
+        );
+    }
+    Ok(())
+}
+
+fn joined(alloc: Global, base: &str, path: &str) -> Result<String, Fail> {
+    match parsed(alloc, base)?.join(alloc, path.as_bytes()) {
+        Ok(joined) => Ok(String::from_str(alloc, joined.as_str())?),
+        Err(e) => Ok(format!(in alloc; "{}", e.number())?),
+    }
+}
+
+const JOINS: [(&str, &str, &str); 15] = [
+    (
+        "rsync://host/module/some",
+        "foo",
+        "rsync://host/module/some/foo",
+    ),
+    (
+        "rsync://host/module/some",
+        "foo/",
+        "rsync://host/module/some/foo/",
+    ),
+    (
+        "rsync://host/module/some",
+        "foo/bar",
+        "rsync://host/module/some/foo/bar",
+    ),
+    (
+        "rsync://host/module/some/",
+        "foo",
+        "rsync://host/module/some/foo",
+    ),
+    (
+        "rsync://host/module/some/",
+        "foo/",
+        "rsync://host/module/some/foo/",
+    ),
+    (
+        "rsync://host/module/some/",
+        "foo/bar",
+        "rsync://host/module/some/foo/bar",
+    ),
+    ("rsync://host/module/", ".", "5"),
+    ("rsync://host/module/", "foo/.", "5"),
+    ("rsync://host/module/", "..", "5"),
+    ("rsync://host/module/", "foo/../bar", "5"),
+    ("rsync://host/module/", "../bar", "5"),
+    ("rsync://host/module/", "/bar", "6"),
+    ("rsync://host/module/", "b r", "1"),
+    (
+        "rSync://hOst/module/some",
+        "foo/bar",
+        "rSync://hOst/module/some/foo/bar",
+    ),
+    ("rSync://hOst/module/some", "", "rSync://hOst/module/some"),
+];
+
+#[test]
+fn joins(rt: HostRuntime) -> Result<(), Fail> {
+    for (base, path, want) in JOINS {
+        assert_eq!(rt;
+            joined(rt.alloc(), base, path)?.as_str(),
+            want,
+            "{base} join {path}"
+        );
+    }
+    Ok(())
+}
+
+// The length of a long join, or the number of its refusal.
+fn long_join(alloc: Global, path: &[(&str, usize)]) -> Result<usize, Fail> {
+    let path = repeated(alloc, path)?;
+    match parsed(alloc, "rsync://host/module/")?.join(alloc, path.as_bytes()) {
+        Ok(joined) => Ok(joined.as_slice().len()),
+        Err(e) => Ok(usize::from(e.number())),
+    }
+}
+
+#[test]
+fn long_joins(rt: HostRuntime) -> Result<(), Fail> {
+    let cases: [(usize, usize, usize); 3] = [(11, 235, 3071), (11, 236, 3), (12, 0, 3)];
+    for (segments, more, want) in cases {
+        let path = [(SEGMENT, segments), ("a", more)];
+        assert_eq!(rt;
+            long_join(rt.alloc(), &path)?,
+            want,
+            "{segments} and {more}"
+        );
+    }
+    Ok(())
+}
+
+// The longest text that is read, what joining gives, and the length once it is a directory.
+fn longest(alloc: Global, path: &str) -> Result<(u8, usize, u8), Fail> {
+    let text = repeated(
+        alloc,
+        &[("rsync://host/module/", 1), (SEGMENT, 11), ("a", 243)],
+    )?;
+    let mut uri = parsed(alloc, text.as_str())?;
+    let joined = match uri.join(alloc, path.as_bytes()) {
+        Ok(same) => if same == uri { 0 } else { 9 },
+        Err(e) => e.number(),
+    };
+    uri.path_into_dir(alloc)?;
+    Ok((joined, uri.as_slice().len(), refusal(alloc, uri.as_str())))
+}
+
+#[test]
+fn longest_texts(rt: HostRuntime) -> Result<(), Fail> {
+    for (path, want) in [("a", (3, 3080, 3)), ("", (0, 3080, 3))] {
+        assert_eq!(rt; longest(rt.alloc(), path)?, want, "{path}");
+    }
+    Ok(())
+}
+
+fn parent(alloc: Global, text: &str) -> Result<String, Fail> {
+    match parsed(alloc, text)?.parent()? {
+        Some(parent) => Ok(String::from_str(alloc, parent.as_str())?),
+        None => Ok(String::from_str(alloc, "None")?),
+    }
+}
+
+const PARENTS: [(&str, &str); 6] = [
+    (
+        "rsync://host/module/foo/bar/baz/",
+        "rsync://host/module/foo/bar/",
+    ),
+    (
+        "rsync://host/module/foo/bar/baz",
+        "rsync://host/module/foo/bar/",
+    ),
+    ("rsync://host/module/foo/", "rsync://host/module/"),
+    ("rsync://host/module/foo", "rsync://host/module/"),
+    ("rsync://host/module/", "None"),
+    ("rSync://hOst/module/foo", "rSync://hOst/module/"),
+];
+
+#[test]
+fn parents(rt: HostRuntime) -> Result<(), Fail> {
+    for (text, want) in PARENTS {
+        assert_eq!(rt; parent(rt.alloc(), text)?.as_str(), want, "{text}");
+    }
+    Ok(())
+}
+
+fn hash_of(u: &Rsync) -> u64 {
+    let mut state = FoldHasher::default();
+    u.hash(&mut state);
+    state.finish()
+}
+
+// Identical, equal, equal by octets, above, below, and hashed alike.
+fn comparison(
+    alloc: Global,
+    a: &str,
+    b: &str,
+) -> Result<(bool, bool, bool, bool, bool, bool), Fail> {
+    let (u, v) = (parsed(alloc, a)?, parsed(alloc, b)?);
+    Ok((
+        u.is_identical_to(&v),
+        u == v,
+        u.eq_bytes(b.as_bytes()),
+        u.is_parent_of(&v),
+        v.is_parent_of(&u),
+        hash_of(&u) == hash_of(&v),
+    ))
+}
+
+const PATH: &str = "rsync://example.org/module/some/path";
+
+const COMPARISONS: [(&str, &str, (bool, bool, bool, bool, bool)); 13] = [
+    (PATH, PATH, (true, true, true, false, false)),
+    (
+        PATH,
+        "rsync://example.org/module/some/path/",
+        (true, false, false, false, false),
+    ),
+    (
+        PATH,
+        "rsync://EXAMPLE.ORG/module/some/path",
+        (true, true, true, false, false),
+    ),
+    (
+        PATH,
+        "rsync://example.org/module/some/path2",
+        (false, false, false, false, false),
+    ),
+    (
+        PATH,
+        "rsync://example.org/module/some/PATH",
+        (false, false, false, false, false),
+    ),
+    (
+        PATH,
+        "rsync://example.org/module2/some/path",
+        (false, false, false, false, false),
+    ),
+    (
+        PATH,
+        "rsync://example.net/module/some/path",
+        (false, false, false, false, false),
+    ),
+    (
+        "rsync://host/M/a",
+        "rsync://host/m/a",
+        (false, false, false, false, false),
+    ),
+    (
+        "rsyNc://hOst/module/path",
+        "rsync://host/module/path",
+        (true, true, true, false, false),
+    ),
+    (
+        "rsyNc://hOst/module/path",
+        "rsync://host/module/pAth",
+        (false, false, false, false, false),
+    ),
+    (
+        "rsync://host/module/",
+        "rsync://HOST/module/a",
+        (false, false, false, true, false),
+    ),
+    (
+        "rsync://host/module/a/b",
+        "rsync://host/module/a/",
+        (false, false, false, false, true),
+    ),
+    (
+        "rsync://host/module/a",
+        "rsync://host/module/ab",
+        (false, false, false, false, false),
+    ),
+];
+
+#[test]
+fn comparisons(rt: HostRuntime) -> Result<(), Fail> {
+    for (a, b, want) in COMPARISONS {
+        let (same, equal, octets, above, below, hashed) = comparison(rt.alloc(), a, b)?;
+        assert_eq!(rt; (same, equal, octets, above, below), want, "{a} and {b}");
+        assert!(rt; hashed == equal, "hashes of {a} and {b}");
+    }
+    Ok(())
+}
+
+#[test]
+fn other_octets(rt: HostRuntime) -> Result<(), Fail> {
+    let cases: [(&str, &str); 4] = [
+        ("rsync://host/m/p", ""),
+        ("rsync://host/m/p", "rsync://HOST"),
+        ("rsync://host/m/p", "xsync://host/m/p"),
+        ("rsync://h/m/", "rsync://h/m"),
+    ];
+    for (text, octets) in cases {
+        assert!(rt;
+            !parsed(rt.alloc(), text)?.eq_bytes(octets.as_bytes()),
+            "{text} and {octets}"
+        );
+    }
+    Ok(())
+}
+
+fn put(line: &mut String, part: &str) -> Result<(), Fail> {
+    line.push_str(" ")?;
+    line.push_str(part)?;
+    Ok(())
+}
+
+fn put_canonical(alloc: Global, line: &mut String, u: &Rsync) -> Result<(), Fail> {
+    let authority = u.canonical_authority(alloc)?.into_owned(alloc)?;
+    let module = u.canonical_module(alloc)?.into_owned(alloc)?;
+    put(line, authority.as_str())?;
+    put(line, module.as_str())
+}
+
+// The text that Display prints, and the parts behind it.
+fn parts(alloc: Global, text: &str) -> Result<String, Fail> {
+    let u = parsed(alloc, text)?;
+    let mut line = format!(in alloc; "{u}")?;
+    put(&mut line, u.authority())?;
+    put(&mut line, u.module_name())?;
+    put(&mut line, u.module())?;
+    put_canonical(alloc, &mut line, &u)?;
+    put(&mut line, u.path())?;
+    let (dir, certificate, len) = (u.path_is_dir(), u.ends_with(".cer"), u.path_bytes().len());
+    Ok(format!(in alloc; "{line} {dir} {certificate} {len}")?)
+}
+
+const PARTS: [(&str, &str); 4] = [
+    (
+        "rSync://hOst/module/foo/bar",
+        "rSync://hOst/module/foo/bar hOst module rSync://hOst/module/ host rsync://host/module/ foo/bar false false 7",
+    ),
+    (
+        "rSync://hOst/module/",
+        "rSync://hOst/module/ hOst module rSync://hOst/module/ host rsync://host/module/  true false 0",
+    ),
+    (
+        "rsync://host/Module/a.cer",
+        "rsync://host/Module/a.cer host Module rsync://host/Module/ host rsync://host/Module/ a.cer false true 5",
+    ),
+    (
+        "rSync://host/.cer/er",
+        "rSync://host/.cer/er host .cer rSync://host/.cer/ host rsync://host/.cer/ er false false 2",
+    ),
+];
+
+#[test]
+fn uri_parts(rt: HostRuntime) -> Result<(), Fail> {
+    for (text, want) in PARTS {
+        assert_eq!(rt; parts(rt.alloc(), text)?.as_str(), want, "{text}");
+    }
+    Ok(())
+}
+
+// The texts that each way of making a copy gives, which are all the same.
+fn copies_agree(alloc: Global, text: &str) -> Result<bool, Fail> {
+    let mut u = Rsync::from_str(alloc, text)?;
+    let copy = u.clone()?;
+    u.unshare(alloc)?;
+    let octets = u.to_bytes()?;
+    let again = Rsync::from_slice(alloc, u.as_slice())?;
+    let owned = Rsync::from_string(String::from_str(alloc, text)?)?;
+    Ok(
+        u.as_str() == text
+            && copy.as_str() == text
+            && again.as_str() == text
+            && owned.as_str() == text
+            && octets.as_slice() == text.as_bytes(),
+    )
+}
+
+#[test]
+fn copies(rt: HostRuntime) -> Result<(), Fail> {
+    for text in ["rSync://hOst/module/foo/bar", "rsync://host/module/"] {
+        assert!(rt; copies_agree(rt.alloc(), text)?, "{text}");
+    }
+    Ok(())
+}
+
+// Which of the ways to read a text refuse it, by number.
+fn refused_alike(alloc: Global, text: &str) -> Result<bool, Fail> {
+    let number = refusal(alloc, text);
+    let of = |read: Result<Rsync, Error>| match read {
+        Ok(_) => 0,
+        Err(e) => e.number(),
+    };
+    Ok(
+        of(Rsync::from_str(alloc, text)) == number
+            && of(Rsync::from_slice(alloc, text.as_bytes())) == number
+            && of(Rsync::from_string(String::from_str(alloc, text)?)) == number,
+    )
+}
+
+#[test]
+fn readers_agree(rt: HostRuntime) -> Result<(), Fail> {
+    for text in [
+        "rsync://host/module/",
+        "",
+        "rsync://host",
+        "rsync://h//",
+        "rsync://h/../",
+        "rsync://h m",
+    ] {
+        assert!(rt; refused_alike(rt.alloc(), text)?, "{text}");
+    }
+    Ok(())
+}
+
+fn shown<D: fmt::Display + Drop>(alloc: Global, value: D) -> Result<String, Fail> {
+    Ok(format!(in alloc; "{value}")?)
+}
+
+#[test]
+fn error_texts(rt: HostRuntime) -> Result<(), Fail> {
+    let cases: [(Error, u8, &str); 8] = [
+        (Error::InvalidCharacters, 1, "invalid characters"),
+        (Error::BadUri, 2, "bad URI"),
+        (Error::LongUri, 3, "URI exceeds 3072 characters"),
+        (Error::BadScheme, 4, "bad URI scheme"),
+        (Error::DotSegments, 5, "URI with dot path segments"),
+        (Error::EmptySegments, 6, "URI with empty path segments"),
+        (
+            Error::LongSegments,
+            7,
+            "one or more segments are longer than 255 characters",
+        ),
+        (Error::OutOfMemory, 8, "out of memory"),
+    ];
+    for (error, number, text) in cases {
+        assert_eq!(rt; error.number(), number, "{text}");
+        assert_eq!(rt; shown(rt.alloc(), error)?.as_str(), text, "{number}");
+    }
+    Ok(())
+}
+
+#[test]
+fn schemes(rt: HostRuntime) -> Result<(), Fail> {
+    let cases: [(Scheme, bool, &str, &str); 2] = [
+        (Scheme::Https, true, "https", "https://"),
+        (Scheme::Rsync, false, "rsync", "rsync://"),
+    ];
+    for (scheme, https, name, beginning) in cases {
+        assert!(rt;
+            scheme.is_https() == https && scheme.is_rsync() != https,
+            "{name}"
+        );
+        assert_eq!(rt; scheme.as_str(), name, "{name}");
+        assert_eq!(rt;
+            scheme.into_string(rt.alloc())?.as_str(),
+            beginning,
+            "{name}"
+        );
+        assert_eq!(rt; shown(rt.alloc(), scheme)?.as_str(), beginning, "{name}");
+    }
+    Ok(())
+}
+
+#[test]
+fn beginnings(rt: HostRuntime) {
+    let cases: [(&[u8], &[u8], bool); 5] = [
+        (b"rSYNC://host", b"rsync://", true),
+        (b"rsync:/", b"rsync://", false),
+        (b"fsync://", b"rsync://", false),
+        (b"", b"", true),
+        (b"", b"a", false),
+    ];
+    for (s, expected, want) in cases {
+        assert_eq!(rt;
+            starts_with_ignore_case(s, expected),
+            want,
+            "{} octets",
+            s.len()
+        );
+        assert!(rt; check_uri_ascii(s).is_ok(), "{} octets", s.len());
+    }
+}

@@ -1,0 +1,101 @@
+//! The characters of URIs, and texts whose letters' case doesn't count.
+ghost use Rattle.std.specs.Prelude.{◌≡◌, ◌≤◌, true, false, length, take, bytes_eq, IsTrue, IfOk, MatchResult, fold, flat_map};
+ghost use Rattle.std.specs.List.{list_all, position_or_len};
+ghost use Rattle.std.specs.Hash as fed;
+ghost use Rattle.std.specs.Cow.{cow_str_bytes};
+ghost use Rattle.rpki_text.specs.Segments.{is_slash};
+ghost use Rattle.rpki_text.specs.UriText.{is_uri_byte, lowercase, same_text};
+
+use super::error::Error;
+use std::alloc::{AllocError, Global};
+use std::borrow::CowStr;
+use std::hash::Hasher;
+use std::str;
+
+#[tactic(auto, unfolding(crate::specs::UriText::is_uri_byte))]
+fn is_uri_byte(b: u8) -> bool
+    ensures { result ≡ is_uri_byte b }
+{
+    matches!(b, b'!' | b'$'..=b';' | b'=' | b'A'..=b'Z' | b'_' | b'a'..=b'z' | b'~')
+}
+
+/// Tests that each octet is a character that a URI may have: `!`, `$` to `;`, `=`, `A` to `Z`,
+/// `_`, `a` to `z` and `~`.
+///
+/// Refuses with `Error::InvalidCharacters` where there is another, and takes no memory.
+pub fn check_uri_ascii(text: &[u8]) -> Result<(), Error>
+    ensures { MatchResult result (λ _. list_all is_uri_byte text.now ≡ true)
+        (λ e. (e ≡ Error.InvalidCharacters) × (list_all is_uri_byte text.now ≡ false)) }
+{
+    for b in text {
+        if !is_uri_byte(*b) {
+            return Err(Error::InvalidCharacters);
+        }
+    }
+    Ok(())
+}
+
+/// Whether `s` begins with `expected`, without regard to the case of ASCII letters: false where
+/// `s` is shorter.
+pub fn starts_with_ignore_case(s: &[u8], expected: &[u8]) -> bool
+    ensures { result ≡ bytes_eq (lowercase (take (length expected.now) s.now)) (lowercase expected.now) }
+{
+    s.len() >= expected.len() && s[..expected.len()].eq_ignore_ascii_case(expected)
+}
+
+// Where the first slash stands, or the length.
+pub(super) fn slash_at(s: &[u8]) -> usize
+    ensures value { result ≡ position_or_len is_slash s.now }
+    ensures within { result ≤ length s.now }
+{
+    s.iter().take_while(|b| **b != b'/').count()
+}
+
+// The octets of a URI as text.
+pub(super) fn uri_text(bytes: &[u8]) -> &str
+    requires { list_all is_uri_byte bytes.now ≡ true }
+    ensures { result.now ≡ bytes.now }
+{
+    unsafe { str::from_utf8_unchecked(bytes) }
+}
+
+// Whether no letter is a capital: the text in lower case is then itself.
+pub(super) fn has_no_capital(text: &[u8]) -> bool
+    ensures { IsTrue result → lowercase text.now ≡ text.now }
+{
+    !text.iter().any(|b| b.is_ascii_uppercase())
+}
+
+// The text in lower case: itself, where it is.
+pub(super) fn in_lower_case(alloc: Global, text: &str) -> Result<CowStr<'_, Global>, AllocError>
+    ensures { IfOk result (λ lower. cow_str_bytes lower ≡ lowercase text.now) }
+{
+    if has_no_capital(text.as_bytes()) {
+        return Ok(CowStr::Borrowed(text));
+    }
+    let mut lower = String::from_str(alloc, text)?;
+    lower.make_ascii_lowercase();
+    Ok(CowStr::Owned(lower))
+}
+
+// The same octets, but for the case of the letters among the first `len`.
+pub(super) fn same_but_case(text: &[u8], len: usize, other: &[u8]) -> bool
+    requires { len ≤ length text.now }
+    ensures { result ≡ same_text len text.now other.now }
+{
+    if text.len() != other.len() {
+        return false;
+    }
+    let (front, rest) = text.split_at(len);
+    let (other_front, other_rest) = other.split_at(len);
+    front.eq_ignore_ascii_case(other_front) && rest == other_rest
+}
+
+// Hashes the octets one by one, in lower case.
+pub(super) fn hash_in_lower_case<H: Hasher>(bytes: &[u8], state: &mut H)
+    ensures { state.new ≡ fold H.write state.old (flat_map fed.u8 (lowercase bytes.now)) }
+{
+    for b in bytes {
+        state.write_u8(b.to_ascii_lowercase());
+    }
+}

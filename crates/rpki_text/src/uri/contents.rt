@@ -1,0 +1,82 @@
+//! URIs in certificates: as IA5String contents and as general names (RFC 5280 4.2.1.6).
+
+ghost use Rattle.std.specs.Prelude.{◌≡◌, ◌<◌, ◌^◌, ◌↔◌, false, length};
+ghost use Rattle.rpki_der.specs.Header.{tlv};
+ghost use Rattle.rpki_der.specs.TagName.{context_6};
+
+use super::https::Https;
+use super::rsync::Rsync;
+use rpki_der::{Primitive, PrimitiveContent, Tag, Values, write_whole};
+use std::io;
+use std::io::Write;
+
+/// The tag of a URI among general names, uniformResourceIdentifier (RFC 5280 4.2.1.6).
+const URI_NAME: Tag = Tag::CTX_6;
+
+/// The contents of an IA5String: the text as it was spelled.
+impl<'a> PrimitiveContent for &'a Rsync {
+    ghost use Rattle.rpki_der.specs.TagName.{ia5_string};
+
+    ghost plain = { ia5_string };
+
+    const TAG: Tag = Tag::IA5_STRING;
+
+    ghost contents = { λ u. u.now };
+
+    fn plain_tag(&self) -> Tag {
+        Self::TAG
+    }
+
+    fn encoded_len(&self) -> u64 {
+        self.as_slice().len() as u64
+    }
+
+    fn write_encoded<W: Write>(&self, out: &mut W) -> Result<(), io::Error> {
+        write_whole(out, self.as_slice())
+    }
+}
+
+impl Rsync {
+    /// What writes the URI as a general name: its text, as it was spelled, under the context-specific tag 6
+    /// (RFC 5280 4.2.1.6).
+    pub fn encode_general_name(&self) -> Primitive<&Rsync>
+        ensures encoded { ⟦<Primitive<&'static Rsync> as Values>⟧.encoded result ≡ tlv context_6 false self.now }
+        ensures short { ⟦<Primitive<&'static Rsync> as Values>⟧.is_short result ↔ (length self.now < 2 ^ 32) }
+    {
+        self.encode_as(URI_NAME)
+    }
+}
+
+/// The contents of an IA5String: the text as it was spelled.
+impl<'a> PrimitiveContent for &'a Https {
+    ghost use Rattle.rpki_der.specs.TagName.{ia5_string};
+
+    ghost plain = { ia5_string };
+
+    const TAG: Tag = Tag::IA5_STRING;
+
+    ghost contents = { λ u. u.now };
+
+    fn plain_tag(&self) -> Tag {
+        Self::TAG
+    }
+
+    fn encoded_len(&self) -> u64 {
+        self.as_slice().len() as u64
+    }
+
+    fn write_encoded<W: Write>(&self, out: &mut W) -> Result<(), io::Error> {
+        write_whole(out, self.as_slice())
+    }
+}
+
+impl Https {
+    /// What writes the URI as a general name: its text, as it was spelled, under the context-specific tag 6
+    /// (RFC 5280 4.2.1.6).
+    pub fn encode_general_name(&self) -> Primitive<&Https>
+        ensures encoded { ⟦<Primitive<&'static Https> as Values>⟧.encoded result ≡ tlv context_6 false self.now }
+        ensures short { ⟦<Primitive<&'static Https> as Values>⟧.is_short result ↔ (length self.now < 2 ^ 32) }
+    {
+        self.encode_as(URI_NAME)
+    }
+}

@@ -1,0 +1,79 @@
+//! What can be wrong with a URI.
+
+use std::alloc::AllocError;
+use std::fmt;
+
+/// Why a text is no URI, or why two texts can't be joined to one.
+#[derive(Clone, Copy, Debug, PartialEq, Eq, Drop)]
+pub enum Error {
+    /// There is a character that a URI may not have.
+    InvalidCharacters,
+    /// The authority or the module is missing, or the authority of an https URI is too long.
+    BadUri,
+    /// The text is too long.
+    LongUri,
+    /// The text doesn't begin with the scheme.
+    BadScheme,
+    /// A segment is `.` or `..`.
+    DotSegments,
+    /// A segment that is not the last is empty.
+    EmptySegments,
+    /// A segment has 256 octets or more.
+    LongSegments,
+    /// Memory ran out.
+    OutOfMemory,
+}
+
+impl Error {
+    ghost use Rattle.std.specs.Prelude.{◌≡◌};
+    ghost use Rattle.rpki_text.specs.ErrorText.{error_number};
+
+    /// The error's number, from 1 to 8, by which programs report it.
+    pub fn number(self) -> u8
+        ensures { result ≡ error_number self }
+    {
+        match self {
+            Error::InvalidCharacters => 1,
+            Error::BadUri => 2,
+            Error::LongUri => 3,
+            Error::BadScheme => 4,
+            Error::DotSegments => 5,
+            Error::EmptySegments => 6,
+            Error::LongSegments => 7,
+            Error::OutOfMemory => 8,
+        }
+    }
+}
+
+impl fmt::Display for Error {
+    ghost use Rattle.std.specs.Prelude.{Some};
+    ghost use Rattle.rpki_text.specs.ErrorText.{error_text};
+
+    ghost output = { λ e. Some (error_text e) };
+
+    fn fmt<W: fmt::Write>(&self, f: &mut fmt::Formatter<W>) -> fmt::Result {
+        f.write_str(match self {
+            Error::InvalidCharacters => "invalid characters",
+            Error::BadUri => "bad URI",
+            Error::LongUri => "URI exceeds 3072 characters",
+            Error::BadScheme => "bad URI scheme",
+            Error::DotSegments => "URI with dot path segments",
+            Error::EmptySegments => "URI with empty path segments",
+            Error::LongSegments => "one or more segments are longer than 255 characters",
+            Error::OutOfMemory => "out of memory",
+        })
+    }
+}
+
+impl std::error::Error for Error {}
+
+impl From<AllocError> for Error {
+    ghost use Rattle.std.specs.Prelude.{◌≡◌};
+    ghost use Rattle.rpki_text.specs.declared.uri.error.Error.TheVariants.{OutOfMemory};
+
+    ghost from_gives = { λ _ e. e ≡ OutOfMemory };
+
+    fn from(_e: AllocError) -> Error {
+        Error::OutOfMemory
+    }
+}

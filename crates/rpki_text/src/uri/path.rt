@@ -1,0 +1,170 @@
+//! Paths: what stands behind the module of a URI, cut into segments at its slashes.
+ghost use Rattle.std.specs.Prelude.{◌≡◌, ◌≤◌, ◌<◌, ◌+◌, ◌-◌, ◌^◌, ◌++◌, [], ◌∷◌, ◌⊎◌, ℕ, not, true, false, length, take, drop, Some, None, MatchResult, MatchOption, IfSome, IfNone, IfOk, if◌then◌else◌};
+ghost use Rattle.std.specs.Iterator.{YieldsFirstBy, item_count};
+ghost use Rattle.std.specs.List.{suffix_len};
+ghost use Rattle.std.specs.Option.{option_copied};
+ghost use Rattle.rpki_text.specs.Segments.{is_slash, pieces, segments, is_dir, IsParentLen};
+ghost use Rattle.rpki_text.specs.RsyncText.{piece_refusal, names_refusal, path_refusal, path_left};
+ghost use Rattle.rpki_text.specs.HttpsText.{without_slash, path_above};
+
+use super::characters::slash_at;
+use super::error::Error;
+use bytes::Bytes;
+use std::alloc::{AllocError, Global};
+
+// Tests one segment.
+fn check_piece(piece: &[u8]) -> Result<(), Error>
+    ensures { MatchResult result (λ _. piece_refusal piece.now ≡ None)
+        (λ e. piece_refusal piece.now ≡ Some e) }
+{
+    if piece.is_empty() {
+        return Err(Error::EmptySegments);
+    }
+    if matches!(piece, b"." | b"..") {
+        return Err(Error::DotSegments);
+    }
+    if piece.len() >= 256 {
+        return Err(Error::LongSegments);
+    }
+    Ok(())
+}
+
+// The first segment of a path, and the path after it.
+#[tactic(auto, using(crate::proofs::SegmentLemmas::segment_steps))]
+fn first_segment(path: &[u8]) -> Option<(&[u8], &[u8])>
+    ensures first { MatchOption result (segments path.now ≡ [])
+        (λ p. segments path.now ≡ p.0.now ∷ segments p.1.now) }
+    ensures rest { MatchOption result (path.now ≡ [])
+        (λ p. (p.1.now ≡ []) ⊎ (is_dir p.1.now ≡ is_dir path.now)) }
+    ensures tail { IfSome result (λ p. (n : ℕ) × (p.1.now ≡ drop n path.now)) }
+{
+    if path.is_empty() {
+        return None;
+    }
+    let end = slash_at(path);
+    if end == path.len() {
+        Some((path, &path[end..]))
+    } else {
+        Some((&path[..end], &path[end + 1..]))
+    }
+}
+
+// The segments of a path, from the left.
+#[derive(Drop)]
+struct Segments<'a> {
+    rest: &'a [u8],
+}
+
+impl<'a> Iterator for Segments<'a> {
+    type Item = &'a [u8];
+
+    ghost next_gives = { YieldsFirstBy (λ x. x.now) (λ s. segments s.rest.now) };
+
+    ghost remaining = { item_count (λ s. segments s.rest.now) };
+
+    fn next(&mut self) -> Option<&'a [u8]> {
+        let (segment, rest) = first_segment(self.rest)?;
+        self.rest = rest;
+        Some(segment)
+    }
+}
+
+// Tests the length of a path, and its segments from the left.
+pub(super) fn check_path(path: &[u8]) -> Result<(), Error>
+    ensures { MatchResult result (λ _. path_refusal path.now ≡ None)
+        (λ e. path_refusal path.now ≡ Some e) }
+{
+    if path.len() >= 3072 {
+        return Err(Error::LongUri);
+    }
+    for piece in (Segments { rest: path }) {
+        check_piece(piece)?;
+    }
+    Ok(())
+}
+
+// What is left of a path behind the segments of a base, if it begins with them.
+pub(super) fn path_behind<'a>(path: &'a [u8], base: &[u8]) -> Option<&'a [u8]>
+    ensures left { option_copied result ≡ path_left path.now (segments base.now) }
+    ensures tail { IfSome result (λ p. (n : ℕ) × (p.now ≡ drop n path.now)) }
+{
+    let mut left = path;
+    for segment in (Segments { rest: base }) {
+        let (mine, rest) = first_segment(left)?;
+        if mine != segment {
+            return None;
+        }
+        left = rest;
+    }
+    Some(left)
+}
+
+// How much of the text stands up to its last slash, with it.
+fn after_last_slash(text: &[u8]) -> usize
+    ensures within { result ≤ length text.now }
+    ensures front { is_dir (take result text.now) ≡ true }
+    ensures back { pieces (drop result text.now) ≡ drop result text.now ∷ [] }
+    ensures value { result ≡ length text.now - suffix_len (λ b. not (is_slash b)) text.now }
+{
+    let mut end = text.len();
+    while end > 0 && text[end - 1] != b'/' {
+        end -= 1;
+    }
+    end
+}
+
+// How much of the path stands before its last segment.
+pub(super) fn parent_len(path: &[u8]) -> Option<usize>
+    ensures none { IfNone result (path.now ≡ []) }
+    ensures some { IfSome result (λ n. IsParentLen path.now n) }
+{
+    let last = path.last()?;
+    if *last == b'/' {
+        let (front, _) = path.split_at(path.len() - 1);
+        Some(after_last_slash(front))
+    } else {
+        Some(after_last_slash(path))
+    }
+}
+
+// A path without one last slash.
+fn without_last_slash(path: &[u8]) -> &[u8]
+    ensures { result.now ≡ without_slash path.now }
+{
+    let Some((last, front)) = path.split_last() else {
+        return path;
+    };
+    if *last == b'/' { front } else { path }
+}
+
+// How much of an https path stands above it, if anything does.
+pub(super) fn len_above(path: &[u8]) -> Option<usize>
+    ensures none { IfNone result (path_above path.now ≡ None) }
+    ensures some { IfSome result (λ n. path_above path.now ≡ Some (take n path.now)) }
+    ensures within { IfSome result (λ n. n ≤ length path.now) }
+{
+    let front = without_last_slash(path);
+    if front.is_empty() {
+        return None;
+    }
+    Some(after_last_slash(front))
+}
+
+// The base, perhaps a slash, and the path: one growth to the final length.
+pub(super) fn joined_bytes(
+    alloc: Global,
+    base: &[u8],
+    slash: bool,
+    path: &[u8],
+) -> Result<Bytes, AllocError>
+    requires { length base.now + length path.now + 1 < 2 ^ 64 }
+    ensures { IfOk result (λ b. b ≡ (if slash then base.now ++ 47 ∷ [] else base.now) ++ path.now) }
+{
+    let mut text = Vec::with_capacity(alloc, base.len() + usize::from(slash) + path.len())?;
+    text.extend_from_slice(base)?;
+    if slash {
+        text.push(b'/')?;
+    }
+    text.extend_from_slice(path)?;
+    Ok(Bytes::from_vec(text)?)
+}

@@ -1,0 +1,551 @@
+//! Rsync URIs (RFC 5781).
+ghost use Rattle.std.specs.Prelude.{◌≡◌, ◌≤◌, ◌<◌, not, true, false, length, take, drop, bytes_eq, nat_eq, nat_lt, codes, Some, None, MatchResult, ◌+◌, ◌-◌, ◌&&◌, ◌++◌, ◌^◌, IfSome, IfOk, OnOk, OnErr, IfErr, is_some, [], string_bytes};
+ghost use Rattle.std.specs.Cow.{cow_str_bytes};
+ghost use Rattle.std.specs.List.{list_all, position_or_len, ends_with};
+ghost use Rattle.std.specs.Option.{option_copied, option_map, unwrap_or};
+ghost use Rattle.std.specs.Ordering.{on};
+ghost use Rattle.rpki_text.specs.SameUri.{same_uri-hashed, texts_equiv, texts_per};
+ghost use Rattle.rpki_text.specs.Segments.{is_slash, is_dir, with_slash};
+ghost use Rattle.rpki_text.specs.UriText.{lowercase, is_uri_byte};
+ghost use Rattle.rpki_text.specs.RsyncText.{rsync_refusal, has_module, RsyncUri, IsRsyncUri, uri_of, Spells, relative, is_parent, is_identical, IsWayBack, IsParentText, parent_uri, parent_of, joined, joined_uri, join_refusal, same_uri, hashed, IsCut, authority_of, module_name_of, module_of, canonical_module_of, path_of, eq_rsync_bytes};
+
+use super::characters::{
+    check_uri_ascii, has_no_capital, hash_in_lower_case, in_lower_case, same_but_case, slash_at,
+    starts_with_ignore_case, uri_text,
+};
+use super::error::Error;
+use super::path::{check_path, joined_bytes, parent_len, path_behind};
+use bytes::Bytes;
+use std::alloc::{AllocError, Global};
+use std::borrow::CowStr;
+use std::fmt;
+use std::hash::{Hash, Hasher};
+use std::marker::Model;
+
+/// An rsync URI: an authority, a module and a path (RFC 5781 section 2).
+///
+/// It keeps the text that it was spelled with. What the text stands for is the authority in lower
+/// case, the module, the path's segments, and whether the path ends with a slash; equality and
+/// hash go by these.
+#[derive(Debug, Drop)]
+pub struct Rsync {
+    bytes: Bytes,
+    module_start: usize,
+    path_start: usize,
+}
+
+impl Model for Rsync {
+    ghost use Rattle.std.specs.Prelude.{ℕ, List};
+
+    ghost Value = { List ℕ };
+
+    ghost use Rattle.rpki_text.specs.RsyncText.{IsCut};
+
+    ghost view = { λ u. u.bytes };
+
+    ghost invariant = { λ u. IsCut u.bytes u.module_start u.path_start };
+}
+
+/// # Reading
+impl Rsync {
+    /// Reads a URI, whose text is then these very octets. Takes no memory.
+    ///
+    /// Refuses with the first of these that is true: `Error::InvalidCharacters` for a character
+    /// that a URI may not have; `Error::BadScheme` unless the text begins with `rsync://` in any
+    /// case; `Error::LongUri` for 3,072 octets or more behind that; then, of the pieces between
+    /// slashes from the left, the first that is `.` or `..` (`Error::DotSegments`), has 256
+    /// octets or more (`Error::LongSegments`), or is empty and not the last
+    /// (`Error::EmptySegments`); `Error::BadUri` where the authority, the module or the slash
+    /// behind the module is missing.
+    pub fn from_bytes(bytes: Bytes) -> Result<Rsync, Error>
+        ensures { MatchResult result (λ u. (u ≡ bytes) × (rsync_refusal bytes ≡ None))
+            (λ e. rsync_refusal bytes ≡ Some e) }
+    {
+        let (module_start, path_start) = check_rsync(bytes.as_slice())?;
+        Ok(Rsync {
+            bytes,
+            module_start,
+            path_start,
+        })
+    }
+
+    /// Reads a URI from a copy of the octets.
+    ///
+    /// Refuses as `from_bytes` does, and with `Error::OutOfMemory` where only the copy failed.
+    pub fn from_slice(alloc: Global, slice: &[u8]) -> Result<Rsync, Error>
+        ensures ok { IfOk result (λ u. (u ≡ slice.now) × (rsync_refusal slice.now ≡ None)) }
+        ensures err { IfErr result (λ e. e ≡ unwrap_or (rsync_refusal slice.now) Error.OutOfMemory) }
+    {
+        let (module_start, path_start) = check_rsync(slice)?;
+        let bytes = Bytes::copy_from_slice(alloc, slice)?;
+        Ok(Rsync {
+            bytes,
+            module_start,
+            path_start,
+        })
+    }
+
+    /// Reads a URI from a text, whose memory it keeps.
+    ///
+    /// Refuses as `from_bytes` does, and with `Error::OutOfMemory` where only the memory for
+    /// sharing failed. The text is then dropped.
+    pub fn from_string(text: String) -> Result<Rsync, Error>
+        ensures ok { IfOk result (λ u. (u ≡ string_bytes text) × (rsync_refusal (string_bytes text) ≡ None)) }
+        ensures err { IfErr result (λ e. e ≡ unwrap_or (rsync_refusal (string_bytes text)) Error.OutOfMemory) }
+    {
+        let (module_start, path_start) = check_rsync(text.as_bytes())?;
+        let bytes = Bytes::from_string(text)?;
+        Ok(Rsync {
+            bytes,
+            module_start,
+            path_start,
+        })
+    }
+
+    /// Reads a URI from a copy of the text.
+    ///
+    /// Refuses as `from_bytes` does, and with `Error::OutOfMemory` where only the copy failed.
+    pub fn from_str(alloc: Global, text: &str) -> Result<Rsync, Error>
+        ensures ok { IfOk result (λ u. (u ≡ text.now) × (rsync_refusal text.now ≡ None)) }
+        ensures err { IfErr result (λ e. e ≡ unwrap_or (rsync_refusal text.now) Error.OutOfMemory) }
+    {
+        Rsync::from_slice(alloc, text.as_bytes())
+    }
+
+    /// The same URI with the same text.
+    ///
+    /// Fails where the memory for sharing does.
+    pub fn clone(&self) -> Result<Rsync, AllocError>
+        ensures { IfOk result (λ copy. copy ≡ self.now) }
+    {
+        let bytes = self.bytes.clone()?;
+        Ok(Rsync {
+            bytes,
+            module_start: self.module_start,
+            path_start: self.path_start,
+        })
+    }
+
+    /// Moves the text, unchanged, to memory that nothing else shares.
+    ///
+    /// Fails where that memory can't be had, and then changes nothing.
+    pub fn unshare(&mut self, alloc: Global) -> Result<(), AllocError>
+        ensures { self.new ≡ self.old }
+    {
+        let bytes = Bytes::copy_from_slice(alloc, self.bytes.as_slice())?;
+        self.bytes = bytes;
+        Ok(())
+    }
+}
+
+/// # The text and its parts
+impl Rsync {
+    /// The text as it was spelled, in octets.
+    pub fn as_slice(&self) -> &[u8]
+        ensures text { result.now ≡ self.now }
+        ensures spelled { Spells self.now (uri_of self.now) }
+        ensures uri { IsRsyncUri (uri_of self.now) }
+        ensures parses_again { length self.now < 3080 → rsync_refusal self.now ≡ None }
+    {
+        self.bytes.as_slice()
+    }
+
+    /// The text as it was spelled.
+    pub fn as_str(&self) -> &str
+        ensures { result.now ≡ self.now }
+    {
+        let _start = &self.path_start;
+        uri_text(self.bytes.as_slice())
+    }
+
+    /// The text as it was spelled, in the memory that this URI shares.
+    ///
+    /// Fails where the memory for sharing does.
+    pub fn to_bytes(&self) -> Result<Bytes, AllocError>
+        ensures { IfOk result (λ bytes. bytes ≡ self.now) }
+    {
+        let bytes = self.bytes.clone()?;
+        Ok(bytes)
+    }
+
+    /// The authority as it was spelled.
+    pub fn authority(&self) -> &str
+        ensures { result.now ≡ authority_of self.now }
+    {
+        let _start = &self.path_start;
+        uri_text(self.authority_bytes())
+    }
+
+    /// The authority in lower case.
+    ///
+    /// Fails where the text has to be written and its memory can't be had.
+    pub fn canonical_authority(&self, alloc: Global) -> Result<CowStr<'_, Global>, AllocError>
+        ensures { IfOk result (λ text. cow_str_bytes text ≡ lowercase (authority_of self.now)) }
+    {
+        in_lower_case(alloc, self.authority())
+    }
+
+    /// The module's name, without slashes.
+    pub fn module_name(&self) -> &str
+        ensures { result.now ≡ module_name_of self.now }
+    {
+        let _start = &self.path_start;
+        uri_text(self.module_name_bytes())
+    }
+
+    /// All up to the path as it was spelled: the scheme, the authority and the module, with the
+    /// slash behind it.
+    pub fn module(&self) -> &str
+        ensures { result.now ≡ module_of self.now }
+    {
+        uri_text(self.module_bytes())
+    }
+
+    /// All up to the path, with the scheme and the authority in lower case.
+    ///
+    /// Fails where the text has to be written and its memory can't be had.
+    pub fn canonical_module(&self, alloc: Global) -> Result<CowStr<'_, Global>, AllocError>
+        ensures { IfOk result (λ text. cow_str_bytes text ≡ canonical_module_of self.now) }
+    {
+        let site = self.site();
+        if has_no_capital(site) {
+            return Ok(CowStr::Borrowed(self.module()));
+        }
+        let mut text = String::from_str(alloc, uri_text(site))?;
+        text.make_ascii_lowercase();
+        text.push_str(self.module_name())?;
+        text.push_str("/")?;
+        Ok(CowStr::Owned(text))
+    }
+
+    /// The path, without a slash before it.
+    pub fn path(&self) -> &str
+        ensures { result.now ≡ path_of self.now }
+    {
+        let _start = &self.path_start;
+        uri_text(self.path_bytes())
+    }
+
+    /// The path in octets.
+    pub fn path_bytes(&self) -> &[u8]
+        ensures { result.now ≡ path_of self.now }
+    {
+        let (_, path) = self.bytes.as_slice().split_at(self.path_start);
+        path
+    }
+
+    /// Whether the path is empty or ends with a slash.
+    pub fn path_is_dir(&self) -> bool
+        ensures { result ≡ is_dir (path_of self.now) }
+    {
+        let path = self.path_bytes();
+        match path.last() {
+            None => true,
+            Some(last) => *last == b'/',
+        }
+    }
+
+    /// Whether the path, in octets, ends with `end`.
+    pub fn ends_with(&self, end: &str) -> bool
+        ensures { result ≡ ends_with nat_eq (path_of self.now) end.now }
+    {
+        self.path_bytes().ends_with(end.as_bytes())
+    }
+
+    // The scheme, the authority and the slash after it.
+    fn site(&self) -> &[u8]
+        ensures lower { lowercase result.now ≡ codes "rsync://" ++ lowercase (authority_of self.now) ++ codes "/" }
+        ensures module { module_of self.now ≡ result.now ++ module_name_of self.now ++ codes "/" }
+        ensures characters { list_all is_uri_byte result.now ≡ true }
+    {
+        let (front, _) = self.bytes.as_slice().split_at(self.module_start);
+        front
+    }
+
+    // All the rest.
+    fn rest_bytes(&self) -> &[u8]
+        ensures { result.now ≡ module_name_of self.now ++ codes "/" ++ path_of self.now }
+    {
+        let (_, rest) = self.bytes.as_slice().split_at(self.module_start);
+        rest
+    }
+
+    fn authority_bytes(&self) -> &[u8]
+        ensures { result.now ≡ authority_of self.now }
+    {
+        let (_, rest) = self.bytes.as_slice().split_at(8);
+        let (authority, _) = rest.split_at(self.module_start - 9);
+        authority
+    }
+
+    fn module_name_bytes(&self) -> &[u8]
+        ensures { result.now ≡ module_name_of self.now }
+    {
+        let (_, rest) = self.bytes.as_slice().split_at(self.module_start);
+        let (name, _) = rest.split_at(self.path_start - self.module_start - 1);
+        name
+    }
+
+    fn module_bytes(&self) -> &[u8]
+        ensures text { result.now ≡ module_of self.now }
+        ensures characters { list_all is_uri_byte result.now ≡ true }
+    {
+        let (front, _) = self.bytes.as_slice().split_at(self.path_start);
+        front
+    }
+
+    fn has_module_of(&self, other: &Rsync) -> bool
+        ensures { result ≡ (bytes_eq (lowercase (authority_of self.now)) (lowercase (authority_of other.now))
+            && bytes_eq (module_name_of self.now) (module_name_of other.now)) }
+    {
+        self.authority_bytes()
+            .eq_ignore_ascii_case(other.authority_bytes())
+            && self.module_name_bytes() == other.module_name_bytes()
+    }
+}
+
+/// # Paths
+impl Rsync {
+    /// Puts a slash last, unless the path is empty or has one. There is no test of length, so the
+    /// text may become one that is not read again.
+    ///
+    /// Fails where the new text's memory can't be had, and then changes nothing. Where the path
+    /// is a directory already, nothing is taken and nothing fails.
+    pub fn path_into_dir(&mut self, alloc: Global) -> Result<(), AllocError>
+        ensures ok { OnOk result (self.new ≡ with_slash self.old) }
+        ensures meaning { OnOk result (uri_of self.new ≡ record (uri_of self.old) { is_dir = true }) }
+        ensures begins { OnOk result (take (length self.old) self.new ≡ self.old) }
+        ensures err { OnErr result (self.new ≡ self.old) }
+        ensures free { IfErr result (λ _. is_dir (path_of self.old) ≡ false) }
+    {
+        if self.path_is_dir() {
+            return Ok(());
+        }
+        let bytes = self.dir_text(alloc)?;
+        self.bytes = bytes;
+        Ok(())
+    }
+
+    /// The URI without its last segment, a slash last; `None` where there is no segment. Its text
+    /// is a beginning of this one's.
+    ///
+    /// Fails where the memory for sharing does.
+    pub fn parent(&self) -> Result<Option<Rsync>, AllocError>
+        ensures text { IfOk result (λ o. o ≡ parent_of self.now) }
+        ensures meaning { IfOk result (λ o. option_map uri_of o ≡ parent_uri (uri_of self.now)) }
+        ensures there { IfOk result (λ o. is_some o ≡ nat_lt 0 (length (uri_of self.now).segments)) }
+        ensures above { IfOk result (λ o. IfSome o (λ p. IsParentText p self.now)) }
+        ensures none { path_of self.now ≡ [] → result ≡ Ok None }
+    {
+        let (module_start, path_start) = (self.module_start, self.path_start);
+        let path = self.path_bytes();
+        let Some(len) = parent_len(path) else {
+            return Ok(None);
+        };
+        let bytes = self.bytes.slice(0..self.bytes.len() - (path.len() - len))?;
+        Ok(Some(Rsync {
+            bytes,
+            module_start,
+            path_start,
+        }))
+    }
+
+    /// The URI with the path's segments behind its own; a slash is put between where this one's
+    /// text ends without one. An empty path gives a copy.
+    ///
+    /// Refuses a path that is not empty with the first of these that is true:
+    /// `Error::InvalidCharacters`; `Error::LongUri` for 3,072 octets or more of path; what is
+    /// wrong with its segments, as in `from_bytes`; `Error::LongUri` for a whole text of 3,072
+    /// octets or more; `Error::OutOfMemory`.
+    pub fn join(&self, alloc: Global, path: &[u8]) -> Result<Rsync, Error>
+        ensures text { IfOk result (λ u. u ≡ joined self.now path.now) }
+        ensures meaning { IfOk result (λ u. uri_of u ≡ joined_uri (uri_of self.now) path.now) }
+        ensures begins { IfOk result (λ u. take (length self.now) u ≡ self.now) }
+        ensures back { IfOk result (λ u. relative (uri_of u) (uri_of self.now) ≡ Some path.now) }
+        ensures ok { OnOk result (join_refusal self.now path.now ≡ None) }
+        ensures err { IfErr result (λ e. e ≡ unwrap_or (join_refusal self.now path.now) Error.OutOfMemory) }
+    {
+        let (module_start, path_start) = (self.module_start, self.path_start);
+        let bytes = self.joined_text(alloc, path)?;
+        Ok(Rsync {
+            bytes,
+            module_start,
+            path_start,
+        })
+    }
+
+    /// The path from `other` to this URI, with this one's last slash: `None` unless both have the
+    /// same authority and module and the other's segments are a beginning of this one's; empty
+    /// where no segment is left. Takes no memory.
+    pub fn relative_to(&self, other: &Rsync) -> Option<&str>
+        ensures path { option_copied result ≡ relative (uri_of self.now) (uri_of other.now) }
+        ensures back { IfSome result (λ p. 0 < length p.now → IsWayBack self.now other.now p.now) }
+        ensures same { IfSome result (λ p. p.now ≡ [] → is_identical (uri_of self.now) (uri_of other.now) ≡ true) }
+    {
+        let (_start, _base) = (&self.path_start, &other.path_start);
+        if !self.has_module_of(other) {
+            return None;
+        }
+        let left = path_behind(self.path_bytes(), other.path_bytes())?;
+        Some(uri_text(left))
+    }
+
+    /// Whether `other` lies below this URI: the same module, and this one's segments are a
+    /// strict beginning of the other's. Takes no memory.
+    pub fn is_parent_of(&self, other: &Rsync) -> bool
+        ensures value { result ≡ is_parent (uri_of self.now) (uri_of other.now) }
+        ensures irreflexive { is_parent (uri_of self.now) (uri_of self.now) ≡ false }
+        ensures transitive { (w : RsyncUri) → is_parent (uri_of self.now) (uri_of other.now) ≡ true
+            → is_parent (uri_of other.now) w ≡ true → is_parent (uri_of self.now) w ≡ true }
+    {
+        let _start = &other.path_start;
+        match other.relative_to(self) {
+            Some(path) => !path.is_empty(),
+            None => false,
+        }
+    }
+
+    /// Whether both have the same module and the same segments, with or without a slash last.
+    /// Takes no memory.
+    pub fn is_identical_to(&self, other: &Rsync) -> bool
+        ensures { result ≡ is_identical (uri_of self.now) (uri_of other.now) }
+    {
+        let _start = &self.path_start;
+        match self.relative_to(other) {
+            Some(path) => path.is_empty(),
+            None => false,
+        }
+    }
+
+    // The text with a slash last, where the path has none.
+    fn dir_text(&self, alloc: Global) -> Result<Bytes, AllocError>
+        requires { is_dir (path_of self.now) ≡ false }
+        ensures { IfOk result (λ b. b ≡ with_slash self.now) }
+    {
+        joined_bytes(alloc, self.bytes.as_slice(), true, b"")
+    }
+
+    // The length of a text that is joined, which its parts' lengths do not pass.
+    fn joined_len(&self, path: &[u8]) -> usize
+        requires { 0 < length path.now }
+        ensures value { result ≡ length (joined self.now path.now) }
+        ensures bound { length self.now + length path.now + 1 < 2 ^ 64 }
+    {
+        let _start = &self.path_start;
+        self.bytes.len() + usize::from(!self.path_is_dir()) + path.len()
+    }
+
+    fn check_join(&self, path: &[u8]) -> Result<(), Error>
+        requires { 0 < length path.now }
+        ensures ok { OnOk result (join_refusal self.now path.now ≡ None) }
+        ensures err { IfErr result (λ e. join_refusal self.now path.now ≡ Some e) }
+    {
+        check_uri_ascii(path)?;
+        check_path(path)?;
+        if self.joined_len(path) >= 3072 {
+            return Err(Error::LongUri);
+        }
+        Ok(())
+    }
+
+    fn joined_text(&self, alloc: Global, path: &[u8]) -> Result<Bytes, Error>
+        ensures text { IfOk result (λ b. b ≡ joined self.now path.now) }
+        ensures ok { OnOk result (join_refusal self.now path.now ≡ None) }
+        ensures err { IfErr result (λ e. e ≡ unwrap_or (join_refusal self.now path.now) Error.OutOfMemory) }
+    {
+        if path.is_empty() {
+            return Ok(self.bytes.clone()?);
+        }
+        self.check_join(path)?;
+        Ok(joined_bytes(alloc, self.bytes.as_slice(), !self.path_is_dir(), path)?)
+    }
+}
+
+/// # Equality and hash
+impl Rsync {
+    /// Whether these octets are the text but for the case of its scheme and its authority. For
+    /// octets that are read as a URI this is equality with that URI.
+    pub fn eq_bytes(&self, other: &[u8]) -> bool
+        ensures text { result ≡ eq_rsync_bytes self.now other.now }
+        ensures uri { rsync_refusal other.now ≡ None → result ≡ same_uri (uri_of self.now) (uri_of other.now) }
+    {
+        same_but_case(self.bytes.as_slice(), self.module_start - 1, other)
+    }
+}
+
+impl PartialEq for Rsync {
+    ghost eq = { on uri_of same_uri };
+
+    ghost laws = { texts_per };
+
+    fn eq(&self, other: &Rsync) -> bool {
+        self.has_module_of(other) && self.path_bytes() == other.path_bytes()
+    }
+}
+
+impl Eq for Rsync {
+    ghost laws = { texts_equiv };
+}
+
+impl Hash for Rsync {
+    ghost hash_input = { hashed };
+
+    ghost respects_eq = { same_uri-hashed };
+
+    fn hash<H: Hasher>(&self, state: &mut H) {
+        hash_in_lower_case(self.site(), state);
+        self.rest_bytes().hash(state);
+    }
+}
+
+impl fmt::Display for Rsync {
+    ghost output = { λ u. Some u };
+
+    fn fmt<W: fmt::Write>(&self, f: &mut fmt::Formatter<W>) -> fmt::Result {
+        f.write_str(self.as_str())
+    }
+}
+
+// Where the module name and the path begin.
+#[tactic(auto, using(crate::proofs::UriLemmas::places))]
+fn module_and_path(text: &[u8]) -> Option<(usize, usize)>
+    requires { 8 ≤ length text.now }
+    ensures full { has_module text.now ≡ is_some result }
+    ensures starts { IfSome result (λ p. (p.0 ≡ 9 + position_or_len is_slash (drop 8 text.now))
+        × (p.1 ≡ p.0 + position_or_len is_slash (drop p.0 text.now) + 1)) }
+{
+    let (_, rest) = text.split_at(8);
+    let authority = slash_at(rest);
+    if authority == 0 {
+        return None;
+    }
+    if authority == rest.len() {
+        return None;
+    }
+    let (_, tail) = rest.split_at(authority + 1);
+    let module = slash_at(tail);
+    if module == 0 {
+        return None;
+    }
+    if module == tail.len() {
+        return None;
+    }
+    Some((authority + 9, authority + module + 10))
+}
+
+// Tests a text, and finds where its module name and its path begin.
+fn check_rsync(text: &[u8]) -> Result<(usize, usize), Error>
+    ensures ok { OnOk result (rsync_refusal text.now ≡ None) }
+    ensures cut { IfOk result (λ p. IsCut text.now p.0 p.1) }
+    ensures err { IfErr result (λ e. rsync_refusal text.now ≡ Some e) }
+{
+    check_uri_ascii(text)?;
+    if !starts_with_ignore_case(text, b"rsync://") {
+        return Err(Error::BadScheme);
+    }
+    check_path(&text[8..])?;
+    match module_and_path(text) {
+        Some(starts) => Ok(starts),
+        None => Err(Error::BadUri),
+    }
+}

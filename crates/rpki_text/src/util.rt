@@ -1,0 +1,4 @@
+//! Octets as text.
+
+pub mod base_64;
+pub mod hex;

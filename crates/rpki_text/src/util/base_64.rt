@@ -1,0 +1,242 @@
+//! Octets as base 64 text (RFC 4648), in the three flavours of the RPKI's protocols.
+//!
+//! Want of memory may be answered before a text is looked at.
+ghost use Rattle.std.specs.Prelude.{◌≡◌, Some, Ok, length, IfOk, IfErr, OnOk, string_bytes};
+ghost use Rattle.std.specs.Io.KnownBytes.{Appends};
+ghost use Rattle.base64.specs.Engines.{standard, url_safe_no_pad_indifferent};
+ghost use Rattle.base64.specs.GeneralPurpose.{encode_of, decode_of, decode_slice_of, decoded_bytes_of};
+ghost use Rattle.base64.specs.Decode.{IsWrittenOver};
+ghost use Rattle.rpki_text.specs.Base64Text.{without_white_space, xml_decode_of, xml_bytes_decode_of, xml_cause, slurm_text, IsBase64Failure};
+
+use base64::DecodeAllocError;
+use base64::display::Base64Display;
+use base64::engine::general_purpose::{STANDARD, URL_SAFE_NO_PAD_INDIFFERENT};
+pub use base64::{DecodeError, DecodeSliceError};
+use std::alloc::{AllocError, Global};
+use std::{fmt, io, str};
+
+/// Why a text was not decoded.
+#[derive(Clone, Copy, Debug, PartialEq, Eq, Drop)]
+pub enum Base64Error {
+    /// The text is not base 64 of this flavour.
+    Refused(DecodeError),
+    /// Memory ran out.
+    OutOfMemory,
+}
+
+impl fmt::Display for Base64Error {
+    fn fmt<W: fmt::Write>(&self, f: &mut fmt::Formatter<W>) -> fmt::Result {
+        match self {
+            Base64Error::Refused(error) => write!(f, "{error}"),
+            Base64Error::OutOfMemory => f.write_str("out of memory"),
+        }
+    }
+}
+
+impl std::error::Error for Base64Error {}
+
+/// Why a text of an XML document was not decoded.
+#[derive(Debug, Drop)]
+pub struct XmlDecodeError {
+    cause: Base64Error,
+}
+
+impl XmlDecodeError {
+    /// What the decoding answered.
+    pub fn cause(&self) -> &Base64Error
+        ensures { result.now ≡ xml_cause self.now }
+    {
+        &self.cause
+    }
+}
+
+impl fmt::Display for XmlDecodeError {
+    fn fmt<W: fmt::Write>(&self, f: &mut fmt::Formatter<W>) -> fmt::Result {
+        write!(f, "{}", self.cause)
+    }
+}
+
+impl std::error::Error for XmlDecodeError {}
+
+/// Base 64 in XML documents: the standard alphabet with padding, and white space anywhere.
+#[derive(Drop)]
+pub struct Xml;
+
+impl Xml {
+    /// The octets that the text stands for, read without its ASCII white space.
+    ///
+    /// Refuses with the cause `Refused` where what is left is not base 64, the offset counted in
+    /// what is left, and with `OutOfMemory`.
+    pub fn decode(self, alloc: Global, text: &str) -> Result<Vec<u8>, XmlDecodeError>
+        ensures ok { IfOk result (λ v. xml_decode_of text.now ≡ Ok v.items) }
+        ensures err { IfErr result (λ e. IsBase64Failure (xml_decode_of text.now) (xml_cause e)) }
+    {
+        match decode_without_white_space(alloc, text.as_bytes()) {
+            Ok(octets) => Ok(octets),
+            Err(cause) => Err(XmlDecodeError { cause }),
+        }
+    }
+
+    /// The octets that a text stands for, which is given in octets.
+    ///
+    /// Refuses as `decode` does; where the octets are not UTF-8, the cause is that the octet
+    /// after their longest beginning in UTF-8 is invalid, its offset counted in the octets as
+    /// they came.
+    pub fn decode_bytes(self, alloc: Global, bytes: &[u8]) -> Result<Vec<u8>, XmlDecodeError>
+        ensures ok { IfOk result (λ v. xml_bytes_decode_of bytes.now ≡ Ok v.items) }
+        ensures err { IfErr result (λ e. IsBase64Failure (xml_bytes_decode_of bytes.now) (xml_cause e)) }
+    {
+        match str::from_utf8(bytes) {
+            Ok(text) => self.decode(alloc, text),
+            Err(error) => {
+                let offset = error.valid_up_to();
+                let cause = Base64Error::Refused(DecodeError::InvalidByte(offset, bytes[offset]));
+                Err(XmlDecodeError { cause })
+            }
+        }
+    }
+
+    /// The octets as text, with padding.
+    ///
+    /// Fails where the text's memory can't be had.
+    pub fn encode(self, alloc: Global, bytes: &[u8]) -> Result<String, AllocError>
+        ensures { IfOk result (λ text. string_bytes text ≡ encode_of standard bytes.now) }
+    {
+        STANDARD.encode(alloc, bytes)
+    }
+}
+
+/// Base 64 in serialized values: the standard alphabet with padding.
+#[derive(Drop)]
+pub struct Serde;
+
+impl Serde {
+    /// The octets that the text stands for.
+    ///
+    /// Refuses with `Refused` where it is not base 64 with its padding, and with `OutOfMemory`.
+    pub fn decode(self, alloc: Global, text: &str) -> Result<Vec<u8>, Base64Error>
+        ensures ok { IfOk result (λ v. decode_of standard text.now ≡ Ok v.items) }
+        ensures err { IfErr result (λ e. IsBase64Failure (decode_of standard text.now) e) }
+    {
+        Ok(STANDARD.decode(alloc, text.as_bytes())?)
+    }
+
+    /// The octets as text, with padding.
+    ///
+    /// Fails where the text's memory can't be had.
+    pub fn encode(self, alloc: Global, bytes: &[u8]) -> Result<String, AllocError>
+        ensures { IfOk result (λ text. string_bytes text ≡ encode_of standard bytes.now) }
+    {
+        STANDARD.encode(alloc, bytes)
+    }
+}
+
+/// Base 64 in local files for simplified use (RFC 8416): the alphabet that is safe in URLs, read
+/// with padding or without and written without.
+#[derive(Drop)]
+pub struct Slurm;
+
+impl Slurm {
+    /// The octets that the text stands for.
+    ///
+    /// Refuses with `Refused` where it is not base 64 of this alphabet, and with `OutOfMemory`.
+    pub fn decode(self, alloc: Global, text: &str) -> Result<Vec<u8>, Base64Error>
+        ensures ok { IfOk result (λ v. decode_of url_safe_no_pad_indifferent text.now ≡ Ok v.items) }
+        ensures err { IfErr result (λ e. IsBase64Failure (decode_of url_safe_no_pad_indifferent text.now) e) }
+    {
+        Ok(URL_SAFE_NO_PAD_INDIFFERENT.decode(alloc, text.as_bytes())?)
+    }
+
+    /// Writes the octets that the text stands for to the front of `output`, and answers how many
+    /// they are. Takes no memory.
+    ///
+    /// Refuses with `DecodeSliceError::DecodeError` where the text is not base 64 of this
+    /// alphabet, and with `DecodeSliceError::OutputSliceTooSmall` where there is no room.
+    pub fn decode_slice(self, text: &str, output: &mut [u8]) -> Result<usize, DecodeSliceError>
+        ensures value { result ≡ decode_slice_of url_safe_no_pad_indifferent text.now (length output.old) }
+        ensures written { OnOk result (IsWrittenOver (decoded_bytes_of url_safe_no_pad_indifferent text.now) output.old output.new) }
+    {
+        URL_SAFE_NO_PAD_INDIFFERENT.decode_slice(text.as_bytes(), output)
+    }
+
+    /// The octets as text, without padding.
+    ///
+    /// Fails where the text's memory can't be had.
+    pub fn encode(self, alloc: Global, bytes: &[u8]) -> Result<String, AllocError>
+        ensures { IfOk result (λ text. string_bytes text ≡ encode_of url_safe_no_pad_indifferent bytes.now) }
+    {
+        URL_SAFE_NO_PAD_INDIFFERENT.encode(alloc, bytes)
+    }
+
+    /// Writes the octets as text, without padding, to `target`. Takes no memory.
+    ///
+    /// Fails where the target does; how much then went out is left open.
+    pub fn write_encoded_slice<W: io::Write>(self, bytes: &[u8], target: &mut W) -> io::Result<()>
+        ensures { OnOk result (Appends (W.contents target.old) (W.contents target.new) (encode_of url_safe_no_pad_indifferent bytes.now)) }
+    {
+        // A chunk of a multiple of three octets needs no padding.
+        let mut text = [0u8; 1024];
+        for chunk in bytes.chunks(768) {
+            let Ok(len) = URL_SAFE_NO_PAD_INDIFFERENT.encode_slice(chunk, &mut text) else {
+                unreachable!();
+            };
+            target.write_all(&text[..len])?;
+        }
+        Ok(())
+    }
+
+    /// The octets, to be printed as text without padding.
+    pub fn display(self, bytes: &[u8]) -> SlurmDisplay<'_>
+        ensures { slurm_text result ≡ encode_of url_safe_no_pad_indifferent bytes.entry.now }
+    {
+        SlurmDisplay { bytes }
+    }
+}
+
+/// Octets that print as base 64 of the flavour `Slurm`.
+#[derive(Drop)]
+pub struct SlurmDisplay<'a> {
+    bytes: &'a [u8],
+}
+
+impl fmt::Display for SlurmDisplay<'_> {
+    ghost output = { λ d. Some (slurm_text d) };
+
+    fn fmt<W: fmt::Write>(&self, f: &mut fmt::Formatter<W>) -> fmt::Result {
+        Base64Display::new(self.bytes, &URL_SAFE_NO_PAD_INDIFFERENT).fmt(f)
+    }
+}
+
+impl From<DecodeAllocError> for Base64Error {
+    ghost use Rattle.std.specs.Prelude.{◌≡◌};
+    ghost use Rattle.rpki_text.specs.Base64Text.{base64_error};
+
+    ghost from_gives = { λ x e. e ≡ base64_error x };
+
+    fn from(error: DecodeAllocError) -> Base64Error {
+        match error {
+            DecodeAllocError::DecodeError(error) => Base64Error::Refused(error),
+            DecodeAllocError::OutOfMemory => Base64Error::OutOfMemory,
+        }
+    }
+}
+
+fn decode_without_white_space(alloc: Global, text: &[u8]) -> Result<Vec<u8>, Base64Error>
+    ensures ok { IfOk result (λ v. xml_decode_of text.now ≡ Ok v.items) }
+    ensures err { IfErr result (λ e. IsBase64Failure (xml_decode_of text.now) e) }
+{
+    let Ok(bare) = bare_text(alloc, text) else {
+        return Err(Base64Error::OutOfMemory);
+    };
+    Ok(STANDARD.decode(alloc, bare.as_slice())?)
+}
+
+// The text without its white space.
+fn bare_text(alloc: Global, text: &[u8]) -> Result<Vec<u8>, AllocError>
+    ensures { IfOk result (λ v. v.items ≡ without_white_space text.now) }
+{
+    text.iter()
+        .copied()
+        .filter(|b| !b.is_ascii_whitespace())
+        .collect(alloc)
+}
