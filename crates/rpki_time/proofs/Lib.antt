@@ -1,0 +1,11 @@
+pub mod Octets
+pub mod SerialLaws
+pub mod Written
+pub mod ReadBack
+pub mod SerialReading
+pub mod Times
+pub mod Texts
+pub mod TimeReading
+pub mod TimeValues
+pub mod Periods
+pub mod PeriodReading

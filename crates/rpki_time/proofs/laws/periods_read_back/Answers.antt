@@ -1,0 +1,12 @@
+use Rattle.std.proofs.Common.{true}
+use Rattle.rpki_der.specs.TagName.{sequence}
+use Rattle.rpki_der.specs.Values.{IsOuterFault}
+use Rattle.rpki_time.specs.PeriodValue.{SpellsPeriod}
+use Rattle.rpki_time.specs.Validity.{cut_period}
+use Rattle.rpki_time.proofs.ReadBack.{reads_back}
+use Rattle.rpki_time.proofs.PeriodReading.{period_there, period_no_memory}
+use Rattle.rpki_time.proofs.laws.periods_read_back.Goals as goal
+
+pub returns : goal.returns
+returns c = λ p rest y e.
+    reads_back SpellsPeriod (IsOuterFault sequence true) _ _ c.take_from.result (cut_period p) rest (period_no_memory _) c.take_from.ensures (period_there _ rest p y e)

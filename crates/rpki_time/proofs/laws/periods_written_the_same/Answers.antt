@@ -1,0 +1,5 @@
+use Rattle.rpki_time.proofs.PeriodReading.{period_same}
+use Rattle.rpki_time.proofs.laws.periods_written_the_same.Goals as goal
+
+pub returns : goal.returns
+returns c = period_same

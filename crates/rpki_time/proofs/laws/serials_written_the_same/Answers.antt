@@ -1,0 +1,5 @@
+use Rattle.rpki_time.proofs.SerialReading.{serial_same}
+use Rattle.rpki_time.proofs.laws.serials_written_the_same.Goals as goal
+
+pub returns : goal.returns
+returns c = serial_same

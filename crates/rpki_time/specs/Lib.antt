@@ -1,0 +1,9 @@
+pub mod Serial
+pub mod Time
+pub mod TimeText
+pub mod TextPlaces
+pub mod TimeValue
+pub mod Validity
+pub mod PeriodValue
+pub mod ErrorTexts
+pub mod TimeMembers

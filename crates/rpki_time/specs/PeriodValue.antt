@@ -1,0 +1,29 @@
+-- Periods of validity as values (RFC 5280 4.1.2.5).
+use Rattle.std.specs.Prelude.{◌≡◌, ◌≢◌, ℕ, true, List, ◌++◌}
+use Rattle.rpki_der.specs.declared.error.DecodeError.{DecodeError}
+use Rattle.rpki_der.specs.declared.error.DecodeError.TheVariants.{OutOfMemory}
+use Rattle.rpki_der.specs.TagName.{sequence}
+use Rattle.rpki_der.specs.Header.{tlv}
+use Rattle.rpki_der.specs.Values.{SpellsLeaf}
+use Rattle.rpki_time.specs.TimeValue.{SpellsTime, time_octets}
+use Rattle.rpki_time.specs.Validity.{Period}
+
+-- two times and nothing else, the start first
+pub record IsPeriod (p : Period) (contents : List ℕ) : Type 0 where
+  pub start : List ℕ
+  pub end : List ℕ
+  pub parts : contents ≡ start ++ end
+  pub not_before : SpellsTime p.not_before start
+  pub not_after : SpellsTime p.not_after end
+
+-- a SEQUENCE of two times
+abbrev pub SpellsPeriod : Period → List ℕ → Type 0
+SpellsPeriod = SpellsLeaf sequence true IsPeriod
+
+-- any refusal but want of memory
+abbrev pub NeverMemory : List ℕ → DecodeError → Type 0
+NeverMemory contents e = e ≢ OutOfMemory
+
+-- what is written of a period
+abbrev pub period_octets : Period → List ℕ
+period_octets p = tlv sequence true (time_octets p.not_before ++ time_octets p.not_after)

@@ -1,0 +1,25 @@
+-- What is written of a time is one value.
+use Rattle.std.specs.Prelude.{Bool, true, false}
+use Rattle.std.proofs.Common.{lit<}
+use Rattle.jiff.specs.Types.{DateTime}
+use Rattle.rpki_der.specs.TagName.{IsTag, utc_time, generalized_time}
+use Rattle.rpki_der.specs.Members.{IsValue, IsValueList}
+use Rattle.rpki_der.specs.Joined.{primitive_value}
+use Rattle.rpki_time.specs.TimeText.{utc_text, generalized_text, is_utc_year}
+use Rattle.rpki_time.specs.TimeValue.{octets_where, time_octets}
+
+pub utc_legal : IsTag utc_time
+utc_legal = record { below = lit< tt; named = λ _. lit< tt }
+
+pub generalized_legal : IsTag generalized_time
+generalized_legal = record { below = lit< tt; named = λ _. lit< tt }
+
+value_where : (utc : Bool) (t : DateTime) → IsValue (octets_where utc t)
+value_where true t = primitive_value utc_time (utc_text t) utc_legal (lit< tt)
+value_where false t = primitive_value generalized_time (generalized_text t) generalized_legal (lit< tt)
+
+pub time_is_value : (t : DateTime) → IsValue (time_octets t)
+time_is_value t = value_where (is_utc_year t.date.year) t
+
+pub time_is_value_list : (t : DateTime) → IsValueList (time_octets t)
+time_is_value_list t = (1, time_is_value t)

@@ -1,0 +1,61 @@
+-- Times as values (X.690 11.7, 11.8; RFC 5280 4.1.2.5).
+use Rattle.std.specs.Prelude.{◌≡◌, ◌⊎◌, ℕ, Bool, true, false, List, codes}
+use Rattle.jiff.specs.Types.{DateTime}
+use Rattle.rpki_der.specs.declared.error.DecodeError.{DecodeError}
+use Rattle.rpki_der.specs.declared.error.DecodeError.TheVariants.{Truncated, BadTag, BadLength, Unexpected, Content, Trailing, OutOfMemory}
+use Rattle.rpki_der.specs.ErrorText.{text_of}
+use Rattle.rpki_der.specs.TagName.{TagName, utc_time, generalized_time}
+use Rattle.rpki_der.specs.Header.{tlv}
+use Rattle.rpki_der.specs.Reading.{Spells}
+use Rattle.rpki_der.specs.Values.{SpellsContents, HasTag}
+use Rattle.rpki_der.specs.Flat.{SpellsFlat, IsFlatFault}
+use Rattle.rpki_time.specs.TimeText.{utc_text, generalized_text, is_utc_year, ReadsAsUtc, ReadsAsGeneralized}
+
+-- the text under the tag reads as the time
+abbrev pub ReadsAs : TagName → List ℕ → DateTime → Type 0
+ReadsAs tag text t = ((tag ≡ utc_time) × ReadsAsUtc text t) ⊎ ((tag ≡ generalized_time) × ReadsAsGeneralized text t)
+
+-- a primitive value of one of the two tags, whose text reads as the time
+pub record SpellsTime (t : DateTime) (p : List ℕ) : Type 0 where
+  pub tag : TagName
+  pub text : List ℕ
+  pub value : SpellsContents tag false text p
+  pub reads : ReadsAs tag text t
+
+-- the primitive form, whatever the tag
+abbrev pub IsPrimitive : TagName → Bool → Type 0
+IsPrimitive t f = f ≡ false
+
+-- s begins with a primitive value that reads as no time
+abbrev pub HasNoTime : List ℕ → Type 0
+HasNoTime s = (x : TagName × Bool × List ℕ) × (r : List ℕ) × Spells (SpellsFlat IsPrimitive) s x r × ((t : DateTime) → ReadsAs x.0 x.2 t → ⊥)
+
+-- The first fault: that of the header; then the constructed form, of any tag; then contents that are longer than what
+-- is left; then a primitive value, of any tag, that is no time.
+abbrev pub IsTimeFault : List ℕ → DecodeError → Type 0
+IsTimeFault s Truncated = IsFlatFault IsPrimitive s Truncated
+IsTimeFault s BadTag = IsFlatFault IsPrimitive s BadTag
+IsTimeFault s BadLength = IsFlatFault IsPrimitive s BadLength
+IsTimeFault s Unexpected = IsFlatFault IsPrimitive s Unexpected
+IsTimeFault s (Content e) = (text_of e ≡ codes "malformed time value") × HasNoTime s
+IsTimeFault s Trailing = ⊥
+IsTimeFault s OutOfMemory = ⊥
+
+-- s begins with the identifier octets of one of the two tags, in one form or the other
+abbrev pub HasTimeTag : List ℕ → Type 0
+HasTimeTag s = HasTag utc_time s ⊎ HasTag generalized_time s
+
+-- what is written as UTC time, and as generalized time
+abbrev pub utc_octets : DateTime → List ℕ
+utc_octets t = tlv utc_time false (utc_text t)
+
+abbrev pub generalized_octets : DateTime → List ℕ
+generalized_octets t = tlv generalized_time false (generalized_text t)
+
+-- what is written of a time: UTC time in its years, and generalized time in the others (RFC 5280 4.1.2.5)
+abbrev pub octets_where : Bool → DateTime → List ℕ
+octets_where true t = utc_octets t
+octets_where false t = generalized_octets t
+
+abbrev pub time_octets : DateTime → List ℕ
+time_octets t = octets_where (is_utc_year t.date.year) t

@@ -1,0 +1,168 @@
+//! Writing times.
+ghost use Rattle.std.specs.Prelude.{◌≡◌, ◌<◌, ◌^◌, ◌↔◌, false, length};
+ghost use Rattle.rpki_der.specs.Header.{tlv};
+ghost use Rattle.rpki_der.specs.TagName.{utc_time, generalized_time};
+ghost use Rattle.rpki_der.specs.Written.{Writes};
+ghost use Rattle.rpki_time.specs.TimeText.{utc_text, generalized_text};
+ghost use Rattle.rpki_time.specs.TimeValue.{utc_octets, generalized_octets, time_octets};
+
+use crate::time::Time;
+use rpki_der::{Primitive, PrimitiveContent, Tag, Values, write_whole};
+use std::io;
+use std::io::Write;
+use std::marker::Model;
+
+/// The contents of a UTC time: YYMMDDHHMMSSZ (X.690 11.8, RFC 5280 4.1.2.5.1).
+#[derive(Drop)]
+pub struct UtcTime {
+    time: Time,
+}
+
+impl Model for UtcTime {
+    ghost use Rattle.jiff.specs.Types.{DateTime as Civil};
+
+    ghost Value = { Civil };
+
+    ghost view = { λ x. x.time };
+}
+
+impl PrimitiveContent for UtcTime {
+    ghost plain = { utc_time };
+
+    const TAG: Tag = Tag::UTC_TIME;
+
+    ghost contents = { utc_text };
+
+    fn encoded_len(&self) -> u64 {
+        13
+    }
+
+    #[tactic(auto, using(rpki_der::proofs::Writing::writes_of_cut))]
+    fn write_encoded<W: Write>(&self, out: &mut W) -> Result<(), io::Error> {
+        write_whole(out, &self.time.utc_text())
+    }
+
+    fn plain_tag(&self) -> Tag {
+        Self::TAG
+    }
+}
+
+/// The contents of a generalized time: YYYYMMDDHHMMSSZ (X.690 11.7, RFC 5280 4.1.2.5.2).
+#[derive(Drop)]
+pub struct GeneralizedTime {
+    time: Time,
+}
+
+impl Model for GeneralizedTime {
+    ghost use Rattle.jiff.specs.Types.{DateTime as Civil};
+
+    ghost Value = { Civil };
+
+    ghost view = { λ x. x.time };
+}
+
+impl PrimitiveContent for GeneralizedTime {
+    ghost plain = { generalized_time };
+
+    const TAG: Tag = Tag::GENERALIZED_TIME;
+
+    ghost contents = { generalized_text };
+
+    fn encoded_len(&self) -> u64 {
+        15
+    }
+
+    #[tactic(auto, using(rpki_der::proofs::Writing::writes_of_cut))]
+    fn write_encoded<W: Write>(&self, out: &mut W) -> Result<(), io::Error> {
+        write_whole(out, &self.time.generalized_text())
+    }
+
+    fn plain_tag(&self) -> Tag {
+        Self::TAG
+    }
+}
+
+/// A time as certificates have it: UTC time in the years 1950 to 2049, and generalized time in the others
+/// (RFC 5280 4.1.2.5).
+#[derive(Clone, Copy)]
+pub struct VariedTime {
+    time: Time,
+}
+
+impl Model for VariedTime {
+    ghost use Rattle.jiff.specs.Types.{DateTime as Civil};
+    ghost use Rattle.rpki_time.specs.Time.{IsTimeYear};
+
+    ghost Value = { Civil };
+
+    ghost view = { λ x. x.time };
+
+    ghost inverse = { λ t. record { time = t } };
+}
+
+impl Values for VariedTime {
+    ghost encoded = { time_octets };
+
+    ghost is_short = { λ _. Unit {0} };
+
+    ghost use Rattle.rpki_time.specs.TimeMembers.{time_is_value_list};
+
+    ghost are_values = { λ t _. time_is_value_list t };
+
+    #[tactic(auto, using(crate::proofs::TimeValues::time_fits))]
+    fn fits(&self) -> bool {
+        true
+    }
+
+    #[tactic(auto, using(crate::specs::TimeMembers::time_is_value))]
+    fn count(&self) -> u64 {
+        1
+    }
+
+    fn encoded_len(&self) -> u64 {
+        if self.time.is_utc() {
+            self.time.encode_utc_time().encoded_len()
+        } else {
+            self.time.encode_generalized_time().encoded_len()
+        }
+    }
+
+    fn write_encoded<W: Write>(&self, out: &mut W) -> Result<(), io::Error> {
+        if self.time.is_utc() {
+            self.time.encode_utc_time().write_encoded(out)
+        } else {
+            self.time.encode_generalized_time().write_encoded(out)
+        }
+    }
+}
+
+impl Time {
+    /// The time as UTC time, whatever its year: the last two digits of the year are written. It always fits.
+    #[tactic(auto, using(crate::proofs::TimeValues::utc_fits))]
+    pub fn encode_utc_time(self) -> Primitive<UtcTime>
+        ensures encoded { ⟦<Primitive<UtcTime> as Values>⟧.encoded result ≡ utc_octets self }
+        ensures fits { ⟦<Primitive<UtcTime> as Values>⟧.is_short result × (length (utc_octets self) < 2 ^ 63) }
+    {
+        UtcTime { time: self }.encode()
+    }
+
+    /// The time as generalized time. It always fits.
+    #[tactic(auto, using(crate::proofs::TimeValues::generalized_fits))]
+    pub fn encode_generalized_time(self) -> Primitive<GeneralizedTime>
+        ensures encoded { ⟦<Primitive<GeneralizedTime> as Values>⟧.encoded result ≡ generalized_octets self }
+        ensures fits { ⟦<Primitive<GeneralizedTime> as Values>⟧.is_short result × (length (generalized_octets self) < 2 ^ 63) }
+    {
+        GeneralizedTime { time: self }.encode()
+    }
+
+    /// The time as certificates have it: UTC time in the years 1950 to 2049, and generalized time in the others. It
+    /// always fits.
+    #[tactic(auto, using(crate::proofs::TimeValues::time_fits))]
+    pub fn encode_varied(self) -> VariedTime
+        ensures time { result ≡ self }
+        ensures encoded { ⟦<VariedTime as Values>⟧.encoded result ≡ time_octets self }
+        ensures fits { ⟦<VariedTime as Values>⟧.is_short result × (length (time_octets self) < 2 ^ 63) }
+    {
+        VariedTime { time: self }
+    }
+}

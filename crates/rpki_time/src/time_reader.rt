@@ -1,0 +1,106 @@
+//! Reading times.
+ghost use Rattle.std.specs.Prelude.{◌≡◌, ◌↔◌, codes, false, IsTrue, IfSome, IfNone};
+ghost use Rattle.jiff.specs.Types.{DateTime as Civil};
+ghost use Rattle.rpki_der.specs.Cursor.{left};
+ghost use Rattle.rpki_der.specs.ErrorText.{text_of};
+ghost use Rattle.rpki_der.specs.Flat.{SpellsFlat, IsFlatFault};
+ghost use Rattle.rpki_der.specs.Reading.{Reads, ReadsWhere};
+ghost use Rattle.rpki_der.specs.Values.{HasTag};
+ghost use Rattle.rpki_time.specs.TimeValue.{ReadsAs, SpellsTime, IsPrimitive, IsTimeFault, HasTimeTag};
+
+use crate::time::Time;
+use rpki_der::{Class, Constructed, Content, ContentError, DecodeError, Steps, Tag};
+
+/// Why contents are no time.
+fn malformed() -> ContentError
+    ensures { text_of result ≡ codes "malformed time value" }
+{
+    ContentError::from_static("malformed time value")
+}
+
+/// The time that the text under this tag writes.
+fn time_under(tag: Tag, text: &[u8]) -> Option<Time>
+    ensures value { IfSome result (ReadsAs tag text.now) }
+    ensures none { IfNone result ((t : Civil) → ¬ (ReadsAs tag text.now t)) }
+{
+    if tag.class() != Class::Universal {
+        return None;
+    }
+    match tag.number() {
+        23 => Time::from_utc_text(text),
+        24 => Time::from_generalized_text(text),
+        _ => None,
+    }
+}
+
+/// The tag and the contents of a primitive value, of whatever tag; moves past it.
+///
+/// The refusals are those of a header; then Unexpected for the constructed form; then Truncated.
+fn take_primitive<'a>(cons: &mut Constructed<'a>) -> Result<(Tag, &'a [u8]), DecodeError>
+    ensures { Reads (λ x. (x.0, false, x.1.now)) (SpellsFlat IsPrimitive) (IsFlatFault IsPrimitive) (left cons.old) (left cons.new) result }
+{
+    let mut ahead = *cons;
+    let header = match ahead.take_header(&mut Steps::new()) {
+        Ok(header) => header,
+        Err(e) => return Err(e),
+    };
+    if header.constructed {
+        return Err(DecodeError::Unexpected);
+    }
+    if ahead.rest().len() < header.length as usize {
+        return Err(DecodeError::Truncated);
+    }
+    match cons.take_value() {
+        Ok(found) => match found.1 {
+            Content::Primitive(contents) => Ok((found.0, contents)),
+            Content::Constructed(_) => unreachable!(),
+        },
+        Err(e) => Err(e),
+    }
+}
+
+/// Whether what is left begins with the identifier octets of the tag, in either form.
+fn begins_with(cons: &Constructed<'_>, tag: Tag) -> bool
+    ensures { IsTrue result ↔ HasTag tag (left cons.now) }
+{
+    let mut ahead = *cons;
+    !matches!(ahead.take_opt_value_if(tag), Ok(None))
+}
+
+impl Time {
+    /// Reads a time: UTC time or generalized time (X.690 11.7, 11.8). It takes no memory.
+    ///
+    /// The refusals are those of a header; then Unexpected for the constructed form, of whatever tag; then Truncated;
+    /// then Content, with the text `malformed time value`, for every other primitive value, whatever its tag. A
+    /// refusal leaves the cursor where it was.
+    pub fn take_from(cons: &mut Constructed<'_>) -> Result<Time, DecodeError>
+        ensures { Reads (λ t. t) SpellsTime IsTimeFault (left cons.old) (left cons.new) result }
+    {
+        let mut after = *cons;
+        let (tag, text) = match take_primitive(&mut after) {
+            Ok(found) => found,
+            Err(e) => return Err(e),
+        };
+        match time_under(tag, text) {
+            Some(time) => {
+                *cons = after;
+                Ok(time)
+            }
+            None => Err(DecodeError::Content(malformed())),
+        }
+    }
+
+    /// The same where what is left begins with the identifier octets of one of the two tags, in either form; else
+    /// None.
+    pub fn take_opt_from(cons: &mut Constructed<'_>) -> Result<Option<Time>, DecodeError>
+        ensures { ReadsWhere HasTimeTag (λ t. t) SpellsTime IsTimeFault (left cons.old) (left cons.new) result }
+    {
+        if !begins_with(cons, Tag::UTC_TIME) && !begins_with(cons, Tag::GENERALIZED_TIME) {
+            return Ok(None);
+        }
+        match Time::take_from(cons) {
+            Ok(time) => Ok(Some(time)),
+            Err(e) => Err(e),
+        }
+    }
+}

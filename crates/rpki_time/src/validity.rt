@@ -1,0 +1,223 @@
+//! Periods of validity.
+ghost use Rattle.std.specs.Prelude.{length, ◌<◌, ◌^◌, true, ◌≡◌, ◌↔◌, ◌+ℤ◌, ◌<ℤ◌, ◌≤ℤ◌, ◌*ℤ◌, pos, IsSome, IfSome, IsOk, IfErr, IsErrOf, IsTrue};
+ghost use Rattle.jiff.specs.Types.{DateTime as Civil};
+ghost use Rattle.jiff.specs.Words.{civil_nanos, signed_nanos};
+ghost use Rattle.rpki_time.specs.Time.{IsTimeNanos, seconds};
+ghost use Rattle.rpki_der.specs.Cursor.{left};
+ghost use Rattle.rpki_der.specs.Reading.{Reads, Decodes};
+ghost use Rattle.rpki_der.specs.TagName.{sequence};
+ghost use Rattle.rpki_der.specs.Values.{IsOuterFault};
+ghost use Rattle.rpki_time.specs.PeriodValue.{IsPeriod, SpellsPeriod, NeverMemory, period_octets};
+ghost use Rattle.rpki_time.specs.Validity.{HoldsAt, SpansBetween, IsTrimmed};
+
+use crate::time::Time;
+use crate::time_encoder::VariedTime;
+use jiff::SignedDuration;
+use rpki_der::{Constructed, DecodeError, Sequence, Values};
+use std::error::Error;
+use std::fmt;
+use std::marker::Model;
+
+/// Why a moment is outside a period of validity.
+#[derive(Clone, Copy, Debug)]
+pub enum ValidityPeriodError {
+    /// The period begins after the moment.
+    TooNew,
+    /// The period ended before the moment.
+    TooOld,
+}
+
+impl ValidityPeriodError {
+    /// Whether the period begins after the moment.
+    pub fn is_too_new(self) -> bool
+        ensures { IsTrue result ↔ (self ≡ ValidityPeriodError.TooNew) }
+    {
+        match self {
+            ValidityPeriodError::TooNew => true,
+            ValidityPeriodError::TooOld => false,
+        }
+    }
+}
+
+impl fmt::Display for ValidityPeriodError {
+    ghost use Rattle.std.specs.Prelude.{Some};
+    ghost use Rattle.rpki_time.specs.ErrorTexts.{period_error_text};
+
+    ghost output = { λ e. Some (period_error_text e) };
+
+    fn fmt<W: fmt::Write>(&self, f: &mut fmt::Formatter<W>) -> fmt::Result {
+        f.write_str(match self {
+            ValidityPeriodError::TooNew => "object is not yet valid",
+            ValidityPeriodError::TooOld => "object has expired",
+        })
+    }
+}
+
+impl Error for ValidityPeriodError {}
+
+impl Time {
+    /// Checks that the moment is not before this time. TooNew where it is.
+    pub fn verify_not_before(self, now: Time) -> Result<(), ValidityPeriodError>
+        ensures ok { IsOk result ↔ (civil_nanos self ≤ℤ civil_nanos now) }
+        ensures err { IfErr result (λ e. e ≡ ValidityPeriodError.TooNew) }
+    {
+        if now < self {
+            return Err(ValidityPeriodError::TooNew);
+        }
+        Ok(())
+    }
+
+    /// Checks that the moment is not after this time. TooOld where it is.
+    pub fn verify_not_after(self, now: Time) -> Result<(), ValidityPeriodError>
+        ensures ok { IsOk result ↔ (civil_nanos now ≤ℤ civil_nanos self) }
+        ensures err { IfErr result (λ e. e ≡ ValidityPeriodError.TooOld) }
+    {
+        if now > self {
+            return Err(ValidityPeriodError::TooOld);
+        }
+        Ok(())
+    }
+}
+
+/// A period of validity: from one time to another, both included (RFC 5280 4.1.2.5). One whose end is before its start
+/// never holds.
+#[derive(Clone, Copy, Debug, PartialEq, Eq, Hash)]
+pub struct Validity {
+    not_before: Time,
+    not_after: Time,
+}
+
+impl Model for Validity {
+    ghost use Rattle.rpki_time.specs.Validity.{Period};
+
+    ghost Value = { Period };
+
+    ghost view = { λ v. record { not_before = v.not_before; not_after = v.not_after } };
+
+    ghost inverse = { λ p. record { not_before = p.not_before; not_after = p.not_after } };
+}
+
+impl Validity {
+    /// The period from the first time to the second.
+    pub fn new(not_before: Time, not_after: Time) -> Validity
+        ensures not_before { result.not_before ≡ not_before }
+        ensures not_after { result.not_after ≡ not_after }
+    {
+        Validity {
+            not_before,
+            not_after,
+        }
+    }
+
+    /// The start.
+    pub fn not_before(self) -> Time
+        ensures { result ≡ self.not_before }
+    {
+        self.not_before
+    }
+
+    /// The end.
+    pub fn not_after(self) -> Time
+        ensures { result ≡ self.not_after }
+    {
+        self.not_after
+    }
+
+    /// The period between the moment and the time later by the duration, the earlier of the two first.
+    ///
+    /// None where that time is not of the years 0 to 9999.
+    pub fn from_duration(now: Time, duration: SignedDuration) -> Option<Validity>
+        ensures succeeds { IsSome result ↔ IsTimeNanos (civil_nanos now +ℤ signed_nanos duration) }
+        ensures value { IfSome result (SpansBetween (civil_nanos now) (civil_nanos now +ℤ signed_nanos duration)) }
+    {
+        let other = now.checked_add(duration)?;
+        if other < now {
+            return Some(Validity::new(other, now));
+        }
+        Some(Validity::new(now, other))
+    }
+
+    /// The period between the moment and the time that many seconds later, the earlier of the two first.
+    ///
+    /// None where that time is not of the years 0 to 9999.
+    pub fn from_secs(now: Time, secs: i64) -> Option<Validity>
+        ensures succeeds { IsSome result ↔ IsTimeNanos (civil_nanos now +ℤ seconds secs) }
+        ensures value { IfSome result (SpansBetween (civil_nanos now) (civil_nanos now +ℤ seconds secs)) }
+    {
+        Validity::from_duration(now, SignedDuration::from_secs(secs))
+    }
+
+    /// The period that holds where both do: from the later start to the earlier end.
+    pub fn trim(self, other: Validity) -> Validity
+        ensures ends { IsTrimmed self other result }
+        ensures holds { (m : Civil) → HoldsAt result m ↔ (HoldsAt self m × HoldsAt other m) }
+    {
+        Validity::new(
+            self.not_before.max(other.not_before),
+            self.not_after.min(other.not_after),
+        )
+    }
+
+    /// Checks that the period holds at the moment, both ends included.
+    ///
+    /// TooNew where the moment is before the start; else TooOld where it is after the end.
+    pub fn verify_at(self, now: Time) -> Result<(), ValidityPeriodError>
+        ensures ok { IsOk result ↔ HoldsAt self now }
+        ensures too_new { IsErrOf result ValidityPeriodError.TooNew ↔ (civil_nanos now <ℤ civil_nanos self.not_before) }
+    {
+        self.not_before.verify_not_before(now)?;
+        self.not_after.verify_not_after(now)
+    }
+
+    /// The two times of a period that are all of the contents.
+    fn take_times(mut contents: Constructed<'_>) -> Result<Validity, DecodeError>
+        ensures { Decodes (λ p. p) IsPeriod NeverMemory (left contents.entry) result }
+    {
+        let not_before = match Time::take_from(&mut contents) {
+            Ok(time) => time,
+            Err(e) => return Err(e),
+        };
+        let not_after = match Time::take_from(&mut contents) {
+            Ok(time) => time,
+            Err(e) => return Err(e),
+        };
+        match contents.finish() {
+            Ok(()) => Ok(Validity::new(not_before, not_after)),
+            Err(e) => Err(e),
+        }
+    }
+
+    /// Reads a period of validity: a SEQUENCE of two times and nothing else, the start first (RFC 5280 4.1.2.5). It
+    /// takes no memory.
+    ///
+    /// Where there is no SEQUENCE the refusal is that of [Constructed::take_sequence]; else that of the first time
+    /// that could not be read, or Trailing where more follows. A refusal leaves the cursor where it was.
+    pub fn take_from(cons: &mut Constructed<'_>) -> Result<Validity, DecodeError>
+        ensures { Reads (λ p. p) SpellsPeriod (IsOuterFault sequence true) (left cons.old) (left cons.new) result }
+    {
+        let mut after = *cons;
+        let contents = match after.take_sequence() {
+            Ok(contents) => contents,
+            Err(e) => return Err(e),
+        };
+        match Validity::take_times(contents) {
+            Ok(period) => {
+                *cons = after;
+                Ok(period)
+            }
+            Err(e) => Err(e),
+        }
+    }
+
+    /// The period as certificates have it: a SEQUENCE of its two times, each as [Time::encode_varied] writes it. It
+    /// always fits.
+    pub fn encode(self) -> Sequence<(VariedTime, VariedTime)>
+        ensures encoded { ⟦<Sequence<(VariedTime, VariedTime)> as Values>⟧.encoded result ≡ period_octets self }
+        ensures fits { ⟦<Sequence<(VariedTime, VariedTime)> as Values>⟧.is_short result × (length (period_octets self) < 2 ^ 63) }
+    {
+        Sequence::new((
+            self.not_before.encode_varied(),
+            self.not_after.encode_varied(),
+        ))
+    }
+}
