@@ -1,0 +1,220 @@
+-- What an inspection of a name finds, attribute by attribute.
+use Rattle.std.proofs.Common.{◌≡◌, ◌≢◌, ℕ, ◌+◌, ◌≤◌, Bool, true, false, not, List, [], ◌∷◌, ◌++◌, cond, nat_eq, inl, inr, IsTrue, ◌↔◌, Result, Ok, Err, refl, sym, ap, subst, ◌∙◌, arith, append_assoc, append-nil}
+use Rattle.std.specs.Prelude.{IfOk, IfErr, MatchResult}
+use Rattle.std.specs.List.{All}
+use Rattle.std.specs.Cmp.Lexicographic.{pointwise, pointwise_decides}
+use Rattle.std.proofs.lemmas.Bool.Decides.{Decides-eqb}
+use Rattle.std.proofs.lemmas.List.Elements.{All-append, All-nil, All-cons}
+use Rattle.std.proofs.lemmas.List.Sums.{sum_by-append}
+use Rattle.std.proofs.lemmas.Grind.{flat_map-append}
+use Rattle.rpki_der.specs.declared.error.DecodeError.{DecodeError}
+use Rattle.rpki_der.specs.declared.error.DecodeError.TheVariants.{Truncated, BadTag, BadLength, Unexpected, Content, Trailing, OutOfMemory}
+use Rattle.rpki_der.specs.TagName.{TagName, sequence}
+use Rattle.rpki_der.specs.Reading.{Spells, Accepts, Refuses, Refusal, UnlessMemory}
+use Rattle.rpki_der.specs.Values.{SpellsContents, SpellsLeaf, IsContentsFault, IsLeafFault, IsOuterFault}
+use Rattle.rpki_der.proofs.LeavesLaws.{leaf-value, leaf-no-memory, contents-no-memory}
+use Rattle.rpki_der.proofs.ComposedLaws.{all-read, nothing-whole, spelled-whole}
+use Rattle.rpki.specs.Oids.{common_name, serial_number}
+use Rattle.rpki.specs.Name.{Attribute, IsIdentifierThen, SpellsAttribute, SpellsEach, SpellsName, IsName}
+use Rattle.rpki.specs.StrictName.{has_identifier, count_of, IsKnown, IsStrict, attributes, IsNameOf}
+use Rattle.rpki.specs.InspectName.{Findings, IsFound}
+use Rattle.rpki.proofs.NameLaws.{attribute-identified}
+
+-- ---- refusals of readers that take no memory
+
+pub surely : (e : DecodeError) {P : Type 0} → e ≢ OutOfMemory → UnlessMemory e P → P
+surely Truncated ne h = h
+surely BadTag ne h = h
+surely BadLength ne h = h
+surely Unexpected ne h = h
+surely (Content x) ne h = h
+surely Trailing ne h = h
+surely OutOfMemory ne h = absurd (ne refl)
+
+-- whether the whole is in the grammar, from what a reader of a beginning answered
+pub whole-read : {V : Type 0} (G : V → List ℕ → Type 0) (s r : List ℕ) (v : V) (b : Bool) → Accepts G s v r → IsTrue b ↔ (r ≡ []) → IsTrue b ↔ ((w : V) × G w s)
+whole-read {V} G s r v b a h = (λ e. (v, (all-read G s v r a (h.0 e)).0), λ g. h.1 (sym (a.only g.0 [] (spelled-whole G s g.0 g.1)).1))
+
+pub whole-unread : {V : Type 0} (t : TagName) (f : Bool) (C : V → List ℕ → Type 0) (s r : List ℕ) (e : DecodeError) → Refusal (SpellsLeaf t f C) (IsLeafFault t f C) s r e → IsTrue false ↔ ((w : V) × SpellsLeaf t f C w s)
+whole-unread {V} t f C s r e h =
+    let none : Refuses (SpellsLeaf t f C) s = surely e (leaf-no-memory t f C s e h.kind) h.refuses in
+    (λ z. absurd (let w = z in cc), λ g. absurd (nothing-whole (SpellsLeaf t f C) s none g.0 g.1))
+
+-- ---- how many attributes have an identifier
+
+same-octets : (xs ys : List ℕ) → pointwise nat_eq xs ys ≡ true → xs ≡ ys
+same-octets xs ys e = (pointwise_decides Decides-eqb xs ys).0 e
+
+count-append : (o : List ℕ) (xs ys : List Attribute) → count_of o (xs ++ ys) ≡ count_of o xs + count_of o ys
+count-append o xs ys = sum_by-append (λ a. cond (has_identifier o a) 1 0) xs ys
+
+count-one : (o : List ℕ) (a : Attribute) → count_of o (a ∷ []) ≡ cond (has_identifier o a) 1 0
+count-one o a = omega arith
+
+all-one : (P : Attribute → Type 0) (a : Attribute) → P a → All P (a ∷ [])
+all-one P a h = All-cons P a [] h (All-nil P)
+
+found-more : (P : List ℕ → Type 0) (x y : Findings) (before : List Attribute) (a : Attribute) → IsFound P x before
+    → cond y.common 1 0 ≡ cond x.common 1 0 + cond (has_identifier common_name a) 1 0
+    → cond y.serial 1 0 ≡ cond x.serial 1 0 + cond (has_identifier serial_number a) 1 0
+    → IsKnown a → P a.value → IsFound P y (before ++ a ∷ [])
+found-more P x y before a h c s known permitted = record {
+  common = count-append common_name before (a ∷ []) ∙ omega (arith, h.common, count-one common_name a, c);
+  serial = count-append serial_number before (a ∷ []) ∙ omega (arith, h.serial, count-one serial_number a, s);
+  known = All-append IsKnown before (a ∷ []) h.known (all-one IsKnown a known);
+  strings = All-append (λ b. P b.value) before (a ∷ []) h.strings (all-one (λ b. P b.value) a permitted);
+}
+
+pub found-common : (P : List ℕ → Type 0) (x : Findings) (before : List Attribute) (a : Attribute) → IsFound P x before → x.common ≡ false → pointwise nat_eq a.identifier common_name ≡ true → P a.value
+    → IsFound P (record { common = true; serial = x.serial }) (before ++ a ∷ [])
+found-common P x before a h none is permitted =
+    let name : a.identifier ≡ common_name = same-octets a.identifier common_name is in
+    let other : has_identifier serial_number a ≡ false = rw name refl in
+    found-more P x (record { common = true; serial = x.serial }) before a h (rw (none, is) refl) (rw other (omega arith)) (inl name) permitted
+
+pub found-serial : (P : List ℕ → Type 0) (x : Findings) (before : List Attribute) (a : Attribute) → IsFound P x before → x.serial ≡ false → pointwise nat_eq a.identifier serial_number ≡ true → P a.value
+    → IsFound P (record { common = x.common; serial = true }) (before ++ a ∷ [])
+found-serial P x before a h none is permitted =
+    let name : a.identifier ≡ serial_number = same-octets a.identifier serial_number is in
+    let other : has_identifier common_name a ≡ false = rw name refl in
+    found-more P x (record { common = x.common; serial = true }) before a h (rw other (omega arith)) (rw (none, is) refl) (inr name) permitted
+
+-- ---- a list of values, each of which stands for attributes
+
+pub record IsJoin {V : Type 0} (join : List V → List Attribute) : Type 0 where
+  pub none : join [] ≡ []
+  pub more : (xs ys : List V) → join (xs ++ ys) ≡ join xs ++ join ys
+
+pub join-attributes : IsJoin {V = Attribute} (λ xs. xs)
+join-attributes = record { none = refl; more = λ xs ys. refl }
+
+pub join-relatives : IsJoin attributes
+join-relatives = record { none = refl; more = flat_map-append (λ x. x) }
+
+pub one-relative : (xs : List Attribute) → attributes (xs ∷ []) ≡ xs
+one-relative xs = append-nil xs
+
+-- of the values that were spelled, those in which y was found, and those that m spells
+pub record Middle {V : Type 0} (G : V → List ℕ → Type 0) (join : List V → List Attribute) (P : List ℕ → Type 0) (x y : Findings) (vs : List V) (m : List ℕ) : Type 0 where
+  pub done : List V
+  pub todo : List V
+  pub split : vs ≡ done ++ todo
+  pub behind : SpellsEach G todo m
+  pub found : (before : List Attribute) → IsFound P x before → IsFound P y (before ++ join done)
+
+abbrev pub Through : {V : Type 0} → (V → List ℕ → Type 0) → (List V → List Attribute) → (List ℕ → Type 0) → Findings → Findings → List ℕ → List ℕ → Type 0
+Through {V} G join P x y c m = (vs : List V) → SpellsEach G vs c → Middle G join P x y vs m
+
+pub through-nothing : {V : Type 0} (G : V → List ℕ → Type 0) (join : List V → List Attribute) (P : List ℕ → Type 0) (x : Findings) (c : List ℕ) → IsJoin join → Through G join P x x c c
+through-nothing G join P x c j vs h = record {
+  done = [];
+  todo = vs;
+  split = refl;
+  behind = h;
+  found = λ before f. subst (IsFound P x) (sym (ap (λ (l : List Attribute). before ++ l) j.none ∙ append-nil before)) f;
+}
+
+pub through-more : {V : Type 0} (G : V → List ℕ → Type 0) (join : List V → List Attribute) (P : List ℕ → Type 0) (x y z : Findings) (c m r : List ℕ) → IsJoin join → (m ≡ [] → ⊥) → Through G join P x y c m
+    → ((v : V) (q : List ℕ) → Spells G m v q → (q ≡ r) × ((before : List Attribute) → IsFound P y before → IsFound P z (before ++ join (v ∷ [])))) → Through G join P x z c r
+through-more {V} G join P x y z c m r j some t step vs h = let g = t vs h in next g.done g.todo g.split g.behind g.found
+  where
+    next : (done todo : List V) → vs ≡ done ++ todo → SpellsEach G todo m → ((before : List Attribute) → IsFound P x before → IsFound P y (before ++ join done)) → Middle G join P x z vs r
+    next done [] split behind found = absurd (some behind)
+    next done (v ∷ ws) split behind found =
+        let k = step v behind.0 behind.1 in
+        record {
+          done = done ++ v ∷ [];
+          todo = ws;
+          split = split ∙ sym (append_assoc done (v ∷ []) ws);
+          behind = subst (SpellsEach G ws) k.0 behind.2;
+          found = λ before f.
+              subst (IsFound P z) (append_assoc before (join done) (join (v ∷ [])) ∙ ap (λ (l : List Attribute). before ++ l) (sym (j.more done (v ∷ [])))) (k.1 (before ++ join done) (found before f));
+        }
+
+regroup : (a b d e g : List Attribute) → (a ++ (b ++ (d ++ e))) ++ g ≡ ((a ++ b) ++ d) ++ (e ++ g)
+regroup a b d e g = simp append_assoc
+
+pub through-refused : {V : Type 0} (G : V → List ℕ → Type 0) (join : List V → List Attribute) (P : List ℕ → Type 0) (x y : Findings) (c m : List ℕ) → IsJoin join → (m ≡ [] → ⊥) → Through G join P x y c m
+    → ((v : V) (q : List ℕ) → Spells G m v q → (before rest : List Attribute) → IsFound P y before → IsStrict P ((before ++ join (v ∷ [])) ++ rest) → ⊥)
+    → (vs : List V) → SpellsEach G vs c → (before rest : List Attribute) → IsFound P x before → IsStrict P ((before ++ join vs) ++ rest) → ⊥
+through-refused {V} G join P x y c m j some t refused vs h before rest f strict = let g = t vs h in next g.done g.todo g.split g.behind (g.found before f)
+  where
+    next : (done todo : List V) → vs ≡ done ++ todo → SpellsEach G todo m → IsFound P y (before ++ join done) → ⊥
+    next done [] split behind found = some behind
+    next done (v ∷ ws) split behind found =
+        let joined : join vs ≡ join done ++ (join (v ∷ []) ++ join ws) = ap join split ∙ j.more done (v ∷ ws) ∙ ap (λ (l : List Attribute). join done ++ l) (j.more (v ∷ []) ws) in
+        refused v behind.0 behind.1 (before ++ join done) (join ws ++ rest) found
+        (subst (IsStrict P) (ap (λ (l : List Attribute). (before ++ l) ++ rest) joined ∙ regroup before (join done) (join (v ∷ [])) (join ws) rest) strict)
+
+pub through-all : {V : Type 0} (G : V → List ℕ → Type 0) (join : List V → List Attribute) (P : List ℕ → Type 0) (x y : Findings) (c m : List ℕ) → ((v : V) (q : List ℕ) → Spells G m v q → ⊥) → Through G join P x y c m
+    → (vs : List V) → SpellsEach G vs c → (before : List Attribute) → IsFound P x before → IsFound P y (before ++ join vs)
+through-all {V} G join P x y c m nowhere t vs h before f = let g = t vs h in next g.done g.todo g.split g.behind (g.found before f)
+  where
+    next : (done todo : List V) → vs ≡ done ++ todo → SpellsEach G todo m → IsFound P y (before ++ join done) → IsFound P y (before ++ join vs)
+    next done [] split behind found = subst (λ (l : List V). IsFound P y (before ++ join l)) (sym (split ∙ append-nil done)) found
+    next done (v ∷ ws) split behind found = absurd (nowhere v behind.0 behind.1)
+
+-- ---- an attribute at the front
+
+pub no-attribute : (m r : List ℕ) (e : DecodeError) → Refusal (SpellsLeaf sequence true IsIdentifierThen) (IsOuterFault sequence true) m r e → (v : Attribute) (q : List ℕ) → Spells SpellsAttribute m v q → ⊥
+no-attribute m r e h v q g = surely e h.kind.other h.refuses v q (attribute-identified m v q g)
+
+pub this-attribute : (m r : List ℕ) (a : Attribute) → Accepts (SpellsLeaf sequence true IsIdentifierThen) m a r → (v : Attribute) (q : List ℕ) → Spells SpellsAttribute m v q → (q ≡ r) × (v ≡ a)
+this-attribute m r a h v q g = let k = h.only v q (attribute-identified m v q g) in (k.1, k.0)
+
+-- ---- a value at the front, whose contents were found
+
+pub no-contents : {V : Type 0} (t : TagName) (C : V → List ℕ → Type 0) (m r : List ℕ) (e : DecodeError) → Refusal (SpellsContents t true) (IsContentsFault t true) m r e → (v : V) (q : List ℕ) → Spells (SpellsLeaf t true C) m v q → ⊥
+no-contents t C m r e h v q g =
+    let l = leaf-value t true C m v q g in
+    surely e (contents-no-memory t true m e h.kind) h.refuses l.0 q l.1
+
+pub these-contents : {V : Type 0} (t : TagName) (C : V → List ℕ → Type 0) (m r c : List ℕ) → Accepts (SpellsContents t true) m c r → (v : V) (q : List ℕ) → Spells (SpellsLeaf t true C) m v q → (q ≡ r) × C v c
+these-contents t C m r c h v q g =
+    let l = leaf-value t true C m v q g in
+    let k = h.only l.0 q l.1 in
+    (k.1, subst (C v) k.0 l.2)
+
+-- ---- the whole name
+
+pub nothing-found : (P : List ℕ → Type 0) → IsFound P (record { common = false; serial = false }) []
+nothing-found P = record { common = refl; serial = refl; known = All-nil IsKnown; strings = All-nil (λ a. P a.value) }
+
+pub never-strict : (P : List ℕ → Type 0) (xs : List Attribute)
+    → ((before rest : List Attribute) → IsFound P (record { common = false; serial = false }) before → IsStrict P ((before ++ xs) ++ rest) → ⊥) → IsStrict P xs → ⊥
+never-strict P xs h strict = h [] [] (nothing-found P) (subst (IsStrict P) (sym (append-nil xs)) strict)
+
+pub is-not : (b : Bool) → not b ≡ true → b ≡ false
+is-not true e = sym e
+is-not false e = refl
+
+pub is-so : (b : Bool) → not b ≡ false → b ≡ true
+is-so true e = refl
+is-so false e = sym e
+
+pub found-nameless : (P : List ℕ → Type 0) (x : Findings) (xs : List Attribute) → IsFound P x xs → x.common ≡ false → IsStrict P xs → ⊥
+found-nameless P x xs f none strict = let g = rw none at f.common in omega (arith, g, strict.common)
+
+at-most-one : (b : Bool) → cond b 1 0 ≤ 1
+at-most-one true = omega arith
+at-most-one false = omega arith
+
+pub found-strict : (P : List ℕ → Type 0) (x : Findings) (xs : List Attribute) → IsFound P x xs → x.common ≡ true → IsStrict P xs
+found-strict P x xs f one = record {
+  common = let g = rw one at f.common in g;
+  serial = omega (arith, f.serial, at-most-one x.serial);
+  known = f.known;
+  strings = f.strings;
+}
+
+-- ---- what the public calls say
+
+pub inspected-ok : {E : Type 0} (P : List Attribute → Type 0) (q : Type 0) (octets : List ℕ) (r : Result (Unit {0}) E) → IsName octets
+    → ((parts : List (List Attribute)) → SpellsName parts octets → MatchResult r (λ u. P (attributes parts)) (λ e. P (attributes parts) → ⊥)) → IfOk r (λ u. q → IsNameOf P octets)
+inspected-ok P q octets (Ok u) n h = λ z. (n.0, n.1, h n.0 n.1)
+inspected-ok P q octets (Err e) n h = tt
+
+pub inspected-err : {E : Type 0} (P : List Attribute → Type 0) (q : Type 0) (octets : List ℕ) (r : Result (Unit {0}) E) → q
+    → ((parts : List (List Attribute)) → SpellsName parts octets → MatchResult r (λ u. P (attributes parts)) (λ e. P (attributes parts) → ⊥)) → IfErr r (λ e. q × (IsNameOf P octets → ⊥))
+inspected-err P q octets (Ok u) z h = tt
+inspected-err P q octets (Err e) z h = (z, λ g. h g.0 g.1 g.2)

@@ -1,0 +1,16 @@
+pub mod AlgorithmLaws
+pub mod InOrderLaws
+pub mod NamedLaws
+pub mod PartLaws
+pub mod FormatLaws
+pub mod DigestLaws
+pub mod Signing
+pub mod SignedLaws
+pub mod PublicKeyLaws
+pub mod KeyIdentifierLaws
+pub mod EqualLaws
+pub mod SubjectLaws
+pub mod StrictSubject
+pub mod NameLaws
+pub mod InspectionLaws
+pub mod NameOne

@@ -1,0 +1,219 @@
+-- Lists of values, one after another, as a reader of one after another finds them; and what names are.
+use Rattle.std.proofs.Common.{◌≡◌, ◌≢◌, ◌↔◌, IsTrue, ℕ, ◌+◌, ◌<◌, ◌≤◌, Bool, true, false, List, [], ◌∷◌, length, refl, ap, subst, arith, length-append}
+use Rattle.rpki_der.specs.declared.error.DecodeError.{DecodeError}
+use Rattle.rpki_der.specs.TagName.{TagName, sequence, set, oid}
+use Rattle.rpki_der.specs.Reading.{Spells, Accepts, Refuses, Refusal, UnlessMemory, SpellsNothing}
+use Rattle.rpki_der.specs.Values.{SpellsContents, SpellsLeaf, GivesOuterFault, IsOuterFault}
+use Rattle.rpki_der.specs.Leaves.{IsOidOf}
+use Rattle.rpki_der.specs.Members.{IsValue, IsValueList, SpellsValue}
+use Rattle.rpki_der.proofs.MembersLaws.{value_some}
+use Rattle.rpki_der.specs.Walk.{SpellsAnyValue}
+use Rattle.rpki_der.specs.Joined.{values_append, no_values}
+use Rattle.rpki_der.proofs.ReadingLaws.{UnlessMemory-weaker}
+use Rattle.rpki_der.proofs.EncodeLaws.{tlv_at_least}
+use Rattle.rpki_der.proofs.LeafValues.{leaf_value_alone, composed_value_alone}
+use Rattle.rpki_der.proofs.LeavesLaws.{leaf-value}
+use Rattle.rpki.specs.Name.{Attribute, attribute_of, IsIdentifierThen, IsAttribute, SpellsAttribute, SpellsEach, SpellsSome, SpellsRelative, SpellsName, IsName, SpellsNameOctets, SpellsAny}
+
+-- ---- whichever value is spelled
+
+pub any-leaf : {V : Type 0} (t : TagName) (f : Bool) (C : V → List ℕ → Type 0) (p : List ℕ) → SpellsLeaf t f (SpellsAny C) tt p → SpellsAny (SpellsLeaf t f C) tt p
+any-leaf t f C p h = (h.spelled.0, record { contents = h.contents; value = h.value; spelled = h.spelled.1 })
+
+pub leaf-any : {V : Type 0} (t : TagName) (f : Bool) (C : V → List ℕ → Type 0) (v : V) (p : List ℕ) → SpellsLeaf t f C v p → SpellsLeaf t f (SpellsAny C) tt p
+leaf-any t f C v p h = record { contents = h.contents; value = h.value; spelled = (v, h.spelled) }
+
+pub any-at : {V : Type 0} (t : TagName) (f : Bool) (C : V → List ℕ → Type 0) (s : List ℕ) (v : V) (r : List ℕ) → Spells (SpellsLeaf t f C) s v r → Spells (SpellsLeaf t f (SpellsAny C)) s tt r
+any-at t f C s v r h = record { front = h.front; parts = h.parts; spelled = leaf-any t f C v h.front h.spelled }
+
+-- ---- a value takes octets
+
+pub leaf-some : {V : Type 0} (t : TagName) (f : Bool) (C : V → List ℕ → Type 0) (v : V) (p : List ℕ) → SpellsLeaf t f C v p → 2 ≤ length p
+leaf-some t f C v p h = omega (arith, ap length h.value.octets, tlv_at_least t f h.contents)
+
+pub leaf-shorter : {V : Type 0} (t : TagName) (f : Bool) (C : V → List ℕ → Type 0) (s : List ℕ) (v : V) (r : List ℕ) → Spells (SpellsLeaf t f C) s v r → length r < length s
+leaf-shorter t f C s v r h = omega (arith, leaf-some t f C v h.front h.spelled, ap length h.parts, length-append h.front r)
+
+pub contents-shorter : (t : TagName) (f : Bool) (s c r : List ℕ) → Spells (SpellsContents t f) s c r → length r < length s
+contents-shorter t f s c r h = omega (arith, ap length h.spelled.octets, tlv_at_least t f c, ap length h.parts, length-append h.front r)
+
+pub leaf-nowhere : {V : Type 0} (t : TagName) (f : Bool) (C : V → List ℕ → Type 0) (s : List ℕ) (v : V) (r : List ℕ) → s ≡ [] → Spells (SpellsLeaf t f C) s v r → ⊥
+leaf-nowhere t f C s v r e h = omega (arith, leaf-shorter t f C s v r h, ap length e)
+
+-- ---- a list of values of one tag and form
+
+abbrev pub IsEach : {V : Type 0} → TagName → Bool → (V → List ℕ → Type 0) → List ℕ → Type 0
+IsEach {V} t f C p = (vs : List V) × SpellsEach (SpellsLeaf t f C) vs p
+
+-- what is left is such a list exactly where the whole is
+pub record Remains {V : Type 0} (t : TagName) (f : Bool) (C : V → List ℕ → Type 0) (c m : List ℕ) : Type 0 where
+  pub whole : IsEach t f C m → IsEach t f C c
+  pub rest : IsEach t f C c → IsEach t f C m
+
+pub remains-all : {V : Type 0} (t : TagName) (f : Bool) (C : V → List ℕ → Type 0) (c : List ℕ) → Remains t f C c c
+remains-all t f C c = record { whole = λ h. h; rest = λ h. h }
+
+pub remains-then : {V : Type 0} (t : TagName) (f : Bool) (C : V → List ℕ → Type 0) (c m r : List ℕ) → (m ≡ [] → ⊥) → Remains t f C c m → Accepts (SpellsLeaf t f (SpellsAny C)) m tt r → Remains t f C c r
+remains-then {V} t f C c m r some h a = record { whole = λ k. h.whole (longer k); rest = λ k. shorter (h.rest k) }
+  where
+    longer : IsEach t f C r → IsEach t f C m
+    longer k =
+        let g = any-leaf t f C a.spells.front a.spells.spelled in
+        (g.0 ∷ k.0, (r, record { front = a.spells.front; parts = a.spells.parts; spelled = g.1 }, k.1))
+
+    behind : (vs : List V) → SpellsEach (SpellsLeaf t f C) vs m → IsEach t f C r
+    behind [] e = absurd (some e)
+    behind (v ∷ vs) k = (vs, subst (SpellsEach (SpellsLeaf t f C) vs) (a.only tt k.0 (any-at t f C m v k.0 k.1)).1 k.2)
+
+    shorter : IsEach t f C m → IsEach t f C r
+    shorter k = behind k.0 k.1
+
+-- no such value is at the front of what is left
+pub remains-refused : {V : Type 0} (t : TagName) (f : Bool) (C : V → List ℕ → Type 0) (c m : List ℕ) → (m ≡ [] → ⊥) → Remains t f C c m → Refuses (SpellsLeaf t f (SpellsAny C)) m → SpellsNothing (SpellsAny (SpellsSome (SpellsLeaf t f C))) c
+remains-refused {V} t f C c m some h none x k = let g = h.rest (k.0, k.1.each) in none-of g.0 g.1
+  where
+    none-of : (vs : List V) → SpellsEach (SpellsLeaf t f C) vs m → ⊥
+    none-of [] e = some e
+    none-of (v ∷ vs) g = none tt g.0 (any-at t f C m v g.0 g.1)
+
+-- nothing is left
+pub remains-nothing : {V : Type 0} (t : TagName) (f : Bool) (C : V → List ℕ → Type 0) (c m : List ℕ) → (c ≡ [] → ⊥) → m ≡ [] → Remains t f C c m → SpellsAny (SpellsSome (SpellsLeaf t f C)) tt c
+remains-nothing {V} t f C c m some end h = let g = h.whole ([], end) in (g.0, record { some = not-empty g.0 g.1; each = g.1 })
+  where
+    not-empty : (vs : List V) → SpellsEach (SpellsLeaf t f C) vs c → vs ≢ []
+    not-empty vs k e = some (subst (λ (ws : List V). SpellsEach (SpellsLeaf t f C) ws c) e k)
+
+-- where there is nothing, there is no such list
+pub nothing-spelled : {V : Type 0} (t : TagName) (f : Bool) (C : V → List ℕ → Type 0) (c : List ℕ) → c ≡ [] → SpellsNothing (SpellsAny (SpellsSome (SpellsLeaf t f C))) c
+nothing-spelled {V} t f C c end x k = none-of k.0 k.1
+  where
+    none-of : (vs : List V) → SpellsSome (SpellsLeaf t f C) vs c → ⊥
+    none-of [] g = g.some refl
+    none-of (v ∷ vs) g = leaf-nowhere t f C c v g.each.0 end g.each.1
+
+-- ---- the identifier of an attribute, and what is behind it
+
+pub identified : (c m : List ℕ) (o : List ℕ) → Accepts (SpellsLeaf oid false IsOidOf) c o m → IsIdentifierThen (attribute_of o m) c × ((w : Attribute) → IsIdentifierThen w c → w ≡ attribute_of o m)
+identified c m o a = (
+  record { front = a.spells.front; parts = a.spells.parts; identifier = a.spells.spelled },
+  λ w h.
+      let one = a.only w.identifier w.value (record { front = h.front; parts = h.parts; spelled = h.identifier }) in
+      same w one.0 one.1,
+)
+  where
+    same : (w : Attribute) → w.identifier ≡ o → w.value ≡ m → w ≡ attribute_of o m
+    same w p q = let g : attribute_of w.identifier w.value ≡ attribute_of o m = rw (p, q) refl in g
+
+pub unidentified : (c : List ℕ) → Refuses (SpellsLeaf oid false IsOidOf) c → SpellsNothing IsIdentifierThen c
+unidentified c none w h = none w.identifier w.value (record { front = h.front; parts = h.parts; spelled = h.identifier })
+
+-- an attribute begins with its identifier
+pub attribute-identified : (s : List ℕ) (a : Attribute) (r : List ℕ) → Spells SpellsAttribute s a r → Spells (SpellsLeaf sequence true IsIdentifierThen) s a r
+attribute-identified s a r h = record { front = h.front; parts = h.parts; spelled = record { contents = h.spelled.contents; value = h.spelled.value; spelled = h.spelled.spelled.identified } }
+
+any-identified : (s : List ℕ) (r : List ℕ) → Spells (SpellsLeaf sequence true (SpellsAny IsAttribute)) s tt r → (a : Attribute) × Spells (SpellsLeaf sequence true IsIdentifierThen) s a r × IsValue a.value
+any-identified s r h =
+    let g = any-leaf sequence true IsAttribute h.front h.spelled in
+    (g.0, attribute-identified s g.0 r (record { front = h.front; parts = h.parts; spelled = g.1 }), g.1.spelled.one)
+
+pub attribute-unidentified : (s r : List ℕ) (e : DecodeError) → Refusal (SpellsLeaf sequence true IsIdentifierThen) (IsOuterFault sequence true) s r e → Refusal (SpellsLeaf sequence true (SpellsAny IsAttribute)) (GivesOuterFault sequence true) s s e
+attribute-unidentified s r e h = record {
+  unchanged = refl;
+  refuses = UnlessMemory-weaker e (λ none x q k. let g = any-identified s q k in none g.0 q g.1) h.refuses;
+  kind = h.kind.kind;
+}
+
+pub attribute-accepted : (s r : List ℕ) (a : Attribute) → Accepts (SpellsLeaf sequence true IsIdentifierThen) s a r → IsValue a.value → Accepts (SpellsLeaf sequence true (SpellsAny IsAttribute)) s tt r
+attribute-accepted s r a h one = record {
+  spells = record {
+    front = h.spells.front;
+    parts = h.spells.parts;
+    spelled = record { contents = h.spells.spelled.contents; value = h.spells.spelled.value; spelled = (a, record { identified = h.spells.spelled.spelled; one = one }) };
+  };
+  only = λ w q k. let g = any-identified s q k in (refl, (h.only g.0 q g.1).1);
+}
+
+pub attribute-valueless : (s r : List ℕ) (a : Attribute) (e : DecodeError) → Accepts (SpellsLeaf sequence true IsIdentifierThen) s a r → UnlessMemory e (SpellsNothing SpellsAnyValue a.value) → Refusal (SpellsLeaf sequence true (SpellsAny IsAttribute)) (GivesOuterFault sequence true) s s e
+attribute-valueless s r a e h k = record {
+  unchanged = refl;
+  refuses = UnlessMemory-weaker e (λ none x q l. let g = any-identified s q l in none tt (subst (λ (w : Attribute). IsValue w.value) (h.only g.0 q g.1).0 g.2)) k;
+  kind = λ none.
+      let l = leaf-value sequence true IsIdentifierThen s a r h.spells in
+      absurd (none l.0 r l.1);
+}
+
+-- ---- a name is one value
+
+each-values : {V : Type 0} (G : V → List ℕ → Type 0) → ((v : V) (p : List ℕ) → G v p → IsValue p) → (vs : List V) (p : List ℕ) → SpellsEach G vs p → IsValueList p
+each-values G one [] p h = (0, rw h no_values)
+each-values G one (v ∷ vs) p h =
+    let first : IsValue h.1.front = one v h.1.front h.1.spelled in
+    let others = each-values G one vs h.0 h.2 in
+    (1 + others.0, rw h.1.parts (values_append 1 others.0 h.1.front h.0 first others.1))
+
+attribute-value : (a : Attribute) (p : List ℕ) → SpellsAttribute a p → IsValue p
+attribute-value a p h = composed_value_alone sequence IsAttribute a p inside h
+  where
+    inside : (c : List ℕ) → IsAttribute a c → IsValueList c
+    inside c g = (2, rw g.identified.parts (values_append 1 1 g.identified.front a.value (leaf_value_alone oid IsOidOf a.identifier g.identified.front g.identified.identifier) g.one))
+
+relative-value : (xs : List Attribute) (p : List ℕ) → SpellsRelative xs p → IsValue p
+relative-value xs p h = composed_value_alone set (SpellsSome SpellsAttribute) xs p (λ c g. each-values SpellsAttribute attribute-value xs c g.each) h
+
+pub name-value : (parts : List (List Attribute)) (p : List ℕ) → SpellsName parts p → IsValue p
+name-value parts p h = composed_value_alone sequence (SpellsSome SpellsRelative) parts p (λ c g. each-values SpellsRelative relative-value parts c g.each) h
+
+-- ---- a name, captured
+
+abbrev AnyName : Unit {0} → List ℕ → Type 0
+AnyName = SpellsLeaf sequence true (SpellsAny (SpellsSome SpellsRelative))
+
+name-of : (p : List ℕ) → AnyName tt p → IsName p
+name-of p h = any-leaf sequence true (SpellsSome SpellsRelative) p h
+
+octets-any : (s v r : List ℕ) → Spells SpellsNameOctets s v r → Spells AnyName s tt r
+octets-any s v r h =
+    let g = h.spelled.named in
+    record { front = h.front; parts = h.parts; spelled = rw h.spelled.same (leaf-any sequence true (SpellsSome SpellsRelative) g.0 v g.1) }
+
+octets-value : (s v r : List ℕ) → Spells SpellsNameOctets s v r → Spells SpellsValue s v r
+octets-value s v r h = let g = h.spelled.named in record { front = h.front; parts = h.parts; spelled = record { same = h.spelled.same; value = name-value g.0 v g.1 } }
+
+pub any-captured : (s r : List ℕ) → Spells AnyName s tt r → (v : List ℕ) × Spells SpellsValue s v r × IsName v
+any-captured s r h = let g = name-of h.front h.spelled in (h.front, record { front = h.front; parts = h.parts; spelled = record { same = refl; value = name-value g.0 h.front g.1 } }, g)
+
+pub captured-name : (s r v q : List ℕ) → Accepts AnyName s tt r → Accepts SpellsValue s v q → IsName v
+captured-name s r v q a b = let g = any-captured s r a.spells in subst IsName (b.only g.0 r g.1).0 g.2
+
+pub name-captured : (s r v q : List ℕ) → Accepts AnyName s tt r → Accepts SpellsValue s v q → Accepts SpellsNameOctets s v q
+name-captured s r v q a b = record {
+  spells = record { front = b.spells.front; parts = b.spells.parts; spelled = record { same = b.spells.spelled.same; named = captured-name s r v q a b } };
+  only = λ w p h. b.only w p (octets-value s w p h);
+}
+
+pub name-refused : (s r : List ℕ) (e : DecodeError) → Refusal AnyName (GivesOuterFault sequence true) s r e → Refusal SpellsNameOctets (GivesOuterFault sequence true) s s e
+name-refused s r e h = record {
+  unchanged = refl;
+  refuses = UnlessMemory-weaker e (λ none v q k. none tt q (octets-any s v q k)) h.refuses;
+  kind = h.kind;
+}
+
+pub name-uncaptured : {K : List ℕ → DecodeError → Type 0} (s r q : List ℕ) (e : DecodeError) → Accepts AnyName s tt r → Refusal SpellsValue K s q e → Refusal SpellsNameOctets (GivesOuterFault sequence true) s q e
+name-uncaptured s r q e a h = record {
+  unchanged = h.unchanged;
+  refuses = UnlessMemory-weaker e (λ none v p k. none v p (octets-value s v p k)) h.refuses;
+  kind = λ none. let l = leaf-value sequence true (SpellsAny (SpellsSome SpellsRelative)) s tt r a.spells in absurd (none l.0 r l.1);
+}
+
+-- ---- whether one value is left
+
+pub no-value-where-nothing : (s : List ℕ) → ((s ≡ [] → ⊥) → ⊥) → SpellsNothing SpellsAnyValue s
+no-value-where-nothing s h x v = h (λ e. omega (arith, value_some v, ap length e))
+
+-- ---- what the test for an end says
+
+pub at-end : (b : Bool) (s : List ℕ) → b ≡ true → IsTrue b ↔ (s ≡ []) → s ≡ []
+at-end b s e h = h.0 e
+
+pub not-at-end : (b : Bool) (s : List ℕ) → b ≡ false → IsTrue b ↔ (s ≡ []) → s ≡ [] → ⊥
+not-at-end b s e h end = let yes = h.1 end in cc

@@ -1,0 +1,155 @@
+-- Public keys that are written, and the bits of RSA keys.
+use Rattle.std.proofs.Common.{◌≡◌, ◌↔◌, ℕ, ◌+◌, ◌<◌, ◌≤◌, ◌^◌, true, false, List, [], ◌∷◌, ◌++◌, length, refl, sym, ap, ◌∙◌, arith, lit<, length-append}
+use Rattle.rpki_der.specs.declared.error.DecodeError.{DecodeError}
+use Rattle.rpki_der.specs.TagName.{IsTag, oid, null, sequence, bit_string, integer}
+use Rattle.rpki_der.specs.Header.{tlv}
+use Rattle.rpki_der.specs.Reading.{Spells, Refusal, SpellsNothing, UnlessMemory, TakesNoMemory, IsWholeFault}
+use Rattle.rpki_der.specs.Values.{SpellsLeaf, GivesOuterFault, IsOuterFault}
+use Rattle.rpki_der.specs.Leaves.{Bits, AreBits, IsBits, bits_of}
+use Rattle.rpki_der.specs.Contents.{bits_contents}
+use Rattle.rpki_der.specs.Integer.{IsUnsigned, IsMagnitude, unsigned_contents}
+use Rattle.rpki_der.specs.Number.{number_of, AreOctets}
+use Rattle.rpki_der.specs.Joined.{sequence_legal}
+use Rattle.rpki_der.proofs.ReadingLaws.{UnlessMemory-weaker}
+use Rattle.rpki_der.proofs.ComposedLaws.{not-read}
+use Rattle.rpki_der.proofs.EncodeLaws.{leaf_legal, tlv_same, tlv_same_then, tlv_at_least, tlv_at_most, bits_same, bits_spelled}
+use Rattle.rpki_der.proofs.UnsignedLaws.{unsigned_spelled, unsigned_at_most, magnitude_at_most}
+use Rattle.rpki.specs.declared.crypto.keys.PublicKeyFormat.{PublicKeyFormat}
+use Rattle.rpki.specs.declared.crypto.keys.PublicKeyFormat.TheVariants.{Rsa, EcdsaP256}
+use Rattle.rpki.specs.Oids.{rsa_encryption, ec_public_key, secp256r1}
+use Rattle.rpki.specs.InOrder.{SpellsBoth}
+use Rattle.rpki.specs.KeyFormat.{SpellsFormat, format_contents, format_octets}
+use Rattle.rpki.specs.PublicKey.{KeyParts, key_of, IsKeyContents, SpellsKey, key_contents, key_octets, SpellsRsaNumbers, SpellsRsaBits, IsRsaKey}
+use Rattle.rpki.proofs.FormatLaws.{format-short, format-spelled}
+
+-- ---- keys that are written
+
+pub bits-short : (k : KeyParts) → length (key_contents k) < 2 ^ 32 → length (bits_contents k.bits) < 2 ^ 32
+bits-short k short =
+    omega (arith, length-append (format_octets k.format) (tlv bit_string false (bits_contents k.bits)), tlv_at_least bit_string false (bits_contents k.bits))
+
+pub key-spelled : (k : KeyParts) → AreBits k.bits → length (key_contents k) < 2 ^ 32 → SpellsKey k (key_octets k)
+key-spelled k legal short =
+    let tag : IsTag bit_string = record { below = lit< tt; named = λ u. lit< tt } in
+    leaf_legal sequence true IsKeyContents k (key_contents k) sequence_legal short (record {
+      first = format_octets k.format;
+      second = tlv bit_string false (bits_contents k.bits);
+      parts = refl;
+      one = format-spelled k.format;
+      two = leaf_legal bit_string false IsBits k.bits (bits_contents k.bits) tag (bits-short k short) (bits_spelled k.bits legal);
+    })
+
+rsa-is-not-ec : (x y : List ℕ) → tlv oid false rsa_encryption ++ x ≡ tlv oid false ec_public_key ++ y → ⊥
+rsa-is-not-ec x y e = let same = (tlv_same_then oid false rsa_encryption ec_public_key x y (lit< tt) (lit< tt) e).0 in cc
+
+format-one : (f g : PublicKeyFormat) → format_contents f ≡ format_contents g → f ≡ g
+format-one Rsa Rsa e = refl
+format-one Rsa EcdsaP256 e = absurd (rsa-is-not-ec (tlv null false []) (tlv oid false secp256r1) e)
+format-one EcdsaP256 Rsa e = absurd (rsa-is-not-ec (tlv null false []) (tlv oid false secp256r1) (sym e))
+format-one EcdsaP256 EcdsaP256 e = refl
+
+pub format-same : (f g : PublicKeyFormat) → (format_octets f ≡ format_octets g) ↔ (f ≡ g)
+format-same f g = (
+  λ e. format-one f g (tlv_same sequence true (format_contents f) (format_contents g) (format-short f) (format-short g) e),
+  λ e. ap format_octets e,
+)
+
+pub same-bits-of : (a b : Bits) → a.unused ≡ b.unused → a.octets ≡ b.octets → a ≡ b
+same-bits-of a b p q = ap (λ (u : ℕ). bits_of u a.octets) p ∙ ap (λ (o : List ℕ). bits_of b.unused o) q
+
+pub same-key : (k l : KeyParts) → k.format ≡ l.format → k.bits ≡ l.bits → k ≡ l
+same-key k l p q = ap (λ (f : PublicKeyFormat). key_of f k.bits) p ∙ ap (λ (b : Bits). key_of l.format b) q
+
+pub key-same : (k l : KeyParts) → length (key_contents k) < 2 ^ 32 → length (key_contents l) < 2 ^ 32 → (key_octets k ≡ key_octets l) ↔ (k ≡ l)
+key-same k l short short' = (
+  λ e.
+      let c : format_octets k.format ++ tlv bit_string false (bits_contents k.bits) ≡ format_octets l.format ++ tlv bit_string false (bits_contents l.bits) =
+      tlv_same sequence true (key_contents k) (key_contents l) short short' e in
+      let p = tlv_same_then sequence true (format_contents k.format) (format_contents l.format) (tlv bit_string false (bits_contents k.bits)) (tlv bit_string false (bits_contents l.bits)) (format-short k.format) (format-short l.format) c in
+      let q = tlv_same bit_string false (bits_contents k.bits) (bits_contents l.bits) (bits-short k short) (bits-short l short') p.1 in
+      same-key k l (format-one k.format l.format p.0) (bits_same k.bits l.bits q),
+  λ e. ap key_octets e,
+)
+
+-- what was read
+pub only-key : (f : PublicKeyFormat) (b : Bits) (c : List ℕ) → ((x : PublicKeyFormat) (y : Bits) → SpellsBoth SpellsFormat (SpellsLeaf bit_string false IsBits) x y c → (x ≡ f) × (y ≡ b)) → (k : KeyParts) → IsKeyContents k c → k ≡ key_of f b
+only-key f b c one k h = let e = one k.format k.bits h in same-key k (key_of f b) e.0 e.1
+
+-- ---- the bits of RSA keys
+
+as-bits : (s : List ℕ) (k : KeyParts) (r : List ℕ) → Spells IsRsaKey s k r → Spells SpellsRsaBits s tt r
+as-bits s k r h = record { front = h.front; parts = h.parts; spelled = h.spelled.numbers }
+
+as-key : (s : List ℕ) (v : Unit {0}) (r : List ℕ) (h : Spells SpellsRsaBits s v r) → Spells IsRsaKey s (key_of Rsa (bits_of 0 h.front)) r
+as-key s v r h = record { front = h.front; parts = h.parts; spelled = record { format = refl; bits = refl; numbers = h.spelled } }
+
+pub no-rsa-key : (s : List ℕ) (e : DecodeError)
+    → UnlessMemory e (SpellsNothing SpellsRsaBits s) × TakesNoMemory (IsWholeFault SpellsRsaBits (GivesOuterFault sequence true)) s e
+    → UnlessMemory e (SpellsNothing IsRsaKey s) × TakesNoMemory (IsWholeFault IsRsaKey (GivesOuterFault sequence true)) s e
+no-rsa-key s e h = (
+  UnlessMemory-weaker e (λ none k g. none tt g.numbers) h.0,
+  record {
+    other = h.1.other;
+    kind = record {
+      trailing = λ k b more g. h.1.kind.trailing tt b more (as-bits s k (b ∷ more) g);
+      kind = λ none. h.1.kind.kind (λ v r g. none (key_of Rsa (bits_of 0 g.front)) r (as-key s v r g));
+    };
+  },
+)
+
+-- a reader of whole octets that takes no memory
+pub whole-refused : {V : Type 0} (G : V → List ℕ → Type 0) (s r : List ℕ) (e : DecodeError)
+    → Refusal G (IsOuterFault sequence true) s r e → UnlessMemory e (SpellsNothing G s) × TakesNoMemory (IsWholeFault G (GivesOuterFault sequence true)) s e
+whole-refused G s r e h =
+    let k = not-read G (GivesOuterFault sequence true) s r e (record { unchanged = h.unchanged; refuses = h.refuses; kind = h.kind.kind }) in
+    (k.0, record { other = h.kind.other; kind = k.1 })
+
+pub integer-legal : IsTag integer
+integer-legal = record { below = lit< tt; named = λ u. lit< tt }
+
+pub numbers-short : (m n : List ℕ) → length m + length n ≤ 2 ^ 31 → length (tlv integer false (unsigned_contents m) ++ tlv integer false (unsigned_contents n)) < 2 ^ 32
+numbers-short m n short =
+    omega (
+      arith,
+      length-append (tlv integer false (unsigned_contents m)) (tlv integer false (unsigned_contents n)),
+      tlv_at_most integer false (unsigned_contents m),
+      tlv_at_most integer false (unsigned_contents n),
+      unsigned_at_most m,
+      unsigned_at_most n,
+    )
+
+-- the two numbers that are written
+pub numbers-spelled : (m n : List ℕ) → IsMagnitude m → IsMagnitude n → length m + length n ≤ 2 ^ 31
+    → SpellsRsaNumbers (number_of m) (number_of n) (tlv sequence true (tlv integer false (unsigned_contents m) ++ tlv integer false (unsigned_contents n)))
+numbers-spelled m n p q short =
+    let one = tlv integer false (unsigned_contents m) in
+    let two = tlv integer false (unsigned_contents n) in
+    let sizes : length (one ++ two) < 2 ^ 32 = numbers-short m n short in
+    leaf_legal sequence true (λ (v : Unit {0}) c. SpellsBoth (SpellsLeaf integer false IsUnsigned) (SpellsLeaf integer false IsUnsigned) (number_of m) (number_of n) c) tt (one ++ two) sequence_legal sizes (record {
+      first = one;
+      second = two;
+      parts = refl;
+      one = leaf_legal integer false IsUnsigned (number_of m) (unsigned_contents m) integer-legal (omega (arith, unsigned_at_most m)) (unsigned_spelled m p);
+      two = leaf_legal integer false IsUnsigned (number_of n) (unsigned_contents n) integer-legal (omega (arith, unsigned_at_most n)) (unsigned_spelled n q);
+    })
+
+-- they are the bits of a key
+pub some-numbers : (m n : ℕ) (p : List ℕ) → SpellsRsaNumbers m n p → SpellsRsaBits tt p
+some-numbers m n p h = record { contents = h.contents; value = h.value; spelled = (m, n, h.spelled) }
+
+some-octets : (s : List ℕ) → (s ≡ [] → ⊥) → 0 < length s
+some-octets [] ne = absurd (ne refl)
+some-octets (x ∷ s) ne = omega arith
+
+-- the numbers of two slices
+pub shorter : (u s : List ℕ) → IsMagnitude u → AreOctets s → (s ≡ [] → ⊥) → number_of u ≡ number_of s → length u ≤ length s
+shorter u s m o ne e = magnitude_at_most u s m o (some-octets s ne) e
+
+abbrev pub two_integers : List ℕ → List ℕ → List ℕ
+two_integers m n = tlv integer false (unsigned_contents m) ++ tlv integer false (unsigned_contents n)
+
+pub rsa-bits : (modulus exponent m n octets : List ℕ) → IsMagnitude m → IsMagnitude n → length m + length n ≤ 2 ^ 31 → number_of m ≡ number_of modulus → number_of n ≡ number_of exponent
+    → octets ≡ tlv sequence true (two_integers m n) → SpellsRsaNumbers (number_of modulus) (number_of exponent) octets
+rsa-bits modulus exponent m n octets p q short e f is =
+    let h : SpellsRsaNumbers (number_of m) (number_of n) octets = rw is (numbers-spelled m n p q short) in
+    rw (← e, ← f) h

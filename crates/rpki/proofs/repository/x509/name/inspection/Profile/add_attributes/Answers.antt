@@ -1,0 +1,46 @@
+use Rattle.std.proofs.Common.{[], ◌∷◌, ◌++◌, true, subst, sym}
+use Rattle.rpki_der.specs.Cursor.{left}
+use Rattle.rpki_der.specs.TagName.{sequence}
+use Rattle.rpki.specs.Name.{Attribute, IsAttribute, SpellsAttribute, IsIdentifierThen}
+use Rattle.rpki.specs.StrictName.{IsStrict}
+use Rattle.rpki.specs.InspectName.{IsFound}
+use Rattle.rpki.specs.InspectedName.{permitted, found_of}
+use Rattle.rpki.proofs.NameLaws.{leaf-shorter, leaf-nowhere, at-end, not-at-end}
+use Rattle.rpki.proofs.InspectionLaws.{join-attributes, through-nothing, through-more, through-refused, through-all, no-attribute, this-attribute}
+use Rattle.rpki.proofs.repository.x509.name.inspection.Profile.add_attributes.Goals as goal
+
+pub attributes-init : goal.attributes-init
+attributes-init c = through-nothing SpellsAttribute (λ xs. xs) (permitted c.args.self) (found_of c.args.found) (left c.args.contents) join-attributes
+
+pub returns-in-Err : goal.returns-in-Err
+returns-in-Err c =
+    λ xs h.
+    through-refused SpellsAttribute (λ ys. ys) (permitted c.args.self) (found_of c.args.found) (found_of c.attributes.all) _ (left c.attributes.rest) join-attributes
+    (not-at-end _ _ c.attributes-test.true c.is_empty.ensures) c.attributes.invariant
+    (λ v q g. absurd (no-attribute (left c.attributes.rest) _ _ c.in-Err.ensures v q g)) xs h.each
+
+pub returns-in-Err-add : goal.returns-in-Err-add
+returns-in-Err-add c =
+    λ xs h.
+    through-refused SpellsAttribute (λ ys. ys) (permitted c.args.self) (found_of c.args.found) (found_of c.attributes.all) _ (left c.attributes.rest) join-attributes
+    (not-at-end _ _ c.attributes-test.true c.is_empty.ensures) c.attributes.invariant
+    (λ v q g before rest f strict.
+    let k = this-attribute (left c.attributes.rest) _ _ c.in-Ok.ensures v q g in
+    c.in-Err-add.ensures before rest f (subst (λ (a : Attribute). IsStrict (permitted c.args.self) ((before ++ a ∷ []) ++ rest)) k.1 strict)) xs h.each
+
+pub attributes-smaller : goal.attributes-smaller
+attributes-smaller c = leaf-shorter sequence true IsIdentifierThen (left c.attributes.rest) _ (left c.take_identifier.new.cons) c.in-Ok.ensures.spells
+
+pub attributes-preserved : goal.attributes-preserved
+attributes-preserved c =
+    through-more SpellsAttribute (λ ys. ys) (permitted c.args.self) (found_of c.args.found) (found_of c.attributes.all) (found_of c.in-Ok-add.all) _ (left c.attributes.rest) _ join-attributes
+    (not-at-end _ _ c.attributes-test.true c.is_empty.ensures) c.attributes.invariant
+    (λ v q g.
+    let k = this-attribute (left c.attributes.rest) _ _ c.in-Ok.ensures v q g in
+    (k.0, λ before f. subst (λ (a : Attribute). IsFound (permitted c.args.self) (found_of c.in-Ok-add.all) (before ++ a ∷ [])) (sym k.1) (c.in-Ok-add.ensures before f)))
+
+pub returns : goal.returns
+returns c =
+    λ xs h.
+    through-all SpellsAttribute (λ ys. ys) (permitted c.args.self) (found_of c.args.found) (found_of c.attributes.all) _ (left c.attributes.rest)
+    (λ v q g. leaf-nowhere sequence true IsAttribute (left c.attributes.rest) v q (at-end _ _ c.attributes-test.false c.is_empty.ensures) g) c.attributes.invariant xs h.each

@@ -1,0 +1,33 @@
+use Rattle.std.proofs.Common.{[]}
+use Rattle.rpki_der.specs.Cursor.{left}
+use Rattle.rpki_der.specs.TagName.{sequence}
+use Rattle.rpki_der.proofs.ComposedLaws.{spelled-whole}
+use Rattle.rpki.specs.Name.{SpellsSome, SpellsRelative, SpellsName}
+use Rattle.rpki.specs.StrictName.{attributes}
+use Rattle.rpki.specs.InspectedName.{permitted, found_of}
+use Rattle.rpki.proofs.InspectionLaws.{no-contents, these-contents, never-strict, nothing-found, found-nameless, found-strict, is-not, is-so}
+use Rattle.rpki.proofs.repository.x509.name.inspection.Profile.inspect.Goals as goal
+
+pub returns-in-Err : goal.returns-in-Err
+returns-in-Err c =
+    λ parts h strict. no-contents sequence (SpellsSome SpellsRelative) (left c.args.name) _ _ c.in-Err.ensures parts [] (spelled-whole SpellsName (left c.args.name) parts h)
+
+pub returns-in-Err-add_relatives : goal.returns-in-Err-add_relatives
+returns-in-Err-add_relatives c =
+    λ parts h.
+    let k = these-contents sequence (SpellsSome SpellsRelative) (left c.args.name) _ _ c.in-Ok.ensures parts [] (spelled-whole SpellsName (left c.args.name) parts h) in
+    never-strict (permitted c.args.self) (attributes parts) (c.in-Err-add_relatives.ensures parts k.1)
+
+pub returns-then-not-found : goal.returns-then-not-found
+returns-then-not-found c =
+    λ parts h.
+    let k = these-contents sequence (SpellsSome SpellsRelative) (left c.args.name) _ _ c.in-Ok.ensures parts [] (spelled-whole SpellsName (left c.args.name) parts h) in
+    let all = c.in-Ok-add_relatives.ensures parts k.1 [] (nothing-found (permitted c.args.self)) in
+    found-nameless (permitted c.args.self) (found_of c.in-Ok-add_relatives.found) (attributes parts) all (is-not _ c.if-not-found.true)
+
+pub returns : goal.returns
+returns c =
+    λ parts h.
+    let k = these-contents sequence (SpellsSome SpellsRelative) (left c.args.name) _ _ c.in-Ok.ensures parts [] (spelled-whole SpellsName (left c.args.name) parts h) in
+    let all = c.in-Ok-add_relatives.ensures parts k.1 [] (nothing-found (permitted c.args.self)) in
+    found-strict (permitted c.args.self) (found_of c.in-Ok-add_relatives.found) (attributes parts) all (is-so _ c.if-not-found.false)

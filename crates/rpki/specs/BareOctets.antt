@@ -1,0 +1,32 @@
+-- The one spelling of an algorithm identifier that has no parameters.
+use Rattle.std.specs.Prelude.{◌≡◌, ℕ, ◌<◌, ◌^◌, true, false, List, length, refl}
+use Rattle.std.proofs.Common.{arith, ap, ◌∙◌}
+use Rattle.rpki_der.specs.TagName.{oid, sequence}
+use Rattle.rpki_der.specs.Header.{tlv}
+use Rattle.rpki_der.specs.Leaves.{IsOnly}
+use Rattle.rpki_der.specs.Values.{SpellsLeaf}
+use Rattle.rpki_der.specs.Members.{IsValue}
+use Rattle.rpki_der.specs.Joined.{sequence_legal}
+use Rattle.rpki_der.proofs.EncodeLaws.{leaf_legal, tlv_at_most}
+use Rattle.rpki_der.proofs.LeafValues.{leaf_value_alone, composed_value_alone}
+use Rattle.rpki.specs.AlgorithmOctets.{oid-legal}
+use Rattle.rpki.specs.SignatureNames.{SpellsBare, bare_octets}
+
+pub bare-short : (o : List ℕ) → length o < 2 ^ 31 → length (tlv oid false o) < 2 ^ 32
+bare-short o short = omega (arith, tlv_at_most oid false o)
+
+-- what is written is the identifier
+pub bare-spelled : (o : List ℕ) (v : Unit {0}) → length o < 2 ^ 31 → SpellsBare o v (bare_octets o)
+bare-spelled o v short =
+    leaf_legal sequence true (SpellsLeaf oid false (IsOnly o)) v (tlv oid false o) sequence_legal (bare-short o short)
+    (leaf_legal oid false (IsOnly o) v o oid-legal (omega arith) refl)
+
+-- the identifier is one value
+pub bare-value : (o : List ℕ) (v : Unit {0}) (s : List ℕ) → SpellsBare o v s → IsValue s
+bare-value o v s h = composed_value_alone sequence (SpellsLeaf oid false (IsOnly o)) v s (λ c k. (1, leaf_value_alone oid (IsOnly o) v c k)) h
+
+-- and is spelled in one way
+pub bare-is : (o : List ℕ) (v : Unit {0}) (s : List ℕ) → SpellsBare o v s → s ≡ bare_octets o
+bare-is o v s h =
+    let k = h.spelled in
+    h.value.octets ∙ ap (λ (c : List ℕ). tlv sequence true c) (k.value.octets ∙ ap (λ (c : List ℕ). tlv oid false c) k.spelled)

@@ -1,0 +1,33 @@
+-- What the errors of the repository hold.
+use Rattle.std.specs.Prelude.{ℕ, List, Option, Some, None}
+use Rattle.rpki_der.specs.ErrorText.{text_of}
+use Rattle.rpki_der.specs.declared.error.ContentError.{ContentError}
+use Rattle.rpki_der.specs.declared.error.DecodeError.{DecodeError}
+use Rattle.rpki_der.specs.declared.error.DecodeError.TheVariants.{Truncated, BadTag, BadLength, Unexpected, Content, Trailing, OutOfMemory}
+use Rattle.rpki.specs.declared.repository.error.InspectionError.{InspectionError}
+use Rattle.rpki.specs.declared.repository.error.VerificationError.{VerificationError}
+use Rattle.rpki.specs.declared.repository.error.ValidationError.{ValidationError}
+use Rattle.rpki.specs.declared.repository.error.ValidationError.TheVariants.{Decoding, Inspection, Verification}
+
+-- the error of contents inside
+abbrev pub content_of : InspectionError → ContentError
+content_of e = e.inner
+
+abbrev pub verification_content : VerificationError → ContentError
+verification_content e = e.inner
+
+-- the text of a refusal of contents; of the other refusals nothing is said
+abbrev pub decode_text : DecodeError → Option (List ℕ)
+decode_text (Content e) = Some (text_of e)
+decode_text Truncated = None
+decode_text BadTag = None
+decode_text BadLength = None
+decode_text Unexpected = None
+decode_text Trailing = None
+decode_text OutOfMemory = None
+
+-- the text that is passed on
+abbrev pub validation_text : ValidationError → Option (List ℕ)
+validation_text (Decoding e) = decode_text e
+validation_text (Inspection e) = Some (text_of (content_of e))
+validation_text (Verification e) = Some (text_of (verification_content e))

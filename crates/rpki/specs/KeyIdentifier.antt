@@ -1,0 +1,47 @@
+-- Key identifiers: the SHA-1 digest of a key's bits (RFC 6487 4.8.2, RFC 5280 4.2.1.2).
+use Rattle.std.specs.Prelude.{◌≡◌, ℕ, false, List, length, codes, map}
+use Rattle.std.specs.Char.{to_ascii_uppercase}
+use Rattle.rpki_der.specs.declared.error.DecodeError.{DecodeError}
+use Rattle.rpki_der.specs.declared.error.DecodeError.TheVariants.{Truncated, BadTag, BadLength, Unexpected, Content, Trailing, OutOfMemory}
+use Rattle.rpki_der.specs.ErrorText.{text_of}
+use Rattle.rpki_der.specs.TagName.{octet_string}
+use Rattle.rpki_der.specs.Values.{SpellsLeaf, IsLeafFault}
+use Rattle.rpki_der.specs.Number.{AreOctets}
+use Rattle.rpki_text.specs.HexText.{hex_text}
+
+-- twenty octets (RFC 6487 4.8.2)
+pub record IsKeyIdentifier (k c : List ℕ) : Type 0 where
+  pub same : c ≡ k
+  pub size : length c ≡ 20
+
+-- an OCTET STRING of them (RFC 5280 4.2.1.2)
+abbrev pub SpellsKeyIdentifier : List ℕ → List ℕ → Type 0
+SpellsKeyIdentifier = SpellsLeaf octet_string false IsKeyIdentifier
+
+-- the same, whichever it is
+abbrev pub IsAnyKeyIdentifier : Unit {0} → List ℕ → Type 0
+IsAnyKeyIdentifier v c = length c ≡ 20
+
+abbrev pub identifier_error : List ℕ
+identifier_error = codes "invalid key identifier"
+
+-- a refusal of contents has this text
+abbrev pub TellsOfContents : DecodeError → Type 0
+TellsOfContents (Content e) = text_of e ≡ identifier_error
+TellsOfContents Truncated = Unit {0}
+TellsOfContents BadTag = Unit {0}
+TellsOfContents BadLength = Unit {0}
+TellsOfContents Unexpected = Unit {0}
+TellsOfContents Trailing = Unit {0}
+TellsOfContents OutOfMemory = Unit {0}
+
+-- the first fault of an OCTET STRING whose contents are C, with the text for another number of octets
+pub record IsIdentifierFault {V : Type 0} (C : V → List ℕ → Type 0) (s : List ℕ) (e : DecodeError) : Type 0 where
+  pub fault : IsLeafFault octet_string false C s e
+  pub text : TellsOfContents e
+
+-- forty hexadecimal digits, in either case
+pub record IsHexOf (k text : List ℕ) : Type 0 where
+  pub octets : AreOctets k
+  pub size : length k ≡ 20
+  pub digits : map to_ascii_uppercase text ≡ hex_text k

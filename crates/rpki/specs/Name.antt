@@ -1,0 +1,61 @@
+-- Names: a SEQUENCE of relative distinguished names, each a SET of attributes (RFC 5280 4.1.2.4, X.501 9.2).
+use Rattle.std.specs.Prelude.{◌≡◌, ◌≢◌, ℕ, true, false, List, [], ◌∷◌, ◌++◌}
+use Rattle.rpki_der.specs.TagName.{oid, sequence, set}
+use Rattle.rpki_der.specs.Reading.{Spells}
+use Rattle.rpki_der.specs.Values.{SpellsLeaf}
+use Rattle.rpki_der.specs.Leaves.{IsOidOf}
+use Rattle.rpki_der.specs.Members.{IsValue}
+
+-- an attribute: the contents octets of its identifier, and the octets of its value
+pub record Attribute : Type 0 where
+  pub identifier : List ℕ
+  pub value : List ℕ
+
+abbrev pub attribute_of : List ℕ → List ℕ → Attribute
+attribute_of identifier value = record { identifier = identifier; value = value }
+
+-- an OBJECT IDENTIFIER, and any octets behind it
+pub record IsIdentifierThen (a : Attribute) (c : List ℕ) : Type 0 where
+  pub front : List ℕ
+  pub parts : c ≡ front ++ a.value
+  pub identifier : SpellsLeaf oid false IsOidOf a.identifier front
+
+-- an OBJECT IDENTIFIER, and one value behind it
+pub record IsAttribute (a : Attribute) (c : List ℕ) : Type 0 where
+  pub identified : IsIdentifierThen a c
+  pub one : IsValue a.value
+
+-- an attribute
+abbrev pub SpellsAttribute : Attribute → List ℕ → Type 0
+SpellsAttribute = SpellsLeaf sequence true IsAttribute
+
+-- the spellings of these values, one after another
+abbrev pub SpellsEach : {V : Type 0} → (V → List ℕ → Type 0) → List V → List ℕ → Type 0
+SpellsEach G [] p = p ≡ []
+SpellsEach G (v ∷ vs) p = (behind : List ℕ) × Spells G p v behind × SpellsEach G vs behind
+
+-- the same of one value at least
+pub record SpellsSome {V : Type 0} (G : V → List ℕ → Type 0) (vs : List V) (p : List ℕ) : Type 0 where
+  pub some : vs ≢ []
+  pub each : SpellsEach G vs p
+
+-- a relative distinguished name: a SET of attributes, in whatever order
+abbrev pub SpellsRelative : List Attribute → List ℕ → Type 0
+SpellsRelative = SpellsLeaf set true (SpellsSome SpellsAttribute)
+
+-- a name: a SEQUENCE of relative distinguished names
+abbrev pub SpellsName : List (List Attribute) → List ℕ → Type 0
+SpellsName = SpellsLeaf sequence true (SpellsSome SpellsRelative)
+
+-- these octets are a name
+abbrev pub IsName : List ℕ → Type 0
+IsName octets = (parts : List (List Attribute)) × SpellsName parts octets
+
+-- the grammar of names: a name stands for its own octets
+pub record SpellsNameOctets (v p : List ℕ) : Type 0 where
+  pub same : p ≡ v
+  pub named : IsName v
+
+-- some value is spelled, whichever
+abbrev pub SpellsAny : {V : Type 0} → (V → List ℕ → Type 0) → Unit {0} → List ℕ → Type 0
+SpellsAny {V} G x p = (v : V) × G v p

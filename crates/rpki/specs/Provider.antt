@@ -1,0 +1,17 @@
+-- What a provider of digests and of checks of signatures answers: functions of lists of octets.
+use Rattle.std.specs.Prelude.{ℕ, Bool, ◌≡◌, List, IsTrue}
+use Rattle.rpki.specs.declared.crypto.keys.PublicKeyFormat.{PublicKeyFormat}
+use Rattle.rpki.specs.declared.crypto.keys.PublicKeyFormat.TheVariants.{Rsa, EcdsaP256}
+
+-- whether a signature verifies: of the key's bits, the message and the signature
+abbrev pub Check : Type 0
+Check = List ℕ → List ℕ → List ℕ → Bool
+
+-- the check of a format of keys
+abbrev pub check_of : Check → Check → PublicKeyFormat → Check
+check_of rsa ecdsa Rsa = rsa
+check_of rsa ecdsa EcdsaP256 = ecdsa
+
+-- The key's format is the one that is asked for, and that format's check says so.
+abbrev pub Verifies : Check → Check → PublicKeyFormat → PublicKeyFormat → List ℕ → List ℕ → List ℕ → Type 0
+Verifies rsa ecdsa asked format bits message value = (format ≡ asked) × IsTrue (check_of rsa ecdsa format bits message value)

@@ -1,0 +1,51 @@
+-- Public keys (SubjectPublicKeyInfo, RFC 5280 4.1 and 4.1.2.7).
+use Rattle.std.specs.Prelude.{◌≡◌, ℕ, true, false, List, ◌++◌}
+use Rattle.rpki_der.specs.TagName.{sequence, bit_string, integer}
+use Rattle.rpki_der.specs.Header.{tlv}
+use Rattle.rpki_der.specs.Values.{SpellsLeaf}
+use Rattle.rpki_der.specs.Leaves.{Bits, IsBits, bits_of}
+use Rattle.rpki_der.specs.Contents.{bits_contents}
+use Rattle.rpki_der.specs.Integer.{IsUnsigned}
+use Rattle.rpki.specs.declared.crypto.keys.PublicKeyFormat.{PublicKeyFormat}
+use Rattle.rpki.specs.declared.crypto.keys.PublicKeyFormat.TheVariants.{Rsa}
+use Rattle.rpki.specs.InOrder.{SpellsBoth}
+use Rattle.rpki.specs.KeyFormat.{SpellsFormat, format_octets}
+
+-- the format, and the bits of the key
+pub record KeyParts : Type 0 where
+  pub format : PublicKeyFormat
+  pub bits : Bits
+
+abbrev pub key_of : PublicKeyFormat → Bits → KeyParts
+key_of format bits = record { format = format; bits = bits }
+
+-- the two, one behind the other
+abbrev pub IsKeyContents : KeyParts → List ℕ → Type 0
+IsKeyContents k c = SpellsBoth SpellsFormat (SpellsLeaf bit_string false IsBits) k.format k.bits c
+
+abbrev pub SpellsKey : KeyParts → List ℕ → Type 0
+SpellsKey = SpellsLeaf sequence true IsKeyContents
+
+-- what is written
+abbrev pub key_contents : KeyParts → List ℕ
+key_contents k = format_octets k.format ++ tlv bit_string false (bits_contents k.bits)
+
+abbrev pub key_octets : KeyParts → List ℕ
+key_octets k = tlv sequence true (key_contents k)
+
+-- the bits of an RSA key: modulus and exponent, two INTEGERs that are not negative (RFC 8017 A.1.1, RFC 3279 2.3.1)
+abbrev pub SpellsRsaNumbers : ℕ → ℕ → List ℕ → Type 0
+SpellsRsaNumbers modulus exponent = SpellsLeaf sequence true (λ (v : Unit {0}) c. SpellsBoth (SpellsLeaf integer false IsUnsigned) (SpellsLeaf integer false IsUnsigned) modulus exponent c) tt
+
+-- the same of some numbers
+abbrev pub AreTwoNumbers : Unit {0} → List ℕ → Type 0
+AreTwoNumbers v c = (modulus : ℕ) × (exponent : ℕ) × SpellsBoth (SpellsLeaf integer false IsUnsigned) (SpellsLeaf integer false IsUnsigned) modulus exponent c
+
+abbrev pub SpellsRsaBits : Unit {0} → List ℕ → Type 0
+SpellsRsaBits = SpellsLeaf sequence true AreTwoNumbers
+
+-- the key with these bits
+pub record IsRsaKey (k : KeyParts) (p : List ℕ) : Type 0 where
+  pub format : k.format ≡ Rsa
+  pub bits : k.bits ≡ bits_of 0 p
+  pub numbers : SpellsRsaBits tt p

@@ -1,0 +1,75 @@
+//! Digests, keys and signatures.
+
+ghost use Rattle.std.specs.Prelude.{◌≡◌, ℕ, List, Bool};
+ghost use Rattle.rpki.specs.Format.{format_of};
+
+pub mod digest;
+mod identifier;
+pub mod keys;
+pub(crate) mod parameters;
+pub mod signature;
+
+pub use digest::{DigestAlgorithm, sha1_digest};
+pub use keys::{
+    KeyIdentifier, KeyIdentifierSliceError, ParseKeyIdentifierError, PublicKey, PublicKeyCn,
+    PublicKeyFormat, PublicKeyFormatEncoder, SignatureVerificationError,
+};
+pub use signature::{
+    BgpsecSignatureAlgorithm, RpkiSignature, RpkiSignatureAlgorithm, Signature, SignatureAlgorithm,
+};
+
+/// How certificates and BGPsec updates are signed (RFC 7935 2, RFC 8608 2).
+#[derive(Clone, Copy, Debug, PartialEq, Eq)]
+pub enum SigningAlgorithm {
+    /// RSA with PKCS #1 v1.5 padding and SHA-256.
+    RsaSha256,
+    /// ECDSA on the curve P-256 with SHA-256.
+    EcdsaP256Sha256,
+}
+
+impl SigningAlgorithm {
+    /// The format of the keys that the algorithm signs with.
+    pub fn public_key_format(self) -> PublicKeyFormat
+        ensures { result ≡ format_of self }
+    {
+        match self {
+            SigningAlgorithm::RsaSha256 => PublicKeyFormat::Rsa,
+            SigningAlgorithm::EcdsaP256Sha256 => PublicKeyFormat::EcdsaP256,
+        }
+    }
+}
+
+/// What makes digests and checks signatures. The layer itself does neither.
+///
+/// Each answer is a function of the provider's value and the arguments.
+pub trait Provider {
+    ghost use Rattle.rpki.specs.Provider.{Check};
+
+    /// The digest by SHA-1.
+    ghost sha1_of: { Self → List ℕ → List ℕ };
+
+    /// The digest by SHA-256.
+    ghost sha256_of: { Self → List ℕ → List ℕ };
+
+    /// Whether an RSA signature verifies: of the key's bits, the message and the signature.
+    ghost rsa_of: { Self → Check };
+
+    /// Whether an ECDSA signature verifies.
+    ghost ecdsa_of: { Self → Check };
+
+    /// The digest of the octets by SHA-1 (FIPS 180-4).
+    fn sha1(&self, octets: &[u8]) -> [u8; 20]
+        ensures { result ≡ sha1_of self.now octets.now };
+
+    /// The digest of the octets by SHA-256 (FIPS 180-4).
+    fn sha256(&self, octets: &[u8]) -> [u8; 32]
+        ensures { result ≡ sha256_of self.now octets.now };
+
+    /// Whether this is the signature of the message by the RSA key with these bits.
+    fn rsa_check(&self, bits: &[u8], message: &[u8], signature: &[u8]) -> bool
+        ensures { result ≡ rsa_of self.now bits.now message.now signature.now };
+
+    /// Whether this is the signature of the message by the P-256 key with these bits.
+    fn ecdsa_check(&self, bits: &[u8], message: &[u8], signature: &[u8]) -> bool
+        ensures { result ≡ ecdsa_of self.now bits.now message.now signature.now };
+}

@@ -1,0 +1,163 @@
+//! Digests, and the algorithm identifier of their algorithm.
+
+ghost use Rattle.std.specs.Prelude.{◌≡◌, true, false, IsTrue};
+ghost use Rattle.rpki_der.specs.Cursor.{left};
+ghost use Rattle.rpki_der.specs.TagName.{oid, sequence, set};
+ghost use Rattle.rpki_der.specs.Reading.{Reads, ReadsWhere};
+ghost use Rattle.rpki_der.specs.Values.{HasTag, IsOuterFault, IsLeafFault};
+ghost use Rattle.rpki_der.specs.Leaves.{IsOnly};
+ghost use Rattle.rpki.specs.Oids.{sha256};
+ghost use Rattle.rpki.specs.Digest.{SpellsDigest, SpellsDigestSet, SpellsDigestName, digest_octets, digest_set_octets, digest_name_octets};
+
+use crate::crypto::Provider;
+use crate::crypto::identifier::take_algorithm;
+use crate::oid;
+use rpki_der::{
+    ConstOid, Constructed, DecodeError, Primitive, PrimitiveContent, Sequence, Set, Values,
+};
+
+/// The algorithm of digests: SHA-256 (RFC 7935 2, FIPS 180-4). There is no other.
+#[derive(Clone, Copy, Debug, Default, PartialEq, Eq, Hash)]
+pub struct DigestAlgorithm {
+    only: (),
+}
+
+impl DigestAlgorithm {
+    /// SHA-256.
+    pub fn sha256() -> DigestAlgorithm {
+        DigestAlgorithm { only: () }
+    }
+
+    /// Whether it is SHA-256, as it always is.
+    pub fn is_sha256(self) -> bool
+        ensures { IsTrue result }
+    {
+        true
+    }
+
+    /// How many octets a digest has: 32.
+    pub fn digest_len(&self) -> usize
+        ensures { result ≡ 32 }
+    {
+        32
+    }
+
+    /// The digest of the octets by this algorithm, which the provider makes.
+    pub fn digest<P: Provider>(&self, provider: &P, octets: &[u8]) -> [u8; 32]
+        ensures { result ≡ P.sha256_of provider.now octets.now }
+    {
+        provider.sha256(octets)
+    }
+
+    /// The algorithm identifier of SHA-256 (RFC 5754 2.2), with a NULL or without. It takes no memory.
+    ///
+    /// The refusals of a SEQUENCE where that refuses; Content for another object identifier; Trailing for other
+    /// parameters.
+    pub fn take_from(cons: &mut Constructed<'_>) -> Result<DigestAlgorithm, DecodeError>
+        ensures { Reads (λ _. tt) SpellsDigest (IsOuterFault sequence true) (left cons.old) (left cons.new) result }
+    {
+        match take_algorithm(cons, oid::SHA256) {
+            Ok(_) => Ok(DigestAlgorithm::sha256()),
+            Err(e) => Err(e),
+        }
+    }
+
+    /// The same where what is left begins with the identifier octets of a SEQUENCE, in either form; else None.
+    pub fn take_opt_from(cons: &mut Constructed<'_>) -> Result<Option<DigestAlgorithm>, DecodeError>
+        ensures { ReadsWhere (HasTag sequence) (λ _. tt) SpellsDigest (IsOuterFault sequence true) (left cons.old) (left cons.new) result }
+    {
+        let mut ahead = *cons;
+        if let Ok(None) = ahead.take_opt_sequence() {
+            return Ok(None);
+        }
+        match DigestAlgorithm::take_from(cons) {
+            Ok(algorithm) => Ok(Some(algorithm)),
+            Err(e) => Err(e),
+        }
+    }
+
+    /// A SET of exactly one algorithm identifier (RFC 5652 5.1, RFC 6488 2.1.2). It takes no memory.
+    ///
+    /// The refusals of a SET where that refuses; those of [DigestAlgorithm::take_from]; Trailing where more follows in
+    /// the SET.
+    pub fn take_set_from(cons: &mut Constructed<'_>) -> Result<DigestAlgorithm, DecodeError>
+        ensures { Reads (λ _. tt) SpellsDigestSet (IsOuterFault set true) (left cons.old) (left cons.new) result }
+    {
+        let mut after = *cons;
+        let mut contents = match after.take_set() {
+            Ok(contents) => contents,
+            Err(e) => return Err(e),
+        };
+        let algorithm = match DigestAlgorithm::take_from(&mut contents) {
+            Ok(algorithm) => algorithm,
+            Err(e) => return Err(e),
+        };
+        match contents.finish() {
+            Ok(()) => {
+                *cons = after;
+                Ok(algorithm)
+            }
+            Err(e) => Err(e),
+        }
+    }
+
+    /// Moves past a SET of exactly one algorithm identifier, as [DigestAlgorithm::take_set_from].
+    pub fn skip_set(cons: &mut Constructed<'_>) -> Result<(), DecodeError>
+        ensures { Reads (λ _. tt) SpellsDigestSet (IsOuterFault set true) (left cons.old) (left cons.new) result }
+    {
+        match DigestAlgorithm::take_set_from(cons) {
+            Ok(_) => Ok(()),
+            Err(e) => Err(e),
+        }
+    }
+
+    /// The object identifier of SHA-256 alone.
+    ///
+    /// The refusals are those of a header; then Unexpected for another tag or form; then Truncated; then Content for
+    /// another identifier.
+    pub fn take_oid_from(cons: &mut Constructed<'_>) -> Result<DigestAlgorithm, DecodeError>
+        ensures { Reads (λ _. tt) SpellsDigestName (IsLeafFault oid false (IsOnly sha256)) (left cons.old) (left cons.new) result }
+    {
+        match cons.skip_oid_if(oid::SHA256) {
+            Ok(()) => Ok(DigestAlgorithm::sha256()),
+            Err(e) => Err(e),
+        }
+    }
+
+    /// What writes the algorithm identifier, without parameters (RFC 5754 2).
+    pub fn encode(self) -> Sequence<Primitive<ConstOid>>
+        ensures octets { ⟦<Sequence<Primitive<ConstOid>> as Values>⟧.encoded result ≡ digest_octets }
+        ensures short { ⟦<Sequence<Primitive<ConstOid>> as Values>⟧.is_short result }
+        // What is written is read again.
+        ensures read_back { SpellsDigest tt digest_octets }
+    {
+        Sequence::new(oid::SHA256.encode())
+    }
+
+    /// What writes a SET of the algorithm identifier alone.
+    pub fn encode_set(self) -> Set<Sequence<Primitive<ConstOid>>>
+        ensures octets { ⟦<Set<Sequence<Primitive<ConstOid>>> as Values>⟧.encoded result ≡ digest_set_octets }
+        ensures short { ⟦<Set<Sequence<Primitive<ConstOid>>> as Values>⟧.is_short result }
+        // What is written is read again.
+        ensures read_back { SpellsDigestSet tt digest_set_octets }
+    {
+        Set::new(self.encode())
+    }
+
+    /// What writes the object identifier alone.
+    pub fn encode_oid(self) -> Primitive<ConstOid>
+        ensures octets { ⟦<Primitive<ConstOid> as Values>⟧.encoded result ≡ digest_name_octets }
+        ensures short { ⟦<Primitive<ConstOid> as Values>⟧.is_short result }
+        // What is written is read again.
+        ensures read_back { SpellsDigestName tt digest_name_octets }
+    {
+        oid::SHA256.encode()
+    }
+}
+
+/// The digest of the octets by SHA-1 (FIPS 180-4), which the provider makes. It serves for key identifiers alone.
+pub fn sha1_digest<P: Provider>(provider: &P, octets: &[u8]) -> [u8; 20]
+    ensures { result ≡ P.sha1_of provider.now octets.now }
+{
+    provider.sha1(octets)
+}

@@ -1,0 +1,123 @@
+//! Formats of public keys, as algorithm identifiers.
+
+ghost use Rattle.std.specs.Prelude.{◌≡◌, ◌≢◌, ◌↔◌, IsTrue, true, codes};
+ghost use Rattle.rpki_der.specs.Cursor.{left};
+ghost use Rattle.rpki_der.specs.TagName.{sequence};
+ghost use Rattle.rpki_der.specs.Reading.{Reads, Decodes};
+ghost use Rattle.rpki_der.specs.Values.{IsOuterFault};
+ghost use Rattle.rpki.specs.declared.crypto.keys.PublicKeyFormat.{PublicKeyFormat};
+ghost use Rattle.rpki.specs.KeyFormat.{IsFormatContents, SpellsFormat, IsFormatName, format_octets};
+ghost use Rattle.rpki.specs.Unknown.{BeginsUnknown, NamesUnknown, IsRefusedWith};
+
+use crate::crypto::parameters::{is_named, take_only, take_parameters};
+use crate::crypto::{PublicKeyFormat, RpkiSignatureAlgorithm};
+use crate::oid;
+use rpki_der::{
+    ConstOid, Constructed, ContentError, DecodeError, Primitive, PrimitiveContent, Sequence, Values,
+};
+
+/// What writes a format of keys: its object identifier, and then a NULL for RSA or the curve for P-256.
+pub type PublicKeyFormatEncoder = Sequence<
+    (
+        Primitive<ConstOid>,
+        Option<Primitive<()>>,
+        Option<Primitive<ConstOid>>,
+    ),
+>;
+
+impl PublicKeyFormat {
+    /// Whether certificates of the RPKI may have keys of this format: RSA alone (RFC 7935 3).
+    pub fn allow_rpki_cert(self) -> bool
+        ensures { IsTrue result ↔ (self ≡ PublicKeyFormat.Rsa) }
+    {
+        matches!(self, PublicKeyFormat::Rsa)
+    }
+
+    /// Whether certificates of BGPsec routers may have keys of this format: P-256 alone (RFC 8608 3).
+    pub fn allow_router_cert(self) -> bool
+        ensures { IsTrue result ↔ (self ≡ PublicKeyFormat.EcdsaP256) }
+    {
+        matches!(self, PublicKeyFormat::EcdsaP256)
+    }
+
+    /// The algorithm identifier of a format of keys (RFC 5280 4.1.2.7): rsaEncryption with a NULL or without, or
+    /// id-ecPublicKey with the curve P-256. It takes no memory.
+    ///
+    /// The refusals of a SEQUENCE where that refuses; Content `invalid public key format` for another object
+    /// identifier; else that of the part that refuses, and Trailing for octets that follow the parts.
+    pub fn take_from(cons: &mut Constructed<'_>) -> Result<PublicKeyFormat, DecodeError>
+        ensures reads { Reads (λ f. f) SpellsFormat (IsOuterFault sequence true) (left cons.old) (left cons.new) result }
+        ensures unknown { NamesUnknown IsFormatName (left cons.old) → IsRefusedWith (codes "invalid public key format") result }
+    {
+        let mut after = *cons;
+        let contents = match after.take_sequence() {
+            Ok(contents) => contents,
+            Err(e) => return Err(e),
+        };
+        match take_format_contents(contents) {
+            Ok(format) => {
+                *cons = after;
+                Ok(format)
+            }
+            Err(e) => Err(e),
+        }
+    }
+
+    /// What writes the algorithm identifier, with a NULL for RSA.
+    pub fn encode(self) -> PublicKeyFormatEncoder
+        ensures octets { ⟦<Sequence<(Primitive<ConstOid>, Option<Primitive<()>>, Option<Primitive<ConstOid>>)> as Values>⟧.encoded result ≡ format_octets self }
+        ensures short { ⟦<Sequence<(Primitive<ConstOid>, Option<Primitive<()>>, Option<Primitive<ConstOid>>)> as Values>⟧.is_short result }
+        // What is written is read as the format.
+        ensures read_back { SpellsFormat self (format_octets self) }
+        // Formats are written as the same octets exactly where they are equal.
+        ensures same { (other : PublicKeyFormat) → (format_octets self ≡ format_octets other) ↔ (self ≡ other) }
+    {
+        match self {
+            PublicKeyFormat::Rsa => {
+                let parameters = Some(().encode());
+                Sequence::new((oid::RSA_ENCRYPTION.encode(), parameters, None))
+            }
+            PublicKeyFormat::EcdsaP256 => {
+                let curve = Some(oid::SECP256R1.encode());
+                Sequence::new((oid::EC_PUBLIC_KEY.encode(), None, curve))
+            }
+        }
+    }
+}
+
+/// Signatures of the RPKI are made with RSA keys (RFC 7935 2).
+impl From<RpkiSignatureAlgorithm> for PublicKeyFormat {
+    ghost use Rattle.std.specs.Prelude.{◌≡◌};
+    ghost use Rattle.rpki.specs.declared.crypto.keys.PublicKeyFormat.TheVariants.{Rsa};
+
+    ghost from_gives = { λ _ f. f ≡ Rsa };
+
+    fn from(_algorithm: RpkiSignatureAlgorithm) -> PublicKeyFormat {
+        PublicKeyFormat::Rsa
+    }
+}
+
+/// Reads all of the contents of the algorithm identifier of a format.
+fn take_format_contents(contents: Constructed<'_>) -> Result<PublicKeyFormat, DecodeError>
+    ensures decodes { Decodes (λ f. f) IsFormatContents (λ _ e. e ≢ DecodeError.OutOfMemory) (left contents.entry) result }
+    ensures unknown { BeginsUnknown IsFormatName (left contents.entry) → IsRefusedWith (codes "invalid public key format") result }
+{
+    let mut contents = contents;
+    let identifier = match contents.take_oid() {
+        Ok(identifier) => identifier,
+        Err(e) => return Err(e),
+    };
+    if is_named(&identifier, oid::RSA_ENCRYPTION) {
+        match take_parameters(contents) {
+            Ok(_) => Ok(PublicKeyFormat::Rsa),
+            Err(e) => Err(e),
+        }
+    } else if is_named(&identifier, oid::EC_PUBLIC_KEY) {
+        match take_only(contents, oid::SECP256R1) {
+            Ok(()) => Ok(PublicKeyFormat::EcdsaP256),
+            Err(e) => Err(e),
+        }
+    } else {
+        Err(DecodeError::Content(ContentError::from_static("invalid public key format")))
+    }
+}

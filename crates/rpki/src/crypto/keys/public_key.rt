@@ -1,0 +1,205 @@
+//! Public keys: a format, and bits.
+
+ghost use Rattle.std.specs.Prelude.{◌≡◌, ◌↔◌, ◌<◌, ◌^◌, true, length, IsTrue, IfOk};
+ghost use Rattle.rpki_der.specs.Cursor.{left};
+ghost use Rattle.rpki_der.specs.TagName.{sequence};
+ghost use Rattle.rpki_der.specs.Reading.{Reads, Decodes, AnyFault, IsWholeFault};
+ghost use Rattle.rpki_der.specs.Values.{GivesOuterFault};
+ghost use Rattle.rpki_der.specs.Leaves.{AreBits, bits_of};
+ghost use Rattle.rpki.specs.PublicKey.{KeyParts, key_of, IsKeyContents, SpellsKey, key_contents, key_octets};
+
+use super::{KeyIdentifier, PublicKeyFormat, PublicKeyFormatEncoder};
+use crate::crypto::Provider;
+use crate::crypto::digest::sha1_digest;
+use bytes::Bytes;
+use rpki_der::{
+    BitString, Captured, ConstOid, Constructed, DecodeError, Primitive, PrimitiveContent, Sequence,
+    Values,
+};
+use std::alloc::{AllocError, Global};
+use std::marker::Model;
+
+/// A public key: its format, and a bit string, which that format gives a meaning (RFC 5280 4.1.2.7).
+#[derive(Debug, Drop, PartialEq, Eq)]
+pub struct PublicKey {
+    algorithm: PublicKeyFormat,
+    bits: BitString,
+}
+
+impl Model for PublicKey {
+    ghost use Rattle.rpki_der.specs.Leaves.{AreBits};
+    ghost use Rattle.rpki.specs.PublicKey.{KeyParts, key_of};
+
+    ghost Value = { KeyParts };
+
+    ghost view = { λ k. key_of k.algorithm k.bits };
+
+    ghost inverse = { λ p. record { algorithm = p.format; bits = p.bits } };
+
+    ghost invariant = { λ k. AreBits k.bits };
+}
+
+impl PublicKey {
+    /// The RSA key with these octets as its bits, all of which are used.
+    pub(super) fn of_bits(bytes: Bytes) -> PublicKey
+        ensures { result ≡ key_of PublicKeyFormat.Rsa (bits_of 0 bytes) }
+    {
+        PublicKey {
+            algorithm: PublicKeyFormat::Rsa,
+            bits: BitString::new(0, bytes),
+        }
+    }
+
+    /// The format.
+    pub fn algorithm(&self) -> PublicKeyFormat
+        ensures { result ≡ self.now.format }
+    {
+        self.algorithm
+    }
+
+    /// The octets of the bits.
+    pub fn bits(&self) -> &[u8]
+        ensures { result.now ≡ self.now.bits.octets }
+    {
+        self.bits.octet_slice()
+    }
+
+    /// The octets of the bits, shared.
+    ///
+    /// AllocError where memory runs out.
+    pub fn bits_bytes(&self) -> Result<Bytes, AllocError>
+        ensures { IfOk result (λ b. b ≡ self.now.bits.octets) }
+    {
+        self.bits.octet_bytes()
+    }
+
+    /// Whether certificates of the RPKI may have the key: it is an RSA key (RFC 7935 3).
+    pub fn allow_rpki_cert(&self) -> bool
+        ensures { IsTrue result ↔ (self.now.format ≡ PublicKeyFormat.Rsa) }
+    {
+        self.algorithm.allow_rpki_cert()
+    }
+
+    /// Whether certificates of BGPsec routers may have the key: it is a P-256 key (RFC 8608 3).
+    pub fn allow_router_cert(&self) -> bool
+        ensures { IsTrue result ↔ (self.now.format ≡ PublicKeyFormat.EcdsaP256) }
+    {
+        self.algorithm.allow_router_cert()
+    }
+
+    /// The key identifier: the SHA-1 digest of the octets of the bits, without the count of unused bits
+    /// (RFC 6487 4.8.2). The provider makes it.
+    pub fn key_identifier<P: Provider>(&self, provider: &P) -> KeyIdentifier
+        ensures value { result ≡ P.sha1_of provider.now self.now.bits.octets }
+        ensures size { length result ≡ 20 }
+    {
+        KeyIdentifier::from(sha1_digest(provider, self.bits()))
+    }
+
+    /// The same key, whose bits are shared.
+    ///
+    /// AllocError where memory runs out.
+    pub fn clone(&self) -> Result<PublicKey, AllocError>
+        ensures { IfOk result (λ k. k ≡ self.now) }
+    {
+        let bits = self.bits.clone()?;
+        Ok(PublicKey {
+            algorithm: self.algorithm,
+            bits,
+        })
+    }
+
+    /// A public key (SubjectPublicKeyInfo, RFC 5280 4.1), and nothing else.
+    ///
+    /// The refusals of [PublicKey::take_from]; Trailing where the key is followed by something.
+    pub fn decode(bytes: Bytes) -> Result<PublicKey, DecodeError>
+        ensures { Decodes (λ k. k) SpellsKey (IsWholeFault SpellsKey (GivesOuterFault sequence true)) bytes result }
+    {
+        let mut cons = Constructed::new(&bytes);
+        let key = match PublicKey::take_from(&mut cons) {
+            Ok(key) => key,
+            Err(e) => return Err(e),
+        };
+        match cons.finish() {
+            Ok(()) => Ok(key),
+            Err(e) => Err(e),
+        }
+    }
+
+    /// A public key (SubjectPublicKeyInfo, RFC 5280 4.1): a SEQUENCE of a format and a BIT STRING, whose octets it
+    /// shares.
+    ///
+    /// The refusals of a SEQUENCE where that refuses; else those of the parts, Trailing for octets that follow them,
+    /// and OutOfMemory where memory runs out.
+    pub fn take_from(cons: &mut Constructed<'_>) -> Result<PublicKey, DecodeError>
+        ensures { Reads (λ k. k) SpellsKey (GivesOuterFault sequence true) (left cons.old) (left cons.new) result }
+    {
+        let mut after = *cons;
+        let contents = match after.take_sequence() {
+            Ok(contents) => contents,
+            Err(e) => return Err(e),
+        };
+        match take_key_contents(contents) {
+            Ok(key) => {
+                *cons = after;
+                Ok(key)
+            }
+            Err(e) => Err(e),
+        }
+    }
+
+    /// What writes the key (SubjectPublicKeyInfo, RFC 5280 4.1), which it takes with it.
+    pub fn encode(self) -> Sequence<(PublicKeyFormatEncoder, Primitive<BitString>)>
+        ensures octets { ⟦<Sequence<(Sequence<(Primitive<ConstOid>, Option<Primitive<()>>, Option<Primitive<ConstOid>>)>, Primitive<BitString>)> as Values>⟧.encoded result ≡ key_octets self }
+        // It fits exactly where its contents have fewer than 2^32 octets.
+        ensures short { ⟦<Sequence<(Sequence<(Primitive<ConstOid>, Option<Primitive<()>>, Option<Primitive<ConstOid>>)>, Primitive<BitString>)> as Values>⟧.is_short result ↔ (length (key_contents self) < 2 ^ 32) }
+    {
+        let PublicKey { algorithm, bits } = self;
+        Sequence::new((algorithm.encode(), bits.encode()))
+    }
+
+    /// What writes the key (SubjectPublicKeyInfo, RFC 5280 4.1), which it borrows.
+    pub fn encode_ref(&self) -> Sequence<(PublicKeyFormatEncoder, Primitive<&BitString>)>
+        ensures octets { ⟦<Sequence<(Sequence<(Primitive<ConstOid>, Option<Primitive<()>>, Option<Primitive<ConstOid>>)>, Primitive<&'static BitString>)> as Values>⟧.encoded result ≡ key_octets self.now }
+        // It fits exactly where its contents have fewer than 2^32 octets.
+        ensures short { ⟦<Sequence<(Sequence<(Primitive<ConstOid>, Option<Primitive<()>>, Option<Primitive<ConstOid>>)>, Primitive<&'static BitString>)> as Values>⟧.is_short result ↔ (length (key_contents self.now) < 2 ^ 32) }
+        // What is written is read as the key.
+        ensures read_back { length (key_contents self.now) < 2 ^ 32 → SpellsKey self.now (key_octets self.now) }
+        // Keys are written as the same octets exactly where they are equal.
+        ensures same { (other : KeyParts) → length (key_contents self.now) < 2 ^ 32 → length (key_contents other) < 2 ^ 32 → (key_octets self.now ≡ key_octets other) ↔ (self.now ≡ other) }
+    {
+        Sequence::new((self.algorithm.encode(), self.bits.encode_ref()))
+    }
+
+    /// The octets of the key as it is written (SubjectPublicKeyInfo, RFC 5280 4.1). It asks that `encode_ref().fits()`.
+    ///
+    /// AllocError where memory runs out.
+    pub fn to_info_bytes(&self, alloc: Global) -> Result<Bytes, AllocError>
+        requires { length (key_contents self.now) < 2 ^ 32 }
+        ensures { IfOk result (λ b. b ≡ key_octets self.now) }
+    {
+        match Captured::from_values(alloc, &self.encode_ref()) {
+            Ok(key) => Ok(key.into_bytes()),
+            Err(e) => Err(e),
+        }
+    }
+}
+
+/// Reads all of the contents of a public key.
+fn take_key_contents(contents: Constructed<'_>) -> Result<PublicKey, DecodeError>
+    ensures { Decodes (λ k. k) IsKeyContents AnyFault (left contents.entry) result }
+{
+    let mut contents = contents;
+    let algorithm = match PublicKeyFormat::take_from(&mut contents) {
+        Ok(algorithm) => algorithm,
+        Err(e) => return Err(e),
+    };
+    let bits = match contents.take_bit_string() {
+        Ok(bits) => bits,
+        Err(e) => return Err(e),
+    };
+    match contents.finish() {
+        Ok(()) => Ok(PublicKey { algorithm, bits }),
+        Err(e) => Err(e),
+    }
+}

@@ -1,0 +1,117 @@
+//! The bits of RSA keys: a SEQUENCE of modulus and exponent (RFC 8017 A.1.1).
+
+ghost use Rattle.std.specs.Prelude.{◌≡◌, ◌≢◌, ◌≤◌, ◌+◌, ◌^◌, ◌⊎◌, ◌↔◌, [], length, true, IfOk, IsErrOf};
+ghost use Rattle.rpki_der.specs.Cursor.{left};
+ghost use Rattle.rpki_der.specs.TagName.{sequence};
+ghost use Rattle.rpki_der.specs.Reading.{Reads, Decodes, TakesNoMemory, IsWholeFault};
+ghost use Rattle.rpki_der.specs.Values.{GivesOuterFault, IsOuterFault};
+ghost use Rattle.rpki_der.specs.Number.{number_of};
+ghost use Rattle.rpki.specs.declared.crypto.keys.PublicKeyFormat.TheVariants.{Rsa};
+ghost use Rattle.rpki.specs.PublicKey.{SpellsRsaNumbers, SpellsRsaBits, AreTwoNumbers, IsRsaKey};
+
+use super::PublicKey;
+use bytes::Bytes;
+use rpki_der::{
+    Captured, Constructed, DecodeError, InvalidInteger, PrimitiveContent, Sequence, Unsigned,
+};
+use std::alloc::Global;
+
+impl PublicKey {
+    /// The RSA key of these two numbers, most significant octet first. Zeros in front are left out. The lengths of
+    /// the two sum to at most 2^31.
+    ///
+    /// Empty where one of them has no octets; OutOfMemory where memory runs out.
+    pub fn rsa_from_components(
+        alloc: Global,
+        modulus: &[u8],
+        exponent: &[u8],
+    ) -> Result<PublicKey, InvalidInteger>
+        requires { length modulus.now + length exponent.now ≤ 2 ^ 31 }
+        ensures format { IfOk result (λ k. (k.format ≡ Rsa) × (k.bits.unused ≡ 0)) }
+        // Its bits are the SEQUENCE of the two numbers.
+        ensures bits { IfOk result (λ k. SpellsRsaNumbers (number_of modulus.now) (number_of exponent.now) k.bits.octets) }
+        // They are the bits of an equal key.
+        ensures again { IfOk result (λ k. IsRsaKey k k.bits.octets) }
+        ensures empty { IsErrOf result InvalidInteger.Empty ↔ ((modulus.now ≡ []) ⊎ (exponent.now ≡ [])) }
+    {
+        let modulus = match Unsigned::from_slice(modulus) {
+            Ok(modulus) => modulus,
+            Err(e) => return Err(e),
+        };
+        let exponent = match Unsigned::from_slice(exponent) {
+            Ok(exponent) => exponent,
+            Err(e) => return Err(e),
+        };
+        let numbers = Sequence::new((modulus.encode(), exponent.encode()));
+        match Captured::from_values(alloc, &numbers) {
+            Ok(octets) => Ok(PublicKey::of_bits(octets.into_bytes())),
+            Err(_) => Err(InvalidInteger::OutOfMemory),
+        }
+    }
+
+    /// The RSA key with these bits: a SEQUENCE of two INTEGERs that are not negative, and nothing else. It takes no
+    /// memory.
+    ///
+    /// The refusals of a SEQUENCE where that refuses; else those of the INTEGERs, and Trailing for octets that follow
+    /// them or the SEQUENCE.
+    pub fn rsa_from_bits_bytes(bytes: Bytes) -> Result<PublicKey, DecodeError>
+        ensures { Decodes (λ k. k) IsRsaKey (TakesNoMemory (IsWholeFault IsRsaKey (GivesOuterFault sequence true))) bytes result }
+    {
+        match check_rsa_bits(&bytes) {
+            Ok(()) => Ok(PublicKey::of_bits(bytes)),
+            Err(e) => Err(e),
+        }
+    }
+}
+
+/// Whether all of the octets are the bits of an RSA key.
+fn check_rsa_bits(octets: &Bytes) -> Result<(), DecodeError>
+    ensures { Decodes (λ _. tt) SpellsRsaBits (TakesNoMemory (IsWholeFault SpellsRsaBits (GivesOuterFault sequence true))) octets.now result }
+{
+    let mut cons = Constructed::new(octets);
+    match take_rsa_bits(&mut cons) {
+        Ok(()) => {}
+        Err(e) => return Err(e),
+    }
+    match cons.finish() {
+        Ok(()) => Ok(()),
+        Err(e) => Err(e),
+    }
+}
+
+/// Moves past the bits of an RSA key.
+fn take_rsa_bits(cons: &mut Constructed<'_>) -> Result<(), DecodeError>
+    ensures { Reads (λ _. tt) SpellsRsaBits (IsOuterFault sequence true) (left cons.old) (left cons.new) result }
+{
+    let mut after = *cons;
+    let contents = match after.take_sequence() {
+        Ok(contents) => contents,
+        Err(e) => return Err(e),
+    };
+    match take_two_numbers(contents) {
+        Ok(()) => {
+            *cons = after;
+            Ok(())
+        }
+        Err(e) => Err(e),
+    }
+}
+
+/// Reads all of the contents: two INTEGERs that are not negative.
+fn take_two_numbers(contents: Constructed<'_>) -> Result<(), DecodeError>
+    ensures { Decodes (λ _. tt) AreTwoNumbers (λ _ e. e ≢ DecodeError.OutOfMemory) (left contents.entry) result }
+{
+    let mut contents = contents;
+    match contents.take_unsigned() {
+        Ok(_) => {}
+        Err(e) => return Err(e),
+    }
+    match contents.take_unsigned() {
+        Ok(_) => {}
+        Err(e) => return Err(e),
+    }
+    match contents.finish() {
+        Ok(()) => Ok(()),
+        Err(e) => Err(e),
+    }
+}

@@ -1,0 +1,220 @@
+//! Algorithms of signatures, and signatures.
+
+mod bgpsec;
+mod cms;
+
+ghost use Rattle.std.specs.Prelude.{◌≡◌, ◌≢◌, ℕ, List, Bool, true, false, IfOk};
+ghost use Rattle.rpki_der.specs.Cursor.{left};
+ghost use Rattle.rpki_der.specs.TagName.{sequence};
+ghost use Rattle.rpki_der.specs.Reading.{Reads, TakesNoMemory, AnyFault};
+ghost use Rattle.rpki_der.specs.Values.{IsOuterFault};
+ghost use Rattle.rpki_der.specs.Members.{IsValue};
+ghost use Rattle.rpki.specs.Format.{format_of};
+ghost use Rattle.rpki.specs.Oids.{sha256_with_rsa_encryption, ecdsa_with_sha256};
+ghost use Rattle.rpki.specs.Algorithm.{SpellsAlgorithm};
+ghost use Rattle.rpki.specs.Signature.{signature_of};
+
+use crate::crypto::identifier::take_algorithm;
+use crate::crypto::{PublicKeyFormat, SigningAlgorithm};
+use crate::oid;
+pub use bgpsec::BgpsecSignatureAlgorithm;
+use bytes::Bytes;
+use rpki_der::{ConstOid, Constructed, DecodeError, Primitive, PrimitiveContent, Sequence, Values};
+use std::alloc::AllocError;
+use std::marker::Model;
+
+/// An algorithm of signatures, as certificates and signed data name it by an algorithm identifier.
+///
+/// A type of one's own proves the five laws: a spelling is one value and belongs to one algorithm; what is written
+/// spells the normal form; and the normal form is its own normal form, written in the same way.
+pub trait SignatureAlgorithm: Sized {
+    /// What writes the algorithm identifier.
+    type Encoder: Values;
+
+    ghost use Rattle.rpki.specs.declared.crypto.keys.PublicKeyFormat.{PublicKeyFormat};
+
+    /// The octets are an algorithm identifier of the algorithm.
+    ghost spells: { Self → List ℕ → Type 0 };
+
+    /// The algorithm identifier that is written.
+    ghost written: { Self → List ℕ };
+
+    /// What is read of the algorithm identifier that is written.
+    ghost norm: { Self → Self };
+
+    /// The format of the keys.
+    ghost format: { Self → PublicKeyFormat };
+
+    /// How it signs.
+    fn signing_algorithm(&self) -> SigningAlgorithm
+        ensures { format_of result ≡ format self.now };
+
+    /// The format of the keys that it signs with.
+    fn public_key_format(&self) -> PublicKeyFormat
+        ensures { result ≡ format self.now }
+    {
+        self.signing_algorithm().public_key_format()
+    }
+
+    /// An algorithm identifier (RFC 5280 4.1.1.2). It takes no memory.
+    fn x509_take_from(cons: &mut Constructed<'_>) -> Result<Self, DecodeError>
+        ensures { Reads (λ a. a) spells (TakesNoMemory AnyFault) (left cons.old) (left cons.new) result };
+
+    /// What writes the algorithm identifier (RFC 5280 4.1.1.2).
+    fn x509_encode(&self) -> Self::Encoder
+        ensures octets { Self.Encoder.encoded result ≡ written self.now }
+        ensures short { Self.Encoder.is_short result };
+
+    ghost spelled_value: { (a : Self) (s : List ℕ) → spells a s → IsValue s };
+
+    ghost spells_one: { (a b : Self) (s : List ℕ) → spells a s → spells b s → a ≡ b };
+
+    ghost written_spells: { (a : Self) → spells (norm a) (written a) };
+
+    ghost norm_norm: { (a : Self) → norm (norm a) ≡ norm a };
+
+    ghost written_norm: { (a : Self) → written (norm a) ≡ written a };
+}
+
+/// The algorithm of the RPKI: RSA with SHA-256 (RFC 7935 2). It remembers whether the parameters, a NULL, were there.
+#[derive(Clone, Copy, Debug, PartialEq, Eq, Hash)]
+pub struct RpkiSignatureAlgorithm {
+    has_parameters: bool,
+}
+
+impl Model for RpkiSignatureAlgorithm {
+    ghost use Rattle.std.specs.Prelude.{Bool};
+
+    ghost Value = { Bool };
+
+    ghost view = { λ a. a.has_parameters };
+
+    ghost inverse = { λ b. record { has_parameters = b } };
+}
+
+/// With parameters, as it is written.
+impl Default for RpkiSignatureAlgorithm {
+    ghost use Rattle.std.specs.Prelude.{◌≡◌, true};
+
+    ghost is_default = { λ a. a ≡ true };
+
+    fn default() -> RpkiSignatureAlgorithm {
+        RpkiSignatureAlgorithm {
+            has_parameters: true,
+        }
+    }
+}
+
+impl SignatureAlgorithm for RpkiSignatureAlgorithm {
+    type Encoder = Sequence<(Primitive<ConstOid>, Primitive<()>)>;
+
+    ghost use Rattle.std.specs.Prelude.{true, refl};
+    ghost use Rattle.std.proofs.Common.{lit<};
+    ghost use Rattle.rpki.specs.Oids.{sha256_with_rsa_encryption};
+    ghost use Rattle.rpki.specs.Algorithm.{SpellsAlgorithm};
+    ghost use Rattle.rpki.specs.AlgorithmOctets.{algorithm_octets, algorithm-spelled, algorithm-value, algorithm-one};
+    ghost use Rattle.rpki.specs.declared.crypto.keys.PublicKeyFormat.TheVariants.{Rsa};
+
+    ghost spells = { SpellsAlgorithm sha256_with_rsa_encryption };
+
+    ghost written = { λ _. algorithm_octets sha256_with_rsa_encryption true };
+
+    ghost norm = { λ _. true };
+
+    ghost format = { λ _. Rsa };
+
+    ghost spelled_value = { λ a s h. algorithm-value sha256_with_rsa_encryption a s (lit< tt) h };
+
+    ghost spells_one = { λ a b s h k. algorithm-one sha256_with_rsa_encryption a b s (lit< tt) h k };
+
+    ghost written_spells = { λ _. algorithm-spelled sha256_with_rsa_encryption true (lit< tt) };
+
+    ghost norm_norm = { λ _. refl };
+
+    ghost written_norm = { λ _. refl };
+
+    fn signing_algorithm(&self) -> SigningAlgorithm {
+        SigningAlgorithm::RsaSha256
+    }
+
+    /// The identifier of RSA signatures with SHA-256, with a NULL or without. The refusals of a SEQUENCE where that
+    /// refuses; Content for another identifier; Trailing for other parameters.
+    fn x509_take_from(cons: &mut Constructed<'_>) -> Result<Self, DecodeError>
+        ensures { Reads (λ a. a) (SpellsAlgorithm sha256_with_rsa_encryption) (IsOuterFault sequence true) (left cons.old) (left cons.new) result }
+    {
+        match take_algorithm(cons, oid::SHA256_WITH_RSA_ENCRYPTION) {
+            Ok(has_parameters) => Ok(RpkiSignatureAlgorithm { has_parameters }),
+            Err(e) => Err(e),
+        }
+    }
+
+    fn x509_encode(&self) -> Self::Encoder {
+        let identifier = oid::SHA256_WITH_RSA_ENCRYPTION.encode();
+        let parameters = ().encode();
+        Sequence::new((identifier, parameters))
+    }
+}
+
+/// A signature: its algorithm, and its octets.
+#[derive(Debug, Drop)]
+pub struct Signature<Alg> {
+    algorithm: Alg,
+    value: Bytes,
+}
+
+impl<Alg> Model for Signature<Alg> {
+    ghost use Rattle.rpki.specs.Signature.{SignatureParts, signature_of};
+
+    ghost Value = { SignatureParts Alg };
+
+    ghost view = { λ s. signature_of s.algorithm s.value };
+}
+
+impl<Alg> Signature<Alg> {
+    /// The signature of this algorithm and these octets.
+    pub fn new(algorithm: Alg, value: Bytes) -> Signature<Alg>
+        ensures { result ≡ signature_of algorithm value }
+    {
+        Signature { algorithm, value }
+    }
+
+    /// The algorithm.
+    pub fn algorithm(&self) -> &Alg
+        ensures { result.now ≡ self.now.algorithm }
+    {
+        &self.algorithm
+    }
+
+    /// The octets.
+    pub fn value(&self) -> &Bytes
+        ensures { result.now ≡ self.now.value }
+    {
+        &self.value
+    }
+
+    /// The algorithm and the octets.
+    pub fn unwrap(self) -> (Alg, Bytes)
+        ensures { result ≡ (self.algorithm, self.value) }
+    {
+        let Signature { algorithm, value } = self;
+        (algorithm, value)
+    }
+}
+
+impl<Alg: Copy> Signature<Alg> {
+    /// The same signature, whose octets are shared.
+    ///
+    /// AllocError where memory runs out.
+    pub fn clone(&self) -> Result<Signature<Alg>, AllocError>
+        ensures { IfOk result (λ s. s ≡ self.now) }
+    {
+        let value = self.value.clone()?;
+        Ok(Signature {
+            algorithm: self.algorithm,
+            value,
+        })
+    }
+}
+
+/// A signature of the RPKI.
+pub type RpkiSignature = Signature<RpkiSignatureAlgorithm>;

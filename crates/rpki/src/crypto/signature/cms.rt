@@ -1,0 +1,83 @@
+//! The signature algorithm of the RPKI in signed objects (RFC 5652, RFC 7935 2).
+
+ghost use Rattle.std.specs.Prelude.{◌≡◌, ◌≢◌, ◌↔◌, IsTrue, true, codes};
+ghost use Rattle.rpki_der.specs.Cursor.{left};
+ghost use Rattle.rpki_der.specs.TagName.{sequence};
+ghost use Rattle.rpki_der.specs.Reading.{Reads, Decodes};
+ghost use Rattle.rpki_der.specs.Values.{IsOuterFault};
+ghost use Rattle.rpki.specs.Oids.{rsa_encryption};
+ghost use Rattle.rpki.specs.AlgorithmOctets.{algorithm_octets};
+ghost use Rattle.rpki.specs.SignatureNames.{IsCmsName, IsCmsContents, SpellsCms};
+ghost use Rattle.rpki.specs.Unknown.{BeginsUnknown, NamesUnknown, IsRefusedWith};
+
+use super::RpkiSignatureAlgorithm;
+use crate::crypto::parameters::{is_named, take_parameters};
+use crate::oid;
+use rpki_der::{
+    ConstOid, Constructed, ContentError, DecodeError, Oid, Primitive, PrimitiveContent, Sequence,
+    Values,
+};
+
+impl RpkiSignatureAlgorithm {
+    /// The algorithm identifier in a signed object: rsaEncryption or sha256WithRSAEncryption, each with a NULL or
+    /// without. Which identifier it was isn't remembered. It takes no memory.
+    ///
+    /// The refusals of a SEQUENCE where that refuses; Content `invalid signature algorithm` for another object
+    /// identifier; else that of the part that refuses, and Trailing for other parameters.
+    pub fn cms_take_from(cons: &mut Constructed<'_>) -> Result<RpkiSignatureAlgorithm, DecodeError>
+        ensures reads { Reads (λ a. a) SpellsCms (IsOuterFault sequence true) (left cons.old) (left cons.new) result }
+        ensures unknown { NamesUnknown IsCmsName (left cons.old) → IsRefusedWith (codes "invalid signature algorithm") result }
+    {
+        let mut after = *cons;
+        let contents = match after.take_sequence() {
+            Ok(contents) => contents,
+            Err(e) => return Err(e),
+        };
+        match take_cms_contents(contents) {
+            Ok(has_parameters) => {
+                *cons = after;
+                Ok(RpkiSignatureAlgorithm { has_parameters })
+            }
+            Err(e) => Err(e),
+        }
+    }
+
+    /// What writes the algorithm identifier in a signed object: rsaEncryption with a NULL (RFC 7935 2).
+    pub fn cms_encode(&self) -> Sequence<(Primitive<ConstOid>, Primitive<()>)>
+        ensures octets { ⟦<Sequence<(Primitive<ConstOid>, Primitive<()>)> as Values>⟧.encoded result ≡ algorithm_octets rsa_encryption true }
+        ensures short { ⟦<Sequence<(Primitive<ConstOid>, Primitive<()>)> as Values>⟧.is_short result }
+        // What is written is read as the algorithm with parameters.
+        ensures read_back { SpellsCms true (algorithm_octets rsa_encryption true) }
+    {
+        let identifier = oid::RSA_ENCRYPTION.encode();
+        let parameters = ().encode();
+        Sequence::new((identifier, parameters))
+    }
+}
+
+/// Reads all of the contents of the algorithm identifier: whether a NULL is there.
+fn take_cms_contents(contents: Constructed<'_>) -> Result<bool, DecodeError>
+    ensures decodes { Decodes (λ b. b) IsCmsContents (λ _ e. e ≢ DecodeError.OutOfMemory) (left contents.entry) result }
+    ensures unknown { BeginsUnknown IsCmsName (left contents.entry) → IsRefusedWith (codes "invalid signature algorithm") result }
+{
+    let mut contents = contents;
+    let identifier = match contents.take_oid() {
+        Ok(identifier) => identifier,
+        Err(e) => return Err(e),
+    };
+    if is_cms_name(&identifier) {
+        match take_parameters(contents) {
+            Ok(present) => Ok(present),
+            Err(e) => Err(e),
+        }
+    } else {
+        Err(DecodeError::Content(ContentError::from_static("invalid signature algorithm")))
+    }
+}
+
+/// Whether it is one of the two identifiers.
+fn is_cms_name(found: &Oid<&[u8]>) -> bool
+    ensures { IsTrue result ↔ IsCmsName found.now.0.now }
+{
+    is_named(found, oid::RSA_ENCRYPTION) || is_named(found, oid::SHA256_WITH_RSA_ENCRYPTION)
+}

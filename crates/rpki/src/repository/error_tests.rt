@@ -1,0 +1,43 @@
+use super::error::*;
+use crate::crypto::SignatureVerificationError;
+use rpki_der::{ContentError, DecodeError};
+use rpki_time::ValidityPeriodError;
+use std::test::Fail;
+
+// The five ways to one text.
+#[test]
+fn texts_are_passed_on(rt: HostRuntime) -> Result<(), Fail> {
+    let content = ContentError::from_static("invalid name");
+    let inspection = InspectionError::from(content);
+    let verification = VerificationError::from(content);
+    assert_eq!(rt; ContentError::from(inspection), content);
+    let texts = [
+        format!(in rt.alloc(); "{inspection}")?,
+        format!(in rt.alloc(); "{verification}")?,
+        format!(in rt.alloc(); "{}", ValidationError::from(inspection))?,
+        format!(in rt.alloc(); "{}", ValidationError::from(verification))?,
+        format!(in rt.alloc(); "{}", ValidationError::from(DecodeError::Content(content)))?,
+    ];
+    for text in &texts {
+        assert_eq!(rt; text.as_str(), "invalid name");
+    }
+    Ok(())
+}
+
+#[test]
+fn texts_of_what_is_not_vouched_for(rt: HostRuntime) -> Result<(), Fail> {
+    let texts = [
+        format!(in rt.alloc(); "{}", VerificationError::from(SignatureVerificationError))?,
+        format!(in rt.alloc(); "{}", VerificationError::from(ValidityPeriodError::TooNew))?,
+        format!(in rt.alloc(); "{}", VerificationError::from(ValidityPeriodError::TooOld))?,
+    ];
+    let expected = [
+        "signature verification failed",
+        "certificate is not yet valid",
+        "certificate has expired",
+    ];
+    for (text, wanted) in texts.iter().zip(expected) {
+        assert_eq!(rt; text.as_str(), wanted);
+    }
+    Ok(())
+}

@@ -1,0 +1,24 @@
+//! Parts of certificates and of other signed objects (RFC 5280, RFC 6487).
+
+mod extension;
+mod name;
+mod signed_data;
+mod subject_name;
+mod update;
+
+pub use extension::{Extension, encode_extension};
+pub use name::Name;
+pub use rpki_time::{
+    GeneralizedTime, Serial, SerialSliceError, Time, TimeParseError, UtcTime, Validity,
+    ValidityPeriodError, VariedTime,
+};
+pub use signed_data::{SignatureValueContent, SignedData};
+pub use subject_name::SubjectName;
+pub use update::update_first;
+
+#[cfg(test)]
+mod extension_tests;
+#[cfg(test)]
+mod name_tests;
+#[cfg(test)]
+mod update_tests;

@@ -1,0 +1,135 @@
+//! Names (RFC 5280 4.1.2.4, RFC 6487 4.4).
+
+ghost use Rattle.std.specs.Prelude.{◌≡◌, true, List, IsTrue, IfOk, IfErr};
+ghost use Rattle.rpki_der.specs.Cursor.{left};
+ghost use Rattle.rpki_der.specs.TagName.{sequence};
+ghost use Rattle.rpki_der.specs.Reading.{Reads};
+ghost use Rattle.rpki_der.specs.Values.{GivesOuterFault};
+ghost use Rattle.rpki_der.specs.Members.{IsValue};
+ghost use Rattle.rpki.specs.Name.{Attribute, IsName, SpellsName, SpellsNameOctets};
+ghost use Rattle.rpki.specs.StrictName.{IsRpkiName, IsRouterName};
+
+mod grammar;
+mod inspection;
+
+use self::grammar::skip_name;
+use self::inspection::Profile;
+use crate::repository::error::InspectionError;
+use rpki_der::{Captured, Constructed, DecodeError};
+use std::alloc::{AllocError, Global};
+use std::marker::Model;
+
+/// A name, as the octets that it was read from.
+#[derive(Debug, Drop)]
+pub struct Name {
+    captured: Captured,
+}
+
+impl Model for Name {
+    ghost use Rattle.std.specs.Prelude.{ℕ, List};
+    ghost use Rattle.rpki.specs.Name.{IsName};
+
+    ghost Value = { List ℕ };
+
+    ghost view = { λ x. x.captured };
+
+    ghost invariant = { λ x. IsName x.captured };
+}
+
+impl Name {
+    /// The name that these octets are.
+    pub(super) fn of_captured(captured: Captured) -> Name
+        requires { IsName captured }
+        ensures { result ≡ captured }
+    {
+        Name { captured }
+    }
+
+    /// A name: a SEQUENCE of one relative distinguished name at least, each a SET of one attribute at least, each a
+    /// SEQUENCE of an OBJECT IDENTIFIER and of one value. The order within a SET is free.
+    ///
+    /// The refusal of a SEQUENCE where that refuses; else Content for an empty SEQUENCE, an empty SET or an attribute
+    /// without a value, the refusals of the parts, and OutOfMemory where memory runs out.
+    pub fn take_from(alloc: Global, cons: &mut Constructed<'_>) -> Result<Name, DecodeError>
+        ensures { Reads (λ n. n) SpellsNameOctets (GivesOuterFault sequence true) (left cons.old) (left cons.new) result }
+    {
+        let mut after = *cons;
+        match skip_name(alloc, &mut after) {
+            Ok(()) => {}
+            Err(e) => return Err(e),
+        }
+        match cons.capture_one(alloc) {
+            Ok(captured) => Ok(Name { captured }),
+            Err(e) => Err(e),
+        }
+    }
+
+    /// Tests that the name is one of a certificate of the RPKI, unless `strict` is false: one common name and at most
+    /// one serial number, each a PrintableString, and no other attribute (RFC 6487 4.4).
+    pub fn inspect_rpki(&self, strict: bool) -> Result<(), InspectionError>
+        ensures ok { IfOk result (λ _. IsTrue strict → IsRpkiName self.now) }
+        ensures err { IfErr result (λ _. IsTrue strict × (IsRpkiName self.now → ⊥)) }
+    {
+        if !strict {
+            return Ok(());
+        }
+        Profile::Rpki.inspect(self.captured.cursor())
+    }
+
+    /// Tests that the name is one of a router's certificate, unless `strict` is false: the same, and each string is a
+    /// PrintableString or a UTF8String (RFC 8209 3.1.1).
+    pub fn inspect_router(&self, strict: bool) -> Result<(), InspectionError>
+        ensures ok { IfOk result (λ _. IsTrue strict → IsRouterName self.now) }
+        ensures err { IfErr result (λ _. IsTrue strict × (IsRouterName self.now → ⊥)) }
+    {
+        if !strict {
+            return Ok(());
+        }
+        Profile::Router.inspect(self.captured.cursor())
+    }
+
+    /// What writes the name: its octets as they were read.
+    pub fn encode_ref(&self) -> &Captured
+        ensures octets { result.now ≡ self.now }
+        ensures named { IsName result.now }
+        ensures one { IsValue result.now }
+        // What is written is read as the same name.
+        ensures read_back { SpellsNameOctets self.now result.now }
+        // They have one reading.
+        ensures one_reading { (x y : List (List Attribute)) → SpellsName x result.now → SpellsName y result.now → x ≡ y }
+    {
+        &self.captured
+    }
+
+    /// The same name, whose octets are shared.
+    ///
+    /// AllocError where memory runs out.
+    pub fn clone(&self) -> Result<Name, AllocError>
+        ensures { IfOk result (λ n. n ≡ self.now) }
+    {
+        let captured = self.captured.clone()?;
+        Ok(Name { captured })
+    }
+}
+
+/// Two names are equal where their octets are.
+impl PartialEq for Name {
+    ghost use Rattle.std.specs.Prelude.{nat_eq};
+    ghost use Rattle.std.specs.Cmp.{partial_equiv_from_equiv};
+    ghost use Rattle.std.specs.Cmp.Lexicographic.{pointwise};
+    ghost use Rattle.std.proofs.lemmas.Cmp.{nat_list_eq_equiv};
+
+    ghost eq = { pointwise nat_eq };
+
+    ghost laws = { partial_equiv_from_equiv nat_list_eq_equiv };
+
+    fn eq(&self, other: &Self) -> bool {
+        self.captured.as_slice() == other.captured.as_slice()
+    }
+}
+
+impl Eq for Name {
+    ghost use Rattle.std.proofs.lemmas.Cmp.{nat_list_eq_equiv};
+
+    ghost laws = { nat_list_eq_equiv };
+}

@@ -1,0 +1,177 @@
+//! What a name is inspected for (RFC 6487 4.4, RFC 8209 3.1.1).
+
+ghost use Rattle.std.specs.Prelude.{◌↔◌, IsTrue, List, [], ◌∷◌, MatchResult};
+ghost use Rattle.rpki_der.specs.Cursor.{left};
+ghost use Rattle.rpki.specs.Name.{Attribute, attribute_of, SpellsAttribute, SpellsSome, SpellsRelative, SpellsName};
+ghost use Rattle.rpki.specs.StrictName.{attributes, IsPrintable, IsUtf8String, IsStrict};
+ghost use Rattle.rpki.specs.InspectName.{Finds};
+ghost use Rattle.rpki.specs.InspectedName.{found_of, permitted};
+
+use super::grammar::take_identifier;
+use crate::oid::{AT_COMMON_NAME, AT_SERIAL_NUMBER};
+use crate::repository::error::InspectionError;
+use rpki_der::{Constructed, ContentError, Oid};
+
+/// Whose names are inspected.
+#[derive(Clone, Copy)]
+pub(super) enum Profile {
+    /// Certificates of the RPKI: PrintableStrings.
+    Rpki,
+    /// Certificates of routers: PrintableStrings and UTF8Strings.
+    Router,
+}
+
+/// Which attributes were found.
+#[derive(Clone, Copy)]
+pub(super) struct Found {
+    common_name: bool,
+    serial_number: bool,
+}
+
+/// The refusal of this text.
+pub(super) fn refusal(text: &'static str) -> InspectionError {
+    InspectionError::new(ContentError::from_static(text))
+}
+
+/// Whether the octets that are left are a PrintableString.
+fn is_printable(value: Constructed<'_>) -> bool
+    ensures { IsTrue result ↔ IsPrintable (left value.entry) }
+{
+    let mut after = value;
+    match after.take_printable() {
+        Ok(_) => after.is_empty(),
+        Err(_) => false,
+    }
+}
+
+/// Whether they are a UTF8String.
+fn is_utf8(value: Constructed<'_>) -> bool
+    ensures { IsTrue result ↔ IsUtf8String (left value.entry) }
+{
+    let mut after = value;
+    match after.take_utf8() {
+        Ok(_) => after.is_empty(),
+        Err(_) => false,
+    }
+}
+
+impl Profile {
+    /// Whether the octets that are left are a string that these names may have.
+    fn permits(self, value: Constructed<'_>) -> bool
+        ensures { IsTrue result ↔ permitted self (left value.entry) }
+    {
+        match self {
+            Profile::Rpki => is_printable(value),
+            Profile::Router => is_printable(value) || is_utf8(value),
+        }
+    }
+
+    /// The refusal of another string.
+    fn refused_string(self) -> InspectionError {
+        match self {
+            Profile::Rpki => refusal("invalid name"),
+            Profile::Router => refusal("unpermitted string variant in common name"),
+        }
+    }
+
+    /// What is found once this attribute is there too.
+    ///
+    /// Refused where a second common name or serial number, another attribute, or a string that is not permitted is
+    /// found.
+    fn add(
+        self,
+        found: Found,
+        identifier: Oid<&[u8]>,
+        value: Constructed<'_>,
+    ) -> Result<Found, InspectionError>
+        ensures { Finds (permitted self) found_of found (attribute_of identifier.entry.0.now (left value.entry) ∷ []) result }
+    {
+        let mut found = found;
+        if identifier == AT_COMMON_NAME {
+            if found.common_name {
+                return Err(refusal("multiple common names"));
+            }
+            found.common_name = true;
+        } else if identifier == AT_SERIAL_NUMBER {
+            if found.serial_number {
+                return Err(refusal("multiple serial numbers"));
+            }
+            found.serial_number = true;
+        } else {
+            return Err(refusal("invalid name"));
+        }
+        if !self.permits(value) {
+            return Err(self.refused_string());
+        }
+        Ok(found)
+    }
+
+    /// What is found in these attributes, behind what was found before.
+    fn add_attributes(
+        self,
+        found: Found,
+        contents: Constructed<'_>,
+    ) -> Result<Found, InspectionError>
+        ensures { (xs : List Attribute) → SpellsSome SpellsAttribute xs (left contents.entry) → Finds (permitted self) found_of found xs result }
+    {
+        let mut rest = contents;
+        let mut all = found;
+        'attributes: while !rest.is_empty() {
+            let (identifier, value) = match take_identifier(&mut rest) {
+                Ok(read) => read,
+                Err(_) => return Err(refusal("invalid name")),
+            };
+            all = match self.add(all, identifier, value) {
+                Ok(all) => all,
+                Err(e) => return Err(e),
+            };
+        }
+        Ok(all)
+    }
+
+    /// The same of relative distinguished names.
+    fn add_relatives(
+        self,
+        found: Found,
+        contents: Constructed<'_>,
+    ) -> Result<Found, InspectionError>
+        ensures { (parts : List (List Attribute)) → SpellsSome SpellsRelative parts (left contents.entry) → Finds (permitted self) found_of found (attributes parts) result }
+    {
+        let mut rest = contents;
+        let mut all = found;
+        'relatives: while !rest.is_empty() {
+            let relative = match rest.take_set() {
+                Ok(relative) => relative,
+                Err(_) => return Err(refusal("invalid name")),
+            };
+            all = match self.add_attributes(all, relative) {
+                Ok(all) => all,
+                Err(e) => return Err(e),
+            };
+        }
+        Ok(all)
+    }
+
+    /// Tests a name.
+    pub(super) fn inspect(self, name: Constructed<'_>) -> Result<(), InspectionError>
+        ensures { (parts : List (List Attribute)) → SpellsName parts (left name.entry) → MatchResult result (λ _. IsStrict (permitted self) (attributes parts)) (λ _. IsStrict (permitted self) (attributes parts) → ⊥) }
+    {
+        let mut name = name;
+        let contents = match name.take_sequence() {
+            Ok(contents) => contents,
+            Err(_) => return Err(refusal("invalid name")),
+        };
+        let nothing = Found {
+            common_name: false,
+            serial_number: false,
+        };
+        let found = match self.add_relatives(nothing, contents) {
+            Ok(found) => found,
+            Err(e) => return Err(e),
+        };
+        if !found.common_name {
+            return Err(refusal("missing common name"));
+        }
+        Ok(())
+    }
+}

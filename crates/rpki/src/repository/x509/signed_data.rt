@@ -1,0 +1,285 @@
+//! Signed data: a value, and a signature over its very octets (RFC 5280 4.1).
+
+ghost use Rattle.std.specs.Prelude.{◌≡◌, ◌<◌, ◌^◌, ◌↔◌, true, false, ℕ, List, length, IfOk, IsOk};
+ghost use Rattle.rpki_der.specs.Cursor.{left};
+ghost use Rattle.rpki_der.specs.TagName.{sequence};
+ghost use Rattle.rpki_der.specs.Reading.{Reads, Decodes, AnyFault, IsWholeFault};
+ghost use Rattle.rpki_der.specs.Values.{GivesOuterFault};
+ghost use Rattle.rpki_der.specs.Members.{AreValues, IsValue};
+ghost use Rattle.rpki_der.specs.Contents.{bits_contents};
+ghost use Rattle.rpki_der.specs.Leaves.{bits_of};
+ghost use Rattle.rpki_der.specs.Written.{Writes};
+ghost use Rattle.rpki.specs.Provider.{Verifies};
+ghost use Rattle.rpki.specs.Signature.{signature_of};
+ghost use Rattle.rpki.specs.SignedData.{SignedParts, parts_of, SpellsSignature, IsSignedContents, SpellsSigned, signed_octets, written_contents, written_signed, normal_parts, DifferInCount};
+
+use crate::crypto::{
+    Provider, PublicKey, RpkiSignatureAlgorithm, Signature, SignatureAlgorithm,
+    SignatureVerificationError,
+};
+use bytes::Bytes;
+use rpki_der::{
+    Captured, Constructed, DecodeError, Primitive, PrimitiveContent, Sequence, Tag, Values,
+    write_whole,
+};
+use std::alloc::{AllocError, Global};
+use std::io;
+use std::io::Write;
+use std::marker::Model;
+
+/// One value, and a signature over its very octets.
+#[derive(Debug, Drop)]
+pub struct SignedData<Alg = RpkiSignatureAlgorithm> {
+    signed: Captured,
+    signature: Signature<Alg>,
+}
+
+impl<Alg> Model for SignedData<Alg> {
+    ghost use Rattle.rpki.specs.SignedData.{SignedParts, parts_of};
+    ghost use Rattle.rpki_der.specs.Members.{IsValue};
+
+    ghost Value = { SignedParts Alg };
+
+    ghost view = { λ x. parts_of x.signed x.signature.algorithm x.signature.value };
+
+    ghost invariant = { λ x. IsValue x.signed };
+}
+
+impl<Alg> SignedData<Alg> {
+    /// A captured value and a signature over it. One value was captured: `values()` is 1.
+    pub fn new(signed: Captured, signature: Signature<Alg>) -> SignedData<Alg>
+        requires { AreValues 1 signed }
+        ensures { result ≡ parts_of signed signature.algorithm signature.value }
+    {
+        SignedData { signed, signature }
+    }
+
+    /// The value, as the very octets that are signed.
+    pub fn data(&self) -> &Captured
+        ensures slice { result.now ≡ self.now.signed }
+        ensures one { IsValue result.now }
+    {
+        &self.signed
+    }
+
+    /// The signature.
+    pub fn signature(&self) -> &Signature<Alg>
+        ensures { result.now ≡ signature_of self.now.algorithm self.now.value }
+    {
+        &self.signature
+    }
+}
+
+impl<Alg: SignatureAlgorithm + Drop> SignedData<Alg> {
+    /// Reads the three parts, and leaves what follows them.
+    ///
+    /// The refusals of the part that refuses; OutOfMemory where memory runs out.
+    pub fn from_constructed(
+        alloc: Global,
+        cons: &mut Constructed<'_>,
+    ) -> Result<SignedData<Alg>, DecodeError>
+        ensures { Reads (λ x. x) (IsSignedContents Alg.spells) AnyFault (left cons.old) (left cons.new) result }
+    {
+        let mut after = *cons;
+        let signed = match after.capture_one(alloc) {
+            Ok(signed) => signed,
+            Err(e) => return Err(e),
+        };
+        let algorithm = match Alg::x509_take_from(&mut after) {
+            Ok(algorithm) => algorithm,
+            Err(e) => return Err(e),
+        };
+        let value = match signature_value(&mut after) {
+            Ok(value) => value,
+            Err(e) => return Err(e),
+        };
+        *cons = after;
+        Ok(SignedData::new(signed, Signature::new(algorithm, value)))
+    }
+
+    /// Signed data: a SEQUENCE of the three parts and of nothing else.
+    ///
+    /// The refusal of a SEQUENCE where that refuses; else those of the parts, Trailing for octets that follow them,
+    /// and OutOfMemory where memory runs out.
+    pub fn take_from(
+        alloc: Global,
+        cons: &mut Constructed<'_>,
+    ) -> Result<SignedData<Alg>, DecodeError>
+        ensures { Reads (λ x. x) (SpellsSigned Alg.spells) (GivesOuterFault sequence true) (left cons.old) (left cons.new) result }
+    {
+        let mut after = *cons;
+        let mut inner = match after.take_sequence() {
+            Ok(inner) => inner,
+            Err(e) => return Err(e),
+        };
+        let found = match SignedData::from_constructed(alloc, &mut inner) {
+            Ok(found) => found,
+            Err(e) => return Err(e),
+        };
+        match inner.finish() {
+            Ok(()) => {
+                *cons = after;
+                Ok(found)
+            }
+            Err(e) => Err(e),
+        }
+    }
+
+    /// Signed data, and nothing else.
+    ///
+    /// The refusals of [SignedData::take_from]; Trailing where signed data is followed by something.
+    pub fn decode(alloc: Global, bytes: Bytes) -> Result<SignedData<Alg>, DecodeError>
+        ensures decodes { Decodes (λ x. x) (SpellsSigned Alg.spells) (IsWholeFault (SpellsSigned Alg.spells) (GivesOuterFault sequence true)) bytes result }
+        // It is written as it was read exactly where its algorithm was spelled as it is written, and no bit was unused.
+        ensures again { IfOk result (λ v. (text : List ℕ) (unused : ℕ) → Alg.spells v.algorithm text → bytes ≡ signed_octets v.signed text unused v.value →
+            (written_signed Alg.written v ≡ bytes) ↔ ((text ≡ Alg.written v.algorithm) × (unused ≡ 0))) }
+        // Where the algorithm has one spelling, all inputs of this value differ in the count of unused bits alone.
+        ensures one_count { IfOk result (λ v. (other : List ℕ) → SpellsSigned Alg.spells v other →
+            ((s t : List ℕ) → Alg.spells v.algorithm s → Alg.spells v.algorithm t → s ≡ t) → DifferInCount v.value bytes other) }
+    {
+        let mut cons = Constructed::new(&bytes);
+        let found = match SignedData::take_from(alloc, &mut cons) {
+            Ok(found) => found,
+            Err(e) => return Err(e),
+        };
+        match cons.finish() {
+            Ok(()) => Ok(found),
+            Err(e) => Err(e),
+        }
+    }
+}
+
+impl<Alg: SignatureAlgorithm + 'static> SignedData<Alg> {
+    /// What writes the signed data: the very slice, the algorithm as it is written, and the signature without unused
+    /// bits.
+    pub fn encode_ref(
+        &self,
+    ) -> Sequence<
+        (
+            &Captured,
+            Alg::Encoder,
+            Primitive<SignatureValueContent<'_, Alg>>,
+        ),
+    >
+        ensures octets { ⟦<Sequence<(&'static Captured, Alg::Encoder, Primitive<SignatureValueContent<'static, Alg>>)> as Values>⟧.encoded result ≡ written_signed Alg.written self.now }
+        // It fits exactly where its contents have fewer than 2^32 octets.
+        ensures short { ⟦<Sequence<(&'static Captured, Alg::Encoder, Primitive<SignatureValueContent<'static, Alg>>)> as Values>⟧.is_short result
+            ↔ (length (written_contents Alg.written self.now) < 2 ^ 32) }
+        // What is written is read as the normal form.
+        ensures read_back { length (written_contents Alg.written self.now) < 2 ^ 32 → SpellsSigned Alg.spells (normal_parts Alg.norm self.now) (written_signed Alg.written self.now) }
+        // Two values are written as the same octets exactly where their normal forms are equal.
+        ensures same { (other : SignedParts Alg) → IsValue other.signed → length (written_contents Alg.written self.now) < 2 ^ 32 → length (written_contents Alg.written other) < 2 ^ 32 →
+            (written_signed Alg.written self.now ≡ written_signed Alg.written other) ↔ (normal_parts Alg.norm self.now ≡ normal_parts Alg.norm other) }
+    {
+        let signature = SignatureValueContent {
+            signature: &self.signature,
+        };
+        Sequence::new((
+            &self.signed,
+            self.signature.algorithm().x509_encode(),
+            signature.encode(),
+        ))
+    }
+}
+
+impl<Alg: SignatureAlgorithm> SignedData<Alg> {
+    /// Whether the signature is by this key over the very slice, as the provider says.
+    ///
+    /// It is refused where the algorithm has keys of another format, and where the provider says no.
+    pub fn verify_signature<P: Provider>(
+        &self,
+        provider: &P,
+        key: &PublicKey,
+    ) -> Result<(), SignatureVerificationError>
+        ensures { IsOk result ↔ Verifies (P.rsa_of provider.now) (P.ecdsa_of provider.now) (Alg.format self.now.algorithm) key.now.format key.now.bits.octets self.now.signed self.now.value }
+    {
+        key.verify(provider, self.signed.as_slice(), &self.signature)
+    }
+}
+
+/// Two values of the RPKI are equal where their slices and their signatures are, and both algorithms or neither have
+/// parameters.
+impl PartialEq for SignedData<RpkiSignatureAlgorithm> {
+    ghost use Rattle.std.specs.Cmp.{partial_equiv_from_equiv};
+    ghost use Rattle.rpki.specs.SignedEqual.{same_signed, same_signed_equivalence};
+
+    ghost eq = { same_signed };
+
+    ghost laws = { partial_equiv_from_equiv same_signed_equivalence };
+
+    fn eq(&self, other: &Self) -> bool {
+        self.signed.as_slice() == other.signed.as_slice()
+            && *self.signature.algorithm() == *other.signature.algorithm()
+            && self.signature.value().as_slice() == other.signature.value().as_slice()
+    }
+}
+
+impl Eq for SignedData<RpkiSignatureAlgorithm> {
+    ghost use Rattle.rpki.specs.SignedEqual.{same_signed_equivalence};
+
+    ghost laws = { same_signed_equivalence };
+}
+
+impl<Alg: Copy> SignedData<Alg> {
+    /// The same value, whose octets are shared.
+    ///
+    /// AllocError where memory runs out.
+    pub fn clone(&self) -> Result<SignedData<Alg>, AllocError>
+        ensures { IfOk result (λ v. v ≡ self.now) }
+    {
+        let signed = self.signed.clone()?;
+        let signature = self.signature.clone()?;
+        Ok(SignedData { signed, signature })
+    }
+}
+
+/// A signature's octets as the contents of a BIT STRING without unused bits (X.690 8.6).
+#[derive(Clone, Copy, Debug)]
+pub struct SignatureValueContent<'a, Alg> {
+    signature: &'a Signature<Alg>,
+}
+
+impl<'a, Alg> PrimitiveContent for SignatureValueContent<'a, Alg> {
+    ghost use Rattle.rpki_der.specs.TagName.{bit_string};
+    ghost use Rattle.rpki_der.specs.Contents.{bits_contents};
+    ghost use Rattle.rpki_der.specs.Leaves.{bits_of};
+
+    ghost plain = { bit_string };
+
+    const TAG: Tag = Tag::BIT_STRING;
+
+    ghost contents = { λ x. bits_contents (bits_of 0 x.signature.now.value) };
+
+    fn plain_tag(&self) -> Tag {
+        Tag::BIT_STRING
+    }
+
+    fn encoded_len(&self) -> u64 {
+        self.signature.value().len() as u64 + 1
+    }
+
+    fn write_encoded<W: Write>(&self, out: &mut W) -> Result<(), io::Error> {
+        match write_whole(out, &[0]) {
+            Ok(()) => write_whole(out, self.signature.value().as_slice()),
+            Err(e) => Err(e),
+        }
+    }
+}
+
+/// The octets of a signature, whatever its count of unused bits.
+fn signature_value(cons: &mut Constructed<'_>) -> Result<Bytes, DecodeError>
+    ensures { Reads (λ v. v) SpellsSignature AnyFault (left cons.old) (left cons.new) result }
+{
+    let mut after = *cons;
+    let bits = match after.take_bit_string() {
+        Ok(bits) => bits,
+        Err(e) => return Err(e),
+    };
+    match bits.octet_bytes() {
+        Ok(value) => {
+            *cons = after;
+            Ok(value)
+        }
+        Err(_) => Err(DecodeError::OutOfMemory),
+    }
+}

@@ -1,0 +1,24 @@
+//! Options that are given a value once.
+
+ghost use Rattle.rpki.specs.UpdateFirst.{UpdatesFirst};
+
+/// Calls the operation, and keeps what it gives where nothing was there.
+///
+/// The operation's refusal, with nothing changed.
+pub fn update_first<T: Drop, E, F: FnOnce() -> Result<Option<T>, E>>(
+    option: &mut Option<T>,
+    op: F,
+) -> Result<(), E>
+    requires { F.IsAlwaysCallable op }
+    ensures { UpdatesFirst (F.post op) option.old option.new result }
+{
+    match op() {
+        Ok(given) => {
+            if option.is_none() {
+                *option = given;
+            }
+            Ok(())
+        }
+        Err(e) => Err(e),
+    }
+}

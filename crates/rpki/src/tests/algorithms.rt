@@ -1,0 +1,252 @@
+//! Algorithm identifiers.
+
+use super::written;
+use crate::crypto::{
+    BgpsecSignatureAlgorithm, DigestAlgorithm, PublicKeyFormat, RpkiSignatureAlgorithm,
+    SignatureAlgorithm, SigningAlgorithm, sha1_digest,
+};
+use crate::tests::{Always, DIGEST_OF_ABC};
+use bytes::Bytes;
+use rpki_der::{Constructed, ContentError, DecodeError};
+use std::alloc::{AllocError, Global};
+use std::test::Fail;
+
+#[derive(Clone, Copy, Debug)]
+enum Reader {
+    Digest,
+    OptionalDigest,
+    DigestSet,
+    SkippedSet,
+    DigestName,
+    Format,
+    Rpki,
+    Cms,
+    Bgpsec,
+}
+
+fn refused<T: Drop>(answer: Result<T, DecodeError>) -> u8 {
+    match answer {
+        Ok(_) => 0,
+        Err(e) => e.number(),
+    }
+}
+
+/// The number of the refusal, or 0, and how many octets are left.
+fn read(reader: Reader, octets: &'static [u8]) -> (u8, usize) {
+    let source: Bytes = Bytes::from_static(octets);
+    let mut cons = Constructed::new(&source);
+    let number = match reader {
+        Reader::Digest => refused(DigestAlgorithm::take_from(&mut cons)),
+        Reader::OptionalDigest => refused(DigestAlgorithm::take_opt_from(&mut cons)),
+        Reader::DigestSet => refused(DigestAlgorithm::take_set_from(&mut cons)),
+        Reader::SkippedSet => refused(DigestAlgorithm::skip_set(&mut cons)),
+        Reader::DigestName => refused(DigestAlgorithm::take_oid_from(&mut cons)),
+        Reader::Format => refused(PublicKeyFormat::take_from(&mut cons)),
+        Reader::Rpki => match RpkiSignatureAlgorithm::x509_take_from(&mut cons) {
+            Ok(_) => 0,
+            Err(e) => e.number(),
+        },
+        Reader::Cms => match RpkiSignatureAlgorithm::cms_take_from(&mut cons) {
+            Ok(_) => 0,
+            Err(e) => e.number(),
+        },
+        Reader::Bgpsec => match BgpsecSignatureAlgorithm::x509_take_from(&mut cons) {
+            Ok(_) => 0,
+            Err(e) => e.number(),
+        },
+    };
+    (number, cons.rest().len())
+}
+
+const DIGEST: &[u8] = b"\x30\x0B\x06\x09\x60\x86\x48\x01\x65\x03\x04\x02\x01";
+
+const DIGEST_WITH_NULL: &[u8] = b"\x30\x0D\x06\x09\x60\x86\x48\x01\x65\x03\x04\x02\x01\x05\x00";
+
+const DIGEST_SET: &[u8] = b"\x31\x0D\x30\x0B\x06\x09\x60\x86\x48\x01\x65\x03\x04\x02\x01";
+
+const DIGEST_TWICE: &[u8] =
+    b"\x31\x1A\x30\x0B\x06\x09\x60\x86\x48\x01\x65\x03\x04\x02\x01\x30\x0B\x06\x09\x60\x86\x48\x01\x65\x03\x04\x02\x01";
+
+const DIGEST_NAME: &[u8] = b"\x06\x09\x60\x86\x48\x01\x65\x03\x04\x02\x01";
+
+const RSA_KEY: &[u8] = b"\x30\x0D\x06\x09\x2A\x86\x48\x86\xF7\x0D\x01\x01\x01\x05\x00";
+
+const RSA_KEY_WITHOUT: &[u8] = b"\x30\x0B\x06\x09\x2A\x86\x48\x86\xF7\x0D\x01\x01\x01";
+
+const P256_KEY: &[u8] =
+    b"\x30\x13\x06\x07\x2A\x86\x48\xCE\x3D\x02\x01\x06\x08\x2A\x86\x48\xCE\x3D\x03\x01\x07";
+
+const CURVE_MISSING: &[u8] = b"\x30\x09\x06\x07\x2A\x86\x48\xCE\x3D\x02\x01";
+
+const RSA_SIGNATURE: &[u8] = b"\x30\x0D\x06\x09\x2A\x86\x48\x86\xF7\x0D\x01\x01\x0B\x05\x00";
+
+const RSA_SIGNATURE_WITHOUT: &[u8] = b"\x30\x0B\x06\x09\x2A\x86\x48\x86\xF7\x0D\x01\x01\x0B";
+
+const BGPSEC: &[u8] = b"\x30\x0A\x06\x08\x2A\x86\x48\xCE\x3D\x04\x03\x02";
+
+const BGPSEC_WITH_NULL: &[u8] = b"\x30\x0C\x06\x08\x2A\x86\x48\xCE\x3D\x04\x03\x02\x05\x00";
+
+const READINGS: &[(Reader, &[u8], (u8, usize))] = &[
+    (Reader::Digest, DIGEST, (0, 0)),
+    (Reader::Digest, DIGEST_WITH_NULL, (0, 0)),
+    (Reader::Digest, RSA_KEY, (5, 15)),
+    (Reader::OptionalDigest, DIGEST, (0, 0)),
+    (Reader::OptionalDigest, DIGEST_NAME, (0, 11)),
+    (Reader::OptionalDigest, b"\x10\x00", (4, 2)),
+    (Reader::DigestSet, DIGEST_SET, (0, 0)),
+    (Reader::DigestSet, b"\x30\x00", (4, 2)),
+    (Reader::SkippedSet, DIGEST_SET, (0, 0)),
+    (Reader::SkippedSet, b"\x31\x00", (1, 2)),
+    (Reader::SkippedSet, DIGEST_TWICE, (6, 28)),
+    (Reader::DigestName, DIGEST_NAME, (0, 0)),
+    (Reader::DigestName, DIGEST, (4, 13)),
+    (Reader::Format, RSA_KEY, (0, 0)),
+    (Reader::Format, RSA_KEY_WITHOUT, (0, 0)),
+    (Reader::Format, P256_KEY, (0, 0)),
+    (Reader::Format, CURVE_MISSING, (1, 11)),
+    (Reader::Format, BGPSEC, (5, 12)),
+    (Reader::Format, b"\x31\x00", (4, 2)),
+    (Reader::Format, b"\x30\x81\x00", (3, 3)),
+    (Reader::Rpki, RSA_SIGNATURE, (0, 0)),
+    (Reader::Rpki, RSA_SIGNATURE_WITHOUT, (0, 0)),
+    (Reader::Rpki, RSA_KEY, (5, 15)),
+    (Reader::Cms, RSA_KEY, (0, 0)),
+    (Reader::Cms, RSA_KEY_WITHOUT, (0, 0)),
+    (Reader::Cms, RSA_SIGNATURE, (0, 0)),
+    (Reader::Cms, RSA_SIGNATURE_WITHOUT, (0, 0)),
+    (Reader::Cms, BGPSEC, (5, 12)),
+    (Reader::Bgpsec, BGPSEC, (0, 0)),
+    (Reader::Bgpsec, BGPSEC_WITH_NULL, (6, 14)),
+    (Reader::Bgpsec, RSA_SIGNATURE, (5, 15)),
+];
+
+#[test]
+fn algorithm_identifiers_are_read(rt: HostRuntime) {
+    for (reader, octets, expected) in READINGS {
+        assert_eq!(rt;
+            read(*reader, octets),
+            *expected,
+            "{reader:?} of {octets:?}"
+        );
+    }
+}
+
+#[derive(Clone, Copy, Debug)]
+enum Writer {
+    Digest,
+    DigestSet,
+    DigestName,
+    RsaKey,
+    P256Key,
+    Rpki,
+    Cms,
+    Bgpsec,
+}
+
+fn write(alloc: Global, writer: Writer) -> Result<Option<Bytes>, AllocError> {
+    let digest = DigestAlgorithm::default();
+    let rpki = RpkiSignatureAlgorithm::default();
+    match writer {
+        Writer::Digest => written(alloc, &digest.encode()),
+        Writer::DigestSet => written(alloc, &digest.encode_set()),
+        Writer::DigestName => written(alloc, &digest.encode_oid()),
+        Writer::RsaKey => written(alloc, &PublicKeyFormat::from(rpki).encode()),
+        Writer::P256Key => written(alloc, &PublicKeyFormat::EcdsaP256.encode()),
+        Writer::Rpki => written(alloc, &rpki.x509_encode()),
+        Writer::Cms => written(alloc, &rpki.cms_encode()),
+        Writer::Bgpsec => written(alloc, &BgpsecSignatureAlgorithm::default().x509_encode()),
+    }
+}
+
+const WRITINGS: &[(Writer, &[u8])] = &[
+    (Writer::Digest, DIGEST),
+    (Writer::DigestSet, DIGEST_SET),
+    (Writer::DigestName, DIGEST_NAME),
+    (Writer::RsaKey, RSA_KEY),
+    (Writer::P256Key, P256_KEY),
+    (Writer::Rpki, RSA_SIGNATURE),
+    (Writer::Cms, RSA_KEY),
+    (Writer::Bgpsec, BGPSEC),
+];
+
+#[test]
+fn algorithm_identifiers_are_written(rt: HostRuntime) -> Result<(), Fail> {
+    for (writer, expected) in WRITINGS {
+        let octets = write(rt.alloc(), *writer)?.ok_or("too long")?;
+        assert_eq!(rt; octets.as_slice(), *expected, "{writer:?}");
+    }
+    Ok(())
+}
+
+/// What is read where the object identifier isn't known.
+fn unknown(format: bool) -> Option<DecodeError> {
+    let source: Bytes = Bytes::from_static(DIGEST);
+    let mut cons = Constructed::new(&source);
+    if format {
+        match PublicKeyFormat::take_from(&mut cons) {
+            Ok(_) => None,
+            Err(e) => Some(e),
+        }
+    } else {
+        match RpkiSignatureAlgorithm::cms_take_from(&mut cons) {
+            Ok(_) => None,
+            Err(e) => Some(e),
+        }
+    }
+}
+
+#[test]
+fn unknown_identifiers_are_named(rt: HostRuntime) {
+    for (format, text) in [
+        (true, "invalid public key format"),
+        (false, "invalid signature algorithm"),
+    ] {
+        let expected = DecodeError::Content(ContentError::from_static(text));
+        assert_eq!(rt; unknown(format), Some(expected), "{text}");
+    }
+}
+
+#[test]
+fn algorithms_have_formats(rt: HostRuntime) {
+    let rpki = RpkiSignatureAlgorithm::default();
+    let bgpsec = BgpsecSignatureAlgorithm::default();
+    let cases = [
+        (
+            rpki.signing_algorithm(),
+            SigningAlgorithm::RsaSha256,
+            rpki.public_key_format(),
+            true,
+        ),
+        (
+            bgpsec.signing_algorithm(),
+            SigningAlgorithm::EcdsaP256Sha256,
+            bgpsec.public_key_format(),
+            false,
+        ),
+    ];
+    for (found, expected, format, rpki_key) in cases {
+        assert_eq!(rt; found, expected, "the algorithm");
+        assert_eq!(rt;
+            format.allow_rpki_cert(),
+            rpki_key,
+            "keys of certificates, {expected:?}"
+        );
+        assert_eq!(rt;
+            format.allow_router_cert(),
+            !rpki_key,
+            "keys of routers, {expected:?}"
+        );
+    }
+}
+
+#[test]
+fn digests_are_the_providers(rt: HostRuntime) {
+    let provider = Always { answer: false };
+    let algorithm = DigestAlgorithm::sha256();
+    assert!(rt; algorithm.is_sha256());
+    assert_eq!(rt;
+        algorithm.digest(&provider, b"abc").len(),
+        algorithm.digest_len()
+    );
+    assert_eq!(rt; sha1_digest(&provider, b"abc"), DIGEST_OF_ABC);
+}

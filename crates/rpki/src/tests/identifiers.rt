@@ -1,0 +1,148 @@
+//! Key identifiers.
+
+use super::{Always, DIGEST_OF_ABC, written};
+use crate::crypto::{
+    KeyIdentifier, KeyIdentifierSliceError, ParseKeyIdentifierError, PublicKey,
+    SignatureVerificationError,
+};
+use bytes::Bytes;
+use rpki_der::{Constructed, Content, ContentError, DecodeError, PrimitiveContent};
+use std::test::Fail;
+
+const DIGITS: &str = "A9993E364706816ABA3E25717850C26C9CD0D89D";
+
+const TEXTS: &[(&str, bool)] = &[
+    (DIGITS, true),
+    ("a9993e364706816aba3e25717850c26c9cd0d89d", true),
+    ("A9993E364706816ABA3E25717850C26C9CD0D89", false),
+    ("A9993E364706816ABA3E25717850C26C9CD0D89DA", false),
+    ("+9993E364706816ABA3E25717850C26C9CD0D89D", false),
+    ("A9993E364706816ABA3E25717850C26C9CD0D8+F", false),
+    ("G9993E364706816ABA3E25717850C26C9CD0D89D", false),
+    ("", false),
+];
+
+#[test]
+fn identifiers_are_parsed(rt: HostRuntime) {
+    for (text, accepted) in TEXTS {
+        match text.parse::<KeyIdentifier>() {
+            Ok(found) => {
+                assert!(rt; *accepted, "accepted: {text}");
+                assert_eq!(rt; found.as_slice(), DIGEST_OF_ABC.as_slice(), "{text}");
+            }
+            Err(_) => assert!(rt; !*accepted, "refused: {text}"),
+        }
+    }
+}
+
+#[test]
+fn identifiers_are_shown(rt: HostRuntime) -> Result<(), Fail> {
+    let key = PublicKey::decode(Bytes::from_static(
+        b"\x30\x15\x30\x0D\x06\x09\x2A\x86\x48\x86\xF7\x0D\x01\x01\x01\x05\x00\x03\x04\x00\x61\x62\x63",
+    ))?;
+    let found = key.key_identifier(&Always { answer: true });
+    assert_eq!(rt; found.into_hex().as_slice(), DIGITS.as_bytes());
+    assert!(rt; found.eq_bytes(&DIGEST_OF_ABC));
+    let octets: [u8; 20] = found.into();
+    assert_eq!(rt; octets, DIGEST_OF_ABC);
+    let shown = format!(in rt.alloc(); "{found} {found:?}")?;
+    assert_eq!(rt;
+        shown.as_str(),
+        "A9993E364706816ABA3E25717850C26C9CD0D89D KeyIdentifier(A9993E364706816ABA3E25717850C26C9CD0D89D)"
+    );
+    Ok(())
+}
+
+const SPELLED: &[u8] =
+    b"\x04\x14\xA9\x99\x3E\x36\x47\x06\x81\x6A\xBA\x3E\x25\x71\x78\x50\xC2\x6C\x9C\xD0\xD8\x9D";
+
+const NINETEEN: &[u8] =
+    b"\x04\x13\xA9\x99\x3E\x36\x47\x06\x81\x6A\xBA\x3E\x25\x71\x78\x50\xC2\x6C\x9C\xD0\xD8";
+
+/// What is read: 0 for an identifier, 8 for none, else the number of the refusal; and how many octets are left.
+fn optional(octets: &'static [u8]) -> (u8, usize) {
+    let source: Bytes = Bytes::from_static(octets);
+    let mut cons = Constructed::new(&source);
+    let number = match KeyIdentifier::take_opt_from(&mut cons) {
+        Ok(Some(_)) => 0,
+        Ok(None) => 8,
+        Err(e) => e.number(),
+    };
+    (number, cons.rest().len())
+}
+
+/// The same where the identifier is passed over.
+fn skipped(octets: &'static [u8]) -> (u8, usize) {
+    let source: Bytes = Bytes::from_static(octets);
+    let mut cons = Constructed::new(&source);
+    let number = match KeyIdentifier::skip_opt_in(&mut cons) {
+        Ok(Some(())) => 0,
+        Ok(None) => 8,
+        Err(e) => e.number(),
+    };
+    (number, cons.rest().len())
+}
+
+/// The refusal of an identifier.
+fn refusal_of(octets: &'static [u8]) -> Option<DecodeError> {
+    let source: Bytes = Bytes::from_static(octets);
+    match KeyIdentifier::take_from(&mut Constructed::new(&source)) {
+        Ok(_) => None,
+        Err(e) => Some(e),
+    }
+}
+
+/// The refusal of contents.
+fn content_refusal(content: &Content<'_>) -> Option<DecodeError> {
+    match KeyIdentifier::from_content(content) {
+        Ok(_) => None,
+        Err(e) => Some(e),
+    }
+}
+
+const OPTIONAL: &[(&[u8], (u8, usize))] = &[
+    (SPELLED, (0, 0)),
+    (NINETEEN, (5, 21)),
+    (b"\x05\x00", (8, 2)),
+    (b"", (8, 0)),
+    (b"\x04", (1, 1)),
+    (b"\x24\x7F", (4, 2)),
+];
+
+#[test]
+fn identifiers_are_read(rt: HostRuntime) {
+    for (octets, expected) in OPTIONAL {
+        assert_eq!(rt; optional(octets), *expected, "{octets:?}");
+        assert_eq!(rt; skipped(octets), *expected, "skipped: {octets:?}");
+    }
+    let refusal = DecodeError::Content(ContentError::from_static("invalid key identifier"));
+    assert_eq!(rt; refusal_of(NINETEEN), Some(refusal));
+}
+
+#[test]
+fn identifiers_are_contents(rt: HostRuntime) -> Result<(), Fail> {
+    let identifier = KeyIdentifier::from(DIGEST_OF_ABC);
+    let octets = written(rt.alloc(), &identifier.encode())?.ok_or("too long")?;
+    assert_eq!(rt; octets.as_slice(), SPELLED);
+    let cons = Constructed::new(&octets);
+    assert_eq!(rt;
+        content_refusal(&Content::Constructed(cons)),
+        Some(DecodeError::Unexpected)
+    );
+    assert_eq!(rt; content_refusal(&Content::Primitive(&DIGEST_OF_ABC)), None);
+    assert!(rt; KeyIdentifier::try_from(SPELLED).is_err());
+    Ok(())
+}
+
+#[test]
+fn errors_have_texts(rt: HostRuntime) -> Result<(), Fail> {
+    let shown = format!(in rt.alloc();
+        "{ParseKeyIdentifierError}; {KeyIdentifierSliceError}; {SignatureVerificationError}; {}",
+        ContentError::from(SignatureVerificationError)
+    )?;
+    assert_eq!(rt;
+        shown.as_str(),
+        "invalid key identifier; invalid slice for key identifier; signature verification failed; signature verification failed"
+    );
+    Ok(())
+}
