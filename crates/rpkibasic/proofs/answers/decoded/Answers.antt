@@ -1,0 +1,8 @@
+use Rattle.std.proofs.Common.{sym}
+use Rattle.rpkibasic.specs.Run.{SpellsRpki}
+use Rattle.rpkibasic.proofs.Faults.{fault-of}
+use Rattle.rpkibasic.proofs.answers.decoded.Goals as goal
+
+pub returns-in-Err-decode : goal.returns-in-Err-decode
+returns-in-Err-decode c =
+    rw c.from.ensures (fault-of SpellsRpki ⊥ c.args.input.items c.in-Err-decode.e (rw c.in-Ok.ensures.ok at c.in-Err-decode.ensures.decodes))

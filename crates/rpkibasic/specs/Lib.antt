@@ -1,0 +1,6 @@
+pub mod Fault
+pub mod Command
+pub mod UriLines
+pub mod Table
+pub mod Run
+pub mod View

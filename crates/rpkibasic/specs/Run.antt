@@ -1,0 +1,106 @@
+-- What a run answers, and what is seen of it.
+use Rattle.std.specs.Prelude.{◌≡◌, ◌≢◌, ◌⊎◌, ℕ, Bool, true, ◌<◌, ◌≤◌, ◌^◌, List, [], ◌∷◌, ◌++◌, length, Option, Some, None, Result, Ok, Err}
+use Rattle.std.specs.Io.KnownBytes.{Appends}
+use Rattle.rpki_der.specs.declared.error.DecodeError.{DecodeError}
+use Rattle.rpki_der.specs.declared.error.DecodeError.TheVariants as der
+use Rattle.rpki_der.specs.Reading.{SpellsNothing, IsWholeFault}
+use Rattle.rpki_der.specs.Values.{GivesOuterFault}
+use Rattle.rpki_der.specs.TagName.{sequence}
+use Rattle.rpki_der.specs.Written.{AppendsCut, AppendsBeginning}
+use Rattle.rpki.specs.Oids.{sha256_with_rsa_encryption}
+use Rattle.rpki.specs.Algorithm.{SpellsAlgorithm}
+use Rattle.rpki.specs.AlgorithmOctets.{algorithm_octets}
+use Rattle.rpki.specs.SignedData.{SignedParts, SpellsSigned, written_contents, written_signed}
+use Rattle.rpki.specs.PublicKey.{KeyParts, SpellsKey}
+use Rattle.rpki_text.specs.HexText.{hex_text}
+use Rattle.sha1.specs.Sha1.{sha1}
+use Rattle.rpki_text.specs.declared.uri.error.Error.{Error}
+use Rattle.rpkibasic.specs.UriLines.{without_last_line_feed, uri_refusal_of, uri_lines}
+use Rattle.rpkibasic.specs.Fault.{usage_text, line, status_of}
+use Rattle.rpkibasic.specs.declared.fault.Fault.{Fault}
+use Rattle.rpkibasic.specs.declared.fault.Fault.TheVariants.{Usage, Refused, RefusedUri, TooLong, OutOfMemory, Input, Output}
+use Rattle.rpkibasic.specs.declared.command.Command.{Command}
+use Rattle.rpkibasic.specs.declared.command.Command.TheVariants.{Again, Data, Key, Uri}
+
+-- ---- what is answered: a text, or a fault
+
+abbrev pub Answer : Type 0
+Answer = Result (List ℕ) Fault
+
+-- signed data of the RPKI: the parameters of the algorithm are there, or they aren't
+abbrev pub Signed : Type 0
+Signed = SignedParts Bool
+
+abbrev pub SpellsRpki : Signed → List ℕ → Type 0
+SpellsRpki = SpellsSigned (SpellsAlgorithm sha256_with_rsa_encryption)
+
+abbrev pub written_algorithm : Bool → List ℕ
+written_algorithm present = algorithm_octets sha256_with_rsa_encryption true
+
+-- Why an input gives no text: it is in the grammar of none, and the reader of whole octets refuses it so; or T; or memory
+-- ran out; or it could not be read to its end.
+abbrev pub IsFaultOf : {V : Type 0} → (V → List ℕ → Type 0) → Type 0 → List ℕ → Fault → Type 0
+IsFaultOf G T input (Refused e) = (e ≢ der.OutOfMemory) × SpellsNothing G input × IsWholeFault G (GivesOuterFault sequence true) input e
+IsFaultOf G T input (RefusedUri e) = ⊥
+IsFaultOf G T input TooLong = T
+IsFaultOf G T input OutOfMemory = Unit {0}
+IsFaultOf G T input Input = Unit {0}
+IsFaultOf G T input Usage = ⊥
+IsFaultOf G T input Output = ⊥
+
+-- The input is signed data, and the text is what is written of it.
+abbrev pub IsAgain : List ℕ → List ℕ → Type 0
+IsAgain input text = (x : Signed) × SpellsRpki x input × (length (written_contents written_algorithm x) < 2 ^ 32) × (text ≡ written_signed written_algorithm x)
+
+-- The input is signed data, and no length can announce the contents that would be written.
+abbrev pub IsTooLong : List ℕ → Type 0
+IsTooLong input = (x : Signed) × SpellsRpki x input × (2 ^ 32 ≤ length (written_contents written_algorithm x))
+
+-- The input is signed data, and the text is the signed slice.
+abbrev pub IsSlice : List ℕ → List ℕ → Type 0
+IsSlice input text = (x : Signed) × SpellsRpki x input × (text ≡ x.signed)
+
+-- The input is a public key, and the text is a line: its identifier, the SHA-1 digest of its bits, in hexadecimal digits.
+abbrev pub IsKeyLine : List ℕ → List ℕ → Type 0
+IsKeyLine input text = (k : KeyParts) × SpellsKey k input × (text ≡ hex_text (sha1 k.bits.octets) ++ 10 ∷ [])
+
+-- The input is a text with which nothing is wrong as a URI, and these are its lines.
+abbrev pub IsLines : List ℕ → List ℕ → Type 0
+IsLines input text = (uri_refusal_of (without_last_line_feed input) ≡ None) × (text ≡ uri_lines (without_last_line_feed input))
+
+-- Why a text has no lines: what is wrong with it first; or memory ran out; or it could not be read to its end.
+abbrev pub IsRefusedText : Option Error → Fault → Type 0
+IsRefusedText wrong (RefusedUri e) = wrong ≡ Some e
+IsRefusedText wrong OutOfMemory = Unit {0}
+IsRefusedText wrong Input = Unit {0}
+IsRefusedText wrong (Refused e) = ⊥
+IsRefusedText wrong TooLong = ⊥
+IsRefusedText wrong Usage = ⊥
+IsRefusedText wrong Output = ⊥
+
+-- what each command asks of the input
+abbrev pub Answers : Command → List ℕ → Answer → Type 0
+Answers Again input (Ok text) = IsAgain input text
+Answers Again input (Err fault) = IsFaultOf SpellsRpki (IsTooLong input) input fault
+Answers Data input (Ok text) = IsSlice input text
+Answers Data input (Err fault) = IsFaultOf SpellsRpki ⊥ input fault
+Answers Key input (Ok text) = IsKeyLine input text
+Answers Key input (Err fault) = IsFaultOf SpellsKey ⊥ input fault
+Answers Uri input (Ok text) = IsLines input text
+Answers Uri input (Err fault) = IsRefusedText (uri_refusal_of (without_last_line_feed input)) fault
+
+-- without words, and with other words
+abbrev pub usage_answer : List (List ℕ) → Answer
+usage_answer [] = Ok usage_text
+usage_answer (word ∷ words) = Err Usage
+
+-- ---- what is seen of it
+
+-- A text goes to the output, the faults are left alone and the status is 0; or the output failed, holds a beginning of
+-- the text and not all of it, a beginning of the line that says so goes to the faults and the status is 1. Of a fault a
+-- beginning of its line goes to the faults, and the output is left alone.
+abbrev pub Shows : (old new was is : Option (List ℕ)) → Answer → ℕ → Type 0
+Shows old new was is (Ok text) status =
+    (Appends old new text × Appends was is [] × (status ≡ 0))
+    ⊎ (AppendsCut old new text × AppendsBeginning was is (line Output) × (status ≡ 1))
+Shows old new was is (Err fault) status = Appends old new [] × AppendsBeginning was is (line fault) × (status ≡ status_of fault)

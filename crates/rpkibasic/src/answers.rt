@@ -1,0 +1,73 @@
+//! What each command answers.
+
+ghost use Rattle.std.specs.Prelude.{◌≡◌, ◌≢◌, ◌<◌, ◌≤◌, ◌^◌, ◌⊎◌, length, true, MatchResult, IfSome};
+ghost use Rattle.rpkibasic.specs.Run.{SpellsRpki, IsFaultOf, Answers, written_algorithm};
+ghost use Rattle.rpkibasic.specs.View.{answer_of};
+ghost use Rattle.rpkibasic.specs.declared.command.Command.TheVariants.{Again, Data};
+ghost use Rattle.rpki.specs.SignedData.{written_contents, written_signed};
+
+use crate::fault::Fault;
+use bytes::Bytes;
+use rpki::crypto::RpkiSignatureAlgorithm;
+use rpki::der::Values;
+use rpki::repository::x509::SignedData;
+use std::alloc::Global;
+
+/// Signed data of the RPKI.
+type RpkiSignedData = SignedData<RpkiSignatureAlgorithm>;
+
+/// The signed data that the input is.
+fn decoded(alloc: Global, input: Vec<u8>) -> Result<RpkiSignedData, Fault>
+    ensures { MatchResult result (λ v. SpellsRpki v input.items) (λ f. IsFaultOf SpellsRpki ⊥ input.items f) }
+{
+    let octets = match Bytes::from_vec(input) {
+        Ok(octets) => octets,
+        Err(_) => return Err(Fault::OutOfMemory),
+    };
+    match SignedData::decode(alloc, octets) {
+        Ok(signed) => Ok(signed),
+        Err(e) => Err(Fault::from(e)),
+    }
+}
+
+/// What is written of the signed data.
+fn written(alloc: Global, signed: &RpkiSignedData) -> Result<Vec<u8>, Fault>
+    ensures { MatchResult result
+        (λ text. (length (written_contents written_algorithm signed.now) < 2 ^ 32) × (text.items ≡ written_signed written_algorithm signed.now))
+        (λ f. ((f ≡ Fault.TooLong) × (2 ^ 32 ≤ length (written_contents written_algorithm signed.now))) ⊎ (f ≡ Fault.OutOfMemory)) }
+{
+    let encoder = signed.encode_ref();
+    if !encoder.fits() {
+        return Err(Fault::TooLong);
+    }
+    let mut text = Vec::new(alloc);
+    match encoder.write_encoded(&mut text) {
+        Ok(()) => Ok(text),
+        Err(_) => Err(Fault::OutOfMemory),
+    }
+}
+
+/// Signed data, written again.
+pub fn again(alloc: Global, input: Vec<u8>) -> Result<Vec<u8>, Fault>
+    ensures { Answers Again input.items (answer_of result) }
+{
+    let signed = match decoded(alloc, input) {
+        Ok(signed) => signed,
+        Err(fault) => return Err(fault),
+    };
+    written(alloc, &signed)
+}
+
+/// The slice that is signed.
+pub fn slice(alloc: Global, input: Vec<u8>) -> Result<Vec<u8>, Fault>
+    ensures { Answers Data input.items (answer_of result) }
+{
+    let signed = match decoded(alloc, input) {
+        Ok(signed) => signed,
+        Err(fault) => return Err(fault),
+    };
+    match Vec::from_slice(alloc, signed.data().as_slice()) {
+        Ok(text) => Ok(text),
+        Err(_) => Err(Fault::OutOfMemory),
+    }
+}

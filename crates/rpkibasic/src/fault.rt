@@ -1,0 +1,111 @@
+//! Why nothing is answered.
+
+ghost use Rattle.std.specs.Prelude.{◌≡◌};
+ghost use Rattle.rpki_der.specs.Written.{Writes, AppendsBeginning};
+ghost use Rattle.rpkibasic.specs.Fault.{line, text_of, status_of};
+
+use rpki::der::{DecodeError, write_whole};
+use rpki::uri;
+use std::io;
+use std::io::Write;
+
+/// Why nothing is answered.
+#[derive(Clone, Copy, Debug, PartialEq, Eq)]
+pub enum Fault {
+    /// The words name no command.
+    Usage,
+    /// The input is refused as DER.
+    Refused(DecodeError),
+    /// The input is refused as a URI.
+    RefusedUri(uri::Error),
+    /// A length can't announce what would be written.
+    TooLong,
+    /// Memory ran out.
+    OutOfMemory,
+    /// The input could not be read to its end.
+    Input,
+    /// The output could not be written.
+    Output,
+}
+
+/// The line that tells how the program is used.
+pub const USAGE: &[u8] = b"usage: rpkibasic again|data|key|uri\n";
+
+impl Fault {
+    /// The exit status that goes with it.
+    pub fn status(self) -> u8
+        ensures { result ≡ status_of self }
+    {
+        match self {
+            Fault::Usage => 2,
+            _ => 1,
+        }
+    }
+}
+
+/// Want of memory is a fault of its own, and no refusal.
+impl From<DecodeError> for Fault {
+    ghost use Rattle.std.specs.Prelude.{◌≡◌};
+    ghost use Rattle.rpkibasic.specs.Fault.{refusal};
+
+    ghost from_gives = { λ e f. f ≡ refusal e };
+
+    fn from(e: DecodeError) -> Fault {
+        match e {
+            DecodeError::OutOfMemory => Fault::OutOfMemory,
+            e => Fault::Refused(e),
+        }
+    }
+}
+
+/// Want of memory is a fault of its own, and no refusal.
+impl From<uri::Error> for Fault {
+    ghost use Rattle.std.specs.Prelude.{◌≡◌};
+    ghost use Rattle.rpkibasic.specs.Fault.{uri_refusal};
+
+    ghost from_gives = { λ e f. f ≡ uri_refusal e };
+
+    fn from(e: uri::Error) -> Fault {
+        match e {
+            uri::Error::OutOfMemory => Fault::OutOfMemory,
+            e => Fault::RefusedUri(e),
+        }
+    }
+}
+
+/// The line of a fault that is no refusal, or of a refusal up to its number.
+fn text_of(fault: Fault) -> &'static [u8]
+    ensures { result.now ≡ text_of fault }
+{
+    match fault {
+        Fault::Usage => USAGE,
+        Fault::Refused(_) | Fault::RefusedUri(_) => b"refused ",
+        Fault::TooLong => b"too long\n",
+        Fault::OutOfMemory => b"out of memory\n",
+        Fault::Input => b"input could not be read\n",
+        Fault::Output => b"output could not be written\n",
+    }
+}
+
+/// Writes the line of the fault.
+fn write_line<F: Write>(faults: &mut F, fault: Fault) -> io::Result<()>
+    ensures { Writes (F.contents faults.old) (F.contents faults.new) result (line fault) }
+{
+    match write_whole(faults, text_of(fault)) {
+        Ok(()) => match fault {
+            Fault::Refused(e) => write_whole(faults, &[b'0' + e.number(), b'\n']),
+            Fault::RefusedUri(e) => write_whole(faults, &[b'0' + e.number(), b'\n']),
+            Fault::Usage | Fault::TooLong | Fault::OutOfMemory | Fault::Input | Fault::Output => Ok(
+                (),
+            ),
+        },
+        Err(e) => Err(e),
+    }
+}
+
+/// Writes the line of the fault, as far as the writer takes it.
+pub fn tell<F: Write>(faults: &mut F, fault: Fault)
+    ensures { AppendsBeginning (F.contents faults.old) (F.contents faults.new) (line fault) }
+{
+    let _ = write_line(faults, fault);
+}

@@ -1,0 +1,52 @@
+//! The identifier of a public key, as a line.
+
+ghost use Rattle.std.specs.Prelude.{◌≡◌, ◌++◌, ◌∷◌, [], IfOk, MatchResult};
+ghost use Rattle.rpki.specs.PublicKey.{SpellsKey};
+ghost use Rattle.rpki_text.specs.HexText.{hex_text};
+ghost use Rattle.rpkibasic.specs.Run.{IsFaultOf, Answers};
+ghost use Rattle.rpkibasic.specs.View.{answer_of};
+ghost use Rattle.rpkibasic.specs.declared.command.Command.TheVariants.{Key};
+
+use crate::fault::Fault;
+use crate::provider::BenchProvider;
+use bytes::Bytes;
+use rpki::crypto::{KeyIdentifier, PublicKey};
+use std::alloc::{AllocError, Global};
+
+/// The public key that the input is.
+fn decoded_key(input: Vec<u8>) -> Result<PublicKey, Fault>
+    ensures { MatchResult result (λ k. SpellsKey k input.items) (λ f. IsFaultOf SpellsKey ⊥ input.items f) }
+{
+    let octets = match Bytes::from_vec(input) {
+        Ok(octets) => octets,
+        Err(_) => return Err(Fault::OutOfMemory),
+    };
+    match PublicKey::decode(octets) {
+        Ok(key) => Ok(key),
+        Err(e) => Err(Fault::from(e)),
+    }
+}
+
+/// The line of the identifier: its hexadecimal digits.
+fn line_of(alloc: Global, identifier: KeyIdentifier) -> Result<Vec<u8>, AllocError>
+    ensures { IfOk result (λ line. line.items ≡ hex_text identifier ++ 10 ∷ []) }
+{
+    let mut line = Vec::from_slice(alloc, &identifier.into_hex())?;
+    line.push(b'\n')?;
+    Ok(line)
+}
+
+/// The line of the identifier of the public key that the input is.
+pub fn identifier(alloc: Global, input: Vec<u8>) -> Result<Vec<u8>, Fault>
+    ensures { Answers Key input.items (answer_of result) }
+{
+    let key = match decoded_key(input) {
+        Ok(key) => key,
+        Err(fault) => return Err(fault),
+    };
+    let provider = BenchProvider::new(Vec::new(alloc));
+    match line_of(alloc, key.key_identifier(&provider)) {
+        Ok(line) => Ok(line),
+        Err(_) => Err(Fault::OutOfMemory),
+    }
+}

@@ -1,0 +1,82 @@
+//! A run: words and input in, output and faults out.
+
+ghost use Rattle.std.specs.Prelude.{◌≡◌, [], ◌∷◌, IfSome, IfOk, IfErr, MatchResult, map, string_bytes, Result, Ok, Err};
+ghost use Rattle.rpkibasic.specs.Fault.{usage_text};
+ghost use Rattle.rpkibasic.specs.Command.{word_of};
+ghost use Rattle.rpkibasic.specs.Run.{Answer, Answers, Shows, usage_answer};
+ghost use Rattle.rpkibasic.specs.View.{answer_of, lent_of};
+ghost use Rattle.rpkibasic.specs.declared.command.Command.{Command as AnyCommand};
+
+use crate::answers::{again, slice};
+use crate::command::Command;
+use crate::fault::{Fault, USAGE, tell};
+use crate::input::read_all;
+use crate::keys::identifier;
+use crate::uris::lines;
+use rpki::der::write_whole;
+use std::alloc::Global;
+use std::io::{Read, Write};
+
+/// What the command answers to the input.
+fn answer<R: Read>(alloc: Global, command: Command, input: &mut R) -> Result<Vec<u8>, Fault>
+    ensures { IfSome (R.remaining input.old) (λ octets. Answers command octets (answer_of result)) }
+{
+    let octets = match read_all(alloc, input) {
+        Ok(octets) => octets,
+        Err(fault) => return Err(fault),
+    };
+    match command {
+        Command::Again => again(alloc, octets),
+        Command::Data => slice(alloc, octets),
+        Command::Key => identifier(alloc, octets),
+        Command::Uri => lines(alloc, octets),
+    }
+}
+
+/// Writes the answer: a text to the output, or the line of a fault to the faults. The exit status.
+fn show<W: Write, F: Write>(answer: Result<&[u8], Fault>, output: &mut W, faults: &mut F) -> u8
+    ensures { Shows (W.contents output.old) (W.contents output.new) (F.contents faults.old) (F.contents faults.new) (lent_of answer.entry) result }
+{
+    match answer {
+        Ok(text) => match write_whole(output, text) {
+            Ok(()) => 0,
+            Err(_) => {
+                tell(faults, Fault::Output);
+                Fault::Output.status()
+            }
+        },
+        Err(fault) => {
+            tell(faults, fault);
+            fault.status()
+        }
+    }
+}
+
+/// Answers the words, which are the program's arguments, over its input, and returns its exit status.
+///
+/// Without words the usage line goes to the output. With one word that the program knows, the input is read to its
+/// end, the answer is made, and only then is anything written. Other words get the usage line as a fault.
+pub fn run<R: Read, W: Write, F: Write>(
+    alloc: Global,
+    words: &[String],
+    input: &mut R,
+    output: &mut W,
+    faults: &mut F,
+) -> u8
+    // A command is answered from the whole input.
+    ensures replies { (command : AnyCommand) → map string_bytes words.now ≡ word_of command ∷ [] →
+        IfSome (R.remaining input.old) (λ octets. (a : Answer) × Answers command octets a
+        × Shows (W.contents output.old) (W.contents output.new) (F.contents faults.old) (F.contents faults.new) a result) }
+    // Other words get the usage line, and the input is unread.
+    ensures usage { ((command : AnyCommand) → map string_bytes words.now ≡ word_of command ∷ [] → ⊥) → (input.new ≡ input.old)
+        × Shows (W.contents output.old) (W.contents output.new) (F.contents faults.old) (F.contents faults.new) (usage_answer (map string_bytes words.now)) result }
+{
+    match Command::of(words) {
+        Some(command) => match answer(alloc, command, input) {
+            Ok(text) => show(Ok(text.as_slice()), output, faults),
+            Err(fault) => show(Err(fault), output, faults),
+        },
+        None if words.is_empty() => show(Ok(USAGE), output, faults),
+        None => show(Err(Fault::Usage), output, faults),
+    }
+}

@@ -1,0 +1,99 @@
+//! The parts of a URI, a line each.
+
+ghost use Rattle.std.specs.Prelude.{◌≡◌, ◌++◌, ◌∷◌, [], OnOk, MatchResult, IfOk, IfErr, Some, None};
+ghost use Rattle.rpkibasic.specs.Run.{Answers, IsRefusedText};
+ghost use Rattle.rpkibasic.specs.View.{answer_of};
+ghost use Rattle.rpkibasic.specs.UriLines.{without_last_line_feed, line_of, https_lines, rsync_lines};
+ghost use Rattle.rpkibasic.specs.declared.command.Command.TheVariants.{Uri};
+ghost use Rattle.rpki_text.specs.HttpsText.{https_refusal};
+ghost use Rattle.rpki_text.specs.RsyncText.{rsync_refusal};
+
+use crate::fault::Fault;
+use rpki::uri::{Https, Rsync, starts_with_ignore_case};
+use std::alloc::{AllocError, Global};
+
+/// The text without one line feed at its end.
+fn without_last_line_feed(text: &[u8]) -> &[u8]
+    ensures { result.now ≡ without_last_line_feed text.now }
+{
+    match text {
+        [line @ .., b'\n'] => line,
+        _ => text,
+    }
+}
+
+/// Adds a line: the word, which ends with a space, and the value.
+fn push_line(lines: &mut Vec<u8>, word: &str, value: &str) -> Result<(), AllocError>
+    ensures { OnOk result (lines.new.items ≡ lines.old.items ++ line_of word.now value.now) }
+{
+    lines.extend_from_slice(word.as_bytes())?;
+    lines.extend_from_slice(value.as_bytes())?;
+    lines.push(b'\n')?;
+    Ok(())
+}
+
+/// The lines of an https URI.
+fn lines_of_https(alloc: Global, uri: &Https) -> Result<Vec<u8>, AllocError>
+    ensures { IfOk result (λ lines. lines.items ≡ https_lines uri.now) }
+{
+    let authority = uri.canonical_authority(alloc)?;
+    let mut lines = Vec::new(alloc);
+    push_line(&mut lines, "scheme ", uri.scheme().as_str())?;
+    push_line(&mut lines, "authority ", authority.as_str())?;
+    push_line(&mut lines, "path ", uri.path())?;
+    Ok(lines)
+}
+
+/// The lines of an rsync URI.
+fn lines_of_rsync(alloc: Global, uri: &Rsync) -> Result<Vec<u8>, AllocError>
+    ensures { IfOk result (λ lines. lines.items ≡ rsync_lines uri.now) }
+{
+    let authority = uri.canonical_authority(alloc)?;
+    let mut lines = Vec::new(alloc);
+    push_line(&mut lines, "scheme ", "rsync")?;
+    push_line(&mut lines, "authority ", authority.as_str())?;
+    push_line(&mut lines, "module ", uri.module_name())?;
+    push_line(&mut lines, "path ", uri.path())?;
+    Ok(lines)
+}
+
+/// The lines of the https URI that the text is.
+fn https_text(alloc: Global, text: &[u8]) -> Result<Vec<u8>, Fault>
+    ensures { MatchResult result (λ lines. (https_refusal text.now ≡ None) × (lines.items ≡ https_lines text.now))
+        (λ f. IsRefusedText (https_refusal text.now) f) }
+{
+    match Https::from_slice(alloc, text) {
+        Ok(uri) => match lines_of_https(alloc, &uri) {
+            Ok(lines) => Ok(lines),
+            Err(_) => Err(Fault::OutOfMemory),
+        },
+        Err(e) => Err(Fault::from(e)),
+    }
+}
+
+/// The lines of the rsync URI that the text is.
+fn rsync_text(alloc: Global, text: &[u8]) -> Result<Vec<u8>, Fault>
+    ensures { MatchResult result (λ lines. (rsync_refusal text.now ≡ None) × (lines.items ≡ rsync_lines text.now))
+        (λ f. IsRefusedText (rsync_refusal text.now) f) }
+{
+    match Rsync::from_slice(alloc, text) {
+        Ok(uri) => match lines_of_rsync(alloc, &uri) {
+            Ok(lines) => Ok(lines),
+            Err(_) => Err(Fault::OutOfMemory),
+        },
+        Err(e) => Err(Fault::from(e)),
+    }
+}
+
+/// The lines of the URI that the input is, without one line feed at its end: an https URI where the text begins with
+/// that scheme, in whatever case, else an rsync URI.
+pub fn lines(alloc: Global, input: Vec<u8>) -> Result<Vec<u8>, Fault>
+    ensures { Answers Uri input.items (answer_of result) }
+{
+    let text = without_last_line_feed(input.as_slice());
+    if starts_with_ignore_case(text, b"https://") {
+        https_text(alloc, text)
+    } else {
+        rsync_text(alloc, text)
+    }
+}
