@@ -1,7 +1,6 @@
 -- What grammars of leaves and of composed values spell is one value.
-use Rattle.std.proofs.Common.{◌≡◌, ℕ, Bool, true, false, List, sym, subst}
+use Rattle.std.proofs.Common.{ℕ, true, false, List, sym, subst}
 use Rattle.rpki_der.specs.TagName.{TagName}
-use Rattle.rpki_der.specs.Header.{tlv}
 use Rattle.rpki_der.specs.Values.{SpellsLeaf}
 use Rattle.rpki_der.specs.Members.{IsValue, IsValueList}
 use Rattle.rpki_der.specs.Joined.{primitive_value, constructed_value}

@@ -24,3 +24,4 @@ pub mod HeaderWriting
 pub mod EncodeLaws
 pub mod UnsignedLaws
 pub mod LeafValues
+pub mod LeavesWritten

@@ -20,3 +20,4 @@ pub mod Written
 pub mod Contents
 pub mod Joined
 pub mod OptionalPart
+pub mod LeafLaws

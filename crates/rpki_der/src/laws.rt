@@ -1,6 +1,7 @@
-//! Laws of headers, of values and of their members: each function does nothing, and its contract is the law.
+//! Laws of headers, of values, of their members and of leaves: each function does nothing, and its contract is the law.
 
 ghost use Rattle.std.specs.Prelude.{◌≡◌, ◌≢◌, ◌*◌, ◌≤◌, ◌⊎◌, ℕ, List, [], ◌∷◌, ◌++◌, length};
+ghost use Rattle.rpki_der.specs.LeafLaws.{NullReadBack, BooleansReadBack, NumbersReadBack, IdentifiersReadBack, OctetsReadBack, BitsReadBack, BooleansApart, NumbersApart, IdentifiersApart, OctetsApart, BitsApart};
 ghost use Rattle.rpki_der.specs.Reading.{Spells};
 ghost use Rattle.rpki_der.specs.Values.{SpellsHeader, IsHeaderFault};
 ghost use Rattle.rpki_der.specs.Members.{Members, spell, HaveHeaders, IsValue, IsValueOf};
@@ -52,4 +53,23 @@ pub fn cut_value_is_truncated()
 /// The fault is one of three kinds.
 pub fn nested_fault_kinds()
     ensures { (s : List ℕ) (e : DecodeError) → IsNestedFault s e → (e ≡ Truncated) ⊎ (e ≡ BadTag) ⊎ (e ≡ BadLength) }
+{}
+
+/// What the encoders of leaf values write is read as the value that was written.
+pub fn leaves_read_back()
+    ensures null { NullReadBack }
+    ensures booleans { BooleansReadBack }
+    ensures numbers { NumbersReadBack }
+    ensures identifiers { IdentifiersReadBack }
+    ensures octets { OctetsReadBack }
+    ensures bits { BitsReadBack }
+{}
+
+/// Leaf values are written as the same octets exactly where they are equal.
+pub fn leaves_written_the_same()
+    ensures booleans { BooleansApart }
+    ensures numbers { NumbersApart }
+    ensures identifiers { IdentifiersApart }
+    ensures octets { OctetsApart }
+    ensures bits { BitsApart }
 {}

@@ -1,6 +1,5 @@
-use Rattle.std.proofs.Common.{List, ℕ, ◌≡◌, ◌∷◌, [], sym, subst}
+use Rattle.std.proofs.Common.{◌≡◌, ◌∷◌, []}
 use Rattle.rpki_der.specs.Integer.{unsigned_contents}
-use Rattle.rpki_der.specs.Written.{Writes, AppendsBeginning}
 use Rattle.rpki_der.proofs.UnsignedLaws.{unsigned_behind}
 use Rattle.rpki_der.proofs.Writing.{writes_then, writes_of_cut, beginning_of, beginning_more}
 use Rattle.rpki_der.proofs.encode.unsigned.UnsignedPrimitiveContent.write_encoded.Goals as goal
