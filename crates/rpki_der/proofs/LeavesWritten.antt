@@ -93,6 +93,7 @@ numbers-same a b m k e = by_first (nat_lt (slice_index a 0) 128) (nat_lt (slice_
   by_first false false h = cc
 
 pub numbers-apart : NumbersApart
-numbers-apart a b m k small =
-    ( λ e. numbers-same a b m k (tlv_same_one integer false _ (unsigned_contents b) (omega (arith, unsigned_at_most b)) e)
-    , λ e. ap (λ (x : List ℕ). tlv integer false (unsigned_contents x)) e)
+numbers-apart a b m k small = (
+  λ e. numbers-same a b m k (tlv_same_one integer false _ (unsigned_contents b) (omega (arith, unsigned_at_most b)) e),
+  λ e. ap (λ (x : List ℕ). tlv integer false (unsigned_contents x)) e,
+)
