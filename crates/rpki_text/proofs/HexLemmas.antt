@@ -55,6 +55,8 @@ pub IsUtf8-hex_text : (t : List ℕ) → ((i : ℕ) → Fits w8 (get_or t i 0)) 
 IsUtf8-hex_text t h = IsUtf8-from_ascii (hex_text t) (hex_text-ascii t h)
 
 -- the front of a buffer that was written over
-pub hex_front : (t dest old : List ℕ) → dest ≡ hex_text t ++ drop (2 * length t) old → take (2 * length t) dest ≡ hex_text t
-hex_front t dest old e =
-    ap (take (2 * length t)) e ∙ ap (λ n. take n (hex_text t ++ drop (2 * length t) old)) (sym (length-hex_text t)) ∙ take-append_seam (hex_text t) (drop (2 * length t) old)
+pub hex_front : (t dest rest : List ℕ) → dest ≡ hex_text t ++ rest → (2 * length t ≤ length dest) × (take (2 * length t) dest ≡ hex_text t)
+hex_front t dest rest e = (
+  omega (arith, ap length e, length-append (hex_text t) rest, length-hex_text t),
+  ap (take (2 * length t)) e ∙ ap (λ n. take n (hex_text t ++ rest)) (sym (length-hex_text t)) ∙ take-append_seam (hex_text t) rest,
+)

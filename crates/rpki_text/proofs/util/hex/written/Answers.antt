@@ -1,5 +1,5 @@
 use Rattle.rpki_text.proofs.HexLemmas.{hex_step}
-use Rattle.rpki_text.proofs.util.hex.write_digits.Goals as goal
+use Rattle.rpki_text.proofs.util.hex.written.Goals as goal
 
 pub loop-i-preserved : goal.loop-i-preserved
 loop-i-preserved c =
