@@ -1,5 +1,9 @@
 //! Worked cases of serial numbers, times and periods of validity.
 
+mod laws;
+mod periods;
+mod values;
+
 use super::*;
 use jiff::SignedDuration;
 use jiff::civil::DateTime;
@@ -44,6 +48,19 @@ fn parts_of(time: Time) -> Parts {
 
 fn time_of(parts: Parts) -> Option<Time> {
     Time::utc(parts.0, parts.1, parts.2, parts.3, parts.4, parts.5)
+}
+
+/// The time that many nanoseconds after the time of these parts.
+fn moment_of(parts: Parts, nanoseconds: i64) -> Option<Time> {
+    let time = time_of(parts)?;
+    time.checked_add(SignedDuration::from_nanos(nanoseconds))
+}
+
+/// The period between the beginnings of two years.
+fn period_of(years: (i32, i32)) -> Option<Validity> {
+    let start = time_of((years.0, 1, 1, 0, 0, 0))?;
+    let end = time_of((years.1, 1, 1, 0, 0, 0))?;
+    Some(Validity::new(start, end))
 }
 
 fn refusal(e: DecodeError) -> Found {
@@ -287,7 +304,7 @@ fn values_are_read(rt: HostRuntime) -> Result<(), Fail> {
     Ok(())
 }
 
-/// What is written.
+/// What is written. A time by itself is written a nanosecond before the next second, which no text shows.
 #[derive(Clone, Copy, Debug)]
 enum Written {
     Zero,
@@ -316,7 +333,7 @@ fn time_written(
     written: Written,
     parts: Parts,
 ) -> Result<Option<Captured>, AllocError> {
-    let Some(time) = time_of(parts) else {
+    let Some(time) = moment_of(parts, 999_999_999) else {
         return Ok(None);
     };
     match written {
@@ -446,24 +463,6 @@ fn serials_of_arrays(rt: HostRuntime) {
     }
 }
 
-/// Octets of a serial number, and those of a greater one.
-const ORDERED: &[(&[u8], &[u8])] = &[
-    (&[0], &[1]),
-    (&[0xff], &[1, 0]),
-    (&[1, 2, 3], &[0, 1, 3, 0]),
-];
-
-#[test]
-fn serials_in_order(rt: HostRuntime) {
-    for (less, greater) in ORDERED {
-        let same = match (Serial::from_slice(less), Serial::from_slice(greater)) {
-            (Ok(less), Ok(greater)) => less < greater && less != greater,
-            _ => false,
-        };
-        assert!(rt; same, "{less:?} before {greater:?}");
-    }
-}
-
 /// What is asked of a time.
 #[derive(Clone, Copy, Debug)]
 enum Asked {
@@ -552,7 +551,7 @@ fn sums_of_times(rt: HostRuntime) {
 }
 
 /// Years, a date-time with its nanosecond, and the same day so many years on.
-const YEARS_ON: &[(i32, Parts, i32, Option<Parts>)] = &[
+const YEARS_ON: &[(i32, Parts, i64, Option<Parts>)] = &[
     (
         4,
         (2020, 2, 29, 16, 39, 57),
@@ -576,10 +575,9 @@ const YEARS_ON: &[(i32, Parts, i32, Option<Parts>)] = &[
 ];
 
 /// The date-time of these parts, and of this nanosecond.
-fn date_time_of(parts: Parts, nanosecond: i32) -> Option<DateTime> {
-    let time = time_of(parts)?;
-    let later = time.checked_add(SignedDuration::from_nanos(i64::from(nanosecond)))?;
-    Some(later.date_time())
+fn date_time_of(parts: Parts, nanosecond: i64) -> Option<DateTime> {
+    let time = moment_of(parts, nanosecond)?;
+    Some(time.date_time())
 }
 
 #[test]
@@ -595,7 +593,7 @@ fn years_on(rt: HostRuntime) {
 }
 
 /// A time with its nanosecond, its whole seconds, and whether a nanosecond later is a time too.
-const SECONDS: &[(Parts, i32, i64, bool)] = &[
+const SECONDS: &[(Parts, i64, i64, bool)] = &[
     ((2000, 1, 1, 0, 0, 0), 0, 946_684_800, true),
     ((1970, 1, 1, 0, 0, 0), -500_000_000, -1, true),
     (
@@ -638,92 +636,5 @@ fn texts_of_moments(rt: HostRuntime) {
             Err(TimeParseError) => None,
         };
         assert!(rt; found == *expected, "{text}: {found:?}");
-    }
-}
-
-/// A start, an end, a moment, and whether the period holds then; if not, whether it is too new.
-const PERIODS: &[(Parts, Parts, Parts, Option<bool>)] = &[
-    (
-        (2020, 1, 1, 0, 0, 0),
-        (2050, 1, 1, 0, 0, 0),
-        (2020, 1, 1, 0, 0, 0),
-        None,
-    ),
-    (
-        (2020, 1, 1, 0, 0, 0),
-        (2050, 1, 1, 0, 0, 0),
-        (2050, 1, 1, 0, 0, 0),
-        None,
-    ),
-    (
-        (2020, 1, 1, 0, 0, 0),
-        (2050, 1, 1, 0, 0, 0),
-        (2019, 12, 31, 23, 59, 59),
-        Some(true),
-    ),
-    (
-        (2020, 1, 1, 0, 0, 0),
-        (2050, 1, 1, 0, 0, 0),
-        (2050, 1, 1, 0, 0, 1),
-        Some(false),
-    ),
-    (
-        (2030, 1, 1, 0, 0, 0),
-        (2020, 1, 1, 0, 0, 0),
-        (2025, 1, 1, 0, 0, 0),
-        Some(true),
-    ),
-];
-
-fn verify(start: Parts, end: Parts, now: Parts) -> Option<Option<bool>> {
-    let period = Validity::new(time_of(start)?, time_of(end)?);
-    match period.verify_at(time_of(now)?) {
-        Ok(()) => Some(None),
-        Err(e) => Some(Some(e.is_too_new())),
-    }
-}
-
-#[test]
-fn periods_hold(rt: HostRuntime) {
-    for (start, end, now, expected) in PERIODS {
-        let found = verify(*start, *end, *now);
-        assert!(rt;
-            found == Some(*expected),
-            "{start:?} to {end:?} at {now:?}: {found:?}"
-        );
-    }
-}
-
-/// A moment, seconds, and the ends of the period between.
-const SPANS: &[(Parts, i64, Option<(Parts, Parts)>)] = &[
-    (
-        (2024, 1, 1, 0, 0, 0),
-        -10,
-        Some(((2023, 12, 31, 23, 59, 50), (2024, 1, 1, 0, 0, 0))),
-    ),
-    (
-        (2024, 1, 1, 0, 0, 0),
-        10,
-        Some(((2024, 1, 1, 0, 0, 0), (2024, 1, 1, 0, 0, 10))),
-    ),
-    ((0, 1, 1, 0, 0, 0), -1, None),
-];
-
-#[test]
-fn periods_from_seconds(rt: HostRuntime) {
-    for (parts, seconds, expected) in SPANS {
-        let found = match time_of(*parts) {
-            Some(now) => Validity::from_secs(now, *seconds),
-            None => None,
-        };
-        let ends = match found {
-            Some(period) => Some((parts_of(period.not_before()), parts_of(period.not_after()))),
-            None => None,
-        };
-        let whole = found.map(|period| period.trim(period)) == found;
-        assert!(rt;
-            whole && ends == *expected,
-            "{seconds} from {parts:?}: {ends:?}"
-        );
     }
 }
