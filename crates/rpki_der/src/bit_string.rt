@@ -30,8 +30,19 @@ impl Model for BitString {
 }
 
 impl BitString {
-    /// The bit string of these octets, of whose last this many bits are unused. The count is at most 7, 0 where there
-    /// is no octet, and those bits are zero.
+    /// Whether a bit string of these octets may have this many unused bits: at most 7, none where there is no octet, and
+    /// all of them zero (X.690 8.6.2, 11.2.1).
+    pub fn is_legal(unused: u8, octets: &[u8]) -> bool
+        ensures { IsTrue result ↔ AreBits (bits_of unused octets.now) }
+    {
+        match octets.last() {
+            None => unused == 0,
+            Some(last) => unused < 8 && *last % (1 << unused) == 0,
+        }
+    }
+
+    /// The bit string of these octets, of whose last this many bits are unused. It asks that the two are legal, as
+    /// [BitString::is_legal] tests.
     pub fn new(unused: u8, bytes: Bytes) -> BitString
         requires { AreBits (bits_of unused bytes) }
         ensures { result ≡ bits_of unused bytes }
@@ -97,16 +108,6 @@ impl Eq for BitString {
     ghost laws = { same_bits_equivalence };
 }
 
-/// Whether the octets may have this many unused bits.
-pub(crate) fn are_bits(unused: u8, octets: &[u8]) -> bool
-    ensures { IsTrue result ↔ AreBits (bits_of unused octets.now) }
-{
-    match octets.last() {
-        None => unused == 0,
-        Some(last) => unused < 8 && *last % (1 << unused) == 0,
-    }
-}
-
 impl<'a> Constructed<'a> {
     ghost use Rattle.rpki_der.specs.Cursor.{left};
     ghost use Rattle.rpki_der.specs.TagName.{bit_string};
@@ -129,7 +130,7 @@ impl<'a> Constructed<'a> {
         let [unused, octets @ ..] = contents.rest() else {
             return Err(DecodeError::Content(ContentError::from_static("malformed BIT STRING")));
         };
-        if !are_bits(*unused, octets) {
+        if !BitString::is_legal(*unused, octets) {
             return Err(DecodeError::Content(ContentError::from_static("malformed BIT STRING")));
         }
         let bytes = contents.split_at(1).1.to_bytes()?;

@@ -1,5 +1,4 @@
 use super::*;
-use crate::bit_string::are_bits;
 use bytes::Bytes;
 use std::alloc::{AllocError, Global};
 use std::io;
@@ -19,6 +18,9 @@ enum Leaf {
     NoBits,
     Octets,
     Uri,
+    Number,
+    HighNumber,
+    Zero,
 }
 
 #[derive(Clone, Copy, Debug)]
@@ -34,16 +36,107 @@ enum Composed {
     Captured,
 }
 
-// The values that are written, where they fit.
-fn written<V: Values>(alloc: Global, values: &V) -> Result<Option<Captured>, AllocError> {
+/// Takes at most so many octets at a call, and fails once so many calls are made.
+#[derive(Drop)]
+struct Failing {
+    held: Vec<u8>,
+    most: usize,
+    calls: usize,
+}
+
+impl Write for Failing {
+    fn write(&mut self, octets: &[u8]) -> io::Result<usize> {
+        if self.calls == 0 {
+            return Err(io::Error::from(ErrorKind::BrokenPipe));
+        }
+        self.calls -= 1;
+        let count = octets.len().min(self.most);
+        self.held.extend_from_slice(&octets[..count])?;
+        Ok(count)
+    }
+
+    fn flush(&mut self) -> io::Result<()> {
+        Ok(())
+    }
+}
+
+/// Where values are written.
+#[derive(Clone, Copy, Debug)]
+enum Sink {
+    Captured,
+    /// A writer that takes an octet at a call, and fails once so many calls are made.
+    Writer(usize),
+}
+
+/// What is written: the octets, how many values and octets they are, and why the writer failed.
+#[derive(Drop)]
+struct Outcome {
+    octets: Bytes,
+    values: u64,
+    len: u64,
+    error: Option<ErrorKind>,
+}
+
+/// The values that are written, where they fit.
+fn written<V: Values>(
+    alloc: Global,
+    sink: Sink,
+    values: &V,
+) -> Result<Option<Outcome>, AllocError> {
     if !values.fits() {
         return Ok(None);
     }
-    Ok(Some(Captured::from_values(alloc, values)?))
+    let len = values.encoded_len();
+    match sink {
+        Sink::Captured => {
+            let found = Captured::from_values(alloc, values)?;
+            let count = found.values() as u64;
+            let octets = found.into_bytes();
+            Ok(Some(Outcome {
+                octets,
+                values: count,
+                len,
+                error: None,
+            }))
+        }
+        Sink::Writer(calls) => {
+            let mut out = Failing {
+                held: Vec::new(alloc),
+                most: 1,
+                calls,
+            };
+            let error = match values.write_encoded(&mut out) {
+                Ok(()) => None,
+                Err(e) => Some(e.kind()),
+            };
+            let octets = Bytes::from_vec(out.held)?;
+            Ok(Some(Outcome {
+                octets,
+                values: values.count(),
+                len,
+                error,
+            }))
+        }
+    }
+}
+
+/// Whether these octets were written, and so many values; or, by a writer that failed after so many octets, those.
+fn is_written(outcome: Option<Outcome>, sink: Sink, values: u64, expected: &[u8]) -> bool {
+    let Some(found) = outcome else {
+        return false;
+    };
+    let (held, error) = match sink {
+        Sink::Writer(calls) if calls < expected.len() => (calls, Some(ErrorKind::BrokenPipe)),
+        _ => (expected.len(), None),
+    };
+    found.octets.as_slice() == &expected[..held]
+        && found.values == values
+        && found.len == expected.len() as u64
+        && found.error == error
 }
 
 fn bits(unused: u8, octets: &'static [u8]) -> Option<BitString> {
-    if !are_bits(unused, octets) {
+    if !BitString::is_legal(unused, octets) {
         return None;
     }
     Some(BitString::new(unused, Bytes::from_static(octets)))
@@ -51,105 +144,160 @@ fn bits(unused: u8, octets: &'static [u8]) -> Option<BitString> {
 
 fn bits_written(
     alloc: Global,
+    sink: Sink,
     unused: u8,
     octets: &'static [u8],
-) -> Result<Option<Captured>, AllocError> {
+) -> Result<Option<Outcome>, AllocError> {
     match bits(unused, octets) {
-        Some(found) => written(alloc, &found.encode()),
+        Some(found) => written(alloc, sink, &found.encode()),
         None => Ok(None),
     }
 }
 
 fn lent_bits_written(
     alloc: Global,
+    sink: Sink,
     unused: u8,
     octets: &'static [u8],
-) -> Result<Option<Captured>, AllocError> {
+) -> Result<Option<Outcome>, AllocError> {
     match bits(unused, octets) {
-        Some(found) => written(alloc, &found.encode_ref()),
+        Some(found) => written(alloc, sink, &found.encode_ref()),
         None => Ok(None),
     }
 }
 
-fn leaf_written(alloc: Global, leaf: Leaf) -> Result<Option<Captured>, AllocError> {
-    match leaf {
-        Leaf::Null => written(alloc, &().encode()),
-        Leaf::True => written(alloc, &true.encode()),
-        Leaf::False => written(alloc, &false.encode()),
-        Leaf::Identifier => written(alloc, &COMMON_NAME.encode()),
-        Leaf::Bits => bits_written(alloc, 1, &[0xaa]),
-        Leaf::LentBits => lent_bits_written(alloc, 1, &[0xaa]),
-        Leaf::NoBits => bits_written(alloc, 0, &[]),
-        Leaf::Octets => written(alloc, &b"ab".as_slice().encode()),
-        Leaf::Uri => written(alloc, &b"ab".as_slice().encode_as(Tag::CTX_6)),
+fn number_written(
+    alloc: Global,
+    sink: Sink,
+    octets: &'static [u8],
+) -> Result<Option<Outcome>, AllocError> {
+    match Unsigned::from_slice(octets) {
+        Ok(found) => written(alloc, sink, &found.encode()),
+        Err(_) => Ok(None),
     }
 }
 
-fn composed_written(alloc: Global, composed: Composed) -> Result<Option<Captured>, AllocError> {
-    match composed {
-        Composed::Sequence => written(alloc, &Sequence::new((COMMON_NAME.encode(), ().encode()))),
-        Composed::EmptySequence => written(alloc, &Sequence::new(None::<Primitive<()>>)),
-        Composed::Set => written(alloc, &Set::new(true.encode())),
-        Composed::Wrapped => written(alloc, &Wrapped::new(Sequence::new(().encode()))),
-        Composed::Pair => written(alloc, &(().encode(), true.encode())),
-        Composed::Triple => written(alloc, &(true.encode(), ().encode(), false.encode())),
-        Composed::Nothing => written(alloc, &None::<Primitive<()>>),
-        Composed::Something => written(alloc, &Some(().encode())),
-        Composed::Captured => match written(alloc, &(().encode(), ().encode()))? {
-            Some(inner) => written(alloc, &Set::new(&inner)),
-            None => Ok(None),
-        },
+fn leaf_written(alloc: Global, sink: Sink, leaf: Leaf) -> Result<Option<Outcome>, AllocError> {
+    match leaf {
+        Leaf::Null => written(alloc, sink, &().encode()),
+        Leaf::True => written(alloc, sink, &true.encode()),
+        Leaf::False => written(alloc, sink, &false.encode()),
+        Leaf::Identifier => written(alloc, sink, &COMMON_NAME.encode()),
+        Leaf::Bits => bits_written(alloc, sink, 1, &[0xaa]),
+        Leaf::LentBits => lent_bits_written(alloc, sink, 1, &[0xaa]),
+        Leaf::NoBits => bits_written(alloc, sink, 0, &[]),
+        Leaf::Octets => written(alloc, sink, &b"ab".as_slice().encode()),
+        Leaf::Uri => written(alloc, sink, &b"ab".as_slice().encode_as(Tag::CTX_6)),
+        Leaf::Number => number_written(alloc, sink, &[0x00, 0x01, 0x00, 0x01]),
+        Leaf::HighNumber => number_written(alloc, sink, &[0x00, 0x80]),
+        Leaf::Zero => number_written(alloc, sink, &[0x00]),
     }
 }
+
+fn composed_written(
+    alloc: Global,
+    sink: Sink,
+    composed: Composed,
+) -> Result<Option<Outcome>, AllocError> {
+    match composed {
+        Composed::Sequence => written(
+            alloc,
+            sink,
+            &Sequence::new((COMMON_NAME.encode(), ().encode())),
+        ),
+        Composed::EmptySequence => written(alloc, sink, &Sequence::new(None::<Primitive<()>>)),
+        Composed::Set => written(alloc, sink, &Set::new(true.encode())),
+        Composed::Wrapped => written(alloc, sink, &Wrapped::new(Sequence::new(().encode()))),
+        Composed::Pair => written(alloc, sink, &(().encode(), true.encode())),
+        Composed::Triple => written(alloc, sink, &(true.encode(), ().encode(), false.encode())),
+        Composed::Nothing => written(alloc, sink, &None::<Primitive<()>>),
+        Composed::Something => written(alloc, sink, &Some(().encode())),
+        Composed::Captured => {
+            let inner = (().encode(), ().encode());
+            if !inner.fits() {
+                return Ok(None);
+            }
+            written(
+                alloc,
+                sink,
+                &Set::new(&Captured::from_values(alloc, &inner)?),
+            )
+        }
+    }
+}
+
+const LEAVES: &[(Leaf, &[u8])] = &[
+    (Leaf::Null, &[0x05, 0x00]),
+    (Leaf::True, &[0x01, 0x01, 0xff]),
+    (Leaf::False, &[0x01, 0x01, 0x00]),
+    (Leaf::Identifier, &[0x06, 0x03, 0x55, 0x04, 0x03]),
+    (Leaf::Bits, &[0x03, 0x02, 0x01, 0xaa]),
+    (Leaf::LentBits, &[0x03, 0x02, 0x01, 0xaa]),
+    (Leaf::NoBits, &[0x03, 0x01, 0x00]),
+    (Leaf::Octets, &[0x04, 0x02, 0x61, 0x62]),
+    (Leaf::Uri, &[0x86, 0x02, 0x61, 0x62]),
+    (Leaf::Number, &[0x02, 0x03, 0x01, 0x00, 0x01]),
+    (Leaf::HighNumber, &[0x02, 0x02, 0x00, 0x80]),
+    (Leaf::Zero, &[0x02, 0x01, 0x00]),
+];
+
+const COMPOSED: &[(Composed, u64, &[u8])] = &[
+    (
+        Composed::Sequence,
+        1,
+        &[0x30, 0x07, 0x06, 0x03, 0x55, 0x04, 0x03, 0x05, 0x00],
+    ),
+    (Composed::EmptySequence, 1, &[0x30, 0x00]),
+    (Composed::Set, 1, &[0x31, 0x03, 0x01, 0x01, 0xff]),
+    (Composed::Wrapped, 1, &[0x04, 0x04, 0x30, 0x02, 0x05, 0x00]),
+    (Composed::Pair, 2, &[0x05, 0x00, 0x01, 0x01, 0xff]),
+    (
+        Composed::Triple,
+        3,
+        &[0x01, 0x01, 0xff, 0x05, 0x00, 0x01, 0x01, 0x00],
+    ),
+    (Composed::Nothing, 0, &[]),
+    (Composed::Something, 1, &[0x05, 0x00]),
+    (Composed::Captured, 1, &[0x31, 0x04, 0x05, 0x00, 0x05, 0x00]),
+];
 
 #[test]
-fn leaves_are_written(rt: HostRuntime) -> Result<(), Fail> {
-    let cases: [(Leaf, &[u8]); 9] = [
-        (Leaf::Null, &[0x05, 0x00]),
-        (Leaf::True, &[0x01, 0x01, 0xff]),
-        (Leaf::False, &[0x01, 0x01, 0x00]),
-        (Leaf::Identifier, &[0x06, 0x03, 0x55, 0x04, 0x03]),
-        (Leaf::Bits, &[0x03, 0x02, 0x01, 0xaa]),
-        (Leaf::LentBits, &[0x03, 0x02, 0x01, 0xaa]),
-        (Leaf::NoBits, &[0x03, 0x01, 0x00]),
-        (Leaf::Octets, &[0x04, 0x02, 0x61, 0x62]),
-        (Leaf::Uri, &[0x86, 0x02, 0x61, 0x62]),
-    ];
-    for (leaf, expected) in cases {
-        let found = leaf_written(rt.alloc(), leaf)?;
-        let same = found.is_some_and(|values| values.as_slice() == expected
-            && values.values() == 1);
-        assert!(rt; same, "{leaf:?}");
+fn values_are_captured(rt: HostRuntime) -> Result<(), Fail> {
+    for (leaf, expected) in LEAVES {
+        let found = leaf_written(rt.alloc(), Sink::Captured, *leaf)?;
+        assert!(rt; is_written(found, Sink::Captured, 1, expected), "{leaf:?}");
+    }
+    for (composed, values, expected) in COMPOSED {
+        let found = composed_written(rt.alloc(), Sink::Captured, *composed)?;
+        assert!(rt;
+            is_written(found, Sink::Captured, *values, expected),
+            "{composed:?}"
+        );
     }
     Ok(())
 }
 
 #[test]
-fn composed_values_are_written(rt: HostRuntime) -> Result<(), Fail> {
-    let cases: [(Composed, usize, &[u8]); 9] = [
-        (
-            Composed::Sequence,
-            1,
-            &[0x30, 0x07, 0x06, 0x03, 0x55, 0x04, 0x03, 0x05, 0x00],
-        ),
-        (Composed::EmptySequence, 1, &[0x30, 0x00]),
-        (Composed::Set, 1, &[0x31, 0x03, 0x01, 0x01, 0xff]),
-        (Composed::Wrapped, 1, &[0x04, 0x04, 0x30, 0x02, 0x05, 0x00]),
-        (Composed::Pair, 2, &[0x05, 0x00, 0x01, 0x01, 0xff]),
-        (
-            Composed::Triple,
-            3,
-            &[0x01, 0x01, 0xff, 0x05, 0x00, 0x01, 0x01, 0x00],
-        ),
-        (Composed::Nothing, 0, &[]),
-        (Composed::Something, 1, &[0x05, 0x00]),
-        (Composed::Captured, 1, &[0x31, 0x04, 0x05, 0x00, 0x05, 0x00]),
-    ];
-    for (composed, count, expected) in cases {
-        let found = composed_written(rt.alloc(), composed)?;
-        let same = found.is_some_and(|values| values.as_slice() == expected
-            && values.values() == count);
-        assert!(rt; same, "{composed:?}");
+fn a_failed_writer_holds_a_beginning(rt: HostRuntime) -> Result<(), Fail> {
+    for (leaf, expected) in LEAVES {
+        for calls in 0..=expected.len() {
+            let sink = Sink::Writer(calls);
+            let found = leaf_written(rt.alloc(), sink, *leaf)?;
+            assert!(rt;
+                is_written(found, sink, 1, expected),
+                "{leaf:?}, {calls} calls"
+            );
+        }
+    }
+    for (composed, values, expected) in COMPOSED {
+        for calls in 0..=expected.len() {
+            let sink = Sink::Writer(calls);
+            let found = composed_written(rt.alloc(), sink, *composed)?;
+            assert!(rt;
+                is_written(found, sink, *values, expected),
+                "{composed:?}, {calls} calls"
+            );
+        }
     }
     Ok(())
 }
@@ -168,10 +316,10 @@ fn lengths_take_the_shortest_form(rt: HostRuntime) -> Result<(), Fail> {
     for (length, header) in cases {
         let mut octets = Vec::new(rt.alloc());
         octets.resize(length, 0x61u8)?;
-        let found = written(rt.alloc(), &octets.as_slice().encode())?;
+        let found = written(rt.alloc(), Sink::Captured, &octets.as_slice().encode())?;
         let same = found.is_some_and(|values| {
-            values.as_slice().len() == header.len() + length
-                && values.as_slice().starts_with(header)
+            values.octets.len() == header.len() + length
+                && values.octets.as_slice().starts_with(header)
         });
         assert!(rt; same, "{length}");
     }
@@ -209,49 +357,23 @@ fn tags_have_their_octets(rt: HostRuntime) -> Result<(), Fail> {
         ),
     ];
     for (tag, expected) in cases {
-        let found = written(rt.alloc(), &().encode_as(tag))?;
-        let same = found.is_some_and(|values| values.as_slice() == expected);
+        let found = written(rt.alloc(), Sink::Captured, &().encode_as(tag))?;
+        let same = found.is_some_and(|values| values.octets.as_slice() == expected);
         assert!(rt; same, "{tag:?}");
     }
     Ok(())
 }
 
-/// Takes at most so many octets at a call, and fails once so many calls are made.
-#[derive(Drop)]
-struct Failing {
-    held: Vec<u8>,
-    most: usize,
-    calls: usize,
-}
-
-impl Write for Failing {
-    fn write(&mut self, octets: &[u8]) -> io::Result<usize> {
-        if self.calls == 0 {
-            return Err(io::Error::from(ErrorKind::BrokenPipe));
-        }
-        self.calls -= 1;
-        let count = octets.len().min(self.most);
-        self.held.extend_from_slice(&octets[..count])?;
-        Ok(count)
-    }
-
-    fn flush(&mut self) -> io::Result<()> {
-        Ok(())
-    }
-}
-
 #[test]
-fn a_failed_write_leaves_a_beginning(rt: HostRuntime) -> Result<(), Fail> {
+fn pieces_are_written(rt: HostRuntime) -> Result<(), Fail> {
     let whole = [0x30, 0x07, 0x06, 0x03, 0x55, 0x04, 0x03, 0x05, 0x00];
-    // octets a call, calls, octets that are held, and the error
+    // octets a call, calls, octets that are held, and the error: the pieces have 2, 2, 3 and 2 octets
     let cases = [
-        (1, 0, 0, Some(ErrorKind::BrokenPipe)),
-        (1, 1, 1, Some(ErrorKind::BrokenPipe)),
-        (1, 5, 5, Some(ErrorKind::BrokenPipe)),
-        (1, 8, 8, Some(ErrorKind::BrokenPipe)),
-        (1, 9, 9, None),
+        (2, 2, 4, Some(ErrorKind::BrokenPipe)),
+        (2, 4, 7, Some(ErrorKind::BrokenPipe)),
+        (2, 5, 9, None),
         (100, 2, 4, Some(ErrorKind::BrokenPipe)),
-        (100, 100, 9, None),
+        (100, 4, 9, None),
         (0, 100, 0, Some(ErrorKind::WriteZero)),
     ];
     for (most, calls, held, error) in cases {
@@ -268,6 +390,36 @@ fn a_failed_write_leaves_a_beginning(rt: HostRuntime) -> Result<(), Fail> {
         };
         assert!(rt; kind == error, "{most} octets a call, {calls} calls");
         assert_eq!(rt; out.held.as_slice(), &whole[..held]);
+    }
+    Ok(())
+}
+
+#[test]
+fn octets_are_written_whole(rt: HostRuntime) -> Result<(), Fail> {
+    let whole = [7, 1, 2, 3, 4, 5, 6, 7, 8, 9];
+    // octets a call, calls, octets that are written behind the first, and the error
+    let cases = [
+        (1, 0, 0, Some(ErrorKind::BrokenPipe)),
+        (1, 5, 5, Some(ErrorKind::BrokenPipe)),
+        (1, 9, 9, None),
+        (4, 2, 8, Some(ErrorKind::BrokenPipe)),
+        (4, 3, 9, None),
+        (100, 1, 9, None),
+        (0, 100, 0, Some(ErrorKind::WriteZero)),
+    ];
+    for (most, calls, held, error) in cases {
+        let mut out = Failing {
+            held: Vec::new(rt.alloc()),
+            most,
+            calls,
+        };
+        out.held.push(7)?;
+        let kind = match write_whole(&mut out, &whole[1..]) {
+            Ok(()) => None,
+            Err(e) => Some(e.kind()),
+        };
+        assert!(rt; kind == error, "{most} octets a call, {calls} calls");
+        assert_eq!(rt; out.held.as_slice(), &whole[..1 + held]);
     }
     Ok(())
 }

@@ -1,79 +1,99 @@
 use super::*;
 use bytes::Bytes;
+use std::alloc::Global;
 use std::test::Fail;
 
-// What a walk over octets has to answer: 0 for a value, 9 for none, or the number of the fault; and how many headers
-// were counted.
+/// What a walk over octets has to answer: 0 for a value, 9 for none, or the number of the fault; how many headers are
+/// counted, and how many octets are left.
 struct Row {
     octets: &'static [u8],
     answer: u8,
     count: u64,
+    left: usize,
 }
 
-const ROWS: [Row; 12] = [
+const ROWS: [Row; 13] = [
     Row {
         octets: &[0x30, 0x06, 0x30, 0x04, 0x30, 0x02, 0x30, 0x00],
         answer: 0,
         count: 4,
+        left: 0,
     },
     Row {
         octets: &[0x30, 0x03, 0x30, 0x00, 0x30],
         answer: 1,
         count: 3,
+        left: 5,
     },
     Row {
         octets: &[0x30],
         answer: 1,
         count: 1,
+        left: 1,
     },
     Row {
         octets: &[],
         answer: 9,
         count: 0,
+        left: 0,
     },
     Row {
         octets: &[0x30, 0x04, 0x30, 0x00, 0x1f, 0x1e],
         answer: 2,
         count: 3,
+        left: 6,
     },
     Row {
         octets: &[0x30, 0x7f, 0x00, 0x00],
         answer: 1,
         count: 1,
+        left: 4,
     },
     Row {
         octets: &[0x30, 0x02, 0x00, 0x00],
         answer: 2,
         count: 2,
+        left: 4,
     },
     Row {
         octets: &[0x30, 0x02, 0x04, 0x05],
         answer: 1,
         count: 2,
+        left: 4,
     },
     Row {
         octets: &[0x30, 0x04, 0x30, 0x7f, 0x00, 0x00],
         answer: 1,
         count: 2,
+        left: 6,
     },
     Row {
         octets: &[0x30, 0x02, 0x1f, 0x81],
         answer: 1,
         count: 2,
+        left: 4,
     },
     Row {
         octets: &[0x04, 0x02, 0x30, 0x7f, 0x05],
         answer: 0,
         count: 1,
+        left: 1,
     },
     Row {
         octets: &[0x30, 0x80, 0x00, 0x00],
         answer: 3,
         count: 1,
+        left: 4,
+    },
+    Row {
+        octets: &[0x30, 0x84, 0xff, 0xff, 0xff, 0xff],
+        answer: 1,
+        count: 1,
+        left: 6,
     },
 ];
 
-// The number of what a call answered.
+/// The number of what a call answered.
 fn number_of(answer: Result<Option<()>, DecodeError>) -> u8 {
     match answer {
         Ok(Some(())) => 0,
@@ -91,6 +111,7 @@ fn walks(rt: HostRuntime) {
         let answer = number_of(cursor.walk(rt.alloc(), &mut steps));
         assert_eq!(rt; answer, row.answer, "{:?}", row.octets);
         assert_eq!(rt; steps.count(), row.count, "{:?}", row.octets);
+        assert_eq!(rt; cursor.rest().len(), row.left, "{:?}", row.octets);
     }
 }
 
@@ -101,6 +122,7 @@ fn skips(rt: HostRuntime) {
         let mut cursor = Constructed::new(&source);
         let answer = number_of(cursor.skip_one(rt.alloc()));
         assert_eq!(rt; answer, row.answer, "{:?}", row.octets);
+        assert_eq!(rt; cursor.rest().len(), row.left, "{:?}", row.octets);
     }
 }
 
@@ -120,4 +142,63 @@ fn captures(rt: HostRuntime) -> Result<(), Fail> {
     let bytes = copy.into_bytes();
     assert_eq!(rt; bytes.as_slice(), captured.as_slice());
     Ok(())
+}
+
+/// The octets of the value in front, of which there is one, or the number of the refusal; and how many octets are left.
+fn captured(alloc: Global, octets: &'static [u8]) -> (Result<Captured, u8>, usize) {
+    let source: Bytes = Bytes::from_static(octets);
+    let mut cursor = Constructed::new(&source);
+    let found = match cursor.capture_one(alloc) {
+        Ok(found) => Ok(found),
+        Err(e) => Err(e.number()),
+    };
+    (found, cursor.rest().len())
+}
+
+#[test]
+fn captures_stop_at_the_same_faults(rt: HostRuntime) {
+    for row in &ROWS {
+        let (found, left) = captured(rt.alloc(), row.octets);
+        let same = match found {
+            Ok(found) => {
+                let size = found.as_slice().len();
+                row.answer == 0
+                    && found.values() == 1
+                    && row.octets.starts_with(found.as_slice())
+                    && size.checked_add(left) == Some(row.octets.len())
+            }
+            Err(number) => number == if row.answer == 9 { 1 } else { row.answer },
+        };
+        assert!(rt; same && left == row.left, "{:?}", row.octets);
+    }
+}
+
+/// Values with an octet behind each.
+const VALUES: [&[u8]; 6] = [
+    b"\x30\x06\x30\x04\x30\x02\x30\0\0",
+    b"\x30\x15\x30\0\x30\x0d\x06\x09\x2a\x86\x48\x86\xf7\x0d\x01\x01\x0b\x05\0\x03\x02\0\xaa\0",
+    b"\x30\x0c\x31\x0a\x30\x08\x06\x03\x55\x04\x03\x13\x01\x41\0",
+    b"\x30\x20\x17\x0d200101000000Z\x18\x0f20500101000000Z\0",
+    b"\x1f\xff\xff\xff\x7f\x01\x07\0",
+    b"\x05\0\0",
+];
+
+#[test]
+fn beginnings_of_values_are_truncated(rt: HostRuntime) {
+    for octets in VALUES {
+        let whole = octets.len() - 1;
+        for cut in 0..whole {
+            let (found, left) = captured(rt.alloc(), &octets[..cut]);
+            let truncated = matches!(found, Err(1));
+            assert!(rt; truncated && left == cut, "{cut} octets of {octets:?}");
+        }
+        let source: Bytes = Bytes::from_static(octets);
+        let mut cursor = Constructed::new(&source);
+        let same = match cursor.capture_one(rt.alloc()) {
+            Ok(found) => found.as_slice() == &octets[..whole],
+            Err(_) => false,
+        };
+        assert!(rt; same, "{octets:?}");
+        assert_eq!(rt; cursor.finish(), Err(DecodeError::Trailing), "{octets:?}");
+    }
 }

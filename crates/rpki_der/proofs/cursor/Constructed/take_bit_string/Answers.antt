@@ -18,14 +18,14 @@ returns-in_default c =
     (leaf-bad bit_string false IsBits _ (left c.in-Ok.contents) _ _ c.from_static.result refl c.in-Ok.ensures
     (bits-empty (left c.in-Ok.contents) (rw (← c.rest.ensures) c.in_default.len_below)))
 
-pub returns-then-not-are_bits : goal.returns-then-not-are_bits
-returns-then-not-are_bits c =
+pub returns-then-not-is_legal : goal.returns-then-not-is_legal
+returns-then-not-is_legal c =
     Refusal-or-memory-where (Finds (SpellsLeaf bit_string false IsBits)) (IsLeafFault bit_string false IsBits) _ _ _ (λ z. absurd z)
-    (leaf-bad bit_string false IsBits _ (left c.in-Ok.contents) _ _ c.from_static-then-not-are_bits.result refl c.in-Ok.ensures
-    (bits-unread c.rest.result.now (left c.in-Ok.contents) c.rest.ensures c.in-len1-up.len_at_least (iff_false c.are_bits.ensures c.if-not-are_bits.true)))
+    (leaf-bad bit_string false IsBits _ (left c.in-Ok.contents) _ _ c.from_static-then-not-is_legal.result refl c.in-Ok.ensures
+    (bits-unread c.rest.result.now (left c.in-Ok.contents) c.rest.ensures c.in-len1-up.len_at_least (iff_false c.is_legal.ensures c.if-not-is_legal.true)))
 
 pub returns : goal.returns
 returns c =
     let is = bits-read c.rest.result.now (left c.in-Ok.contents) c.in_ok-bytes.bytes c.new.result c.rest.ensures c.in-len1-up.len_at_least
-    (c.are_bits.ensures.0 c.if-not-are_bits.false) (c.in_ok-bytes.ensures ∙ c.split_at.ensures.behind) c.new.ensures in
+    (c.is_legal.ensures.0 c.if-not-is_legal.false) (c.in_ok-bytes.ensures ∙ c.split_at.ensures.behind) c.new.ensures in
     leaf-accepted bit_string false IsBits _ (left c.in-Ok.contents) _ c.new.result c.in-Ok.ensures is (λ w p. bits-one c.new.result (left c.in-Ok.contents) w is p)
