@@ -75,7 +75,9 @@ impl Captured {
         Constructed::new(&self.bytes)
     }
 
-    /// The same values, octet for octet. An error where memory was refused.
+    /// The same values, octet for octet. They share the octets.
+    ///
+    /// `AllocError` where memory runs out.
     pub fn clone(&self) -> Result<Captured, AllocError>
         ensures { IfOk result (λ c. c ≡ self.now) }
     {

@@ -81,7 +81,7 @@ impl<'a> Constructed<'a> {
         (front, behind)
     }
 
-    /// Ok where nothing is left, else Trailing. The last step of who reads all of something.
+    /// Ok where nothing is left, else Trailing: the last step of a reader of whole octets, or of whole contents.
     pub fn finish(self) -> Result<(), DecodeError>
         ensures { MatchResult result (λ _. left self.entry ≡ []) (λ e. (e ≡ DecodeError.Trailing) × (left self.entry ≢ [])) }
     {
@@ -112,9 +112,9 @@ impl<'a> Constructed<'a> {
 
     /// The header at the front (X.690 8.1.2, 8.1.3). The cursor moves past the header alone.
     ///
-    /// The steps rise by one, also where the call refuses; their count is below 2^64 - 1. The refusals are Truncated,
-    /// BadTag and BadLength: the octets are looked at from the left, and the first that can't be continued to a
-    /// legal spelling decides.
+    /// The steps rise by one, also where the call refuses; it asks that their count is below 2^64 - 1. The refusals are
+    /// Truncated, BadTag and BadLength: the octets are looked at from the left, and the first that can't be continued
+    /// to a legal spelling decides.
     pub fn take_header(&mut self, steps: &mut Steps) -> Result<Header, DecodeError>
         requires { steps.old < 2 ^ 64 - 1 }
         ensures reads { Reads (λ h. h) SpellsHeader IsHeaderFault (left self.old) (left self.new) result }

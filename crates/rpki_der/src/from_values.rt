@@ -10,7 +10,7 @@ use std::alloc::{AllocError, Global};
 impl Captured {
     /// The values, captured: they hold the octets that are written.
     ///
-    /// It asks that the values fit, as their `fits` tests. `AllocError` where memory runs out.
+    /// It asks that the values fit, as [Values::fits] tests. `AllocError` where memory runs out.
     pub fn from_values<V: Values>(alloc: Global, values: &V) -> Result<Captured, AllocError>
         requires { V.is_short values.now × (length (V.encoded values.now) < 2 ^ 63) }
         ensures { IfOk result (λ c. c ≡ V.encoded values.now) }

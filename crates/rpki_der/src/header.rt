@@ -8,7 +8,10 @@ ghost use Rattle.rpki_der.specs.HeaderReading.{Gives, class_at, number_at, ident
 use crate::error::DecodeError;
 use crate::tag::{Class, Header, Tag};
 
-/// The number of a tag, in digits of base 128 that all but the last have the top bit set.
+/// The number of a tag, in digits of base 128 of which all but the last have the top bit set (X.690 8.1.2.4.2), and what
+/// is behind: at most four octets, and the shortest form of a number of 31 or more.
+///
+/// Truncated where the octets end within the number; else BadTag where they are no such form.
 fn tag_number(s: &[u8]) -> Result<(u32, &[u8]), DecodeError>
     ensures { Gives (λ x. (x.0, x.1.now)) result (number_at 4 0 s.now) }
 {
@@ -32,7 +35,9 @@ fn tag_number(s: &[u8]) -> Result<(u32, &[u8]), DecodeError>
     Err(DecodeError::BadTag)
 }
 
-/// The identifier octets at the front: the tag, whether the value is constructed, and what is behind.
+/// The identifier octets at the front (X.690 8.1.2): the tag, whether the value is constructed, and what is behind.
+///
+/// The refusals are Truncated and BadTag.
 #[tactic(auto, unfolding(crate::specs::HeaderReading::identifier_at))]
 fn identifier(s: &[u8]) -> Result<(Tag, bool, &[u8]), DecodeError>
     ensures { Gives (λ x. ((x.0, x.1), x.2.now)) result (identifier_at s.now) }
@@ -53,7 +58,7 @@ fn identifier(s: &[u8]) -> Result<(Tag, bool, &[u8]), DecodeError>
     Ok((Tag::new(class, number), constructed, rest))
 }
 
-/// The class with this number, from 0 to 3.
+/// The class with this number, from 0 to 3 (X.690 8.1.2.2, table 1).
 fn class_of(number: u8) -> Class
     ensures { result ≡ class_at number }
 {
@@ -65,7 +70,9 @@ fn class_of(number: u8) -> Class
     }
 }
 
-/// The length octets at the front, and what is behind.
+/// The length octets at the front (X.690 8.1.3, 10.1), and what is behind.
+///
+/// The refusals are Truncated and BadLength.
 #[tactic(auto, unfolding(crate::specs::HeaderReading::length_at))]
 fn length(s: &[u8]) -> Result<(u32, &[u8]), DecodeError>
     ensures { Gives (λ x. (x.0, x.1.now)) result (length_at s.now) }
@@ -82,7 +89,9 @@ fn length(s: &[u8]) -> Result<(u32, &[u8]), DecodeError>
     long_length(usize::from(*first) - 128, rest)
 }
 
-/// A length in this many octets, most significant first, and what is behind.
+/// A length in this many octets, most significant first (X.690 8.1.3.5), and what is behind.
+///
+/// Truncated where the octets end within the length; else BadLength where fewer octets, or one below 128, would do.
 fn long_length(count: usize, s: &[u8]) -> Result<(u32, &[u8]), DecodeError>
     requires { count ≤ 4 }
     ensures { Gives (λ x. (x.0, x.1.now)) result (octets_at count 0 s.now) }
@@ -103,14 +112,17 @@ fn long_length(count: usize, s: &[u8]) -> Result<(u32, &[u8]), DecodeError>
     Ok((length, &s[count..]))
 }
 
-/// The header at the front, and what is behind.
-pub fn header(s: &[u8]) -> Result<(Header, &[u8]), DecodeError>
+/// The header at the front (X.690 8.1.2, 8.1.3), and what is behind.
+///
+/// The refusals are Truncated, BadTag and BadLength: the first octet that can't be continued to a legal spelling decides.
+pub(crate) fn header(s: &[u8]) -> Result<(Header, &[u8]), DecodeError>
     ensures ok { IfOk result (λ x. Accepts SpellsHeader s.now x.0 x.1.now) }
     ensures err { IfErr result (λ e. Refuses SpellsHeader s.now × IsHeaderFault s.now e) }
 {
     plain_header(s)
 }
 
+/// The same, as its identifier octets and its length octets are read one after the other.
 #[tactic(auto, unfolding(crate::specs::HeaderReading::header_at))]
 fn plain_header(s: &[u8]) -> Result<(Header, &[u8]), DecodeError>
     ensures { Gives (λ x. (x.0, x.1.now)) result (header_at s.now) }
@@ -132,7 +144,7 @@ fn plain_header(s: &[u8]) -> Result<(Header, &[u8]), DecodeError>
 }
 
 /// Whether the slice begins with the identifier octets of this tag, in either form.
-pub fn begins_with(s: &[u8], tag: Tag) -> bool
+pub(crate) fn begins_with(s: &[u8], tag: Tag) -> bool
     ensures { IsTrue result ↔ HasTag tag s.now }
 {
     match identifier(s) {

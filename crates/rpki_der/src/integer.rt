@@ -10,7 +10,7 @@ use crate::tag::Tag;
 use std::alloc::AllocError;
 use std::marker::Model;
 
-/// Why octets are taken for no number.
+/// Why no number is made of octets.
 #[derive(Clone, Copy, Debug, PartialEq, Eq)]
 pub enum InvalidInteger {
     /// There are none.
@@ -118,7 +118,7 @@ impl<'a> Constructed<'a> {
     /// An INTEGER that is not negative (X.690 8.3).
     ///
     /// The refusals are those of a header; then Unexpected for another tag or form; then Truncated; then Content for
-    /// a negative number and for contents whose first nine bits are equal.
+    /// contents that are empty, negative or begin with nine equal bits.
     pub fn take_unsigned(&mut self) -> Result<Unsigned<'a>, DecodeError>
         ensures { Reads number_of (SpellsLeaf integer false IsUnsigned) (IsLeafFault integer false IsUnsigned) (left self.old) (left self.new) result }
     {

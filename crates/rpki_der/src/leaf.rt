@@ -45,7 +45,8 @@ impl<'a> Constructed<'a> {
         Ok(())
     }
 
-    /// A NULL where what is left begins with its identifier octets, in either form; else None.
+    /// As [Constructed::take_null] where what is left begins with the identifier octets of a NULL, in either form; else
+    /// None.
     pub fn take_opt_null(&mut self) -> Result<Option<()>, DecodeError>
         ensures { ReadsWhere (HasTag null) (λ _. tt) (SpellsLeaf null false IsNull) (IsLeafFault null false IsNull) (left self.old) (left self.new) result }
     {

@@ -7,7 +7,8 @@ use crate::cursor::Constructed;
 use crate::error::{ContentError, DecodeError};
 use crate::tag::Tag;
 
-/// An object identifier by its contents octets (X.690 8.19).
+/// An object identifier by its contents octets (X.690 8.19). One that is read is valid; one made by hand may be none,
+/// and is written as it is.
 #[derive(Clone, Copy, Debug, PartialEq, Eq)]
 pub struct Oid<T>(pub T);
 
@@ -37,7 +38,7 @@ impl<'a> Oid<&'a [u8]> {
     ghost use Rattle.rpki_der.specs.Values.{SpellsLeaf, IsLeafFault};
 
     /// Whether the octets are those of an object identifier: not empty, the top bit of the last octet clear, and no
-    /// subidentifier begins with 80 (X.690 8.19.2). Only an identifier made by hand may not be valid.
+    /// subidentifier begins with 80 (X.690 8.19.2).
     pub fn is_valid(&self) -> bool
         ensures { IsTrue result ↔ IsOid self.now.0.now }
     {
@@ -61,7 +62,7 @@ impl<'a> Oid<&'a [u8]> {
         }
     }
 
-    /// Moves past this very object identifier, which is valid. The refusals are those of [Constructed::skip_oid_if].
+    /// Moves past this very object identifier, as [Constructed::skip_oid_if].
     pub fn skip_if(&self, cons: &mut Constructed<'_>) -> Result<(), DecodeError>
         ensures { Reads (λ _. tt) (SpellsLeaf oid false (IsOnly self.now.0.now)) (IsLeafFault oid false (IsOnly self.now.0.now)) (left cons.old) (left cons.new) result }
     {
@@ -98,10 +99,10 @@ impl<'a> Constructed<'a> {
         Ok(Oid(contents.rest()))
     }
 
-    /// Moves past this very object identifier.
+    /// Moves past this very object identifier. One that is not valid is looked for by its octets alone.
     ///
     /// The refusals are those of a header; then Unexpected for another tag or form; then Truncated; then Content for
-    /// another identifier.
+    /// other contents.
     pub fn skip_oid_if(&mut self, expected: ConstOid) -> Result<(), DecodeError>
         ensures { Reads (λ _. tt) (SpellsLeaf oid false (IsOnly expected.entry.0.now)) (IsLeafFault oid false (IsOnly expected.entry.0.now)) (left self.old) (left self.new) result }
     {

@@ -15,7 +15,7 @@ pub enum Class {
     Private,
 }
 
-/// A tag: a class, and a number below 2^28.
+/// A tag (X.690 8.1.2.2): a class, and a number below 2^28. Universal 0 is none.
 #[derive(Clone, Copy, Debug, PartialEq, Eq)]
 pub struct Tag {
     class: Class,
@@ -119,7 +119,7 @@ impl Tag {
         number: 6,
     };
 
-    /// The tag of a class and a number. The number is below 2^28, and universal 0 is no tag.
+    /// The tag of a class and a number. It asks that the number is below 2^28, and not 0 in the class universal.
     pub fn new(class: Class, number: u32) -> Tag
         requires { IsTag (tag_of class number) }
         ensures { result ≡ tag_of class number }
@@ -154,7 +154,7 @@ impl Tag {
 #[derive(Clone, Copy, Debug, PartialEq, Eq)]
 pub struct Header {
     pub tag: Tag,
-    /// The form: whether the contents are values themselves.
+    /// The form: whether the contents are values themselves (X.690 8.1.2.5).
     pub constructed: bool,
     /// How many contents octets the value has.
     pub length: u32,
@@ -169,7 +169,7 @@ impl Header {
     }
 }
 
-/// How many headers were read.
+/// How many headers were read, those that were refused included.
 #[derive(Debug, Drop)]
 pub struct Steps {
     count: u64,

@@ -115,7 +115,8 @@ impl<'a> Constructed<'a> {
         }
     }
 
-    /// The same where what is left begins with the identifier octets of this tag, in either form; else None.
+    /// As [Constructed::take_value_if] where what is left begins with the identifier octets of this tag, in either
+    /// form; else None.
     pub fn take_opt_value_if(&mut self, tag: Tag) -> Result<Option<Content<'a>>, DecodeError>
         ensures { ReadsWhere (HasTag tag) (λ x. (tag, is_constructed x, octets_of x)) (SpellsFlat (IsTagged tag)) (IsFlatFault (IsTagged tag)) (left self.old) (left self.new) result }
     {
@@ -146,7 +147,8 @@ impl<'a> Constructed<'a> {
         self.take_contents(Tag::SET, true)
     }
 
-    /// The same where what is left begins with the identifier octets of a SEQUENCE, in either form; else None.
+    /// As [Constructed::take_sequence] where what is left begins with the identifier octets of a SEQUENCE, in either
+    /// form; else None.
     pub fn take_opt_sequence(&mut self) -> Result<Option<Constructed<'a>>, DecodeError>
         ensures { ReadsWhere (HasTag sequence) left (SpellsContents sequence true) (IsContentsFault sequence true) (left self.old) (left self.new) result }
     {
@@ -159,7 +161,8 @@ impl<'a> Constructed<'a> {
         }
     }
 
-    /// The same where what is left begins with the identifier octets of a SET, in either form; else None.
+    /// As [Constructed::take_set] where what is left begins with the identifier octets of a SET, in either form; else
+    /// None.
     pub fn take_opt_set(&mut self) -> Result<Option<Constructed<'a>>, DecodeError>
         ensures { ReadsWhere (HasTag set) left (SpellsContents set true) (IsContentsFault set true) (left self.old) (left self.new) result }
     {

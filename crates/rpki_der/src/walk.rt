@@ -99,8 +99,10 @@ impl<'a> Constructed<'a> {
 
     /// Moves past one value with all that is nested in it (X.690 8.1.1, 8.1.2.5), or answers None where nothing is left.
     ///
-    /// Each header that is looked at, at whatever depth, raises `steps` by one, the last one of a refused value too. A
-    /// refusal leaves the cursor where it was. It is the first one from the left: the fault of the octets where a value
+    /// Each header that is looked at, at whatever depth, raises `steps` by one, the last one of a refused value too. It
+    /// asks that their count and the octets left are together below 2^64.
+    ///
+    /// A refusal leaves the cursor where it was. It is the first one from the left: the fault of the octets where a value
     /// has to begin and no header does, which is `Truncated`, `BadTag` or `BadLength`; or `Truncated` where a value passes
     /// the end of what holds it. `OutOfMemory` where the stack of open values could not grow.
     pub fn walk(&mut self, alloc: Global, steps: &mut Steps) -> Result<Option<()>, DecodeError>

@@ -23,17 +23,17 @@ pub trait Values {
     fn fits(&self) -> bool
         ensures { IsTrue result ↔ (is_short self.now × (length (encoded self.now) < 2 ^ 63)) };
 
-    /// How many values are written, those inside others aside.
+    /// How many values are written, those inside others aside. It asks that they fit.
     fn count(&self) -> u64
         requires { is_short self.now × (length (encoded self.now) < 2 ^ 63) }
         ensures { AreValues result (encoded self.now) };
 
-    /// How many octets are written.
+    /// How many octets are written. It asks that the values fit.
     fn encoded_len(&self) -> u64
         requires { is_short self.now × (length (encoded self.now) < 2 ^ 63) }
         ensures { result ≡ length (encoded self.now) };
 
-    /// Writes the values.
+    /// Writes the values. It asks that they fit.
     ///
     /// The first error of the writer ends the call and is answered; a write of 0 octets is an error of the kind
     /// `WriteZero`. After an error the writer holds a beginning of the octets.
