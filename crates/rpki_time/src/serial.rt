@@ -149,9 +149,9 @@ impl Serial {
     /// Reads a serial number: an INTEGER that is not negative (X.690 8.3), of at most 20 contents octets. It takes no
     /// memory.
     ///
-    /// The refusals are those of a header; then Unexpected for another tag or form; then Truncated; then Content for a
-    /// negative number, for contents whose first nine bits are equal, and, with the text `serial number longer than 20
-    /// bytes`, for a number with more octets. A refusal leaves the cursor where it was.
+    /// The refusals are those of a header; then Unexpected for another tag or form; then Truncated; then Content for
+    /// contents that are empty, negative or begin with nine equal bits, and, with the text `serial number longer than
+    /// 20 bytes`, for a number with more octets. A refusal leaves the cursor where it was.
     pub fn take_from(cons: &mut Constructed<'_>) -> Result<Serial, DecodeError>
         ensures { Reads (λ n. n) SpellsSerial IsSerialFault (left cons.old) (left cons.new) result }
     {

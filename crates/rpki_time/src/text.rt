@@ -1,4 +1,5 @@
-//! The texts of times.
+//! The texts of times: UTC time, YYMMDDHHMMSSZ, and generalized time, YYYYMMDDHHMMSSZ (X.690 11.7, 11.8; RFC 5280
+//! 4.1.2.5).
 ghost use Rattle.std.specs.Prelude.{◌≡◌, ◌↔◌, ◌+◌, ◌<◌, ◌≤◌, ℕ, ℤ, pos, length, IfSome, IfNone};
 ghost use Rattle.jiff.specs.Types.{DateTime as Civil};
 ghost use Rattle.rpki_time.specs.TimeText.{two_digits, utc_text, generalized_text, ReadsAsUtc, ReadsAsGeneralized, is_utc_year};
@@ -15,7 +16,7 @@ fn digits(number: u8) -> [u8; 2]
     [b'0' + number / 10, b'0' + number % 10]
 }
 
-/// The number whose two decimal digits stand at the place.
+/// The number whose two decimal digits stand at the place; None where other octets do.
 fn pair_at(text: &[u8], at: usize) -> Option<u32>
     requires { at + 1 < length text.now }
     ensures value { IfSome result (IsPairAt text.now at) }
@@ -68,7 +69,8 @@ impl Time {
         ]
     }
 
-    /// The time that the text writes as UTC time.
+    /// The time that the text writes as UTC time: two digits of the year from 50 on are of 19xx, and those below 50 of
+    /// 20xx (RFC 5280 4.1.2.5.1). None where it writes none.
     pub(crate) fn from_utc_text(text: &[u8]) -> Option<Time>
         ensures value { IfSome result (ReadsAsUtc text.now) }
         ensures none { IfNone result ((t : Civil) → ¬ (ReadsAsUtc text.now t)) }
@@ -85,7 +87,7 @@ impl Time {
         tail_at(year, text, 2)
     }
 
-    /// The time that the text writes as generalized time.
+    /// The time that the text writes as generalized time (RFC 5280 4.1.2.5.2). None where it writes none.
     pub(crate) fn from_generalized_text(text: &[u8]) -> Option<Time>
         ensures value { IfSome result (ReadsAsGeneralized text.now) }
         ensures none { IfNone result ((t : Civil) → ¬ (ReadsAsGeneralized text.now t)) }
@@ -100,7 +102,7 @@ impl Time {
 }
 
 impl Time {
-    /// Whether UTC time writes the year.
+    /// Whether UTC time has the year: it is of 1950 to 2049 (RFC 5280 4.1.2.5.1).
     pub(crate) fn is_utc(self) -> bool
         ensures { result ≡ is_utc_year self.date.year }
     {
@@ -109,7 +111,8 @@ impl Time {
     }
 }
 
-/// The time in the year whose other parts stand from the place on.
+/// The time in the year whose month, day, hour, minute and second stand from the place on, then Z; None where they do
+/// not.
 fn tail_at(year: u32, text: &[u8], at: usize) -> Option<Time>
     requires fits { length text.now ≡ at + 11 }
     requires year { year < 10_000 }

@@ -18,7 +18,7 @@ fn malformed() -> ContentError
     ContentError::from_static("malformed time value")
 }
 
-/// The time that the text under this tag writes.
+/// The time that the text under this tag writes; None where the tag is neither of the two, or the text writes none.
 fn time_under(tag: Tag, text: &[u8]) -> Option<Time>
     ensures value { IfSome result (ReadsAs tag text.now) }
     ensures none { IfNone result ((t : Civil) → ¬ (ReadsAs tag text.now t)) }
@@ -68,7 +68,7 @@ fn begins_with(cons: &Constructed<'_>, tag: Tag) -> bool
 }
 
 impl Time {
-    /// Reads a time: UTC time or generalized time (X.690 11.7, 11.8). It takes no memory.
+    /// Reads a time: UTC time or generalized time (X.690 11.7, 11.8; RFC 5280 4.1.2.5). It takes no memory.
     ///
     /// The refusals are those of a header; then Unexpected for the constructed form, of whatever tag; then Truncated;
     /// then Content, with the text `malformed time value`, for every other primitive value, whatever its tag. A
@@ -90,8 +90,8 @@ impl Time {
         }
     }
 
-    /// The same where what is left begins with the identifier octets of one of the two tags, in either form; else
-    /// None.
+    /// As [Time::take_from] where what is left begins with the identifier octets of one of the two tags, in either
+    /// form; else None.
     pub fn take_opt_from(cons: &mut Constructed<'_>) -> Result<Option<Time>, DecodeError>
         ensures { ReadsWhere HasTimeTag (λ t. t) SpellsTime IsTimeFault (left cons.old) (left cons.new) result }
     {

@@ -56,7 +56,7 @@ impl fmt::Display for ValidityPeriodError {
 impl Error for ValidityPeriodError {}
 
 impl Time {
-    /// Checks that the moment is not before this time. TooNew where it is.
+    /// Checks the moment against this time as a start: TooNew where the moment is before it.
     pub fn verify_not_before(self, now: Time) -> Result<(), ValidityPeriodError>
         ensures ok { IsOk result ↔ (civil_nanos self ≤ℤ civil_nanos now) }
         ensures err { IfErr result (λ e. e ≡ ValidityPeriodError.TooNew) }
@@ -67,7 +67,7 @@ impl Time {
         Ok(())
     }
 
-    /// Checks that the moment is not after this time. TooOld where it is.
+    /// Checks the moment against this time as an end: TooOld where the moment is after it.
     pub fn verify_not_after(self, now: Time) -> Result<(), ValidityPeriodError>
         ensures ok { IsOk result ↔ (civil_nanos now ≤ℤ civil_nanos self) }
         ensures err { IfErr result (λ e. e ≡ ValidityPeriodError.TooOld) }
@@ -147,7 +147,7 @@ impl Validity {
         Validity::from_duration(now, SignedDuration::from_secs(secs))
     }
 
-    /// The period that holds where both do: from the later start to the earlier end.
+    /// The period that holds at exactly the moments at which both do: from the later start to the earlier end.
     pub fn trim(self, other: Validity) -> Validity
         ensures ends { IsTrimmed self other result }
         ensures holds { (m : Civil) → HoldsAt result m ↔ (HoldsAt self m × HoldsAt other m) }
@@ -169,7 +169,7 @@ impl Validity {
         self.not_after.verify_not_after(now)
     }
 
-    /// The two times of a period that are all of the contents.
+    /// The period whose two times are all of the contents, the start first.
     fn take_times(mut contents: Constructed<'_>) -> Result<Validity, DecodeError>
         ensures { Decodes (λ p. p) IsPeriod NeverMemory (left contents.entry) result }
     {
