@@ -1,4 +1,5 @@
--- The same read from the left, as a function of lists: the plain program that the code is.
+-- What the private readers of headers do with octets, from the left: the plain program that they are. No public contract
+-- speaks of it; the proofs show that it finds the headers of Header.antt and their faults.
 use Rattle.std.specs.Prelude.{ℕ, zero, suc, Bool, ◌≡◌, ◌+◌, ◌-◌, ◌*◌, ◌/◌, ◌%◌, ◌==◌, ◌&&◌, ◌||◌, nat_lt, if◌then◌else◌, List, [], ◌∷◌, Result, Ok, Err}
 use Rattle.rpki_der.specs.declared.error.DecodeError.{DecodeError}
 use Rattle.rpki_der.specs.declared.error.DecodeError.TheVariants.{Truncated, BadTag, BadLength}

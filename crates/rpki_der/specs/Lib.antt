@@ -18,6 +18,7 @@ pub mod Equal
 pub mod Walk
 pub mod Written
 pub mod Contents
+pub mod PrimitiveParts
 pub mod Joined
 pub mod OptionalPart
 pub mod LeafLaws

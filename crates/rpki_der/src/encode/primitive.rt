@@ -91,13 +91,14 @@ impl<P> Primitive<P> {
 
 #[tactic(auto, using(crate::proofs::Writing::writes_then, crate::proofs::Writing::beginning_more, crate::specs::Joined::primitive_value, crate::proofs::EncodeLaws::tlv_at_most))]
 impl<P: PrimitiveContent> Values for Primitive<P> {
-    ghost encoded = { λ x. tlv (tag_of x.class x.number) false (P.contents x.content) };
-
-    ghost is_short = { λ x. length (P.contents x.content) < 2 ^ 32 };
-
+    ghost use Rattle.rpki_der.specs.PrimitiveParts.{tag_in, content_in, has_tag};
     ghost use Rattle.rpki_der.specs.Joined.{primitive_value_list};
 
-    ghost are_values = { λ x h. primitive_value_list (tag_of x.class x.number) (P.contents x.content) x.legal h };
+    ghost encoded = { λ x. tlv (tag_in x) false (P.contents (content_in x)) };
+
+    ghost is_short = { λ x. length (P.contents (content_in x)) < 2 ^ 32 };
+
+    ghost are_values = { λ x h. primitive_value_list (tag_in x) (P.contents (content_in x)) (has_tag x) h };
 
     fn fits(&self) -> bool {
         self.content.encoded_len() < 1 << 32
