@@ -9,8 +9,9 @@ ghost use Rattle.rpki.specs.SignedData.{SignedParts, SpellsSigned, DifferInCount
 ghost use Rattle.rpki.specs.SignedEqual.{same_signed};
 ghost use Rattle.rpki.specs.KeyIdentifier.{SpellsKeyIdentifier};
 ghost use Rattle.rpki.specs.PublicKey.{KeyParts};
+ghost use Rattle.rpki.specs.Signature.{SignatureParts};
 
-use crate::crypto::{KeyIdentifier, PublicKey};
+use crate::crypto::{KeyIdentifier, PublicKey, Signature};
 
 /// The algorithm of the RPKI has one spelling with parameters, and one without.
 pub fn rpki_algorithm_has_one_spelling()
@@ -35,4 +36,10 @@ pub fn key_identifiers_are_read_back(identifier: &KeyIdentifier)
 /// Public keys are equal where their formats, their octets and their counts of unused bits are.
 pub fn equal_public_keys_have_equal_parts()
     ensures { (k l : KeyParts) → IsTrue (⟦<PublicKey as PartialEq>⟧.eq k l) ↔ (k ≡ l) }
+{}
+
+/// Signatures are equal where their algorithms are, as the algorithms' own equality says, and their octets are the
+/// same.
+pub fn equal_signatures_have_equal_parts<Alg: PartialEq>()
+    ensures { (s t : SignatureParts Alg) → IsTrue (⟦<Signature<Alg> as PartialEq>⟧.eq s t) ↔ (IsTrue (Alg.eq s.algorithm t.algorithm) × (s.value ≡ t.value)) }
 {}

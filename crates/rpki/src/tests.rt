@@ -3,6 +3,7 @@
 mod algorithms;
 mod identifiers;
 mod keys;
+mod signed_data;
 mod verification;
 
 use crate::crypto::Provider;

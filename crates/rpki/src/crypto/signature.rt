@@ -65,14 +65,19 @@ pub trait SignatureAlgorithm: Sized {
         ensures octets { Self.Encoder.encoded result ≡ written self.now }
         ensures short { Self.Encoder.is_short result };
 
+    /// A spelling is one value.
     ghost spelled_value: { (a : Self) (s : List ℕ) → spells a s → IsValue s };
 
+    /// A spelling belongs to one algorithm.
     ghost spells_one: { (a b : Self) (s : List ℕ) → spells a s → spells b s → a ≡ b };
 
+    /// What is written spells the normal form.
     ghost written_spells: { (a : Self) → spells (norm a) (written a) };
 
+    /// The normal form is its own normal form.
     ghost norm_norm: { (a : Self) → norm (norm a) ≡ norm a };
 
+    /// The normal form is written as the algorithm is.
     ghost written_norm: { (a : Self) → written (norm a) ≡ written a };
 }
 
@@ -155,8 +160,8 @@ impl SignatureAlgorithm for RpkiSignatureAlgorithm {
     }
 }
 
-/// A signature: its algorithm, and its octets.
-#[derive(Debug, Drop)]
+/// A signature: its algorithm, and its octets. Two are equal where their algorithms and their octets are.
+#[derive(Debug, Drop, PartialEq, Eq)]
 pub struct Signature<Alg> {
     algorithm: Alg,
     value: Bytes,
@@ -168,6 +173,8 @@ impl<Alg> Model for Signature<Alg> {
     ghost Value = { SignatureParts Alg };
 
     ghost view = { λ s. signature_of s.algorithm s.value };
+
+    ghost inverse = { λ p. record { algorithm = p.algorithm; value = p.value } };
 }
 
 impl<Alg> Signature<Alg> {

@@ -1,0 +1,194 @@
+//! Signatures, and signed data of the RPKI.
+
+use super::written;
+use crate::crypto::{RpkiSignature, RpkiSignatureAlgorithm, Signature, SignatureAlgorithm};
+use crate::repository::x509::SignedData;
+use bytes::Bytes;
+use rpki_der::{Constructed, DecodeError};
+use std::alloc::Global;
+use std::test::Fail;
+
+const RSA_SIGNATURE: &[u8] = b"\x30\x0D\x06\x09\x2A\x86\x48\x86\xF7\x0D\x01\x01\x0B\x05\x00";
+
+const RSA_SIGNATURE_WITHOUT: &[u8] = b"\x30\x0B\x06\x09\x2A\x86\x48\x86\xF7\x0D\x01\x01\x0B";
+
+/// The signature of the algorithm that these octets identify.
+fn signature_of(
+    identifier: &'static [u8],
+    value: &'static [u8],
+) -> Result<RpkiSignature, DecodeError> {
+    let source = Bytes::from_static(identifier);
+    let algorithm = RpkiSignatureAlgorithm::x509_take_from(&mut Constructed::new(&source))?;
+    Ok(Signature::new(algorithm, Bytes::from_static(value)))
+}
+
+// Algorithm identifiers and octets of signatures, and whether they are those of an identifier with parameters and AA.
+const SIGNATURES: &[(&[u8], &[u8], bool)] = &[
+    (RSA_SIGNATURE, b"\xAA", true),
+    (RSA_SIGNATURE_WITHOUT, b"\xAA", false),
+    (RSA_SIGNATURE, b"\xAB", false),
+    (RSA_SIGNATURE, b"\xAA\xAA", false),
+    (RSA_SIGNATURE, b"", false),
+];
+
+#[test]
+fn signatures_are_their_parts(rt: HostRuntime) -> Result<(), Fail> {
+    let first: RpkiSignature = Signature::new(
+        RpkiSignatureAlgorithm::default(),
+        Bytes::from_static(b"\xAA"),
+    );
+    for (identifier, value, equal) in SIGNATURES {
+        let signature = signature_of(identifier, value)?;
+        assert_eq!(rt; signature == first, *equal, "{identifier:?} {value:?}");
+        assert!(rt;
+            signature.clone()? == signature,
+            "a copy: {identifier:?} {value:?}"
+        );
+        assert_eq!(rt;
+            signature.value().as_slice(),
+            *value,
+            "{identifier:?} {value:?}"
+        );
+        let named = *signature.algorithm();
+        let (algorithm, octets) = signature.unwrap();
+        assert_eq!(rt; algorithm, named, "{identifier:?} {value:?}");
+        assert_eq!(rt; octets.as_slice(), *value, "{identifier:?} {value:?}");
+    }
+    Ok(())
+}
+
+const SIGNED: &[u8] =
+    b"\x30\x15\x30\x00\x30\x0D\x06\x09\x2A\x86\x48\x86\xF7\x0D\x01\x01\x0B\x05\x00\x03\x02\x00\xAA";
+
+const SIGNED_WITHOUT: &[u8] =
+    b"\x30\x13\x30\x00\x30\x0B\x06\x09\x2A\x86\x48\x86\xF7\x0D\x01\x01\x0B\x03\x02\x00\xAA";
+
+const SIGNED_WITH_COUNT: &[u8] =
+    b"\x30\x15\x30\x00\x30\x0D\x06\x09\x2A\x86\x48\x86\xF7\x0D\x01\x01\x0B\x05\x00\x03\x02\x01\xAA";
+
+const EMPTY_INTEGER: &[u8] =
+    b"\x30\x17\x30\x02\x02\x00\x30\x0D\x06\x09\x2A\x86\x48\x86\xF7\x0D\x01\x01\x0B\x05\x00\x03\x02\x00\xAA";
+
+/// Octets that are signed data, and what their value is.
+struct Row {
+    octets: &'static [u8],
+    data: &'static [u8],
+    /// Whether it is equal to that of SIGNED.
+    equal: bool,
+    written: &'static [u8],
+}
+
+const ROWS: &[Row] = &[
+    Row {
+        octets: SIGNED,
+        data: b"\x30\x00",
+        equal: true,
+        written: SIGNED,
+    },
+    Row {
+        octets: SIGNED_WITHOUT,
+        data: b"\x30\x00",
+        equal: false,
+        written: SIGNED,
+    },
+    Row {
+        octets: SIGNED_WITH_COUNT,
+        data: b"\x30\x00",
+        equal: true,
+        written: SIGNED,
+    },
+    Row {
+        octets: EMPTY_INTEGER,
+        data: b"\x30\x02\x02\x00",
+        equal: false,
+        written: EMPTY_INTEGER,
+    },
+];
+
+/// The signed data that these octets are.
+fn decoded(alloc: Global, octets: &'static [u8]) -> Result<SignedData, DecodeError> {
+    SignedData::decode(alloc, Bytes::from_static(octets))
+}
+
+#[test]
+fn signed_data_is_decoded(rt: HostRuntime) -> Result<(), Fail> {
+    let first = decoded(rt.alloc(), SIGNED)?;
+    for row in ROWS {
+        let signed = decoded(rt.alloc(), row.octets)?;
+        assert_eq!(rt; signed.data().as_slice(), row.data, "{:?}", row.octets);
+        assert_eq!(rt;
+            signed.signature().value().as_slice(),
+            b"\xAA".as_slice(),
+            "{:?}",
+            row.octets
+        );
+        assert_eq!(rt; signed == first, row.equal, "{:?}", row.octets);
+        assert!(rt; signed.clone()? == signed, "a copy: {:?}", row.octets);
+        let octets = written(rt.alloc(), &signed.encode_ref())?.ok_or("too long")?;
+        assert_eq!(rt; octets.as_slice(), row.written, "{:?}", row.octets);
+    }
+    Ok(())
+}
+
+// Octets that are no signed data, and the number of the refusal.
+const REFUSED: &[(&[u8], u8)] = &[
+    // two unused bits that are not zero
+    (
+        b"\x30\x15\x30\x00\x30\x0D\x06\x09\x2A\x86\x48\x86\xF7\x0D\x01\x01\x0B\x05\x00\x03\x02\x02\xAA",
+        5,
+    ),
+    // a value that passes the end of the one that holds it
+    (
+        b"\x30\x17\x30\x02\x04\x05\x30\x0D\x06\x09\x2A\x86\x48\x86\xF7\x0D\x01\x01\x0B\x05\x00\x03\x02\x00\xAA",
+        1,
+    ),
+    // an octet behind the signature, and one behind the SEQUENCE
+    (
+        b"\x30\x16\x30\x00\x30\x0D\x06\x09\x2A\x86\x48\x86\xF7\x0D\x01\x01\x0B\x05\x00\x03\x02\x00\xAA\x00",
+        6,
+    ),
+    (
+        b"\x30\x15\x30\x00\x30\x0D\x06\x09\x2A\x86\x48\x86\xF7\x0D\x01\x01\x0B\x05\x00\x03\x02\x00\xAA\x00",
+        6,
+    ),
+    (b"\x31\x00", 4),
+    (b"\x30\x81\x00", 3),
+    (b"", 1),
+];
+
+#[test]
+fn other_octets_are_no_signed_data(rt: HostRuntime) {
+    for (octets, expected) in REFUSED {
+        let number = match decoded(rt.alloc(), octets) {
+            Ok(_) => 0,
+            Err(e) => e.number(),
+        };
+        assert_eq!(rt; number, *expected, "{octets:?}");
+    }
+}
+
+// Octets that begin with the three parts, and with signed data; a NULL follows in both.
+const PARTS_AND_NULL: &[u8] =
+    b"\x30\x00\x30\x0D\x06\x09\x2A\x86\x48\x86\xF7\x0D\x01\x01\x0B\x05\x00\x03\x02\x00\xAA\x05\x00";
+
+const SIGNED_AND_NULL: &[u8] =
+    b"\x30\x15\x30\x00\x30\x0D\x06\x09\x2A\x86\x48\x86\xF7\x0D\x01\x01\x0B\x05\x00\x03\x02\x00\xAA\x05\x00";
+
+#[test]
+fn signed_data_is_read_and_made(rt: HostRuntime) -> Result<(), Fail> {
+    let expected = decoded(rt.alloc(), SIGNED)?;
+    let parts = Bytes::from_static(PARTS_AND_NULL);
+    let mut cons = Constructed::new(&parts);
+    let inner: SignedData = SignedData::from_constructed(rt.alloc(), &mut cons)?;
+    assert!(rt; inner == expected, "of the three parts");
+    assert_eq!(rt; cons.rest(), b"\x05\x00".as_slice(), "behind the parts");
+    let signed = Bytes::from_static(SIGNED_AND_NULL);
+    let mut cons = Constructed::new(&signed);
+    let whole: SignedData = SignedData::take_from(rt.alloc(), &mut cons)?;
+    assert!(rt; whole == expected, "of a SEQUENCE");
+    assert_eq!(rt; cons.rest(), b"\x05\x00".as_slice(), "behind the SEQUENCE");
+    let data = Constructed::new(&parts).capture_one(rt.alloc())?;
+    let made = SignedData::new(data, signature_of(RSA_SIGNATURE, b"\xAA")?);
+    assert!(rt; made == expected, "of a value and a signature");
+    Ok(())
+}
