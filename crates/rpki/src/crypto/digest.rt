@@ -24,7 +24,9 @@ pub struct DigestAlgorithm {
 
 impl DigestAlgorithm {
     /// SHA-256.
-    pub fn sha256() -> DigestAlgorithm {
+    pub fn sha256() -> DigestAlgorithm
+        ensures only { (other : DigestAlgorithm) → other ≡ result }
+    {
         DigestAlgorithm { only: () }
     }
 
@@ -62,7 +64,8 @@ impl DigestAlgorithm {
         }
     }
 
-    /// The same where what is left begins with the identifier octets of a SEQUENCE, in either form; else None.
+    /// As [DigestAlgorithm::take_from] where what is left begins with the identifier octets of a SEQUENCE, in either
+    /// form; else None, and the cursor stays where it is.
     pub fn take_opt_from(cons: &mut Constructed<'_>) -> Result<Option<DigestAlgorithm>, DecodeError>
         ensures { ReadsWhere (HasTag sequence) (λ _. tt) SpellsDigest (IsOuterFault sequence true) (left cons.old) (left cons.new) result }
     {
