@@ -4,7 +4,7 @@ use Rattle.std.specs.Prelude.{IfOk, IfErr, MatchResult}
 use Rattle.std.specs.List.{All}
 use Rattle.std.specs.Cmp.Lexicographic.{pointwise, pointwise_decides}
 use Rattle.std.proofs.lemmas.Bool.Decides.{Decides-eqb}
-use Rattle.std.proofs.lemmas.List.Elements.{All-append, All-nil, All-cons}
+use Rattle.std.proofs.lemmas.List.Elements.{All-append, All-nil, All-cons, All-contains, Contains-push, Contains-append_left}
 use Rattle.std.proofs.lemmas.List.Sums.{sum_by-append}
 use Rattle.std.proofs.lemmas.Grind.{flat_map-append}
 use Rattle.rpki_der.specs.declared.error.DecodeError.{DecodeError}
@@ -78,6 +78,40 @@ found-serial P x before a h none is permitted =
     let name : a.identifier ≡ serial_number = same-octets a.identifier serial_number is in
     let other : has_identifier common_name a ≡ false = rw name refl in
     found-more P x (record { common = x.common; serial = true }) before a h (rw other (omega arith)) (rw (none, is) refl) (inr name) permitted
+
+-- ---- an attribute that no strict name has behind those that were found
+
+count-with : (o : List ℕ) (before rest : List Attribute) (a : Attribute) → count_of o ((before ++ a ∷ []) ++ rest) ≡ (count_of o before + cond (has_identifier o a) 1 0) + count_of o rest
+count-with o before rest a =
+    count-append o (before ++ a ∷ []) rest ∙ ap (λ (n : ℕ). n + count_of o rest) (count-append o before (a ∷ []) ∙ ap (λ (n : ℕ). count_of o before + n) (count-one o a))
+
+all-with : (P : Attribute → Type 0) (before rest : List Attribute) (a : Attribute) → All P ((before ++ a ∷ []) ++ rest) → P a
+all-with P before rest a h = All-contains P ((before ++ a ∷ []) ++ rest) a h (Contains-append_left (before ++ a ∷ []) rest a (Contains-push before a))
+
+-- of one of these there are two
+two-of : (o : List ℕ) (before rest : List Attribute) (a : Attribute) → count_of o before ≡ 1 → has_identifier o a ≡ true → count_of o ((before ++ a ∷ []) ++ rest) ≤ 1 → ⊥
+two-of o before rest a seen is strict =
+    let again : ◌≡◌ {A = ℕ} (cond (has_identifier o a) 1 0) 1 = rw is refl in
+    omega (arith, count-with o before rest a, seen, again, strict)
+
+pub second-common : (P : List ℕ → Type 0) (x : Findings) (before rest : List Attribute) (a : Attribute) → IsFound P x before → x.common ≡ true → pointwise nat_eq a.identifier common_name ≡ true
+    → IsStrict P ((before ++ a ∷ []) ++ rest) → ⊥
+second-common P x before rest a f one is strict =
+    two-of common_name before rest a (let g = rw one at f.common in g) is (let h = strict.common in omega (arith, h))
+
+pub second-serial : (P : List ℕ → Type 0) (x : Findings) (before rest : List Attribute) (a : Attribute) → IsFound P x before → x.serial ≡ true → pointwise nat_eq a.identifier serial_number ≡ true
+    → IsStrict P ((before ++ a ∷ []) ++ rest) → ⊥
+second-serial P x before rest a f one is strict = two-of serial_number before rest a (let g = rw one at f.serial in g) is strict.serial
+
+not-of : (o : List ℕ) (a : Attribute) → pointwise nat_eq a.identifier o ≡ false → a.identifier ≡ o → ⊥
+not-of o a differs e = let same : pointwise nat_eq a.identifier o ≡ true = (pointwise_decides Decides-eqb a.identifier o).1 e in let both = sym same ∙ differs in absurd (cc)
+
+pub other-attribute : (P : List ℕ → Type 0) (before rest : List Attribute) (a : Attribute) → pointwise nat_eq a.identifier common_name ≡ false → pointwise nat_eq a.identifier serial_number ≡ false
+    → IsStrict P ((before ++ a ∷ []) ++ rest) → ⊥
+other-attribute P before rest a common serial strict = elim (all-with IsKnown before rest a strict.known) [ inl e ↦ not-of common_name a common e | inr e ↦ not-of serial_number a serial e ]
+
+pub other-string : (P : List ℕ → Type 0) (before rest : List Attribute) (a : Attribute) → (P a.value → ⊥) → IsStrict P ((before ++ a ∷ []) ++ rest) → ⊥
+other-string P before rest a none strict = none (all-with (λ b. P b.value) before rest a strict.strings)
 
 -- ---- a list of values, each of which stands for attributes
 

@@ -2,7 +2,7 @@ use Rattle.std.proofs.Common.{sym, ◌∙◌}
 use Rattle.rpki_der.specs.Cursor.{left}
 use Rattle.rpki.specs.Name.{attribute_of}
 use Rattle.rpki.specs.InspectedName.{permitted, found_of}
-use Rattle.rpki.proofs.InspectionLaws.{found-common, found-serial}
+use Rattle.rpki.proofs.InspectionLaws.{found-common, found-serial, second-common, second-serial, other-attribute, other-string}
 use Rattle.rpki.proofs.repository.x509.name.inspection.Profile.add.Goals.{then-eq+else-found, else-eq+then-eq-2+else-found-2}
 use Rattle.rpki.proofs.repository.x509.name.inspection.Profile.add.Goals as goal
 
@@ -15,3 +15,19 @@ returns c =
       | then-eq+else-found w ↦ rw w.found-is (found-common (permitted c.args.self) (found_of c.args.found) before a f w.if-found.false (sym c.eq.ensures ∙ w.if-eq.true) permitted')
       | else-eq+then-eq-2+else-found-2 w ↦ rw w.found-is (found-serial (permitted c.args.self) (found_of c.args.found) before a f w.if-found-2.false (sym w.eq-else-eq.ensures ∙ w.if-eq-2.true) permitted')
     ]
+
+pub returns-then-found : goal.returns-then-found
+returns-then-found c = λ before rest f.
+    second-common (permitted c.args.self) (found_of c.args.found) before rest (attribute_of c.args.identifier.0.now (left c.args.value)) f c.if-found.true (sym c.eq.ensures ∙ c.if-eq.true)
+
+pub returns-then-found-2 : goal.returns-then-found-2
+returns-then-found-2 c = λ before rest f.
+    second-serial (permitted c.args.self) (found_of c.args.found) before rest (attribute_of c.args.identifier.0.now (left c.args.value)) f c.if-found-2.true (sym c.eq-else-eq.ensures ∙ c.if-eq-2.true)
+
+pub returns-else-eq-2 : goal.returns-else-eq-2
+returns-else-eq-2 c = λ before rest f.
+    other-attribute (permitted c.args.self) before rest (attribute_of c.args.identifier.0.now (left c.args.value)) (sym c.eq.ensures ∙ c.if-eq.false) (sym c.eq-else-eq.ensures ∙ c.if-eq-2.false)
+
+pub returns-then-not-permits : goal.returns-then-not-permits
+returns-then-not-permits c = λ before rest f.
+    other-string (permitted c.args.self) before rest (attribute_of c.args.identifier.0.now (left c.args.value)) (λ p. let e = sym c.if-not-permits.true ∙ c.permits.ensures.1 p in absurd (cc))
