@@ -3,6 +3,7 @@
 mod algorithms;
 mod identifiers;
 mod keys;
+mod oid;
 mod signed_data;
 mod verification;
 

@@ -131,6 +131,27 @@ fn algorithm_identifiers_are_read(rt: HostRuntime) {
     }
 }
 
+const WITH_PARAMETERS: &[(&[u8], bool)] = &[
+    (RSA_KEY, true),
+    (RSA_KEY_WITHOUT, false),
+    (RSA_SIGNATURE, true),
+    (RSA_SIGNATURE_WITHOUT, false),
+];
+
+#[test]
+fn parameters_are_remembered(rt: HostRuntime) -> Result<(), Fail> {
+    for (octets, expected) in WITH_PARAMETERS {
+        let source: Bytes = Bytes::from_static(octets);
+        let found = RpkiSignatureAlgorithm::cms_take_from(&mut Constructed::new(&source))?;
+        assert_eq!(rt;
+            found == RpkiSignatureAlgorithm::default(),
+            *expected,
+            "{octets:?}"
+        );
+    }
+    Ok(())
+}
+
 #[derive(Clone, Copy, Debug)]
 enum Writer {
     Digest,
@@ -226,6 +247,7 @@ fn algorithms_have_formats(rt: HostRuntime) {
     ];
     for (found, expected, format, rpki_key) in cases {
         assert_eq!(rt; found, expected, "the algorithm");
+        assert_eq!(rt; found.public_key_format(), format, "{expected:?}");
         assert_eq!(rt;
             format.allow_rpki_cert(),
             rpki_key,
@@ -244,9 +266,7 @@ fn digests_are_the_providers(rt: HostRuntime) {
     let provider = Always { answer: false };
     let algorithm = DigestAlgorithm::sha256();
     assert!(rt; algorithm.is_sha256());
-    assert_eq!(rt;
-        algorithm.digest(&provider, b"abc").len(),
-        algorithm.digest_len()
-    );
+    assert_eq!(rt; algorithm.digest_len(), 32);
+    assert_eq!(rt; algorithm.digest(&provider, b"abc"), [0xAB; 32]);
     assert_eq!(rt; sha1_digest(&provider, b"abc"), DIGEST_OF_ABC);
 }

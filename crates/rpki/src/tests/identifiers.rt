@@ -129,7 +129,14 @@ fn identifiers_are_contents(rt: HostRuntime) -> Result<(), Fail> {
         content_refusal(&Content::Constructed(cons)),
         Some(DecodeError::Unexpected)
     );
-    assert_eq!(rt; content_refusal(&Content::Primitive(&DIGEST_OF_ABC)), None);
+    assert_eq!(rt;
+        KeyIdentifier::from_content(&Content::Primitive(&DIGEST_OF_ABC))?,
+        identifier
+    );
+    assert_eq!(rt;
+        KeyIdentifier::take_from(&mut Constructed::new(&octets))?,
+        identifier
+    );
     assert!(rt; KeyIdentifier::try_from(SPELLED).is_err());
     Ok(())
 }

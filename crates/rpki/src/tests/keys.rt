@@ -4,7 +4,7 @@ use super::{Always, written};
 use crate::crypto::{PublicKey, PublicKeyFormat};
 use crate::repository::x509::Name;
 use bytes::Bytes;
-use rpki_der::{DecodeError, InvalidInteger, Values};
+use rpki_der::{Constructed, DecodeError, InvalidInteger, Values};
 use std::test::Fail;
 
 const KEY_OF_COMPONENTS: &[u8] =
@@ -86,16 +86,17 @@ fn public_keys_are_read(rt: HostRuntime) {
     }
 }
 
-const AGAIN: &[(&[u8], PublicKeyFormat)] = &[
-    (KEY_OF_ABC, PublicKeyFormat::Rsa),
-    (P256_KEY, PublicKeyFormat::EcdsaP256),
+const AGAIN: &[(&[u8], PublicKeyFormat, &[u8])] = &[
+    (KEY_OF_ABC, PublicKeyFormat::Rsa, b"abc"),
+    (P256_KEY, PublicKeyFormat::EcdsaP256, b"\x04\x01"),
 ];
 
 #[test]
 fn public_keys_are_written(rt: HostRuntime) -> Result<(), Fail> {
-    for (octets, format) in AGAIN {
+    for (octets, format, bits) in AGAIN {
         let key = PublicKey::decode(Bytes::from_static(octets))?;
         assert_eq!(rt; key.algorithm(), *format, "{octets:?}");
+        assert_eq!(rt; key.bits(), *bits, "{octets:?}");
         assert_eq!(rt;
             key.allow_rpki_cert(),
             format.allow_rpki_cert(),
@@ -110,6 +111,44 @@ fn public_keys_are_written(rt: HostRuntime) -> Result<(), Fail> {
         assert_eq!(rt; lent.as_slice(), *octets, "lent: {octets:?}");
         let owned = written(rt.alloc(), &key.clone()?.encode())?.ok_or("too long")?;
         assert_eq!(rt; owned.as_slice(), *octets, "owned: {octets:?}");
+    }
+    Ok(())
+}
+
+#[test]
+fn public_keys_are_read_one_by_one(rt: HostRuntime) -> Result<(), Fail> {
+    let source = Bytes::from_static(KEY_AND_MORE);
+    let mut cons = Constructed::new(&source);
+    let key = PublicKey::take_from(&mut cons)?;
+    assert!(rt; key == PublicKey::decode(Bytes::from_static(KEY_OF_ABC))?);
+    assert_eq!(rt; cons.rest(), b"\x00".as_slice());
+    Ok(())
+}
+
+// The bits 1000 0000, all of them or all but the last; and the same octet as bits of a P-256 key.
+const EIGHT_BITS: &[u8] =
+    b"\x30\x13\x30\x0D\x06\x09\x2A\x86\x48\x86\xF7\x0D\x01\x01\x01\x05\x00\x03\x02\x00\x80";
+
+const SEVEN_BITS: &[u8] =
+    b"\x30\x13\x30\x0D\x06\x09\x2A\x86\x48\x86\xF7\x0D\x01\x01\x01\x05\x00\x03\x02\x01\x80";
+
+const P256_BITS: &[u8] =
+    b"\x30\x19\x30\x13\x06\x07\x2A\x86\x48\xCE\x3D\x02\x01\x06\x08\x2A\x86\x48\xCE\x3D\x03\x01\x07\x03\x02\x00\x80";
+
+const COMPARED: &[(&[u8], bool)] = &[
+    (EIGHT_BITS, true),
+    (SEVEN_BITS, false),
+    (P256_BITS, false),
+    (KEY_OF_ABC, false),
+];
+
+#[test]
+fn public_keys_are_compared(rt: HostRuntime) -> Result<(), Fail> {
+    let first = PublicKey::decode(Bytes::from_static(EIGHT_BITS))?;
+    for (octets, equal) in COMPARED {
+        let key = PublicKey::decode(Bytes::from_static(octets))?;
+        assert_eq!(rt; key == first, *equal, "{octets:?}");
+        assert!(rt; key.clone()? == key, "a copy: {octets:?}");
     }
     Ok(())
 }
