@@ -65,11 +65,13 @@ pub trait Provider {
     fn sha256(&self, octets: &[u8]) -> [u8; 32]
         ensures { result ≡ sha256_of self.now octets.now };
 
-    /// Whether this is the signature of the message by the RSA key with these bits.
+    /// Whether this is the signature of the message by the RSA key with these bits, a SEQUENCE of modulus and exponent:
+    /// PKCS #1 v1.5 with SHA-256 (RFC 7935 2, RFC 8017 8.2). Which lengths of keys it takes is the provider's matter.
     fn rsa_check(&self, bits: &[u8], message: &[u8], signature: &[u8]) -> bool
         ensures { result ≡ rsa_of self.now bits.now message.now signature.now };
 
-    /// Whether this is the signature of the message by the P-256 key with these bits.
+    /// Whether this is the signature of the message by the P-256 key with these bits, a point on the curve: ECDSA with
+    /// SHA-256, as a SEQUENCE of two INTEGERs (RFC 8608 2, RFC 3279 2.2.3).
     fn ecdsa_check(&self, bits: &[u8], message: &[u8], signature: &[u8]) -> bool
         ensures { result ≡ ecdsa_of self.now bits.now message.now signature.now };
 }

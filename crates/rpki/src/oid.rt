@@ -97,12 +97,12 @@ pub const CT_RESOURCE_SIGNED_CHECKLIST: ConstOid = Oid(&[
     42, 134, 72, 134, 247, 13, 1, 9, 16, 1, 48,
 ]);
 
-/// The content type of a resource tagged attestation.
+/// The content type of a resource tagged attestation (IANA's registry of CMS content types).
 pub const CT_RESOURCE_TAGGED_ATTESTATION: ConstOid = Oid(&[
     42, 134, 72, 134, 247, 13, 1, 9, 16, 1, 36,
 ]);
 
-/// The content type of an ASPA.
+/// The content type of an autonomous system provider authorization (IANA's registry of CMS content types).
 pub const CT_ASPA: ConstOid = Oid(&[42, 134, 72, 134, 247, 13, 1, 9, 16, 1, 49]);
 
 /// The key purpose of a BGPsec router (RFC 8209 3.1.3.2).
@@ -114,13 +114,13 @@ pub const PE_AUTHORITY_INFO_ACCESS: ConstOid = Oid(&[43, 6, 1, 5, 5, 7, 1, 1]);
 /// The extension of IP address blocks (RFC 3779 2.2.1).
 pub const PE_IP_ADDR_BLOCK: ConstOid = Oid(&[43, 6, 1, 5, 5, 7, 1, 7]);
 
-/// The same with validation reconsidered (RFC 8360 4.2.2.1).
+/// The extension of IP address blocks with validation reconsidered (RFC 8360 4.2.2.1).
 pub const PE_IP_ADDR_BLOCK_V2: ConstOid = Oid(&[43, 6, 1, 5, 5, 7, 1, 28]);
 
 /// The extension of AS identifiers (RFC 3779 3.2.1).
 pub const PE_AUTONOMOUS_SYS_IDS: ConstOid = Oid(&[43, 6, 1, 5, 5, 7, 1, 8]);
 
-/// The same with validation reconsidered (RFC 8360 4.2.2.3).
+/// The extension of AS identifiers with validation reconsidered (RFC 8360 4.2.2.3).
 pub const PE_AUTONOMOUS_SYS_IDS_V2: ConstOid = Oid(&[43, 6, 1, 5, 5, 7, 1, 29]);
 
 /// The extension subject information access (RFC 5280 4.2.2.2).

@@ -25,6 +25,7 @@ impl InspectionError {
     }
 }
 
+/// The text of the content.
 impl fmt::Display for InspectionError {
     ghost use Rattle.std.specs.Prelude.{Some};
     ghost use Rattle.rpki_der.specs.ErrorText.{text_of};
@@ -76,6 +77,7 @@ impl VerificationError {
     }
 }
 
+/// The text of the content.
 impl fmt::Display for VerificationError {
     ghost use Rattle.std.specs.Prelude.{Some};
     ghost use Rattle.rpki_der.specs.ErrorText.{text_of};
@@ -142,6 +144,7 @@ pub enum ValidationError {
     Verification(VerificationError),
 }
 
+/// The text of what is inside: of an error of decoding, that of its [ContentError].
 impl fmt::Display for ValidationError {
     ghost use Rattle.rpki.specs.ErrorContent.{validation_text};
 

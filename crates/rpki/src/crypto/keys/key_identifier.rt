@@ -85,7 +85,8 @@ impl KeyIdentifier {
         }
     }
 
-    /// The same where what is left begins with the identifier octets of an OCTET STRING, in either form; else None.
+    /// As [KeyIdentifier::take_from] where what is left begins with the identifier octets of an OCTET STRING, in either
+    /// form; else None, and the cursor stays where it is.
     pub fn take_opt_from(cons: &mut Constructed<'_>) -> Result<Option<KeyIdentifier>, DecodeError>
         ensures { ReadsWhere (HasTag octet_string) (λ k. k) SpellsKeyIdentifier (IsIdentifierFault IsKeyIdentifier) (left cons.old) (left cons.new) result }
     {
@@ -99,7 +100,7 @@ impl KeyIdentifier {
         }
     }
 
-    /// Moves past a key identifier where [KeyIdentifier::take_opt_from] reads one; else None.
+    /// Moves past a key identifier where [KeyIdentifier::take_opt_from] reads one; else None. The refusals are the same.
     pub fn skip_opt_in(cons: &mut Constructed<'_>) -> Result<Option<()>, DecodeError>
         ensures { ReadsWhere (HasTag octet_string) (λ _. tt) (SpellsLeaf octet_string false IsAnyKeyIdentifier) (IsIdentifierFault IsAnyKeyIdentifier) (left cons.old) (left cons.new) result }
     {
@@ -235,6 +236,7 @@ impl fmt::Display for KeyIdentifier {
     }
 }
 
+/// `KeyIdentifier(`, the octets as hexadecimal digits in upper case, and `)`.
 impl fmt::Debug for KeyIdentifier {
     fn fmt<W: fmt::Write>(&self, f: &mut fmt::Formatter<W>) -> fmt::Result {
         write!(f, "KeyIdentifier({self})")

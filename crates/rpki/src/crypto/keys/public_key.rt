@@ -57,14 +57,14 @@ impl PublicKey {
         self.algorithm
     }
 
-    /// The octets of the bits.
+    /// The octets of the bits, without the count of unused bits.
     pub fn bits(&self) -> &[u8]
         ensures { result.now ≡ self.now.bits.octets }
     {
         self.bits.octet_slice()
     }
 
-    /// The octets of the bits, shared.
+    /// The octets of the bits, without the count of unused bits, shared.
     ///
     /// AllocError where memory runs out.
     pub fn bits_bytes(&self) -> Result<Bytes, AllocError>

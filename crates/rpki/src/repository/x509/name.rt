@@ -48,8 +48,9 @@ impl Name {
     /// A name: a SEQUENCE of one relative distinguished name at least, each a SET of one attribute at least, each a
     /// SEQUENCE of an OBJECT IDENTIFIER and of one value. The order within a SET is free.
     ///
-    /// The refusal of a SEQUENCE where that refuses; else Content for an empty SEQUENCE, an empty SET or an attribute
-    /// without a value, the refusals of the parts, and OutOfMemory where memory runs out.
+    /// The refusal of a SEQUENCE where that refuses; else Content `empty distinguished name` for an empty SEQUENCE,
+    /// `empty relative distinguished name` for an empty SET and `invalid name` for an attribute without a value, the
+    /// refusals of the parts, Trailing for what follows an attribute's value, and OutOfMemory where memory runs out.
     pub fn take_from(alloc: Global, cons: &mut Constructed<'_>) -> Result<Name, DecodeError>
         ensures { Reads (λ n. n) SpellsNameOctets (GivesOuterFault sequence true) (left cons.old) (left cons.new) result }
     {
@@ -66,6 +67,9 @@ impl Name {
 
     /// Tests that the name is one of a certificate of the RPKI, unless `strict` is false: one common name and at most
     /// one serial number, each a PrintableString, and no other attribute (RFC 6487 4.4).
+    ///
+    /// The texts are `missing common name`, `multiple common names` and `multiple serial numbers`, and `invalid name`
+    /// for another attribute and for another string.
     pub fn inspect_rpki(&self, strict: bool) -> Result<(), InspectionError>
         ensures ok { IfOk result (λ _. IsTrue strict → IsRpkiName self.now) }
         ensures err { IfErr result (λ _. IsTrue strict × (IsRpkiName self.now → ⊥)) }
@@ -78,6 +82,8 @@ impl Name {
 
     /// Tests that the name is one of a router's certificate, unless `strict` is false: the same, and each string is a
     /// PrintableString or a UTF8String (RFC 8209 3.1.1).
+    ///
+    /// The texts are those of [Name::inspect_rpki], but `unpermitted string variant in common name` for another string.
     pub fn inspect_router(&self, strict: bool) -> Result<(), InspectionError>
         ensures ok { IfOk result (λ _. IsTrue strict → IsRouterName self.now) }
         ensures err { IfErr result (λ _. IsTrue strict × (IsRouterName self.now → ⊥)) }

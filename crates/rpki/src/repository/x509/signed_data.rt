@@ -27,7 +27,7 @@ use std::io;
 use std::io::Write;
 use std::marker::Model;
 
-/// One value, and a signature over its very octets.
+/// One value, and a signature over its very octets, by an algorithm of the RPKI unless another is named.
 #[derive(Debug, Drop)]
 pub struct SignedData<Alg = RpkiSignatureAlgorithm> {
     signed: Captured,
@@ -71,7 +71,8 @@ impl<Alg> SignedData<Alg> {
 }
 
 impl<Alg: SignatureAlgorithm + Drop> SignedData<Alg> {
-    /// Reads the three parts, and leaves what follows them.
+    /// Reads the three parts of signed data, with no SEQUENCE around them: one value, an algorithm identifier and a BIT
+    /// STRING. What follows them is left.
     ///
     /// The refusals of the part that refuses; OutOfMemory where memory runs out.
     pub fn from_constructed(

@@ -2,9 +2,9 @@
 
 ghost use Rattle.rpki.specs.UpdateFirst.{UpdatesFirst};
 
-/// Calls the operation, and keeps what it gives where nothing was there.
+/// Calls the operation, always, and keeps what it gives where the option was None.
 ///
-/// The operation's refusal, with nothing changed.
+/// The operation's refusal, with the option as it was.
 pub fn update_first<T: Drop, E, F: FnOnce() -> Result<Option<T>, E>>(
     option: &mut Option<T>,
     op: F,
