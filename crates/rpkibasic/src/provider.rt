@@ -1,44 +1,64 @@
 //! A provider for tests and for the program: real digests, and signatures from a table.
 
 ghost use Rattle.std.specs.Prelude.{◌≡◌};
-ghost use Rattle.rpkibasic.specs.Table.{is_row, stands};
+ghost use Rattle.std.specs.List.{list_any};
+ghost use Rattle.rpkibasic.specs.Table.{row_of, rows_of, is_row, stands};
 
 use rpki::crypto::Provider;
 use sha1::Sha1;
 use sha2::{Digest, Sha256};
+use std::marker::Model;
 
 /// The bits of a key, a message, and the signature of that message by that key.
 pub type Row = (Vec<u8>, Vec<u8>, Vec<u8>);
 
 /// A provider that makes digests by SHA-1 and SHA-256 (FIPS 180-4), and looks signatures up in a table.
 ///
-/// It checks no signature: what stands in the table is what verifies.
+/// It computes no signature: RSA and ECDSA signatures verify exactly where the bits, the message and the signature
+/// stand together in a row.
 #[derive(Drop)]
 pub struct BenchProvider {
     table: Vec<Row>,
 }
 
+/// The rows of the table, in order.
+impl Model for BenchProvider {
+    ghost use Rattle.std.specs.Prelude.{ℕ, List};
+    ghost use Rattle.rpkibasic.specs.Table.{rows_of};
+
+    ghost Value = { List (List ℕ × List ℕ × List ℕ) };
+
+    ghost view = { λ p. rows_of p.table.items };
+}
+
 impl BenchProvider {
     /// The provider with this table. It takes no memory.
     pub fn new(table: Vec<Row>) -> BenchProvider
-        ensures { result.table ≡ table }
+        ensures { result ≡ rows_of table.items }
     {
         BenchProvider { table }
     }
 
     /// Whether the three stand in a row of the table.
     fn has(&self, bits: &[u8], message: &[u8], signature: &[u8]) -> bool
-        ensures { result ≡ stands self.now.table.items bits.now message.now signature.now }
+        ensures { result ≡ stands self.now bits.now message.now signature.now }
     {
-        self.table
-            .iter()
-            .any(|row| is_row(row, bits, message, signature))
+        is_among(self.table.as_slice(), bits, message, signature)
     }
+}
+
+/// Whether the three are one of the rows.
+fn is_among(table: &[Row], bits: &[u8], message: &[u8], signature: &[u8]) -> bool
+    ensures { result ≡ list_any (λ row. is_row bits.now message.now signature.now (row_of row)) table.now }
+{
+    table
+        .iter()
+        .any(|row| is_row(row, bits, message, signature))
 }
 
 /// Whether the row is these three.
 fn is_row(row: &Row, bits: &[u8], message: &[u8], signature: &[u8]) -> bool
-    ensures { result ≡ is_row bits.now message.now signature.now row.now }
+    ensures { result ≡ is_row bits.now message.now signature.now (row_of row.now) }
 {
     row.0.as_slice() == bits && row.1.as_slice() == message && row.2.as_slice() == signature
 }
@@ -52,9 +72,9 @@ impl Provider for BenchProvider {
 
     ghost sha256_of = { λ p octets. sha256 octets };
 
-    ghost rsa_of = { λ p bits message signature. stands p.table.items bits message signature };
+    ghost rsa_of = { λ p bits message signature. stands p bits message signature };
 
-    ghost ecdsa_of = { λ p bits message signature. stands p.table.items bits message signature };
+    ghost ecdsa_of = { λ p bits message signature. stands p bits message signature };
 
     fn sha1(&self, octets: &[u8]) -> [u8; 20] {
         Sha1::digest(octets)
