@@ -1,10 +1,15 @@
 //! Runs over inputs and outputs in memory.
 
+mod failing;
+
+use crate::fault::{Fault, tell};
 use crate::provider::{BenchProvider, Row};
 use crate::runs::run;
 use bytes::Bytes;
-use rpki::crypto::{DigestAlgorithm, Provider, PublicKey, RpkiSignatureAlgorithm};
+use rpki::crypto::{DigestAlgorithm, Provider, PublicKey, RpkiSignatureAlgorithm, sha1_digest};
+use rpki::der::DecodeError;
 use rpki::repository::x509::SignedData;
+use rpki::uri;
 use std::alloc::{AllocError, Global};
 use std::test::Fail;
 
@@ -26,6 +31,16 @@ const RSA_WITHOUT_PARAMETERS: &[u8] = &[
     0x30, 0x0b, 0x06, 0x09, 0x2a, 0x86, 0x48, 0x86, 0xf7, 0x0d, 0x01, 0x01, 0x01,
 ];
 
+/// Signed data with parameters, whose slice is an empty SEQUENCE and whose signature is `AA`.
+const FIRST: &[u8] =
+    b"\x30\x15\x30\x00\x30\x0d\x06\x09\x2a\x86\x48\x86\xf7\x0d\x01\x01\x0b\x05\x00\x03\x02\x00\xaa";
+
+/// An RSA key whose bits are the octets `abc`.
+const ABC_KEY: &[u8] =
+    b"\x30\x15\x30\x0d\x06\x09\x2a\x86\x48\x86\xf7\x0d\x01\x01\x01\x05\x00\x03\x04\x00\x61\x62\x63";
+
+const USAGE_LINE: &[u8] = b"usage: rpkibasic again|data|key|uri\n";
+
 /// What is seen of a run: the status, the output and the faults.
 #[derive(Drop)]
 struct Seen {
@@ -34,16 +49,31 @@ struct Seen {
     faults: Vec<u8>,
 }
 
-/// A run of these words over this input.
-fn run_over(alloc: Global, words: &[&str], input: &[u8]) -> Result<Seen, AllocError> {
+impl Seen {
+    /// Whether this is what is seen.
+    fn is(&self, status: u8, output: &[u8], faults: &[u8]) -> bool {
+        self.status == status
+            && self.output.as_slice() == output
+            && self.faults.as_slice() == faults
+    }
+}
+
+/// The words, each a text of its own.
+fn owned(alloc: Global, words: &[&str]) -> Result<Vec<String>, AllocError> {
     let mut owned = Vec::new(alloc);
     for word in words {
         owned.push(String::from_str(alloc, word)?)?;
     }
+    Ok(owned)
+}
+
+/// A run of these words over this input.
+fn run_over(alloc: Global, words: &[&str], input: &[u8]) -> Result<Seen, AllocError> {
+    let words = owned(alloc, words)?;
     let mut left = input;
     let mut output = Vec::new(alloc);
     let mut faults = Vec::new(alloc);
-    let status = run(alloc, owned.as_slice(), &mut left, &mut output, &mut faults);
+    let status = run(alloc, words.as_slice(), &mut left, &mut output, &mut faults);
     Ok(Seen {
         status,
         output,
@@ -161,6 +191,39 @@ const CASES: &[Case] = &[
         status: 0,
         output: &[&[0x30, 0x02, 0x02, 0x00]],
         faults: "",
+    },
+    Case {
+        words: &["again"],
+        input: &[
+            &[0x30, 0x17, 0x30, 0x02, 0x02, 0x00],
+            WITH_PARAMETERS,
+            &[0x03, 0x02, 0x00, 0xaa],
+        ],
+        status: 0,
+        output: &[
+            &[0x30, 0x17, 0x30, 0x02, 0x02, 0x00],
+            WITH_PARAMETERS,
+            &[0x03, 0x02, 0x00, 0xaa],
+        ],
+        faults: "",
+    },
+    Case {
+        words: &["data"],
+        input: &[
+            &[0x30, 0x15, 0x30, 0x00],
+            WITH_PARAMETERS,
+            &[0x03, 0x02, 0x00, 0xaa, 0x00],
+        ],
+        status: 1,
+        output: &[],
+        faults: "refused 6\n",
+    },
+    Case {
+        words: &["again"],
+        input: &[&[0x00, 0x00]],
+        status: 1,
+        output: &[],
+        faults: "refused 2\n",
     },
     Case {
         words: &["again"],
@@ -317,6 +380,20 @@ const CASES: &[Case] = &[
         output: &[],
         faults: "usage: rpkibasic again|data|key|uri\n",
     },
+    Case {
+        words: &[""],
+        input: &[],
+        status: 2,
+        output: &[],
+        faults: "usage: rpkibasic again|data|key|uri\n",
+    },
+    Case {
+        words: &["Again"],
+        input: &[],
+        status: 2,
+        output: &[],
+        faults: "usage: rpkibasic again|data|key|uri\n",
+    },
 ];
 
 /// The parts, one after another.
@@ -373,59 +450,145 @@ fn proper_beginnings_are_truncated(rt: HostRuntime) -> Result<(), Fail> {
     Ok(())
 }
 
+/// A URI and so many `a` behind it, the status, and the fault.
+const LONG: [(&[u8], usize, u8, &[u8]); 6] = [
+    (b"rsync://host/module/", 255, 0, b""),
+    (b"rsync://host/module/", 256, 1, b"refused 7\n"),
+    (b"rsync://host/module/", 3_060, 1, b"refused 3\n"),
+    (b"https://", 255, 0, b""),
+    (b"https://", 256, 1, b"refused 2\n"),
+    (b"https://h/", 4_096, 0, b""),
+];
+
 #[test]
-fn a_long_segment_is_refused(rt: HostRuntime) -> Result<(), Fail> {
-    let mut uri = Vec::new(rt.alloc());
-    uri.extend_from_slice(b"rsync://host/module/")?;
-    for _ in 0..255 {
-        uri.push(b'a')?;
+fn long_uris(rt: HostRuntime) -> Result<(), Fail> {
+    for (front, times, status, faults) in LONG {
+        let mut uri = Vec::from_slice(rt.alloc(), front)?;
+        for _ in 0..times {
+            uri.push(b'a')?;
+        }
+        let seen = run_over(rt.alloc(), &["uri"], uri.as_slice())?;
+        assert_eq!(rt; seen.status, status, "{front:?} and {times}");
+        assert_eq!(rt; seen.faults.as_slice(), faults, "{front:?} and {times}");
     }
-    let read = run_over(rt.alloc(), &["uri"], uri.as_slice())?;
-    assert_eq!(rt; read.status, 0);
-    uri.push(b'a')?;
-    let refused = run_over(rt.alloc(), &["uri"], uri.as_slice())?;
-    assert_eq!(rt; refused.status, 1);
-    assert_eq!(rt; refused.faults.as_slice(), b"refused 7\n".as_slice());
     Ok(())
 }
 
-/// A table of one row.
-fn table_of(
-    alloc: Global,
-    bits: &[u8],
-    message: &[u8],
-    signature: &[u8],
-) -> Result<Vec<Row>, AllocError> {
-    let bits = Vec::from_slice(alloc, bits)?;
-    let message = Vec::from_slice(alloc, message)?;
-    let signature = Vec::from_slice(alloc, signature)?;
+/// How many of the 255 changes of one octet of signed data are still read. What is then written is the input, but for
+/// the count of unused bits, which is written as 0.
+fn read_with_another_octet(alloc: Global, at: usize) -> Result<usize, Fail> {
+    let mut read = Vec::new(alloc);
+    for octet in 0..=255u8 {
+        let mut input = Vec::from_slice(alloc, FIRST)?;
+        match input.get_mut(at) {
+            Some(place) if *place != octet => *place = octet,
+            _ => continue,
+        }
+        let seen = run_over(alloc, &["again"], input.as_slice())?;
+        let written = if at == 21 { FIRST } else { input.as_slice() };
+        if seen.is(0, written, b"") {
+            read.push(octet)?;
+        } else if seen.status != 1 || !seen.output.is_empty() {
+            return Err(Fail::from("neither read nor refused"));
+        }
+    }
+    Ok(read.len())
+}
+
+#[test]
+fn one_octet_changed(rt: HostRuntime) -> Result<(), Fail> {
+    for at in 0..23 {
+        // The tag of the slice, the count of unused bits, and the signature.
+        let expected = match at {
+            2 => 245,
+            21 => 1,
+            22 => 255,
+            _ => 0,
+        };
+        assert_eq!(rt;
+            read_with_another_octet(rt.alloc(), at)?,
+            expected,
+            "octet {at}"
+        );
+    }
+    Ok(())
+}
+
+/// Each fault, its status and its line.
+const FAULTS: [(Fault, u8, &[u8]); 8] = [
+    (Fault::Usage, 2, USAGE_LINE),
+    (Fault::Refused(DecodeError::Truncated), 1, b"refused 1\n"),
+    (Fault::Refused(DecodeError::Trailing), 1, b"refused 6\n"),
+    (
+        Fault::RefusedUri(uri::Error::LongSegments),
+        1,
+        b"refused 7\n",
+    ),
+    (Fault::TooLong, 1, b"too long\n"),
+    (Fault::OutOfMemory, 1, b"out of memory\n"),
+    (Fault::Input, 1, b"input could not be read\n"),
+    (Fault::Output, 1, b"output could not be written\n"),
+];
+
+#[test]
+fn fault_lines(rt: HostRuntime) {
+    for (fault, status, line) in FAULTS {
+        let mut faults = Vec::new(rt.alloc());
+        tell(&mut faults, fault);
+        assert_eq!(rt; faults.as_slice(), line, "{fault:?}");
+        assert_eq!(rt; fault.status(), status, "{fault:?}");
+    }
+    assert!(rt; Fault::from(DecodeError::OutOfMemory) == Fault::OutOfMemory);
+    assert!(rt; Fault::from(uri::Error::OutOfMemory) == Fault::OutOfMemory);
+}
+
+/// The bits of a key, a message, and its signature.
+type RowOctets = (&'static [u8], &'static [u8], &'static [u8]);
+
+/// A table of these rows.
+fn table_of(alloc: Global, rows: &[RowOctets]) -> Result<Vec<Row>, AllocError> {
     let mut table = Vec::new(alloc);
-    table.push((bits, message, signature))?;
+    for (bits, message, signature) in rows {
+        let bits = Vec::from_slice(alloc, bits)?;
+        let message = Vec::from_slice(alloc, message)?;
+        let signature = Vec::from_slice(alloc, signature)?;
+        table.push((bits, message, signature))?;
+    }
     Ok(table)
 }
 
-/// What is looked up in a table of `bits`, `message`, `signature`, and whether it is there.
-const LOOKED_UP: [(&[u8], &[u8], &[u8], bool); 5] = [
-    (b"bits", b"message", b"signature", true),
-    (b"bit", b"message", b"signature", false),
-    (b"bits", b"messages", b"signature", false),
-    (b"bits", b"message", b"", false),
-    (b"signature", b"message", b"bits", false),
+/// A table of two rows.
+const TWO_ROWS: [RowOctets; 2] = [
+    (b"bits", b"message", b"signature"),
+    (b"abc", &[0x30, 0x00], &[]),
+];
+
+/// What is looked up in it, and whether it is there.
+const LOOKED_UP: [(RowOctets, bool); 9] = [
+    ((b"bits", b"message", b"signature"), true),
+    ((b"abc", &[0x30, 0x00], &[]), true),
+    ((b"bit", b"message", b"signature"), false),
+    ((b"bits", b"messages", b"signature"), false),
+    ((b"bits", b"message", b""), false),
+    ((b"signature", b"message", b"bits"), false),
+    ((b"abc", b"message", b"signature"), false),
+    ((b"bits", &[0x30, 0x00], &[]), false),
+    ((b"", b"", b""), false),
 ];
 
 #[test]
 fn signatures_of_a_table(rt: HostRuntime) -> Result<(), Fail> {
-    let provider = BenchProvider::new(table_of(rt.alloc(), b"bits", b"message", b"signature")?);
-    for (bits, message, signature, there) in LOOKED_UP {
+    let provider = BenchProvider::new(table_of(rt.alloc(), &TWO_ROWS)?);
+    for ((bits, message, signature), there) in LOOKED_UP {
         assert_eq!(rt;
             provider.rsa_check(bits, message, signature),
             there,
-            "{bits:?} {message:?}"
+            "RSA: {bits:?} {message:?} {signature:?}"
         );
         assert_eq!(rt;
             provider.ecdsa_check(bits, message, signature),
             there,
-            "{bits:?} {message:?}"
+            "ECDSA: {bits:?} {message:?} {signature:?}"
         );
     }
     Ok(())
@@ -435,7 +598,7 @@ fn signatures_of_a_table(rt: HostRuntime) -> Result<(), Fail> {
 fn digests(rt: HostRuntime) -> Result<(), Fail> {
     let provider = BenchProvider::new(Vec::new(rt.alloc()));
     assert_eq!(rt;
-        provider.sha1(b""),
+        sha1_digest(&provider, b""),
         [
             0xda, 0x39, 0xa3, 0xee, 0x5e, 0x6b, 0x4b, 0x0d, 0x32, 0x55, 0xbf, 0xef, 0x95, 0x60,
             0x18, 0x90, 0xaf, 0xd8, 0x07, 0x09,
@@ -452,18 +615,15 @@ fn digests(rt: HostRuntime) -> Result<(), Fail> {
     Ok(())
 }
 
-/// Signed data, the key of the octets `abc`, and a table in which `AA` is that key's signature of what is signed.
+/// Signed data, without unused bits of the signature and with one.
 const SIGNED: [&[u8]; 2] = [
-    b"\x30\x15\x30\x00\x30\x0d\x06\x09\x2a\x86\x48\x86\xf7\x0d\x01\x01\x0b\x05\x00\x03\x02\x00\xaa",
+    FIRST,
     b"\x30\x15\x30\x00\x30\x0d\x06\x09\x2a\x86\x48\x86\xf7\x0d\x01\x01\x0b\x05\x00\x03\x02\x01\xaa",
 ];
 
-const KEY: &[u8] =
-    b"\x30\x15\x30\x0d\x06\x09\x2a\x86\x48\x86\xf7\x0d\x01\x01\x01\x05\x00\x03\x04\x00\x61\x62\x63";
-
 /// Whether the signed data is by the key, as the provider says; no where the one or the other is refused.
 fn verifies(alloc: Global, provider: &BenchProvider, octets: &'static [u8]) -> bool {
-    let key = match PublicKey::decode(Bytes::from_static(KEY)) {
+    let key = match PublicKey::decode(Bytes::from_static(ABC_KEY)) {
         Ok(key) => key,
         Err(_) => return false,
     };
@@ -476,7 +636,8 @@ fn verifies(alloc: Global, provider: &BenchProvider, octets: &'static [u8]) -> b
 #[test]
 fn signed_data_verifies_by_the_table(rt: HostRuntime) -> Result<(), Fail> {
     let empty = BenchProvider::new(Vec::new(rt.alloc()));
-    let provider = BenchProvider::new(table_of(rt.alloc(), b"abc", &[0x30, 0x00], &[0xaa])?);
+    let table = table_of(rt.alloc(), &[(b"abc", &[0x30, 0x00], &[0xaa])])?;
+    let provider = BenchProvider::new(table);
     for octets in SIGNED {
         assert!(rt;
             verifies(rt.alloc(), &provider, octets),
