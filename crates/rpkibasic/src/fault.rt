@@ -18,7 +18,7 @@ pub enum Fault {
     Refused(DecodeError),
     /// The input is refused as a URI.
     RefusedUri(uri::Error),
-    /// A length can't announce what would be written.
+    /// The contents that would be written have 2^32 octets or more, and no length announces them.
     TooLong,
     /// Memory ran out.
     OutOfMemory,

@@ -56,6 +56,9 @@ fn show<W: Write, F: Write>(answer: Result<&[u8], Fault>, output: &mut W, faults
 ///
 /// Without words the usage line goes to the output. With one word that the program knows, the input is read to its
 /// end, the answer is made, and only then is anything written. Other words get the usage line as a fault.
+///
+/// The status is 0 where the output was written, 2 for other words, and 1 for any other fault, whose line goes to the
+/// faults. A line of a fault that can't be written changes no status.
 pub fn run<R: Read, W: Write, F: Write>(
     alloc: Global,
     words: &[String],

@@ -1,4 +1,3 @@
-use Rattle.std.proofs.Common.{sym}
 use Rattle.rpkibasic.specs.Run.{SpellsRpki}
 use Rattle.rpkibasic.proofs.Faults.{fault-of}
 use Rattle.rpkibasic.proofs.answers.decoded.Goals as goal

@@ -1,6 +1,5 @@
-use Rattle.std.proofs.Common.{sym, ap, ◌++◌, ◌∷◌, [], ◌+◌, List, ℕ}
 use Rattle.rpki_der.proofs.Writing.{writes_then, writes_of_cut, beginning_of, beginning_more}
-use Rattle.rpkibasic.specs.Fault.{line, text_of, number_text}
+use Rattle.rpkibasic.specs.Fault.{text_of, number_text}
 use Rattle.rpkibasic.proofs.fault.write_line.Goals as goal
 
 pub returns-in-Refused : goal.returns-in-Refused

@@ -1,4 +1,3 @@
-use Rattle.std.proofs.Common.{sym}
 use Rattle.rpki.specs.PublicKey.{SpellsKey}
 use Rattle.rpkibasic.proofs.Faults.{fault-of}
 use Rattle.rpkibasic.proofs.keys.decoded_key.Goals as goal
