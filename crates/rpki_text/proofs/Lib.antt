@@ -17,3 +17,4 @@ pub mod HttpsLemmas
 pub mod HexLemmas
 pub mod Base64Lemmas
 pub mod HttpsLaws
+pub mod CaseLemmas

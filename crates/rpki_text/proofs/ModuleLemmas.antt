@@ -1,7 +1,7 @@
 -- All up to the path, and equality with octets.
-use Rattle.std.proofs.Common.{◌≡◌, ℕ, ◌-◌, true, List, ◌++◌, length, take, codes, sym, refl, ap, ◌∙◌, arith}
+use Rattle.std.proofs.Common.{◌≡◌, ◌↔◌, ℕ, ◌-◌, Bool, true, false, IsTrue, List, ◌++◌, length, take, codes, sym, refl, ap, ◌∙◌, arith}
 use Rattle.std.specs.List.{list_all}
-use Rattle.std.proofs.lemmas.List.{length-drop, length-take-le, append_assoc, take-append-drop, length-append}
+use Rattle.std.proofs.lemmas.List.{append_cancel_right, length-drop, length-take-le, append_assoc, take-append-drop, length-append}
 use Rattle.std.proofs.Math.Seq.{take-append_seam}
 use Rattle.rpki_text.specs.UriText.{is_uri_byte, lowercase, same_text}
 use Rattle.rpki_text.specs.RsyncText.{IsCut, authority_of, module_name_of, path_of, module_of, canonical_module_of, eq_rsync_bytes}
@@ -37,6 +37,18 @@ module_halves t m p c =
 pub canonical_by : (t lower : List ℕ) → lower ≡ codes "rsync://" ++ lowercase (authority_of t) ++ codes "/" → lower ++ module_name_of t ++ codes "/" ≡ canonical_module_of t
 unfolding canonical_module_of
 canonical_by t lower e = ap (λ s. s ++ module_name_of t ++ codes "/") e
+
+-- a canonical module that is the module as it was spelled has no capital before the module's name
+pub lower_site : (t site : List ℕ) → lowercase site ≡ codes "rsync://" ++ lowercase (authority_of t) ++ codes "/"
+    → module_of t ≡ site ++ module_name_of t ++ codes "/" → canonical_module_of t ≡ module_of t → lowercase site ≡ site
+lower_site t site low is same =
+    append_cancel_right _ _ (module_name_of t) (append_cancel_right _ _ (codes "/") (canonical_by t (lowercase site) low ∙ same ∙ is))
+
+-- so it takes no memory where a test says that there is one
+pub lent : {P : Type 0} (t site : List ℕ) (b : Bool) → lowercase site ≡ codes "rsync://" ++ lowercase (authority_of t) ++ codes "/"
+    → module_of t ≡ site ++ module_name_of t ++ codes "/" → IsTrue b ↔ (lowercase site ≡ site) → b ≡ false → canonical_module_of t ≡ module_of t → P
+lent t site true low is test h same = absurd (cc)
+lent t site false low is test h same = absurd (let yes : false ≡ true = test.1 (lower_site t site low is same) in cc)
 
 -- ---- equality with octets
 

@@ -1,6 +1,7 @@
 //! The characters of URIs, and texts whose letters' case doesn't count.
-ghost use Rattle.std.specs.Prelude.{◌≡◌, ◌≤◌, true, false, length, take, bytes_eq, IsTrue, IfOk, MatchResult, fold, flat_map};
-ghost use Rattle.std.specs.List.{list_all, position_or_len};
+ghost use Rattle.std.specs.Prelude.{◌≡◌, ◌↔◌, ◌≤◌, true, false, length, take, bytes_eq, IsTrue, IsOk, IfOk, MatchResult, fold, flat_map};
+ghost use Rattle.std.specs.Char.{is_ascii_uppercase};
+ghost use Rattle.std.specs.List.{list_all, list_any, position_or_len};
 ghost use Rattle.std.specs.Hash as fed;
 ghost use Rattle.std.specs.Cow.{cow_str_bytes};
 ghost use Rattle.rpki_text.specs.Segments.{is_slash};
@@ -20,7 +21,8 @@ fn is_uri_byte(b: u8) -> bool
 }
 
 /// Tests that each octet is a character that a URI may have: `!`, `$` to `;`, `=`, `A` to `Z`,
-/// `_`, `a` to `z` and `~`.
+/// `_`, `a` to `z` and `~`. These are the characters of RFC 3986 section 2 without `#`, `?`, `@`,
+/// `[` and `]`, so there is no query, no fragment and no user information.
 ///
 /// Refuses with `Error::InvalidCharacters` where there is another, and takes no memory.
 pub fn check_uri_ascii(text: &[u8]) -> Result<(), Error>
@@ -59,16 +61,24 @@ pub(super) fn uri_text(bytes: &[u8]) -> &str
     unsafe { str::from_utf8_unchecked(bytes) }
 }
 
-// Whether no letter is a capital: the text in lower case is then itself.
-pub(super) fn has_no_capital(text: &[u8]) -> bool
-    ensures { IsTrue result → lowercase text.now ≡ text.now }
+// Whether a letter is a capital.
+fn has_capital(text: &[u8]) -> bool
+    ensures { result ≡ list_any is_ascii_uppercase text.now }
 {
-    !text.iter().any(|b| b.is_ascii_uppercase())
+    text.iter().any(|b| b.is_ascii_uppercase())
 }
 
-// The text in lower case: itself, where it is.
+// Whether no letter is a capital: exactly then the text in lower case is itself.
+pub(super) fn has_no_capital(text: &[u8]) -> bool
+    ensures { IsTrue result ↔ (lowercase text.now ≡ text.now) }
+{
+    !has_capital(text)
+}
+
+// The text in lower case: itself, where it is, and then no memory is taken.
 pub(super) fn in_lower_case(alloc: Global, text: &str) -> Result<CowStr<'_, Global>, AllocError>
-    ensures { IfOk result (λ lower. cow_str_bytes lower ≡ lowercase text.now) }
+    ensures ok { IfOk result (λ lower. cow_str_bytes lower ≡ lowercase text.now) }
+    ensures free { lowercase text.now ≡ text.now → IsOk result }
 {
     if has_no_capital(text.as_bytes()) {
         return Ok(CowStr::Borrowed(text));

@@ -1,5 +1,5 @@
-//! Https URIs.
-ghost use Rattle.std.specs.Prelude.{◌≡◌, ◌≤◌, true, false, length, take, bytes_eq, codes, Some, None, MatchResult, ◌+◌, ◌++◌, IfSome, IfOk, OnOk, OnErr, IfErr, string_bytes};
+//! Https URIs (RFC 9110 section 4.2.2).
+ghost use Rattle.std.specs.Prelude.{◌≡◌, ◌≤◌, true, false, length, take, bytes_eq, codes, Some, None, MatchResult, ◌+◌, ◌++◌, IfSome, IsOk, IfOk, OnOk, OnErr, IfErr, string_bytes};
 ghost use Rattle.std.specs.Cow.{cow_str_bytes};
 ghost use Rattle.std.specs.List.{list_all};
 ghost use Rattle.std.specs.Option.{option_map, unwrap_or};
@@ -24,7 +24,7 @@ use std::hash::{Hash, Hasher};
 use std::marker::Model;
 
 /// An https URI: an authority, which may be empty, and a path, which is empty or begins with a
-/// slash.
+/// slash (RFC 9110 section 4.2.2, RFC 3986 section 3).
 ///
 /// It keeps the text that it was spelled with. What the text stands for is the authority in lower
 /// case and the path; equality and hash go by these.
@@ -123,7 +123,7 @@ impl Https {
 
 /// # The text and its parts
 impl Https {
-    /// The text as it was spelled, in octets. It is read again as this URI.
+    /// The text as it was spelled, in octets. It spells this URI, and is read again.
     pub fn as_slice(&self) -> &[u8]
         ensures text { result.now ≡ self.now }
         ensures spelled { SpellsHttps self.now (https_uri_of self.now) }
@@ -167,7 +167,8 @@ impl Https {
     ///
     /// Fails where the text has to be written and its memory can't be had.
     pub fn canonical_authority(&self, alloc: Global) -> Result<CowStr<'_, Global>, AllocError>
-        ensures { IfOk result (λ text. cow_str_bytes text ≡ lowercase (https_authority self.now)) }
+        ensures ok { IfOk result (λ text. cow_str_bytes text ≡ lowercase (https_authority self.now)) }
+        ensures free { lowercase (https_authority self.now) ≡ https_authority self.now → IsOk result }
     {
         in_lower_case(alloc, self.authority())
     }
@@ -225,7 +226,7 @@ impl Https {
 
 /// # Paths
 impl Https {
-    /// Puts a slash last, unless the path is empty or has one.
+    /// Puts a slash last, unless the path is empty or has one. The text before is its beginning.
     ///
     /// Fails where the new text's memory can't be had, and then changes nothing. Where the path
     /// is a directory already, nothing is taken and nothing fails.
@@ -264,8 +265,8 @@ impl Https {
         Ok(Some(Https { bytes, path_start }))
     }
 
-    /// The URI with the path behind its own; a slash is put between where this one's path is
-    /// empty or ends without one, also for an empty argument.
+    /// The URI with the path behind its own, and this text as its beginning; a slash is put between
+    /// where this one's path is empty or ends without one, also for an empty argument.
     ///
     /// Refuses with `Error::InvalidCharacters` for a character that a URI may not have, and else
     /// with `Error::OutOfMemory` where the new text's memory can't be had.

@@ -1,5 +1,5 @@
 //! Rsync URIs (RFC 5781).
-ghost use Rattle.std.specs.Prelude.{◌≡◌, ◌≤◌, ◌<◌, not, true, false, length, take, drop, bytes_eq, nat_eq, nat_lt, codes, Some, None, MatchResult, ◌+◌, ◌-◌, ◌&&◌, ◌++◌, ◌^◌, IfSome, IfOk, OnOk, OnErr, IfErr, is_some, [], string_bytes};
+ghost use Rattle.std.specs.Prelude.{◌≡◌, ◌≤◌, ◌<◌, not, true, false, length, take, drop, bytes_eq, nat_eq, nat_lt, codes, Some, None, MatchResult, ◌+◌, ◌-◌, ◌&&◌, ◌++◌, ◌^◌, IfSome, IsOk, IfOk, OnOk, OnErr, IfErr, is_some, [], string_bytes};
 ghost use Rattle.std.specs.Cow.{cow_str_bytes};
 ghost use Rattle.std.specs.List.{list_all, position_or_len, ends_with};
 ghost use Rattle.std.specs.Option.{option_copied, option_map, unwrap_or};
@@ -140,7 +140,8 @@ impl Rsync {
 
 /// # The text and its parts
 impl Rsync {
-    /// The text as it was spelled, in octets.
+    /// The text as it was spelled, in octets. It spells this URI, and where it has at most 3,079
+    /// octets it is read again.
     pub fn as_slice(&self) -> &[u8]
         ensures text { result.now ≡ self.now }
         ensures spelled { Spells self.now (uri_of self.now) }
@@ -180,7 +181,8 @@ impl Rsync {
     ///
     /// Fails where the text has to be written and its memory can't be had.
     pub fn canonical_authority(&self, alloc: Global) -> Result<CowStr<'_, Global>, AllocError>
-        ensures { IfOk result (λ text. cow_str_bytes text ≡ lowercase (authority_of self.now)) }
+        ensures ok { IfOk result (λ text. cow_str_bytes text ≡ lowercase (authority_of self.now)) }
+        ensures free { lowercase (authority_of self.now) ≡ authority_of self.now → IsOk result }
     {
         in_lower_case(alloc, self.authority())
     }
@@ -205,7 +207,8 @@ impl Rsync {
     ///
     /// Fails where the text has to be written and its memory can't be had.
     pub fn canonical_module(&self, alloc: Global) -> Result<CowStr<'_, Global>, AllocError>
-        ensures { IfOk result (λ text. cow_str_bytes text ≡ canonical_module_of self.now) }
+        ensures ok { IfOk result (λ text. cow_str_bytes text ≡ canonical_module_of self.now) }
+        ensures free { canonical_module_of self.now ≡ module_of self.now → IsOk result }
     {
         let site = self.site();
         if has_no_capital(site) {
@@ -350,8 +353,9 @@ impl Rsync {
         }))
     }
 
-    /// The URI with the path's segments behind its own; a slash is put between where this one's
-    /// text ends without one. An empty path gives a copy.
+    /// The URI with the path's segments behind its own, and this text as its beginning; a slash is
+    /// put between where this one's text ends without one. An empty path gives a copy.
+    /// `relative_to` gives the path back.
     ///
     /// Refuses a path that is not empty with the first of these that is true:
     /// `Error::InvalidCharacters`; `Error::LongUri` for 3,072 octets or more of path; what is
@@ -375,8 +379,9 @@ impl Rsync {
     }
 
     /// The path from `other` to this URI, with this one's last slash: `None` unless both have the
-    /// same authority and module and the other's segments are a beginning of this one's; empty
-    /// where no segment is left. Takes no memory.
+    /// same authority, in whatever case, and module and the other's segments are a beginning of
+    /// this one's; empty where no segment is left. Where it is not empty, joining it to `other`
+    /// gives an equal URI, unless this text has 3,072 octets or more. Takes no memory.
     pub fn relative_to(&self, other: &Rsync) -> Option<&str>
         ensures path { option_copied result ≡ relative (uri_of self.now) (uri_of other.now) }
         ensures back { IfSome result (λ p. 0 < length p.now → IsWayBack self.now other.now p.now) }
@@ -390,8 +395,9 @@ impl Rsync {
         Some(uri_text(left))
     }
 
-    /// Whether `other` lies below this URI: the same module, and this one's segments are a
-    /// strict beginning of the other's. Takes no memory.
+    /// Whether `other` lies below this URI: the same authority and module, and this one's segments
+    /// are a strict beginning of the other's. No URI lies below itself, and what lies below one that
+    /// lies below a third lies below the third. Takes no memory.
     pub fn is_parent_of(&self, other: &Rsync) -> bool
         ensures value { result ≡ is_parent (uri_of self.now) (uri_of other.now) }
         ensures irreflexive { is_parent (uri_of self.now) (uri_of self.now) ≡ false }
@@ -405,7 +411,7 @@ impl Rsync {
         }
     }
 
-    /// Whether both have the same module and the same segments, with or without a slash last.
+    /// Whether both have the same authority, module and segments, with or without a slash last.
     /// Takes no memory.
     pub fn is_identical_to(&self, other: &Rsync) -> bool
         ensures { result ≡ is_identical (uri_of self.now) (uri_of other.now) }
