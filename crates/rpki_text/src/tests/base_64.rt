@@ -1,6 +1,8 @@
 //! Base 64.
 use crate::util::base_64::{Base64Error, DecodeError, DecodeSliceError, Serde, Slurm, Xml};
 use std::alloc::Global;
+use std::error::Error;
+use std::str;
 use std::test::Fail;
 
 // The octets that a text is read as, or what it is refused with.
@@ -21,8 +23,16 @@ fn outcome(alloc: Global, read: Result<Vec<u8>, Base64Error>) -> Result<String, 
     }
 }
 
-fn xml(alloc: Global, text: &[u8]) -> Result<String, Fail> {
-    let read = match Xml.decode_bytes(alloc, text) {
+fn xml(alloc: Global, octets: &[u8]) -> Result<String, Fail> {
+    let read = match Xml.decode_bytes(alloc, octets) {
+        Ok(octets) => Ok(octets),
+        Err(e) => Err(*e.cause()),
+    };
+    outcome(alloc, read)
+}
+
+fn xml_text(alloc: Global, text: &str) -> Result<String, Fail> {
+    let read = match Xml.decode(alloc, text) {
         Ok(octets) => Ok(octets),
         Err(e) => Err(*e.cause()),
     };
@@ -31,18 +41,25 @@ fn xml(alloc: Global, text: &[u8]) -> Result<String, Fail> {
 
 #[test]
 fn xml_texts(rt: HostRuntime) -> Result<(), Fail> {
-    let cases: [(&[u8], &str); 8] = [
+    let cases: [(&[u8], &str); 12] = [
         (b"Zm9v\n YmFy", "foobar"),
         (b"Zm9v", "foo"),
         (b"", ""),
         (b" \t\n\x0C\r", ""),
         (b"Zg==", "f"),
         (b"Z g\n= =", "f"),
+        (b"Zg", "padding"),
+        (b"Zm 9v\n!", "byte 33 at 4"),
+        (b"-_8=", "byte 45 at 0"),
+        (b" Z\xC3\xA9", "byte 195 at 1"),
         (b"\x5A\xFF", "byte 255 at 1"),
         (b" \n\x5A\xFF", "byte 255 at 3"),
     ];
-    for (text, want) in cases {
-        assert_eq!(rt; xml(rt.alloc(), text)?.as_str(), want, "{want}");
+    for (octets, want) in cases {
+        assert_eq!(rt; xml(rt.alloc(), octets)?.as_str(), want, "{octets:?}");
+        if let Ok(text) = str::from_utf8(octets) {
+            assert_eq!(rt; xml_text(rt.alloc(), text)?.as_str(), want, "{text}");
+        }
     }
     Ok(())
 }
@@ -57,7 +74,9 @@ fn slurm(alloc: Global, text: &str) -> Result<String, Fail> {
 
 #[test]
 fn other_texts(rt: HostRuntime) -> Result<(), Fail> {
-    let cases: [(&str, &str, &str); 6] = [
+    let cases: [(&str, &str, &str); 8] = [
+        ("-_8", "byte 45 at 0", "\u{fffd}\u{fffd}"),
+        ("+/8=", "\u{fffd}\u{fffd}", "byte 43 at 0"),
         ("Zg", "padding", "f"),
         ("Zg==", "f", "f"),
         ("Zm9v", "foo", "foo"),
@@ -76,24 +95,23 @@ fn other_texts(rt: HostRuntime) -> Result<(), Fail> {
 fn written(alloc: Global, octets: &[u8]) -> Result<String, Fail> {
     let mut out: Vec<u8> = Vec::new(alloc);
     Slurm.write_encoded_slice(octets, &mut out)?;
-    let out = String::from_utf8_lossy(alloc, out.as_slice())?
-        .as_str()
-        .len();
     Ok(format!(in alloc;
-        "{} {} {} {} {out}",
+        "{} {} {} {} {}",
         Xml.encode(alloc, octets)?.as_str(),
         Serde.encode(alloc, octets)?.as_str(),
         Slurm.encode(alloc, octets)?.as_str(),
-        Slurm.display(octets)
+        Slurm.display(octets),
+        String::from_utf8_lossy(alloc, out.as_slice())?.as_str()
     )?)
 }
 
 #[test]
 fn encodings(rt: HostRuntime) -> Result<(), Fail> {
-    let cases: [(&[u8], &str); 3] = [
-        (&[0xFB, 0xFF], "+/8= +/8= -_8 -_8 3"),
-        (b"foobar", "Zm9vYmFy Zm9vYmFy Zm9vYmFy Zm9vYmFy 8"),
-        (b"", "    0"),
+    let cases: [(&[u8], &str); 4] = [
+        (&[0xFB, 0xFF], "+/8= +/8= -_8 -_8 -_8"),
+        (b"f", "Zg== Zg== Zg Zg Zg"),
+        (b"foobar", "Zm9vYmFy Zm9vYmFy Zm9vYmFy Zm9vYmFy Zm9vYmFy"),
+        (b"", "    "),
     ];
     for (octets, want) in cases {
         assert_eq!(rt; written(rt.alloc(), octets)?.as_str(), want, "{want}");
@@ -101,21 +119,77 @@ fn encodings(rt: HostRuntime) -> Result<(), Fail> {
     Ok(())
 }
 
-fn sliced(text: &str, room: usize) -> usize {
-    let mut buf = [0u8; 4];
-    if room > 4 {
-        return 9;
+// How long the text of so many zero octets is, and whether it has the digit of six zero bits alone.
+fn zeros_written(alloc: Global, count: usize) -> Result<(usize, bool), Fail> {
+    let mut octets: Vec<u8> = Vec::new(alloc);
+    for _ in 0..count {
+        octets.push(0)?;
     }
-    match Slurm.decode_slice(text, &mut buf[..room]) {
-        Ok(n) => n,
-        Err(DecodeSliceError::OutputSliceTooSmall) => 7,
-        Err(DecodeSliceError::DecodeError(_)) => 8,
+    let mut out: Vec<u8> = Vec::new(alloc);
+    Slurm.write_encoded_slice(octets.as_slice(), &mut out)?;
+    Ok((out.len(), out.iter().all(|digit| *digit == b'A')))
+}
+
+#[test]
+fn long_encodings(rt: HostRuntime) -> Result<(), Fail> {
+    // Four digits for three octets, two more for one and three more for two.
+    for (octets, digits) in [(767, 1023), (768, 1024), (769, 1026), (1537, 2050)] {
+        assert_eq!(rt;
+            zeros_written(rt.alloc(), octets)?,
+            (digits, true),
+            "{octets} octets"
+        );
+    }
+    Ok(())
+}
+
+// What a text is read into: four dots, of which the first may be written over.
+fn sliced(alloc: Global, text: &str, room: usize) -> Result<String, Fail> {
+    let mut buf = [b'.'; 4];
+    let read = Slurm.decode_slice(text, &mut buf[..room.min(4)]);
+    match read {
+        Ok(n) => Ok(format!(in alloc; "{n} {}", String::from_utf8_lossy(alloc, &buf)?.as_str())?),
+        Err(DecodeSliceError::OutputSliceTooSmall) => Ok(String::from_str(alloc, "no room")?),
+        Err(DecodeSliceError::DecodeError(_)) => Ok(String::from_str(alloc, "refused")?),
     }
 }
 
 #[test]
-fn slices(rt: HostRuntime) {
-    for (text, room, want) in [("Zg", 1, 1), ("Zm9v", 4, 3), ("Zm9v", 2, 7), ("Z", 4, 8)] {
-        assert_eq!(rt; sliced(text, room), want, "{text} into {room}");
+fn slices(rt: HostRuntime) -> Result<(), Fail> {
+    let cases: [(&str, usize, &str); 6] = [
+        ("Zg", 1, "1 f..."),
+        ("Zg==", 4, "1 f..."),
+        ("Zm9v", 4, "3 foo."),
+        ("Zm9v", 2, "no room"),
+        ("Z", 4, "refused"),
+        ("", 0, "0 ...."),
+    ];
+    for (text, room, want) in cases {
+        assert_eq!(rt;
+            sliced(rt.alloc(), text, room)?.as_str(),
+            want,
+            "{text} into {room}"
+        );
     }
+    Ok(())
+}
+
+fn shown<E: Error + Drop>(alloc: Global, error: E) -> Result<String, Fail> {
+    Ok(format!(in alloc; "{error}")?)
+}
+
+#[test]
+fn errors_have_texts(rt: HostRuntime) -> Result<(), Fail> {
+    let memory = shown(rt.alloc(), Base64Error::OutOfMemory)?;
+    assert_eq!(rt; memory.as_str(), "out of memory");
+    let refused = Base64Error::Refused(DecodeError::InvalidPadding);
+    assert!(rt; !shown(rt.alloc(), refused)?.is_empty());
+    match Xml.decode(rt.alloc(), "Zg") {
+        Ok(_) => return Err(Fail::from("read without padding")),
+        Err(error) => {
+            assert!(rt; *error.cause() == refused);
+            assert!(rt; !shown(rt.alloc(), error)?.is_empty());
+        }
+    }
+    Ok(())
 }

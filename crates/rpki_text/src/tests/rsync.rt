@@ -144,7 +144,7 @@ fn relative(alloc: Global, of: &str, to: &str) -> Result<String, Fail> {
     }
 }
 
-const RELATIVES: [(&str, &str, &str); 17] = [
+const RELATIVES: [(&str, &str, &str); 18] = [
     ("rsync://host/module/", "rsync://host/module/", ""),
     ("rsync://host/module/", "rsync://host/module/a", "None"),
     ("rsync://host/module/a", "rsync://host/module/", "a"),
@@ -158,6 +158,7 @@ const RELATIVES: [(&str, &str, &str); 17] = [
     ("rsync://host/module/a/b", "rsync://host/mod_b/a/b", "None"),
     ("rsync://host/module/ab", "rsync://host/module/a", "None"),
     ("rsync://host/module/a", "rsync://host/module/a/", ""),
+    ("rsync://host/module/a/", "rsync://host/module/a", ""),
     ("rsync://host/M/a", "rsync://host/m/", "None"),
     ("rsync://HOST/module/a/b/", "rSync://host/module/a", "b/"),
     ("rsync://host/module/A/b", "rsync://host/module/a", "None"),
@@ -313,6 +314,25 @@ const PARENTS: [(&str, &str); 6] = [
 fn parents(rt: HostRuntime) -> Result<(), Fail> {
     for (text, want) in PARENTS {
         assert_eq!(rt; parent(rt.alloc(), text)?.as_str(), want, "{text}");
+    }
+    Ok(())
+}
+
+fn into_dir(alloc: Global, text: &str) -> Result<String, Fail> {
+    let mut uri = parsed(alloc, text)?;
+    uri.path_into_dir(alloc)?;
+    Ok(String::from_str(alloc, uri.as_str())?)
+}
+
+#[test]
+fn directories(rt: HostRuntime) -> Result<(), Fail> {
+    let cases: [(&str, &str); 3] = [
+        ("rsync://host/module/", "rsync://host/module/"),
+        ("rSync://hOst/module/foo", "rSync://hOst/module/foo/"),
+        ("rsync://host/module/foo/", "rsync://host/module/foo/"),
+    ];
+    for (text, want) in cases {
+        assert_eq!(rt; into_dir(rt.alloc(), text)?.as_str(), want, "{text}");
     }
     Ok(())
 }
@@ -589,6 +609,22 @@ fn schemes(rt: HostRuntime) -> Result<(), Fail> {
     Ok(())
 }
 
+const CHARACTERS: &[u8] =
+    b"!$%&'()*+,-./0123456789:;=ABCDEFGHIJKLMNOPQRSTUVWXYZ_abcdefghijklmnopqrstuvwxyz~";
+
+#[test]
+fn characters(rt: HostRuntime) {
+    assert!(rt; check_uri_ascii(b"").is_ok());
+    assert!(rt; check_uri_ascii(CHARACTERS).is_ok());
+    for octet in 0..=255u8 {
+        let refused = match check_uri_ascii(&[b'a', octet]) {
+            Ok(()) => false,
+            Err(e) => e == Error::InvalidCharacters,
+        };
+        assert!(rt; refused != CHARACTERS.contains(&octet), "{octet}");
+    }
+}
+
 #[test]
 fn beginnings(rt: HostRuntime) {
     let cases: [(&[u8], &[u8], bool); 5] = [
@@ -605,6 +641,5 @@ fn beginnings(rt: HostRuntime) {
             "{} octets",
             s.len()
         );
-        assert!(rt; check_uri_ascii(s).is_ok(), "{} octets", s.len());
     }
 }
