@@ -1,4 +1,4 @@
--- The characters of URIs, and texts whose front is read without regard to case.
+-- The characters of URIs (RFC 3986 section 2), and texts whose front is read without regard to case (section 6.2.2.1).
 use Rattle.std.specs.Prelude.{ℕ, ◌==◌, ◌||◌, ◌&&◌, Bool, List, take, drop, map, bytes_eq}
 use Rattle.std.specs.Int.{is_in_range}
 use Rattle.std.specs.Char.{to_ascii_lowercase}

@@ -6,15 +6,18 @@ use std::fmt;
 /// Why a text is no URI, or why two texts can't be joined to one.
 #[derive(Clone, Copy, Debug, PartialEq, Eq, Drop)]
 pub enum Error {
-    /// There is a character that a URI may not have.
+    /// There is a character that a URI may not have: `check_uri_ascii` has the list.
     InvalidCharacters,
-    /// The authority or the module is missing, or the authority of an https URI is too long.
+    /// The authority, the module or the slash behind the module of an rsync URI is missing, or the authority of an
+    /// https URI has 256 octets or more.
     BadUri,
-    /// The text is too long.
+    /// An rsync URI has 3,072 octets or more behind its scheme and the slashes, or a path that is joined or the text
+    /// that joining gives has as many.
     LongUri,
-    /// The text doesn't begin with the scheme.
+    /// The text doesn't begin with the scheme that is read, a colon and two slashes.
     BadScheme,
-    /// A segment is `.` or `..`.
+    /// A segment is `.` or `..` (RFC 3986 section 3.3). Here and below, the authority and the module of an rsync URI
+    /// count as segments.
     DotSegments,
     /// A segment that is not the last is empty.
     EmptySegments,

@@ -1,4 +1,5 @@
-//! Paths: what stands behind the module of a URI, cut into segments at its slashes.
+//! Paths: what stands behind the module of a URI, cut into segments at its slashes (RFC 3986
+//! section 3.3).
 ghost use Rattle.std.specs.Prelude.{◌≡◌, ◌≤◌, ◌<◌, ◌+◌, ◌-◌, ◌^◌, ◌++◌, [], ◌∷◌, ◌⊎◌, ℕ, not, true, false, length, take, drop, Some, None, MatchResult, MatchOption, IfSome, IfNone, IfOk, if◌then◌else◌};
 ghost use Rattle.std.specs.Iterator.{YieldsFirstBy, item_count};
 ghost use Rattle.std.specs.List.{suffix_len};

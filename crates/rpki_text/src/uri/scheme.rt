@@ -5,7 +5,7 @@ ghost use Rattle.rpki_text.specs.SchemeText.{scheme_name, scheme_text, is_https_
 use std::alloc::{AllocError, Global};
 use std::fmt;
 
-/// The scheme of a URI.
+/// The scheme of a URI (RFC 3986 section 3.1).
 #[derive(Clone, Copy, Debug, PartialEq, Eq, Drop)]
 pub enum Scheme {
     /// `https` (RFC 9110 section 4.2.2).
@@ -41,6 +41,8 @@ impl Scheme {
 
     /// The beginning of a URI of this scheme: its name, a colon and two slashes, as Display
     /// prints it.
+    ///
+    /// Fails where the text's memory can't be had.
     pub fn into_string(self, alloc: Global) -> Result<String, AllocError>
         ensures { IfOk result (λ text. string_bytes text ≡ scheme_text self) }
     {

@@ -1,4 +1,4 @@
-//! Octets as base 64 text (RFC 4648), in the three flavours of the RPKI's protocols.
+//! Octets as base 64 text (RFC 4648 sections 4 and 5), in the three flavours of the RPKI's protocols.
 //!
 //! Want of memory may be answered before a text is looked at.
 ghost use Rattle.std.specs.Prelude.{◌≡◌, Some, Ok, length, IfOk, IfErr, OnOk, string_bytes};
@@ -58,7 +58,8 @@ impl fmt::Display for XmlDecodeError {
 
 impl std::error::Error for XmlDecodeError {}
 
-/// Base 64 in XML documents: the standard alphabet with padding, and white space anywhere.
+/// Base 64 in XML documents: the standard alphabet with padding (RFC 4648 section 4), and white
+/// space anywhere: space, tab, line feed, form feed, carriage return.
 #[derive(Drop)]
 pub struct Xml;
 
@@ -106,7 +107,7 @@ impl Xml {
     }
 }
 
-/// Base 64 in serialized values: the standard alphabet with padding.
+/// Base 64 in serialized values: the standard alphabet with padding (RFC 4648 section 4).
 #[derive(Drop)]
 pub struct Serde;
 
@@ -131,8 +132,9 @@ impl Serde {
     }
 }
 
-/// Base 64 in local files for simplified use (RFC 8416): the alphabet that is safe in URLs, read
-/// with padding or without and written without.
+/// Base 64 in the files of Simplified Local Internet Number Resource Management (SLURM, RFC 8416):
+/// the alphabet that is safe in URLs (RFC 4648 section 5), read with padding or without and written
+/// without.
 #[derive(Drop)]
 pub struct Slurm;
 
@@ -221,6 +223,7 @@ impl From<DecodeAllocError> for Base64Error {
     }
 }
 
+// What the octets stand for once their white space is dropped.
 fn decode_without_white_space(alloc: Global, text: &[u8]) -> Result<Vec<u8>, Base64Error>
     ensures ok { IfOk result (λ v. xml_decode_of text.now ≡ Ok v.items) }
     ensures err { IfErr result (λ e. IsBase64Failure (xml_decode_of text.now) e) }
