@@ -174,21 +174,43 @@ const PARTS_AND_NULL: &[u8] =
 const SIGNED_AND_NULL: &[u8] =
     b"\x30\x15\x30\x00\x30\x0D\x06\x09\x2A\x86\x48\x86\xF7\x0D\x01\x01\x0B\x05\x00\x03\x02\x00\xAA\x05\x00";
 
+/// The signed data at the front, in its SEQUENCE or as the three parts alone, and how many octets follow it.
+fn read_front(
+    alloc: Global,
+    in_sequence: bool,
+    octets: &'static [u8],
+) -> Result<(SignedData, usize), DecodeError> {
+    let source = Bytes::from_static(octets);
+    let mut cons = Constructed::new(&source);
+    let signed = if in_sequence {
+        SignedData::take_from(alloc, &mut cons)?
+    } else {
+        SignedData::from_constructed(alloc, &mut cons)?
+    };
+    Ok((signed, cons.rest().len()))
+}
+
 #[test]
-fn signed_data_is_read_and_made(rt: HostRuntime) -> Result<(), Fail> {
+fn signed_data_is_read_one_by_one(rt: HostRuntime) -> Result<(), Fail> {
     let expected = decoded(rt.alloc(), SIGNED)?;
-    let parts = Bytes::from_static(PARTS_AND_NULL);
-    let mut cons = Constructed::new(&parts);
-    let inner: SignedData = SignedData::from_constructed(rt.alloc(), &mut cons)?;
-    assert!(rt; inner == expected, "of the three parts");
-    assert_eq!(rt; cons.rest(), b"\x05\x00".as_slice(), "behind the parts");
-    let signed = Bytes::from_static(SIGNED_AND_NULL);
-    let mut cons = Constructed::new(&signed);
-    let whole: SignedData = SignedData::take_from(rt.alloc(), &mut cons)?;
-    assert!(rt; whole == expected, "of a SEQUENCE");
-    assert_eq!(rt; cons.rest(), b"\x05\x00".as_slice(), "behind the SEQUENCE");
-    let data = Constructed::new(&parts).capture_one(rt.alloc())?;
-    let made = SignedData::new(data, signature_of(RSA_SIGNATURE, b"\xAA")?);
-    assert!(rt; made == expected, "of a value and a signature");
+    for (in_sequence, octets) in [(false, PARTS_AND_NULL), (true, SIGNED_AND_NULL)] {
+        let (signed, left) = read_front(rt.alloc(), in_sequence, octets)?;
+        assert!(rt; signed == expected, "{octets:?}");
+        assert_eq!(rt; left, 2, "{octets:?}");
+    }
+    Ok(())
+}
+
+/// The signed data of the value at the front of these octets, and of a signature AA.
+fn made(alloc: Global, octets: &'static [u8]) -> Result<SignedData, DecodeError> {
+    let source = Bytes::from_static(octets);
+    let value = Constructed::new(&source).capture_one(alloc)?;
+    Ok(SignedData::new(value, signature_of(RSA_SIGNATURE, b"\xAA")?))
+}
+
+#[test]
+fn signed_data_is_made_of_its_parts(rt: HostRuntime) -> Result<(), Fail> {
+    let signed = made(rt.alloc(), PARTS_AND_NULL)?;
+    assert!(rt; signed == decoded(rt.alloc(), SIGNED)?);
     Ok(())
 }
