@@ -18,8 +18,11 @@ fn signature_of(
     value: &'static [u8],
 ) -> Result<RpkiSignature, DecodeError> {
     let source = Bytes::from_static(identifier);
-    let algorithm = RpkiSignatureAlgorithm::x509_take_from(&mut Constructed::new(&source))?;
-    Ok(Signature::new(algorithm, Bytes::from_static(value)))
+    let mut cons = Constructed::new(&source);
+    match RpkiSignatureAlgorithm::x509_take_from(&mut cons) {
+        Ok(algorithm) => Ok(Signature::new(algorithm, Bytes::from_static(value))),
+        Err(e) => Err(e),
+    }
 }
 
 // Algorithm identifiers and octets of signatures, and whether they are those of an identifier with parameters and AA.
@@ -31,27 +34,37 @@ const SIGNATURES: &[(&[u8], &[u8], bool)] = &[
     (RSA_SIGNATURE, b"", false),
 ];
 
+/// Whether the signature is equal to AA by the algorithm with parameters.
+fn is_first(signature: &RpkiSignature) -> bool {
+    let algorithm = RpkiSignatureAlgorithm::default();
+    *signature == Signature::new(algorithm, Bytes::from_static(b"\xAA"))
+}
+
 #[test]
-fn signatures_are_their_parts(rt: HostRuntime) -> Result<(), Fail> {
-    let first: RpkiSignature = Signature::new(
-        RpkiSignatureAlgorithm::default(),
-        Bytes::from_static(b"\xAA"),
-    );
+fn signatures_are_compared(rt: HostRuntime) -> Result<(), Fail> {
     for (identifier, value, equal) in SIGNATURES {
         let signature = signature_of(identifier, value)?;
-        assert_eq!(rt; signature == first, *equal, "{identifier:?} {value:?}");
-        assert!(rt;
-            signature.clone()? == signature,
-            "a copy: {identifier:?} {value:?}"
-        );
-        assert_eq!(rt;
-            signature.value().as_slice(),
-            *value,
-            "{identifier:?} {value:?}"
-        );
-        let named = *signature.algorithm();
-        let (algorithm, octets) = signature.unwrap();
-        assert_eq!(rt; algorithm, named, "{identifier:?} {value:?}");
+        assert_eq!(rt; is_first(&signature), *equal, "{identifier:?} {value:?}");
+    }
+    Ok(())
+}
+
+/// A copy of the signature, taken apart: whether its algorithm has parameters, and its octets.
+fn parts_of(identifier: &'static [u8], value: &'static [u8]) -> Result<(bool, Bytes), DecodeError> {
+    let copy = signature_of(identifier, value)?.clone()?;
+    let parameters = *copy.algorithm() == RpkiSignatureAlgorithm::default();
+    let (algorithm, octets) = copy.unwrap();
+    Ok((
+        parameters && algorithm == RpkiSignatureAlgorithm::default(),
+        octets,
+    ))
+}
+
+#[test]
+fn signatures_are_their_parts(rt: HostRuntime) -> Result<(), Fail> {
+    for (identifier, value, _) in SIGNATURES {
+        let (parameters, octets) = parts_of(identifier, value)?;
+        assert_eq!(rt; parameters, identifier.len() == 15, "{identifier:?}");
         assert_eq!(rt; octets.as_slice(), *value, "{identifier:?} {value:?}");
     }
     Ok(())
@@ -110,22 +123,51 @@ fn decoded(alloc: Global, octets: &'static [u8]) -> Result<SignedData, DecodeErr
     SignedData::decode(alloc, Bytes::from_static(octets))
 }
 
+/// What signed data is written as.
+fn again(alloc: Global, octets: &'static [u8]) -> Result<Bytes, Fail> {
+    let signed = decoded(alloc, octets)?;
+    Ok(written(alloc, &signed.encode_ref())?.ok_or("too long")?)
+}
+
 #[test]
-fn signed_data_is_decoded(rt: HostRuntime) -> Result<(), Fail> {
-    let first = decoded(rt.alloc(), SIGNED)?;
+fn signed_data_is_written_again(rt: HostRuntime) -> Result<(), Fail> {
     for row in ROWS {
-        let signed = decoded(rt.alloc(), row.octets)?;
-        assert_eq!(rt; signed.data().as_slice(), row.data, "{:?}", row.octets);
+        let octets = again(rt.alloc(), row.octets)?;
+        assert_eq!(rt; octets.as_slice(), row.written, "{:?}", row.octets);
+    }
+    Ok(())
+}
+
+/// Whether the value is equal to that of SIGNED.
+fn is_equal(alloc: Global, octets: &'static [u8]) -> Result<bool, DecodeError> {
+    Ok(decoded(alloc, octets)? == decoded(alloc, SIGNED)?)
+}
+
+#[test]
+fn signed_data_is_compared(rt: HostRuntime) -> Result<(), Fail> {
+    for row in ROWS {
         assert_eq!(rt;
-            signed.signature().value().as_slice(),
-            b"\xAA".as_slice(),
+            is_equal(rt.alloc(), row.octets)?,
+            row.equal,
             "{:?}",
             row.octets
         );
-        assert_eq!(rt; signed == first, row.equal, "{:?}", row.octets);
-        assert!(rt; signed.clone()? == signed, "a copy: {:?}", row.octets);
-        let octets = written(rt.alloc(), &signed.encode_ref())?.ok_or("too long")?;
-        assert_eq!(rt; octets.as_slice(), row.written, "{:?}", row.octets);
+    }
+    Ok(())
+}
+
+/// A copy of the signed data.
+fn copied(alloc: Global, octets: &'static [u8]) -> Result<SignedData, DecodeError> {
+    Ok(decoded(alloc, octets)?.clone()?)
+}
+
+#[test]
+fn signed_data_has_parts(rt: HostRuntime) -> Result<(), Fail> {
+    for row in ROWS {
+        let signed = copied(rt.alloc(), row.octets)?;
+        assert_eq!(rt; signed.data().as_slice(), row.data, "{:?}", row.octets);
+        let value = signed.signature().value().as_slice();
+        assert_eq!(rt; value, b"\xAA".as_slice(), "{:?}", row.octets);
     }
     Ok(())
 }
