@@ -138,18 +138,21 @@ const WITH_PARAMETERS: &[(&[u8], bool)] = &[
     (RSA_SIGNATURE_WITHOUT, false),
 ];
 
-#[test]
-fn parameters_are_remembered(rt: HostRuntime) -> Result<(), Fail> {
-    for (octets, expected) in WITH_PARAMETERS {
-        let source: Bytes = Bytes::from_static(octets);
-        let found = RpkiSignatureAlgorithm::cms_take_from(&mut Constructed::new(&source))?;
-        assert_eq!(rt;
-            found == RpkiSignatureAlgorithm::default(),
-            *expected,
-            "{octets:?}"
-        );
+/// Whether what is read has parameters.
+fn has_parameters(octets: &'static [u8]) -> Option<bool> {
+    let source: Bytes = Bytes::from_static(octets);
+    let mut cons = Constructed::new(&source);
+    match RpkiSignatureAlgorithm::cms_take_from(&mut cons) {
+        Ok(found) => Some(found == RpkiSignatureAlgorithm::default()),
+        Err(_) => None,
     }
-    Ok(())
+}
+
+#[test]
+fn parameters_are_remembered(rt: HostRuntime) {
+    for (octets, expected) in WITH_PARAMETERS {
+        assert_eq!(rt; has_parameters(octets), Some(*expected), "{octets:?}");
+    }
 }
 
 #[derive(Clone, Copy, Debug)]
