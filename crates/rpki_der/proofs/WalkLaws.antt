@@ -1,15 +1,16 @@
 -- From what a walk reads and refuses: that nothing else is read or refused.
-use Rattle.std.proofs.Common.{◌≡◌, ◌≢◌, ◌⊎◌, ℕ, ◌≤◌, List, [], ◌++◌, length, take, drop, refl, sym, ap, ◌∙◌, subst, arith, inl, inr, Result, Ok, Err, IfOk, IfErr, take-append-drop, length-append}
+use Rattle.std.proofs.Common.{◌≡◌, ◌≢◌, ◌⊎◌, ℕ, ◌<◌, ◌≤◌, true, false, List, [], ◌++◌, length, take, drop, refl, sym, ap, ◌∙◌, subst, arith, inl, inr, Result, Ok, Err, IfOk, IfErr, take-append-drop, length-append, append_assoc}
 use Rattle.std.proofs.lemmas.List.{length-take-le, drop_at}
 use Rattle.rpki_der.specs.declared.error.DecodeError.{DecodeError}
 use Rattle.rpki_der.specs.declared.error.DecodeError.TheVariants.{Truncated, BadTag, BadLength, Unexpected, Content, Trailing, OutOfMemory}
 use Rattle.rpki_der.specs.Reading.{Spells, Accepts, Refuses, Refusal, OrMemoryWhere}
-use Rattle.rpki_der.specs.Members.{IsValueOf, SpellsValue}
+use Rattle.rpki_der.specs.Header.{tlv}
+use Rattle.rpki_der.specs.Members.{Members, Empty, Primitive, Constructed, spell, HaveHeaders, IsValue, IsValueOf, SpellsValue}
 use Rattle.rpki_der.specs.NestedFault.{IsNestedFault, IsCaptureFault}
-use Rattle.rpki_der.specs.Walk.{IsNotEmpty, SpellsAnyValue, CountsHeaders}
+use Rattle.rpki_der.specs.Walk.{HasConstructed, HasEither, SpellsAnyValue, CountsHeaders}
 use Rattle.rpki_der.proofs.ReadingLaws.{UnlessMemory-from, Refusal-weaker, Refusal-or-memory-where}
 use Rattle.rpki_der.proofs.MembersLaws.{one_beginning, half_of, value_some}
-use Rattle.rpki_der.proofs.NestedFaultLaws.{fault_or_value, fault_not_empty, one_fault}
+use Rattle.rpki_der.proofs.NestedFaultLaws.{fault_or_value, fault_not_empty, fault_kinds, one_fault}
 
 -- what a spelling of a value begins with is the value
 value_parts : {s v r : List ℕ} → Spells SpellsValue s v r → s ≡ v ++ r
@@ -18,12 +19,21 @@ value_parts {s} {v} {r} sp = sp.parts ∙ ap (λ (x : List ℕ). x ++ r) sp.spel
 no_value : {s : List ℕ} {e : DecodeError} → IsNestedFault s e → Refuses SpellsValue s
 no_value fault v r sp = fault_or_value r fault sp.spelled.value (value_parts sp)
 
--- a fault, or want of memory where something is left
-refusal_of : (s : List ℕ) (e : DecodeError) → s ≢ [] → (e ≡ OutOfMemory) ⊎ IsNestedFault s e → Refusal SpellsValue (OrMemoryWhere IsNotEmpty IsNestedFault) s s e
-refusal_of s e some (inl z) = subst (λ (x : DecodeError). Refusal SpellsValue (OrMemoryWhere IsNotEmpty IsNestedFault) s s x) (sym z) (record { unchanged = refl; refuses = tt; kind = some })
-refusal_of s e some (inr f) = Refusal-or-memory-where IsNotEmpty IsNestedFault s s e (λ k. some) (record { unchanged = refl; refuses = UnlessMemory-from e (no_value f); kind = f })
+-- no fault is want of memory
+no_memory : {s : List ℕ} → IsNestedFault s OutOfMemory → ⊥
+no_memory fault = kinds (fault_kinds fault)
+  where
+    kinds : (OutOfMemory ≡ Truncated) ⊎ (OutOfMemory ≡ BadTag) ⊎ (OutOfMemory ≡ BadLength) → ⊥
+    kinds (inl e) = cc e
+    kinds (inr (inl e)) = cc e
+    kinds (inr (inr e)) = cc e
 
-module _ (r : Result ℕ DecodeError) (s : List ℕ) (m : ℕ) (within : IfOk r (λ k. k ≤ length s)) (accepted : IfOk r (λ k. IsValueOf m (take k s))) (refused : IfErr r (λ e. (e ≡ OutOfMemory) ⊎ IsNestedFault s e)) where
+-- a fault, or want of memory where a constructed value begins
+refusal_of : (s : List ℕ) (e : DecodeError) → ((e ≡ OutOfMemory) × HasConstructed s) ⊎ IsNestedFault s e → Refusal SpellsValue (OrMemoryWhere HasConstructed IsNestedFault) s s e
+refusal_of s e (inl z) = subst (λ (x : DecodeError). Refusal SpellsValue (OrMemoryWhere HasConstructed IsNestedFault) s s x) (sym z.0) (record { unchanged = refl; refuses = tt; kind = z.1 })
+refusal_of s e (inr f) = Refusal-or-memory-where HasConstructed IsNestedFault s s e (λ k. absurd (no_memory k)) (record { unchanged = refl; refuses = UnlessMemory-from e (no_value f); kind = f })
+
+module _ (r : Result ℕ DecodeError) (s : List ℕ) (m : ℕ) (within : IfOk r (λ k. k ≤ length s)) (accepted : IfOk r (λ k. IsValueOf m (take k s))) (refused : IfErr r (λ e. ((e ≡ OutOfMemory) × HasConstructed s) ⊎ IsNestedFault s e)) where
   pub front_accepted : IfOk r (λ k. Accepts SpellsValue s (take k s) (drop k s))
   front_accepted = go r within accepted
     where
@@ -45,19 +55,19 @@ module _ (r : Result ℕ DecodeError) (s : List ℕ) (m : ℕ) (within : IfOk r 
       go (Ok k) a = record { value = take k s; parts = sym (take-append-drop k s); headers = a; half = half_of (take k s) m a }
       go (Err e) a = tt
 
-  pub front_refused : s ≢ [] → IfErr r (λ e. Refusal SpellsValue (OrMemoryWhere IsNotEmpty IsNestedFault) s s e)
-  front_refused some = go r refused
+  pub front_refused : IfErr r (λ e. Refusal SpellsValue (OrMemoryWhere HasConstructed IsNestedFault) s s e)
+  front_refused = go r refused
     where
-      go : (r : Result ℕ DecodeError) → IfErr r (λ e. (e ≡ OutOfMemory) ⊎ IsNestedFault s e) → IfErr r (λ e. Refusal SpellsValue (OrMemoryWhere IsNotEmpty IsNestedFault) s s e)
+      go : (r : Result ℕ DecodeError) → IfErr r (λ e. ((e ≡ OutOfMemory) × HasConstructed s) ⊎ IsNestedFault s e) → IfErr r (λ e. Refusal SpellsValue (OrMemoryWhere HasConstructed IsNestedFault) s s e)
       go (Ok k) f = tt
-      go (Err e) f = refusal_of s e some f
+      go (Err e) f = refusal_of s e f
 
   pub fault_named : (e : DecodeError) → IsNestedFault s e → (r ≡ Err OutOfMemory) ⊎ (r ≡ Err e)
   fault_named e f = go r accepted refused
     where
-      go : (r : Result ℕ DecodeError) → IfOk r (λ k. IsValueOf m (take k s)) → IfErr r (λ d. (d ≡ OutOfMemory) ⊎ IsNestedFault s d) → (r ≡ Err OutOfMemory) ⊎ (r ≡ Err e)
+      go : (r : Result ℕ DecodeError) → IfOk r (λ k. IsValueOf m (take k s)) → IfErr r (λ d. ((d ≡ OutOfMemory) × HasConstructed s) ⊎ IsNestedFault s d) → (r ≡ Err OutOfMemory) ⊎ (r ≡ Err e)
       go (Ok k) a g = absurd (fault_or_value (drop k s) f a.0 (sym (take-append-drop k s)))
-      go (Err d) a (inl h) = inl (ap (λ (x : DecodeError). Err x) h)
+      go (Err d) a (inl h) = inl (ap (λ (x : DecodeError). Err x) h.0)
       go (Err d) a (inr h) = inr (ap (λ (x : DecodeError). Err x) (one_fault h f refl))
 
 -- ---- one value, whichever
@@ -82,20 +92,39 @@ some_left {s} {v} {r} a z =
 
 -- ---- capturing
 
-pub capture_refused : {s r : List ℕ} {e : DecodeError} → Refusal SpellsValue (OrMemoryWhere IsNotEmpty IsNestedFault) s r e → Refusal SpellsValue (OrMemoryWhere IsNotEmpty IsCaptureFault) s r e
+-- one value is a value of some form
+has_either : {s v r : List ℕ} → Accepts SpellsValue s v r → HasEither s
+has_either {s} {v} {r} a = go value.members value.legal value.spelled (omega (arith, value_some value, ap length value.spelled))
+  where
+    value : IsValue v
+    value = a.spells.spelled.value
+
+    parts : (front more : List ℕ) → v ≡ front ++ more → s ≡ front ++ (more ++ r)
+    parts front more is = value_parts a.spells ∙ ap (λ (x : List ℕ). x ++ r) is ∙ append_assoc front more r
+
+    go : (vs : Members) → HaveHeaders vs → v ≡ spell vs → 0 < length (spell vs) → HasEither s
+    go Empty h is some = absurd (omega arith)
+    go (Primitive t c rest) h is some = (false, (t, c, spell rest ++ r, record { front = tlv t false c; parts = parts (tlv t false c) (spell rest) is; spelled = record { tag = h.0.0; fits = h.0.1; octets = refl } }))
+    go (Constructed t ms rest) h is some = (true, (t, spell ms, spell rest ++ r, record { front = tlv t true (spell ms); parts = parts (tlv t true (spell ms)) (spell rest) is; spelled = record { tag = h.0.0; fits = h.0.1; octets = refl } }))
+
+-- a value is there, and could not be shared
+pub capture_memory : {s v r : List ℕ} → Accepts SpellsValue s v r → Refusal SpellsValue (OrMemoryWhere HasEither IsCaptureFault) s s OutOfMemory
+capture_memory a = record { unchanged = refl; refuses = tt; kind = has_either a }
+
+pub capture_refused : {s r : List ℕ} {e : DecodeError} → Refusal SpellsValue (OrMemoryWhere HasConstructed IsNestedFault) s r e → Refusal SpellsValue (OrMemoryWhere HasEither IsCaptureFault) s r e
 capture_refused {s} {r} {e} h = Refusal-weaker (λ none. none) (kind e) h
   where
-    kind : (e : DecodeError) → OrMemoryWhere IsNotEmpty IsNestedFault s e → OrMemoryWhere IsNotEmpty IsCaptureFault s e
+    kind : (e : DecodeError) → OrMemoryWhere HasConstructed IsNestedFault s e → OrMemoryWhere HasEither IsCaptureFault s e
     kind Truncated k = inr k
     kind BadTag k = inr k
     kind BadLength k = inr k
     kind Unexpected k = inr k
     kind (Content x) k = inr k
     kind Trailing k = inr k
-    kind OutOfMemory k = k
+    kind OutOfMemory k = (true, k)
 
 -- nothing is left
-pub capture_nothing : (s : List ℕ) → s ≡ [] → Refusal SpellsValue (OrMemoryWhere IsNotEmpty IsCaptureFault) s s Truncated
+pub capture_nothing : (s : List ℕ) → s ≡ [] → Refusal SpellsValue (OrMemoryWhere HasEither IsCaptureFault) s s Truncated
 capture_nothing s z = record {
   unchanged = refl;
   refuses = λ v r sp. omega (arith, value_some sp.spelled.value, ap length (sym z ∙ value_parts sp), length-append v r);

@@ -12,6 +12,7 @@ use Rattle.rpki_der.specs.Reading.{Spells}
 use Rattle.rpki_der.specs.Values.{SpellsHeader}
 use Rattle.rpki_der.specs.Members.{Members, Empty, Primitive, Constructed, spell, HaveHeaders, header_count, IsValueOf}
 use Rattle.rpki_der.specs.NestedFault.{IsNestedFault, Inside}
+use Rattle.rpki_der.specs.Walk.{HasForm, HasConstructed}
 use Rattle.rpki_der.proofs.MembersLaws.{header, HasHeader, two_octets}
 
 -- the first k octets are this header
@@ -73,6 +74,27 @@ front b t f n k h fits =
           let joined : b ≡ header t f n ++ (take n (drop k b) ++ drop (k + n) b) = first ∙ ap (λ (x : List ℕ). header t f n ++ x) second in
           joined ∙ sym (append_assoc (header t f n) (take n (drop k b)) (drop (k + n) b)) ∙ ap (λ (m : ℕ). (header t f m ++ take n (drop k b)) ++ drop (k + n) b) (sym size);
     }
+
+-- a header that is there with its contents is that of a value
+pub has_value : {s : List ℕ} {h : Header} (k : ℕ) → Spells SpellsHeader s h (drop k s) → k + h.length ≤ length s → HasForm h.constructed s
+has_value {s} {h} k sp fits =
+    let found = front s h.tag h.constructed h.length k (begins_with k sp fits) fits in (
+      h.tag,
+      take h.length (drop k s),
+      drop (k + h.length) s,
+      record {
+        front = tlv h.tag h.constructed (take h.length (drop k s));
+        parts = found.is;
+        spelled = record { tag = found.legal.0; fits = found.legal.1; octets = refl };
+      },
+    )
+
+pub has_constructed : {s : List ℕ} {h : Header} (k : ℕ) → not h.constructed ≡ false → Spells SpellsHeader s h (drop k s) → k + h.length ≤ length s → HasConstructed s
+has_constructed {s} {h} k form sp fits = subst (λ (f : Bool). HasForm f s) (is_true h.constructed form) (has_value k sp fits)
+  where
+    is_true : (f : Bool) → not f ≡ false → f ≡ true
+    is_true true e = refl
+    is_true false e = sym e
 
 -- the parts of a part
 pub part_after : (s : List ℕ) (i e j : ℕ) → i + j ≤ e → drop j (between i e s) ≡ between (i + j) e s

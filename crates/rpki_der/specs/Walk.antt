@@ -1,10 +1,25 @@
 -- What is asked of who reads one whole value, with all that is nested in it.
-use Rattle.std.specs.Prelude.{◌≡◌, ◌≢◌, ◌*◌, ◌≤◌, ℕ, List, [], ◌++◌, length}
+use Rattle.std.specs.Prelude.{◌≡◌, ◌≢◌, ◌*◌, ◌≤◌, ℕ, Bool, true, List, [], ◌++◌, length}
+use Rattle.rpki_der.specs.TagName.{TagName}
+use Rattle.rpki_der.specs.Reading.{Spells}
+use Rattle.rpki_der.specs.Values.{SpellsContents}
 use Rattle.rpki_der.specs.Members.{IsValue, IsValueOf}
 
 -- something is left
 abbrev pub IsNotEmpty : List ℕ → Type 0
 IsNotEmpty s = s ≢ []
+
+-- a value of this form begins s, whatever its contents
+abbrev pub HasForm : Bool → List ℕ → Type 0
+HasForm f s = (t : TagName) × (c : List ℕ) × (r : List ℕ) × Spells (SpellsContents t f) s c r
+
+-- a value that may hold others begins s: whoever walks it takes memory
+abbrev pub HasConstructed : List ℕ → Type 0
+HasConstructed = HasForm true
+
+-- a value begins s, in whatever form: whoever shares it takes memory
+abbrev pub HasEither : List ℕ → Type 0
+HasEither s = (f : Bool) × HasForm f s
 
 -- one value, whichever
 abbrev pub SpellsAnyValue : Unit {0} → List ℕ → Type 0

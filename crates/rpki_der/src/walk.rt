@@ -9,7 +9,7 @@ ghost use Rattle.rpki_der.specs.Reading.{Spells, Accepts, Refusal, Reads, ReadsW
 ghost use Rattle.rpki_der.specs.Values.{SpellsHeader};
 ghost use Rattle.rpki_der.specs.Members.{IsValueOf, SpellsValue};
 ghost use Rattle.rpki_der.specs.NestedFault.{IsNestedFault, IsCaptureFault};
-ghost use Rattle.rpki_der.specs.Walk.{IsNotEmpty, SpellsAnyValue, CountsHeaders};
+ghost use Rattle.rpki_der.specs.Walk.{IsNotEmpty, HasConstructed, HasEither, SpellsAnyValue, CountsHeaders};
 
 use crate::captured::Captured;
 use crate::cursor::Constructed;
@@ -46,7 +46,7 @@ fn walk_value(alloc: Global, octets: &[u8], steps: &mut Steps) -> Result<usize, 
     ensures within { IfOk result (λ n. n ≤ length octets.now) }
     ensures raised { steps.old ≤ steps.new }
     ensures accepted { IfOk result (λ n. IsValueOf (steps.new - steps.old) (take n octets.now)) }
-    ensures refused { IfErr result (λ e. (e ≡ DecodeError.OutOfMemory) ⊎ IsNestedFault octets.now e) }
+    ensures refused { IfErr result (λ e. ((e ≡ DecodeError.OutOfMemory) × HasConstructed octets.now) ⊎ IsNestedFault octets.now e) }
     ensures bound { OnErr result (2 * (steps.new - steps.old) ≤ length octets.now + 2) }
 {
     let (first, mut place) = match enter(octets, steps) {
@@ -85,7 +85,7 @@ fn walk_front(alloc: Global, octets: &[u8], steps: &mut Steps) -> Result<usize, 
     requires room { steps.old + length octets.now < 2 ^ 64 }
     ensures within { IfOk result (λ n. n ≤ length octets.now) }
     ensures accepted { IfOk result (λ n. Accepts SpellsValue octets.now (take n octets.now) (drop n octets.now)) }
-    ensures refused { IfErr result (λ e. Refusal SpellsValue (OrMemoryWhere IsNotEmpty IsNestedFault) octets.now octets.now e) }
+    ensures refused { IfErr result (λ e. Refusal SpellsValue (OrMemoryWhere HasConstructed IsNestedFault) octets.now octets.now e) }
     ensures fault { (e : DecodeError) → IsNestedFault octets.now e → (result ≡ Err DecodeError.OutOfMemory) ⊎ (result ≡ Err e) }
     ensures raised { steps.old ≤ steps.new }
     ensures counted { IfOk result (λ n. CountsHeaders octets.now (drop n octets.now) (steps.new - steps.old)) }
@@ -104,10 +104,11 @@ impl<'a> Constructed<'a> {
     ///
     /// A refusal leaves the cursor where it was. It is the first one from the left: the fault of the octets where a value
     /// has to begin and no header does, which is `Truncated`, `BadTag` or `BadLength`; or `Truncated` where a value passes
-    /// the end of what holds it. `OutOfMemory` where the stack of open values could not grow.
+    /// the end of what holds it. `OutOfMemory` where the stack of open values could not grow, which a primitive value
+    /// doesn't need.
     pub fn walk(&mut self, alloc: Global, steps: &mut Steps) -> Result<Option<()>, DecodeError>
         requires room { steps.old + length (left self.old) < 2 ^ 64 }
-        ensures reads { ReadsWhere IsNotEmpty (λ _. tt) SpellsAnyValue (OrMemoryWhere IsNotEmpty IsNestedFault) (left self.old) (left self.new) result }
+        ensures reads { ReadsWhere IsNotEmpty (λ _. tt) SpellsAnyValue (OrMemoryWhere HasConstructed IsNestedFault) (left self.old) (left self.new) result }
         ensures fault { (e : DecodeError) → IsNestedFault (left self.old) e → (result ≡ Err DecodeError.OutOfMemory) ⊎ (result ≡ Err e) }
         ensures raised { steps.old ≤ steps.new }
         ensures nothing { left self.old ≡ [] → steps.new ≡ steps.old }
@@ -129,7 +130,7 @@ impl<'a> Constructed<'a> {
 
     /// Moves past one value, or answers None where nothing is left: as `walk`, with the same refusals, and no count.
     pub fn skip_one(&mut self, alloc: Global) -> Result<Option<()>, DecodeError>
-        ensures reads { ReadsWhere IsNotEmpty (λ _. tt) SpellsAnyValue (OrMemoryWhere IsNotEmpty IsNestedFault) (left self.old) (left self.new) result }
+        ensures reads { ReadsWhere IsNotEmpty (λ _. tt) SpellsAnyValue (OrMemoryWhere HasConstructed IsNestedFault) (left self.old) (left self.new) result }
         ensures fault { (e : DecodeError) → IsNestedFault (left self.old) e → (result ≡ Err DecodeError.OutOfMemory) ⊎ (result ≡ Err e) }
     {
         if self.rest().is_empty() {
@@ -143,7 +144,7 @@ impl<'a> Constructed<'a> {
     /// Refused as by `walk`, with the cursor where it was, and `Truncated` where nothing is left. `OutOfMemory` also where
     /// the octets could not be shared.
     pub fn capture_one(&mut self, alloc: Global) -> Result<Captured, DecodeError>
-        ensures reads { Reads (λ c. c) SpellsValue (OrMemoryWhere IsNotEmpty IsCaptureFault) (left self.old) (left self.new) result }
+        ensures reads { Reads (λ c. c) SpellsValue (OrMemoryWhere HasEither IsCaptureFault) (left self.old) (left self.new) result }
         ensures fault { (e : DecodeError) → IsCaptureFault (left self.old) e → (result ≡ Err DecodeError.OutOfMemory) ⊎ (result ≡ Err e) }
     {
         let octets = self.rest();

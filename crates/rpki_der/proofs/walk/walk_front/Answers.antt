@@ -1,4 +1,4 @@
-use Rattle.std.proofs.Common.{◌<◌, ◌-◌, length, arith, ap}
+use Rattle.std.proofs.Common.{◌-◌}
 use Rattle.rpki_der.proofs.WalkLaws.{front_accepted, front_counted, front_refused, fault_named}
 use Rattle.rpki_der.proofs.walk.walk_front.Goals as goal
 
@@ -8,8 +8,7 @@ returns-clause-accepted c = let e = c.walk_value.ensures in front_accepted _ _ _
 pub returns-clause-refused : goal.returns-clause-refused
 returns-clause-refused c =
     let e = c.walk_value.ensures in
-    let some : 0 < length c.args.octets.now = c.requires.some in
-    front_refused c.walk_value.result c.args.octets.now (c.walk_value.new.steps - c.args.steps.now) e.within e.accepted e.refused (λ z. omega (arith, ap length z, some))
+    front_refused c.walk_value.result c.args.octets.now (c.walk_value.new.steps - c.args.steps.now) e.within e.accepted e.refused
 
 pub returns-clause-fault : goal.returns-clause-fault
 returns-clause-fault c =

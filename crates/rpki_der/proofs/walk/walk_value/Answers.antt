@@ -1,14 +1,21 @@
-use Rattle.std.proofs.Common.{◌≡◌, ◌+◌, ◌-◌, ℕ, length, take, sym, ap, ◌∙◌, arith, [], ◌∷◌, inr, refl, Some, None, length-append}
+use Rattle.std.proofs.Common.{◌≡◌, ◌+◌, ◌-◌, ℕ, length, take, sym, ap, ◌∙◌, arith, [], ◌∷◌, inl, inr, refl, Some, None, length-append}
 use Rattle.std.specs.Prelude.{slice_get}
+use Rattle.std.proofs.lemmas.Result.{err_from_is_err_and}
 use Rattle.std.proofs.lemmas.Slice.{pushed}
 use Rattle.rpki_der.proofs.MembersLaws.{two_octets}
-use Rattle.rpki_der.proofs.Walking.{Innermost, begins_with, length_part, start_primitive, start_constructed, step_part, step_end, step_fault, step_fits, step_primitive, step_constructed, step_done}
+use Rattle.rpki_der.proofs.Walking.{Innermost, begins_with, has_constructed, length_part, start_primitive, start_constructed, step_part, step_end, step_fault, step_fits, step_primitive, step_constructed, step_done}
 use Rattle.rpki_der.proofs.walk.walk_value.Goals as goal
 
 pub returns-then-not-first-clause-accepted : goal.returns-then-not-first-clause-accepted
 returns-then-not-first-clause-accepted c =
     let h = c.in-Ok.ensures in
     start_primitive _ c.if-not-first.true (begins_with c.in-Ok.entered.1 h.found h.within) h.within (omega (arith, h.counted))
+
+pub returns-in_err-push-clause-refused : goal.returns-in_err-push-clause-refused
+returns-in_err-push-clause-refused c =
+    let p = err_from_is_err_and c.from_residual.result c.from_residual.ensures.1 in
+    let h = c.in-Ok.ensures in
+    rw p.1 (inl (p.2, has_constructed c.in-Ok.entered.1 c.if-not-first.false h.found h.within))
 
 pub values-init : goal.values-init
 values-init c =
@@ -61,6 +68,12 @@ values-preserved-then-not-found c =
       half = omega (arith, h.counted, fits.1);
       within = step_primitive _ last c.values.invariant.within c.if-not-found.true front h.within (omega (arith, h.counted));
     }
+
+pub returns-in_err-push-2-clause-refused : goal.returns-in_err-push-2-clause-refused
+returns-in_err-push-2-clause-refused c =
+    let p = err_from_is_err_and c.from_residual-in_err-push-2.result c.from_residual-in_err-push-2.ensures.1 in
+    let h = c.in-Ok.ensures in
+    rw p.1 (inl (p.2, has_constructed c.in-Ok.entered.1 c.if-not-first.false h.found h.within))
 
 pub values-preserved : goal.values-preserved
 values-preserved c =

@@ -1,9 +1,10 @@
 use Rattle.std.proofs.Common.{◌≡◌, length, ap, sym, ◌∙◌, inr, Err}
 use Rattle.std.proofs.lemmas.List.{nil_from_length}
 use Rattle.std.proofs.lemmas.Bool.{eqb-true}
+use Rattle.std.proofs.lemmas.Result.{err_from_is_err_and}
 use Rattle.rpki_der.specs.declared.error.DecodeError.{DecodeError}
 use Rattle.rpki_der.specs.Cursor.{left}
-use Rattle.rpki_der.proofs.WalkLaws.{capture_refused, capture_nothing, nothing_fault}
+use Rattle.rpki_der.proofs.WalkLaws.{capture_memory, capture_refused, capture_nothing, nothing_fault}
 use Rattle.rpki_der.proofs.cursor.Constructed.capture_one.Goals as goal
 
 pub returns-then-is_empty-clause-reads : goal.returns-then-is_empty-clause-reads
@@ -18,3 +19,8 @@ returns-then-is_empty-clause-fault c = λ e f.
 
 pub returns-in-Err-clause-reads : goal.returns-in-Err-clause-reads
 returns-in-Err-clause-reads c = rw (← c.rest-octets.ensures) (capture_refused c.in-Err.ensures.refused)
+
+pub returns-in_err-bytes-clause-reads : goal.returns-in_err-bytes-clause-reads
+returns-in_err-bytes-clause-reads c =
+    let p = err_from_is_err_and c.from_residual.result c.from_residual.ensures.1 in
+    rw (p.1, p.2, ← c.rest-octets.ensures) (capture_memory c.in-Ok.ensures.accepted)
