@@ -25,3 +25,4 @@ pub mod EncodeLaws
 pub mod UnsignedLaws
 pub mod LeafValues
 pub mod LeavesWritten
+pub mod KindsApart

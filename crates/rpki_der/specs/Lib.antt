@@ -21,4 +21,6 @@ pub mod Contents
 pub mod PrimitiveParts
 pub mod Joined
 pub mod OptionalPart
+pub mod Tree
+pub mod TreeLaws
 pub mod LeafLaws

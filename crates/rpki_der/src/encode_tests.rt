@@ -36,20 +36,39 @@ enum Composed {
     Captured,
 }
 
-/// Takes at most so many octets at a call, and fails once so many calls are made.
+/// How a writer fails: after so many calls, with an error of this kind, at that one call or from there on.
+#[derive(Clone, Copy, Debug)]
+struct Failure {
+    calls: usize,
+    kind: ErrorKind,
+    once: bool,
+}
+
+/// The kinds of error of a writer that fails, at one call alone or from there on.
+const FAILURES: [(ErrorKind, bool); 4] = [
+    (ErrorKind::BrokenPipe, false),
+    (ErrorKind::BrokenPipe, true),
+    (ErrorKind::Interrupted, false),
+    (ErrorKind::Interrupted, true),
+];
+
+/// Takes at most so many octets at a call, and fails as it is told.
 #[derive(Drop)]
 struct Failing {
     held: Vec<u8>,
     most: usize,
-    calls: usize,
+    failure: Failure,
 }
 
 impl Write for Failing {
     fn write(&mut self, octets: &[u8]) -> io::Result<usize> {
-        if self.calls == 0 {
-            return Err(io::Error::from(ErrorKind::BrokenPipe));
+        if self.failure.calls == 0 {
+            if self.failure.once {
+                self.failure.calls = usize::MAX;
+            }
+            return Err(io::Error::from(self.failure.kind));
         }
-        self.calls -= 1;
+        self.failure.calls -= 1;
         let count = octets.len().min(self.most);
         self.held.extend_from_slice(&octets[..count])?;
         Ok(count)
@@ -64,8 +83,8 @@ impl Write for Failing {
 #[derive(Clone, Copy, Debug)]
 enum Sink {
     Captured,
-    /// A writer that takes an octet at a call, and fails once so many calls are made.
-    Writer(usize),
+    /// A writer that takes an octet at a call, and fails.
+    Writer(Failure),
 }
 
 /// What is written: the octets, how many values and octets they are, and why the writer failed.
@@ -99,11 +118,11 @@ fn written<V: Values>(
                 error: None,
             }))
         }
-        Sink::Writer(calls) => {
+        Sink::Writer(failure) => {
             let mut out = Failing {
                 held: Vec::new(alloc),
                 most: 1,
-                calls,
+                failure,
             };
             let error = match values.write_encoded(&mut out) {
                 Ok(()) => None,
@@ -126,7 +145,9 @@ fn is_written(outcome: Option<Outcome>, sink: Sink, values: u64, expected: &[u8]
         return false;
     };
     let (held, error) = match sink {
-        Sink::Writer(calls) if calls < expected.len() => (calls, Some(ErrorKind::BrokenPipe)),
+        Sink::Writer(failure) if failure.calls < expected.len() => {
+            (failure.calls, Some(failure.kind))
+        }
         _ => (expected.len(), None),
     };
     found.octets.as_slice() == &expected[..held]
@@ -277,27 +298,34 @@ fn values_are_captured(rt: HostRuntime) -> Result<(), Fail> {
     Ok(())
 }
 
-#[test]
-fn a_failed_writer_holds_a_beginning(rt: HostRuntime) -> Result<(), Fail> {
+/// Whether a writer that fails holds what it took before, of each leaf and each composed value, whenever it fails.
+fn is_cut_there(alloc: Global, kind: ErrorKind, once: bool) -> Result<bool, AllocError> {
     for (leaf, expected) in LEAVES {
         for calls in 0..=expected.len() {
-            let sink = Sink::Writer(calls);
-            let found = leaf_written(rt.alloc(), sink, *leaf)?;
-            assert!(rt;
-                is_written(found, sink, 1, expected),
-                "{leaf:?}, {calls} calls"
-            );
+            let sink = Sink::Writer(Failure { calls, kind, once });
+            let found = leaf_written(alloc, sink, *leaf)?;
+            if !is_written(found, sink, 1, expected) {
+                return Ok(false);
+            }
         }
     }
     for (composed, values, expected) in COMPOSED {
         for calls in 0..=expected.len() {
-            let sink = Sink::Writer(calls);
-            let found = composed_written(rt.alloc(), sink, *composed)?;
-            assert!(rt;
-                is_written(found, sink, *values, expected),
-                "{composed:?}, {calls} calls"
-            );
+            let sink = Sink::Writer(Failure { calls, kind, once });
+            let found = composed_written(alloc, sink, *composed)?;
+            if !is_written(found, sink, *values, expected) {
+                return Ok(false);
+            }
         }
+    }
+    Ok(true)
+}
+
+#[test]
+fn the_first_error_of_a_writer_ends_the_call(rt: HostRuntime) -> Result<(), Fail> {
+    for (kind, once) in FAILURES {
+        let cut = is_cut_there(rt.alloc(), kind, once)?;
+        assert!(rt; cut, "{kind:?}, once: {once}");
     }
     Ok(())
 }
@@ -328,7 +356,7 @@ fn lengths_take_the_shortest_form(rt: HostRuntime) -> Result<(), Fail> {
 
 #[test]
 fn tags_have_their_octets(rt: HostRuntime) -> Result<(), Fail> {
-    let cases: [(Tag, &[u8]); 23] = [
+    let cases: [(Tag, &[u8]); 25] = [
         (Tag::BOOLEAN, &[0x01, 0x00]),
         (Tag::INTEGER, &[0x02, 0x00]),
         (Tag::BIT_STRING, &[0x03, 0x00]),
@@ -348,6 +376,8 @@ fn tags_have_their_octets(rt: HostRuntime) -> Result<(), Fail> {
         (<ConstOid>::TAG, &[0x06, 0x00]),
         (<&'static [u8]>::TAG, &[0x04, 0x00]),
         (<BitString>::TAG, &[0x03, 0x00]),
+        (<&'static BitString>::TAG, &[0x03, 0x00]),
+        (<Unsigned<'static>>::TAG, &[0x02, 0x00]),
         (Tag::new(Class::Context, 31), &[0x9f, 0x1f, 0x00]),
         (Tag::new(Class::Private, 127), &[0xdf, 0x7f, 0x00]),
         (Tag::new(Class::Application, 128), &[0x5f, 0x81, 0x00, 0x00]),
@@ -380,7 +410,11 @@ fn pieces_are_written(rt: HostRuntime) -> Result<(), Fail> {
         let mut out = Failing {
             held: Vec::new(rt.alloc()),
             most,
-            calls,
+            failure: Failure {
+                calls,
+                kind: ErrorKind::BrokenPipe,
+                once: true,
+            },
         };
         let values = Sequence::new((COMMON_NAME.encode(), ().encode()));
         assert!(rt; values.fits());
@@ -411,7 +445,11 @@ fn octets_are_written_whole(rt: HostRuntime) -> Result<(), Fail> {
         let mut out = Failing {
             held: Vec::new(rt.alloc()),
             most,
-            calls,
+            failure: Failure {
+                calls,
+                kind: ErrorKind::BrokenPipe,
+                once: true,
+            },
         };
         out.held.push(7)?;
         let kind = match write_whole(&mut out, &whole[1..]) {

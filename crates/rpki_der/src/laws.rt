@@ -3,12 +3,25 @@
 ghost use Rattle.std.specs.Prelude.{◌≡◌, ◌≢◌, ◌*◌, ◌≤◌, ◌⊎◌, ℕ, List, [], ◌∷◌, ◌++◌, length};
 ghost use Rattle.rpki_der.specs.LeafLaws.{NullReadBack, BooleansReadBack, NumbersReadBack, IdentifiersReadBack, OctetsReadBack, BitsReadBack, BooleansApart, NumbersApart, IdentifiersApart, OctetsApart, BitsApart};
 ghost use Rattle.rpki_der.specs.Reading.{Spells};
-ghost use Rattle.rpki_der.specs.Values.{SpellsHeader, IsHeaderFault};
+ghost use Rattle.rpki_der.specs.Values.{SpellsHeader, IsHeaderFault, IsContentsFault, IsLeafFault};
+ghost use Rattle.rpki_der.specs.Flat.{IsFlatFault, IsWanted};
+ghost use Rattle.rpki_der.specs.Leaves.{IsNull, IsBoolean, IsOidOf, IsBits};
+ghost use Rattle.rpki_der.specs.Integer.{IsUnsigned};
+ghost use Rattle.rpki_der.specs.Text.{IsPrintableText, IsUtf8Text};
+ghost use Rattle.rpki_der.specs.Error.{error_number};
+ghost use Rattle.std.specs.Prelude.{Bool, Option, false};
+ghost use Rattle.rpki_der.specs.TagName.{TagName, boolean, integer, bit_string, octet_string, null, oid, utf8_string, sequence, set, printable_string, ia5_string, utc_time, generalized_time, context_6};
 ghost use Rattle.rpki_der.specs.Members.{Members, spell, HaveHeaders, IsValue, IsValueOf};
 ghost use Rattle.rpki_der.specs.NestedFault.{IsNestedFault};
 ghost use Rattle.rpki_der.specs.declared.error.DecodeError.{DecodeError};
 ghost use Rattle.rpki_der.specs.declared.error.DecodeError.TheVariants.{Truncated, BadTag, BadLength};
 ghost use Rattle.rpki_der.specs.declared.tag.Header.{Header};
+
+use crate::bit_string::BitString;
+use crate::encode::PrimitiveContent;
+use crate::integer::Unsigned;
+use crate::oid::ConstOid;
+use crate::tag::Tag;
 
 /// A list of octets begins with at most one header.
 pub fn one_header()
@@ -18,6 +31,20 @@ pub fn one_header()
 /// Octets that no header begins have one fault at most.
 pub fn one_fault()
     ensures { (s : List ℕ) (d e : DecodeError) → IsHeaderFault s d → IsHeaderFault s e → d ≡ e }
+{}
+
+/// A value that is refused is refused for one reason: each reader of flat values, and each reader of leaves, has at
+/// most one refusal for given octets. Of a leaf whose contents are malformed the kind is one; its text is the reader's.
+pub fn one_refusal()
+    ensures values { (t : TagName) (f : Bool) (s : List ℕ) (d e : DecodeError) → IsContentsFault t f s d → IsContentsFault t f s e → d ≡ e }
+    ensures flat { (wanted : Option TagName) (s : List ℕ) (d e : DecodeError) → IsFlatFault (IsWanted wanted) s d → IsFlatFault (IsWanted wanted) s e → d ≡ e }
+    ensures nulls { (s : List ℕ) (d e : DecodeError) → IsLeafFault null false IsNull s d → IsLeafFault null false IsNull s e → error_number d ≡ error_number e }
+    ensures booleans { (s : List ℕ) (d e : DecodeError) → IsLeafFault boolean false IsBoolean s d → IsLeafFault boolean false IsBoolean s e → error_number d ≡ error_number e }
+    ensures numbers { (s : List ℕ) (d e : DecodeError) → IsLeafFault integer false IsUnsigned s d → IsLeafFault integer false IsUnsigned s e → error_number d ≡ error_number e }
+    ensures identifiers { (s : List ℕ) (d e : DecodeError) → IsLeafFault oid false IsOidOf s d → IsLeafFault oid false IsOidOf s e → error_number d ≡ error_number e }
+    ensures bits { (s : List ℕ) (d e : DecodeError) → IsLeafFault bit_string false IsBits s d → IsLeafFault bit_string false IsBits s e → error_number d ≡ error_number e }
+    ensures printable { (s : List ℕ) (d e : DecodeError) → IsLeafFault printable_string false IsPrintableText s d → IsLeafFault printable_string false IsPrintableText s e → error_number d ≡ error_number e }
+    ensures utf8 { (s : List ℕ) (d e : DecodeError) → IsLeafFault utf8_string false IsUtf8Text s d → IsLeafFault utf8_string false IsUtf8Text s e → error_number d ≡ error_number e }
 {}
 
 /// Octets are one list of members at most, at every depth.
@@ -73,3 +100,42 @@ pub fn leaves_written_the_same()
     ensures octets { OctetsApart }
     ensures bits { BitsApart }
 {}
+
+/// The tags that have names are these (X.680 8.4; RFC 5280 4.2.1.6).
+pub fn tag_constants() -> [Tag; 14]
+    ensures { result ≡ boolean ∷ integer ∷ bit_string ∷ octet_string ∷ null ∷ oid ∷ utf8_string ∷ sequence ∷ set
+        ∷ printable_string ∷ ia5_string ∷ utc_time ∷ generalized_time ∷ context_6 ∷ [] }
+{
+    [
+        Tag::BOOLEAN,
+        Tag::INTEGER,
+        Tag::BIT_STRING,
+        Tag::OCTET_STRING,
+        Tag::NULL,
+        Tag::OID,
+        Tag::UTF8_STRING,
+        Tag::SEQUENCE,
+        Tag::SET,
+        Tag::PRINTABLE_STRING,
+        Tag::IA5_STRING,
+        Tag::UTC_TIME,
+        Tag::GENERALIZED_TIME,
+        Tag::CTX_6,
+    ]
+}
+
+/// The tags that `TAG` names of NULL, BOOLEAN, OBJECT IDENTIFIER, OCTET STRING, BIT STRING, owned and lent, and INTEGER:
+/// those under which `encode` writes them.
+pub fn content_tags() -> [Tag; 7]
+    ensures { result ≡ null ∷ boolean ∷ oid ∷ octet_string ∷ bit_string ∷ bit_string ∷ integer ∷ [] }
+{
+    [
+        <()>::TAG,
+        <bool>::TAG,
+        <ConstOid>::TAG,
+        <&'static [u8]>::TAG,
+        <BitString>::TAG,
+        <&'static BitString>::TAG,
+        <Unsigned<'static>>::TAG,
+    ]
+}

@@ -1,6 +1,6 @@
 use super::*;
 use bytes::Bytes;
-use std::alloc::Global;
+use std::alloc::{AllocError, Global};
 use std::test::Fail;
 
 /// What a walk over octets has to answer: 0 for a value, 9 for none, or the number of the fault; how many headers are
@@ -201,4 +201,46 @@ fn beginnings_of_values_are_truncated(rt: HostRuntime) {
         assert!(rt; same, "{octets:?}");
         assert_eq!(rt; cursor.finish(), Err(DecodeError::Trailing), "{octets:?}");
     }
+}
+
+/// So many SEQUENCEs, each but the last around the next.
+fn nested(alloc: Global, levels: usize) -> Result<Bytes, AllocError> {
+    // from the innermost out, each header backwards
+    let mut octets = Vec::new(alloc);
+    for _ in 0..levels {
+        let length = octets.len();
+        octets.push((length % 256) as u8)?;
+        if length >= 256 {
+            octets.push((length / 256 % 256) as u8)?;
+            octets.push(0x82)?;
+        } else if length >= 128 {
+            octets.push(0x81)?;
+        }
+        octets.push(0x30)?;
+    }
+    octets.as_mut_slice().reverse();
+    let source = Bytes::from_vec(octets)?;
+    Ok(source)
+}
+
+#[test]
+fn nesting_has_no_limit(rt: HostRuntime) -> Result<(), Fail> {
+    for levels in [1, 63, 64, 65, 128, 1_000, 10_000] {
+        let source = nested(rt.alloc(), levels)?;
+        let mut walked = Constructed::new(&source);
+        let mut steps = Steps::new();
+        assert_eq!(rt; walked.walk(rt.alloc(), &mut steps), Ok(Some(())), "{levels}");
+        assert_eq!(rt; steps.count(), levels as u64);
+        assert!(rt; walked.is_empty(), "{levels}");
+        let mut skipped = Constructed::new(&source);
+        assert_eq!(rt; skipped.skip_one(rt.alloc()), Ok(Some(())), "{levels}");
+        assert!(rt; skipped.is_empty(), "{levels}");
+        let mut cursor = Constructed::new(&source);
+        let same = match cursor.capture_one(rt.alloc()) {
+            Ok(found) => found.as_slice() == source.as_slice(),
+            Err(_) => false,
+        };
+        assert!(rt; same, "{levels}");
+    }
+    Ok(())
 }

@@ -10,9 +10,19 @@ use std::io::Write;
 
 /// The values as they stand.
 impl<'a> Values for &'a Captured {
+    ghost use Rattle.rpki_der.specs.Tree.Tree.{Captured as CapturedTree};
+    ghost use Rattle.rpki_der.specs.TreeLaws.{as_it_is};
+    ghost use Rattle.std.specs.Prelude.{refl};
+
+    ghost tree = { λ x. CapturedTree x.now };
+
     ghost encoded = { λ x. x.now };
 
     ghost is_short = { λ x. IsValueList x.now };
+
+    ghost spelled = { λ _. refl };
+
+    ghost measured = { λ _. as_it_is };
 
     ghost are_values = { λ x h. h };
 

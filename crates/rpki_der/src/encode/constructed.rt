@@ -70,11 +70,20 @@ impl<V> Sequence<V> {
 }
 
 impl<V: Values> Values for Sequence<V> {
+    ghost use Rattle.rpki_der.specs.Tree.Tree.{Constructed as ConstructedTree};
+    ghost use Rattle.rpki_der.specs.TreeLaws.{around_spelled, around_measured};
+
+    ghost tree = { λ x. ConstructedTree sequence (V.tree x) };
+
     ghost encoded = { λ x. tlv sequence true (V.encoded x) };
 
     ghost is_short = { λ x. V.is_short x × (length (V.encoded x) < 2 ^ 32) };
 
     ghost use Rattle.rpki_der.specs.Joined.{constructed_value_list, sequence_legal};
+
+    ghost spelled = { λ x. around_spelled sequence true (V.encoded x) (V.tree x) (V.spelled x) };
+
+    ghost measured = { λ x. around_measured (V.encoded x) (V.tree x) (V.spelled x) (V.measured x) };
 
     ghost are_values = { λ x h. constructed_value_list sequence (V.encoded x) sequence_legal h.1 (V.are_values x h.0) };
 
@@ -120,11 +129,20 @@ impl<V> Set<V> {
 }
 
 impl<V: Values> Values for Set<V> {
+    ghost use Rattle.rpki_der.specs.Tree.Tree.{Constructed as ConstructedTree};
+    ghost use Rattle.rpki_der.specs.TreeLaws.{around_spelled, around_measured};
+
+    ghost tree = { λ x. ConstructedTree set (V.tree x) };
+
     ghost encoded = { λ x. tlv set true (V.encoded x) };
 
     ghost is_short = { λ x. V.is_short x × (length (V.encoded x) < 2 ^ 32) };
 
     ghost use Rattle.rpki_der.specs.Joined.{constructed_value_list, set_legal};
+
+    ghost spelled = { λ x. around_spelled set true (V.encoded x) (V.tree x) (V.spelled x) };
+
+    ghost measured = { λ x. around_measured (V.encoded x) (V.tree x) (V.spelled x) (V.measured x) };
 
     ghost are_values = { λ x h. constructed_value_list set (V.encoded x) set_legal h.1 (V.are_values x h.0) };
 
@@ -168,11 +186,20 @@ impl<V> Wrapped<V> {
 }
 
 impl<V: Values> Values for Wrapped<V> {
+    ghost use Rattle.rpki_der.specs.Tree.Tree.{Around as AroundTree};
+    ghost use Rattle.rpki_der.specs.TreeLaws.{around_spelled, around_measured};
+
+    ghost tree = { λ x. AroundTree octet_string (V.tree x) };
+
     ghost encoded = { λ x. tlv octet_string false (V.encoded x) };
 
     ghost is_short = { λ x. V.is_short x × (length (V.encoded x) < 2 ^ 32) };
 
     ghost use Rattle.rpki_der.specs.Joined.{primitive_value_list, octet_string_legal};
+
+    ghost spelled = { λ x. around_spelled octet_string false (V.encoded x) (V.tree x) (V.spelled x) };
+
+    ghost measured = { λ x. around_measured (V.encoded x) (V.tree x) (V.spelled x) (V.measured x) };
 
     ghost are_values = { λ x h. primitive_value_list octet_string (V.encoded x) octet_string_legal h.1 };
 

@@ -11,9 +11,18 @@ impl<V: Values> Values for Option<V> {
     ghost use Rattle.rpki_der.specs.OptionalPart.{optional_octets, OfPart};
     ghost use Rattle.rpki_der.specs.Joined.{no_value_list};
 
+    ghost use Rattle.rpki_der.specs.OptionalPart.{optional_tree};
+    ghost use Rattle.rpki_der.specs.TreeLaws.{optional_spelled, optional_measured};
+
+    ghost tree = { optional_tree V.tree };
+
     ghost encoded = { optional_octets V.encoded };
 
     ghost is_short = { OfPart V.is_short };
+
+    ghost spelled = { optional_spelled V.encoded V.tree V.spelled };
+
+    ghost measured = { optional_measured V.is_short V.tree V.measured };
 
     ghost are_values = { elim [ None ↦ λ _. no_value_list | Some v ↦ λ h. V.are_values v h ] };
 

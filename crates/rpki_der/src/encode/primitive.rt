@@ -94,9 +94,19 @@ impl<P: PrimitiveContent> Values for Primitive<P> {
     ghost use Rattle.rpki_der.specs.PrimitiveParts.{tag_in, content_in, has_tag};
     ghost use Rattle.rpki_der.specs.Joined.{primitive_value_list};
 
+    ghost use Rattle.rpki_der.specs.Tree.Tree.{Primitive as PrimitiveTree};
+    ghost use Rattle.rpki_der.specs.TreeLaws.{as_it_is};
+    ghost use Rattle.std.specs.Prelude.{refl};
+
+    ghost tree = { λ x. PrimitiveTree (tag_in x) (P.contents (content_in x)) };
+
     ghost encoded = { λ x. tlv (tag_in x) false (P.contents (content_in x)) };
 
     ghost is_short = { λ x. length (P.contents (content_in x)) < 2 ^ 32 };
+
+    ghost spelled = { λ _. refl };
+
+    ghost measured = { λ _. as_it_is };
 
     ghost are_values = { λ x h. primitive_value_list (tag_in x) (P.contents (content_in x)) (has_tag x) h };
 

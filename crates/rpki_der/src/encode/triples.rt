@@ -9,11 +9,21 @@ use std::io::Write;
 /// The values of the first, those of the second, and those of the third.
 #[tactic(auto, using(crate::proofs::Writing::writes_then, crate::proofs::Writing::beginning_more, crate::proofs::Writing::beginning_then, crate::specs::Joined::values_append, crate::proofs::EncodeLaws::count_at_most))]
 impl<A: Values, B: Values, C: Values> Values for (A, B, C) {
+    ghost use Rattle.rpki_der.specs.Tree.Tree.{Both};
+    ghost use Rattle.rpki_der.specs.TreeLaws.{both_spelled, three_measured};
+
+    ghost tree = { λ x. Both (Both (A.tree x.0) (B.tree x.1)) (C.tree x.2) };
+
     ghost encoded = { λ x. A.encoded x.0 ++ B.encoded x.1 ++ C.encoded x.2 };
 
     ghost is_short = { λ x. A.is_short x.0 × B.is_short x.1 × C.is_short x.2 };
 
     ghost use Rattle.rpki_der.specs.Joined.{value_lists_append};
+
+    ghost spelled = { λ x. both_spelled (A.encoded x.0 ++ B.encoded x.1) (C.encoded x.2) (Both (A.tree x.0) (B.tree x.1)) (C.tree x.2)
+        (both_spelled (A.encoded x.0) (B.encoded x.1) (A.tree x.0) (B.tree x.1) (A.spelled x.0) (B.spelled x.1)) (C.spelled x.2) };
+
+    ghost measured = { λ x. three_measured (A.measured x.0) (B.measured x.1) (C.measured x.2) };
 
     ghost are_values = { λ x h. value_lists_append (A.encoded x.0 ++ B.encoded x.1) (C.encoded x.2)
         (value_lists_append (A.encoded x.0) (B.encoded x.1) (A.are_values x.0 h.0) (B.are_values x.1 h.1)) (C.are_values x.2 h.2) };

@@ -3,6 +3,7 @@
 ghost use Rattle.std.specs.Prelude.{◌≡◌, ℕ, List, ◌<◌, ◌^◌, ◌↔◌, length, IsTrue};
 ghost use Rattle.rpki_der.specs.Written.{Writes};
 ghost use Rattle.rpki_der.specs.Members.{AreValues, IsValueList};
+ghost use Rattle.rpki_der.specs.Tree.{Tree, tree_octets, IsShortTree};
 
 use std::io;
 use std::io::Write;
@@ -12,6 +13,10 @@ use std::io::Write;
 /// `fits` is the condition of the other three methods: a length announces fewer than 2^32 octets of contents, and
 /// what is written as a whole has fewer than 2^63 octets.
 pub trait Values {
+    /// What is written, as a tree of values. The laws at the end say that the octets are its octets, and that "short" is
+    /// said of each value in it.
+    ghost tree: { Self → Tree };
+
     /// The octets that are written.
     ghost encoded: { Self → List ℕ };
 
@@ -40,6 +45,12 @@ pub trait Values {
     fn write_encoded<W: Write>(&self, out: &mut W) -> Result<(), io::Error>
         requires { is_short self.now × (length (encoded self.now) < 2 ^ 63) }
         ensures { Writes (W.contents out.old) (W.contents out.new) result (encoded self.now) };
+
+    /// The octets that are written are those of the tree.
+    ghost spelled: { (x : Self) → encoded x ≡ tree_octets (tree x) };
+
+    /// Each value, at each depth, has contents of fewer than 2^32 octets exactly where each value of the tree has.
+    ghost measured: { (x : Self) → is_short x ↔ IsShortTree (tree x) };
 
     /// What is written are values, one after another.
     ghost are_values: { (x : Self) → is_short x → IsValueList (encoded x) };

@@ -1,0 +1,35 @@
+use Rattle.std.specs.Prelude.{false}
+use Rattle.rpki_der.specs.TagName.{null, boolean, integer, oid, bit_string, printable_string, utf8_string}
+use Rattle.rpki_der.specs.Leaves.{IsNull, IsBoolean, IsOidOf, IsBits}
+use Rattle.rpki_der.specs.Integer.{IsUnsigned}
+use Rattle.rpki_der.specs.Text.{IsPrintableText, IsUtf8Text}
+use Rattle.rpki_der.specs.Flat.{IsWanted}
+use Rattle.rpki_der.proofs.KindsApart.{one-contents-fault, one-flat-fault, one-leaf-fault}
+use Rattle.rpki_der.proofs.laws.one_refusal.Goals as goal
+
+pub returns-clause-values : goal.returns-clause-values
+returns-clause-values c = one-contents-fault
+
+pub returns-clause-flat : goal.returns-clause-flat
+returns-clause-flat c = λ w. one-flat-fault (IsWanted w)
+
+pub returns-clause-nulls : goal.returns-clause-nulls
+returns-clause-nulls c = one-leaf-fault null false IsNull
+
+pub returns-clause-booleans : goal.returns-clause-booleans
+returns-clause-booleans c = one-leaf-fault boolean false IsBoolean
+
+pub returns-clause-numbers : goal.returns-clause-numbers
+returns-clause-numbers c = one-leaf-fault integer false IsUnsigned
+
+pub returns-clause-identifiers : goal.returns-clause-identifiers
+returns-clause-identifiers c = one-leaf-fault oid false IsOidOf
+
+pub returns-clause-bits : goal.returns-clause-bits
+returns-clause-bits c = one-leaf-fault bit_string false IsBits
+
+pub returns-clause-printable : goal.returns-clause-printable
+returns-clause-printable c = one-leaf-fault printable_string false IsPrintableText
+
+pub returns-clause-utf8 : goal.returns-clause-utf8
+returns-clause-utf8 c = one-leaf-fault utf8_string false IsUtf8Text
