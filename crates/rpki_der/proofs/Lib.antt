@@ -26,3 +26,4 @@ pub mod UnsignedLaws
 pub mod LeafValues
 pub mod LeavesWritten
 pub mod KindsApart
+mod SomeFault

@@ -1,14 +1,14 @@
 -- Laws of members: octets are one list of values at every depth, and no value begins another.
 use Rattle.std.proofs.Common.{◌≡◌, ℕ, ◌+◌, ◌*◌, ◌/◌, ◌%◌, ◌<◌, ◌≤◌, ◌^◌, Bool, true, false, List, [], ◌∷◌, ◌++◌, length, refl, sym, ap, ◌∙◌, arith, append_assoc, append-nil, length-append}
 use Rattle.std.specs.Prelude.{nat_lt, if◌then◌else◌}
-use Rattle.std.proofs.lemmas.List.{nil_from_length}
+use Rattle.std.proofs.lemmas.List.{nil_from_length, append_cancel_left}
 use Rattle.rpki_der.specs.declared.error.DecodeError.{DecodeError}
 use Rattle.rpki_der.specs.declared.tag.Header.{Header}
 use Rattle.rpki_der.specs.TagName.{TagName, IsTag}
 use Rattle.rpki_der.specs.Header.{digits, lead, identifier_octets, length_octets, tlv}
-use Rattle.rpki_der.specs.Reading.{Spells}
+use Rattle.rpki_der.specs.Reading.{Spells, Accepts}
 use Rattle.rpki_der.specs.Values.{SpellsHeader, IsHeaderFault}
-use Rattle.rpki_der.specs.Members.{Members, Empty, Primitive, Constructed, spell, HaveHeaders, count, header_count, AreValues, IsValue, IsValueOf}
+use Rattle.rpki_der.specs.Members.{Members, Empty, Primitive, Constructed, spell, HaveHeaders, count, header_count, AreValues, IsValue, IsValueOf, SpellsValue}
 use Rattle.rpki_der.proofs.HeaderReads.{one-header}
 use Rattle.rpki_der.proofs.FaultsApart.{no-fault-at-header}
 
@@ -194,3 +194,13 @@ value_some {a} v = go v.members v.counted v.spelled
     go Empty p is = absurd (omega arith)
     go (Primitive t c rest) p is = omega (arith, ap length is, two_octets t false (length c), length-append (tlv t false c) (spell rest), length-append (header t false (length c)) c)
     go (Constructed t ms rest) p is = omega (arith, ap length is, two_octets t true (length (spell ms)), length-append (tlv t true (spell ms)) (spell rest), length-append (header t true (length (spell ms))) (spell ms))
+
+-- a value is the one beginning that is a value
+pub value_accepted : (value rest : List ℕ) → IsValue value → Accepts SpellsValue (value ++ rest) value rest
+value_accepted value rest v = record {
+  spells = record { front = value; parts = refl; spelled = record { same = refl; value = v } };
+  only = λ w q f.
+      let begins : w ++ q ≡ value ++ rest = ap (λ (x : List ℕ). x ++ q) (sym f.spelled.same) ∙ sym f.parts in
+      let same = (one_beginning w value q rest f.spelled.value v begins).0 in
+      (same, append_cancel_left value q rest (ap (λ (x : List ℕ). x ++ q) (sym same) ∙ begins));
+}

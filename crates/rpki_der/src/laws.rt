@@ -1,8 +1,11 @@
 //! Laws of headers, of values, of their members and of leaves: each function does nothing, and its contract is the law.
 
-ghost use Rattle.std.specs.Prelude.{◌≡◌, ◌≢◌, ◌*◌, ◌≤◌, ◌⊎◌, ℕ, List, [], ◌∷◌, ◌++◌, length};
+ghost use Rattle.std.specs.Prelude.{◌↔◌, ◌≡◌, ◌≢◌, ◌*◌, ◌≤◌, ◌⊎◌, ℕ, List, [], ◌∷◌, ◌++◌, length};
 ghost use Rattle.rpki_der.specs.LeafLaws.{NullReadBack, BooleansReadBack, NumbersReadBack, IdentifiersReadBack, OctetsReadBack, BitsReadBack, BooleansApart, NumbersApart, IdentifiersApart, OctetsApart, BitsApart};
-ghost use Rattle.rpki_der.specs.Reading.{Spells};
+ghost use Rattle.rpki_der.specs.Reading.{Spells, Accepts};
+ghost use Rattle.rpki_der.specs.Number.{AreOctets};
+ghost use Rattle.rpki_der.specs.Header.{tlv};
+ghost use Rattle.rpki_der.specs.Contents.{null_contents};
 ghost use Rattle.rpki_der.specs.Values.{SpellsHeader, IsHeaderFault, IsContentsFault, IsLeafFault};
 ghost use Rattle.rpki_der.specs.Flat.{IsFlatFault, IsWanted};
 ghost use Rattle.rpki_der.specs.Leaves.{IsNull, IsBoolean, IsOidOf, IsBits};
@@ -11,7 +14,7 @@ ghost use Rattle.rpki_der.specs.Text.{IsPrintableText, IsUtf8Text};
 ghost use Rattle.rpki_der.specs.Error.{error_number};
 ghost use Rattle.std.specs.Prelude.{Bool, Option, false};
 ghost use Rattle.rpki_der.specs.TagName.{TagName, boolean, integer, bit_string, octet_string, null, oid, utf8_string, sequence, set, printable_string, ia5_string, utc_time, generalized_time, context_6};
-ghost use Rattle.rpki_der.specs.Members.{Members, spell, HaveHeaders, IsValue, IsValueOf};
+ghost use Rattle.rpki_der.specs.Members.{Members, spell, HaveHeaders, IsValue, IsValueOf, SpellsValue};
 ghost use Rattle.rpki_der.specs.NestedFault.{IsNestedFault};
 ghost use Rattle.rpki_der.specs.declared.error.DecodeError.{DecodeError};
 ghost use Rattle.rpki_der.specs.declared.error.DecodeError.TheVariants.{Truncated, BadTag, BadLength};
@@ -67,6 +70,12 @@ pub fn one_nested_fault()
     ensures { (s : List ℕ) (d e : DecodeError) → IsNestedFault s d → IsNestedFault s e → d ≡ e }
 {}
 
+/// Octets that no value begins have a fault, where there are any.
+pub fn a_fault_where_no_value_begins()
+    ensures { (s : List ℕ) → AreOctets s → s ≢ [] → ((value rest : List ℕ) → IsValue value → s ≡ value ++ rest → ⊥)
+        → (e : DecodeError) × IsNestedFault s e }
+{}
+
 /// Octets with a fault begin with no value.
 pub fn no_value_at_a_fault()
     ensures { (s value rest : List ℕ) (e : DecodeError) → IsNestedFault s e → IsValue value → s ≡ value ++ rest → ⊥ }
@@ -92,8 +101,14 @@ pub fn leaves_read_back()
     ensures bits { BitsReadBack }
 {}
 
-/// Leaf values are written as the same octets exactly where they are equal.
+/// A captured value is read back as itself, whatever follows: no other beginning of the octets is a value.
+pub fn values_read_back()
+    ensures { (value rest : List ℕ) → IsValue value → Accepts SpellsValue (value ++ rest) value rest }
+{}
+
+/// Leaf values are written as the same octets exactly where they are equal. NULL is one value.
 pub fn leaves_written_the_same()
+    ensures null { (a b : Unit {0}) → (tlv null false (null_contents a) ≡ tlv null false (null_contents b)) ↔ (a ≡ b) }
     ensures booleans { BooleansApart }
     ensures numbers { NumbersApart }
     ensures identifiers { IdentifiersApart }
