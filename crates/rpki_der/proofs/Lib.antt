@@ -27,3 +27,4 @@ pub mod LeafValues
 pub mod LeavesWritten
 pub mod KindsApart
 mod SomeFault
+mod ShortestLaws

@@ -2,6 +2,7 @@ pub mod Error
 pub mod ErrorText
 pub mod TagName
 pub mod Header
+pub mod ShortestForm
 pub mod HeaderReading
 pub mod Reading
 pub mod Values

@@ -1,10 +1,11 @@
 //! Laws of headers, of values, of their members and of leaves: each function does nothing, and its contract is the law.
 
-ghost use Rattle.std.specs.Prelude.{◌↔◌, ◌≡◌, ◌≢◌, ◌*◌, ◌≤◌, ◌⊎◌, ℕ, List, [], ◌∷◌, ◌++◌, length};
+ghost use Rattle.std.specs.Prelude.{◌↔◌, ◌≡◌, ◌≢◌, ◌<◌, ◌^◌, ◌*◌, ◌≤◌, ◌⊎◌, ℕ, List, [], ◌∷◌, ◌++◌, length};
 ghost use Rattle.rpki_der.specs.LeafLaws.{NullReadBack, BooleansReadBack, NumbersReadBack, IdentifiersReadBack, OctetsReadBack, BitsReadBack, BooleansApart, NumbersApart, IdentifiersApart, OctetsApart, BitsApart};
 ghost use Rattle.rpki_der.specs.Reading.{Spells, Accepts};
 ghost use Rattle.rpki_der.specs.Number.{AreOctets};
-ghost use Rattle.rpki_der.specs.Header.{tlv};
+ghost use Rattle.rpki_der.specs.Header.{identifier_octets, length_octets, tlv};
+ghost use Rattle.rpki_der.specs.ShortestForm.{IsLengthForm, IsIdentifierForm};
 ghost use Rattle.rpki_der.specs.Contents.{null_contents};
 ghost use Rattle.rpki_der.specs.Values.{SpellsHeader, IsHeaderFault, IsContentsFault, IsLeafFault};
 ghost use Rattle.rpki_der.specs.Flat.{IsFlatFault, IsWanted};
@@ -13,7 +14,7 @@ ghost use Rattle.rpki_der.specs.Integer.{IsUnsigned};
 ghost use Rattle.rpki_der.specs.Text.{IsPrintableText, IsUtf8Text};
 ghost use Rattle.rpki_der.specs.Error.{error_number};
 ghost use Rattle.std.specs.Prelude.{Bool, Option, false};
-ghost use Rattle.rpki_der.specs.TagName.{TagName, boolean, integer, bit_string, octet_string, null, oid, utf8_string, sequence, set, printable_string, ia5_string, utc_time, generalized_time, context_6};
+ghost use Rattle.rpki_der.specs.TagName.{TagName, IsTag, boolean, integer, bit_string, octet_string, null, oid, utf8_string, sequence, set, printable_string, ia5_string, utc_time, generalized_time, context_6};
 ghost use Rattle.rpki_der.specs.Members.{Members, spell, HaveHeaders, IsValue, IsValueOf, SpellsValue};
 ghost use Rattle.rpki_der.specs.NestedFault.{IsNestedFault};
 ghost use Rattle.rpki_der.specs.declared.error.DecodeError.{DecodeError};
@@ -25,6 +26,16 @@ use crate::encode::PrimitiveContent;
 use crate::integer::Unsigned;
 use crate::oid::ConstOid;
 use crate::tag::Tag;
+
+/// Length octets are those of X.690: the definite form, in as few octets as can be.
+pub fn lengths_in_shortest_form()
+    ensures { (n : ℕ) (p : List ℕ) → n < 2 ^ 32 → (p ≡ length_octets n) ↔ IsLengthForm n p }
+{}
+
+/// Identifier octets are those of X.690: a tag number of 31 or more in as few octets as can be.
+pub fn identifiers_in_shortest_form()
+    ensures { (t : TagName) (f : Bool) (p : List ℕ) → IsTag t → (p ≡ identifier_octets t f) ↔ IsIdentifierForm t f p }
+{}
 
 /// A list of octets begins with at most one header.
 pub fn one_header()
