@@ -3,7 +3,8 @@ use Rattle.std.proofs.Common.{◌≡◌, ℕ, zero, suc, ◌+◌, ◌-◌, ◌*�
 use Rattle.std.proofs.lemmas.Bool.{cases_order}
 use Rattle.std.proofs.lemmas.List.{get_or-drop, take_rest}
 use Rattle.std.proofs.Math.Nat.{pow-le-pow_right, mul-le-mul_right}
-use Rattle.rpki_der.specs.Number.{number_of, AreOctets, number-lt, power, low_octets, low_octets-full}
+use Rattle.rpki_der.specs.Number.{number_of, AreOctets, low_octets}
+use Rattle.rpki_der.specs.NumberLaws.{number-lt, power, low_octets-full}
 use Rattle.rpki_der.specs.Integer.{WritesNumber, IsUnsigned, IsMinimal, IsMagnitude}
 use borrow.Rule.Slice.PartMut.{mid_of}
 

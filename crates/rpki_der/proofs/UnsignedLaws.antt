@@ -3,7 +3,8 @@ use Rattle.std.proofs.Common.{◌≡◌, ℕ, suc, ◌+◌, ◌*◌, ◌^◌, �
 use Rattle.std.proofs.Math.Nat.{pow-le-pow_right, mul-le-mul_right}
 use Rattle.std.proofs.lemmas.Bool.{cases_order, ltb-false, lt-ltb, le-ltb}
 use borrow.Author.Tests.{ltb-true}
-use Rattle.rpki_der.specs.Number.{number_of, AreOctets, number-lt}
+use Rattle.rpki_der.specs.Number.{number_of, AreOctets}
+use Rattle.rpki_der.specs.NumberLaws.{number-lt}
 use Rattle.rpki_der.specs.Integer.{IsUnsigned, IsMagnitude, unsigned_contents}
 use Rattle.rpki_der.proofs.Integers.{without-zero, behind-zero}
 

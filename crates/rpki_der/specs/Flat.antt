@@ -1,11 +1,9 @@
 -- Values of any tag and form that is wanted: what take_value and its kin read.
-use Rattle.std.specs.Prelude.{ℕ, ◌≡◌, Bool, ◌⊎◌, List, Option, Some, None}
+use Rattle.std.specs.Prelude.{ℕ, ◌≡◌, Bool, List, Option, Some, None}
 use Rattle.rpki_der.specs.declared.error.DecodeError.{DecodeError}
-use Rattle.rpki_der.specs.declared.error.DecodeError.TheVariants.{Truncated, BadTag, BadLength, Unexpected, Content, Trailing, OutOfMemory}
-use Rattle.rpki_der.specs.declared.tag.Header.{Header}
 use Rattle.rpki_der.specs.TagName.{TagName}
-use Rattle.rpki_der.specs.Reading.{Spells, IsCut}
-use Rattle.rpki_der.specs.Values.{SpellsHeader, SpellsContents, IsHeaderFault}
+use Rattle.rpki_der.specs.Reading.{IsCut}
+use Rattle.rpki_der.specs.Values.{SpellsContents, IsValueFault}
 
 -- a value whose tag and form are wanted: its tag, its form and its contents
 pub record SpellsFlat (W : TagName → Bool → Type 0) (x : TagName × Bool × List ℕ) (p : List ℕ) : Type 0 where
@@ -16,15 +14,9 @@ pub record SpellsFlat (W : TagName → Bool → Type 0) (x : TagName × Bool × 
 abbrev pub IsAnyTag : TagName → Bool → Type 0
 IsAnyTag t f = Unit {0}
 
--- the first fault: that of the header; then another tag or form; then contents that are longer than what is left
+-- the first fault of a reader of such values
 abbrev pub IsFlatFault : (TagName → Bool → Type 0) → List ℕ → DecodeError → Type 0
-IsFlatFault W s Truncated = IsCut SpellsHeader s ⊎ IsCut (SpellsFlat W) s
-IsFlatFault W s BadTag = IsHeaderFault s BadTag
-IsFlatFault W s BadLength = IsHeaderFault s BadLength
-IsFlatFault W s Unexpected = (h : Header) × (r : List ℕ) × Spells SpellsHeader s h r × (W h.tag h.constructed → ⊥)
-IsFlatFault W s (Content e) = ⊥
-IsFlatFault W s Trailing = ⊥
-IsFlatFault W s OutOfMemory = ⊥
+IsFlatFault W = IsValueFault (λ h. W h.tag h.constructed) (IsCut (SpellsFlat W))
 
 -- this tag, in either form
 abbrev pub IsTagged : TagName → TagName → Bool → Type 0

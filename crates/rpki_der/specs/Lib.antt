@@ -1,3 +1,4 @@
+-- Definitions: what the contracts say. They are trusted, and read against the standards.
 pub mod Error
 pub mod ErrorText
 pub mod TagName
@@ -20,8 +21,12 @@ pub mod Walk
 pub mod Written
 pub mod Contents
 pub mod PrimitiveParts
-pub mod Joined
 pub mod OptionalPart
 pub mod Tree
-pub mod TreeLaws
 pub mod LeafLaws
+
+-- Lemmas, which the prover checks: ghost items of impls cite them.
+pub mod NumberLaws
+pub mod EqualLaws
+pub mod Joined
+pub mod TreeLaws

@@ -48,20 +48,20 @@ IsHeaderFault s (Content e) = ⊥
 IsHeaderFault s Trailing = ⊥
 IsHeaderFault s OutOfMemory = ⊥
 
--- a header of another tag or form begins s
-abbrev pub HasOther : TagName → Bool → List ℕ → Type 0
-HasOther t f s = (h : Header) × (r : List ℕ) × Spells SpellsHeader s h r × ((h.tag ≡ t) × (h.constructed ≡ f) → ⊥)
+-- The first fault of a reader of values whose header has to be as W says, and of which Cut says that they are cut
+-- short: that of the header; then another header; then contents that are longer than what is left.
+abbrev pub IsValueFault : (Header → Type 0) → (List ℕ → Type 0) → List ℕ → DecodeError → Type 0
+IsValueFault W Cut s Truncated = IsCut SpellsHeader s ⊎ Cut s
+IsValueFault W Cut s BadTag = IsHeaderFault s BadTag
+IsValueFault W Cut s BadLength = IsHeaderFault s BadLength
+IsValueFault W Cut s Unexpected = (h : Header) × (r : List ℕ) × Spells SpellsHeader s h r × (W h → ⊥)
+IsValueFault W Cut s (Content e) = ⊥
+IsValueFault W Cut s Trailing = ⊥
+IsValueFault W Cut s OutOfMemory = ⊥
 
--- The first fault of a reader of values of one tag and form: that of the header; then another tag or form; then
--- contents that are longer than what is left.
+-- the same of a reader of values of one tag and form
 abbrev pub IsContentsFault : TagName → Bool → List ℕ → DecodeError → Type 0
-IsContentsFault t f s Truncated = IsCut SpellsHeader s ⊎ IsCut (SpellsContents t f) s
-IsContentsFault t f s BadTag = IsHeaderFault s BadTag
-IsContentsFault t f s BadLength = IsHeaderFault s BadLength
-IsContentsFault t f s Unexpected = HasOther t f s
-IsContentsFault t f s (Content e) = ⊥
-IsContentsFault t f s Trailing = ⊥
-IsContentsFault t f s OutOfMemory = ⊥
+IsContentsFault t f = IsValueFault (λ h. (h.tag ≡ t) × (h.constructed ≡ f)) (IsCut (SpellsContents t f))
 
 -- The same of a leaf; and then contents that spell nothing.
 abbrev pub IsLeafFault : {V : Type 0} → TagName → Bool → (V → List ℕ → Type 0) → List ℕ → DecodeError → Type 0

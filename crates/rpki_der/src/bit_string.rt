@@ -90,7 +90,8 @@ impl BitString {
 
 /// Two bit strings are equal where their octets and their counts of unused bits are.
 impl PartialEq for BitString {
-    ghost use Rattle.rpki_der.specs.Equal.{same_bits, same_bits_equivalence};
+    ghost use Rattle.rpki_der.specs.Equal.{same_bits};
+    ghost use Rattle.rpki_der.specs.EqualLaws.{same_bits_equivalence};
     ghost use Rattle.std.specs.Cmp.{partial_equiv_from_equiv};
 
     ghost eq = { same_bits };
@@ -103,7 +104,7 @@ impl PartialEq for BitString {
 }
 
 impl Eq for BitString {
-    ghost use Rattle.rpki_der.specs.Equal.{same_bits_equivalence};
+    ghost use Rattle.rpki_der.specs.EqualLaws.{same_bits_equivalence};
 
     ghost laws = { same_bits_equivalence };
 }

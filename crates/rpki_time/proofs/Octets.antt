@@ -7,7 +7,8 @@ use Rattle.std.specs.Cmp.Lexicographic.{slice_cmp, pointwise}
 use Rattle.std.proofs.lemmas.Bool.{cases_order}
 use Rattle.std.proofs.lemmas.Bool.Decides.{nat_tests}
 use Rattle.std.proofs.Math.Nat.{mul-le-mul_right, one-le-pow}
-use Rattle.rpki_der.specs.Number.{number_of, AreOctets, number-lt, power}
+use Rattle.rpki_der.specs.Number.{number_of, AreOctets}
+use Rattle.rpki_der.specs.NumberLaws.{number-lt, power}
 use Rattle.std.specs.Int.{bytes_high_first}
 use Rattle.std.proofs.lemmas.Nat.{mod-mul-add}
 

@@ -4,7 +4,8 @@ use Rattle.std.proofs.lemmas.Bool.{cases_order, cases_lt}
 use Rattle.std.proofs.lemmas.List.{get_or-drop, take_rest}
 use Rattle.std.proofs.Math.Nat.{pow-le-pow_right, mul-le-mul_right}
 use borrow.Rule.Slice.PartMut.{mid_of}
-use Rattle.rpki_der.specs.Number.{number_of, AreOctets, number-lt}
+use Rattle.rpki_der.specs.Number.{number_of, AreOctets}
+use Rattle.rpki_der.specs.NumberLaws.{number-lt}
 use Rattle.rpki_der.specs.Integer.{WritesNumber, IsUnsigned, IsMinimal, IsMagnitude}
 use Rattle.rpki_der.proofs.Integers.{IsUnsigned-minimal, AreOctets-drop, contents_short}
 use Rattle.rpki_time.specs.Serial.{IsLong, IsSerialContents}

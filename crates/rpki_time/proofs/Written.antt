@@ -1,7 +1,8 @@
 -- The contents that are computed are the shortest.
 use Rattle.std.proofs.Common.{◌≡◌, ℕ, zero, suc, ◌+◌, ◌*◌, ◌/◌, ◌%◌, ◌^◌, ◌<◌, ◌≤◌, inl, inr, List, [], ◌∷◌, ◌++◌, length, arith, refl, sym, ap, ◌∙◌, subst}
 use Rattle.std.proofs.lemmas.Bool.{cases_order, cases_lt, lt-ltb, le-ltb}
-use Rattle.rpki_der.specs.Number.{number_of, AreOctets, power}
+use Rattle.rpki_der.specs.Number.{number_of, AreOctets}
+use Rattle.rpki_der.specs.NumberLaws.{power}
 use Rattle.rpki_der.specs.Integer.{WritesNumber, IsUnsigned, IsMinimal}
 use Rattle.rpki_time.specs.Serial.{contents_within, serial_contents}
 use Rattle.rpki_der.proofs.Integers.{IsUnsigned-minimal}

@@ -78,7 +78,8 @@ pub struct Serial {
 
 impl Model for Serial {
     ghost use Rattle.std.specs.Prelude.{ℕ, ◌≡◌, ◌<◌, length, slice_index};
-    ghost use Rattle.rpki_der.specs.Number.{number_of, AreOctets, low_octets, low_octets-full};
+    ghost use Rattle.rpki_der.specs.Number.{number_of, AreOctets, low_octets};
+    ghost use Rattle.rpki_der.specs.NumberLaws.{low_octets-full};
 
     ghost Value = { ℕ };
 

@@ -1,4 +1,4 @@
-use Rattle.rpki_der.specs.Number.{low_octets-full}
+use Rattle.rpki_der.specs.NumberLaws.{low_octets-full}
 use Rattle.rpki_time.proofs.serial.SerialHash.hash.Goals as goal
 
 pub returns : goal.returns
