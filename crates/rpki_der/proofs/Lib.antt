@@ -18,6 +18,8 @@ pub mod TextLaws
 pub mod MembersLaws
 pub mod NestedFaultLaws
 pub mod Walking
+pub mod Indexing
+pub mod IndexLaws
 pub mod WalkLaws
 pub mod Writing
 pub mod HeaderWriting

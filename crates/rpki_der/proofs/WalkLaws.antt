@@ -28,12 +28,12 @@ no_memory fault = kinds (fault_kinds fault)
     kinds (inr (inl e)) = cc e
     kinds (inr (inr e)) = cc e
 
--- a fault, or want of memory where a constructed value begins
-refusal_of : (s : List ℕ) (e : DecodeError) → ((e ≡ OutOfMemory) × HasConstructed s) ⊎ IsNestedFault s e → Refusal SpellsValue (OrMemoryWhere HasConstructed IsNestedFault) s s e
-refusal_of s e (inl z) = subst (λ (x : DecodeError). Refusal SpellsValue (OrMemoryWhere HasConstructed IsNestedFault) s s x) (sym z.0) (record { unchanged = refl; refuses = tt; kind = z.1 })
-refusal_of s e (inr f) = Refusal-or-memory-where HasConstructed IsNestedFault s s e (λ k. absurd (no_memory k)) (record { unchanged = refl; refuses = UnlessMemory-from e (no_value f); kind = f })
+-- a fault, or want of memory where P holds
+refusal_of : (P : List ℕ → Type 0) (s : List ℕ) (e : DecodeError) → ((e ≡ OutOfMemory) × P s) ⊎ IsNestedFault s e → Refusal SpellsValue (OrMemoryWhere P IsNestedFault) s s e
+refusal_of P s e (inl z) = subst (λ (x : DecodeError). Refusal SpellsValue (OrMemoryWhere P IsNestedFault) s s x) (sym z.0) (record { unchanged = refl; refuses = tt; kind = z.1 })
+refusal_of P s e (inr f) = Refusal-or-memory-where P IsNestedFault s s e (λ k. absurd (no_memory k)) (record { unchanged = refl; refuses = UnlessMemory-from e (no_value f); kind = f })
 
-module _ (r : Result ℕ DecodeError) (s : List ℕ) (m : ℕ) (within : IfOk r (λ k. k ≤ length s)) (accepted : IfOk r (λ k. IsValueOf m (take k s))) (refused : IfErr r (λ e. ((e ≡ OutOfMemory) × HasConstructed s) ⊎ IsNestedFault s e)) where
+module _ (P : List ℕ → Type 0) (r : Result ℕ DecodeError) (s : List ℕ) (m : ℕ) (within : IfOk r (λ k. k ≤ length s)) (accepted : IfOk r (λ k. IsValueOf m (take k s))) (refused : IfErr r (λ e. ((e ≡ OutOfMemory) × P s) ⊎ IsNestedFault s e)) where
   pub front_accepted : IfOk r (λ k. Accepts SpellsValue s (take k s) (drop k s))
   front_accepted = go r within accepted
     where
@@ -55,17 +55,17 @@ module _ (r : Result ℕ DecodeError) (s : List ℕ) (m : ℕ) (within : IfOk r 
       go (Ok k) a = record { value = take k s; parts = sym (take-append-drop k s); headers = a; half = half_of (take k s) m a }
       go (Err e) a = tt
 
-  pub front_refused : IfErr r (λ e. Refusal SpellsValue (OrMemoryWhere HasConstructed IsNestedFault) s s e)
+  pub front_refused : IfErr r (λ e. Refusal SpellsValue (OrMemoryWhere P IsNestedFault) s s e)
   front_refused = go r refused
     where
-      go : (r : Result ℕ DecodeError) → IfErr r (λ e. ((e ≡ OutOfMemory) × HasConstructed s) ⊎ IsNestedFault s e) → IfErr r (λ e. Refusal SpellsValue (OrMemoryWhere HasConstructed IsNestedFault) s s e)
+      go : (r : Result ℕ DecodeError) → IfErr r (λ e. ((e ≡ OutOfMemory) × P s) ⊎ IsNestedFault s e) → IfErr r (λ e. Refusal SpellsValue (OrMemoryWhere P IsNestedFault) s s e)
       go (Ok k) f = tt
-      go (Err e) f = refusal_of s e f
+      go (Err e) f = refusal_of P s e f
 
   pub fault_named : (e : DecodeError) → IsNestedFault s e → (r ≡ Err OutOfMemory) ⊎ (r ≡ Err e)
   fault_named e f = go r accepted refused
     where
-      go : (r : Result ℕ DecodeError) → IfOk r (λ k. IsValueOf m (take k s)) → IfErr r (λ d. ((d ≡ OutOfMemory) × HasConstructed s) ⊎ IsNestedFault s d) → (r ≡ Err OutOfMemory) ⊎ (r ≡ Err e)
+      go : (r : Result ℕ DecodeError) → IfOk r (λ k. IsValueOf m (take k s)) → IfErr r (λ d. ((d ≡ OutOfMemory) × P s) ⊎ IsNestedFault s d) → (r ≡ Err OutOfMemory) ⊎ (r ≡ Err e)
       go (Ok k) a g = absurd (fault_or_value (drop k s) f a.0 (sym (take-append-drop k s)))
       go (Err d) a (inl h) = inl (ap (λ (x : DecodeError). Err x) h.0)
       go (Err d) a (inr h) = inr (ap (λ (x : DecodeError). Err x) (one_fault h f refl))
@@ -111,17 +111,17 @@ has_either {s} {v} {r} a = go value.members value.legal value.spelled (omega (ar
 pub capture_memory : {s v r : List ℕ} → Accepts SpellsValue s v r → Refusal SpellsValue (OrMemoryWhere HasEither IsCaptureFault) s s OutOfMemory
 capture_memory a = record { unchanged = refl; refuses = tt; kind = has_either a }
 
-pub capture_refused : {s r : List ℕ} {e : DecodeError} → Refusal SpellsValue (OrMemoryWhere HasConstructed IsNestedFault) s r e → Refusal SpellsValue (OrMemoryWhere HasEither IsCaptureFault) s r e
+pub capture_refused : {s r : List ℕ} {e : DecodeError} → Refusal SpellsValue (OrMemoryWhere HasEither IsNestedFault) s r e → Refusal SpellsValue (OrMemoryWhere HasEither IsCaptureFault) s r e
 capture_refused {s} {r} {e} h = Refusal-weaker (λ none. none) (kind e) h
   where
-    kind : (e : DecodeError) → OrMemoryWhere HasConstructed IsNestedFault s e → OrMemoryWhere HasEither IsCaptureFault s e
+    kind : (e : DecodeError) → OrMemoryWhere HasEither IsNestedFault s e → OrMemoryWhere HasEither IsCaptureFault s e
     kind Truncated k = inr k
     kind BadTag k = inr k
     kind BadLength k = inr k
     kind Unexpected k = inr k
     kind (Content x) k = inr k
     kind Trailing k = inr k
-    kind OutOfMemory k = (true, k)
+    kind OutOfMemory k = k
 
 -- nothing is left
 pub capture_nothing : (s : List ℕ) → s ≡ [] → Refusal SpellsValue (OrMemoryWhere HasEither IsCaptureFault) s s Truncated

@@ -12,7 +12,7 @@ joined Empty more = more
 joined (Primitive t c rest) more = Primitive t c (joined rest more)
 joined (Constructed t ms rest) more = Constructed t ms (joined rest more)
 
-spell_joined : (ms more : Members) → spell (joined ms more) ≡ spell ms ++ spell more
+pub spell_joined : (ms more : Members) → spell (joined ms more) ≡ spell ms ++ spell more
 spell_joined Empty more = refl
 spell_joined (Primitive t c rest) more = ap (λ (w : List ℕ). tlv t false c ++ w) (spell_joined rest more) ∙ sym (append_assoc (tlv t false c) (spell rest) (spell more))
 spell_joined (Constructed t ms rest) more =
@@ -23,7 +23,7 @@ count_joined Empty more = omega arith
 count_joined (Primitive t c rest) more = omega (arith, count_joined rest more)
 count_joined (Constructed t ms rest) more = omega (arith, count_joined rest more)
 
-headers_joined : (ms more : Members) → HaveHeaders ms → HaveHeaders more → HaveHeaders (joined ms more)
+pub headers_joined : (ms more : Members) → HaveHeaders ms → HaveHeaders more → HaveHeaders (joined ms more)
 headers_joined Empty more p q = q
 headers_joined (Primitive t c rest) more p q = (p.0, headers_joined rest more p.1 q)
 headers_joined (Constructed t ms rest) more p q = (p.0, p.1, headers_joined rest more p.2 q)

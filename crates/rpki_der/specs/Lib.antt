@@ -12,6 +12,8 @@ pub mod Leaves
 pub mod Flat
 pub mod ContentView
 pub mod Members
+pub mod Index
+pub mod IndexParts
 pub mod NestedFault
 pub mod Number
 pub mod Integer

@@ -1,5 +1,5 @@
 -- What is asked of who reads one whole value, with all that is nested in it.
-use Rattle.std.specs.Prelude.{◌≡◌, ◌≢◌, ◌*◌, ◌≤◌, ℕ, Bool, true, List, [], ◌++◌, length}
+use Rattle.std.specs.Prelude.{◌≡◌, ◌≢◌, ◌*◌, ◌≤◌, ℕ, Bool, true, false, List, [], ◌++◌, length}
 use Rattle.rpki_der.specs.TagName.{TagName}
 use Rattle.rpki_der.specs.Reading.{Spells}
 use Rattle.rpki_der.specs.Values.{SpellsContents}
@@ -20,6 +20,11 @@ HasConstructed = HasForm true
 -- a value begins s, in whatever form: whoever shares it takes memory
 abbrev pub HasEither : List ℕ → Type 0
 HasEither s = (f : Bool) × HasForm f s
+
+-- a value begins s whose walk takes memory: in whatever form where entries are kept, else one that may hold others
+abbrev pub TakesMemory : Bool → List ℕ → Type 0
+TakesMemory true s = HasEither s
+TakesMemory false s = HasConstructed s
 
 -- one value, whichever
 abbrev pub SpellsAnyValue : Unit {0} → List ℕ → Type 0

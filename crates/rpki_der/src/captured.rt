@@ -1,49 +1,44 @@
 //! Values that were read or made, as their octets.
 
-ghost use Rattle.std.specs.Prelude.{◌≡◌, ℕ, IfOk};
-ghost use Rattle.rpki_der.specs.Members.{AreValues, IsValue};
+ghost use Rattle.std.specs.Prelude.{◌≡◌, ℕ, List, IfOk, count_by, is_none};
+ghost use Rattle.std.specs.List.{AllByRecursion};
+ghost use Rattle.rpki_der.specs.Members.{AreValues};
+ghost use Rattle.rpki_der.specs.Index.{Entry, IsIndex, StandsAt};
 
 use crate::cursor::Constructed;
+use crate::index::HeaderEntry;
 use bytes::Bytes;
 use std::alloc::AllocError;
 use std::marker::Model;
 
 /// A list of values, as the octets that spell them one after another (X.690 8.1.1, 8.1.2.5). At every depth the contents
-/// of a constructed value are values that fill them; structure alone counts.
+/// of a constructed value are values that fill them; structure alone counts. An index of all their headers is kept beside.
 #[derive(Debug, Drop)]
 pub struct Captured {
     bytes: Bytes,
-    count: usize,
+    index: Vec<HeaderEntry>,
 }
 
 impl Model for Captured {
     ghost use Rattle.std.specs.Prelude.{ℕ, List};
-    ghost use Rattle.rpki_der.specs.Members.{AreValues};
+    ghost use Rattle.rpki_der.specs.Index.{IsIndex};
 
     ghost Value = { List ℕ };
 
     ghost view = { λ c. c.bytes };
 
-    ghost invariant = { λ c. AreValues c.count c.bytes };
+    ghost invariant = { λ c. IsIndex c.bytes c.index.items };
 }
 
 impl Captured {
     ghost use Rattle.rpki_der.specs.Cursor.{left};
 
-    /// The values that these octets are, of which there are so many.
-    pub(crate) fn of_values(bytes: Bytes, count: usize) -> Captured
-        requires { AreValues count bytes }
+    /// The values that these octets are, with their index.
+    pub(crate) fn of_index(bytes: Bytes, index: Vec<HeaderEntry>) -> Captured
+        requires { IsIndex bytes index.items }
         ensures { result ≡ bytes }
     {
-        Captured { bytes, count }
-    }
-
-    /// The one value that these octets are.
-    pub(crate) fn of_one(bytes: Bytes) -> Captured
-        requires { IsValue bytes }
-        ensures { result ≡ bytes }
-    {
-        Captured::of_values(bytes, 1)
+        Captured { bytes, index }
     }
 
     /// The octets.
@@ -65,7 +60,17 @@ impl Captured {
         ensures count { AreValues result self.now }
         ensures members { (j k : ℕ) (v : AreValues j self.now) (w : AreValues k self.now) → v.members ≡ w.members }
     {
-        self.count
+        outer_count(&self.index)
+    }
+
+    /// The index: an entry for each header, at every depth, in order of place. Places are counted from the first of the
+    /// octets.
+    pub fn headers(&self) -> &[HeaderEntry]
+        ensures index { IsIndex self.now result.now }
+        ensures only { (x : List Entry) → IsIndex self.now x → x ≡ result.now }
+        ensures places { AllByRecursion (StandsAt self.now) result.now }
+    {
+        &self.index
     }
 
     /// A cursor on all of the octets.
@@ -82,6 +87,14 @@ impl Captured {
         ensures { IfOk result (λ c. c ≡ self.now) }
     {
         let bytes = self.bytes.clone()?;
-        Ok(Captured::of_values(bytes, self.count))
+        let index = Vec::from_slice(*self.index.allocator(), &self.index)?;
+        Ok(Captured::of_index(bytes, index))
     }
+}
+
+/// How many entries are of no value that is inside another.
+fn outer_count(index: &[HeaderEntry]) -> usize
+    ensures { result ≡ count_by (λ e. is_none e.parent) index.now }
+{
+    index.iter().filter(|e| e.parent().is_none()).count()
 }

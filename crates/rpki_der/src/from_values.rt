@@ -1,9 +1,13 @@
 //! Values that are written and captured.
 
 ghost use Rattle.std.specs.Prelude.{◌≡◌, ◌<◌, ◌^◌, length, IfOk};
+ghost use Rattle.rpki_der.specs.Index.{IsIndex};
 
 use crate::captured::Captured;
 use crate::encode::Values;
+use crate::index::HeaderEntry;
+use crate::tag::Steps;
+use crate::walk::walk_value;
 use bytes::Bytes;
 use std::alloc::{AllocError, Global};
 
@@ -20,7 +24,23 @@ impl Captured {
             Ok(()) => {}
             Err(_) => return Err(AllocError),
         }
-        let count = values.count() as usize;
-        Ok(Captured::of_values(Bytes::from_vec(octets)?, count))
+        let index = index_values(alloc, &octets)?;
+        Ok(Captured::of_index(Bytes::from_vec(octets)?, index))
     }
+}
+
+/// The index of octets that are values. It is `AllocError` where memory runs out.
+fn index_values(alloc: Global, octets: &[u8]) -> Result<Vec<HeaderEntry>, AllocError>
+    requires { length octets.now < 2 ^ 63 }
+    ensures { IfOk result (λ index. IsIndex octets.now index.items) }
+{
+    let mut index = Vec::new(alloc);
+    let mut place = 0;
+    'values: while place < octets.len() {
+        match walk_value(alloc, &octets[place..], place, true, &mut index, &mut Steps::new()) {
+            Ok(size) => place += size,
+            Err(_) => return Err(AllocError),
+        }
+    }
+    Ok(index)
 }

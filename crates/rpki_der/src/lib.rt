@@ -8,6 +8,7 @@ mod encode;
 mod error;
 mod from_values;
 mod header;
+mod index;
 mod integer;
 pub mod laws;
 mod leaf;
@@ -21,6 +22,7 @@ pub use bit_string::BitString;
 pub use captured::Captured;
 pub use cursor::Constructed;
 pub use encode::{Primitive, PrimitiveContent, Sequence, Set, Values, Wrapped, write_whole};
+pub use index::HeaderEntry;
 pub use error::{ContentError, DecodeError};
 pub use integer::{InvalidInteger, Unsigned};
 pub use oid::{ConstOid, Oid};
@@ -30,6 +32,8 @@ pub use value::Content;
 
 #[cfg(test)]
 mod encode_tests;
+#[cfg(test)]
+mod index_tests;
 #[cfg(test)]
 mod tests;
 #[cfg(test)]

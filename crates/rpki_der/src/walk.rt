@@ -3,18 +3,20 @@
 //! The contents of a constructed value are values that fill them (X.690 8.1.2.5), to any depth. Structure alone counts:
 //! the contents of a primitive value are passed over by their length.
 
-ghost use Rattle.std.specs.Prelude.{◌≡◌, ◌+◌, ◌-◌, ◌*◌, ◌^◌, ◌<◌, ◌≤◌, ◌⊎◌, ℕ, List, [], length, take, drop, Ok, Err, IfOk, IfErr, IfSome, OnErr};
+ghost use Rattle.std.specs.Prelude.{◌≡◌, ◌+◌, ◌-◌, ◌*◌, ◌^◌, ◌<◌, ◌≤◌, ◌⊎◌, ℕ, List, [], length, take, drop, Ok, Err, IfOk, IfErr, IfSome, OnErr, ◌++◌, ◌∷◌, true, false};
 ghost use Rattle.rpki_der.specs.declared.error.DecodeError.{DecodeError};
 ghost use Rattle.rpki_der.specs.Reading.{Spells, Accepts, Refusal, Reads, ReadsWhere, OrMemoryWhere};
 ghost use Rattle.rpki_der.specs.Values.{SpellsHeader};
 ghost use Rattle.rpki_der.specs.Members.{IsValueOf, SpellsValue};
 ghost use Rattle.rpki_der.specs.NestedFault.{IsNestedFault, IsCaptureFault};
-ghost use Rattle.rpki_der.specs.Walk.{IsNotEmpty, HasConstructed, HasEither, SpellsAnyValue, CountsHeaders};
+ghost use Rattle.rpki_der.specs.Walk.{IsNotEmpty, HasConstructed, HasEither, TakesMemory, SpellsAnyValue, CountsHeaders};
+ghost use Rattle.rpki_der.specs.IndexParts.{IsListed, IsEnd, noted, name_of};
 
 use crate::captured::Captured;
 use crate::cursor::Constructed;
 use crate::error::DecodeError;
 use crate::header::header;
+use crate::index::HeaderEntry;
 use crate::tag::{Header, Steps};
 use std::alloc::Global;
 
@@ -25,6 +27,7 @@ fn enter(octets: &[u8], steps: &mut Steps) -> Result<(Header, usize), DecodeErro
     ensures counted { steps.new ≡ steps.old + 1 }
     ensures within { IfOk result (λ x. x.1 + x.0.length ≤ length octets.now) }
     ensures found { IfOk result (λ x. Spells SpellsHeader octets.now x.0 (drop x.1 octets.now)) }
+    ensures few { IfOk result (λ x. x.1 < 256) }
     ensures refused { IfErr result (λ e. IsNestedFault octets.now e) }
 {
     steps.raise();
@@ -38,60 +41,115 @@ fn enter(octets: &[u8], steps: &mut Steps) -> Result<(Header, usize), DecodeErro
     Ok((found, octets.len() - behind.len()))
 }
 
-/// How many octets the value at the front takes. The ends of the values that are still open stand on a stack, innermost
-/// last.
-fn walk_value(alloc: Global, octets: &[u8], steps: &mut Steps) -> Result<usize, DecodeError>
+/// Adds the entry of a value, where entries are kept. It gives what names the value while it is open: the number of the
+/// entry, or the end of the value where no entries are kept.
+fn note(
+    entries: &mut Vec<HeaderEntry>,
+    keep: bool,
+    entry: HeaderEntry,
+    past: usize,
+) -> Result<usize, DecodeError>
+    ensures noted { IfOk result (λ _. entries.new.items ≡ entries.old.items ++ noted keep entry) }
+    ensures named { IfOk result (λ n. n ≡ name_of keep (length entries.old.items) past) }
+    ensures refused { IfErr result (λ e. (e ≡ DecodeError.OutOfMemory) × (keep ≡ true)) }
+{
+    if !keep {
+        return Ok(past);
+    }
+    let number = entries.len();
+    entries.push(entry)?;
+    Ok(number)
+}
+
+/// Where the open value of this name ends.
+fn end_of(entries: &[HeaderEntry], keep: bool, before: usize, name: usize) -> usize
+    requires { (end : ℕ) × IsEnd keep before entries.now name end }
+    ensures { IsEnd keep before entries.now name result }
+{
+    if keep {
+        entries[name].past() - before
+    } else {
+        name
+    }
+}
+
+/// How many octets the value at the front takes. Where entries are kept, those of all its headers are added. The values
+/// that are still open stand on a stack, innermost last, each by the number of its entry, or by its end where no entries
+/// are kept. Places are counted from `before` octets in front.
+pub(crate) fn walk_value(
+    alloc: Global,
+    octets: &[u8],
+    before: usize,
+    keep: bool,
+    entries: &mut Vec<HeaderEntry>,
+    steps: &mut Steps,
+) -> Result<usize, DecodeError>
     requires some { 0 < length octets.now }
     requires room { steps.old + length octets.now < 2 ^ 64 }
+    requires places { before + length octets.now < 2 ^ 64 }
     ensures within { IfOk result (λ n. n ≤ length octets.now) }
     ensures raised { steps.old ≤ steps.new }
     ensures accepted { IfOk result (λ n. IsValueOf (steps.new - steps.old) (take n octets.now)) }
-    ensures refused { IfErr result (λ e. ((e ≡ DecodeError.OutOfMemory) × HasConstructed octets.now) ⊎ IsNestedFault octets.now e) }
+    ensures refused { IfErr result (λ e. ((e ≡ DecodeError.OutOfMemory) × TakesMemory keep octets.now) ⊎ IsNestedFault octets.now e) }
     ensures bound { OnErr result (2 * (steps.new - steps.old) ≤ length octets.now + 2) }
+    ensures kept { keep ≡ true → IfOk result (λ n. IsListed before entries.old.items (take n octets.now) entries.new.items) }
 {
-    let (first, mut place) = match enter(octets, steps) {
+    let (first, size) = match enter(octets, steps) {
         Ok(entered) => entered,
         Err(e) => return Err(e),
     };
-    let past = place + first.length as usize;
+    let past = size + first.length as usize;
+    let entry = HeaderEntry::new(before, size as u8, &first, None);
+    let name = note(entries, keep, entry, past)?;
     if !first.constructed {
         return Ok(past);
     }
-    let mut ends = Vec::new(alloc);
-    ends.push(past)?;
-    'values: while let Some(end) = ends.last().copied() {
+    let mut open = Vec::new(alloc);
+    open.push(name)?;
+    let mut place = size;
+    'values: while let Some(name) = open.last().copied() {
+        let end = end_of(entries.as_slice(), keep, before, name);
         if place == end {
-            ends.pop();
+            open.pop();
             continue;
         }
         let (found, size) = match enter(&octets[place..end], steps) {
             Ok(entered) => entered,
             Err(e) => return Err(e),
         };
-        place += size;
-        let past = place + found.length as usize;
+        let past = place + size + found.length as usize;
+        let entry = HeaderEntry::new(before + place, size as u8, &found, Some(name));
+        let inner = note(entries, keep, entry, past)?;
         if !found.constructed {
             place = past;
             continue;
         }
-        ends.push(past)?;
+        open.push(inner)?;
+        place += size;
     }
     Ok(place)
 }
 
 /// The same, with what its contract says in the terms of a reader.
-fn walk_front(alloc: Global, octets: &[u8], steps: &mut Steps) -> Result<usize, DecodeError>
+fn walk_front(
+    alloc: Global,
+    octets: &[u8],
+    keep: bool,
+    entries: &mut Vec<HeaderEntry>,
+    steps: &mut Steps,
+) -> Result<usize, DecodeError>
     requires some { 0 < length octets.now }
     requires room { steps.old + length octets.now < 2 ^ 64 }
     ensures within { IfOk result (λ n. n ≤ length octets.now) }
     ensures accepted { IfOk result (λ n. Accepts SpellsValue octets.now (take n octets.now) (drop n octets.now)) }
-    ensures refused { IfErr result (λ e. Refusal SpellsValue (OrMemoryWhere HasConstructed IsNestedFault) octets.now octets.now e) }
+    ensures refused { IfErr result (λ e. Refusal SpellsValue (OrMemoryWhere (TakesMemory keep) IsNestedFault) octets.now octets.now e) }
     ensures fault { (e : DecodeError) → IsNestedFault octets.now e → (result ≡ Err DecodeError.OutOfMemory) ⊎ (result ≡ Err e) }
     ensures raised { steps.old ≤ steps.new }
     ensures counted { IfOk result (λ n. CountsHeaders octets.now (drop n octets.now) (steps.new - steps.old)) }
     ensures bound { OnErr result (2 * (steps.new - steps.old) ≤ length octets.now + 2) }
+    ensures kept { keep ≡ true → IfOk result (λ n. IsListed 0 entries.old.items (take n octets.now) entries.new.items) }
 {
-    walk_value(alloc, octets, steps)
+    walk_value(alloc, octets, 0, keep, entries, steps)
 }
 
 impl<'a> Constructed<'a> {
@@ -119,7 +177,7 @@ impl<'a> Constructed<'a> {
         if octets.is_empty() {
             return Ok(None);
         }
-        let size = match walk_front(alloc, octets, steps) {
+        let size = match walk_front(alloc, octets, false, &mut Vec::new(alloc), steps) {
             Ok(size) => size,
             Err(e) => return Err(e),
         };
@@ -151,14 +209,14 @@ impl<'a> Constructed<'a> {
         if octets.is_empty() {
             return Err(DecodeError::Truncated);
         }
-        let mut steps = Steps::new();
-        let size = match walk_front(alloc, octets, &mut steps) {
+        let mut index = Vec::new(alloc);
+        let size = match walk_front(alloc, octets, true, &mut index, &mut Steps::new()) {
             Ok(size) => size,
             Err(e) => return Err(e),
         };
         let (value, behind) = self.split_at(size);
         let bytes = value.to_bytes()?;
         *self = behind;
-        Ok(Captured::of_one(bytes))
+        Ok(Captured::of_index(bytes, index))
     }
 }

@@ -1,5 +1,7 @@
 use Rattle.std.proofs.Common.{◌<◌, length, arith, ap}
 use Rattle.rpki_der.specs.NestedFault.{AtHeader, AtContents}
+use Rattle.std.proofs.Common.{◌≡◌, ◌-◌, ◌∙◌, sym, length-append}
+use Rattle.rpki_der.proofs.MembersLaws.{few_octets}
 use Rattle.rpki_der.proofs.walk.enter.Goals as goal
 
 pub returns-in-Err-clause-refused : goal.returns-in-Err-clause-refused
@@ -12,3 +14,9 @@ pub returns-then-behind-found-clause-refused : goal.returns-then-behind-found-cl
 returns-then-behind-found-clause-refused c =
     let h = c.in-Ok.ensures.ok in
     AtContents c.in-Ok.found.0 c.in-Ok.found.1.now h.spells c.if-behind-found.true
+
+pub returns-clause-few : goal.returns-clause-few
+returns-clause-few c =
+    let h = c.in-Ok.ensures.ok in
+    let x = c.in-Ok.found.0 in
+    omega (arith, few_octets x.tag x.constructed x.length, ap length h.spells.spelled.octets, ap length h.spells.parts, length-append h.spells.front c.in-Ok.found.1.now)

@@ -1,5 +1,5 @@
 use Rattle.std.proofs.Common.{◌+◌, ◌-◌, ◌*◌, ◌≤◌, length}
-use Rattle.rpki_der.proofs.Walking.{IsWithin}
+use Rattle.rpki_der.proofs.Indexing.{IsWalking}
 use Rattle.rpki_der.proofs.walk.walk_value.Given as goal
 
 abbrev pub invariant-values : goal.invariant-values
@@ -7,8 +7,8 @@ invariant-values l = record {
   low : l.place ≤ length l.octets;
   raised : l.fn.steps ≤ l.steps;
   half : 2 * (l.steps - l.fn.steps) ≤ l.place;
-  within : IsWithin l.octets l.ends.items l.place (l.steps - l.fn.steps);
+  within : IsWalking l.keep l.before l.fn.entries.items l.octets l.open.items l.entries.items l.place (l.steps - l.fn.steps);
 }
 
 abbrev pub decreases-values : goal.decreases-values
-decreases-values l = (length l.octets - l.place) + length l.ends.items
+decreases-values l = (length l.octets - l.place) + length l.open.items

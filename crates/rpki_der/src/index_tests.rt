@@ -1,0 +1,96 @@
+use super::*;
+use bytes::Bytes;
+use std::test::Fail;
+
+/// What an entry has to be: place, contents, past, the number of its universal tag, whether constructed, and parent.
+type Wanted = (usize, usize, usize, u32, bool, Option<usize>);
+
+/// A value, and its index.
+struct Row {
+    octets: &'static [u8],
+    index: &'static [Wanted],
+}
+
+const ROWS: [Row; 4] = [
+    Row {
+        octets: &[0x30, 0x06, 0x30, 0x04, 0x30, 0x02, 0x30, 0x00],
+        index: &[
+            (0, 2, 8, 16, true, None),
+            (2, 4, 8, 16, true, Some(0)),
+            (4, 6, 8, 16, true, Some(1)),
+            (6, 8, 8, 16, true, Some(2)),
+        ],
+    },
+    Row {
+        octets: &[
+            0x30, 0x0c, 0x31, 0x0a, 0x30, 0x08, 0x06, 0x03, 0x55, 0x04, 0x03, 0x13, 0x01, 0x41,
+        ],
+        index: &[
+            (0, 2, 14, 16, true, None),
+            (2, 4, 14, 17, true, Some(0)),
+            (4, 6, 14, 16, true, Some(1)),
+            (6, 8, 11, 6, false, Some(2)),
+            (11, 13, 14, 19, false, Some(2)),
+        ],
+    },
+    // values behind closed ones
+    Row {
+        octets: &[
+            0x30, 0x0a, 0x30, 0x02, 0x30, 0x00, 0x05, 0x00, 0x31, 0x00, 0x05, 0x00,
+        ],
+        index: &[
+            (0, 2, 12, 16, true, None),
+            (2, 4, 6, 16, true, Some(0)),
+            (4, 6, 6, 16, true, Some(1)),
+            (6, 8, 8, 5, false, Some(0)),
+            (8, 10, 10, 17, true, Some(0)),
+            (10, 12, 12, 5, false, Some(0)),
+        ],
+    },
+    Row {
+        octets: &[0x05, 0x00],
+        index: &[(0, 2, 2, 5, false, None)],
+    },
+];
+
+fn is_wanted(entry: &HeaderEntry, wanted: &Wanted) -> bool {
+    entry.place() == wanted.0
+        && entry.contents() == wanted.1
+        && entry.past() == wanted.2
+        && entry.tag().class() == Class::Universal
+        && entry.tag().number() == wanted.3
+        && entry.constructed() == wanted.4
+        && entry.parent() == wanted.5
+}
+
+fn are_wanted(index: &[HeaderEntry], wanted: &[Wanted]) -> bool {
+    index.len() == wanted.len() && index.iter().zip(wanted).all(|(e, w)| is_wanted(e, w))
+}
+
+#[test]
+fn captured_values_have_their_index(rt: HostRuntime) {
+    for row in &ROWS {
+        let source: Bytes = Bytes::from_static(row.octets);
+        let mut cursor = Constructed::new(&source);
+        let same = match cursor.capture_one(rt.alloc()) {
+            Ok(found) => are_wanted(found.headers(), row.index) && found.values() == 1,
+            Err(_) => false,
+        };
+        assert!(rt; same, "{:?}", row.octets);
+    }
+}
+
+#[test]
+fn written_values_have_theirs(rt: HostRuntime) -> Result<(), Fail> {
+    let nulls = (().encode(), ().encode());
+    assert!(rt; nulls.fits());
+    let found = Captured::from_values(rt.alloc(), &nulls)?;
+    let wanted = [
+        (0, 2, 2, 5, false, None),
+        (2, 4, 4, 5, false, None),
+    ];
+    assert!(rt; are_wanted(found.headers(), &wanted) && found.values() == 2);
+    let copy = found.clone()?;
+    assert!(rt; are_wanted(copy.headers(), &wanted) && copy.values() == 2);
+    Ok(())
+}
