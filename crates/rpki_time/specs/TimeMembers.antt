@@ -1,12 +1,13 @@
 -- What is written of a time is one value.
-use Rattle.std.specs.Prelude.{Bool, true, false}
+use Rattle.std.specs.Prelude.{◌≡◌, ◌↔◌, Bool, true, false, refl}
 use Rattle.std.proofs.Common.{lit<}
 use Rattle.jiff.specs.Types.{DateTime}
 use Rattle.rpki_der.specs.TagName.{IsTag, utc_time, generalized_time}
 use Rattle.rpki_der.specs.Members.{IsValue, IsValueList}
 use Rattle.rpki_der.specs.Joined.{primitive_value}
+use Rattle.rpki_der.specs.Tree.{tree_octets, IsShortTree}
 use Rattle.rpki_time.specs.TimeText.{utc_text, generalized_text, is_utc_year}
-use Rattle.rpki_time.specs.TimeValue.{octets_where, time_octets}
+use Rattle.rpki_time.specs.TimeValue.{octets_where, time_octets, tree_where, time_tree}
 
 pub utc_legal : IsTag utc_time
 utc_legal = record { below = lit< tt; named = λ _. lit< tt }
@@ -23,3 +24,19 @@ time_is_value t = value_where (is_utc_year t.date.year) t
 
 pub time_is_value_list : (t : DateTime) → IsValueList (time_octets t)
 time_is_value_list t = (1, time_is_value t)
+
+-- ---- the same as a tree
+
+spelled_where : (utc : Bool) (t : DateTime) → octets_where utc t ≡ tree_octets (tree_where utc t)
+spelled_where true t = refl
+spelled_where false t = refl
+
+pub time_spelled : (t : DateTime) → time_octets t ≡ tree_octets (time_tree t)
+time_spelled t = spelled_where (is_utc_year t.date.year) t
+
+short_where : (utc : Bool) (t : DateTime) → Unit {0} ↔ IsShortTree (tree_where utc t)
+short_where true t = (λ _. lit< tt, λ _. tt)
+short_where false t = (λ _. lit< tt, λ _. tt)
+
+pub time_measured : (t : DateTime) → Unit {0} ↔ IsShortTree (time_tree t)
+time_measured t = short_where (is_utc_year t.date.year) t

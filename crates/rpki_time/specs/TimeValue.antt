@@ -9,6 +9,8 @@ use Rattle.rpki_der.specs.Header.{tlv}
 use Rattle.rpki_der.specs.Reading.{Spells}
 use Rattle.rpki_der.specs.Values.{SpellsContents, HasTag}
 use Rattle.rpki_der.specs.Flat.{SpellsFlat, IsFlatFault}
+use Rattle.rpki_der.specs.Tree.{Tree}
+use Rattle.rpki_der.specs.Tree.Tree.{Primitive}
 use Rattle.rpki_time.specs.TimeText.{utc_text, generalized_text, is_utc_year, ReadsAsUtc, ReadsAsGeneralized}
 
 -- the text under the tag reads as the time
@@ -59,3 +61,11 @@ octets_where false t = generalized_octets t
 
 abbrev pub time_octets : DateTime → List ℕ
 time_octets t = octets_where (is_utc_year t.date.year) t
+
+-- the same as a tree: one primitive value
+abbrev pub tree_where : Bool → DateTime → Tree
+tree_where true t = Primitive utc_time (utc_text t)
+tree_where false t = Primitive generalized_time (generalized_text t)
+
+abbrev pub time_tree : DateTime → Tree
+time_tree t = tree_where (is_utc_year t.date.year) t

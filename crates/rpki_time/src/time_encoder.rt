@@ -101,11 +101,18 @@ impl Model for VariedTime {
 }
 
 impl Values for VariedTime {
+    ghost use Rattle.rpki_time.specs.TimeValue.{time_tree};
+    ghost use Rattle.rpki_time.specs.TimeMembers.{time_is_value_list, time_spelled, time_measured};
+
+    ghost tree = { time_tree };
+
     ghost encoded = { time_octets };
 
     ghost is_short = { λ _. Unit {0} };
 
-    ghost use Rattle.rpki_time.specs.TimeMembers.{time_is_value_list};
+    ghost spelled = { time_spelled };
+
+    ghost measured = { time_measured };
 
     ghost are_values = { λ t _. time_is_value_list t };
 
