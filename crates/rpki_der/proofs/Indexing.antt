@@ -284,8 +284,8 @@ inside_primitive {keep} {b} {old} {s} {names} {es} {q} {e} {place} {m} {t} {f} {
     let held : Holds keep b (es ++ noted keep x) (q ∷ others) (e ∷ i.ends) = holds_more keep b es (noted keep x) (q ∷ others) (e ∷ i.ends) (i.here, i.held) in
     let listed : ListedWhere keep b old s (q ∷ others) (e ∷ i.ends) (place + k + n) left =
     λ kept.
-        let all : left ≡ es ++ made (b + place) k n t false (Some q) ∷ [] = more ∙ ap (λ (y : Bool). es ++ noted y x) kept ∙ ap (λ (y : Bool). es ++ made (b + place) k n t y (Some q) ∷ []) (is_false f form) in
-        subst (λ (y : List Entry). Listed b old s (q ∷ others) (e ∷ i.ends) (place + k + n) y) (sym all) (listed_primitive b old s q others e i.ends place es t k n p (i.listed kept)) in
+    let all : left ≡ es ++ made (b + place) k n t false (Some q) ∷ [] = more ∙ ap (λ (y : Bool). es ++ noted y x) kept ∙ ap (λ (y : Bool). es ++ made (b + place) k n t y (Some q) ∷ []) (is_false f form) in
+    subst (λ (y : List Entry). Listed b old s (q ∷ others) (e ∷ i.ends) (place + k + n) y) (sym all) (listed_primitive b old s q others e i.ends place es t k n p (i.listed kept)) in
     record {
       ends = e ∷ i.ends;
       held = subst (λ (y : List ℕ). Holds keep b left y (e ∷ i.ends)) order (subst (λ (y : List Entry). Holds keep b y (q ∷ others) (e ∷ i.ends)) (sym more) held);
@@ -313,8 +313,8 @@ inside_constructed {keep} {b} {old} {s} {names} {es} {q} {e} {place} {m} {t} {f}
     let read : Open s ends (place + k) (m + 1) = open_constructed s i.ends e place m t n k i.opened h' fits in
     let listed : ListedWhere keep b old s (new ∷ q ∷ others) ends (place + k) (es ++ noted keep x) =
     λ kept.
-        let begun : Listed b old s (name_of true (length es) (place + k + n) ∷ q ∷ others) ends (place + k) (es ++ noted true x) = listed_constructed b old s q others e i.ends place es t k n p (i.listed kept) in
-        subst (λ (y : Bool). Listed b old s (name_of y (length es) (place + k + n) ∷ q ∷ others) ends (place + k) (es ++ noted y x)) (sym kept) begun in
+    let begun : Listed b old s (name_of true (length es) (place + k + n) ∷ q ∷ others) ends (place + k) (es ++ noted true x) = listed_constructed b old s q others e i.ends place es t k n p (i.listed kept) in
+    subst (λ (y : Bool). Listed b old s (name_of y (length es) (place + k + n) ∷ q ∷ others) ends (place + k) (es ++ noted y x)) (sym kept) begun in
     record {
       ends = ends;
       held = subst (λ (y : List ℕ). Holds keep b left y ends) order (subst (λ (y : List Entry). Holds keep b y (new ∷ q ∷ others) ends) (sym all) held);
@@ -356,8 +356,8 @@ start_walking {keep} {b} {old} {s} {t} {f} {n} {k} j name after left form h fits
     let held : Holds keep b (old ++ noted keep x) (new ∷ []) ends = (end_noted keep b old x (k + n) sum, tt) in
     let listed : ListedWhere keep b old s (new ∷ []) ends k (old ++ noted keep x) =
     λ kept.
-        let begun : Listed b old s (name_of true (length old) (k + n) ∷ []) ends k (old ++ noted true x) = listed_first_constructed b old s t k n p.header_size p.contents_size p.first in
-        subst (λ (y : Bool). Listed b old s (name_of y (length old) (k + n) ∷ []) ends k (old ++ noted y x)) (sym kept) begun in
+    let begun : Listed b old s (name_of true (length old) (k + n) ∷ []) ends k (old ++ noted true x) = listed_first_constructed b old s t k n p.header_size p.contents_size p.first in
+    subst (λ (y : Bool). Listed b old s (name_of y (length old) (k + n) ∷ []) ends k (old ++ noted y x)) (sym kept) begun in
     record {
       ends = ends;
       held = subst (λ (y : List ℕ). Holds keep b left y ends) order (subst (λ (y : List Entry). Holds keep b y (new ∷ []) ends) (sym all) held);

@@ -51,26 +51,26 @@ said : (P : Header → Type 0) (h k : Header) (r q : List ℕ) (d e : DecodeErro
 said P h k r q d e same p w =
     elim p [
       | inl (a, n, y) ↦ elim w [
-          | inl (b, m, z) ↦ a ∙ sym b
-          | inr (b, m) ↦ let n' : P k = rw same at n in absurd (m n')
-        ]
+        | inl (b, m, z) ↦ a ∙ sym b
+        | inr (b, m) ↦ let n' : P k = rw same at n in absurd (m n')
+      ]
       | inr (a, n) ↦ elim w [
-          | inl (b, m, z) ↦ let m' : P h = rw (← same) at m in absurd (n m')
-          | inr (b, m) ↦ a ∙ sym b
-        ]
+        | inl (b, m, z) ↦ let m' : P h = rw (← same) at m in absurd (n m')
+        | inr (b, m) ↦ a ∙ sym b
+      ]
     ]
 
 meet : (P : Header → Type 0) (s : List ℕ) (d e : DecodeError) → IsHeaderFault s d ⊎ AtHeader P s d → IsHeaderFault s e ⊎ AtHeader P s e → d ≡ e
 meet P s d e p q =
     elim p [
       | inl x ↦ elim q [
-          | inl y ↦ one-fault-of-lists s d e x y
-          | inr (h, r, sp, k) ↦ absurd (no-fault-at-header s d h r x sp)
-        ]
+        | inl y ↦ one-fault-of-lists s d e x y
+        | inr (h, r, sp, k) ↦ absurd (no-fault-at-header s d h r x sp)
+      ]
       | inr (h, r, sp, k) ↦ elim q [
-          | inl y ↦ absurd (no-fault-at-header s e h r y sp)
-          | inr (g, w, sq, l) ↦ said P h g r w d e (one-header s h g r w sp sq).0 k l
-        ]
+        | inl y ↦ absurd (no-fault-at-header s e h r y sp)
+        | inr (g, w, sq, l) ↦ said P h g r w d e (one-header s h g r w sp sq).0 k l
+      ]
     ]
 
 -- ---- values of one tag and form
@@ -83,9 +83,9 @@ sort-out t f s Truncated p =
     elim p [
       | inl cut ↦ inl cut
       | inr (c, b, more, g) ↦ elim (cut-parts t f s c b more g) [
-          | inl cut ↦ inl cut
-          | inr (r, sp, short) ↦ inr (head-of t f (length c), r, sp, inl (refl, (refl, refl), short))
-        ]
+        | inl cut ↦ inl cut
+        | inr (r, sp, short) ↦ inr (head-of t f (length c), r, sp, inl (refl, (refl, refl), short))
+      ]
     ]
 sort-out t f s BadTag p = inl p
 sort-out t f s BadLength p = inl p
@@ -107,9 +107,9 @@ sort-flat W s Truncated p =
     elim p [
       | inl cut ↦ inl cut
       | inr ((t, f, c), b, more, g) ↦ elim (cut-parts t f s c b more g.value) [
-          | inl cut ↦ inl cut
-          | inr (r, sp, short) ↦ inr (head-of t f (length c), r, sp, inl (refl, g.wanted, short))
-        ]
+        | inl cut ↦ inl cut
+        | inr (r, sp, short) ↦ inr (head-of t f (length c), r, sp, inl (refl, g.wanted, short))
+      ]
     ]
 sort-flat W s BadTag p = inl p
 sort-flat W s BadLength p = inl p
@@ -158,11 +158,11 @@ pub one-leaf-fault : {V : Type 0} (t : TagName) (f : Bool) (C : V → List ℕ �
 one-leaf-fault t f C s d e p q =
     elim (leaf-parts t f C s d p) [
       | inl a ↦ elim (leaf-parts t f C s e q) [
-          | inl b ↦ ap error_number (one-contents-fault t f s d e a b)
-          | inr (y, is, (c, r, sp)) ↦ absurd (no-fault-at-value t f s c r d a sp)
-        ]
+        | inl b ↦ ap error_number (one-contents-fault t f s d e a b)
+        | inr (y, is, (c, r, sp)) ↦ absurd (no-fault-at-value t f s c r d a sp)
+      ]
       | inr (x, is, (c, r, sp)) ↦ elim (leaf-parts t f C s e q) [
-          | inl b ↦ absurd (no-fault-at-value t f s c r e b sp)
-          | inr (y, so, z) ↦ ap error_number is ∙ sym (ap error_number so)
-        ]
+        | inl b ↦ absurd (no-fault-at-value t f s c r e b sp)
+        | inr (y, so, z) ↦ ap error_number is ∙ sym (ap error_number so)
+      ]
     ]

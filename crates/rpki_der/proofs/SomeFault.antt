@@ -48,11 +48,10 @@ with-contents s h r sp le =
     let c = take n r in
     let size : length c ≡ n = length-take-le n r le in
     let front : sp.front ≡ header h.tag h.constructed (length c) = sp.spelled.octets ∙ ap (λ (m : ℕ). header h.tag h.constructed m) (sym size) in
-    let cut : r ≡ c ++ drop n r = sym (take-append-drop n r) in
-    (
+    let cut : r ≡ c ++ drop n r = sym (take-append-drop n r) in (
       size,
       sp.parts ∙ ap (λ (x : List ℕ). sp.front ++ x) cut ∙ ap (λ (x : List ℕ). x ++ (c ++ drop n r)) front
-      ∙ sym (append_assoc (header h.tag h.constructed (length c)) c (drop n r)),
+          ∙ sym (append_assoc (header h.tag h.constructed (length c)) c (drop n r)),
     )
 
 first : (s : List ℕ) → IsBytes s → s ≢ [] → ((c : List ℕ) → length c < length s → IsBytes c → IsScanned c) → BeginsOrFails s

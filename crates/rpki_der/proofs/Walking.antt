@@ -284,10 +284,6 @@ pub at_true : (s : List ℕ) (t : TagName) (f : Bool) (n k : ℕ) → not f ≡ 
 at_true s t true n k form h = h
 at_true s t false n k form h = absurd (cc form)
 
--- the same, by the ends as the loop keeps them, outermost first
-pub record IsWithin (s ends : List ℕ) (place n : ℕ) : Type 0 where
-  pub values : Open s (reverse ends) place n
-
 -- the last of the ends
 pub record Innermost (ends : List ℕ) (e : ℕ) : Type 0 where
   pub last : slice_get ends (length ends - 1) ≡ Some e
@@ -295,64 +291,3 @@ pub record Innermost (ends : List ℕ) (e : ℕ) : Type 0 where
 -- a value that is primitive is read at once
 pub start_primitive : {s : List ℕ} {t : TagName} {f : Bool} {n k : ℕ} (j : ℕ) → not f ≡ true → BeginsWithHeader s t f n k → k + n ≤ length s → j ≡ 1 → IsValueOf j (take (k + n) s)
 start_primitive {s} {t} {f} {n} {k} j form h fits one = subst (λ (x : ℕ). IsValueOf x (take (k + n) s)) (sym one) (value_primitive s t n k (at_false s t f n k form h) fits)
-
--- one that is constructed is opened
-pub start_constructed : {s : List ℕ} {t : TagName} {f : Bool} {n k : ℕ} (j : ℕ) (ends : List ℕ) → not f ≡ false → BeginsWithHeader s t f n k → k + n ≤ length s → j ≡ 1 → ends ≡ (k + n) ∷ [] → IsWithin s ends k j
-start_constructed {s} {t} {f} {n} {k} j ends form h fits one is = record {
-  values = subst (λ (x : ℕ). Open s (reverse ends) k x) (sym one) (subst (λ (x : List ℕ). Open s (reverse x) k 1) (sym is) (open_first s t n k (at_true s t f n k form h) fits));
-}
-
-opened : {s ends : List ℕ} {e place m : ℕ} → Innermost ends e → IsWithin s ends place m → Open s (e ∷ reverse (take (length ends - 1) ends)) place m
-opened {s} {ends} {e} {place} {m} last o = subst (λ (x : List ℕ). Open s x place m) (top ends e last.last) o.values
-
--- the part that is left of the innermost value
-pub step_part : {s ends : List ℕ} {e place m : ℕ} → Innermost ends e → IsWithin s ends place m → (place ≤ e) × (e ≤ length s)
-step_part last o = let level = opened last o in (level.low, level.high)
-
--- it ends
-pub step_end : {s ends : List ℕ} {e place m : ℕ} (after : List ℕ) → Innermost ends e → IsWithin s ends place m → place ≡ e → after ≡ take (length ends - 1) ends → IsWithin s after place m
-step_end {s} {ends} {e} {place} {m} after last o same rest =
-    let others : List ℕ = reverse (take (length ends - 1) ends) in
-    let ended : Open s others place m = open_end s others place m (subst (λ (x : ℕ). Open s (x ∷ others) place m) (sym same) (opened last o)) in
-    record { values = subst (λ (x : List ℕ). Open s (reverse x) place m) (sym rest) ended }
-
--- it has a fault
-pub step_fault : {s ends : List ℕ} {e place m : ℕ} {f : DecodeError} → Innermost ends e → IsWithin s ends place m → IsNestedFault (between place e s) f → IsNestedFault s f
-step_fault {s} {ends} {e} {place} {m} {f} last o h = open_fault s (reverse (take (length ends - 1) ends)) e place m f (opened last o) h
-
--- a primitive value in it is read
-pub step_primitive : {s ends : List ℕ} {e place m : ℕ} {t : TagName} {f : Bool} {n k : ℕ} (j : ℕ) → Innermost ends e → IsWithin s ends place m → not f ≡ true → BeginsWithHeader (between place e s) t f n k → k + n ≤ length (between place e s) → j ≡ m + 1
-    → IsWithin s ends (place + k + n) j
-step_primitive {s} {ends} {e} {place} {m} {t} {f} {n} {k} j last o form h fits one =
-    let others : List ℕ = reverse (take (length ends - 1) ends) in
-    let read : Open s (e ∷ others) (place + k + n) (m + 1) = open_primitive s others e place m t n k (opened last o) (at_false (between place e s) t f n k form h) fits in
-    record { values = subst (λ (x : ℕ). Open s (reverse ends) (place + k + n) x) (sym one) (subst (λ (x : List ℕ). Open s x (place + k + n) (m + 1)) (sym (top ends e last.last)) read) }
-
--- a constructed value in it is opened
-pub step_constructed : {s ends : List ℕ} {e place m : ℕ} {t : TagName} {f : Bool} {n k : ℕ} (j : ℕ) (after : List ℕ) → Innermost ends e → IsWithin s ends place m → not f ≡ false → BeginsWithHeader (between place e s) t f n k → k + n ≤ length (between place e s) → j ≡ m + 1
-    → after ≡ ends ++ (place + k + n) ∷ [] → IsWithin s after (place + k) j
-step_constructed {s} {ends} {e} {place} {m} {t} {f} {n} {k} j after last o form h fits one more =
-    let others : List ℕ = reverse (take (length ends - 1) ends) in
-    let read : Open s ((place + k + n) ∷ e ∷ others) (place + k) (m + 1) = open_constructed s others e place m t n k (opened last o) (at_true (between place e s) t f n k form h) fits in
-    let order : reverse after ≡ (place + k + n) ∷ e ∷ others =
-    ap reverse more ∙ reverse-append ends ((place + k + n) ∷ []) ∙ ap (λ (x : List ℕ). (place + k + n) ∷ x) (top ends e last.last) in
-    record { values = subst (λ (x : ℕ). Open s (reverse after) (place + k) x) (sym one) (subst (λ (x : List ℕ). Open s x (place + k) (m + 1)) (sym order) read) }
-
--- what is read in it fits
-pub step_fits : {s ends : List ℕ} {e place m : ℕ} {t : TagName} {f : Bool} {n k : ℕ} → Innermost ends e → IsWithin s ends place m → BeginsWithHeader (between place e s) t f n k → k + n ≤ length (between place e s) → (place + k + n ≤ length s) × (2 ≤ k)
-step_fits {s} {ends} {e} {place} {m} {t} {f} {n} {k} last o h fits =
-    let level = opened last o in
-    let p = front_at s place e t f n k level.low level.high h fits in
-    (omega (arith, p.fits, level.high), p.size)
-
--- none is open
-none_open : (ends : List ℕ) → slice_get ends (length ends - 1) ≡ None → ends ≡ []
-none_open [] h = refl
-none_open (x ∷ xs) h =
-    let within : length (x ∷ xs) - 1 < length (x ∷ xs) = omega arith in
-    let last = slice_get-get_or (x ∷ xs) (length (x ∷ xs) - 1) x within in
-    absurd cc
-
--- the outermost has ended
-pub step_done : {s ends : List ℕ} {place m : ℕ} → slice_get ends (length ends - 1) ≡ None → IsWithin s ends place m → IsValueOf m (take place s)
-step_done {s} {ends} {place} {m} none o = subst (λ (x : List ℕ). Open s (reverse x) place m) (none_open ends none) o.values

@@ -26,7 +26,6 @@ pub mod PrimitiveParts
 pub mod OptionalPart
 pub mod Tree
 pub mod LeafLaws
-
 -- Lemmas, which the prover checks: ghost items of impls cite them.
 pub mod NumberLaws
 pub mod EqualLaws

@@ -37,7 +37,14 @@ fn index_values(alloc: Global, octets: &[u8]) -> Result<Vec<HeaderEntry>, AllocE
     let mut index = Vec::new(alloc);
     let mut place = 0;
     'values: while place < octets.len() {
-        match walk_value(alloc, &octets[place..], place, true, &mut index, &mut Steps::new()) {
+        match walk_value(
+            alloc,
+            &octets[place..],
+            place,
+            true,
+            &mut index,
+            &mut Steps::new(),
+        ) {
             Ok(size) => place += size,
             Err(_) => return Err(AllocError),
         }

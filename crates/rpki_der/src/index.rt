@@ -30,7 +30,6 @@ impl Model for HeaderEntry {
     ghost invariant = { λ e. (e.place + e.size + e.length < 2 ^ 64) × (e.holder ≡ holder_of (parent_of e.is_inner e.holder)) };
 
     ghost inverse = { λ e. record { place = e.place; holder = holder_of e.parent; length = e.past - e.contents; tag = e.tag; size = e.contents - e.place; constructed = e.constructed; is_inner = is_held e.parent } };
-
 }
 
 impl HeaderEntry {

@@ -85,10 +85,7 @@ fn written_values_have_theirs(rt: HostRuntime) -> Result<(), Fail> {
     let nulls = (().encode(), ().encode());
     assert!(rt; nulls.fits());
     let found = Captured::from_values(rt.alloc(), &nulls)?;
-    let wanted = [
-        (0, 2, 2, 5, false, None),
-        (2, 4, 4, 5, false, None),
-    ];
+    let wanted = [(0, 2, 2, 5, false, None), (2, 4, 4, 5, false, None)];
     assert!(rt; are_wanted(found.headers(), &wanted) && found.values() == 2);
     let copy = found.clone()?;
     assert!(rt; are_wanted(copy.headers(), &wanted) && copy.values() == 2);

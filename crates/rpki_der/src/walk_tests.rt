@@ -229,7 +229,11 @@ fn nesting_has_no_limit(rt: HostRuntime) -> Result<(), Fail> {
         let source = nested(rt.alloc(), levels)?;
         let mut walked = Constructed::new(&source);
         let mut steps = Steps::new();
-        assert_eq!(rt; walked.walk(rt.alloc(), &mut steps), Ok(Some(())), "{levels}");
+        assert_eq!(rt;
+            walked.walk(rt.alloc(), &mut steps),
+            Ok(Some(())),
+            "{levels}"
+        );
         assert_eq!(rt; steps.count(), levels as u64);
         assert!(rt; walked.is_empty(), "{levels}");
         let mut skipped = Constructed::new(&source);

@@ -10,7 +10,6 @@ impl<V: Values> Values for Option<V> {
     ghost use Rattle.std.specs.Prelude.{None, Some};
     ghost use Rattle.rpki_der.specs.OptionalPart.{optional_octets, OfPart};
     ghost use Rattle.rpki_der.specs.Joined.{no_value_list};
-
     ghost use Rattle.rpki_der.specs.OptionalPart.{optional_tree};
     ghost use Rattle.rpki_der.specs.TreeLaws.{optional_spelled, optional_measured};
 

@@ -93,7 +93,6 @@ impl<P> Primitive<P> {
 impl<P: PrimitiveContent> Values for Primitive<P> {
     ghost use Rattle.rpki_der.specs.PrimitiveParts.{tag_in, content_in, has_tag};
     ghost use Rattle.rpki_der.specs.Joined.{primitive_value_list};
-
     ghost use Rattle.rpki_der.specs.Tree.Tree.{Primitive as PrimitiveTree};
     ghost use Rattle.rpki_der.specs.TreeLaws.{as_it_is};
     ghost use Rattle.std.specs.Prelude.{refl};
