@@ -1,8 +1,8 @@
 -- Laws of the index of values: it is one, each entry stands where it says, and values behind values have entries behind entries.
-use Rattle.std.proofs.Common.{◌≡◌, ℕ, suc, ◌+◌, ◌-◌, ◌<◌, ◌≤◌, Bool, true, false, cond, List, [], ◌∷◌, ◌++◌, length, take, drop, Option, Some, None, refl, sym, ap, ◌∙◌, subst, arith, append_assoc, append-nil, length-append, length-drop, take-append-drop}
+use Rattle.std.proofs.Common.{◌≡◌, ℕ, suc, ◌+◌, ◌-◌, ◌≤◌, Bool, true, false, cond, List, [], ◌∷◌, ◌++◌, length, take, drop, Option, Some, None, refl, sym, ap, ◌∙◌, subst, arith, append_assoc, append-nil, length-append, length-drop, take-append-drop}
 use Rattle.std.specs.Prelude.{is_none, count_by, if◌then◌else◌}
 use Rattle.std.specs.List.{between, AllByRecursion}
-use Rattle.std.proofs.lemmas.List.{take_at, drop_at, take_all, drop-drop, length-take-le}
+use Rattle.std.proofs.lemmas.List.{take_at, drop_at, take_all, length-take-le}
 use Rattle.std.proofs.lemmas.List.Sums.{sum_by-append}
 use Rattle.rpki_der.specs.TagName.{TagName}
 use Rattle.rpki_der.specs.Header.{tlv}
@@ -10,7 +10,7 @@ use Rattle.rpki_der.specs.Members.{Members, Empty, Primitive, Constructed, spell
 use Rattle.rpki_der.specs.Joined.{joined, spell_joined, headers_joined}
 use Rattle.rpki_der.specs.Index.{Entry, entry, entries, IsIndex, StandsAt}
 use Rattle.rpki_der.specs.IndexParts.{IsListed}
-use Rattle.rpki_der.proofs.MembersLaws.{header, one_reading}
+use Rattle.rpki_der.proofs.MembersLaws.{header, HasHeader, one_reading}
 use Rattle.rpki_der.proofs.Indexing.{length_entries}
 
 -- ---- one index
@@ -28,8 +28,8 @@ part_at pre x post i e h k =
     let n : e - i ≡ length x = omega arith in
     ap (λ (m : ℕ). take m (drop i (pre ++ (x ++ post)))) n ∙ ap (λ (y : List ℕ). take (length x) y) (drop_at pre (x ++ post) i (sym h)) ∙ take_at x post (length x) refl
 
-entry_stands : (pre c post octets : List ℕ) (t : TagName) (f : Bool) (at : ℕ) (parent : Option ℕ) → at ≡ length pre → octets ≡ pre ++ (tlv t f c ++ post) → StandsAt octets (entry at parent t f c)
-entry_stands pre c post octets t f at parent h is =
+entry_stands : (pre c post octets : List ℕ) (t : TagName) (f : Bool) (at : ℕ) (parent : Option ℕ) → HasHeader t (length c) → at ≡ length pre → octets ≡ pre ++ (tlv t f c ++ post) → StandsAt octets (entry at parent t f c)
+entry_stands pre c post octets t f at parent legal h is =
     let head : List ℕ = header t f (length c) in
     let contents : ℕ = at + length head in
     let past : ℕ = contents + length c in
@@ -37,6 +37,8 @@ entry_stands pre c post octets t f at parent h is =
     let regrouped : pre ++ (tlv t f c ++ post) ≡ (pre ++ head) ++ (c ++ post) = ap (λ (x : List ℕ). pre ++ x) (append_assoc head c post) ∙ sym (append_assoc pre head (c ++ post)) in
     let inner : between contents past octets ≡ c = ap (λ (x : List ℕ). between contents past x) (is ∙ regrouped) ∙ part_at (pre ++ head) c post contents past (omega (arith, h, length-append pre head)) refl in
     record {
+      tag = legal.0;
+      fits = let small = legal.1 in omega arith;
       low = omega arith;
       mid = omega arith;
       high = omega (arith, h, ap length is, length-append pre (tlv t f c ++ post), length-append (tlv t f c) post, length-append head c);
@@ -48,33 +50,33 @@ both_stand octets [] fs h k = k
 both_stand octets (e ∷ es) fs h k = (h.0, both_stand octets es fs h.1 k)
 
 -- each entry of values stands where it says
-entries_stand : (vs : Members) (pre post octets : List ℕ) (at : ℕ) (parent : Option ℕ) (n : ℕ) → at ≡ length pre → octets ≡ pre ++ (spell vs ++ post) → AllByRecursion (StandsAt octets) (entries vs at parent n)
-entries_stand Empty pre post octets at parent n h is = tt
-entries_stand (Primitive t c rest) pre post octets at parent n h is =
+entries_stand : (vs : Members) (pre post octets : List ℕ) (at : ℕ) (parent : Option ℕ) (n : ℕ) → HaveHeaders vs → at ≡ length pre → octets ≡ pre ++ (spell vs ++ post) → AllByRecursion (StandsAt octets) (entries vs at parent n)
+entries_stand Empty pre post octets at parent n legal h is = tt
+entries_stand (Primitive t c rest) pre post octets at parent n legal h is =
     let head : List ℕ = header t false (length c) in
     let split : octets ≡ pre ++ (tlv t false c ++ (spell rest ++ post)) = is ∙ ap (λ (x : List ℕ). pre ++ x) (append_assoc (tlv t false c) (spell rest) post) in
     let after : octets ≡ (pre ++ tlv t false c) ++ (spell rest ++ post) = split ∙ sym (append_assoc pre (tlv t false c) (spell rest ++ post)) in (
-      entry_stands pre c (spell rest ++ post) octets t false at parent h split,
-      entries_stand rest (pre ++ tlv t false c) post octets (at + length head + length c) parent (n + 1) (omega (arith, h, length-append pre (tlv t false c), length-append head c)) after,
+      entry_stands pre c (spell rest ++ post) octets t false at parent legal.0 h split,
+      entries_stand rest (pre ++ tlv t false c) post octets (at + length head + length c) parent (n + 1) legal.1 (omega (arith, h, length-append pre (tlv t false c), length-append head c)) after,
     )
-entries_stand (Constructed t ms rest) pre post octets at parent n h is =
+entries_stand (Constructed t ms rest) pre post octets at parent n legal h is =
     let c : List ℕ = spell ms in
     let head : List ℕ = header t true (length c) in
     let split : octets ≡ pre ++ (tlv t true c ++ (spell rest ++ post)) = is ∙ ap (λ (x : List ℕ). pre ++ x) (append_assoc (tlv t true c) (spell rest) post) in
     let after : octets ≡ (pre ++ tlv t true c) ++ (spell rest ++ post) = split ∙ sym (append_assoc pre (tlv t true c) (spell rest ++ post)) in
     let within : octets ≡ (pre ++ head) ++ (c ++ (spell rest ++ post)) =
     split ∙ ap (λ (x : List ℕ). pre ++ x) (append_assoc head c (spell rest ++ post)) ∙ sym (append_assoc pre head (c ++ (spell rest ++ post))) in (
-      entry_stands pre c (spell rest ++ post) octets t true at parent h split,
+      entry_stands pre c (spell rest ++ post) octets t true at parent legal.0 h split,
       both_stand octets (entries ms (at + length head) (Some n) (n + 1)) (entries rest (at + length head + length c) parent (n + 1 + header_count ms))
-          (entries_stand ms (pre ++ head) (spell rest ++ post) octets (at + length head) (Some n) (n + 1) (omega (arith, h, length-append pre head)) within)
-          (entries_stand rest (pre ++ tlv t true c) post octets (at + length head + length c) parent (n + 1 + header_count ms) (omega (arith, h, length-append pre (tlv t true c), length-append head c)) after),
+          (entries_stand ms (pre ++ head) (spell rest ++ post) octets (at + length head) (Some n) (n + 1) legal.1 (omega (arith, h, length-append pre head)) within)
+          (entries_stand rest (pre ++ tlv t true c) post octets (at + length head + length c) parent (n + 1 + header_count ms) legal.2 (omega (arith, h, length-append pre (tlv t true c), length-append head c)) after),
     )
 
 -- each entry of an index stands where it says
 pub index_stands : {octets : List ℕ} {index : List Entry} → IsIndex octets index → AllByRecursion (StandsAt octets) index
 index_stands {octets} {index} i =
     let is : octets ≡ [] ++ (spell i.members ++ []) = i.spelled ∙ sym (append-nil (spell i.members)) in
-    subst (λ (x : List Entry). AllByRecursion (StandsAt octets) x) (sym i.is) (entries_stand i.members [] [] octets 0 None 0 refl is)
+    subst (λ (x : List Entry). AllByRecursion (StandsAt octets) x) (sym i.is) (entries_stand i.members [] [] octets 0 None 0 i.legal refl is)
 
 -- ---- the values that are in no other
 

@@ -1,9 +1,9 @@
 -- The entries in the middle of a walk: which are there, and which are still to come.
-use Rattle.std.proofs.Common.{◌≡◌, ℕ, zero, suc, ◌+◌, ◌-◌, ◌<◌, ◌≤◌, ◌⊎◌, Bool, true, false, not, List, [], ◌∷◌, ◌++◌, length, take, drop, get_or, reverse, Option, Some, None, refl, sym, ap, ◌∙◌, subst, arith, inl, inr, append_assoc, append-nil, length-append, take-append-drop}
+use Rattle.std.proofs.Common.{◌≡◌, ℕ, zero, suc, ◌+◌, ◌-◌, ◌≤◌, Bool, true, false, not, List, [], ◌∷◌, ◌++◌, length, take, drop, reverse, Option, Some, None, refl, sym, ap, ◌∙◌, subst, arith, append_assoc, append-nil, length-append}
 use Rattle.std.specs.List.{between}
 use Rattle.std.specs.Prelude.{slice_get}
-use Rattle.std.proofs.lemmas.Option.{slice_get_within, slice_get-get_or}
-use Rattle.std.proofs.lemmas.List.{take_all, take_at, reverse-append}
+use Rattle.std.proofs.lemmas.Option.{slice_get-get_or}
+use Rattle.std.proofs.lemmas.List.{reverse-append}
 use Rattle.rpki_der.specs.declared.error.DecodeError.{DecodeError}
 use Rattle.rpki_der.specs.TagName.{TagName}
 use Rattle.rpki_der.specs.Header.{tlv}
@@ -12,11 +12,11 @@ use Rattle.rpki_der.specs.declared.tag.Header.{Header}
 use Rattle.rpki_der.specs.Reading.{Spells}
 use Rattle.rpki_der.specs.Values.{SpellsHeader}
 use Rattle.rpki_der.specs.NestedFault.{IsNestedFault}
-use Rattle.rpki_der.specs.Walk.{HasForm, TakesMemory}
+use Rattle.rpki_der.specs.Walk.{TakesMemory}
 use Rattle.rpki_der.specs.Index.{Entry, entry, entries}
-use Rattle.rpki_der.specs.IndexParts.{IsListed, EndsAt, IsEnd, noted, name_of}
+use Rattle.rpki_der.specs.IndexParts.{IsListed, IsEnd, noted, name_of}
 use Rattle.rpki_der.proofs.MembersLaws.{header, HasHeader}
-use Rattle.rpki_der.proofs.Walking.{BeginsWithHeader, HasFrontAt, HasFirst, AreMembers, Level, Open, Innermost, front_at, first_value, length_part, open_first, open_end, open_primitive, open_constructed, open_fault, top, at_false, at_true, has_value, has_constructed}
+use Rattle.rpki_der.proofs.Walking.{BeginsWithHeader, HasFrontAt, HasFirst, AreMembers, Open, Innermost, front_at, first_value, length_part, open_first, open_end, open_primitive, open_constructed, open_fault, top, at_false, at_true, has_value, has_constructed}
 
 -- ---- entries
 

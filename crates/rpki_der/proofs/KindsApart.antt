@@ -1,5 +1,5 @@
 -- The kinds of refusals of readers of values and leaves exclude one another.
-use Rattle.std.proofs.Common.{◌≡◌, ℕ, ◌⊎◌, ◌<◌, ◌+◌, Bool, List, [], ◌∷◌, ◌++◌, length, refl, sym, ap, ◌∙◌, inl, inr, arith, length-append}
+use Rattle.std.proofs.Common.{◌≡◌, ℕ, ◌⊎◌, ◌<◌, Bool, List, [], ◌∷◌, ◌++◌, length, refl, sym, ap, ◌∙◌, inl, inr, arith, length-append}
 use Rattle.std.proofs.lemmas.List.{append-nil}
 use Rattle.rpki_der.specs.declared.error.ContentError.{ContentError}
 use Rattle.rpki_der.specs.declared.error.DecodeError.{DecodeError}
@@ -10,7 +10,7 @@ use Rattle.rpki_der.specs.TagName.{TagName}
 use Rattle.rpki_der.specs.Header.{IsHeader, header_octets}
 use Rattle.rpki_der.specs.Reading.{Spells, IsCut}
 use Rattle.rpki_der.specs.Values.{SpellsHeader, SpellsContents, IsHeaderFault, IsContentsFault, IsLeafFault}
-use Rattle.rpki_der.specs.Flat.{SpellsFlat, IsFlatFault}
+use Rattle.rpki_der.specs.Flat.{IsFlatFault}
 use Rattle.rpki_der.proofs.HeaderReads.{one-header}
 use Rattle.rpki_der.proofs.ValuesLaws.{value-header}
 use Rattle.rpki_der.proofs.FaultsApart.{beginnings, no-fault-at-header, one-fault-of-lists}

@@ -30,3 +30,4 @@ pub mod LeavesWritten
 pub mod KindsApart
 mod SomeFault
 mod ShortestLaws
+mod IndexReading

@@ -7,7 +7,7 @@ use Rattle.rpki_der.specs.Reading.{Spells, Accepts, Refuses, Refusal, OrMemoryWh
 use Rattle.rpki_der.specs.Header.{tlv}
 use Rattle.rpki_der.specs.Members.{Members, Empty, Primitive, Constructed, spell, HaveHeaders, IsValue, IsValueOf, SpellsValue}
 use Rattle.rpki_der.specs.NestedFault.{IsNestedFault, IsCaptureFault}
-use Rattle.rpki_der.specs.Walk.{HasConstructed, HasEither, SpellsAnyValue, CountsHeaders}
+use Rattle.rpki_der.specs.Walk.{HasEither, SpellsAnyValue, CountsHeaders}
 use Rattle.rpki_der.proofs.ReadingLaws.{UnlessMemory-from, Refusal-weaker, Refusal-or-memory-where}
 use Rattle.rpki_der.proofs.MembersLaws.{one_beginning, half_of, value_some}
 use Rattle.rpki_der.proofs.NestedFaultLaws.{fault_or_value, fault_not_empty, fault_kinds, one_fault}

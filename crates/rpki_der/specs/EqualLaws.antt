@@ -1,5 +1,4 @@
 -- Lemmas: equality of bit strings is an equivalence.
-use Rattle.std.specs.Prelude.{nat_eq}
 use Rattle.std.specs.Cmp.{IsEquivalence}
 use Rattle.std.proofs.lemmas.Cmp.{and_equiv, on_equiv, nat_eq_equiv, nat_list_eq_equiv}
 use Rattle.rpki_der.specs.Equal.{same_bits}

@@ -1,6 +1,6 @@
 -- The index of values: an entry for each header, at every depth, in order of place.
-use Rattle.std.specs.Prelude.{◌≡◌, ℕ, ◌+◌, ◌≤◌, Bool, true, false, List, [], ◌∷◌, ◌++◌, length, Option, Some, None, slice_range}
-use Rattle.rpki_der.specs.TagName.{TagName}
+use Rattle.std.specs.Prelude.{◌≡◌, ℕ, ◌+◌, ◌-◌, ◌^◌, ◌<◌, ◌≤◌, Bool, true, false, List, [], ◌∷◌, ◌++◌, length, Option, Some, None, slice_range}
+use Rattle.rpki_der.specs.TagName.{TagName, IsTag}
 use Rattle.rpki_der.specs.Header.{identifier_octets, length_octets, tlv}
 use Rattle.rpki_der.specs.Members.{Members, Empty, Primitive, Constructed, spell, HaveHeaders, header_count}
 
@@ -38,8 +38,10 @@ pub record IsIndex (octets : List ℕ) (index : List Entry) : Type 0 where
   pub spelled : octets ≡ spell members
   pub is : index ≡ entries members 0 None 0
 
--- The header of an entry stands at its place in the octets, and its contents behind it.
+-- The header of an entry stands at its place in the octets, and its contents after it.
 pub record StandsAt (octets : List ℕ) (e : Entry) : Type 0 where
+  pub tag : IsTag e.tag
+  pub fits : e.past - e.contents < 2 ^ 32
   pub low : e.place ≤ e.contents
   pub mid : e.contents ≤ e.past
   pub high : e.past ≤ length octets

@@ -1,6 +1,6 @@
 -- Lemmas: trees of values that are made of other trees.
-use Rattle.std.specs.Prelude.{◌≡◌, ℕ, Bool, true, false, ◌<◌, ◌^◌, ◌↔◌, List, [], ◌++◌, length, Option, Some, None, refl}
-use Rattle.std.proofs.Common.{sym, ap, ◌∙◌}
+use Rattle.std.specs.Prelude.{◌≡◌, ℕ, Bool, ◌<◌, ◌^◌, ◌↔◌, List, ◌++◌, length, Option, Some, None, refl}
+use Rattle.std.proofs.Common.{ap, ◌∙◌}
 use Rattle.rpki_der.specs.TagName.{TagName}
 use Rattle.rpki_der.specs.Header.{tlv}
 use Rattle.rpki_der.specs.OptionalPart.{optional_octets, optional_tree, OfPart}

@@ -77,7 +77,7 @@ impl Captured {
     pub fn cursor(&self) -> Constructed<'_>
         ensures { left result ≡ self.now }
     {
-        Constructed::new(&self.bytes)
+        Constructed::indexed(&self.bytes, self.headers())
     }
 
     /// The same values, octet for octet. They share the octets.

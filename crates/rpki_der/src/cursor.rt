@@ -1,23 +1,33 @@
 //! A cursor over shared octets.
 
-ghost use Rattle.std.specs.Prelude.{◌≡◌, ◌≢◌, ◌≤◌, ◌<◌, ◌+◌, ◌-◌, ◌^◌, ℕ, List, [], length, take, drop, IsTrue, ◌↔◌, MatchResult, IfOk, IfErr};
+ghost use Rattle.std.specs.Prelude.{◌≡◌, ◌≢◌, ◌≤◌, ◌<◌, ◌+◌, ◌-◌, ◌^◌, ℕ, List, [], length, take, drop, IsTrue, ◌↔◌, MatchResult, IfOk, IfErr, IfSome, slice_range};
+ghost use Rattle.std.specs.List.{AllByRecursion};
+ghost use Rattle.rpki_der.specs.Index.{StandsAt};
+ghost use Rattle.std.proofs.Props.{props};
 
 use crate::error::DecodeError;
 use crate::header::{begins_with, header};
+use crate::index::HeaderEntry;
 use crate::tag::{Header, Steps, Tag};
 use bytes::Bytes;
 use std::alloc::AllocError;
 
 /// What is left of shared octets, or of the contents of a value in them.
 ///
-/// A reader moves the cursor past what it reads. A reader that refuses leaves it where it was.
+/// A reader moves the cursor past what it reads. A reader that refuses leaves it where it was. A cursor on captured values
+/// has their index, and takes from it each header that has an entry, in place of reading it again.
 #[derive(Clone, Copy)]
 pub struct Constructed<'a> {
     source: &'a Bytes,
     start: usize,
     end: usize,
+    /// The index of the source, or no entries where there is none.
+    index: &'a [HeaderEntry],
+    /// The number of the first entry that does not stand before the start.
+    next: usize,
     ghost ordered: { start ≤ end },
     ghost inside: { end ≤ length source.now },
+    ghost stands: { AllByRecursion (StandsAt source.now) index.now } by { Prim.hlevel props },
 }
 
 impl<'a> Constructed<'a> {
@@ -26,14 +36,45 @@ impl<'a> Constructed<'a> {
     ghost use Rattle.rpki_der.specs.Values.{SpellsHeader, HasTag, IsHeaderFault};
 
     /// A cursor on all of the octets.
-    #[tactic(auto, using(crate::proofs::CursorLaws::cuts), unfolding(crate::specs::Cursor::left))]
     pub fn new(source: &'a Bytes) -> Constructed<'a>
+        ensures { left result ≡ source.now }
+    {
+        Constructed::indexed(source, &[])
+    }
+
+    /// A cursor on all of the octets, whose entries stand where they say.
+    #[tactic(auto, using(crate::proofs::CursorLaws::cuts), unfolding(crate::specs::Cursor::left))]
+    pub(crate) fn indexed(source: &'a Bytes, index: &'a [HeaderEntry]) -> Constructed<'a>
+        requires { AllByRecursion (StandsAt source.now) index.now }
         ensures { left result ≡ source.now }
     {
         Constructed {
             source,
             start: 0,
             end: source.len(),
+            index,
+            next: 0,
+        }
+    }
+
+    /// The number of the first entry from `next` on that does not stand before this place.
+    fn entry_from(&self, place: usize) -> usize {
+        let mut next = self.next;
+        while next < self.index.len() && self.index[next].place() < place {
+            next += 1;
+        }
+        next
+    }
+
+    /// The entry of the header at the front, where the index has one.
+    fn entry(&self) -> Option<HeaderEntry>
+        ensures { IfSome result (λ e. StandsAt self.now.source.now e × (e.place ≡ self.now.start) × (e.past ≤ self.now.end)) }
+    {
+        let found = self.index.get(self.next)?;
+        if found.place() == self.start && found.past() <= self.end {
+            Some(*found)
+        } else {
+            None
         }
     }
 
@@ -72,11 +113,15 @@ impl<'a> Constructed<'a> {
             source: self.source,
             start: self.start,
             end: seam,
+            index: self.index,
+            next: self.next,
         };
         let behind = Constructed {
             source: self.source,
             start: seam,
             end: self.end,
+            index: self.index,
+            next: self.entry_from(seam),
         };
         (front, behind)
     }
@@ -92,11 +137,29 @@ impl<'a> Constructed<'a> {
         }
     }
 
+    /// What is left after the header of this entry, which is at the front.
+    #[tactic(auto, unfolding(crate::specs::Cursor::left))]
+    fn inside(&self, entry: HeaderEntry) -> Constructed<'a>
+        requires { StandsAt self.now.source.now entry × (entry.place ≡ self.now.start) × (entry.past ≤ self.now.end) }
+        ensures { left result ≡ slice_range self.now.source.now entry.contents self.now.end }
+    {
+        Constructed {
+            source: self.source,
+            start: entry.contents(),
+            end: self.end,
+            index: self.index,
+            next: self.entry_from(entry.contents()),
+        }
+    }
+
     /// The header at the front, and a cursor on what is behind.
     pub(crate) fn after_header(&self) -> Result<(Header, Constructed<'a>), DecodeError>
         ensures ok { IfOk result (λ x. Accepts SpellsHeader (left self.now) x.0 (left x.1)) }
         ensures err { IfErr result (λ e. Refuses SpellsHeader (left self.now) × IsHeaderFault (left self.now) e) }
     {
+        if let Some(entry) = self.entry() {
+            return Ok((entry.header(), self.inside(entry)));
+        }
         match header(self.rest()) {
             Ok((found, rest)) => Ok((
                 found,
@@ -104,6 +167,8 @@ impl<'a> Constructed<'a> {
                     source: self.source,
                     start: self.end - rest.len(),
                     end: self.end,
+                    index: self.index,
+                    next: self.next,
                 },
             )),
             Err(e) => Err(e),

@@ -1,6 +1,6 @@
 //! Entries of an index of headers.
 
-ghost use Rattle.std.specs.Prelude.{◌≡◌, ◌+◌, ◌<◌, ◌^◌, None, Some};
+ghost use Rattle.std.specs.Prelude.{◌≡◌, ◌+◌, ◌-◌, ◌<◌, ◌^◌, None, Some};
 
 use crate::tag::{Header, Tag};
 use std::marker::Model;
@@ -46,6 +46,17 @@ impl HeaderEntry {
             size,
             constructed: header.constructed,
             is_inner: parent.is_some(),
+        }
+    }
+
+    /// The header.
+    pub(crate) fn header(&self) -> Header
+        ensures { result ≡ record { tag = self.now.tag; constructed = self.now.constructed; length = self.now.past - self.now.contents } }
+    {
+        Header {
+            tag: self.tag,
+            constructed: self.constructed,
+            length: self.length,
         }
     }
 

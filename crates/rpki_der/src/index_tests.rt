@@ -91,3 +91,35 @@ fn written_values_have_theirs(rt: HostRuntime) -> Result<(), Fail> {
     assert!(rt; are_wanted(copy.headers(), &wanted) && copy.values() == 2);
     Ok(())
 }
+
+/// The identifier and the text of the one attribute of a name.
+fn attribute_of<'a>(
+    name: Constructed<'a>,
+) -> Result<(Oid<&'a [u8]>, PrintableString<'a>), DecodeError> {
+    let mut name = name;
+    let mut relative = name.take_sequence()?.take_set()?;
+    let mut attribute = relative.take_sequence()?;
+    let identifier = attribute.take_oid()?;
+    let text = attribute.take_printable()?;
+    attribute.finish()?;
+    relative.finish()?;
+    name.finish()?;
+    Ok((identifier, text))
+}
+
+#[test]
+fn a_cursor_on_captured_values_reads_them(rt: HostRuntime) {
+    let source: Bytes = Bytes::from_static(
+        b"\x30\x0c\x31\x0a\x30\x08\x06\x03\x55\x04\x03\x13\x01\x41",
+    );
+    let plain = attribute_of(Constructed::new(&source)).is_ok_and(|found| found.0.0
+        == [85, 4, 3].as_slice()
+        && found.1.as_str() == "A");
+    assert!(rt; plain);
+    let captured = Constructed::new(&source).capture_one(rt.alloc());
+    let indexed = captured.is_ok_and(|name| {
+        attribute_of(name.cursor()).is_ok_and(|found| found.0.0 == [85, 4, 3].as_slice()
+            && found.1.as_str() == "A")
+    });
+    assert!(rt; indexed);
+}

@@ -1,6 +1,6 @@
 use Rattle.std.proofs.Common.{◌<◌, length, arith, ap}
 use Rattle.rpki_der.specs.NestedFault.{AtHeader, AtContents}
-use Rattle.std.proofs.Common.{◌≡◌, ◌-◌, ◌∙◌, sym, length-append}
+use Rattle.std.proofs.Common.{length-append}
 use Rattle.rpki_der.proofs.MembersLaws.{few_octets}
 use Rattle.rpki_der.proofs.walk.enter.Goals as goal
 

@@ -1,4 +1,4 @@
-use Rattle.std.proofs.Common.{◌≡◌, ◌∙◌, ℕ, List, sym, subst}
+use Rattle.std.proofs.Common.{◌∙◌, ℕ, List, sym, subst}
 use Rattle.std.specs.List.{AllByRecursion}
 use Rattle.rpki_der.specs.Index.{Entry, IsIndex, StandsAt}
 use Rattle.rpki_der.proofs.IndexLaws.{one_index, index_stands}

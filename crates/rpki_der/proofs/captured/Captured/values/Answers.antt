@@ -1,4 +1,4 @@
-use Rattle.std.proofs.Common.{◌≡◌, ◌∙◌, ℕ, List, ap, subst}
+use Rattle.std.proofs.Common.{◌∙◌, ℕ, List, ap, subst}
 use Rattle.std.specs.Prelude.{count_by}
 use Rattle.rpki_der.specs.Members.{AreValues}
 use Rattle.rpki_der.specs.Index.{Entry}

@@ -16,7 +16,7 @@ invariant_of-front c =
     let self = c.args.self.now in
     let within = seam-within self.source.now self.start self.end c.args.at self.ordered self.inside c.requires in
     let inside = self.inside in
-    record { ordered = omega arith; inside = omega arith }
+    record { ordered = omega arith; inside = omega arith; stands = self.stands }
 
 pub invariant_of-behind : goal.invariant_of-behind
 unfolding left
@@ -24,7 +24,7 @@ invariant_of-behind c =
     let self = c.args.self.now in
     let within = seam-within self.source.now self.start self.end c.args.at self.ordered self.inside c.requires in
     let inside = self.inside in
-    record { ordered = omega arith; inside = omega arith }
+    record { ordered = omega arith; inside = omega arith; stands = self.stands }
 
 pub returns-clause-front : goal.returns-clause-front
 unfolding left
