@@ -26,6 +26,7 @@ pub mod PrimitiveParts
 pub mod OptionalPart
 pub mod Tree
 pub mod LeafLaws
+pub mod Inside
 -- Lemmas, which the prover checks: ghost items of impls cite them.
 pub mod NumberLaws
 pub mod EqualLaws
