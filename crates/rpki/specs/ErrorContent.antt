@@ -1,5 +1,5 @@
 -- What the errors of the repository hold.
-use Rattle.std.specs.Prelude.{ℕ, List, Option, Some, None}
+use Rattle.std.specs.Prelude.{◌≡◌, ℕ, Bool, List, Option, Some, None, IsTrue}
 use Rattle.rpki_der.specs.ErrorText.{text_of}
 use Rattle.rpki_der.specs.declared.error.ContentError.{ContentError}
 use Rattle.rpki_der.specs.declared.error.DecodeError.{DecodeError}
@@ -31,3 +31,15 @@ abbrev pub validation_text : ValidationError → Option (List ℕ)
 validation_text (Decoding e) = decode_text e
 validation_text (Inspection e) = Some (text_of (content_of e))
 validation_text (Verification e) = Some (text_of (verification_content e))
+
+-- errors of one kind: equal refusals, or the same text
+abbrev pub HaveSameContent : (DecodeError → DecodeError → Bool) → ValidationError → ValidationError → Type 0
+HaveSameContent same (Decoding d) (Decoding e) = IsTrue (same d e)
+HaveSameContent same (Inspection d) (Inspection e) = text_of (content_of d) ≡ text_of (content_of e)
+HaveSameContent same (Verification d) (Verification e) = text_of (verification_content d) ≡ text_of (verification_content e)
+HaveSameContent same (Decoding d) (Inspection e) = ⊥
+HaveSameContent same (Decoding d) (Verification e) = ⊥
+HaveSameContent same (Inspection d) (Decoding e) = ⊥
+HaveSameContent same (Inspection d) (Verification e) = ⊥
+HaveSameContent same (Verification d) (Decoding e) = ⊥
+HaveSameContent same (Verification d) (Inspection e) = ⊥

@@ -1,27 +1,65 @@
-//! Laws of algorithms, of signed data and of keys: each function does nothing, and its contract is the law.
+//! Laws of algorithms, of signed data, of keys and of errors: each function does nothing, and its contract is the law.
 
 ghost use Rattle.std.specs.Prelude.{◌≡◌, ◌↔◌, ℕ, Bool, true, false, List, length, IsTrue};
+ghost use Rattle.std.specs.Ordering.{nat_cmp};
+ghost use Rattle.std.specs.Cmp.Lexicographic.{slice_cmp};
 ghost use Rattle.rpki_der.specs.TagName.{octet_string};
 ghost use Rattle.rpki_der.specs.Header.{tlv};
-ghost use Rattle.rpki.specs.Oids.{sha256_with_rsa_encryption};
-ghost use Rattle.rpki.specs.Algorithm.{SpellsAlgorithm};
+ghost use Rattle.rpki_der.specs.ErrorText.{text_of};
+ghost use Rattle.rpki_der.specs.declared.error.DecodeError.{DecodeError};
 ghost use Rattle.rpki.specs.SignedData.{SignedParts, SpellsSigned, DifferInCount};
-ghost use Rattle.rpki.specs.SignedEqual.{same_signed};
 ghost use Rattle.rpki.specs.KeyIdentifier.{SpellsKeyIdentifier};
 ghost use Rattle.rpki.specs.PublicKey.{KeyParts};
 ghost use Rattle.rpki.specs.Signature.{SignatureParts};
+ghost use Rattle.rpki.specs.ErrorContent.{content_of, verification_content, HaveSameContent};
+ghost use Rattle.rpki.specs.declared.crypto.SigningAlgorithm.{SigningAlgorithm};
+ghost use Rattle.rpki.specs.declared.crypto.digest.DigestAlgorithm.{DigestAlgorithm};
+ghost use Rattle.rpki.specs.declared.crypto.keys.PublicKeyFormat.{PublicKeyFormat};
+ghost use Rattle.rpki.specs.declared.crypto.keys.PublicKeyFormat.TheVariants.{Rsa, EcdsaP256};
+ghost use Rattle.rpki.specs.declared.crypto.keys.verification.SignatureVerificationError.{SignatureVerificationError};
+ghost use Rattle.rpki.specs.declared.repository.error.InspectionError.{InspectionError};
+ghost use Rattle.rpki.specs.declared.repository.error.VerificationError.{VerificationError};
+ghost use Rattle.rpki.specs.declared.repository.error.ValidationError.{ValidationError};
 
-use crate::crypto::{KeyIdentifier, PublicKey, Signature};
+use crate::crypto::{
+    BgpsecSignatureAlgorithm, DigestAlgorithm, KeyIdentifier, PublicKey, PublicKeyFormat,
+    RpkiSignatureAlgorithm, Signature, SignatureAlgorithm, SignatureVerificationError,
+    SigningAlgorithm,
+};
+use crate::repository::error::{InspectionError, ValidationError, VerificationError};
+use crate::repository::x509::{Name, SignedData};
+use rpki_der::DecodeError;
+use std::hash::Hash;
 
 /// The algorithm of the RPKI has one spelling with parameters, and one without.
 pub fn rpki_algorithm_has_one_spelling()
-    ensures { (present : Bool) (s t : List ℕ) → SpellsAlgorithm sha256_with_rsa_encryption present s → SpellsAlgorithm sha256_with_rsa_encryption present t → s ≡ t }
+    ensures { (present : Bool) (s t : List ℕ)
+        → ⟦<RpkiSignatureAlgorithm as SignatureAlgorithm>⟧.spells present s
+        → ⟦<RpkiSignatureAlgorithm as SignatureAlgorithm>⟧.spells present t → s ≡ t }
+{}
+
+/// The algorithm of the RPKI has RSA keys, and that of BGPsec has P-256 keys, however they are spelled.
+pub fn algorithms_have_formats()
+    ensures rpki { (a : Bool) → ⟦<RpkiSignatureAlgorithm as SignatureAlgorithm>⟧.format a ≡ Rsa }
+    ensures bgpsec { ⟦<BgpsecSignatureAlgorithm as SignatureAlgorithm>⟧.format tt ≡ EcdsaP256 }
+{}
+
+/// Algorithms are written as the same octets exactly where their normal forms are equal.
+pub fn algorithms_are_written_apart<Alg: SignatureAlgorithm>()
+    ensures { (a b : Alg) → (Alg.written a ≡ Alg.written b) ↔ (Alg.norm a ≡ Alg.norm b) }
 {}
 
 /// Two inputs of equal signed data of the RPKI are as long, and differ at most in the count of unused bits.
 pub fn equal_signed_data_differ_in_count()
-    ensures { (v w : SignedParts Bool) (a b : List ℕ) → IsTrue (same_signed v w)
-        → SpellsSigned (SpellsAlgorithm sha256_with_rsa_encryption) v a → SpellsSigned (SpellsAlgorithm sha256_with_rsa_encryption) w b → DifferInCount v.value a b }
+    ensures { (v w : SignedParts Bool) (a b : List ℕ)
+        → IsTrue (⟦<SignedData<RpkiSignatureAlgorithm> as PartialEq>⟧.eq v w)
+        → SpellsSigned ⟦<RpkiSignatureAlgorithm as SignatureAlgorithm>⟧.spells v a
+        → SpellsSigned ⟦<RpkiSignatureAlgorithm as SignatureAlgorithm>⟧.spells w b → DifferInCount v.value a b }
+{}
+
+/// Signed data of the RPKI is equal where the slices, the algorithms and the octets of the signatures are.
+pub fn equal_signed_data_have_equal_parts()
+    ensures { (v w : SignedParts Bool) → IsTrue (⟦<SignedData<RpkiSignatureAlgorithm> as PartialEq>⟧.eq v w) ↔ (v ≡ w) }
 {}
 
 /// A key identifier that is written is read as itself, and two are written as the same octets where they are equal
@@ -33,6 +71,15 @@ pub fn key_identifiers_are_read_back(identifier: &KeyIdentifier)
     let _ = identifier.as_slice();
 }
 
+/// Key identifiers are equal where their octets are, have the order of their octets, and are hashed as the same
+/// octets where they are equal alone.
+pub fn key_identifiers_go_by_their_octets()
+    ensures equal { (k l : List ℕ) → IsTrue (⟦<KeyIdentifier as PartialEq>⟧.eq k l) ↔ (k ≡ l) }
+    ensures order { (k l : List ℕ) → ⟦<KeyIdentifier as Ord>⟧.cmp k l ≡ slice_cmp nat_cmp k l }
+    ensures hash { (k l : List ℕ)
+        → (⟦<KeyIdentifier as Hash>⟧.hash_input k ≡ ⟦<KeyIdentifier as Hash>⟧.hash_input l) ↔ (k ≡ l) }
+{}
+
 /// Public keys are equal where their formats, their octets and their counts of unused bits are.
 pub fn equal_public_keys_have_equal_parts()
     ensures { (k l : KeyParts) → IsTrue (⟦<PublicKey as PartialEq>⟧.eq k l) ↔ (k ≡ l) }
@@ -42,4 +89,33 @@ pub fn equal_public_keys_have_equal_parts()
 /// same.
 pub fn equal_signatures_have_equal_parts<Alg: PartialEq>()
     ensures { (s t : SignatureParts Alg) → IsTrue (⟦<Signature<Alg> as PartialEq>⟧.eq s t) ↔ (IsTrue (Alg.eq s.algorithm t.algorithm) × (s.value ≡ t.value)) }
+{}
+
+/// Names are equal where their octets are.
+pub fn equal_names_have_equal_octets()
+    ensures { (m n : List ℕ) → IsTrue (⟦<Name as PartialEq>⟧.eq m n) ↔ (m ≡ n) }
+{}
+
+/// Algorithms and formats are equal to themselves alone. Of the RPKI's algorithm it counts whether parameters were
+/// present, in equality and in a hash; the algorithms of BGPsec and of digests have one value each.
+pub fn algorithms_are_compared_by_their_values()
+    ensures signing { (a b : SigningAlgorithm) → IsTrue (⟦<SigningAlgorithm as PartialEq>⟧.eq a b) ↔ (a ≡ b) }
+    ensures format { (a b : PublicKeyFormat) → IsTrue (⟦<PublicKeyFormat as PartialEq>⟧.eq a b) ↔ (a ≡ b) }
+    ensures rpki { (a b : Bool) → IsTrue (⟦<RpkiSignatureAlgorithm as PartialEq>⟧.eq a b) ↔ (a ≡ b) }
+    ensures rpki_hash { (a b : Bool)
+        → (⟦<RpkiSignatureAlgorithm as Hash>⟧.hash_input a ≡ ⟦<RpkiSignatureAlgorithm as Hash>⟧.hash_input b) ↔ (a ≡ b) }
+    ensures bgpsec { IsTrue (⟦<BgpsecSignatureAlgorithm as PartialEq>⟧.eq tt tt) }
+    ensures digest { (a b : DigestAlgorithm) → IsTrue (⟦<DigestAlgorithm as PartialEq>⟧.eq a b) }
+{}
+
+/// Errors are equal where they are of one kind and have the same text.
+pub fn equal_errors_have_equal_texts()
+    ensures inspection { (d e : InspectionError)
+        → IsTrue (⟦<InspectionError as PartialEq>⟧.eq d e) ↔ (text_of (content_of d) ≡ text_of (content_of e)) }
+    ensures verification { (d e : VerificationError)
+        → IsTrue (⟦<VerificationError as PartialEq>⟧.eq d e)
+            ↔ (text_of (verification_content d) ≡ text_of (verification_content e)) }
+    ensures validation { (d e : ValidationError)
+        → IsTrue (⟦<ValidationError as PartialEq>⟧.eq d e) ↔ HaveSameContent (⟦<DecodeError as PartialEq>⟧.eq) d e }
+    ensures signature { (d e : SignatureVerificationError) → IsTrue (⟦<SignatureVerificationError as PartialEq>⟧.eq d e) }
 {}

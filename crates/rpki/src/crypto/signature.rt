@@ -25,8 +25,9 @@ use std::marker::Model;
 
 /// An algorithm of signatures, as certificates and signed data name it by an algorithm identifier.
 ///
-/// A type of one's own proves the five laws: a spelling is one value and belongs to one algorithm; what is written
-/// spells the normal form; and the normal form is its own normal form, written in the same way.
+/// A type of one's own proves the six laws: a spelling is one value and belongs to one algorithm; what is written
+/// spells the normal form; and the normal form is its own normal form, written in the same way, with keys of the same
+/// format.
 pub trait SignatureAlgorithm: Sized {
     /// What writes the algorithm identifier.
     type Encoder: Values;
@@ -79,6 +80,9 @@ pub trait SignatureAlgorithm: Sized {
 
     /// The normal form is written as the algorithm is.
     ghost written_norm: { (a : Self) → written (norm a) ≡ written a };
+
+    /// The normal form has keys of the same format.
+    ghost norm_format: { (a : Self) → format (norm a) ≡ format a };
 }
 
 /// The algorithm of the RPKI: RSA with SHA-256 (RFC 7935 2). It remembers whether the parameters, a NULL, were there.
@@ -137,6 +141,8 @@ impl SignatureAlgorithm for RpkiSignatureAlgorithm {
     ghost norm_norm = { λ _. refl };
 
     ghost written_norm = { λ _. refl };
+
+    ghost norm_format = { λ _. refl };
 
     fn signing_algorithm(&self) -> SigningAlgorithm {
         SigningAlgorithm::RsaSha256

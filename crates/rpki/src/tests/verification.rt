@@ -76,6 +76,8 @@ impl SignatureAlgorithm for OwnAlgorithm {
 
     ghost written_norm = { λ _. refl };
 
+    ghost norm_format = { λ _. refl };
+
     fn signing_algorithm(&self) -> SigningAlgorithm {
         SigningAlgorithm::RsaSha256
     }

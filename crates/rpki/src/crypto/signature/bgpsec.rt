@@ -57,6 +57,8 @@ impl SignatureAlgorithm for BgpsecSignatureAlgorithm {
 
     ghost written_norm = { λ _. refl };
 
+    ghost norm_format = { λ _. refl };
+
     fn signing_algorithm(&self) -> SigningAlgorithm {
         SigningAlgorithm::EcdsaP256Sha256
     }
