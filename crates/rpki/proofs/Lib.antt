@@ -11,6 +11,7 @@ pub mod KeyIdentifierLaws
 pub mod EqualLaws
 pub mod SubjectLaws
 pub mod StrictSubject
+pub mod MemoryLaws
 pub mod NameLaws
 pub mod InspectionLaws
 pub mod NameOne

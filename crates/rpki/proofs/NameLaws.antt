@@ -1,19 +1,22 @@
 -- Lists of values, one after another, as a reader of one after another finds them; and what names are.
-use Rattle.std.proofs.Common.{◌≡◌, ◌≢◌, ◌↔◌, IsTrue, ℕ, ◌+◌, ◌<◌, ◌≤◌, Bool, true, false, List, [], ◌∷◌, length, refl, ap, subst, arith, length-append}
+use Rattle.std.proofs.Common.{◌≡◌, ◌≢◌, ◌↔◌, IsTrue, ℕ, ◌+◌, ◌<◌, ◌≤◌, Bool, true, false, List, [], ◌∷◌, ◌++◌, length, refl, sym, ap, subst, ◌∙◌, append_assoc, arith, length-append}
+use Rattle.std.proofs.lemmas.List.{append-nil}
 use Rattle.rpki_der.specs.declared.error.DecodeError.{DecodeError}
 use Rattle.rpki_der.specs.TagName.{TagName, sequence, set, oid}
-use Rattle.rpki_der.specs.Reading.{Spells, Accepts, Refuses, Refusal, UnlessMemory, SpellsNothing}
+use Rattle.rpki_der.specs.Reading.{Spells, Accepts, Refuses, Refusal, UnlessMemory, SpellsNothing, AnyFault, OrMemoryWhere}
 use Rattle.rpki_der.specs.Values.{SpellsContents, SpellsLeaf, GivesOuterFault, IsOuterFault}
 use Rattle.rpki_der.specs.Leaves.{IsOidOf}
 use Rattle.rpki_der.specs.Members.{IsValue, IsValueList, SpellsValue}
 use Rattle.rpki_der.proofs.MembersLaws.{value_some}
-use Rattle.rpki_der.specs.Walk.{SpellsAnyValue}
+use Rattle.rpki_der.specs.Walk.{SpellsAnyValue, HasEither}
 use Rattle.rpki_der.specs.Joined.{values_append, no_values}
 use Rattle.rpki_der.proofs.ReadingLaws.{UnlessMemory-weaker}
 use Rattle.rpki_der.proofs.EncodeLaws.{tlv_at_least}
 use Rattle.rpki_der.proofs.LeafValues.{leaf_value_alone, composed_value_alone}
 use Rattle.rpki_der.proofs.LeavesLaws.{leaf-value}
 use Rattle.rpki.specs.Name.{Attribute, attribute_of, IsIdentifierThen, IsAttribute, SpellsAttribute, SpellsEach, SpellsSome, SpellsRelative, SpellsName, IsName, SpellsNameOctets, SpellsAny}
+use Rattle.rpki.specs.NameValue.{HasAfter, HasAttributeValue, HasRelativeValue, HasNameValue}
+use Rattle.rpki.proofs.MemoryLaws.{no-memory, part-memory, value-either}
 
 -- ---- whichever value is spelled
 
@@ -45,17 +48,40 @@ leaf-nowhere t f C s v r e h = omega (arith, leaf-shorter t f C s v r h, ap leng
 abbrev pub IsEach : {V : Type 0} → TagName → Bool → (V → List ℕ → Type 0) → List ℕ → Type 0
 IsEach {V} t f C p = (vs : List V) × SpellsEach (SpellsLeaf t f C) vs p
 
--- what is left is such a list exactly where the whole is
+-- such a list, one longer
+each-more : {V : Type 0} (G : V → List ℕ → Type 0) (vs : List V) (p front : List ℕ) (v : V) → SpellsEach G vs p → G v front → SpellsEach G (vs ++ (v ∷ [])) (p ++ front)
+each-more G [] p front v h k = ([], record { front = front; parts = ap (λ (q : List ℕ). q ++ front) h ∙ sym (append-nil front); spelled = k }, refl)
+each-more G (w ∷ vs) p front v h k =
+    (h.0 ++ front, record { front = h.1.front; parts = ap (λ (q : List ℕ). q ++ front) h.1.parts ∙ append_assoc h.1.front h.0 front; spelled = h.1.spelled }, each-more G vs h.0 front v h.2 k)
+
+-- what is left stands behind such a list, and is one exactly where the whole is
 pub record Remains {V : Type 0} (t : TagName) (f : Bool) (C : V → List ℕ → Type 0) (c m : List ℕ) : Type 0 where
   pub whole : IsEach t f C m → IsEach t f C c
   pub rest : IsEach t f C c → IsEach t f C m
+  pub before : HasAfter (SpellsLeaf t f C) (λ (r : List ℕ). r ≡ m) c
 
 pub remains-all : {V : Type 0} (t : TagName) (f : Bool) (C : V → List ℕ → Type 0) (c : List ℕ) → Remains t f C c c
-remains-all t f C c = record { whole = λ h. h; rest = λ h. h }
+remains-all t f C c = record { whole = λ h. h; rest = λ h. h; before = ([], [], c, refl, refl, refl) }
+
+-- what begins what is left begins behind such a list
+pub remains-after : {V : Type 0} (t : TagName) (f : Bool) (C : V → List ℕ → Type 0) (P : List ℕ → Type 0) (c m : List ℕ) → Remains t f C c m → P m → HasAfter (SpellsLeaf t f C) P c
+remains-after t f C P c m h p = let (vs, front, r, each, parts, same) = h.before in (vs, front, r, each, parts, subst P (sym same) p)
 
 pub remains-then : {V : Type 0} (t : TagName) (f : Bool) (C : V → List ℕ → Type 0) (c m r : List ℕ) → (m ≡ [] → ⊥) → Remains t f C c m → Accepts (SpellsLeaf t f (SpellsAny C)) m tt r → Remains t f C c r
-remains-then {V} t f C c m r some h a = record { whole = λ k. h.whole (longer k); rest = λ k. shorter (h.rest k) }
+remains-then {V} t f C c m r some h a = record { whole = λ k. h.whole (longer k); rest = λ k. shorter (h.rest k); before = further }
   where
+    further : HasAfter (SpellsLeaf t f C) (λ (q : List ℕ). q ≡ r) c
+    further =
+        let (vs, front, q, each, parts, same) = h.before in
+        let g = any-leaf t f C a.spells.front a.spells.spelled in (
+          vs ++ (g.0 ∷ []),
+          front ++ a.spells.front,
+          r,
+          each-more (SpellsLeaf t f C) vs front a.spells.front g.0 each g.1,
+          parts ∙ ap (λ (p : List ℕ). front ++ p) (same ∙ a.spells.parts) ∙ sym (append_assoc front a.spells.front r),
+          refl,
+        )
+
     longer : IsEach t f C r → IsEach t f C m
     longer k =
         let g = any-leaf t f C a.spells.front a.spells.spelled in
@@ -116,11 +142,11 @@ any-identified s r h =
     let g = any-leaf sequence true IsAttribute h.front h.spelled in
     (g.0, attribute-identified s g.0 r (record { front = h.front; parts = h.parts; spelled = g.1 }), g.1.spelled.one)
 
-pub attribute-unidentified : (s r : List ℕ) (e : DecodeError) → Refusal (SpellsLeaf sequence true IsIdentifierThen) (IsOuterFault sequence true) s r e → Refusal (SpellsLeaf sequence true (SpellsAny IsAttribute)) (GivesOuterFault sequence true) s s e
+pub attribute-unidentified : (s r : List ℕ) (e : DecodeError) → Refusal (SpellsLeaf sequence true IsIdentifierThen) (IsOuterFault sequence true) s r e → Refusal (SpellsLeaf sequence true (SpellsAny IsAttribute)) (OrMemoryWhere HasAttributeValue (GivesOuterFault sequence true)) s s e
 attribute-unidentified s r e h = record {
   unchanged = refl;
   refuses = UnlessMemory-weaker e (λ none x q k. let g = any-identified s q k in none g.0 q g.1) h.refuses;
-  kind = h.kind.kind;
+  kind = no-memory HasAttributeValue (GivesOuterFault sequence true) s e h.kind.other h.kind.kind;
 }
 
 pub attribute-accepted : (s r : List ℕ) (a : Attribute) → Accepts (SpellsLeaf sequence true IsIdentifierThen) s a r → IsValue a.value → Accepts (SpellsLeaf sequence true (SpellsAny IsAttribute)) s tt r
@@ -133,13 +159,15 @@ attribute-accepted s r a h one = record {
   only = λ w q k. let g = any-identified s q k in (refl, (h.only g.0 q g.1).1);
 }
 
-pub attribute-valueless : (s r : List ℕ) (a : Attribute) (e : DecodeError) → Accepts (SpellsLeaf sequence true IsIdentifierThen) s a r → UnlessMemory e (SpellsNothing SpellsAnyValue a.value) → Refusal (SpellsLeaf sequence true (SpellsAny IsAttribute)) (GivesOuterFault sequence true) s s e
-attribute-valueless s r a e h k = record {
+pub attribute-valueless : (s r : List ℕ) (a : Attribute) (e : DecodeError) → Accepts (SpellsLeaf sequence true IsIdentifierThen) s a r → UnlessMemory e (SpellsNothing SpellsAnyValue a.value) × OrMemoryWhere HasEither AnyFault a.value e
+    → Refusal (SpellsLeaf sequence true (SpellsAny IsAttribute)) (OrMemoryWhere HasAttributeValue (GivesOuterFault sequence true)) s s e
+attribute-valueless s r a e h (k, m) = record {
   unchanged = refl;
   refuses = UnlessMemory-weaker e (λ none x q l. let g = any-identified s q l in none tt (subst (λ (w : Attribute). IsValue w.value) (h.only g.0 q g.1).0 g.2)) k;
-  kind = λ none.
-      let l = leaf-value sequence true IsIdentifierThen s a r h.spells in
-      absurd (none l.0 r l.1);
+  kind =
+    let l = leaf-value sequence true IsIdentifierThen s a r h.spells in
+    part-memory HasEither HasAttributeValue AnyFault (GivesOuterFault sequence true) a.value s e
+    (λ v. (l.0, r, l.1, (a, l.2, v))) m (λ none. absurd (none l.0 r l.1));
 }
 
 -- ---- a name is one value
@@ -191,18 +219,43 @@ name-captured s r v q a b = record {
   only = λ w p h. b.only w p (octets-value s w p h);
 }
 
-pub name-refused : (s r : List ℕ) (e : DecodeError) → Refusal AnyName (GivesOuterFault sequence true) s r e → Refusal SpellsNameOctets (GivesOuterFault sequence true) s s e
+pub name-refused : (s r : List ℕ) (e : DecodeError) → Refusal AnyName (OrMemoryWhere HasNameValue (GivesOuterFault sequence true)) s r e
+    → Refusal SpellsNameOctets (OrMemoryWhere HasNameValue (GivesOuterFault sequence true)) s s e
 name-refused s r e h = record {
   unchanged = refl;
   refuses = UnlessMemory-weaker e (λ none v q k. none tt q (octets-any s v q k)) h.refuses;
   kind = h.kind;
 }
 
-pub name-uncaptured : {K : List ℕ → DecodeError → Type 0} (s r q : List ℕ) (e : DecodeError) → Accepts AnyName s tt r → Refusal SpellsValue K s q e → Refusal SpellsNameOctets (GivesOuterFault sequence true) s q e
-name-uncaptured s r q e a h = record {
+-- a name has an attribute, which has a value
+
+attribute-found : (s : List ℕ) (a : Attribute) (r : List ℕ) → Spells SpellsAttribute s a r → HasAttributeValue s
+attribute-found s a r h =
+    let l = leaf-value sequence true IsAttribute s a r h in
+    (l.0, r, l.1, (a, l.2.identified, value-either a.value l.2.one))
+
+relative-found : (s : List ℕ) (xs : List Attribute) (r : List ℕ) → Spells SpellsRelative s xs r → HasRelativeValue s
+relative-found s xs r h = let l = leaf-value set true (SpellsSome SpellsAttribute) s xs r h in (l.0, r, l.1, first xs l.2)
+  where
+    first : {c : List ℕ} (xs : List Attribute) → SpellsSome SpellsAttribute xs c → HasAfter SpellsAttribute HasAttributeValue c
+    first [] k = absurd (k.some refl)
+    first {c} (x ∷ xs) k = ([], [], c, refl, refl, attribute-found c x k.each.0 k.each.1)
+
+pub name-found : (s r : List ℕ) → Spells AnyName s tt r → HasNameValue s
+name-found s r h = let l = leaf-value sequence true (SpellsAny (SpellsSome SpellsRelative)) s tt r h in (l.0, r, l.1, first l.2.0 l.2.1)
+  where
+    first : {c : List ℕ} (parts : List (List Attribute)) → SpellsSome SpellsRelative parts c → HasAfter SpellsRelative HasRelativeValue c
+    first [] k = absurd (k.some refl)
+    first {c} (x ∷ parts) k = ([], [], c, refl, refl, relative-found c x k.each.0 k.each.1)
+
+pub name-uncaptured : (K : List ℕ → DecodeError → Type 0) (s r q : List ℕ) (e : DecodeError) → Accepts AnyName s tt r → Refusal SpellsValue (OrMemoryWhere HasEither K) s q e
+    → Refusal SpellsNameOctets (OrMemoryWhere HasNameValue (GivesOuterFault sequence true)) s q e
+name-uncaptured K s r q e a h = record {
   unchanged = h.unchanged;
   refuses = UnlessMemory-weaker e (λ none v p k. none v p (octets-value s v p k)) h.refuses;
-  kind = λ none. let l = leaf-value sequence true (SpellsAny (SpellsSome SpellsRelative)) s tt r a.spells in absurd (none l.0 r l.1);
+  kind =
+    let l = leaf-value sequence true (SpellsAny (SpellsSome SpellsRelative)) s tt r a.spells in
+    part-memory HasEither HasNameValue K (GivesOuterFault sequence true) s s e (λ v. name-found s r a.spells) h.kind (λ none. absurd (none l.0 r l.1));
 }
 
 -- ---- whether one value is left

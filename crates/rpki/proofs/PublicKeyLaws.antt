@@ -3,7 +3,7 @@ use Rattle.std.proofs.Common.{◌≡◌, ◌↔◌, ℕ, ◌+◌, ◌<◌, ◌�
 use Rattle.rpki_der.specs.declared.error.DecodeError.{DecodeError}
 use Rattle.rpki_der.specs.TagName.{IsTag, oid, null, sequence, bit_string, integer}
 use Rattle.rpki_der.specs.Header.{tlv}
-use Rattle.rpki_der.specs.Reading.{Spells, Refusal, SpellsNothing, UnlessMemory, TakesNoMemory, IsWholeFault}
+use Rattle.rpki_der.specs.Reading.{Spells, Refusal, SpellsNothing, UnlessMemory, TakesNoMemory, IsWholeFault, Finds}
 use Rattle.rpki_der.specs.Values.{SpellsLeaf, GivesOuterFault, IsOuterFault}
 use Rattle.rpki_der.specs.Leaves.{Bits, AreBits, IsBits, bits_of}
 use Rattle.rpki_der.specs.Contents.{bits_contents}
@@ -21,6 +21,7 @@ use Rattle.rpki.specs.InOrder.{SpellsBoth}
 use Rattle.rpki.specs.KeyFormat.{SpellsFormat, format_contents, format_octets}
 use Rattle.rpki.specs.PublicKey.{KeyParts, key_of, IsKeyContents, SpellsKey, key_contents, key_octets, SpellsRsaNumbers, SpellsRsaBits, IsRsaKey}
 use Rattle.rpki.proofs.FormatLaws.{format-short, format-spelled}
+use Rattle.rpki.proofs.MemoryLaws.{both-found}
 
 -- ---- keys that are written
 
@@ -153,3 +154,9 @@ pub rsa-bits : (modulus exponent m n octets : List ℕ) → IsMagnitude m → Is
 rsa-bits modulus exponent m n octets p q short e f is =
     let h : SpellsRsaNumbers (number_of m) (number_of n) octets = rw is (numbers-spelled m n p q short) in
     rw (← e, ← f) h
+
+-- a format in front of bits
+pub key-found : (s m : List ℕ) (f : PublicKeyFormat) → Spells SpellsFormat s f m → Finds (SpellsLeaf bit_string false IsBits) m → Finds IsKeyContents s
+key-found s m f one h =
+    let g = both-found SpellsFormat (SpellsLeaf bit_string false IsBits) s m f h.0 h.1 one h.2 in
+    (key_of f h.0, h.1, record { front = g.0; parts = g.1; spelled = g.2 })

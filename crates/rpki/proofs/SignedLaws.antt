@@ -12,7 +12,7 @@ use Rattle.rpki_der.proofs.EncodeLaws.{leaf_legal, tlv_same, tlv_same_one, tlv_a
 use Rattle.rpki.specs.SignedData.{SignedParts, parts_of, IsSignedContents, SpellsSigned, signature_octets, signed_octets, written_contents, written_signed, normal_parts, DifferInCount}
 
 -- values that two equal lists begin with are equal, and the same follows
-value-first : (a b x y : List ℕ) → IsValue a → IsValue b → a ++ x ≡ b ++ y → (a ≡ b) × (x ≡ y)
+pub value-first : (a b x y : List ℕ) → IsValue a → IsValue b → a ++ x ≡ b ++ y → (a ≡ b) × (x ≡ y)
 value-first a b x y v w e =
     let one = (one_beginning a b x y v w e).0 in
     (one, append_cancel_left a x y (e ∙ ap (λ (p : List ℕ). p ++ y) (sym one)))

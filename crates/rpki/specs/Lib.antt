@@ -18,6 +18,7 @@ pub mod SignedData
 pub mod SignedEqual
 pub mod Extension
 pub mod Name
+pub mod NameValue
 pub mod StrictName
 pub mod InspectName
 pub mod ErrorContent

@@ -3,8 +3,9 @@
 ghost use Rattle.std.specs.Prelude.{◌≡◌, ◌↔◌, ◌<◌, ◌^◌, true, length, IsTrue, IfOk};
 ghost use Rattle.rpki_der.specs.Cursor.{left};
 ghost use Rattle.rpki_der.specs.TagName.{sequence};
-ghost use Rattle.rpki_der.specs.Reading.{Reads, Decodes, AnyFault, IsWholeFault};
+ghost use Rattle.rpki_der.specs.Reading.{Reads, Decodes, AnyFault, OrMemoryWhere, Finds, IsWholeFault};
 ghost use Rattle.rpki_der.specs.Values.{GivesOuterFault};
+ghost use Rattle.rpki_der.specs.Inside.{HasInside};
 ghost use Rattle.rpki_der.specs.Leaves.{AreBits, bits_of};
 ghost use Rattle.rpki.specs.PublicKey.{KeyParts, key_of, IsKeyContents, SpellsKey, key_contents, key_octets};
 
@@ -113,7 +114,8 @@ impl PublicKey {
     ///
     /// The refusals of [PublicKey::take_from]; Trailing where the key is followed by something.
     pub fn decode(bytes: Bytes) -> Result<PublicKey, DecodeError>
-        ensures { Decodes (λ k. k) SpellsKey (IsWholeFault SpellsKey (GivesOuterFault sequence true)) bytes result }
+        ensures { Decodes (λ k. k) SpellsKey
+            (IsWholeFault SpellsKey (OrMemoryWhere (HasInside sequence (Finds IsKeyContents)) (GivesOuterFault sequence true))) bytes result }
     {
         let mut cons = Constructed::new(&bytes);
         let key = match PublicKey::take_from(&mut cons) {
@@ -130,9 +132,10 @@ impl PublicKey {
     /// shares.
     ///
     /// The refusals of a SEQUENCE where that refuses; else those of the parts, Trailing for octets that follow them,
-    /// and OutOfMemory where memory runs out.
+    /// and OutOfMemory on allocation failure, only where both parts are there.
     pub fn take_from(cons: &mut Constructed<'_>) -> Result<PublicKey, DecodeError>
-        ensures { Reads (λ k. k) SpellsKey (GivesOuterFault sequence true) (left cons.old) (left cons.new) result }
+        ensures { Reads (λ k. k) SpellsKey (OrMemoryWhere (HasInside sequence (Finds IsKeyContents)) (GivesOuterFault sequence true))
+            (left cons.old) (left cons.new) result }
     {
         let mut after = *cons;
         let contents = match after.take_sequence() {
@@ -187,7 +190,7 @@ impl PublicKey {
 
 /// Reads all of the contents of a public key.
 fn take_key_contents(contents: Constructed<'_>) -> Result<PublicKey, DecodeError>
-    ensures { Decodes (λ k. k) IsKeyContents AnyFault (left contents.entry) result }
+    ensures { Decodes (λ k. k) IsKeyContents (OrMemoryWhere (Finds IsKeyContents) AnyFault) (left contents.entry) result }
 {
     let mut contents = contents;
     let algorithm = match PublicKeyFormat::take_from(&mut contents) {

@@ -3,10 +3,11 @@
 ghost use Rattle.std.specs.Prelude.{◌≡◌, true, List, IsTrue, IfOk, IfErr};
 ghost use Rattle.rpki_der.specs.Cursor.{left};
 ghost use Rattle.rpki_der.specs.TagName.{sequence};
-ghost use Rattle.rpki_der.specs.Reading.{Reads};
+ghost use Rattle.rpki_der.specs.Reading.{Reads, OrMemoryWhere};
 ghost use Rattle.rpki_der.specs.Values.{GivesOuterFault};
 ghost use Rattle.rpki_der.specs.Members.{IsValue};
 ghost use Rattle.rpki.specs.Name.{Attribute, IsName, SpellsName, SpellsNameOctets};
+ghost use Rattle.rpki.specs.NameValue.{HasNameValue};
 ghost use Rattle.rpki.specs.StrictName.{IsRpkiName, IsRouterName};
 
 mod grammar;
@@ -50,9 +51,11 @@ impl Name {
     ///
     /// The refusal of a SEQUENCE where that refuses; else Content `empty distinguished name` for an empty SEQUENCE,
     /// `empty relative distinguished name` for an empty SET and `invalid name` for an attribute without a value, the
-    /// refusals of the parts, Trailing for what follows an attribute's value, and OutOfMemory where memory runs out.
+    /// refusals of the parts, Trailing for what follows an attribute's value, and OutOfMemory on allocation failure,
+    /// only where an attribute has a value.
     pub fn take_from(alloc: Global, cons: &mut Constructed<'_>) -> Result<Name, DecodeError>
-        ensures { Reads (λ n. n) SpellsNameOctets (GivesOuterFault sequence true) (left cons.old) (left cons.new) result }
+        ensures { Reads (λ n. n) SpellsNameOctets (OrMemoryWhere HasNameValue (GivesOuterFault sequence true))
+            (left cons.old) (left cons.new) result }
     {
         let mut after = *cons;
         match skip_name(alloc, &mut after) {

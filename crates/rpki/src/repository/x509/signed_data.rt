@@ -3,9 +3,11 @@
 ghost use Rattle.std.specs.Prelude.{◌≡◌, ◌<◌, ◌^◌, ◌↔◌, true, false, ℕ, List, length, IfOk, IsOk};
 ghost use Rattle.rpki_der.specs.Cursor.{left};
 ghost use Rattle.rpki_der.specs.TagName.{sequence};
-ghost use Rattle.rpki_der.specs.Reading.{Reads, Decodes, AnyFault, IsWholeFault};
+ghost use Rattle.rpki_der.specs.Reading.{Reads, Decodes, AnyFault, OrMemoryWhere, Finds, IsWholeFault};
 ghost use Rattle.rpki_der.specs.Values.{GivesOuterFault};
 ghost use Rattle.rpki_der.specs.Members.{AreValues, IsValue};
+ghost use Rattle.rpki_der.specs.Walk.{HasEither};
+ghost use Rattle.rpki_der.specs.Inside.{HasInside};
 ghost use Rattle.rpki_der.specs.Contents.{bits_contents};
 ghost use Rattle.rpki_der.specs.Leaves.{bits_of};
 ghost use Rattle.rpki_der.specs.Written.{Writes};
@@ -74,12 +76,13 @@ impl<Alg: SignatureAlgorithm + Drop> SignedData<Alg> {
     /// Reads the three parts of signed data, with no SEQUENCE around them: one value, an algorithm identifier and a BIT
     /// STRING. What follows them is left.
     ///
-    /// The refusals of the part that refuses; OutOfMemory where memory runs out.
+    /// The refusals of the part that refuses; OutOfMemory on allocation failure, and only where a value begins what is
+    /// left.
     pub fn from_constructed(
         alloc: Global,
         cons: &mut Constructed<'_>,
     ) -> Result<SignedData<Alg>, DecodeError>
-        ensures { Reads (λ x. x) (IsSignedContents Alg.spells) AnyFault (left cons.old) (left cons.new) result }
+        ensures { Reads (λ x. x) (IsSignedContents Alg.spells) (OrMemoryWhere HasEither AnyFault) (left cons.old) (left cons.new) result }
     {
         let mut after = *cons;
         let signed = match after.capture_one(alloc) {
@@ -101,12 +104,13 @@ impl<Alg: SignatureAlgorithm + Drop> SignedData<Alg> {
     /// Signed data: a SEQUENCE of the three parts and of nothing else.
     ///
     /// The refusal of a SEQUENCE where that refuses; else those of the parts, Trailing for octets that follow them,
-    /// and OutOfMemory where memory runs out.
+    /// and OutOfMemory on allocation failure, only where a value begins the contents of the SEQUENCE.
     pub fn take_from(
         alloc: Global,
         cons: &mut Constructed<'_>,
     ) -> Result<SignedData<Alg>, DecodeError>
-        ensures { Reads (λ x. x) (SpellsSigned Alg.spells) (GivesOuterFault sequence true) (left cons.old) (left cons.new) result }
+        ensures { Reads (λ x. x) (SpellsSigned Alg.spells) (OrMemoryWhere (HasInside sequence HasEither) (GivesOuterFault sequence true))
+            (left cons.old) (left cons.new) result }
     {
         let mut after = *cons;
         let mut inner = match after.take_sequence() {
@@ -130,7 +134,8 @@ impl<Alg: SignatureAlgorithm + Drop> SignedData<Alg> {
     ///
     /// The refusals of [SignedData::take_from]; Trailing where signed data is followed by something.
     pub fn decode(alloc: Global, bytes: Bytes) -> Result<SignedData<Alg>, DecodeError>
-        ensures decodes { Decodes (λ x. x) (SpellsSigned Alg.spells) (IsWholeFault (SpellsSigned Alg.spells) (GivesOuterFault sequence true)) bytes result }
+        ensures decodes { Decodes (λ x. x) (SpellsSigned Alg.spells)
+            (IsWholeFault (SpellsSigned Alg.spells) (OrMemoryWhere (HasInside sequence HasEither) (GivesOuterFault sequence true))) bytes result }
         // It is written as it was read exactly where its algorithm was spelled as it is written, and no bit was unused.
         ensures again { IfOk result (λ v. (text : List ℕ) (unused : ℕ) → Alg.spells v.algorithm text → bytes ≡ signed_octets v.signed text unused v.value →
             (written_signed Alg.written v ≡ bytes) ↔ ((text ≡ Alg.written v.algorithm) × (unused ≡ 0))) }
@@ -269,7 +274,7 @@ impl<'a, Alg> PrimitiveContent for SignatureValueContent<'a, Alg> {
 
 /// The octets of a signature, whatever its count of unused bits.
 fn signature_value(cons: &mut Constructed<'_>) -> Result<Bytes, DecodeError>
-    ensures { Reads (λ v. v) SpellsSignature AnyFault (left cons.old) (left cons.new) result }
+    ensures { Reads (λ v. v) SpellsSignature (OrMemoryWhere (Finds SpellsSignature) AnyFault) (left cons.old) (left cons.new) result }
 {
     let mut after = *cons;
     let bits = match after.take_bit_string() {

@@ -3,10 +3,11 @@
 ghost use Rattle.std.specs.Prelude.{true};
 ghost use Rattle.rpki_der.specs.Cursor.{left};
 ghost use Rattle.rpki_der.specs.TagName.{sequence, set};
-ghost use Rattle.rpki_der.specs.Reading.{Reads, Decodes, AnyFault};
+ghost use Rattle.rpki_der.specs.Reading.{Reads, Decodes, AnyFault, OrMemoryWhere};
 ghost use Rattle.rpki_der.specs.Values.{SpellsLeaf, GivesOuterFault, IsOuterFault};
-ghost use Rattle.rpki_der.specs.Walk.{SpellsAnyValue};
+ghost use Rattle.rpki_der.specs.Walk.{SpellsAnyValue, HasEither};
 ghost use Rattle.rpki.specs.Name.{attribute_of, IsIdentifierThen, IsAttribute, SpellsAttribute, SpellsSome, SpellsRelative, SpellsAny};
+ghost use Rattle.rpki.specs.NameValue.{HasAfter, HasAttributeValue, HasRelativeValue, HasNameValue};
 
 use rpki_der::{Constructed, ContentError, DecodeError, Oid};
 use std::alloc::Global;
@@ -32,7 +33,7 @@ pub(super) fn take_identifier<'a>(
 
 /// Tests that one value is left, and nothing else.
 fn check_value(alloc: Global, value: Constructed<'_>) -> Result<(), DecodeError>
-    ensures { Decodes (λ _. tt) SpellsAnyValue AnyFault (left value.entry) result }
+    ensures { Decodes (λ _. tt) SpellsAnyValue (OrMemoryWhere HasEither AnyFault) (left value.entry) result }
 {
     let mut after = value;
     match after.skip_one(alloc) {
@@ -48,7 +49,8 @@ fn check_value(alloc: Global, value: Constructed<'_>) -> Result<(), DecodeError>
 
 /// Moves past an attribute: a SEQUENCE of an OBJECT IDENTIFIER and one value.
 fn skip_attribute(alloc: Global, cons: &mut Constructed<'_>) -> Result<(), DecodeError>
-    ensures { Reads (λ _. tt) (SpellsLeaf sequence true (SpellsAny IsAttribute)) (GivesOuterFault sequence true) (left cons.old) (left cons.new) result }
+    ensures { Reads (λ _. tt) (SpellsLeaf sequence true (SpellsAny IsAttribute))
+        (OrMemoryWhere HasAttributeValue (GivesOuterFault sequence true)) (left cons.old) (left cons.new) result }
 {
     let mut after = *cons;
     let (_, value) = match take_identifier(&mut after) {
@@ -66,7 +68,8 @@ fn skip_attribute(alloc: Global, cons: &mut Constructed<'_>) -> Result<(), Decod
 
 /// Tests that these contents are attributes, one at least.
 fn check_attributes(alloc: Global, contents: Constructed<'_>) -> Result<(), DecodeError>
-    ensures { Decodes (λ _. tt) (SpellsAny (SpellsSome SpellsAttribute)) AnyFault (left contents.entry) result }
+    ensures { Decodes (λ _. tt) (SpellsAny (SpellsSome SpellsAttribute))
+        (OrMemoryWhere (HasAfter SpellsAttribute HasAttributeValue) AnyFault) (left contents.entry) result }
 {
     if contents.is_empty() {
         return Err(DecodeError::Content(ContentError::from_static(
@@ -85,7 +88,8 @@ fn check_attributes(alloc: Global, contents: Constructed<'_>) -> Result<(), Deco
 
 /// Moves past a relative distinguished name: a SET of attributes.
 fn skip_relative(alloc: Global, cons: &mut Constructed<'_>) -> Result<(), DecodeError>
-    ensures { Reads (λ _. tt) (SpellsLeaf set true (SpellsAny (SpellsSome SpellsAttribute))) (GivesOuterFault set true) (left cons.old) (left cons.new) result }
+    ensures { Reads (λ _. tt) (SpellsLeaf set true (SpellsAny (SpellsSome SpellsAttribute)))
+        (OrMemoryWhere HasRelativeValue (GivesOuterFault set true)) (left cons.old) (left cons.new) result }
 {
     let mut after = *cons;
     let contents = match after.take_set() {
@@ -103,7 +107,8 @@ fn skip_relative(alloc: Global, cons: &mut Constructed<'_>) -> Result<(), Decode
 
 /// Tests that these contents are relative distinguished names, one at least.
 fn check_relatives(alloc: Global, contents: Constructed<'_>) -> Result<(), DecodeError>
-    ensures { Decodes (λ _. tt) (SpellsAny (SpellsSome SpellsRelative)) AnyFault (left contents.entry) result }
+    ensures { Decodes (λ _. tt) (SpellsAny (SpellsSome SpellsRelative))
+        (OrMemoryWhere (HasAfter SpellsRelative HasRelativeValue) AnyFault) (left contents.entry) result }
 {
     if contents.is_empty() {
         return Err(DecodeError::Content(ContentError::from_static("empty distinguished name")));
@@ -120,7 +125,8 @@ fn check_relatives(alloc: Global, contents: Constructed<'_>) -> Result<(), Decod
 
 /// Moves past a name: a SEQUENCE of relative distinguished names.
 pub(super) fn skip_name(alloc: Global, cons: &mut Constructed<'_>) -> Result<(), DecodeError>
-    ensures { Reads (λ _. tt) (SpellsLeaf sequence true (SpellsAny (SpellsSome SpellsRelative))) (GivesOuterFault sequence true) (left cons.old) (left cons.new) result }
+    ensures { Reads (λ _. tt) (SpellsLeaf sequence true (SpellsAny (SpellsSome SpellsRelative)))
+        (OrMemoryWhere HasNameValue (GivesOuterFault sequence true)) (left cons.old) (left cons.new) result }
 {
     let mut after = *cons;
     let contents = match after.take_sequence() {

@@ -8,4 +8,4 @@ pub returns-in-Ok-check_value : goal.returns-in-Ok-check_value
 returns-in-Ok-check_value c = attribute-accepted _ _ _ c.in-Ok.ensures c.in-Ok-check_value.ensures.0
 
 pub returns-in-Err-check_value : goal.returns-in-Err-check_value
-returns-in-Err-check_value c = attribute-valueless _ _ _ c.in-Err-check_value.e c.in-Ok.ensures c.in-Err-check_value.ensures.0
+returns-in-Err-check_value c = attribute-valueless _ _ _ c.in-Err-check_value.e c.in-Ok.ensures c.in-Err-check_value.ensures

@@ -1,6 +1,9 @@
 use Rattle.std.proofs.Common.{true}
 use Rattle.rpki_der.specs.TagName.{sequence}
+use Rattle.rpki_der.specs.Reading.{OrMemoryWhere}
 use Rattle.rpki_der.specs.Values.{GivesOuterFault}
+use Rattle.rpki_der.specs.Walk.{HasEither}
+use Rattle.rpki_der.specs.Inside.{HasInside}
 use Rattle.rpki_der.proofs.ComposedLaws.{all-read, more-left, not-read}
 use Rattle.rpki.specs.SignedData.{SpellsSigned}
 use Rattle.rpki.proofs.SignedLaws.{again-iff, differ-in-count}
@@ -9,7 +12,7 @@ use Rattle.rpki.proofs.repository.x509.signed_data.SignedData.decode.Goals as go
 pub returns-in-Err-clause-decodes : goal.returns-in-Err-clause-decodes
 returns-in-Err-clause-decodes g c =
     let h = rw c.new-cons.ensures at c.in-Err.ensures in
-    not-read (SpellsSigned g.Alg.SignatureAlgorithm.spells) (GivesOuterFault sequence true) c.args.bytes _ c.in-Err.e h
+    not-read (SpellsSigned g.Alg.SignatureAlgorithm.spells) (OrMemoryWhere (HasInside sequence HasEither) (GivesOuterFault sequence true)) c.args.bytes _ c.in-Err.e h
 
 pub returns-in-Ok-finish-clause-decodes : goal.returns-in-Ok-finish-clause-decodes
 returns-in-Ok-finish-clause-decodes g c =
@@ -36,4 +39,4 @@ pub returns-clause-decodes : goal.returns-clause-decodes
 returns-clause-decodes g c =
     let h = rw c.new-cons.ensures at c.in-Ok.ensures in
     rw c.in-Err-finish.ensures.0
-    (more-left (SpellsSigned g.Alg.SignatureAlgorithm.spells) (GivesOuterFault sequence true) c.args.bytes c.in-Ok.found _ h c.in-Err-finish.ensures.1)
+    (more-left (SpellsSigned g.Alg.SignatureAlgorithm.spells) (OrMemoryWhere (HasInside sequence HasEither) (GivesOuterFault sequence true)) c.args.bytes c.in-Ok.found _ h c.in-Err-finish.ensures.1)
