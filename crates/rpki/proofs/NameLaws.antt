@@ -165,9 +165,9 @@ attribute-valueless s r a e h (k, m) = record {
   unchanged = refl;
   refuses = UnlessMemory-weaker e (λ none x q l. let g = any-identified s q l in none tt (subst (λ (w : Attribute). IsValue w.value) (h.only g.0 q g.1).0 g.2)) k;
   kind =
-    let l = leaf-value sequence true IsIdentifierThen s a r h.spells in
-    part-memory HasEither HasAttributeValue AnyFault (GivesOuterFault sequence true) a.value s e
-    (λ v. (l.0, r, l.1, (a, l.2, v))) m (λ none. absurd (none l.0 r l.1));
+      let l = leaf-value sequence true IsIdentifierThen s a r h.spells in
+      part-memory HasEither HasAttributeValue AnyFault (GivesOuterFault sequence true) a.value s e
+      (λ v. (l.0, r, l.1, (a, l.2, v))) m (λ none. absurd (none l.0 r l.1));
 }
 
 -- ---- a name is one value
@@ -254,8 +254,8 @@ name-uncaptured K s r q e a h = record {
   unchanged = h.unchanged;
   refuses = UnlessMemory-weaker e (λ none v p k. none v p (octets-value s v p k)) h.refuses;
   kind =
-    let l = leaf-value sequence true (SpellsAny (SpellsSome SpellsRelative)) s tt r a.spells in
-    part-memory HasEither HasNameValue K (GivesOuterFault sequence true) s s e (λ v. name-found s r a.spells) h.kind (λ none. absurd (none l.0 r l.1));
+      let l = leaf-value sequence true (SpellsAny (SpellsSome SpellsRelative)) s tt r a.spells in
+      part-memory HasEither HasNameValue K (GivesOuterFault sequence true) s s e (λ v. name-found s r a.spells) h.kind (λ none. absurd (none l.0 r l.1));
 }
 
 -- ---- whether one value is left

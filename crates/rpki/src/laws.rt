@@ -114,7 +114,7 @@ pub fn equal_errors_have_equal_texts()
         → IsTrue (⟦<InspectionError as PartialEq>⟧.eq d e) ↔ (text_of (content_of d) ≡ text_of (content_of e)) }
     ensures verification { (d e : VerificationError)
         → IsTrue (⟦<VerificationError as PartialEq>⟧.eq d e)
-            ↔ (text_of (verification_content d) ≡ text_of (verification_content e)) }
+        ↔ (text_of (verification_content d) ≡ text_of (verification_content e)) }
     ensures validation { (d e : ValidationError)
         → IsTrue (⟦<ValidationError as PartialEq>⟧.eq d e) ↔ HaveSameContent (⟦<DecodeError as PartialEq>⟧.eq) d e }
     ensures signature { (d e : SignatureVerificationError) → IsTrue (⟦<SignatureVerificationError as PartialEq>⟧.eq d e) }

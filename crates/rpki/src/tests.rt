@@ -1,11 +1,13 @@
 //! Worked cases: expected octets, texts and refusals come from the standards and their worked examples.
 
 mod algorithms;
+mod comparisons;
 mod identifiers;
 mod keys;
 mod oid;
 mod signed_data;
 mod verification;
+mod writers;
 
 use crate::crypto::Provider;
 use bytes::Bytes;

@@ -41,3 +41,37 @@ fn texts_of_what_is_not_vouched_for(rt: HostRuntime) -> Result<(), Fail> {
     }
     Ok(())
 }
+
+// Equal where the kind and the text are.
+#[test]
+fn errors_are_compared(rt: HostRuntime) {
+    let contents = [
+        ContentError::from_static("invalid name"),
+        ContentError::from_static("missing common name"),
+    ];
+    for i in 0..2 {
+        for j in 0..2 {
+            let (one, other) = (
+                InspectionError::from(contents[i]),
+                InspectionError::from(contents[j]),
+            );
+            assert_eq!(rt; one == other, i == j, "inspections {i} and {j}");
+            let verified = VerificationError::from(contents[j]);
+            assert_eq!(rt;
+                VerificationError::from(contents[i]) == verified,
+                i == j,
+                "{i} and {j}"
+            );
+            let outer = ValidationError::from(one);
+            assert_eq!(rt;
+                outer == ValidationError::from(other),
+                i == j,
+                "inside: {i} and {j}"
+            );
+            assert!(rt;
+                outer != ValidationError::from(verified),
+                "kinds: {i} and {j}"
+            );
+        }
+    }
+}

@@ -53,7 +53,7 @@ fn identifiers_are_shown(rt: HostRuntime) -> Result<(), Fail> {
     Ok(())
 }
 
-const SPELLED: &[u8] =
+pub(super) const SPELLED: &[u8] =
     b"\x04\x14\xA9\x99\x3E\x36\x47\x06\x81\x6A\xBA\x3E\x25\x71\x78\x50\xC2\x6C\x9C\xD0\xD8\x9D";
 
 const NINETEEN: &[u8] =

@@ -4,7 +4,7 @@ use super::{Always, written};
 use crate::crypto::{PublicKey, PublicKeyFormat};
 use crate::repository::x509::Name;
 use bytes::Bytes;
-use rpki_der::{Constructed, DecodeError, InvalidInteger, Values};
+use rpki_der::{Constructed, ContentError, DecodeError, InvalidInteger, Values};
 use std::test::Fail;
 
 const KEY_OF_COMPONENTS: &[u8] =
@@ -37,11 +37,19 @@ fn numbers_have_octets(rt: HostRuntime) {
     assert_eq!(rt; empty.err(), Some(InvalidInteger::Empty));
 }
 
-const KEY_OF_ABC: &[u8] =
+pub(super) const KEY_OF_ABC: &[u8] =
     b"\x30\x15\x30\x0D\x06\x09\x2A\x86\x48\x86\xF7\x0D\x01\x01\x01\x05\x00\x03\x04\x00\x61\x62\x63";
 
 const KEY_AND_MORE: &[u8] =
     b"\x30\x15\x30\x0D\x06\x09\x2A\x86\x48\x86\xF7\x0D\x01\x01\x01\x05\x00\x03\x04\x00\x61\x62\x63\x00";
+
+// An octet behind the bits, within the SEQUENCE.
+const KEY_WITH_MORE_INSIDE: &[u8] =
+    b"\x30\x16\x30\x0D\x06\x09\x2A\x86\x48\x86\xF7\x0D\x01\x01\x01\x05\x00\x03\x04\x00\x61\x62\x63\x00";
+
+// The identifier of a signature algorithm where that of a format stands.
+const KEY_OF_NO_FORMAT: &[u8] =
+    b"\x30\x13\x30\x0D\x06\x09\x2A\x86\x48\x86\xF7\x0D\x01\x01\x0B\x05\x00\x03\x02\x00\x80";
 
 const KEY_WITHOUT_BITS: &[u8] =
     b"\x30\x12\x30\x0D\x06\x09\x2A\x86\x48\x86\xF7\x0D\x01\x01\x01\x05\x00\x03\x01\x00";
@@ -66,6 +74,9 @@ fn bits_of(octets: &'static [u8]) -> Result<Bytes, u8> {
 const KEYS: &[(&[u8], Result<&[u8], u8>)] = &[
     (KEY_OF_ABC, Ok(b"abc")),
     (KEY_AND_MORE, Err(6)),
+    (KEY_WITH_MORE_INSIDE, Err(6)),
+    (KEY_OF_NO_FORMAT, Err(5)),
+    (b"\x30\x00", Err(1)),
     (KEY_WITHOUT_BITS, Ok(b"")),
     (KEY_WITHOUT_NULL, Ok(b"")),
     (P256_KEY, Ok(b"\x04\x01")),
@@ -90,6 +101,13 @@ const AGAIN: &[(&[u8], PublicKeyFormat, &[u8])] = &[
     (KEY_OF_ABC, PublicKeyFormat::Rsa, b"abc"),
     (P256_KEY, PublicKeyFormat::EcdsaP256, b"\x04\x01"),
 ];
+
+#[test]
+fn unknown_formats_of_keys_are_named(rt: HostRuntime) {
+    let refused = PublicKey::decode(Bytes::from_static(KEY_OF_NO_FORMAT));
+    let unknown = DecodeError::Content(ContentError::from_static("invalid public key format"));
+    assert_eq!(rt; refused.err(), Some(unknown));
+}
 
 #[test]
 fn public_keys_are_written(rt: HostRuntime) -> Result<(), Fail> {
@@ -172,7 +190,7 @@ fn rsa_bits_are_read_whole(rt: HostRuntime) {
     }
 }
 
-const SUBJECT: &[u8] =
+pub(super) const SUBJECT: &[u8] =
     b"\x30\x33\x31\x31\x30\x2F\x06\x03\x55\x04\x03\x13\x28A9993E364706816ABA3E25717850C26C9CD0D89D";
 
 #[test]

@@ -70,7 +70,7 @@ fn signatures_are_their_parts(rt: HostRuntime) -> Result<(), Fail> {
     Ok(())
 }
 
-const SIGNED: &[u8] =
+pub(super) const SIGNED: &[u8] =
     b"\x30\x15\x30\x00\x30\x0D\x06\x09\x2A\x86\x48\x86\xF7\x0D\x01\x01\x0B\x05\x00\x03\x02\x00\xAA";
 
 const SIGNED_WITHOUT: &[u8] =
@@ -193,6 +193,7 @@ const REFUSED: &[(&[u8], u8)] = &[
         b"\x30\x15\x30\x00\x30\x0D\x06\x09\x2A\x86\x48\x86\xF7\x0D\x01\x01\x0B\x05\x00\x03\x02\x00\xAA\x00",
         6,
     ),
+    (b"\x30\x00", 1),
     (b"\x31\x00", 4),
     (b"\x30\x81\x00", 3),
     (b"", 1),
@@ -230,6 +231,26 @@ fn read_front(
         SignedData::from_constructed(alloc, &mut cons)?
     };
     Ok((signed, cons.rest().len()))
+}
+
+// Octets that begin with no parts of signed data, and the number of the refusal: nothing, a value that passes the end,
+// nothing behind a value, and another algorithm.
+const NO_PARTS: &[(&[u8], u8)] = &[
+    (b"", 1),
+    (b"\x04\x05", 1),
+    (b"\x30\x00", 1),
+    (b"\x30\x00\x30\x05\x06\x03\x55\x04\x03\x03\x02\x00\xAA", 5),
+];
+
+#[test]
+fn parts_are_refused(rt: HostRuntime) {
+    for (octets, expected) in NO_PARTS {
+        let number = match read_front(rt.alloc(), false, octets) {
+            Ok(_) => 0,
+            Err(e) => e.number(),
+        };
+        assert_eq!(rt; number, *expected, "{octets:?}");
+    }
 }
 
 #[test]

@@ -2,6 +2,7 @@
 
 ghost use Rattle.std.specs.Prelude.{◌≡◌};
 ghost use Rattle.rpki_der.specs.Number.{AreOctets};
+ghost use Rattle.rpki_der.specs.TagName.{printable_string};
 ghost use Rattle.rpki_text.specs.HexText.{hex_text};
 
 use super::KeyIdentifier;
@@ -38,7 +39,7 @@ impl PrimitiveContent for PublicKeyCn {
     ghost contents = { λ x. x.digits };
 
     fn plain_tag(&self) -> Tag {
-        Self::TAG
+        common_name_tag()
     }
 
     fn encoded_len(&self) -> u64 {
@@ -49,4 +50,11 @@ impl PrimitiveContent for PublicKeyCn {
     fn write_encoded<W: Write>(&self, out: &mut W) -> Result<(), io::Error> {
         write_whole(out, &self.digits)
     }
+}
+
+/// The tag of common names: the constant of [PublicKeyCn].
+fn common_name_tag() -> Tag
+    ensures { result ≡ printable_string }
+{
+    <PublicKeyCn as PrimitiveContent>::TAG
 }

@@ -255,7 +255,7 @@ impl PrimitiveContent for KeyIdentifier {
     ghost contents = { octet_string_contents };
 
     fn plain_tag(&self) -> Tag {
-        Self::TAG
+        key_identifier_tag()
     }
 
     fn encoded_len(&self) -> u64 {
@@ -266,6 +266,13 @@ impl PrimitiveContent for KeyIdentifier {
     fn write_encoded<W: Write>(&self, out: &mut W) -> Result<(), io::Error> {
         write_whole(out, self.as_slice())
     }
+}
+
+/// The tag of key identifiers: the constant of [KeyIdentifier].
+fn key_identifier_tag() -> Tag
+    ensures { result ≡ octet_string }
+{
+    <KeyIdentifier as PrimitiveContent>::TAG
 }
 
 /// A text is no key identifier.

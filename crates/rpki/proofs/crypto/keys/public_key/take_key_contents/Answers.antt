@@ -24,8 +24,7 @@ pub returns-in-Err-take_bit_string : goal.returns-in-Err-take_bit_string
 returns-in-Err-take_bit_string c =
     let B = SpellsLeaf bit_string false IsBits in
     let s = left c.args.contents in
-    let m = left c.take_from.new.cons in
-    (
+    let m = left c.take_from.new.cons in (
       UnlessMemory-weaker c.in-Err-take_bit_string.e (λ none k h. no-second SpellsFormat B s m _ c.in-Ok.ensures.reads (nothing-whole B m none) k.format k.bits h) c.in-Err-take_bit_string.ensures.refuses,
       part-memory (Finds B) (Finds IsKeyContents) (IsLeafFault bit_string false IsBits) AnyFault m s c.in-Err-take_bit_string.e (key-found s m _ c.in-Ok.ensures.reads.spells) c.in-Err-take_bit_string.ensures.kind tt,
     )
@@ -39,8 +38,7 @@ returns-in-Ok-finish c =
 pub returns-in-Err-finish : goal.returns-in-Err-finish
 returns-in-Err-finish c =
     let B = SpellsLeaf bit_string false IsBits in
-    let h = more-not-read B _ _ _ c.in-Err-finish.e c.in-Ok-take_bit_string.ensures c.in-Err-finish.ensures in
-    (
+    let h = more-not-read B _ _ _ c.in-Err-finish.e c.in-Ok-take_bit_string.ensures c.in-Err-finish.ensures in (
       UnlessMemory-weaker c.in-Err-finish.e (λ none k g. no-second SpellsFormat B (left c.args.contents) _ _ c.in-Ok.ensures.reads none k.format k.bits g) h.0,
       no-memory (Finds IsKeyContents) AnyFault _ c.in-Err-finish.e h.1 tt,
     )

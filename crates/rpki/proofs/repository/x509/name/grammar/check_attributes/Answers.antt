@@ -20,5 +20,5 @@ pub returns-in-Err : goal.returns-in-Err
 returns-in-Err c = (
   UnlessMemory-weaker c.in-Err.e (remains-refused sequence true IsAttribute _ (left c.attributes.rest) (not-at-end _ _ c.attributes-test.true c.is_empty-in-attributes.ensures) c.attributes.invariant) c.in-Err.ensures.refuses,
   part-memory HasAttributeValue (HasAfter SpellsAttribute HasAttributeValue) (GivesOuterFault sequence true) AnyFault (left c.attributes.rest) _ c.in-Err.e
-  (remains-after sequence true IsAttribute HasAttributeValue _ (left c.attributes.rest) c.attributes.invariant) c.in-Err.ensures.kind tt,
+      (remains-after sequence true IsAttribute HasAttributeValue _ (left c.attributes.rest) c.attributes.invariant) c.in-Err.ensures.kind tt,
 )

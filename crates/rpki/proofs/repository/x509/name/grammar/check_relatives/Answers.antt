@@ -23,5 +23,5 @@ pub returns-in-Err : goal.returns-in-Err
 returns-in-Err c = (
   UnlessMemory-weaker c.in-Err.e (remains-refused set true (SpellsSome SpellsAttribute) _ (left c.relatives.rest) (not-at-end _ _ c.relatives-test.true c.is_empty-in-relatives.ensures) c.relatives.invariant) c.in-Err.ensures.refuses,
   part-memory HasRelativeValue (HasAfter SpellsRelative HasRelativeValue) (GivesOuterFault set true) AnyFault (left c.relatives.rest) _ c.in-Err.e
-  (remains-after set true (SpellsSome SpellsAttribute) HasRelativeValue _ (left c.relatives.rest) c.relatives.invariant) c.in-Err.ensures.kind tt,
+      (remains-after set true (SpellsSome SpellsAttribute) HasRelativeValue _ (left c.relatives.rest) c.relatives.invariant) c.in-Err.ensures.kind tt,
 )
