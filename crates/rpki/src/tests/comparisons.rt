@@ -8,7 +8,7 @@ use crate::crypto::{
 };
 use crate::repository::x509::SignatureValueContent;
 use bytes::Bytes;
-use rpki_der::{Constructed, DecodeError, PrimitiveContent, Tag};
+use rpki_der::{Constructed, PrimitiveContent, Tag};
 use std::cmp::Ordering;
 use std::hash::{DefaultHasher, Hash, Hasher};
 use std::test::Fail;
@@ -50,21 +50,22 @@ fn identifiers_are_compared(rt: HostRuntime) {
     }
 }
 
-/// The algorithm of the RPKI that these octets identify.
-fn algorithm_of(octets: &'static [u8]) -> Result<RpkiSignatureAlgorithm, DecodeError> {
+/// Whether the algorithm that is read is equal to the one with parameters, and whether it has the same hash.
+fn compared(octets: &'static [u8]) -> Option<(bool, bool)> {
     let source = Bytes::from_static(octets);
-    RpkiSignatureAlgorithm::x509_take_from(&mut Constructed::new(&source))
+    let mut cons = Constructed::new(&source);
+    let with = RpkiSignatureAlgorithm::default();
+    match RpkiSignatureAlgorithm::x509_take_from(&mut cons) {
+        Ok(found) => Some((found == with, hash_of(&found) == hash_of(&with))),
+        Err(_) => None,
+    }
 }
 
 #[test]
-fn parameters_count(rt: HostRuntime) -> Result<(), Fail> {
-    let with = RpkiSignatureAlgorithm::default();
+fn parameters_count(rt: HostRuntime) {
     for (octets, same) in [(RSA_SIGNATURE, true), (RSA_SIGNATURE_WITHOUT, false)] {
-        let found = algorithm_of(octets)?;
-        assert_eq!(rt; found == with, same, "{octets:?}");
-        assert_eq!(rt; hash_of(&found) == hash_of(&with), same, "{octets:?}");
+        assert_eq!(rt; compared(octets), Some((same, same)), "{octets:?}");
     }
-    Ok(())
 }
 
 #[test]
