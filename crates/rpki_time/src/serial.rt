@@ -286,6 +286,13 @@ impl PrimitiveContent for Serial {
     }
 
     fn plain_tag(&self) -> Tag {
-        Self::TAG
+        serial_tag()
     }
+}
+
+/// The constant `TAG` of serial numbers, by which their contract names the tag.
+fn serial_tag() -> Tag
+    ensures { result ≡ integer }
+{
+    <Serial as PrimitiveContent>::TAG
 }

@@ -1,14 +1,18 @@
 //! Worked cases of serial numbers, times and periods of validity.
 
+mod failing;
 mod laws;
 mod periods;
 mod values;
 
 use super::*;
+use failing::FailsOnce;
 use jiff::SignedDuration;
 use jiff::civil::DateTime;
-use rpki_der::{Captured, Constructed, ContentError, DecodeError, PrimitiveContent, Values};
+use rpki_der::{Captured, Constructed, ContentError, DecodeError, PrimitiveContent, Tag, Values};
 use std::alloc::{AllocError, Global};
+use std::io;
+use std::io::ErrorKind;
 use std::test::Fail;
 
 /// The year, month, day, hour, minute and second.
@@ -317,52 +321,69 @@ enum Written {
     Period(Parts, Parts),
 }
 
-fn captured<V: Values>(alloc: Global, values: &V) -> Result<Option<Captured>, AllocError> {
+/// Where values are written.
+#[derive(Drop)]
+enum Sink {
+    Captured(Option<Captured>),
+    Writer(FailsOnce),
+}
+
+/// Writes values that fit.
+fn put<V: Values>(alloc: Global, sink: &mut Sink, values: &V) -> io::Result<()> {
     if !values.fits() {
-        return Ok(None);
+        return Err(io::Error::from(ErrorKind::InvalidInput));
     }
-    Ok(Some(Captured::from_values(alloc, values)?))
+    match sink {
+        Sink::Captured(found) => {
+            *found = Some(Captured::from_values(alloc, values)?);
+            Ok(())
+        }
+        Sink::Writer(out) => values.write_encoded(out),
+    }
 }
 
-fn serial_written(alloc: Global, serial: Serial) -> Result<Option<Captured>, AllocError> {
-    captured(alloc, &serial.encode())
-}
-
-fn time_written(
-    alloc: Global,
-    written: Written,
-    parts: Parts,
-) -> Result<Option<Captured>, AllocError> {
+fn put_time(alloc: Global, sink: &mut Sink, written: Written, parts: Parts) -> io::Result<()> {
     let Some(time) = moment_of(parts, 999_999_999) else {
-        return Ok(None);
+        return Err(io::Error::from(ErrorKind::InvalidInput));
     };
     match written {
-        Written::Utc(_) => captured(alloc, &time.encode_utc_time()),
-        Written::Generalized(_) => captured(alloc, &time.encode_generalized_time()),
-        _ => captured(alloc, &time.encode_varied()),
+        Written::Utc(_) => put(alloc, sink, &time.encode_utc_time()),
+        Written::Generalized(_) => put(alloc, sink, &time.encode_generalized_time()),
+        _ => put(alloc, sink, &time.encode_varied()),
     }
 }
 
-fn period_written(alloc: Global, start: Parts, end: Parts) -> Result<Option<Captured>, AllocError> {
+fn put_period(alloc: Global, sink: &mut Sink, start: Parts, end: Parts) -> io::Result<()> {
     match (time_of(start), time_of(end)) {
-        (Some(start), Some(end)) => captured(alloc, &Validity::new(start, end).encode()),
-        _ => Ok(None),
+        (Some(start), Some(end)) => put(alloc, sink, &Validity::new(start, end).encode()),
+        _ => Err(io::Error::from(ErrorKind::InvalidInput)),
     }
 }
 
-fn write(alloc: Global, written: Written) -> Result<Option<Captured>, AllocError> {
+fn write_to(alloc: Global, sink: &mut Sink, written: Written) -> io::Result<()> {
     match written {
-        Written::Zero => serial_written(alloc, Serial::default()),
+        Written::Zero => put(alloc, sink, &Serial::default().encode()),
         Written::Octets(octets) => match Serial::from_slice(octets) {
-            Ok(serial) => serial_written(alloc, serial),
-            Err(_) => Ok(None),
+            Ok(serial) => put(alloc, sink, &serial.encode()),
+            Err(_) => Err(io::Error::from(ErrorKind::InvalidInput)),
         },
-        Written::Number(number) => serial_written(alloc, Serial::from(number)),
-        Written::Small(number) => serial_written(alloc, Serial::from(number)),
-        Written::Utc(parts) => time_written(alloc, written, parts),
-        Written::Generalized(parts) => time_written(alloc, written, parts),
-        Written::Varied(parts) => time_written(alloc, written, parts),
-        Written::Period(start, end) => period_written(alloc, start, end),
+        Written::Number(number) => put(alloc, sink, &Serial::from(number).encode()),
+        Written::Small(number) => put(alloc, sink, &Serial::from(number).encode()),
+        Written::Utc(parts) | Written::Generalized(parts) | Written::Varied(parts) => {
+            put_time(alloc, sink, written, parts)
+        }
+        Written::Period(start, end) => put_period(alloc, sink, start, end),
+    }
+}
+
+fn write(alloc: Global, written: Written) -> Option<Captured> {
+    let mut sink = Sink::Captured(None);
+    match write_to(alloc, &mut sink, written) {
+        Ok(()) => match sink {
+            Sink::Captured(found) => found,
+            Sink::Writer(_) => None,
+        },
+        Err(_) => None,
     }
 }
 
@@ -409,9 +430,16 @@ const WRITTEN: &[(Written, &[u8])] = &[
 ];
 
 #[test]
+fn contents_have_their_tags(rt: HostRuntime) {
+    assert!(rt; <Serial as PrimitiveContent>::TAG == Tag::INTEGER);
+    assert!(rt; <UtcTime as PrimitiveContent>::TAG == Tag::UTC_TIME);
+    assert!(rt; <GeneralizedTime as PrimitiveContent>::TAG == Tag::GENERALIZED_TIME);
+}
+
+#[test]
 fn values_are_written(rt: HostRuntime) -> Result<(), Fail> {
     for (written, expected) in WRITTEN {
-        let found = write(rt.alloc(), *written)?;
+        let found = write(rt.alloc(), *written);
         let same = found.is_some_and(|values| values.as_slice() == *expected);
         assert!(rt; same, "{written:?}");
     }

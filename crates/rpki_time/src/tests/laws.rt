@@ -32,11 +32,13 @@ fn answer_of_law(written: Written, cursor: &mut Constructed<'_>) -> Found {
 }
 
 /// What the law's reader answers on what is written with a NULL behind it; and how many octets are left.
-fn read_back(alloc: Global, written: Written) -> Result<Option<(Found, usize)>, AllocError> {
-    let Some(values) = write(alloc, written)? else {
+fn read_back(alloc: Global, written: Written) -> io::Result<Option<(Found, usize)>> {
+    let Some(values) = write(alloc, written) else {
         return Ok(None);
     };
-    let Some(more) = captured(alloc, &(&values, ().encode()))? else {
+    let mut sink = Sink::Captured(None);
+    put(alloc, &mut sink, &(&values, ().encode()))?;
+    let Sink::Captured(Some(more)) = sink else {
         return Ok(None);
     };
     let source = more.into_bytes();
