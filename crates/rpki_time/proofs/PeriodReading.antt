@@ -7,13 +7,13 @@ use Rattle.rpki_der.specs.TagName.{sequence}
 use Rattle.rpki_der.specs.Header.{tlv}
 use Rattle.rpki_der.specs.Joined.{sequence_legal}
 use Rattle.rpki_der.specs.Values.{IsOuterFault}
-use Rattle.rpki_der.specs.Reading.{Spells, Accepts, Refusal, SpellsNothing, UnlessMemory}
+use Rattle.rpki_der.specs.Reading.{Spells, Accepts, Refusal, SpellsNothing, UnlessMemory, TakesNoMemory, AnyFault}
 use Rattle.rpki_der.proofs.ReadingLaws.{UnlessMemory-weaker, UnlessMemory-from}
 use Rattle.rpki_der.proofs.ComposedLaws.{spelled-whole}
 use Rattle.rpki_der.proofs.EncodeLaws.{tlv_legal, tlv_same}
 use Rattle.rpki_time.specs.TimeValue.{SpellsTime, IsTimeFault, time_octets}
 use Rattle.rpki_time.specs.Validity.{Period, AreTimeYears, cut_period}
-use Rattle.rpki_time.specs.PeriodValue.{IsPeriod, SpellsPeriod, NeverMemory, period_octets}
+use Rattle.rpki_time.specs.PeriodValue.{IsPeriod, SpellsPeriod, period_octets}
 use Rattle.rpki_time.proofs.ReadBack.{leaf_there, tlv_short}
 use Rattle.rpki_time.proofs.TimeValues.{times_few, time_there, time_spelled, times_fit, time_octets-cut}
 
@@ -44,21 +44,21 @@ time_no_memory s Trailing h z = h
 time_no_memory s OutOfMemory h z = h
 
 abbrev NotRead : List ℕ → DecodeError → Type 0
-NotRead c e = UnlessMemory e (SpellsNothing IsPeriod c) × NeverMemory c e
+NotRead c e = UnlessMemory e (SpellsNothing IsPeriod c) × TakesNoMemory AnyFault c e
 
 -- the start could not be read
 pub no_start : (c q : List ℕ) (e : DecodeError) → Refusal SpellsTime IsTimeFault c q e → NotRead c e
-no_start c q e h = (UnlessMemory-weaker e (λ none p k. none p.not_before k.end (start_of c p k)) h.refuses, time_no_memory c e h.kind)
+no_start c q e h = (UnlessMemory-weaker e (λ none p k. none p.not_before k.end (start_of c p k)) h.refuses, record { other = time_no_memory c e h.kind; kind = tt })
 
 -- the end could not be read
 pub no_end : (c r q : List ℕ) (t : DateTime) (e : DecodeError) → Accepts SpellsTime c t r → Refusal SpellsTime IsTimeFault r q e → NotRead c e
-no_end c r q t e a h = (UnlessMemory-weaker e (λ none p k. none p.not_after [] (behind c r t a p k).end) h.refuses, time_no_memory r e h.kind)
+no_end c r q t e a h = (UnlessMemory-weaker e (λ none p k. none p.not_after [] (behind c r t a p k).end) h.refuses, record { other = time_no_memory r e h.kind; kind = tt })
 
 -- something follows
 pub more_behind : (c r q : List ℕ) (t u : DateTime) (e : DecodeError) → Accepts SpellsTime c t r → Accepts SpellsTime r u q → (e ≡ Trailing) × (q ≡ [] → ⊥) → NotRead c e
 more_behind c r q t u e a b h = (
   UnlessMemory-from e (λ p k. h.1 (sym (b.only p.not_after [] (behind c r t a p k).end).1)),
-  λ z. let is = h.0 in cc,
+  record { other = λ z. let is = h.0 in cc; kind = tt },
 )
 
 same_ends : (p q : Period) → p.not_before ≡ q.not_before → p.not_after ≡ q.not_after → p ≡ q

@@ -1,7 +1,5 @@
 -- Periods of validity as values (RFC 5280 4.1.2.5).
-use Rattle.std.specs.Prelude.{◌≡◌, ◌≢◌, ℕ, true, List, ◌++◌}
-use Rattle.rpki_der.specs.declared.error.DecodeError.{DecodeError}
-use Rattle.rpki_der.specs.declared.error.DecodeError.TheVariants.{OutOfMemory}
+use Rattle.std.specs.Prelude.{◌≡◌, ℕ, true, List, ◌++◌}
 use Rattle.rpki_der.specs.TagName.{sequence}
 use Rattle.rpki_der.specs.Header.{tlv}
 use Rattle.rpki_der.specs.Values.{SpellsLeaf}
@@ -19,10 +17,6 @@ pub record IsPeriod (p : Period) (contents : List ℕ) : Type 0 where
 -- a SEQUENCE of two times
 abbrev pub SpellsPeriod : Period → List ℕ → Type 0
 SpellsPeriod = SpellsLeaf sequence true IsPeriod
-
--- any refusal but want of memory
-abbrev pub NeverMemory : List ℕ → DecodeError → Type 0
-NeverMemory contents e = e ≢ OutOfMemory
 
 -- what is written of a period
 abbrev pub period_octets : Period → List ℕ

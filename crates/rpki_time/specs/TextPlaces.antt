@@ -1,4 +1,4 @@
--- What stands at a place of a text: what the private readers of texts find there. No public contract speaks of it.
+-- What stands at a place of a text: what the private readers of texts find there.
 use Rattle.std.specs.Prelude.{◌≡◌, ℕ, ◌+◌, ◌/◌, ◌%◌, ◌<◌, List, ℤ, slice_index}
 use Rattle.jiff.specs.Types.{DateTime}
 use Rattle.rpki_time.specs.Time.{IsTimeYear}

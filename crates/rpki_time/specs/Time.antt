@@ -1,4 +1,4 @@
--- What contracts see of a time: jiff's civil date-time, with a day number and a nanosecond of that day.
+-- What contracts see of a time: the civil date-time that jiff has, in the years 0 to 9999, and its nanoseconds.
 use Rattle.std.specs.Prelude.{◌≡◌, ℕ, ◌<◌, ◌≤◌, ◌&&◌, ◌==◌, if◌then◌else◌, ℤ, pos, ◌+ℤ◌, ◌*ℤ◌, ◌<ℤ◌, ◌≤ℤ◌}
 use Rattle.std.proofs.Common.{lit<}
 use Rattle.jiff.specs.Types.{DateTime}

@@ -4,10 +4,10 @@ ghost use Rattle.jiff.specs.Types.{DateTime as Civil};
 ghost use Rattle.jiff.specs.Words.{civil_nanos, signed_nanos};
 ghost use Rattle.rpki_time.specs.Time.{IsTimeNanos, seconds};
 ghost use Rattle.rpki_der.specs.Cursor.{left};
-ghost use Rattle.rpki_der.specs.Reading.{Reads, Decodes};
+ghost use Rattle.rpki_der.specs.Reading.{Reads, Decodes, TakesNoMemory, AnyFault};
 ghost use Rattle.rpki_der.specs.TagName.{sequence};
 ghost use Rattle.rpki_der.specs.Values.{IsOuterFault};
-ghost use Rattle.rpki_time.specs.PeriodValue.{IsPeriod, SpellsPeriod, NeverMemory, period_octets};
+ghost use Rattle.rpki_time.specs.PeriodValue.{IsPeriod, SpellsPeriod, period_octets};
 ghost use Rattle.rpki_time.specs.Validity.{HoldsAt, SpansBetween, IsTrimmed};
 
 use crate::time::Time;
@@ -171,7 +171,7 @@ impl Validity {
 
     /// The period whose two times are all of the contents, the start first.
     fn take_times(mut contents: Constructed<'_>) -> Result<Validity, DecodeError>
-        ensures { Decodes (λ p. p) IsPeriod NeverMemory (left contents.entry) result }
+        ensures { Decodes (λ p. p) IsPeriod (TakesNoMemory AnyFault) (left contents.entry) result }
     {
         let not_before = match Time::take_from(&mut contents) {
             Ok(time) => time,

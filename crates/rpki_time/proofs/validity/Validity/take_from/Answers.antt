@@ -11,4 +11,4 @@ pub returns-in-Ok-take_times : goal.returns-in-Ok-take_times
 returns-in-Ok-take_times c = inner-accepted sequence true IsPeriod _ _ _ c.in-Ok-take_times.period c.in-Ok.ensures c.in-Ok-take_times.ensures
 
 pub returns-in-Err-take_times : goal.returns-in-Err-take_times
-returns-in-Err-take_times c = inner-refused-exactly sequence true IsPeriod _ _ _ _ c.in-Err-take_times.e refl c.in-Ok.ensures c.in-Err-take_times.ensures
+returns-in-Err-take_times c = inner-refused-exactly sequence true IsPeriod _ _ _ _ c.in-Err-take_times.e refl c.in-Ok.ensures (c.in-Err-take_times.ensures.0, c.in-Err-take_times.ensures.1.other)
