@@ -321,69 +321,57 @@ enum Written {
     Period(Parts, Parts),
 }
 
-/// Where values are written.
-#[derive(Drop)]
-enum Sink {
-    Captured(Option<Captured>),
-    Writer(FailsOnce),
-}
-
-/// Writes values that fit.
-fn put<V: Values>(alloc: Global, sink: &mut Sink, values: &V) -> io::Result<()> {
+/// Captures values that fit, and writes them to the writer too.
+fn put<V: Values>(alloc: Global, out: &mut FailsOnce, values: &V) -> io::Result<Captured> {
     if !values.fits() {
         return Err(io::Error::from(ErrorKind::InvalidInput));
     }
-    match sink {
-        Sink::Captured(found) => {
-            *found = Some(Captured::from_values(alloc, values)?);
-            Ok(())
-        }
-        Sink::Writer(out) => values.write_encoded(out),
-    }
+    let captured = Captured::from_values(alloc, values)?;
+    values.write_encoded(out)?;
+    Ok(captured)
 }
 
-fn put_time(alloc: Global, sink: &mut Sink, written: Written, parts: Parts) -> io::Result<()> {
+fn put_time(
+    alloc: Global,
+    out: &mut FailsOnce,
+    written: Written,
+    parts: Parts,
+) -> io::Result<Captured> {
     let Some(time) = moment_of(parts, 999_999_999) else {
         return Err(io::Error::from(ErrorKind::InvalidInput));
     };
     match written {
-        Written::Utc(_) => put(alloc, sink, &time.encode_utc_time()),
-        Written::Generalized(_) => put(alloc, sink, &time.encode_generalized_time()),
-        _ => put(alloc, sink, &time.encode_varied()),
+        Written::Utc(_) => put(alloc, out, &time.encode_utc_time()),
+        Written::Generalized(_) => put(alloc, out, &time.encode_generalized_time()),
+        _ => put(alloc, out, &time.encode_varied()),
     }
 }
 
-fn put_period(alloc: Global, sink: &mut Sink, start: Parts, end: Parts) -> io::Result<()> {
+fn put_period(
+    alloc: Global,
+    out: &mut FailsOnce,
+    start: Parts,
+    end: Parts,
+) -> io::Result<Captured> {
     match (time_of(start), time_of(end)) {
-        (Some(start), Some(end)) => put(alloc, sink, &Validity::new(start, end).encode()),
+        (Some(start), Some(end)) => put(alloc, out, &Validity::new(start, end).encode()),
         _ => Err(io::Error::from(ErrorKind::InvalidInput)),
     }
 }
 
-fn write_to(alloc: Global, sink: &mut Sink, written: Written) -> io::Result<()> {
+fn write_to(alloc: Global, out: &mut FailsOnce, written: Written) -> io::Result<Captured> {
     match written {
-        Written::Zero => put(alloc, sink, &Serial::default().encode()),
+        Written::Zero => put(alloc, out, &Serial::default().encode()),
         Written::Octets(octets) => match Serial::from_slice(octets) {
-            Ok(serial) => put(alloc, sink, &serial.encode()),
+            Ok(serial) => put(alloc, out, &serial.encode()),
             Err(_) => Err(io::Error::from(ErrorKind::InvalidInput)),
         },
-        Written::Number(number) => put(alloc, sink, &Serial::from(number).encode()),
-        Written::Small(number) => put(alloc, sink, &Serial::from(number).encode()),
+        Written::Number(number) => put(alloc, out, &Serial::from(number).encode()),
+        Written::Small(number) => put(alloc, out, &Serial::from(number).encode()),
         Written::Utc(parts) | Written::Generalized(parts) | Written::Varied(parts) => {
-            put_time(alloc, sink, written, parts)
+            put_time(alloc, out, written, parts)
         }
-        Written::Period(start, end) => put_period(alloc, sink, start, end),
-    }
-}
-
-fn write(alloc: Global, written: Written) -> Option<Captured> {
-    let mut sink = Sink::Captured(None);
-    match write_to(alloc, &mut sink, written) {
-        Ok(()) => match sink {
-            Sink::Captured(found) => found,
-            Sink::Writer(_) => None,
-        },
-        Err(_) => None,
+        Written::Period(start, end) => put_period(alloc, out, start, end),
     }
 }
 
@@ -439,9 +427,10 @@ fn contents_have_their_tags(rt: HostRuntime) {
 #[test]
 fn values_are_written(rt: HostRuntime) -> Result<(), Fail> {
     for (written, expected) in WRITTEN {
-        let found = write(rt.alloc(), *written);
-        let same = found.is_some_and(|values| values.as_slice() == *expected);
-        assert!(rt; same, "{written:?}");
+        let mut out = FailsOnce::never(rt.alloc());
+        let found = write_to(rt.alloc(), &mut out, *written)?;
+        assert_eq!(rt; found.as_slice(), *expected, "{written:?}");
+        assert!(rt; out.has_written(expected), "{written:?}");
     }
     Ok(())
 }

@@ -14,6 +14,33 @@ pub struct FailsOnce {
     has_failed: bool,
 }
 
+impl FailsOnce {
+    /// A writer that takes all, and does not fail.
+    pub fn never(alloc: Global) -> FailsOnce {
+        FailsOnce {
+            held: Vec::new(alloc),
+            most: usize::MAX,
+            calls: usize::MAX,
+            error: None,
+            has_failed: false,
+        }
+    }
+
+    /// Whether no call failed, and it holds these octets.
+    pub fn has_written(&self, octets: &[u8]) -> bool {
+        !self.has_failed && self.held.as_slice() == octets
+    }
+
+    /// Whether a call failed, it holds a beginning of these octets and not all of them, and this is the error.
+    fn has_failed(&self, octets: &[u8], error: Option<io::Error>) -> bool {
+        let held = self.held.as_slice();
+        self.has_failed
+            && held.len() < octets.len()
+            && octets.starts_with(held)
+            && error.is_some_and(|e| e.kind() == self.error.unwrap_or(ErrorKind::WriteZero))
+    }
+}
+
 impl Write for FailsOnce {
     fn write(&mut self, octets: &[u8]) -> io::Result<usize> {
         if self.calls == 0 && !self.has_failed {
@@ -43,58 +70,26 @@ const FAILURES: [(usize, Option<ErrorKind>); 5] = [
     (usize::MAX, None),
 ];
 
-/// Whether the writer failed at the call after so many, and what was written is then a beginning of these octets, with
-/// that error; None where neither is so and not all is written without an error.
-fn fails_after(
-    alloc: Global,
-    written: Written,
-    expected: &[u8],
-    most: usize,
-    calls: usize,
-    error: Option<ErrorKind>,
-) -> Option<bool> {
-    let mut sink = Sink::Writer(FailsOnce {
-        held: Vec::new(alloc),
-        most,
-        calls,
-        error,
-        has_failed: false,
-    });
-    let outcome = match write_to(alloc, &mut sink, written) {
-        Ok(()) => None,
-        Err(e) => Some(e.kind()),
-    };
-    let Sink::Writer(out) = sink else {
-        return None;
-    };
-    let held = out.held.as_slice();
-    if !out.has_failed {
-        let all = held == expected && outcome.is_none();
-        return if all { Some(false) } else { None };
-    }
-    let cut = held.len() < expected.len() && expected.starts_with(held);
-    let one_by_one = most > 1 || held.len() == calls;
-    let told = outcome == Some(error.unwrap_or(ErrorKind::WriteZero));
-    if cut && one_by_one && told {
-        Some(true)
-    } else {
-        None
-    }
-}
-
 #[test]
 fn a_failed_writer_holds_a_beginning(rt: HostRuntime) {
     for (written, expected) in WRITTEN {
         for (most, error) in FAILURES {
-            // A value of n octets takes n calls of one octet, or one call at least.
+            // A value of n octets takes n calls of one octet, or at least one call.
             let least = if most == 1 { expected.len() } else { 1 };
             for calls in 0..=expected.len() {
-                let fails = fails_after(rt.alloc(), *written, expected, most, calls, error);
-                let known = fails.is_some() && (calls >= least || fails == Some(true));
-                let ends = calls < expected.len() || fails == Some(false);
+                let mut out = FailsOnce {
+                    most,
+                    calls,
+                    error,
+                    ..FailsOnce::never(rt.alloc())
+                };
+                let outcome = write_to(rt.alloc(), &mut out, *written).err();
+                let whole = outcome.is_none() && out.has_written(expected);
+                let cut = out.has_failed(expected, outcome);
+                let one_by_one = most > 1 || out.held.len() == calls;
                 assert!(rt;
-                    known && ends,
-                    "{written:?}, {most}, {calls} calls, {error:?}"
+                    (whole && calls >= least) || (cut && calls < expected.len() && one_by_one),
+                    "{written:?}, {most} octets a call, {calls} calls, then {error:?}"
                 );
             }
         }

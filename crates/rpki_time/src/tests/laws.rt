@@ -31,20 +31,14 @@ fn answer_of_law(written: Written, cursor: &mut Constructed<'_>) -> Found {
     }
 }
 
-/// What the law's reader answers on what is written with a NULL behind it; and how many octets are left.
-fn read_back(alloc: Global, written: Written) -> io::Result<Option<(Found, usize)>> {
-    let Some(values) = write(alloc, written) else {
-        return Ok(None);
-    };
-    let mut sink = Sink::Captured(None);
-    put(alloc, &mut sink, &(&values, ().encode()))?;
-    let Sink::Captured(Some(more)) = sink else {
-        return Ok(None);
-    };
-    let source = more.into_bytes();
+/// What the law's reader answers on what is written with a NULL after it; and how many octets are left.
+fn read_back(alloc: Global, written: Written) -> io::Result<(Found, usize)> {
+    let mut out = FailsOnce::never(alloc);
+    let values = write_to(alloc, &mut out, written)?;
+    let source = put(alloc, &mut out, &(&values, ().encode()))?.into_bytes();
     let mut cursor = Constructed::new(&source);
     let found = answer_of_law(written, &mut cursor);
-    Ok(Some((found, cursor.rest().len())))
+    Ok((found, cursor.rest().len()))
 }
 
 const READ_BACK: &[(Written, Found)] = &[
@@ -99,7 +93,7 @@ const READ_BACK: &[(Written, Found)] = &[
 fn what_is_written_is_read_back(rt: HostRuntime) -> Result<(), Fail> {
     for (written, expected) in READ_BACK {
         let found = read_back(rt.alloc(), *written)?;
-        assert!(rt; found == Some((*expected, 2)), "{written:?}: {found:?}");
+        assert!(rt; found == (*expected, 2), "{written:?}: {found:?}");
     }
     Ok(())
 }
