@@ -3,15 +3,16 @@ use Rattle.std.proofs.Common.{◌≡◌, ◌↔◌, ℕ, ◌+◌, ◌<◌, ◌�
 use Rattle.std.proofs.lemmas.Bool.{cases_lt}
 use Rattle.rpki_der.specs.declared.error.DecodeError.{DecodeError}
 use Rattle.rpki_der.specs.declared.error.DecodeError.TheVariants.{Truncated, BadTag, BadLength, Unexpected, Content, Trailing, OutOfMemory}
-use Rattle.rpki_der.specs.Reading.{SpellsNothing, UnlessMemory, IsWholeFault}
+use Rattle.rpki_der.specs.Reading.{SpellsNothing, IsWholeFault}
+use Rattle.rpki_der.specs.Reading.{UnlessMemory as UnlessNoMemory}
 use Rattle.rpki_der.specs.Values.{GivesOuterFault}
 use Rattle.rpki_der.specs.TagName.{sequence}
 use Rattle.rpkibasic.specs.Fault.{refusal}
-use Rattle.rpkibasic.specs.Run.{IsFaultOf}
+use Rattle.rpkibasic.specs.Run.{IsFaultOf, UnlessMemory}
 
 -- the fault of a refusal by the reader of whole octets
 pub fault-of : {V : Type 0} (G : V → List ℕ → Type 0) (T : Type 0) (input : List ℕ) (e : DecodeError)
-    → UnlessMemory e (SpellsNothing G input) × IsWholeFault G (GivesOuterFault sequence true) input e → IsFaultOf G T input (refusal e)
+    → UnlessNoMemory e (SpellsNothing G input) × IsWholeFault G (GivesOuterFault sequence true) input e → UnlessMemory (refusal e) (IsFaultOf G T input (refusal e))
 fault-of G T input Truncated h = ((λ (z : Truncated ≡ OutOfMemory). cc), h.0, h.1)
 fault-of G T input BadTag h = ((λ (z : BadTag ≡ OutOfMemory). cc), h.0, h.1)
 fault-of G T input BadLength h = ((λ (z : BadLength ≡ OutOfMemory). cc), h.0, h.1)

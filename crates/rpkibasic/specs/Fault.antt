@@ -7,6 +7,8 @@ use Rattle.rpki_der.specs.Error.{error_number}
 use Rattle.rpki_text.specs.declared.uri.error.Error.{Error}
 use Rattle.rpki_text.specs.declared.uri.error.Error.TheVariants as uri
 use Rattle.rpki_text.specs.ErrorText.{error_number as uri_error_number}
+use Rattle.rpkibasic.specs.declared.input.Unread.{Unread}
+use Rattle.rpkibasic.specs.declared.input.Unread.TheVariants as unread
 use Rattle.rpkibasic.specs.declared.fault.Fault.{Fault}
 use Rattle.rpkibasic.specs.declared.fault.Fault.TheVariants.{Usage, Refused, RefusedUri, TooLong, OutOfMemory, Input, Output}
 
@@ -67,3 +69,9 @@ uri_refusal uri.DotSegments = RefusedUri uri.DotSegments
 uri_refusal uri.EmptySegments = RefusedUri uri.EmptySegments
 uri_refusal uri.LongSegments = RefusedUri uri.LongSegments
 uri_refusal uri.OutOfMemory = OutOfMemory
+
+-- the fault of an input that was not read to its end
+abbrev pub unread_fault : Unread → Fault
+unread_fault unread.OutOfMemory = OutOfMemory
+unread_fault unread.Endless = Input
+unread_fault (unread.Failed e) = Input

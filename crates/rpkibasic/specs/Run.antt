@@ -5,7 +5,7 @@ use Rattle.rpki_der.specs.declared.error.DecodeError.TheVariants as der
 use Rattle.rpki_der.specs.Reading.{SpellsNothing, IsWholeFault}
 use Rattle.rpki_der.specs.Values.{GivesOuterFault}
 use Rattle.rpki_der.specs.TagName.{sequence}
-use Rattle.rpki_der.specs.Written.{AppendsCut, AppendsBeginning}
+use Rattle.rpki_der.specs.Written.{AppendsCut}
 use Rattle.rpki.specs.Oids.{sha256_with_rsa_encryption}
 use Rattle.rpki.specs.Algorithm.{SpellsAlgorithm}
 use Rattle.rpki.specs.AlgorithmOctets.{algorithm_octets}
@@ -15,6 +15,7 @@ use Rattle.rpki_text.specs.HexText.{hex_text}
 use Rattle.sha1.specs.Sha1.{sha1}
 use Rattle.rpki_text.specs.declared.uri.error.Error.{Error}
 use Rattle.rpkibasic.specs.UriLines.{without_last_line_feed, uri_refusal_of, uri_lines}
+use Rattle.rpkibasic.specs.Input.{most_octets}
 use Rattle.rpkibasic.specs.Fault.{usage_text, line, status_of}
 use Rattle.rpkibasic.specs.declared.fault.Fault.{Fault}
 use Rattle.rpkibasic.specs.declared.fault.Fault.TheVariants.{Usage, Refused, RefusedUri, TooLong, OutOfMemory, Input, Output}
@@ -36,57 +37,83 @@ SpellsRpki = SpellsSigned (SpellsAlgorithm sha256_with_rsa_encryption)
 abbrev pub written_algorithm : Bool → List ℕ
 written_algorithm present = algorithm_octets sha256_with_rsa_encryption true
 
--- Why an input gives no text: it is in the grammar of none, and the reader of whole octets refuses it so; or T; or memory
--- ran out; or it could not be read to its end.
+-- the octets spell the value, and no other value
+abbrev pub SpellsOnly : {V : Type 0} → (V → List ℕ → Type 0) → V → List ℕ → Type 0
+SpellsOnly {V} G v octets = G v octets × ((w : V) → G w octets → w ≡ v)
+
+-- Why an input gives no text: it is in the grammar of none, and the reader of whole octets refuses it so; or T.
 abbrev pub IsFaultOf : {V : Type 0} → (V → List ℕ → Type 0) → Type 0 → List ℕ → Fault → Type 0
 IsFaultOf G T input (Refused e) = (e ≢ der.OutOfMemory) × SpellsNothing G input × IsWholeFault G (GivesOuterFault sequence true) input e
 IsFaultOf G T input (RefusedUri e) = ⊥
 IsFaultOf G T input TooLong = T
-IsFaultOf G T input OutOfMemory = Unit {0}
-IsFaultOf G T input Input = Unit {0}
+IsFaultOf G T input OutOfMemory = ⊥
+IsFaultOf G T input Input = ⊥
 IsFaultOf G T input Usage = ⊥
 IsFaultOf G T input Output = ⊥
 
 -- The input is signed data, and the text is what is written of it.
 abbrev pub IsAgain : List ℕ → List ℕ → Type 0
-IsAgain input text = (x : Signed) × SpellsRpki x input × (length (written_contents written_algorithm x) < 2 ^ 32) × (text ≡ written_signed written_algorithm x)
+IsAgain input text = (x : Signed) × SpellsOnly SpellsRpki x input × (length (written_contents written_algorithm x) < 2 ^ 32) × (text ≡ written_signed written_algorithm x)
 
 -- The input is signed data, and no length can announce the contents that would be written.
 abbrev pub IsTooLong : List ℕ → Type 0
-IsTooLong input = (x : Signed) × SpellsRpki x input × (2 ^ 32 ≤ length (written_contents written_algorithm x))
+IsTooLong input = (x : Signed) × SpellsOnly SpellsRpki x input × (2 ^ 32 ≤ length (written_contents written_algorithm x))
 
 -- The input is signed data, and the text is the signed slice.
 abbrev pub IsSlice : List ℕ → List ℕ → Type 0
-IsSlice input text = (x : Signed) × SpellsRpki x input × (text ≡ x.signed)
+IsSlice input text = (x : Signed) × SpellsOnly SpellsRpki x input × (text ≡ x.signed)
 
 -- The input is a public key, and the text is a line: its identifier, the SHA-1 digest of its bits, in hexadecimal digits.
 abbrev pub IsKeyLine : List ℕ → List ℕ → Type 0
-IsKeyLine input text = (k : KeyParts) × SpellsKey k input × (text ≡ hex_text (sha1 k.bits.octets) ++ 10 ∷ [])
+IsKeyLine input text = (k : KeyParts) × SpellsOnly SpellsKey k input × (text ≡ hex_text (sha1 k.bits.octets) ++ 10 ∷ [])
 
 -- The input is a text with which nothing is wrong as a URI, and these are its lines.
 abbrev pub IsLines : List ℕ → List ℕ → Type 0
 IsLines input text = (uri_refusal_of (without_last_line_feed input) ≡ None) × (text ≡ uri_lines (without_last_line_feed input))
 
--- Why a text has no lines: what is wrong with it first; or memory ran out; or it could not be read to its end.
+-- Why a text has no lines: what is wrong with it first.
 abbrev pub IsRefusedText : Option Error → Fault → Type 0
 IsRefusedText wrong (RefusedUri e) = wrong ≡ Some e
-IsRefusedText wrong OutOfMemory = Unit {0}
-IsRefusedText wrong Input = Unit {0}
 IsRefusedText wrong (Refused e) = ⊥
 IsRefusedText wrong TooLong = ⊥
+IsRefusedText wrong OutOfMemory = ⊥
+IsRefusedText wrong Input = ⊥
 IsRefusedText wrong Usage = ⊥
 IsRefusedText wrong Output = ⊥
 
--- what each command asks of the input
+-- the answer that is due to the input, which is one for each command
+abbrev pub IsDue : Command → List ℕ → Answer → Type 0
+IsDue Again input (Ok text) = IsAgain input text
+IsDue Again input (Err fault) = IsFaultOf SpellsRpki (IsTooLong input) input fault
+IsDue Data input (Ok text) = IsSlice input text
+IsDue Data input (Err fault) = IsFaultOf SpellsRpki ⊥ input fault
+IsDue Key input (Ok text) = IsKeyLine input text
+IsDue Key input (Err fault) = IsFaultOf SpellsKey ⊥ input fault
+IsDue Uri input (Ok text) = IsLines input text
+IsDue Uri input (Err fault) = IsRefusedText (uri_refusal_of (without_last_line_feed input)) fault
+
+-- a fact of each fault but an allocation failure
+abbrev pub UnlessMemory : Fault → Type 0 → Type 0
+UnlessMemory (Refused e) P = P
+UnlessMemory (RefusedUri e) P = P
+UnlessMemory TooLong P = P
+UnlessMemory OutOfMemory P = Unit {0}
+UnlessMemory Input P = P
+UnlessMemory Usage P = P
+UnlessMemory Output P = P
+
+-- the answer that is due to the whole input, or an allocation failure
 abbrev pub Answers : Command → List ℕ → Answer → Type 0
-Answers Again input (Ok text) = IsAgain input text
-Answers Again input (Err fault) = IsFaultOf SpellsRpki (IsTooLong input) input fault
-Answers Data input (Ok text) = IsSlice input text
-Answers Data input (Err fault) = IsFaultOf SpellsRpki ⊥ input fault
-Answers Key input (Ok text) = IsKeyLine input text
-Answers Key input (Err fault) = IsFaultOf SpellsKey ⊥ input fault
-Answers Uri input (Ok text) = IsLines input text
-Answers Uri input (Err fault) = IsRefusedText (uri_refusal_of (without_last_line_feed input)) fault
+Answers command input (Ok text) = IsDue command input (Ok text)
+Answers command input (Err fault) = UnlessMemory fault (IsDue command input (Err fault))
+
+-- the two faults that are not the input's: an allocation failed, or the input was not read to its end
+abbrev pub GaveUp : Answer → Type 0
+GaveUp a = (a ≡ Err OutOfMemory) ⊎ (a ≡ Err Input)
+
+-- the answer that is due to an input whose end the calls of the reader can find; or the program gave up
+abbrev pub Replies : Command → List ℕ → Answer → Type 0
+Replies command input a = (IsDue command input a × (length input ≤ most_octets)) ⊎ GaveUp a
 
 -- without words, and with other words
 abbrev pub usage_answer : List (List ℕ) → Answer
@@ -95,11 +122,15 @@ usage_answer (word ∷ words) = Err Usage
 
 -- ---- what is seen of it
 
+-- the line of the fault is there; or a write failed before its end
+abbrev pub IsTold : Option (List ℕ) → Option (List ℕ) → Fault → Type 0
+IsTold was is fault = Appends was is (line fault) ⊎ AppendsCut was is (line fault)
+
 -- A text goes to the output, the faults are left alone and the status is 0; or the output failed, holds a beginning of
--- the text and not all of it, a beginning of the line that says so goes to the faults and the status is 1. Of a fault a
--- beginning of its line goes to the faults, and the output is left alone.
+-- the text and not all of it, the line that says so goes to the faults and the status is 1. Of a fault its line goes to
+-- the faults, and the output is left alone.
 abbrev pub Shows : (old new was is : Option (List ℕ)) → Answer → ℕ → Type 0
 Shows old new was is (Ok text) status =
     (Appends old new text × Appends was is [] × (status ≡ 0))
-    ⊎ (AppendsCut old new text × AppendsBeginning was is (line Output) × (status ≡ 1))
-Shows old new was is (Err fault) status = Appends old new [] × AppendsBeginning was is (line fault) × (status ≡ status_of fault)
+    ⊎ (AppendsCut old new text × IsTold was is Output × (status ≡ 1))
+Shows old new was is (Err fault) status = Appends old new [] × IsTold was is fault × (status ≡ status_of fault)

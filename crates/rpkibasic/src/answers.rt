@@ -1,7 +1,7 @@
 //! What each command answers.
 
 ghost use Rattle.std.specs.Prelude.{◌≡◌, ◌≢◌, ◌<◌, ◌≤◌, ◌^◌, ◌⊎◌, length, true, MatchResult, IfSome};
-ghost use Rattle.rpkibasic.specs.Run.{SpellsRpki, IsFaultOf, Answers, written_algorithm};
+ghost use Rattle.rpkibasic.specs.Run.{SpellsOnly, SpellsRpki, IsFaultOf, UnlessMemory, Answers, written_algorithm};
 ghost use Rattle.rpkibasic.specs.View.{answer_of};
 ghost use Rattle.rpkibasic.specs.declared.command.Command.TheVariants.{Again, Data};
 ghost use Rattle.rpki.specs.SignedData.{written_contents, written_signed};
@@ -18,7 +18,7 @@ type RpkiSignedData = SignedData<RpkiSignatureAlgorithm>;
 
 /// The signed data that the input is.
 fn decoded(alloc: Global, input: Vec<u8>) -> Result<RpkiSignedData, Fault>
-    ensures { MatchResult result (λ v. SpellsRpki v input.items) (λ f. IsFaultOf SpellsRpki ⊥ input.items f) }
+    ensures { MatchResult result (λ v. SpellsOnly SpellsRpki v input.items) (λ f. UnlessMemory f (IsFaultOf SpellsRpki ⊥ input.items f)) }
 {
     let octets = match Bytes::from_vec(input) {
         Ok(octets) => octets,
@@ -51,21 +51,15 @@ fn written(alloc: Global, signed: &RpkiSignedData) -> Result<Vec<u8>, Fault>
 pub fn again(alloc: Global, input: Vec<u8>) -> Result<Vec<u8>, Fault>
     ensures { Answers Again input.items (answer_of result) }
 {
-    let signed = match decoded(alloc, input) {
-        Ok(signed) => signed,
-        Err(fault) => return Err(fault),
-    };
+    let signed = decoded(alloc, input)?;
     written(alloc, &signed)
 }
 
 /// The slice that is signed.
-pub fn slice(alloc: Global, input: Vec<u8>) -> Result<Vec<u8>, Fault>
+pub fn data(alloc: Global, input: Vec<u8>) -> Result<Vec<u8>, Fault>
     ensures { Answers Data input.items (answer_of result) }
 {
-    let signed = match decoded(alloc, input) {
-        Ok(signed) => signed,
-        Err(fault) => return Err(fault),
-    };
+    let signed = decoded(alloc, input)?;
     match Vec::from_slice(alloc, signed.data().as_slice()) {
         Ok(text) => Ok(text),
         Err(_) => Err(Fault::OutOfMemory),

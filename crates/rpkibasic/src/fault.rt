@@ -1,9 +1,11 @@
 //! Why nothing is answered.
 
 ghost use Rattle.std.specs.Prelude.{◌≡◌};
-ghost use Rattle.rpki_der.specs.Written.{Writes, AppendsBeginning};
+ghost use Rattle.rpki_der.specs.Written.{WritesOrCuts};
 ghost use Rattle.rpkibasic.specs.Fault.{line, text_of, status_of};
+ghost use Rattle.rpkibasic.specs.Run.{IsTold};
 
+use crate::input::Unread;
 use rpki::der::{DecodeError, write_whole};
 use rpki::uri;
 use std::io;
@@ -43,7 +45,7 @@ impl Fault {
     }
 }
 
-/// Want of memory is a fault of its own, and no refusal.
+/// An allocation failure is a fault of its own, and no refusal.
 impl From<DecodeError> for Fault {
     ghost use Rattle.std.specs.Prelude.{◌≡◌};
     ghost use Rattle.rpkibasic.specs.Fault.{refusal};
@@ -58,7 +60,7 @@ impl From<DecodeError> for Fault {
     }
 }
 
-/// Want of memory is a fault of its own, and no refusal.
+/// An allocation failure is a fault of its own, and no refusal.
 impl From<uri::Error> for Fault {
     ghost use Rattle.std.specs.Prelude.{◌≡◌};
     ghost use Rattle.rpkibasic.specs.Fault.{uri_refusal};
@@ -69,6 +71,21 @@ impl From<uri::Error> for Fault {
         match e {
             uri::Error::OutOfMemory => Fault::OutOfMemory,
             e => Fault::RefusedUri(e),
+        }
+    }
+}
+
+/// A reader that fails, and one that never comes to its end, are one fault.
+impl From<Unread> for Fault {
+    ghost use Rattle.std.specs.Prelude.{◌≡◌};
+    ghost use Rattle.rpkibasic.specs.Fault.{unread_fault};
+
+    ghost from_gives = { λ unread f. f ≡ unread_fault unread };
+
+    fn from(unread: Unread) -> Fault {
+        match unread {
+            Unread::Failed(_) | Unread::Endless => Fault::Input,
+            Unread::OutOfMemory => Fault::OutOfMemory,
         }
     }
 }
@@ -88,24 +105,22 @@ fn text_of(fault: Fault) -> &'static [u8]
 }
 
 /// Writes the line of the fault.
-fn write_line<F: Write>(faults: &mut F, fault: Fault) -> io::Result<()>
-    ensures { Writes (F.contents faults.old) (F.contents faults.new) result (line fault) }
+fn tell<F: Write>(faults: &mut F, fault: Fault) -> io::Result<()>
+    ensures { WritesOrCuts (F.contents faults.old) (F.contents faults.new) result (line fault) }
 {
-    match write_whole(faults, text_of(fault)) {
-        Ok(()) => match fault {
-            Fault::Refused(e) => write_whole(faults, &[b'0' + e.number(), b'\n']),
-            Fault::RefusedUri(e) => write_whole(faults, &[b'0' + e.number(), b'\n']),
-            Fault::Usage | Fault::TooLong | Fault::OutOfMemory | Fault::Input | Fault::Output => Ok(
-                (),
-            ),
-        },
-        Err(e) => Err(e),
+    write_whole(faults, text_of(fault))?;
+    match fault {
+        Fault::Refused(e) => write_whole(faults, &[b'0' + e.number(), b'\n']),
+        Fault::RefusedUri(e) => write_whole(faults, &[b'0' + e.number(), b'\n']),
+        Fault::Usage | Fault::TooLong | Fault::OutOfMemory | Fault::Input | Fault::Output => Ok(()),
     }
 }
 
-/// Writes the line of the fault, as far as the writer takes it.
-pub fn tell<F: Write>(faults: &mut F, fault: Fault)
-    ensures { AppendsBeginning (F.contents faults.old) (F.contents faults.new) (line fault) }
+/// Writes the line of the fault, as far as the writer takes it, and returns the exit status.
+pub fn refuse<F: Write>(faults: &mut F, fault: Fault) -> u8
+    ensures told { IsTold (F.contents faults.old) (F.contents faults.new) fault }
+    ensures status { result ≡ status_of fault }
 {
-    let _ = write_line(faults, fault);
+    let _ = tell(faults, fault);
+    fault.status()
 }

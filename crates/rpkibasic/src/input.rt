@@ -1,32 +1,65 @@
 //! The input, read to its end.
 
-ghost use Rattle.std.specs.Prelude.{◌≡◌, ◌⊎◌, IfOk, IfErr, IfSome};
+ghost use Rattle.std.specs.Prelude.{◌≡◌, ◌≤◌, length, OnOk, IfOk, IfErr, IfSome};
+ghost use Rattle.std.specs.Io.KnownBytes.{IsAtEnd};
+ghost use Rattle.rpkibasic.specs.Input.{most_octets, IsUnread};
 
-use crate::fault::Fault;
-use std::alloc::Global;
+use std::alloc::{AllocError, Global};
+use std::io;
 use std::io::Read;
 
-/// How often `read` is called at most.
+/// Why an input was not read to its end.
+#[derive(Clone, Copy)]
+pub enum Unread {
+    /// The reader failed.
+    Failed(io::Error),
+    /// No call of the reader found the end.
+    Endless,
+    /// Memory ran out.
+    OutOfMemory,
+}
+
+impl From<io::Error> for Unread {
+    ghost use Rattle.std.specs.Prelude.{◌≡◌};
+    ghost use Rattle.rpkibasic.specs.declared.input.Unread.TheVariants.{Failed};
+
+    ghost from_gives = { λ e unread. unread ≡ Failed e };
+
+    fn from(e: io::Error) -> Unread {
+        Unread::Failed(e)
+    }
+}
+
+impl From<AllocError> for Unread {
+    ghost use Rattle.std.specs.Prelude.{◌≡◌};
+    ghost use Rattle.rpkibasic.specs.declared.input.Unread.TheVariants.{OutOfMemory};
+
+    ghost from_gives = { λ _ unread. unread ≡ OutOfMemory };
+
+    fn from(_: AllocError) -> Unread {
+        Unread::OutOfMemory
+    }
+}
+
+/// How often the reader is called at most.
 const CALLS: u32 = 16_777_216;
 
 /// All of the input. The reader is asked for 4,096 octets at a time.
 ///
-/// Input where the reader fails, or has not come to its end after 16,777,216 calls; OutOfMemory.
-pub fn read_all<R: Read>(alloc: Global, input: &mut R) -> Result<Vec<u8>, Fault>
+/// Failed where the reader fails; Endless where it has not come to its end after 16,777,216 calls; OutOfMemory.
+pub fn read_all<R: Read>(alloc: Global, input: &mut R) -> Result<Vec<u8>, Unread>
     ensures whole { IfOk result (λ v. IfSome (R.remaining input.old) (λ octets. v.items ≡ octets)) }
-    ensures refused { IfErr result (λ e. (e ≡ Fault.OutOfMemory) ⊎ (e ≡ Fault.Input)) }
+    ensures end { OnOk result (IsAtEnd (R.remaining input.new)) }
+    ensures most { IfOk result (λ v. length v.items ≤ most_octets) }
+    ensures unread { IfErr result (λ why. IfSome (R.remaining input.old) (λ octets. IsUnread octets why)) }
 {
     let mut all = Vec::new(alloc);
     let mut buffer = [0u8; 4096];
     for _ in 0..CALLS {
-        match input.read(&mut buffer) {
-            Ok(0) => return Ok(all),
-            Ok(n) => match all.extend_from_slice(&buffer[..n]) {
-                Ok(()) => {}
-                Err(_) => return Err(Fault::OutOfMemory),
-            },
-            Err(_) => return Err(Fault::Input),
+        match input.read(&mut buffer)? {
+            0 => return Ok(all),
+            n => all.extend_from_slice(&buffer[..n])?,
         }
     }
-    Err(Fault::Input)
+    Err(Unread::Endless)
 }

@@ -3,7 +3,7 @@
 ghost use Rattle.std.specs.Prelude.{◌≡◌, ◌++◌, ◌∷◌, [], IfOk, MatchResult};
 ghost use Rattle.rpki.specs.PublicKey.{SpellsKey};
 ghost use Rattle.rpki_text.specs.HexText.{hex_text};
-ghost use Rattle.rpkibasic.specs.Run.{IsFaultOf, Answers};
+ghost use Rattle.rpkibasic.specs.Run.{SpellsOnly, IsFaultOf, UnlessMemory, Answers};
 ghost use Rattle.rpkibasic.specs.View.{answer_of};
 ghost use Rattle.rpkibasic.specs.declared.command.Command.TheVariants.{Key};
 
@@ -14,8 +14,8 @@ use rpki::crypto::{KeyIdentifier, PublicKey};
 use std::alloc::{AllocError, Global};
 
 /// The public key that the input is.
-fn decoded_key(input: Vec<u8>) -> Result<PublicKey, Fault>
-    ensures { MatchResult result (λ k. SpellsKey k input.items) (λ f. IsFaultOf SpellsKey ⊥ input.items f) }
+fn decoded(input: Vec<u8>) -> Result<PublicKey, Fault>
+    ensures { MatchResult result (λ k. SpellsOnly SpellsKey k input.items) (λ f. UnlessMemory f (IsFaultOf SpellsKey ⊥ input.items f)) }
 {
     let octets = match Bytes::from_vec(input) {
         Ok(octets) => octets,
@@ -37,13 +37,10 @@ fn line_of(alloc: Global, identifier: KeyIdentifier) -> Result<Vec<u8>, AllocErr
 }
 
 /// The line of the identifier of the public key that the input is.
-pub fn identifier(alloc: Global, input: Vec<u8>) -> Result<Vec<u8>, Fault>
+pub fn key(alloc: Global, input: Vec<u8>) -> Result<Vec<u8>, Fault>
     ensures { Answers Key input.items (answer_of result) }
 {
-    let key = match decoded_key(input) {
-        Ok(key) => key,
-        Err(fault) => return Err(fault),
-    };
+    let key = decoded(input)?;
     let provider = BenchProvider::new(Vec::new(alloc));
     match line_of(alloc, key.key_identifier(&provider)) {
         Ok(line) => Ok(line),

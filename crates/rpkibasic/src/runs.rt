@@ -3,33 +3,30 @@
 ghost use Rattle.std.specs.Prelude.{◌≡◌, [], ◌∷◌, IfSome, IfOk, IfErr, MatchResult, map, string_bytes, Result, Ok, Err};
 ghost use Rattle.rpkibasic.specs.Fault.{usage_text};
 ghost use Rattle.rpkibasic.specs.Command.{word_of};
-ghost use Rattle.rpkibasic.specs.Run.{Answer, Answers, Shows, usage_answer};
+ghost use Rattle.rpkibasic.specs.Run.{Answer, Replies, Shows, usage_answer};
 ghost use Rattle.rpkibasic.specs.View.{answer_of, lent_of};
 ghost use Rattle.rpkibasic.specs.declared.command.Command.{Command as AnyCommand};
 
-use crate::answers::{again, slice};
+use crate::answers::{again, data};
 use crate::command::Command;
-use crate::fault::{Fault, USAGE, tell};
+use crate::fault::{Fault, USAGE, refuse};
 use crate::input::read_all;
-use crate::keys::identifier;
-use crate::uris::lines;
+use crate::keys::key;
+use crate::uris::uri;
 use rpki::der::write_whole;
 use std::alloc::Global;
 use std::io::{Read, Write};
 
 /// What the command answers to the input.
 fn answer<R: Read>(alloc: Global, command: Command, input: &mut R) -> Result<Vec<u8>, Fault>
-    ensures { IfSome (R.remaining input.old) (λ octets. Answers command octets (answer_of result)) }
+    ensures { IfSome (R.remaining input.old) (λ octets. Replies command octets (answer_of result)) }
 {
-    let octets = match read_all(alloc, input) {
-        Ok(octets) => octets,
-        Err(fault) => return Err(fault),
-    };
+    let octets = read_all(alloc, input)?;
     match command {
         Command::Again => again(alloc, octets),
-        Command::Data => slice(alloc, octets),
-        Command::Key => identifier(alloc, octets),
-        Command::Uri => lines(alloc, octets),
+        Command::Data => data(alloc, octets),
+        Command::Key => key(alloc, octets),
+        Command::Uri => uri(alloc, octets),
     }
 }
 
@@ -40,15 +37,9 @@ fn show<W: Write, F: Write>(answer: Result<&[u8], Fault>, output: &mut W, faults
     match answer {
         Ok(text) => match write_whole(output, text) {
             Ok(()) => 0,
-            Err(_) => {
-                tell(faults, Fault::Output);
-                Fault::Output.status()
-            }
+            Err(_) => refuse(faults, Fault::Output),
         },
-        Err(fault) => {
-            tell(faults, fault);
-            fault.status()
-        }
+        Err(fault) => refuse(faults, fault),
     }
 }
 
@@ -66,9 +57,9 @@ pub fn run<R: Read, W: Write, F: Write>(
     output: &mut W,
     faults: &mut F,
 ) -> u8
-    // A command is answered from the whole input.
+    // A command is answered from the whole input, or the program gives up.
     ensures replies { (command : AnyCommand) → map string_bytes words.now ≡ word_of command ∷ [] →
-        IfSome (R.remaining input.old) (λ octets. (a : Answer) × Answers command octets a
+        IfSome (R.remaining input.old) (λ octets. (a : Answer) × Replies command octets a
         × Shows (W.contents output.old) (W.contents output.new) (F.contents faults.old) (F.contents faults.new) a result) }
     // Other words get the usage line, and the input is unread.
     ensures usage { ((command : AnyCommand) → map string_bytes words.now ≡ word_of command ∷ [] → ⊥) → (input.new ≡ input.old)

@@ -1,7 +1,7 @@
 //! The parts of a URI, a line each.
 
 ghost use Rattle.std.specs.Prelude.{◌≡◌, ◌++◌, ◌∷◌, [], OnOk, MatchResult, IfOk, IfErr, Some, None};
-ghost use Rattle.rpkibasic.specs.Run.{Answers, IsRefusedText};
+ghost use Rattle.rpkibasic.specs.Run.{Answers, UnlessMemory, IsRefusedText};
 ghost use Rattle.rpkibasic.specs.View.{answer_of};
 ghost use Rattle.rpkibasic.specs.UriLines.{without_last_line_feed, line_of, https_lines, rsync_lines};
 ghost use Rattle.rpkibasic.specs.declared.command.Command.TheVariants.{Uri};
@@ -60,7 +60,7 @@ fn lines_of_rsync(alloc: Global, uri: &Rsync) -> Result<Vec<u8>, AllocError>
 /// The lines of the https URI that the text is.
 fn https_text(alloc: Global, text: &[u8]) -> Result<Vec<u8>, Fault>
     ensures { MatchResult result (λ lines. (https_refusal text.now ≡ None) × (lines.items ≡ https_lines text.now))
-        (λ f. IsRefusedText (https_refusal text.now) f) }
+        (λ f. UnlessMemory f (IsRefusedText (https_refusal text.now) f)) }
 {
     match Https::from_slice(alloc, text) {
         Ok(uri) => match lines_of_https(alloc, &uri) {
@@ -74,7 +74,7 @@ fn https_text(alloc: Global, text: &[u8]) -> Result<Vec<u8>, Fault>
 /// The lines of the rsync URI that the text is.
 fn rsync_text(alloc: Global, text: &[u8]) -> Result<Vec<u8>, Fault>
     ensures { MatchResult result (λ lines. (rsync_refusal text.now ≡ None) × (lines.items ≡ rsync_lines text.now))
-        (λ f. IsRefusedText (rsync_refusal text.now) f) }
+        (λ f. UnlessMemory f (IsRefusedText (rsync_refusal text.now) f)) }
 {
     match Rsync::from_slice(alloc, text) {
         Ok(uri) => match lines_of_rsync(alloc, &uri) {
@@ -87,7 +87,7 @@ fn rsync_text(alloc: Global, text: &[u8]) -> Result<Vec<u8>, Fault>
 
 /// The lines of the URI that the input is, without one line feed at its end: an https URI where the text begins with
 /// that scheme, in whatever case, else an rsync URI.
-pub fn lines(alloc: Global, input: Vec<u8>) -> Result<Vec<u8>, Fault>
+pub fn uri(alloc: Global, input: Vec<u8>) -> Result<Vec<u8>, Fault>
     ensures { Answers Uri input.items (answer_of result) }
 {
     let text = without_last_line_feed(input.as_slice());

@@ -2,6 +2,9 @@ use Rattle.rpkibasic.specs.Run.{SpellsRpki}
 use Rattle.rpkibasic.proofs.Faults.{fault-of}
 use Rattle.rpkibasic.proofs.answers.decoded.Goals as goal
 
+pub returns-in-Ok-decode : goal.returns-in-Ok-decode
+returns-in-Ok-decode c = rw c.in-Ok.ensures.ok at c.in-Ok-decode.ensures.decodes
+
 pub returns-in-Err-decode : goal.returns-in-Err-decode
 returns-in-Err-decode c =
     rw c.from.ensures (fault-of SpellsRpki ⊥ c.args.input.items c.in-Err-decode.e (rw c.in-Ok.ensures.ok at c.in-Err-decode.ensures.decodes))

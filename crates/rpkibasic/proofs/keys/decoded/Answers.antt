@@ -1,6 +1,9 @@
 use Rattle.rpki.specs.PublicKey.{SpellsKey}
 use Rattle.rpkibasic.proofs.Faults.{fault-of}
-use Rattle.rpkibasic.proofs.keys.decoded_key.Goals as goal
+use Rattle.rpkibasic.proofs.keys.decoded.Goals as goal
+
+pub returns-in-Ok-decode : goal.returns-in-Ok-decode
+returns-in-Ok-decode c = rw c.in-Ok.ensures.ok at c.in-Ok-decode.ensures
 
 pub returns-in-Err-decode : goal.returns-in-Err-decode
 returns-in-Err-decode c =

@@ -1,0 +1,15 @@
+-- Reading the input to its end.
+use Rattle.std.specs.Prelude.{◌≡◌, ◌≢◌, ℕ, ◌*◌, ◌≤◌, List, [], length}
+use Rattle.rpkibasic.specs.declared.input.Unread.{Unread}
+use Rattle.rpkibasic.specs.declared.input.Unread.TheVariants.{Failed, Endless, OutOfMemory}
+
+-- the reader is called at most 16,777,216 times, for 4,096 octets each time, and the last call finds the end
+abbrev pub most_octets : ℕ
+most_octets = 16_777_215 * 4_096
+
+-- Why the octets that a reader has were not read to their end: each of 16,777,216 calls gave one of them or more; or
+-- memory ran out, which an octet takes; or the reader failed.
+abbrev pub IsUnread : List ℕ → Unread → Type 0
+IsUnread octets Endless = 16_777_216 ≤ length octets
+IsUnread octets OutOfMemory = octets ≢ []
+IsUnread octets (Failed e) = Unit {0}
