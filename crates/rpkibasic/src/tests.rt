@@ -2,7 +2,9 @@
 
 mod failing;
 
-use crate::fault::{Fault, tell};
+use crate::arguments::words_of;
+use crate::fault::{Fault, refuse};
+use crate::input::Unread;
 use crate::provider::{BenchProvider, Row};
 use crate::runs::run;
 use bytes::Bytes;
@@ -11,6 +13,8 @@ use rpki::der::DecodeError;
 use rpki::repository::x509::SignedData;
 use rpki::uri;
 use std::alloc::{AllocError, Global};
+use std::io;
+use std::io::ErrorKind;
 use std::test::Fail;
 
 /// An algorithm identifier with parameters, an algorithm identifier without them, and the ends of signed data.
@@ -90,7 +94,7 @@ struct Case {
     faults: &'static str,
 }
 
-/// Signed data of these parts: its first two octets and the slice, the algorithm, and the signature.
+/// Runs whose words, input and answers are known, one after another.
 const CASES: &[Case] = &[
     Case {
         words: &["again"],
@@ -217,6 +221,27 @@ const CASES: &[Case] = &[
         status: 1,
         output: &[],
         faults: "refused 6\n",
+    },
+    Case {
+        words: &["data"],
+        input: &[],
+        status: 1,
+        output: &[],
+        faults: "refused 1\n",
+    },
+    Case {
+        words: &["key"],
+        input: &[],
+        status: 1,
+        output: &[],
+        faults: "refused 1\n",
+    },
+    Case {
+        words: &["uri"],
+        input: &[],
+        status: 1,
+        output: &[],
+        faults: "refused 4\n",
     },
     Case {
         words: &["again"],
@@ -534,12 +559,58 @@ const FAULTS: [(Fault, u8, &[u8]); 8] = [
 fn fault_lines(rt: HostRuntime) {
     for (fault, status, line) in FAULTS {
         let mut faults = Vec::new(rt.alloc());
-        tell(&mut faults, fault);
+        assert_eq!(rt; refuse(&mut faults, fault), status, "{fault:?}");
         assert_eq!(rt; faults.as_slice(), line, "{fault:?}");
         assert_eq!(rt; fault.status(), status, "{fault:?}");
     }
     assert!(rt; Fault::from(DecodeError::OutOfMemory) == Fault::OutOfMemory);
     assert!(rt; Fault::from(uri::Error::OutOfMemory) == Fault::OutOfMemory);
+}
+
+#[test]
+fn faults_of_unread_inputs(rt: HostRuntime) {
+    let failed = Unread::Failed(io::Error::from(ErrorKind::OutOfMemory));
+    for (unread, fault) in [
+        (failed, Fault::Input),
+        (Unread::Endless, Fault::Input),
+        (Unread::OutOfMemory, Fault::OutOfMemory),
+    ] {
+        assert!(rt; Fault::from(unread) == fault, "{fault:?}");
+    }
+}
+
+/// The program's arguments, and the words.
+const ARGUMENTS: [(&[&str], &[&str]); 5] = [
+    (&[], &[]),
+    (&["rpkibasic"], &[]),
+    (&["rpkibasic", "again"], &["again"]),
+    (&["again", "key", "x"], &["key", "x"]),
+    (&["", ""], &[""]),
+];
+
+#[test]
+fn words_of_arguments(rt: HostRuntime) -> Result<(), Fail> {
+    for (arguments, words) in ARGUMENTS {
+        let given = owned(rt.alloc(), arguments)?.into_iter();
+        let found = words_of(rt.alloc(), Ok(given));
+        let expected = owned(rt.alloc(), words)?;
+        assert!(rt; found == Ok(expected), "{arguments:?}");
+    }
+    Ok(())
+}
+
+/// Why there are no arguments, and the fault.
+const NO_ARGUMENTS: [(ErrorKind, Fault); 2] = [
+    (ErrorKind::OutOfMemory, Fault::OutOfMemory),
+    (ErrorKind::InvalidData, Fault::Usage),
+];
+
+#[test]
+fn faults_of_arguments(rt: HostRuntime) {
+    for (kind, fault) in NO_ARGUMENTS {
+        let found = words_of(rt.alloc(), Err(io::Error::from(kind)));
+        assert!(rt; found == Err(fault), "{kind:?}");
+    }
 }
 
 /// The bits of a key, a message, and its signature.
