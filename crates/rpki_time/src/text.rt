@@ -107,7 +107,7 @@ impl Time {
         ensures { result ≡ is_utc_year self.date.year }
     {
         let year = self.year();
-        year >= 1950 && year <= 2049
+        (1950..=2049).contains(&year)
     }
 }
 
