@@ -1,9 +1,9 @@
 -- One answer is due to an input.
-use Rattle.std.proofs.Common.{◌≡◌, ℕ, ◌<◌, ◌≤◌, ◌^◌, List, [], ◌∷◌, ◌++◌, length, inl, inr, refl, sym, ap, ◌∙◌, subst, arith}
-use Rattle.std.specs.Prelude.{◌⊎◌, Option, Some, None, Ok, Err, codes}
+use Rattle.std.proofs.Common.{◌≡◌, ℕ, ◌≤◌, ◌^◌, List, [], ◌∷◌, ◌++◌, length, inl, inr, refl, sym, ap, ◌∙◌, subst, arith}
+use Rattle.std.specs.Prelude.{◌⊎◌, Option, Some, Ok, Err, codes}
 use Rattle.rpki_der.specs.Reading.{SpellsNothing}
 use Rattle.rpki.specs.SignedData.{written_contents, written_signed}
-use Rattle.rpki.specs.PublicKey.{SpellsKey, KeyParts}
+use Rattle.rpki.specs.PublicKey.{SpellsKey}
 use Rattle.rpki_text.specs.HexText.{hex_text}
 use Rattle.rpki_text.specs.declared.uri.error.Error.{Error}
 use Rattle.sha1.specs.Sha1.{sha1}

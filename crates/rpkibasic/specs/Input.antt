@@ -1,5 +1,5 @@
 -- Reading the input to its end.
-use Rattle.std.specs.Prelude.{◌≡◌, ◌≢◌, ℕ, ◌*◌, ◌≤◌, List, [], length}
+use Rattle.std.specs.Prelude.{◌≢◌, ℕ, ◌*◌, ◌≤◌, List, [], length}
 use Rattle.rpkibasic.specs.declared.input.Unread.{Unread}
 use Rattle.rpkibasic.specs.declared.input.Unread.TheVariants.{Failed, Endless, OutOfMemory}
 
