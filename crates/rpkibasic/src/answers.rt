@@ -51,8 +51,8 @@ fn written(alloc: Global, signed: &RpkiSignedData) -> Result<Vec<u8>, Fault>
 pub fn again(alloc: Global, input: Vec<u8>) -> Result<Vec<u8>, Fault>
     ensures { Answers Again input.items (answer_of result) }
 {
-    let signed = decoded(alloc, input)?;
-    written(alloc, &signed)
+    let found = decoded(alloc, input)?;
+    written(alloc, &found)
 }
 
 /// The slice that is signed.
