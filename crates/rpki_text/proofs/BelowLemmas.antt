@@ -1,17 +1,19 @@
 -- The path below another, by the bytes of the two.
-use Rattle.std.proofs.Common.{◌≡◌, ℕ, ◌<◌, ◌≤◌, Bool, true, false, cond, ◌&&◌, List, [], ◌∷◌, ◌++◌, length, take, drop, Option, Some, None, bytes_eq, sym, refl, ap, ◌∙◌, ◌⊎◌, inl, inr, arith}
+use Rattle.std.proofs.Common.{◌≡◌, ℕ, ◌-◌, ◌<◌, nat_lt, Bool, true, false, cond, ◌&&◌, List, [], ◌∷◌, ◌++◌, length, take, drop, Option, Some, None, bytes_eq, sym, refl, ap, ◌∙◌, ◌⊎◌, inl, inr, arith}
 use Rattle.std.specs.List.{join_with_byte}
 use Rattle.std.specs.Option.{option_map}
-use Rattle.std.proofs.lemmas.List.{take-append-drop, append_assoc, append-nil, length-append}
+use Rattle.std.proofs.lemmas.List.{append_assoc, append-nil}
 use Rattle.std.proofs.lemmas.List.Splits.{join_with_byte-slice_split}
 use Rattle.std.proofs.lemmas.Slice.Eq.{bytes_eq-Decides}
-use Rattle.std.proofs.Math.Seq.{take-append_seam, drop-append_seam}
+use Rattle.std.proofs.Math.Seq.{drop-append_seam}
 use Rattle.rpki_text.specs.SegmentLaws.{IsFilled, pieces-filled, path_text-segments}
 use Rattle.rpki_text.specs.Segments.{pieces, has_empty_last, segments, is_dir, path_text}
 use Rattle.rpki_text.specs.UriText.{lowercase}
+use Rattle.rpki_text.specs.HttpsText.{without_slash}
 use Rattle.rpki_text.specs.RsyncText.{strip_prefix, names_refusal, piece_refusal, path_left, relative, uri_of, authority_of, module_name_of, path_of}
 use Rattle.rpki_text.proofs.SegmentLemmas.{path_text-none}
-use Rattle.rpki_text.proofs.JoinLemmas.{segments-at_slash, is_dir-at_slash, open_path, strip_prefix-append, option_or-rest}
+use Rattle.rpki_text.proofs.HttpsLemmas.{without_slash-stripped}
+use Rattle.rpki_text.proofs.JoinLemmas.{SlashCases, slash_cases, segments-before_slash, segments-at_slash, is_dir-at_slash, open_path, strip_prefix-append, option_or-rest}
 use Rattle.rpki_text.proofs.RelativeLemmas.{relative-same_module}
 
 join-filled : (p : List ℕ) (qs : List (List ℕ)) → IsFilled qs → join_with_byte 47 (p ∷ qs) ≡ p ++ 47 ∷ join_with_byte 47 qs
@@ -48,7 +50,7 @@ below_by b [] path h = inl (h ∙ ap (join_with_byte 47) (append-nil (pieces b))
 below_by b (q ∷ qs) path h =
     inr (join_with_byte 47 (q ∷ qs), h ∙ join-append (pieces b) (q ∷ qs) (pieces-filled b) (record { first = q; others = qs; is = refl }) ∙ ap (λ s. s ++ 47 ∷ join_with_byte 47 (q ∷ qs)) (join_with_byte-slice_split 47 b))
 
-pub at_or_below : (path b : List ℕ) (left : List (List ℕ)) → strip_prefix (segments path) (pieces b) ≡ Some left → AtOrBelow path b
+at_or_below : (path b : List ℕ) (left : List (List ℕ)) → strip_prefix (segments path) (pieces b) ≡ Some left → AtOrBelow path b
 unfolding path_text
 at_or_below path b left h =
     let mark : List (List ℕ) = cond (is_dir path) ([] ∷ []) [] in
@@ -59,7 +61,7 @@ none_from : (o : Option (List (List ℕ))) → ((left : List (List ℕ)) → o �
 none_from None h = refl
 none_from (Some left) h = absurd (h left refl)
 
-pub path_left-none : (path b : List ℕ) → (AtOrBelow path b → ⊥) → path_left path (pieces b) ≡ None
+path_left-none : (path b : List ℕ) → (AtOrBelow path b → ⊥) → path_left path (pieces b) ≡ None
 unfolding path_left
 path_left-none path b h = ap (option_map (λ left. path_text left (is_dir path))) (none_from (strip_prefix (segments path) (pieces b)) (λ left e. h (at_or_below path b left e)))
 
@@ -81,32 +83,12 @@ pub path_left-root : (path : List ℕ) → path_left path [] ≡ Some path
 unfolding path_left
 path_left-root path = ap Some (path_text-segments path)
 
-pub front_agrees : (path b : List ℕ) → AtOrBelow path b → take (length b) path ≡ b
-front_agrees path b (inl e) = ap (take (length b)) (e ∙ sym (append-nil b)) ∙ take-append_seam b []
-front_agrees path b (inr (r, e)) = ap (take (length b)) e ∙ take-append_seam b (47 ∷ r)
-
-pub fits_below : (path b : List ℕ) → AtOrBelow path b → length b ≤ length path
-fits_below path b (inl e) = omega (arith, ap length e)
-fits_below path b (inr (r, e)) = omega (arith, ap length e, length-append b (47 ∷ r))
-
-pub not_slash_below : (path b : List ℕ) (x : ℕ) (rest : List ℕ) → drop (length b) path ≡ x ∷ rest → (x ≡ 47 → ⊥) → AtOrBelow path b → ⊥
+not_slash_below : (path b : List ℕ) (x : ℕ) (rest : List ℕ) → drop (length b) path ≡ x ∷ rest → (x ≡ 47 → ⊥) → AtOrBelow path b → ⊥
 not_slash_below path b x rest d h (inl e) =
     let none : drop (length b) path ≡ [] = ap (drop (length b)) (e ∙ sym (append-nil b)) ∙ drop-append_seam b [] in cc
 not_slash_below path b x rest d h (inr (r, e)) =
     let some : drop (length b) path ≡ 47 ∷ r = ap (drop (length b)) e ∙ drop-append_seam b (47 ∷ r) in
     let at : x ≡ 47 = cc in h at
-
-pub path_left-short : (path b : List ℕ) → length path < length b → path_left path (pieces b) ≡ None
-path_left-short path b h = path_left-none path b (λ k. let l : length b ≤ length path = fits_below path b k in omega arith)
-
-pub path_left-differs : (path b : List ℕ) → bytes_eq (take (length b) path) b ≡ false → path_left path (pieces b) ≡ None
-path_left-differs path b h = path_left-none path b (λ k. let t : bytes_eq (take (length b) path) b ≡ true = (bytes_eq-Decides (take (length b) path) b).1 (front_agrees path b k) in cc)
-
-pub path_left-other : (path b : List ℕ) (x : ℕ) (rest : List ℕ) → drop (length b) path ≡ x ∷ rest → (x ≡ 47 → ⊥) → path_left path (pieces b) ≡ None
-path_left-other path b x rest d h = path_left-none path b (not_slash_below path b x rest d h)
-
-pub at_front : (path b rest : List ℕ) → bytes_eq (take (length b) path) b ≡ true → drop (length b) path ≡ rest → path ≡ b ++ rest
-at_front path b rest h d = sym (take-append-drop (length b) path) ∙ ap (λ f. f ++ drop (length b) path) (bytes_eq-is _ _ h) ∙ ap (λ r. b ++ r) d
 
 last_named : (ps : List (List ℕ)) → IsFilled ps → names_refusal ps ≡ None → has_empty_last ps ≡ false
 last_named [] f h = cc
@@ -119,6 +101,45 @@ last_named ((b ∷ bs) ∷ q ∷ qs) f h = last_named (q ∷ qs) (record { first
 pub named-open : (t : List ℕ) → names_refusal (pieces t) ≡ None → is_dir t ≡ false
 unfolding is_dir
 named-open t h = last_named (pieces t) (pieces-filled t) h
+
+and_false : (x y : Bool) → y ≡ false → (x && y) ≡ false
+and_false true y h = h
+and_false false y h = refl
+
+-- a base without its last slash: its pieces are the segments, and it has no slash last
+abbrev pub IsTrimmed : List ℕ → Type 0
+IsTrimmed base = (segments base ≡ pieces (without_slash base)) × (is_dir (without_slash base) ≡ false)
+
+trimmed : (base : List ℕ) → 0 < length base → names_refusal (segments base) ≡ None → IsTrimmed base
+trimmed base l good = by_cases (slash_cases base) where
+  by_cases : SlashCases base → IsTrimmed base
+  by_cases (inl o) =
+      let same : without_slash base ≡ base = ap (λ v. cond v (take (length base - 1) base) base) (and_false (nat_lt 0 (length base)) _ o) in rw same (open_path base o, o)
+  by_cases (inr (inl e)) = absurd (omega (arith, ap length e))
+  by_cases (inr (inr (f, e))) =
+      let same : f ≡ without_slash base = without_slash-stripped base f e in
+      let names : segments base ≡ pieces f = ap segments e ∙ segments-before_slash f in
+      rw (← same) (names, named-open f (ap names_refusal (sym names) ∙ good))
+
+-- the path below a base, by what stands behind the base in it
+pub below-none : (path base : List ℕ) → 0 < length base → names_refusal (segments base) ≡ None → ((rest : List ℕ) → path ≡ without_slash base ++ rest → ⊥) → path_left path (segments base) ≡ None
+below-none path base l good h = ap (path_left path) (trimmed base l good).0 ∙ path_left-none path (without_slash base) none where
+  none : AtOrBelow path (without_slash base) → ⊥
+  none (inl e) = h [] (e ∙ sym (append-nil (without_slash base)))
+  none (inr (r, e)) = h (47 ∷ r) e
+
+pub below-same : (path base : List ℕ) → 0 < length base → names_refusal (segments base) ≡ None → path ≡ without_slash base ++ [] → path_left path (segments base) ≡ Some []
+below-same path base l good e =
+    let t = trimmed base l good in ap (path_left path) t.0 ∙ path_left-same path (without_slash base) t.1 (e ∙ append-nil (without_slash base))
+
+pub below-slash : (path base r : List ℕ) → 0 < length base → names_refusal (segments base) ≡ None → path ≡ without_slash base ++ 47 ∷ r → path_left path (segments base) ≡ Some r
+below-slash path base r l good e = ap (path_left path) (trimmed base l good).0 ∙ path_left-below path (without_slash base) r e
+
+pub below-other : (path base : List ℕ) (x : ℕ) (rest : List ℕ) → 0 < length base → names_refusal (segments base) ≡ None → path ≡ without_slash base ++ x ∷ rest → (x ≡ 47 → ⊥)
+    → path_left path (segments base) ≡ None
+below-other path base x rest l good e h =
+    let b = without_slash base in
+    ap (path_left path) (trimmed base l good).0 ∙ path_left-none path b (not_slash_below path b x rest (ap (drop (length b)) e ∙ drop-append_seam b (x ∷ rest)) h)
 
 pub relative-path_left : (u v : List ℕ) → (bytes_eq (lowercase (authority_of u)) (lowercase (authority_of v)) && bytes_eq (module_name_of u) (module_name_of v)) ≡ true
     → relative (uri_of u) (uri_of v) ≡ path_left (path_of u) (segments (path_of v))

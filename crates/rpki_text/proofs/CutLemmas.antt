@@ -7,7 +7,7 @@ use Rattle.std.proofs.lemmas.Str.{IsUtf8-from_ascii}
 use Rattle.std.proofs.lemmas.Bool.Decides.{nat_tests}
 use Rattle.rpki_text.specs.Segments.{is_slash}
 use Rattle.rpki_text.specs.UriText.{is_uri_byte}
-use Rattle.rpki_text.specs.RsyncText.{authority_of, module_name_of, path_of, IsCut}
+use Rattle.rpki_text.specs.RsyncText.{authority_of, module_name_of, path_of, IsRsync, IsCut}
 use Rattle.rpki_text.proofs.UriLemmas.{module_places, after_first-drop}
 
 and_first : (a b : Bool) → (a && b) ≡ true → a ≡ true
@@ -72,3 +72,13 @@ cut_facts t m p c =
       module_name_passes = ap (list_all is_uri_byte) module_name_is ∙ list_all-take is_uri_byte _ _ (list_all-drop is_uri_byte m t whole);
       path_passes = ap (list_all is_uri_byte) path_is ∙ list_all-drop is_uri_byte p t whole;
     }
+
+-- the two places of a text with which nothing is wrong but perhaps its length
+abbrev pub module_start : List ℕ → ℕ
+module_start t = 9 + position_or_len is_slash (drop 8 t)
+
+pub cut_of : (t : List ℕ) → IsRsync t → IsCut t (module_start t) (module_start t + position_or_len is_slash (drop (module_start t) t) + 1)
+cut_of t f = record { form = f; module_starts = refl; path_starts = refl }
+
+pub path_passes : (t : List ℕ) → IsRsync t → list_all is_uri_byte (path_of t) ≡ true
+path_passes t f = let facts = cut_facts t _ _ (cut_of t f) in facts.path_passes

@@ -1,5 +1,5 @@
 -- Octets as base 64 text (RFC 4648 sections 4 and 5), in the flavours of the engines of `base64`.
-use Rattle.std.specs.Prelude.{◌≡◌, ℕ, not, List, filter, slice_index, if◌then◌else◌}
+use Rattle.std.specs.Prelude.{◌≡◌, ℕ, not, List, Option, Some, None, codes, filter, slice_index, if◌then◌else◌}
 use Rattle.std.specs.declared.result.Result.{Result}
 use Rattle.std.specs.declared.result.Result.TheVariants.{Err}
 use Rattle.std.specs.Char.{is_ascii_whitespace}
@@ -24,10 +24,14 @@ without_white_space text = filter (λ b. not (is_ascii_whitespace b)) text
 abbrev pub xml_decode_of : List ℕ → Result (List ℕ) DecodeError
 xml_decode_of text = decode_of standard (without_white_space text)
 
--- the same of octets: where they are no text, the octet after their longest beginning that is text is invalid
+-- what is wrong with octets that are no text: the octet after their longest beginning that is text
+abbrev pub no_text_error : List ℕ → DecodeError
+no_text_error bytes = InvalidByte (utf8_valid_len bytes) (slice_index bytes (utf8_valid_len bytes))
+
+-- the same of octets, which may be no text
 abbrev pub xml_bytes_decode_of : List ℕ → Result (List ℕ) DecodeError
 xml_bytes_decode_of bytes =
-    if is_utf8 bytes then xml_decode_of bytes else Err (InvalidByte (utf8_valid_len bytes) (slice_index bytes (utf8_valid_len bytes)))
+    if is_utf8 bytes then xml_decode_of bytes else Err (no_text_error bytes)
 
 -- the error of a decoding, against what should come out: want of memory may come at any time
 abbrev pub IsBase64Failure : Result (List ℕ) DecodeError → Base64Error → Type 0
@@ -37,6 +41,11 @@ IsBase64Failure outcome OutOfMemory = Unit {0}
 -- what an error of the XML flavour was caused by
 abbrev pub xml_cause : XmlDecodeError → Base64Error
 xml_cause error = error.cause
+
+-- how an error prints: for a text that is refused that is left to the library `base64`
+abbrev pub base64_error_text : Base64Error → Option (List ℕ)
+base64_error_text (Refused error) = None
+base64_error_text OutOfMemory = Some (codes "out of memory")
 
 -- the same error in this crate's words
 abbrev pub base64_error : DecodeAllocError → Base64Error

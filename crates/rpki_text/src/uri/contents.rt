@@ -2,7 +2,7 @@
 
 ghost use Rattle.std.specs.Prelude.{◌≡◌, ◌<◌, ◌^◌, ◌↔◌, false, length};
 ghost use Rattle.rpki_der.specs.Header.{tlv};
-ghost use Rattle.rpki_der.specs.TagName.{context_6};
+ghost use Rattle.rpki_der.specs.TagName.{context_6, ia5_string};
 
 use super::https::Https;
 use super::rsync::Rsync;
@@ -12,6 +12,13 @@ use std::io::Write;
 
 /// The tag of a URI among general names, uniformResourceIdentifier (RFC 5280 4.2.1.6).
 const URI_NAME: Tag = Tag::CTX_6;
+
+// The constant `TAG`, with a contract that says which tag it is.
+fn rsync_tag() -> Tag
+    ensures { result ≡ ia5_string }
+{
+    <&Rsync as PrimitiveContent>::TAG
+}
 
 /// The contents of an IA5String: the text as it was spelled.
 impl<'a> PrimitiveContent for &'a Rsync {
@@ -24,7 +31,7 @@ impl<'a> PrimitiveContent for &'a Rsync {
     ghost contents = { λ u. u.now };
 
     fn plain_tag(&self) -> Tag {
-        Self::TAG
+        rsync_tag()
     }
 
     fn encoded_len(&self) -> u64 {
@@ -47,6 +54,13 @@ impl Rsync {
     }
 }
 
+// The constant `TAG`, with a contract that says which tag it is.
+fn https_tag() -> Tag
+    ensures { result ≡ ia5_string }
+{
+    <&Https as PrimitiveContent>::TAG
+}
+
 /// The contents of an IA5String: the text as it was spelled.
 impl<'a> PrimitiveContent for &'a Https {
     ghost use Rattle.rpki_der.specs.TagName.{ia5_string};
@@ -58,7 +72,7 @@ impl<'a> PrimitiveContent for &'a Https {
     ghost contents = { λ u. u.now };
 
     fn plain_tag(&self) -> Tag {
-        Self::TAG
+        https_tag()
     }
 
     fn encoded_len(&self) -> u64 {

@@ -33,11 +33,8 @@ fn check_piece(piece: &[u8]) -> Result<(), Error>
 // The first segment of a path, and the path after it.
 #[tactic(auto, using(crate::proofs::SegmentLemmas::segment_steps))]
 fn first_segment(path: &[u8]) -> Option<(&[u8], &[u8])>
-    ensures first { MatchOption result (segments path.now ≡ [])
+    ensures { MatchOption result (segments path.now ≡ [])
         (λ p. segments path.now ≡ p.0.now ∷ segments p.1.now) }
-    ensures rest { MatchOption result (path.now ≡ [])
-        (λ p. (p.1.now ≡ []) ⊎ (is_dir p.1.now ≡ is_dir path.now)) }
-    ensures tail { IfSome result (λ p. (n : ℕ) × (p.1.now ≡ drop n path.now)) }
 {
     if path.is_empty() {
         return None;
@@ -84,20 +81,21 @@ pub(super) fn check_path(path: &[u8]) -> Result<(), Error>
     Ok(())
 }
 
-// What is left of a path behind the segments of a base, if it begins with them.
-pub(super) fn path_behind<'a>(path: &'a [u8], base: &[u8]) -> Option<&'a [u8]>
-    ensures left { option_copied result ≡ path_left path.now (segments base.now) }
+// The path below a base, if it is the base's or lies below it: what comes after the base's octets and a slash. A slash at
+// the end of the base doesn't count, and every path lies below an empty one.
+pub(super) fn path_below<'a>(path: &'a [u8], base: &[u8]) -> Option<&'a [u8]>
+    requires { names_refusal (segments base.now) ≡ None }
+    ensures below { option_copied result ≡ path_left path.now (segments base.now) }
     ensures tail { IfSome result (λ p. (n : ℕ) × (p.now ≡ drop n path.now)) }
 {
-    let mut left = path;
-    for segment in (Segments { rest: base }) {
-        let (mine, rest) = first_segment(left)?;
-        if mine != segment {
-            return None;
-        }
-        left = rest;
+    if base.is_empty() {
+        return Some(path);
     }
-    Some(left)
+    let rest = path.strip_prefix(without_last_slash(base))?;
+    let Some((first, below)) = rest.split_first() else {
+        return Some(rest);
+    };
+    if *first == b'/' { Some(below) } else { None }
 }
 
 // How much of the text stands up to its last slash, with it.

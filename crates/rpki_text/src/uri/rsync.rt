@@ -7,14 +7,14 @@ ghost use Rattle.std.specs.Ordering.{on};
 ghost use Rattle.rpki_text.specs.SameUri.{same_uri-hashed, texts_equiv, texts_per};
 ghost use Rattle.rpki_text.specs.Segments.{is_slash, is_dir, with_slash};
 ghost use Rattle.rpki_text.specs.UriText.{lowercase, is_uri_byte};
-ghost use Rattle.rpki_text.specs.RsyncText.{rsync_refusal, has_module, RsyncUri, IsRsyncUri, uri_of, Spells, relative, is_parent, is_identical, IsWayBack, IsParentText, parent_uri, parent_of, joined, joined_uri, join_refusal, same_uri, hashed, IsCut, authority_of, module_name_of, module_of, canonical_module_of, path_of, eq_rsync_bytes};
+ghost use Rattle.rpki_text.specs.RsyncText.{rsync_refusal, has_module, RsyncUri, IsRsyncUri, uri_of, Spells, relative, is_parent, is_identical, IsWayBack, IsParentText, IsRsync, parent_uri, parent_of, joined, joined_uri, join_refusal, same_uri, hashed, IsCut, authority_of, module_name_of, module_of, canonical_module_of, path_of, eq_rsync_bytes};
 
 use super::characters::{
     check_uri_ascii, has_no_capital, hash_in_lower_case, in_lower_case, same_but_case, slash_at,
     starts_with_ignore_case, uri_text,
 };
 use super::error::Error;
-use super::path::{check_path, joined_bytes, parent_len, path_behind};
+use super::path::{check_path, joined_bytes, parent_len, path_below};
 use bytes::Bytes;
 use std::alloc::{AllocError, Global};
 use std::borrow::CowStr;
@@ -30,6 +30,12 @@ use std::marker::Model;
 #[derive(Debug, Drop)]
 pub struct Rsync {
     bytes: Bytes,
+    places: Places,
+}
+
+// Where the name of the module and the path begin in the text.
+#[derive(Clone, Copy, Debug)]
+struct Places {
     module_start: usize,
     path_start: usize,
 }
@@ -43,7 +49,7 @@ impl Model for Rsync {
 
     ghost view = { λ u. u.bytes };
 
-    ghost invariant = { λ u. IsCut u.bytes u.module_start u.path_start };
+    ghost invariant = { λ u. IsCut u.bytes u.places.module_start u.places.path_start };
 }
 
 /// # Reading
@@ -61,12 +67,8 @@ impl Rsync {
         ensures { MatchResult result (λ u. (u ≡ bytes) × (rsync_refusal bytes ≡ None))
             (λ e. rsync_refusal bytes ≡ Some e) }
     {
-        let (module_start, path_start) = check_rsync(bytes.as_slice())?;
-        Ok(Rsync {
-            bytes,
-            module_start,
-            path_start,
-        })
+        let places = check_rsync(bytes.as_slice())?;
+        Ok(Rsync { bytes, places })
     }
 
     /// Reads a URI from a copy of the octets.
@@ -76,13 +78,9 @@ impl Rsync {
         ensures ok { IfOk result (λ u. (u ≡ slice.now) × (rsync_refusal slice.now ≡ None)) }
         ensures err { IfErr result (λ e. e ≡ unwrap_or (rsync_refusal slice.now) Error.OutOfMemory) }
     {
-        let (module_start, path_start) = check_rsync(slice)?;
+        let places = check_rsync(slice)?;
         let bytes = Bytes::copy_from_slice(alloc, slice)?;
-        Ok(Rsync {
-            bytes,
-            module_start,
-            path_start,
-        })
+        Ok(Rsync { bytes, places })
     }
 
     /// Reads a URI from a text, whose memory it keeps.
@@ -93,13 +91,9 @@ impl Rsync {
         ensures ok { IfOk result (λ u. (u ≡ string_bytes text) × (rsync_refusal (string_bytes text) ≡ None)) }
         ensures err { IfErr result (λ e. e ≡ unwrap_or (rsync_refusal (string_bytes text)) Error.OutOfMemory) }
     {
-        let (module_start, path_start) = check_rsync(text.as_bytes())?;
+        let places = check_rsync(text.as_bytes())?;
         let bytes = Bytes::from_string(text)?;
-        Ok(Rsync {
-            bytes,
-            module_start,
-            path_start,
-        })
+        Ok(Rsync { bytes, places })
     }
 
     /// Reads a URI from a copy of the text.
@@ -121,8 +115,7 @@ impl Rsync {
         let bytes = self.bytes.clone()?;
         Ok(Rsync {
             bytes,
-            module_start: self.module_start,
-            path_start: self.path_start,
+            places: self.places,
         })
     }
 
@@ -140,12 +133,13 @@ impl Rsync {
 
 /// # The text and its parts
 impl Rsync {
-    /// The text as it was spelled, in octets. It spells this URI, and where it has at most 3,079
-    /// octets it is read again.
+    /// The text as it was spelled, in octets. It spells this URI, nothing is wrong with it but perhaps its length, and
+    /// where it has at most 3,079 octets it is read again.
     pub fn as_slice(&self) -> &[u8]
         ensures text { result.now ≡ self.now }
         ensures spelled { Spells self.now (uri_of self.now) }
         ensures uri { IsRsyncUri (uri_of self.now) }
+        ensures form { IsRsync self.now }
         ensures parses_again { length self.now < 3080 → rsync_refusal self.now ≡ None }
     {
         self.bytes.as_slice()
@@ -155,8 +149,7 @@ impl Rsync {
     pub fn as_str(&self) -> &str
         ensures { result.now ≡ self.now }
     {
-        let _start = &self.path_start;
-        uri_text(self.bytes.as_slice())
+        uri_text(self.as_slice())
     }
 
     /// The text as it was spelled, in the memory that this URI shares.
@@ -173,7 +166,6 @@ impl Rsync {
     pub fn authority(&self) -> &str
         ensures { result.now ≡ authority_of self.now }
     {
-        let _start = &self.path_start;
         uri_text(self.authority_bytes())
     }
 
@@ -191,7 +183,6 @@ impl Rsync {
     pub fn module_name(&self) -> &str
         ensures { result.now ≡ module_name_of self.now }
     {
-        let _start = &self.path_start;
         uri_text(self.module_name_bytes())
     }
 
@@ -225,16 +216,14 @@ impl Rsync {
     pub fn path(&self) -> &str
         ensures { result.now ≡ path_of self.now }
     {
-        let _start = &self.path_start;
-        uri_text(self.path_bytes())
+        uri_text(self.path_part())
     }
 
     /// The path in octets.
     pub fn path_bytes(&self) -> &[u8]
         ensures { result.now ≡ path_of self.now }
     {
-        let (_, path) = self.bytes.as_slice().split_at(self.path_start);
-        path
+        self.path_part()
     }
 
     /// Whether the path is empty or ends with a slash.
@@ -261,31 +250,34 @@ impl Rsync {
         ensures module { module_of self.now ≡ result.now ++ module_name_of self.now ++ codes "/" }
         ensures characters { list_all is_uri_byte result.now ≡ true }
     {
-        let (front, _) = self.bytes.as_slice().split_at(self.module_start);
+        let (front, _) = self.bytes.as_slice().split_at(self.places.module_start);
         front
     }
 
-    // All the rest.
+    // All after the site.
     fn rest_bytes(&self) -> &[u8]
         ensures { result.now ≡ module_name_of self.now ++ codes "/" ++ path_of self.now }
     {
-        let (_, rest) = self.bytes.as_slice().split_at(self.module_start);
+        let (_, rest) = self.bytes.as_slice().split_at(self.places.module_start);
         rest
     }
 
     fn authority_bytes(&self) -> &[u8]
-        ensures { result.now ≡ authority_of self.now }
+        ensures text { result.now ≡ authority_of self.now }
+        ensures characters { list_all is_uri_byte result.now ≡ true }
     {
         let (_, rest) = self.bytes.as_slice().split_at(8);
-        let (authority, _) = rest.split_at(self.module_start - 9);
+        let (authority, _) = rest.split_at(self.places.module_start - 9);
         authority
     }
 
     fn module_name_bytes(&self) -> &[u8]
-        ensures { result.now ≡ module_name_of self.now }
+        ensures text { result.now ≡ module_name_of self.now }
+        ensures characters { list_all is_uri_byte result.now ≡ true }
     {
-        let (_, rest) = self.bytes.as_slice().split_at(self.module_start);
-        let (name, _) = rest.split_at(self.path_start - self.module_start - 1);
+        let places = self.places;
+        let (_, rest) = self.bytes.as_slice().split_at(places.module_start);
+        let (name, _) = rest.split_at(places.path_start - places.module_start - 1);
         name
     }
 
@@ -293,8 +285,17 @@ impl Rsync {
         ensures text { result.now ≡ module_of self.now }
         ensures characters { list_all is_uri_byte result.now ≡ true }
     {
-        let (front, _) = self.bytes.as_slice().split_at(self.path_start);
+        let (front, _) = self.bytes.as_slice().split_at(self.places.path_start);
         front
+    }
+
+    // The path in octets, and what holds of the whole text.
+    fn path_part(&self) -> &[u8]
+        ensures path { result.now ≡ path_of self.now }
+        ensures form { IsRsync self.now }
+    {
+        let (_, path) = self.bytes.as_slice().split_at(self.places.path_start);
+        path
     }
 
     fn has_module_of(&self, other: &Rsync) -> bool
@@ -340,17 +341,13 @@ impl Rsync {
         ensures above { IfOk result (λ o. IfSome o (λ p. IsParentText p self.now)) }
         ensures none { path_of self.now ≡ [] → result ≡ Ok None }
     {
-        let (module_start, path_start) = (self.module_start, self.path_start);
+        let places = self.places;
         let path = self.path_bytes();
         let Some(len) = parent_len(path) else {
             return Ok(None);
         };
         let bytes = self.bytes.slice(0..self.bytes.len() - (path.len() - len))?;
-        Ok(Some(Rsync {
-            bytes,
-            module_start,
-            path_start,
-        }))
+        Ok(Some(Rsync { bytes, places }))
     }
 
     /// The URI with the path's segments behind its own, and this text as its beginning; a slash is
@@ -369,13 +366,9 @@ impl Rsync {
         ensures ok { OnOk result (join_refusal self.now path.now ≡ None) }
         ensures err { IfErr result (λ e. e ≡ unwrap_or (join_refusal self.now path.now) Error.OutOfMemory) }
     {
-        let (module_start, path_start) = (self.module_start, self.path_start);
+        let places = self.places;
         let bytes = self.joined_text(alloc, path)?;
-        Ok(Rsync {
-            bytes,
-            module_start,
-            path_start,
-        })
+        Ok(Rsync { bytes, places })
     }
 
     /// The path from `other` to this URI, with this one's last slash: `None` unless both have the
@@ -387,12 +380,8 @@ impl Rsync {
         ensures back { IfSome result (λ p. 0 < length p.now → IsWayBack self.now other.now p.now) }
         ensures same { IfSome result (λ p. p.now ≡ [] → is_identical (uri_of self.now) (uri_of other.now) ≡ true) }
     {
-        let (_start, _base) = (&self.path_start, &other.path_start);
-        if !self.has_module_of(other) {
-            return None;
-        }
-        let left = path_behind(self.path_bytes(), other.path_bytes())?;
-        Some(uri_text(left))
+        let path = self.path_from(other)?;
+        Some(uri_text(path))
     }
 
     /// Whether `other` lies below this URI: the same authority and module, and this one's segments
@@ -404,8 +393,7 @@ impl Rsync {
         ensures transitive { (w : RsyncUri) → is_parent (uri_of self.now) (uri_of other.now) ≡ true
             → is_parent (uri_of other.now) w ≡ true → is_parent (uri_of self.now) w ≡ true }
     {
-        let _start = &other.path_start;
-        match other.relative_to(self) {
+        match other.path_from(self) {
             Some(path) => !path.is_empty(),
             None => false,
         }
@@ -416,11 +404,22 @@ impl Rsync {
     pub fn is_identical_to(&self, other: &Rsync) -> bool
         ensures { result ≡ is_identical (uri_of self.now) (uri_of other.now) }
     {
-        let _start = &self.path_start;
-        match self.relative_to(other) {
+        match self.path_from(other) {
             Some(path) => path.is_empty(),
             None => false,
         }
+    }
+
+    // The path from the base to this URI in octets, which is empty where the segments are the same.
+    fn path_from(&self, base: &Rsync) -> Option<&[u8]>
+        ensures path { option_copied result ≡ relative (uri_of self.now) (uri_of base.now) }
+        ensures characters { IfSome result (λ p. list_all is_uri_byte p.now ≡ true) }
+        ensures forms { IfSome result (λ _. IsRsync self.now × IsRsync base.now) }
+    {
+        if !self.has_module_of(base) {
+            return None;
+        }
+        path_below(self.path_part(), base.path_part())
     }
 
     // The text with a slash last, where the path has none.
@@ -437,8 +436,7 @@ impl Rsync {
         ensures value { result ≡ length (joined self.now path.now) }
         ensures bound { length self.now + length path.now + 1 < 2 ^ 64 }
     {
-        let _start = &self.path_start;
-        self.bytes.len() + usize::from(!self.path_is_dir()) + path.len()
+        self.as_slice().len() + usize::from(!self.path_is_dir()) + path.len()
     }
 
     fn check_join(&self, path: &[u8]) -> Result<(), Error>
@@ -475,7 +473,7 @@ impl Rsync {
         ensures text { result ≡ eq_rsync_bytes self.now other.now }
         ensures uri { rsync_refusal other.now ≡ None → result ≡ same_uri (uri_of self.now) (uri_of other.now) }
     {
-        same_but_case(self.bytes.as_slice(), self.module_start - 1, other)
+        same_but_case(self.bytes.as_slice(), self.places.module_start - 1, other)
     }
 }
 
@@ -514,11 +512,11 @@ impl fmt::Display for Rsync {
 
 // Where the module name and the path begin.
 #[tactic(auto, using(crate::proofs::UriLemmas::places))]
-fn module_and_path(text: &[u8]) -> Option<(usize, usize)>
+fn module_and_path(text: &[u8]) -> Option<Places>
     requires { 8 ≤ length text.now }
     ensures full { has_module text.now ≡ is_some result }
-    ensures starts { IfSome result (λ p. (p.0 ≡ 9 + position_or_len is_slash (drop 8 text.now))
-        × (p.1 ≡ p.0 + position_or_len is_slash (drop p.0 text.now) + 1)) }
+    ensures starts { IfSome result (λ p. (p.module_start ≡ 9 + position_or_len is_slash (drop 8 text.now))
+        × (p.path_start ≡ p.module_start + position_or_len is_slash (drop p.module_start text.now) + 1)) }
 {
     let (_, rest) = text.split_at(8);
     let authority = slash_at(rest);
@@ -536,13 +534,16 @@ fn module_and_path(text: &[u8]) -> Option<(usize, usize)>
     if module == tail.len() {
         return None;
     }
-    Some((authority + 9, authority + module + 10))
+    Some(Places {
+        module_start: authority + 9,
+        path_start: authority + module + 10,
+    })
 }
 
 // Tests a text, and finds where its module name and its path begin.
-fn check_rsync(text: &[u8]) -> Result<(usize, usize), Error>
+fn check_rsync(text: &[u8]) -> Result<Places, Error>
     ensures ok { OnOk result (rsync_refusal text.now ≡ None) }
-    ensures cut { IfOk result (λ p. IsCut text.now p.0 p.1) }
+    ensures cut { IfOk result (λ p. IsCut text.now p.module_start p.path_start) }
     ensures err { IfErr result (λ e. rsync_refusal text.now ≡ Some e) }
 {
     check_uri_ascii(text)?;
@@ -551,7 +552,7 @@ fn check_rsync(text: &[u8]) -> Result<(usize, usize), Error>
     }
     check_path(&text[8..])?;
     match module_and_path(text) {
-        Some(starts) => Ok(starts),
+        Some(places) => Ok(places),
         None => Err(Error::BadUri),
     }
 }

@@ -1,12 +1,13 @@
 //! Octets as base 64 text (RFC 4648 sections 4 and 5), in the three flavours of the RPKI's protocols.
 //!
 //! Want of memory may be answered before a text is looked at.
-ghost use Rattle.std.specs.Prelude.{◌≡◌, Some, Ok, length, IfOk, IfErr, OnOk, string_bytes};
+ghost use Rattle.std.specs.Prelude.{◌≡◌, false, Some, Ok, length, IfOk, IfErr, OnOk, string_bytes};
 ghost use Rattle.std.specs.Io.KnownBytes.{Appends};
+ghost use Rattle.std.specs.Str.{is_utf8};
 ghost use Rattle.base64.specs.Engines.{standard, url_safe_no_pad_indifferent};
 ghost use Rattle.base64.specs.GeneralPurpose.{encode_of, decode_of, decode_slice_of, decoded_bytes_of};
 ghost use Rattle.base64.specs.Decode.{IsWrittenOver};
-ghost use Rattle.rpki_text.specs.Base64Text.{without_white_space, xml_decode_of, xml_bytes_decode_of, xml_cause, slurm_text, IsBase64Failure};
+ghost use Rattle.rpki_text.specs.Base64Text.{without_white_space, xml_decode_of, xml_bytes_decode_of, no_text_error, base64_error_text, xml_cause, slurm_text, IsBase64Failure};
 
 use base64::DecodeAllocError;
 use base64::display::Base64Display;
@@ -25,6 +26,8 @@ pub enum Base64Error {
 }
 
 impl fmt::Display for Base64Error {
+    ghost output = { base64_error_text };
+
     fn fmt<W: fmt::Write>(&self, f: &mut fmt::Formatter<W>) -> fmt::Result {
         match self {
             Base64Error::Refused(error) => write!(f, "{error}"),
@@ -51,6 +54,8 @@ impl XmlDecodeError {
 }
 
 impl fmt::Display for XmlDecodeError {
+    ghost output = { λ e. base64_error_text (xml_cause e) };
+
     fn fmt<W: fmt::Write>(&self, f: &mut fmt::Formatter<W>) -> fmt::Result {
         write!(f, "{}", self.cause)
     }
@@ -82,10 +87,11 @@ impl Xml {
     ///
     /// Refuses as `decode` does; where the octets are not UTF-8, the cause is that the octet
     /// after their longest beginning in UTF-8 is invalid, its offset counted in the octets as
-    /// they came.
+    /// they came, and no memory is taken.
     pub fn decode_bytes(self, alloc: Global, bytes: &[u8]) -> Result<Vec<u8>, XmlDecodeError>
         ensures ok { IfOk result (λ v. xml_bytes_decode_of bytes.now ≡ Ok v.items) }
         ensures err { IfErr result (λ e. IsBase64Failure (xml_bytes_decode_of bytes.now) (xml_cause e)) }
+        ensures no_text { is_utf8 bytes.now ≡ false → IfErr result (λ e. xml_cause e ≡ Base64Error.Refused (no_text_error bytes.now)) }
     {
         match str::from_utf8(bytes) {
             Ok(text) => self.decode(alloc, text),
@@ -153,7 +159,8 @@ impl Slurm {
     /// they are. Takes no memory.
     ///
     /// Refuses with `DecodeSliceError::DecodeError` where the text is not base 64 of this
-    /// alphabet, and with `DecodeSliceError::OutputSliceTooSmall` where there is no room.
+    /// alphabet, and with `DecodeSliceError::OutputSliceTooSmall` where there is no room. What
+    /// `output` then holds is left open.
     pub fn decode_slice(self, text: &str, output: &mut [u8]) -> Result<usize, DecodeSliceError>
         ensures value { result ≡ decode_slice_of url_safe_no_pad_indifferent text.now (length output.old) }
         ensures written { OnOk result (IsWrittenOver (decoded_bytes_of url_safe_no_pad_indifferent text.now) output.old output.new) }

@@ -10,3 +10,6 @@ returns-clause-parses_again c = rw (← c.self.view_is) (parses_again _ c.self.i
 
 pub returns-clause-uri : goal.returns-clause-uri
 returns-clause-uri c = rw (← c.self.view_is) (uri_of-parts _ _ _ c.self.invariant)
+
+pub returns-clause-form : goal.returns-clause-form
+returns-clause-form c = rw (← c.self.view_is) c.self.invariant.form

@@ -14,7 +14,12 @@ split_at-requires-2 c =
     let fits : length c.as_slice.result.now ≡ length c.self.inside.bytes = ap length c.as_slice.ensures in
     omega (arith, facts.fits, facts.module_name, facts.authority, c.split_at.ensures.back_len)
 
-pub returns : goal.returns
-returns c =
+pub returns-clause-text : goal.returns-clause-text
+returns-clause-text c =
     let facts = cut_facts _ _ _ c.self.invariant in
     rw (c.split_at-2.ensures.front, c.split_at.ensures.back, c.as_slice.ensures, ← c.self.view_is) (sym facts.authority_is)
+
+pub returns-clause-characters : goal.returns-clause-characters
+returns-clause-characters c =
+    let facts = cut_facts _ _ _ c.self.invariant in
+    rw (c.split_at-2.ensures.front, c.split_at.ensures.back, c.as_slice.ensures, ← facts.authority_is) facts.authority_passes

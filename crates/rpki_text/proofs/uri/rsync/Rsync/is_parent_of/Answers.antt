@@ -1,5 +1,6 @@
 use Rattle.std.proofs.Common.{sym}
-use Rattle.rpki_text.specs.RsyncText.{IsCut, uri_of}
+use Rattle.rpki_text.specs.RsyncText.{uri_of}
+use Rattle.rpki_text.proofs.CutLemmas.{cut_of}
 use Rattle.rpki_text.proofs.ParentLemmas.{parent_test-none, parent_test-some}
 use Rattle.rpki_text.proofs.MeaningLemmas.{parent_irreflexive, parent_transitive}
 use Rattle.rpki_text.proofs.uri.rsync.Rsync.is_parent_of.Goals as goal
@@ -9,7 +10,7 @@ returns-in-None-clause-value c = sym (parent_test-none c.args.self.now c.args.ot
 
 pub returns-in-Some-clause-value : goal.returns-in-Some-clause-value
 returns-in-Some-clause-value c =
-    let theirs : IsCut c.args.other.now c.other.inside.module_start c.other.inside.path_start = rw (← c.other.view_is) c.other.invariant in
+    let theirs = cut_of c.args.other.now c.in-Some.ensures.forms.0 in
     let test = parent_test-some c.args.self.now c.args.other.now _ _ theirs _ (sym c.in-Some.ensures.path) in
     rw c.is_empty.ensures (sym test)
 

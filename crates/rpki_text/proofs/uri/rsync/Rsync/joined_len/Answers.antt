@@ -1,5 +1,6 @@
 use Rattle.std.proofs.Common.{◌≡◌, sym, Bool, refl, true, false, cond}
 use mir.Val.{bool_byte}
+use Rattle.rpki_text.proofs.CutLemmas.{cut_of}
 use Rattle.rpki_text.proofs.JoinLemmas.{length-joined}
 use Rattle.rpki_text.proofs.uri.rsync.Rsync.joined_len.Goals as goal
 
@@ -9,5 +10,5 @@ bool_byte-cond false = refl
 
 pub returns-clause-value : goal.returns-clause-value
 returns-clause-value c =
-    let l = length-joined c.self.inside.bytes _ _ c.self.invariant c.args.path.now c.requires in
-    rw (c.len.ensures.value, c.from.ensures, bool_byte-cond, c.path_is_dir.ensures, ← c.self.view_is) (sym l)
+    let l = length-joined c.args.self.now _ _ (cut_of _ c.as_slice.ensures.form) c.args.path.now c.requires in
+    rw (c.as_slice.ensures.text, c.from.ensures, bool_byte-cond, c.path_is_dir.ensures) (sym l)

@@ -10,4 +10,4 @@ pub returns-clause-text : goal.returns-clause-text
 returns-clause-text c = rw (c.split_at.ensures.front, c.as_slice.ensures, ← c.self.view_is) (sym (module_is _ _ _ c.self.invariant))
 
 pub returns-clause-characters : goal.returns-clause-characters
-returns-clause-characters c = rw (c.split_at.ensures.front, c.as_slice.ensures) (module_passes _ _ _ c.self.invariant c.self.inside.path_start)
+returns-clause-characters c = rw (c.split_at.ensures.front, c.as_slice.ensures) (module_passes _ _ _ c.self.invariant c.self.inside.places.path_start)

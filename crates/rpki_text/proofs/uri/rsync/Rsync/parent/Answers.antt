@@ -23,11 +23,11 @@ invariant_of-result c =
     let e = c.path_bytes-path.ensures ∙ ap path_of (sym c.self.view_is) in
     let d = parent_cut c.self.inside.bytes _ _ c.self.invariant c.in-Some.len (subst (λ (s : List ℕ). IsParentLen s c.in-Some.len) e k) in
     let at = parts c.self.inside.bytes _ _ _ c.in-Some.len c.self.invariant e k.within in
-    let sub : c.len.result - (length c.path_bytes-path.result.now - c.in-Some.len) - 0 ≡ c.self.inside.path_start + c.in-Some.len =
+    let sub : c.len.result - (length c.path_bytes-path.result.now - c.in-Some.len) - 0 ≡ c.self.inside.places.path_start + c.in-Some.len =
     omega (arith, at, c.len.ensures.value) in
-    let cut : c.in_ok-bytes.bytes ≡ take (c.self.inside.path_start + c.in-Some.len) c.self.inside.bytes =
+    let cut : c.in_ok-bytes.bytes ≡ take (c.self.inside.places.path_start + c.in-Some.len) c.self.inside.bytes =
     c.in_ok-bytes.ensures.ok ∙ ap (λ j. take j c.self.inside.bytes) sub in
-    subst (λ (b : List ℕ). IsCut b c.self.inside.module_start c.self.inside.path_start) (sym cut) d
+    subst (λ (b : List ℕ). IsCut b c.self.inside.places.module_start c.self.inside.places.path_start) (sym cut) d
 
 pub returns-clause-text : goal.returns-clause-text
 returns-clause-text c =
@@ -35,9 +35,9 @@ returns-clause-text c =
     let e = c.path_bytes-path.ensures ∙ ap path_of (sym c.self.view_is) in
     let d = parent_is c.self.inside.bytes _ _ c.self.invariant c.in-Some.len (subst (λ (s : List ℕ). IsParentLen s c.in-Some.len) e k) in
     let at = parts c.self.inside.bytes _ _ _ c.in-Some.len c.self.invariant e k.within in
-    let sub : c.len.result - (length c.path_bytes-path.result.now - c.in-Some.len) - 0 ≡ c.self.inside.path_start + c.in-Some.len =
+    let sub : c.len.result - (length c.path_bytes-path.result.now - c.in-Some.len) - 0 ≡ c.self.inside.places.path_start + c.in-Some.len =
     omega (arith, at, c.len.ensures.value) in
-    let cut : c.in_ok-bytes.bytes ≡ take (c.self.inside.path_start + c.in-Some.len) c.self.inside.bytes =
+    let cut : c.in_ok-bytes.bytes ≡ take (c.self.inside.places.path_start + c.in-Some.len) c.self.inside.bytes =
     c.in_ok-bytes.ensures.ok ∙ ap (λ j. take j c.self.inside.bytes) sub in
     rw (← c.self.view_is) (ap Some cut ∙ sym d)
 
@@ -45,7 +45,7 @@ pub overflow_sub-len : goal.overflow_sub-len
 overflow_sub-len c =
     let facts = cut_facts _ _ _ c.self.invariant in
     let e = c.path_bytes-path.ensures ∙ ap path_of (sym c.self.view_is) in
-    let l = ap length (e ∙ facts.path_is) ∙ length-drop c.self.inside.path_start c.self.inside.bytes in
+    let l = ap length (e ∙ facts.path_is) ∙ length-drop c.self.inside.places.path_start c.self.inside.bytes in
     omega (arith, c.len.ensures.value, l)
 
 pub returns-in_default-clause-meaning : goal.returns-in_default-clause-meaning
@@ -58,9 +58,9 @@ meaning c =
     let e = c.path_bytes-path.ensures ∙ ap path_of (sym c.self.view_is) in
     let d = parent_meaning c.self.inside.bytes _ _ c.self.invariant c.in-Some.len (subst (λ (s : List ℕ). IsParentLen s c.in-Some.len) e k) in
     let at = parts c.self.inside.bytes _ _ _ c.in-Some.len c.self.invariant e k.within in
-    let sub : c.len.result - (length c.path_bytes-path.result.now - c.in-Some.len) - 0 ≡ c.self.inside.path_start + c.in-Some.len =
+    let sub : c.len.result - (length c.path_bytes-path.result.now - c.in-Some.len) - 0 ≡ c.self.inside.places.path_start + c.in-Some.len =
     omega (arith, at, c.len.ensures.value) in
-    let cut : c.in_ok-bytes.bytes ≡ take (c.self.inside.path_start + c.in-Some.len) c.self.inside.bytes =
+    let cut : c.in_ok-bytes.bytes ≡ take (c.self.inside.places.path_start + c.in-Some.len) c.self.inside.bytes =
     c.in_ok-bytes.ensures.ok ∙ ap (λ j. take j c.self.inside.bytes) sub in
     rw (← c.self.view_is) (ap (λ b. Some (uri_of b)) cut ∙ d)
 

@@ -1,7 +1,5 @@
-use Rattle.rpki_text.proofs.CutLemmas.{cut_facts}
+use Rattle.rpki_text.proofs.CutLemmas.{path_passes}
 use Rattle.rpki_text.proofs.uri.rsync.Rsync.path.Goals as goal
 
 pub uri_text-requires : goal.uri_text-requires
-uri_text-requires c =
-    let facts = cut_facts _ _ _ c.self.invariant in
-    rw (c.path_bytes.ensures, ← c.self.view_is) facts.path_passes
+uri_text-requires c = rw c.path_part.ensures.path (path_passes _ c.path_part.ensures.form)

@@ -8,7 +8,7 @@ use Rattle.rpki_text.proofs.uri.rsync.Rsync.path_into_dir.Goals as goal
 pub invariant_of-self : goal.invariant_of-self
 invariant_of-self c =
     let d = cut_dir c.self.inside.bytes _ _ c.self.invariant in
-    subst (λ (b : List ℕ). IsCut b c.self.inside.module_start c.self.inside.path_start) (sym (c.in_ok-bytes.ensures ∙ ap with_slash (sym c.self.view_is))) d
+    subst (λ (b : List ℕ). IsCut b c.self.inside.places.module_start c.self.inside.places.path_start) (sym (c.in_ok-bytes.ensures ∙ ap with_slash (sym c.self.view_is))) d
 
 pub returns-then-path_is_dir-clause-ok : goal.returns-then-path_is_dir-clause-ok
 returns-then-path_is_dir-clause-ok c =
@@ -22,7 +22,7 @@ returns-then-path_is_dir-clause-meaning c = into_dir-same c.args.self.now (sym c
 
 pub returns-clause-meaning : goal.returns-clause-meaning
 returns-clause-meaning c =
-    let mine : IsCut c.args.self.now c.self.inside.module_start c.self.inside.path_start = rw (← c.self.view_is) c.self.invariant in
+    let mine : IsCut c.args.self.now c.self.inside.places.module_start c.self.inside.places.path_start = rw (← c.self.view_is) c.self.invariant in
     rw c.in_ok-bytes.ensures (into_dir-meaning c.args.self.now _ _ mine (sym c.path_is_dir.ensures ∙ c.if-path_is_dir.false))
 
 pub returns-clause-begins : goal.returns-clause-begins

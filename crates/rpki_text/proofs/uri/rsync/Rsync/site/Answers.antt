@@ -12,4 +12,4 @@ pub returns-clause-module : goal.returns-clause-module
 returns-clause-module c = rw (c.split_at.ensures.front, c.as_slice.ensures, ← c.self.view_is) (module_halves _ _ _ c.self.invariant)
 
 pub returns-clause-characters : goal.returns-clause-characters
-returns-clause-characters c = rw (c.split_at.ensures.front, c.as_slice.ensures) (module_passes _ _ _ c.self.invariant c.self.inside.module_start)
+returns-clause-characters c = rw (c.split_at.ensures.front, c.as_slice.ensures) (module_passes _ _ _ c.self.invariant c.self.inside.places.module_start)

@@ -1,4 +1,6 @@
-use Rattle.std.proofs.Common.{sym, ap, ◌∙◌}
+use Rattle.std.proofs.Common.{◌≡◌, true, sym, ap, ◌∙◌}
+use Rattle.std.specs.Str.{is_utf8}
+use Rattle.std.proofs.lemmas.Str.{is_utf8-from_IsUtf8}
 use Rattle.rpki_text.specs.Base64Text.{xml_decode_of}
 use Rattle.rpki_text.proofs.Base64Lemmas.{xml_bytes-text, xml_bytes-other}
 use Rattle.rpki_text.proofs.util.base_64.Xml.decode_bytes.Goals as goal
@@ -14,3 +16,6 @@ returns-in-Ok-clause-err c =
 pub returns-in-Err-clause-err : goal.returns-in-Err-clause-err
 returns-in-Err-clause-err c =
     xml_bytes-other c.args.bytes.now c.in-Err.ensures.cases.0 c.valid_up_to-offset.result (c.valid_up_to-offset.ensures ∙ c.in-Err.ensures.valid_len)
+
+pub returns-in-Ok-clause-no_text : goal.returns-in-Ok-clause-no_text
+returns-in-Ok-clause-no_text c h = let yes : is_utf8 c.args.bytes.now ≡ true = is_utf8-from_IsUtf8 _ c.in-Ok.ensures.cases.1 in cc

@@ -1,7 +1,0 @@
-use Rattle.rpki_text.proofs.CutLemmas.{cut_facts}
-use Rattle.rpki_text.proofs.uri.rsync.Rsync.authority.Goals as goal
-
-pub uri_text-requires : goal.uri_text-requires
-uri_text-requires c =
-    let facts = cut_facts _ _ _ c.self.invariant in
-    rw (c.authority_bytes.ensures, ← c.self.view_is) facts.authority_passes
