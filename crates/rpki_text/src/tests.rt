@@ -1,6 +1,7 @@
 //! The published vectors, as tables. A test is proved too, so each is one loop over a table with
 //! a helper that makes the one call.
 mod base_64;
+mod failing;
 mod general_name;
 mod hex;
 mod https;

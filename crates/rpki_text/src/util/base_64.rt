@@ -13,6 +13,7 @@ use base64::DecodeAllocError;
 use base64::display::Base64Display;
 use base64::engine::general_purpose::{STANDARD, URL_SAFE_NO_PAD_INDIFFERENT};
 pub use base64::{DecodeError, DecodeSliceError};
+use rpki_der::write_whole;
 use std::alloc::{AllocError, Global};
 use std::{fmt, io, str};
 
@@ -179,7 +180,7 @@ impl Slurm {
 
     /// Writes the octets as text, without padding, to `target`. Takes no memory.
     ///
-    /// Fails where the target does; how much then went out is left open.
+    /// The first error of the target, of any kind, ends the call and is returned; how much then went out is left open.
     pub fn write_encoded_slice<W: io::Write>(self, bytes: &[u8], target: &mut W) -> io::Result<()>
         ensures { OnOk result (Appends (W.contents target.old) (W.contents target.new) (encode_of url_safe_no_pad_indifferent bytes.now)) }
     {
@@ -189,7 +190,7 @@ impl Slurm {
             let Ok(len) = URL_SAFE_NO_PAD_INDIFFERENT.encode_slice(chunk, &mut text) else {
                 unreachable!();
             };
-            target.write_all(&text[..len])?;
+            write_whole(target, &text[..len])?;
         }
         Ok(())
     }

@@ -20,7 +20,7 @@ loop-chunk-preserved g c =
       search rules,
       tt,
       steps.0 ∙ size,
-      (so_far.0 ++ encode_of e chunk, appends_append _ _ _ so_far.0 (encode_of e chunk) so_far.1 (appends_taken _ _ c.encode_slice.new.output (encode_of e chunk) c.in-Ok.len _ text (omega arith) c.in_ok-write_all.ensures.bytes), append_assoc so_far.0 _ _ ∙ ap (λ (t : List ℕ). so_far.0 ++ t) (chunk_first e _ chunk (chunks_rest c.next.new.self) steps.1.0 (rw size at steps.1.1)) ∙ so_far.2),
+      (so_far.0 ++ encode_of e chunk, appends_append _ _ _ so_far.0 (encode_of e chunk) so_far.1 (appends_taken _ _ c.encode_slice.new.output (encode_of e chunk) c.in-Ok.len _ text (omega arith) c.in_ok-write_whole.ensures), append_assoc so_far.0 _ _ ∙ ap (λ (t : List ℕ). so_far.0 ++ t) (chunk_first e _ chunk (chunks_rest c.next.new.self) steps.1.0 (rw size at steps.1.1)) ∙ so_far.2),
     )
 
 pub returns : goal.returns
