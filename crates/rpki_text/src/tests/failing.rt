@@ -45,6 +45,7 @@ enum Encoder {
 }
 
 const RSYNC: &str = "rSync://hOst/module/";
+
 const HTTPS: &str = "hTtps://h";
 
 /// What each encoder writes, and how many octets the writer takes at a call.
@@ -137,7 +138,11 @@ fn encoders_end_at_the_first_error(rt: HostRuntime) -> Result<(), Fail> {
                 assert_eq!(rt; seen, want, "{encoder:?} {failure:?} {fails_at}");
             }
             let (out, error) = outcome(rt.alloc(), (encoder, most), failure, writes)?;
-            assert_eq!(rt; (out.held.as_slice(), error), (octets, None), "{encoder:?} {failure:?}");
+            assert_eq!(rt;
+                (out.held.as_slice(), error),
+                (octets, None),
+                "{encoder:?} {failure:?}"
+            );
         }
     }
     Ok(())

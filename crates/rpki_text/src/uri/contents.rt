@@ -10,6 +10,9 @@ use rpki_der::{Primitive, PrimitiveContent, Tag, Values, write_whole};
 use std::io;
 use std::io::Write;
 
+/// The tag of a URI by itself, as an IA5String.
+const URI_STRING: Tag = Tag::IA5_STRING;
+
 /// The tag of a URI among general names, uniformResourceIdentifier (RFC 5280 4.2.1.6).
 const URI_NAME: Tag = Tag::CTX_6;
 
@@ -26,7 +29,7 @@ impl<'a> PrimitiveContent for &'a Rsync {
 
     ghost plain = { ia5_string };
 
-    const TAG: Tag = Tag::IA5_STRING;
+    const TAG: Tag = URI_STRING;
 
     ghost contents = { λ u. u.now };
 
@@ -67,7 +70,7 @@ impl<'a> PrimitiveContent for &'a Https {
 
     ghost plain = { ia5_string };
 
-    const TAG: Tag = Tag::IA5_STRING;
+    const TAG: Tag = URI_STRING;
 
     ghost contents = { λ u. u.now };
 

@@ -23,6 +23,12 @@ use std::fmt;
 use std::hash::{Hash, Hasher};
 use std::marker::Model;
 
+/// The length of the scheme and the slashes after it.
+const SCHEME_LEN: usize = 8;
+
+/// An authority has fewer octets than this.
+const AUTHORITY_LIMIT: usize = 256;
+
 /// An https URI: an authority, which may be empty, and a path, which is empty or begins with a
 /// slash (RFC 9110 section 4.2.2, RFC 3986 section 3).
 ///
@@ -137,8 +143,7 @@ impl Https {
     pub fn as_str(&self) -> &str
         ensures { result.now ≡ self.now }
     {
-        let _start = &self.path_start;
-        uri_text(self.bytes.as_slice())
+        uri_text(self.as_slice())
     }
 
     /// The text as it was spelled, in the memory that this URI shares.
@@ -159,7 +164,6 @@ impl Https {
     pub fn authority(&self) -> &str
         ensures { result.now ≡ https_authority self.now }
     {
-        let _start = &self.path_start;
         uri_text(self.authority_bytes())
     }
 
@@ -177,7 +181,6 @@ impl Https {
     pub fn path(&self) -> &str
         ensures { result.now ≡ https_path self.now }
     {
-        let _start = &self.path_start;
         uri_text(self.path_bytes())
     }
 
@@ -192,17 +195,19 @@ impl Https {
     }
 
     fn path_bytes(&self) -> &[u8]
-        ensures { result.now ≡ https_path self.now }
+        ensures text { result.now ≡ https_path self.now }
+        ensures characters { list_all is_uri_byte result.now ≡ true }
     {
         let (_, path) = self.bytes.as_slice().split_at(self.path_start);
         path
     }
 
     fn authority_bytes(&self) -> &[u8]
-        ensures { result.now ≡ https_authority self.now }
+        ensures text { result.now ≡ https_authority self.now }
+        ensures characters { list_all is_uri_byte result.now ≡ true }
     {
         let (front, _) = self.bytes.as_slice().split_at(self.path_start);
-        let (_, authority) = front.split_at(8);
+        let (_, authority) = front.split_at(SCHEME_LEN);
         authority
     }
 
@@ -352,10 +357,10 @@ fn check_https(text: &[u8]) -> Result<usize, Error>
     if !starts_with_ignore_case(text, b"https://") {
         return Err(Error::BadScheme);
     }
-    let (_, rest) = text.split_at(8);
+    let (_, rest) = text.split_at(SCHEME_LEN);
     let authority = slash_at(rest);
-    if authority >= 256 {
+    if authority >= AUTHORITY_LIMIT {
         return Err(Error::BadUri);
     }
-    Ok(authority + 8)
+    Ok(SCHEME_LEN + authority)
 }

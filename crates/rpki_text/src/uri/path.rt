@@ -13,6 +13,12 @@ use super::error::Error;
 use bytes::Bytes;
 use std::alloc::{AllocError, Global};
 
+/// A path, and a text without its scheme and the slashes after it, has fewer octets than this.
+pub(super) const LEN_LIMIT: usize = 3072;
+
+/// A segment has fewer octets than this.
+const SEGMENT_LIMIT: usize = 256;
+
 // Tests one segment.
 fn check_piece(piece: &[u8]) -> Result<(), Error>
     ensures { MatchResult result (λ _. piece_refusal piece.now ≡ None)
@@ -24,7 +30,7 @@ fn check_piece(piece: &[u8]) -> Result<(), Error>
     if matches!(piece, b"." | b"..") {
         return Err(Error::DotSegments);
     }
-    if piece.len() >= 256 {
+    if piece.len() >= SEGMENT_LIMIT {
         return Err(Error::LongSegments);
     }
     Ok(())
@@ -72,7 +78,7 @@ pub(super) fn check_path(path: &[u8]) -> Result<(), Error>
     ensures { MatchResult result (λ _. path_refusal path.now ≡ None)
         (λ e. path_refusal path.now ≡ Some e) }
 {
-    if path.len() >= 3072 {
+    if path.len() >= LEN_LIMIT {
         return Err(Error::LongUri);
     }
     for piece in (Segments { rest: path }) {

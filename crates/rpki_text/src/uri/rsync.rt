@@ -14,13 +14,16 @@ use super::characters::{
     starts_with_ignore_case, uri_text,
 };
 use super::error::Error;
-use super::path::{check_path, joined_bytes, parent_len, path_below};
+use super::path::{LEN_LIMIT, check_path, joined_bytes, parent_len, path_below};
 use bytes::Bytes;
 use std::alloc::{AllocError, Global};
 use std::borrow::CowStr;
 use std::fmt;
 use std::hash::{Hash, Hasher};
 use std::marker::Model;
+
+/// The length of the scheme and the slashes after it.
+const SCHEME_LEN: usize = 8;
 
 /// An rsync URI: an authority, a module and a path (RFC 5781 section 2).
 ///
@@ -266,8 +269,8 @@ impl Rsync {
         ensures text { result.now ≡ authority_of self.now }
         ensures characters { list_all is_uri_byte result.now ≡ true }
     {
-        let (_, rest) = self.bytes.as_slice().split_at(8);
-        let (authority, _) = rest.split_at(self.places.module_start - 9);
+        let (_, rest) = self.bytes.as_slice().split_at(SCHEME_LEN);
+        let (authority, _) = rest.split_at(self.places.module_start - (SCHEME_LEN + 1));
         authority
     }
 
@@ -446,7 +449,7 @@ impl Rsync {
     {
         check_uri_ascii(path)?;
         check_path(path)?;
-        if self.joined_len(path) >= 3072 {
+        if self.joined_len(path) >= LEN_LIMIT {
             return Err(Error::LongUri);
         }
         Ok(())
@@ -518,7 +521,7 @@ fn module_and_path(text: &[u8]) -> Option<Places>
     ensures starts { IfSome result (λ p. (p.module_start ≡ 9 + position_or_len is_slash (drop 8 text.now))
         × (p.path_start ≡ p.module_start + position_or_len is_slash (drop p.module_start text.now) + 1)) }
 {
-    let (_, rest) = text.split_at(8);
+    let (_, rest) = text.split_at(SCHEME_LEN);
     let authority = slash_at(rest);
     if authority == 0 {
         return None;
@@ -535,8 +538,8 @@ fn module_and_path(text: &[u8]) -> Option<Places>
         return None;
     }
     Some(Places {
-        module_start: authority + 9,
-        path_start: authority + module + 10,
+        module_start: SCHEME_LEN + authority + 1,
+        path_start: SCHEME_LEN + authority + module + 2,
     })
 }
 
@@ -550,7 +553,7 @@ fn check_rsync(text: &[u8]) -> Result<Places, Error>
     if !starts_with_ignore_case(text, b"rsync://") {
         return Err(Error::BadScheme);
     }
-    check_path(&text[8..])?;
+    check_path(&text[SCHEME_LEN..])?;
     match module_and_path(text) {
         Some(places) => Ok(places),
         None => Err(Error::BadUri),

@@ -15,8 +15,8 @@ pub returns-then-not-starts_with_ignore_case-clause-err : goal.returns-then-not-
 returns-then-not-starts_with_ignore_case-clause-err c =
     https_refuses_scheme c.args.text.now c.in_ok-check_uri_ascii.ensures (sym c.starts_with_ignore_case.ensures ∙ c.if-not-starts_with_ignore_case.true)
 
-pub returns-then-authority-ge256-clause-err : goal.returns-then-authority-ge256-clause-err
-returns-then-authority-ge256-clause-err c =
+pub returns-then-authority-ge-AUTHORITY_LIMIT-clause-err : goal.returns-then-authority-ge-AUTHORITY_LIMIT-clause-err
+returns-then-authority-ge-AUTHORITY_LIMIT-clause-err c =
     https_refuses_authority c.args.text.now c.in_ok-check_uri_ascii.ensures (sym c.starts_with_ignore_case.ensures ∙ c.if-not-starts_with_ignore_case.false)
     (let e = c.slash_at-authority.ensures.value ∙ ap (position_or_len is_slash) c.split_at.ensures.back in omega arith)
 

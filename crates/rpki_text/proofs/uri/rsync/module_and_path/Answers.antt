@@ -30,7 +30,7 @@ pub returns-clause-starts : goal.returns-clause-starts
 returns-clause-starts c =
     let ea = c.slash_at-authority.ensures.value ∙ ap (position_or_len is_slash) c.split_at.ensures.back in
     let tail = behind_first c.args.text.now _ _ _ c.split_at.ensures.back c.split_at-2.ensures.back in
-    let at : 9 + c.slash_at-authority.result ≡ c.slash_at-authority.result + 9 = omega arith in
-    let em : c.slash_at-module.result ≡ position_or_len is_slash (drop (c.slash_at-authority.result + 9) c.args.text.now) =
+    let at : 9 + c.slash_at-authority.result ≡ 8 + c.slash_at-authority.result + 1 = omega arith in
+    let em : c.slash_at-module.result ≡ position_or_len is_slash (drop (8 + c.slash_at-authority.result + 1) c.args.text.now) =
     c.slash_at-module.ensures.value ∙ ap (position_or_len is_slash) (tail ∙ ap (λ n. drop n c.args.text.now) at) in
     (omega arith, omega arith)

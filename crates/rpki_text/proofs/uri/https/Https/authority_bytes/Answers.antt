@@ -1,7 +1,7 @@
-use Rattle.std.proofs.Common.{◌++◌, length, take, drop, sym, ap, ◌∙◌, arith}
+use Rattle.std.proofs.Common.{◌≡◌, ℕ, List, ◌++◌, length, take, drop, sym, ap, ◌∙◌, arith}
 use Rattle.std.proofs.Math.Seq.{drop-append_seam}
-use Rattle.rpki_text.specs.HttpsText.{https_authority}
-use Rattle.rpki_text.proofs.HttpsLemmas.{https_halves}
+use Rattle.rpki_text.specs.HttpsText.{https_authority, IsHttpsCut}
+use Rattle.rpki_text.proofs.HttpsLemmas.{https_halves, https_parts_pass}
 use Rattle.rpki_text.proofs.uri.https.Https.authority_bytes.Goals as goal
 
 pub split_at-requires : goal.split_at-requires
@@ -13,9 +13,18 @@ split_at-requires-2 c =
     let front = c.split_at.ensures.front ∙ ap (take c.self.inside.path_start) c.as_slice.ensures in
     omega (arith, ap length front, h.long, c.self.invariant.path_starts)
 
-pub returns : goal.returns
-returns c =
-    let h = https_halves _ _ c.self.invariant in
-    let front = c.split_at.ensures.front ∙ ap (take c.self.inside.path_start) c.as_slice.ensures ∙ h.front in
+-- the octets are the authority
+octets : (t front : List ℕ) (n : ℕ) → IsHttpsCut t n → front ≡ take n t → drop 8 front ≡ https_authority t
+octets t front n cut e =
+    let h = https_halves _ _ cut in
+    ap (drop 8) (e ∙ h.front) ∙ ap (λ k. drop k (take 8 t ++ https_authority t)) (sym h.eight) ∙ drop-append_seam (take 8 t) (https_authority t)
+
+pub returns-clause-text : goal.returns-clause-text
+returns-clause-text c =
     rw (c.split_at-2.ensures.back, ← c.self.view_is)
-    (ap (drop 8) front ∙ ap (λ k. drop k (take 8 c.self.inside.bytes ++ https_authority c.self.inside.bytes)) (sym h.eight) ∙ drop-append_seam (take 8 c.self.inside.bytes) (https_authority c.self.inside.bytes))
+    (octets c.self.inside.bytes c.split_at.result.0.now _ c.self.invariant (c.split_at.ensures.front ∙ ap (take c.self.inside.path_start) c.as_slice.ensures))
+
+pub returns-clause-characters : goal.returns-clause-characters
+returns-clause-characters c =
+    let is = octets c.self.inside.bytes c.split_at.result.0.now _ c.self.invariant (c.split_at.ensures.front ∙ ap (take c.self.inside.path_start) c.as_slice.ensures) in
+    rw (c.split_at-2.ensures.back, is) (https_parts_pass _ _ c.self.invariant).0

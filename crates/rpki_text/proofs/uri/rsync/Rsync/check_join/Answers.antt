@@ -13,8 +13,8 @@ returns-in_err-check_path-clause-err c =
     let p = err_from_is_err_and c.from_residual-in_err-check_path.result c.from_residual-in_err-check_path.ensures.1 in
     rw (p.1, p.2) (join_refuses_path c.args.self.now c.args.path.now _ c.requires c.in_ok-check_uri_ascii.ensures c.in_err-check_path.ensures)
 
-pub returns-then-joined_len-ge3072-clause-err : goal.returns-then-joined_len-ge3072-clause-err
-returns-then-joined_len-ge3072-clause-err c =
+pub returns-then-joined_len-ge-LEN_LIMIT-clause-err : goal.returns-then-joined_len-ge-LEN_LIMIT-clause-err
+returns-then-joined_len-ge-LEN_LIMIT-clause-err c =
     join_refuses_length c.args.self.now c.args.path.now c.requires c.in_ok-check_uri_ascii.ensures c.in_ok-check_path.ensures (omega arith)
 
 pub returns-clause-ok : goal.returns-clause-ok
