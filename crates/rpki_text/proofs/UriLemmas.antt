@@ -1,5 +1,5 @@
 -- Where the parts of an rsync text stand.
-use Rattle.std.proofs.Common.{◌≡◌, ℕ, ◌+◌, ◌-◌, ◌<◌, ◌≤◌, Bool, true, false, cond, not, ◌&&◌, ◌||◌, nat_lt, nat_le, List, [], ◌∷◌, length, drop, Some, None, sym, refl, ap, ◌∙◌, arith}
+use Rattle.std.proofs.Common.{◌≡◌, ℕ, ◌+◌, ◌-◌, ◌<◌, ◌≤◌, Bool, true, false, cond, not, ◌&&◌, ◌||◌, nat_lt, nat_le, List, [], ◌∷◌, length, take, drop, Some, None, sym, refl, ap, ◌∙◌, arith}
 use Rattle.std.specs.List.{position_or_len, before_first, after_first, list_any, list_all}
 use Rattle.std.proofs.lemmas.List.{drop-drop, length-drop}
 use Rattle.std.proofs.lemmas.List.Sums.{prefix_len-le-length}
@@ -9,6 +9,7 @@ use Rattle.rpki_text.specs.declared.uri.error.Error.{Error}
 use Rattle.rpki_text.specs.declared.uri.error.Error.TheVariants.{InvalidCharacters, BadUri, LongUri, BadScheme}
 use Rattle.rpki_text.specs.Segments.{is_slash, segments}
 use Rattle.rpki_text.specs.UriText.{is_uri_byte}
+use Rattle.rpki_text.proofs.SegmentLemmas.{tail-slice}
 use Rattle.rpki_text.specs.RsyncText.{has_module, authority_of, module_name_of, path_refusal, names_refusal, rsync_refusal, has_scheme}
 
 list_any-position : (xs : List ℕ) → list_any is_slash xs ≡ nat_lt (position_or_len is_slash xs) (length xs)
@@ -94,3 +95,9 @@ path_passes t h = by_cases (nat_le 3072 (length t)) h where
   by_cases false h = h
 
 pub ruleset places = (module_stands, module_misses, module_empty, authority_empty)
+
+-- the same, as `check_rsync` meets it
+pub module_missing : (t : List ℕ) → list_all is_uri_byte t ≡ true → has_scheme t ≡ true → path_refusal (take (length t - 8) (drop 8 t)) ≡ None → has_module t ≡ false → rsync_refusal t ≡ Some BadUri
+module_missing t h k p m = refuses_module t h k (ap path_refusal (sym (tail-slice 8 t)) ∙ p) m
+
+pub ruleset refusals = (refuses_characters, refuses_scheme, module_missing)

@@ -544,6 +544,7 @@ fn module_and_path(text: &[u8]) -> Option<Places>
 }
 
 // Tests a text, and finds where its module name and its path begin.
+#[tactic(auto, using(crate::proofs::UriLemmas::refusals))]
 fn check_rsync(text: &[u8]) -> Result<Places, Error>
     ensures ok { OnOk result (rsync_refusal text.now ≡ None) }
     ensures cut { IfOk result (λ p. IsCut text.now p.module_start p.path_start) }

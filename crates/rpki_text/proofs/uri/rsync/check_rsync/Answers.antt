@@ -1,6 +1,6 @@
 use Rattle.std.proofs.Common.{drop, sym, ◌∙◌}
 use Rattle.std.proofs.lemmas.Result.{err_from_is_err_and}
-use Rattle.rpki_text.proofs.UriLemmas.{refuses_characters, refuses_scheme, refuses_path, refuses_module, refuses_nothing, path_passes}
+use Rattle.rpki_text.proofs.UriLemmas.{refuses_characters, refuses_path, refuses_nothing, path_passes}
 use Rattle.rpki_text.proofs.SegmentLemmas.{tail-slice}
 use Rattle.rpki_text.proofs.uri.rsync.check_rsync.Goals as goal
 
@@ -8,10 +8,6 @@ pub returns-in_err-check_uri_ascii-clause-err : goal.returns-in_err-check_uri_as
 returns-in_err-check_uri_ascii-clause-err c =
     let p = err_from_is_err_and c.from_residual.result c.from_residual.ensures.1 in
     rw (p.1, p.2, c.in_err-check_uri_ascii.ensures.0) (refuses_characters c.args.text.now c.in_err-check_uri_ascii.ensures.1)
-
-pub returns-then-not-starts_with_ignore_case-clause-err : goal.returns-then-not-starts_with_ignore_case-clause-err
-returns-then-not-starts_with_ignore_case-clause-err c =
-    refuses_scheme c.args.text.now c.in_ok-check_uri_ascii.ensures (sym c.starts_with_ignore_case.ensures ∙ c.if-not-starts_with_ignore_case.true)
 
 pub returns-in_err-check_path-clause-err : goal.returns-in_err-check_path-clause-err
 returns-in_err-check_path-clause-err c =
@@ -37,8 +33,3 @@ returns-in-Some-clause-cut c =
       module_starts = c.in-Some.ensures.starts.0;
       path_starts = c.in-Some.ensures.starts.1;
     }
-
-pub returns-in-None-clause-err : goal.returns-in-None-clause-err
-returns-in-None-clause-err c =
-    let passes = rw (tail-slice 8 c.args.text.now) at c.in_ok-check_path.ensures in
-    refuses_module c.args.text.now c.in_ok-check_uri_ascii.ensures (sym c.starts_with_ignore_case.ensures ∙ c.if-not-starts_with_ignore_case.false) passes c.in-None.ensures.full
