@@ -1,0 +1,51 @@
+#!/usr/bin/env python3
+"""Measures five calls on rsync URIs beside the same in plain Rust on `&str`, on URIs of 1 segment and of 200.
+
+Checks that both programs print the same, and prints the nanoseconds of a call of each and their ratio. Each figure is
+the smallest of five runs, taken in turn.
+
+usage: bench/uris.py            (after `rt run -- join 1 1` in crates/rpki_growths has built the program)"""
+import os
+import resource
+import subprocess
+import sys
+import tempfile
+
+TOP = os.path.dirname(os.path.dirname(os.path.abspath(__file__)))
+PROGRAM = os.path.join(TOP, "crates", "rpki_growths", "out", "rpki_growths")
+CALLS = ["join", "parent", "relative_to", "is_parent_of", "is_identical_to"]
+RUNS = 5
+TIMES = 1_000_000
+
+
+def run(program, call, segments, times):
+    """The processor time of a run in seconds, and what it printed."""
+    before = resource.getrusage(resource.RUSAGE_CHILDREN).ru_utime
+    told = subprocess.run([program, call, str(segments), str(times)], check=True, capture_output=True, text=True).stdout
+    return resource.getrusage(resource.RUSAGE_CHILDREN).ru_utime - before, told
+
+
+def main():
+    if not os.path.exists(PROGRAM):
+        sys.exit("build the program first: in crates/rpki_growths, `rt run -- join 1 1`")
+    with tempfile.TemporaryDirectory() as folder:
+        plain = os.path.join(folder, "plain")
+        subprocess.run(["rustc", "-O", "--edition", "2024", "-o", plain, os.path.join(TOP, "bench", "uris.rs")], check=True)
+        print(f"{'call':16}{'segments':>9}{'ns':>10}{'plain ns':>10}{'ratio':>8}")
+        for call in CALLS:
+            for segments in [1, 200]:
+                best = {}
+                for _ in range(RUNS):
+                    told = []
+                    for program in [PROGRAM, plain]:
+                        seconds, text = run(program, call, segments, TIMES)
+                        best[program] = min(best.get(program, float("inf")), seconds)
+                        told.append(text)
+                    if told[0] != told[1]:
+                        sys.exit(f"the programs differ: {told}")
+                mine, other = (best[p] * 1e9 / TIMES for p in [PROGRAM, plain])
+                print(f"{call:16}{segments:>9}{mine:>10.1f}{other:>10.1f}{mine / other:>8.2f}")
+
+
+if __name__ == "__main__":
+    main()
