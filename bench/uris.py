@@ -30,7 +30,8 @@ def main():
         sys.exit("build the program first: in crates/rpki_growths, `rt run -- join 1 1`")
     with tempfile.TemporaryDirectory() as folder:
         plain = os.path.join(folder, "plain")
-        subprocess.run(["rustc", "-O", "--edition", "2024", "-o", plain, os.path.join(TOP, "bench", "uris.rs")], check=True)
+        source = os.path.join(TOP, "bench", "uris.rs")
+        subprocess.run(["rustc", "-O", "--edition", "2024", "-o", plain, source], check=True)
         print(f"{'call':16}{'segments':>9}{'ns':>10}{'plain ns':>10}{'ratio':>8}")
         for call in CALLS:
             for segments in [1, 200]:

@@ -11,7 +11,7 @@ struct Uri {
 
 impl Uri {
     fn new(text: String) -> Option<Uri> {
-        if !text.bytes().all(|b| matches!(b, b'!' | b'$'..=b';' | b'=' | b'A'..=b'Z' | b'_' | b'a'..=b'z' | b'~')) {
+        if !text.bytes().all(is_uri_byte) {
             return None;
         }
         let rest = text.strip_prefix("rsync://")?;
@@ -33,8 +33,7 @@ impl Uri {
     }
 
     fn join(&self, path: &str) -> Option<Uri> {
-        let ascii = path.bytes().all(|b| matches!(b, b'!' | b'$'..=b';' | b'=' | b'A'..=b'Z' | b'_' | b'a'..=b'z' | b'~'));
-        if !ascii || !checked(path) || self.text.len() + 1 + path.len() >= 3072 {
+        if !path.bytes().all(is_uri_byte) || !checked(path) || self.text.len() + 1 + path.len() >= 3072 {
             return None;
         }
         let mut text = String::with_capacity(self.text.len() + 1 + path.len());
@@ -67,6 +66,10 @@ impl Uri {
         let rest = self.path().strip_prefix(below)?;
         if rest.is_empty() { Some(rest) } else { rest.strip_prefix('/') }
     }
+}
+
+fn is_uri_byte(b: u8) -> bool {
+    matches!(b, b'!' | b'$'..=b';' | b'=' | b'A'..=b'Z' | b'_' | b'a'..=b'z' | b'~')
 }
 
 fn checked(path: &str) -> bool {

@@ -87,8 +87,8 @@ pub(super) fn check_path(path: &[u8]) -> Result<(), Error>
     Ok(())
 }
 
-// The path below a base, if it is the base's or lies below it: what comes after the base's octets and a slash. A slash at
-// the end of the base doesn't count, and every path lies below an empty one.
+// The rest of a path that is the base or lies below it: what comes after the base's octets and a slash. A slash at the
+// end of the base doesn't count, and every path lies below an empty one.
 pub(super) fn path_below<'a>(path: &'a [u8], base: &[u8]) -> Option<&'a [u8]>
     requires { names_refusal (segments base.now) ≡ None }
     ensures below { option_copied result ≡ path_left path.now (segments base.now) }

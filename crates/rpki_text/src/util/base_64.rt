@@ -1,6 +1,6 @@
 //! Octets as base 64 text (RFC 4648 sections 4 and 5), in the three flavours of the RPKI's protocols.
 //!
-//! Want of memory may be answered before a text is looked at.
+//! An allocation failure may be returned before a text is looked at.
 ghost use Rattle.std.specs.Prelude.{◌≡◌, false, Some, Ok, length, IfOk, IfErr, OnOk, string_bytes};
 ghost use Rattle.std.specs.Io.KnownBytes.{Appends};
 ghost use Rattle.std.specs.Str.{is_utf8};
@@ -92,7 +92,8 @@ impl Xml {
     pub fn decode_bytes(self, alloc: Global, bytes: &[u8]) -> Result<Vec<u8>, XmlDecodeError>
         ensures ok { IfOk result (λ v. xml_bytes_decode_of bytes.now ≡ Ok v.items) }
         ensures err { IfErr result (λ e. IsBase64Failure (xml_bytes_decode_of bytes.now) (xml_cause e)) }
-        ensures no_text { is_utf8 bytes.now ≡ false → IfErr result (λ e. xml_cause e ≡ Base64Error.Refused (no_text_error bytes.now)) }
+        ensures no_text { is_utf8 bytes.now ≡ false
+            → IfErr result (λ e. xml_cause e ≡ Base64Error.Refused (no_text_error bytes.now)) }
     {
         match str::from_utf8(bytes) {
             Ok(text) => self.decode(alloc, text),
