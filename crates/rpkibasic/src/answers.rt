@@ -18,7 +18,8 @@ type RpkiSignedData = SignedData<RpkiSignatureAlgorithm>;
 
 /// The signed data that the input is.
 fn decoded(alloc: Global, input: Vec<u8>) -> Result<RpkiSignedData, Fault>
-    ensures { MatchResult result (λ v. SpellsOnly SpellsRpki v input.items) (λ f. UnlessMemory f (IsFaultOf SpellsRpki ⊥ input.items f)) }
+    ensures { MatchResult result (λ v. SpellsOnly SpellsRpki v input.items)
+        (λ f. UnlessMemory f (IsFaultOf SpellsRpki ⊥ input.items f)) }
 {
     let octets = match Bytes::from_vec(input) {
         Ok(octets) => octets,

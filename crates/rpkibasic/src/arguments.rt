@@ -14,8 +14,10 @@ use std::{env, io};
 pub fn words_of(alloc: Global, arguments: io::Result<env::Args>) -> Result<Vec<String>, Fault>
     ensures words { IfOk arguments (λ all. MatchResult result
         (λ words. words.items ≡ drop 1 (into_iter_items all)) (λ fault. fault ≡ Fault.OutOfMemory)) }
-    ensures memory { IfErr arguments (λ e. error_kind e ≡ ErrorKind.OutOfMemory → IsErrOf result Fault.OutOfMemory) }
-    ensures other { IfErr arguments (λ e. error_kind e ≢ ErrorKind.OutOfMemory → IsErrOf result Fault.Usage) }
+    ensures memory { IfErr arguments (λ e.
+        error_kind e ≡ ErrorKind.OutOfMemory → IsErrOf result Fault.OutOfMemory) }
+    ensures other { IfErr arguments (λ e.
+        error_kind e ≢ ErrorKind.OutOfMemory → IsErrOf result Fault.Usage) }
 {
     match arguments {
         Ok(mut arguments) => {

@@ -15,7 +15,8 @@ use std::alloc::{AllocError, Global};
 
 /// The public key that the input is.
 fn decoded(input: Vec<u8>) -> Result<PublicKey, Fault>
-    ensures { MatchResult result (λ k. SpellsOnly SpellsKey k input.items) (λ f. UnlessMemory f (IsFaultOf SpellsKey ⊥ input.items f)) }
+    ensures { MatchResult result (λ k. SpellsOnly SpellsKey k input.items)
+        (λ f. UnlessMemory f (IsFaultOf SpellsKey ⊥ input.items f)) }
 {
     let octets = match Bytes::from_vec(input) {
         Ok(octets) => octets,

@@ -10,8 +10,11 @@ ghost use Rattle.rpkibasic.specs.declared.fault.Fault.{Fault};
 /// One answer is due to an input: one text and no fault, or one fault and no text. The number of a refusal as DER
 /// alone is left open.
 pub fn one_answer_is_due()
-    ensures texts { (command : Command) (input s t : List ℕ) → IsDue command input (Ok s) → IsDue command input (Ok t) → s ≡ t }
-    ensures apart { (command : Command) (input s : List ℕ) (e : Fault) → IsDue command input (Ok s) → IsDue command input (Err e) → ⊥ }
-    ensures faults { (command : Command) (input : List ℕ) (e f : Fault) → IsDue command input (Err e) → IsDue command input (Err f) → text_of e ≡ text_of f }
+    ensures texts { (command : Command) (input s t : List ℕ)
+        → IsDue command input (Ok s) → IsDue command input (Ok t) → s ≡ t }
+    ensures apart { (command : Command) (input s : List ℕ) (e : Fault)
+        → IsDue command input (Ok s) → IsDue command input (Err e) → ⊥ }
+    ensures faults { (command : Command) (input : List ℕ) (e f : Fault)
+        → IsDue command input (Err e) → IsDue command input (Err f) → text_of e ≡ text_of f }
     ensures uris { (input : List ℕ) (e f : Fault) → IsDue Uri input (Err e) → IsDue Uri input (Err f) → e ≡ f }
 {}
