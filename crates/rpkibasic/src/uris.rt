@@ -9,16 +9,16 @@ ghost use Rattle.rpki_text.specs.HttpsText.{https_refusal};
 ghost use Rattle.rpki_text.specs.RsyncText.{rsync_refusal};
 
 use crate::fault::Fault;
+use bytes::Bytes;
 use rpki::uri::{Https, Rsync, starts_with_ignore_case};
 use std::alloc::{AllocError, Global};
 
-/// The text without one line feed at its end.
-fn without_last_line_feed(text: &[u8]) -> &[u8]
-    ensures { result.now ≡ without_last_line_feed text.now }
+/// Drops one line feed at the end of the text.
+fn drop_last_line_feed(text: &mut Vec<u8>)
+    ensures { text.new.items ≡ without_last_line_feed text.old.items }
 {
-    match text {
-        [line @ .., b'\n'] => line,
-        _ => text,
+    if let [.., b'\n'] = text.as_slice() {
+        text.pop();
     }
 }
 
@@ -58,11 +58,11 @@ fn lines_of_rsync(alloc: Global, uri: &Rsync) -> Result<Vec<u8>, AllocError>
 }
 
 /// The lines of the https URI that the text is.
-fn https_text(alloc: Global, text: &[u8]) -> Result<Vec<u8>, Fault>
-    ensures { MatchResult result (λ lines. (https_refusal text.now ≡ None) × (lines.items ≡ https_lines text.now))
-        (λ f. UnlessMemory f (IsRefusedText (https_refusal text.now) f)) }
+fn https_text(alloc: Global, text: Bytes) -> Result<Vec<u8>, Fault>
+    ensures { MatchResult result (λ lines. (https_refusal text ≡ None) × (lines.items ≡ https_lines text))
+        (λ f. UnlessMemory f (IsRefusedText (https_refusal text) f)) }
 {
-    match Https::from_slice(alloc, text) {
+    match Https::from_bytes(text) {
         Ok(uri) => match lines_of_https(alloc, &uri) {
             Ok(lines) => Ok(lines),
             Err(_) => Err(Fault::OutOfMemory),
@@ -72,11 +72,11 @@ fn https_text(alloc: Global, text: &[u8]) -> Result<Vec<u8>, Fault>
 }
 
 /// The lines of the rsync URI that the text is.
-fn rsync_text(alloc: Global, text: &[u8]) -> Result<Vec<u8>, Fault>
-    ensures { MatchResult result (λ lines. (rsync_refusal text.now ≡ None) × (lines.items ≡ rsync_lines text.now))
-        (λ f. UnlessMemory f (IsRefusedText (rsync_refusal text.now) f)) }
+fn rsync_text(alloc: Global, text: Bytes) -> Result<Vec<u8>, Fault>
+    ensures { MatchResult result (λ lines. (rsync_refusal text ≡ None) × (lines.items ≡ rsync_lines text))
+        (λ f. UnlessMemory f (IsRefusedText (rsync_refusal text) f)) }
 {
-    match Rsync::from_slice(alloc, text) {
+    match Rsync::from_bytes(text) {
         Ok(uri) => match lines_of_rsync(alloc, &uri) {
             Ok(lines) => Ok(lines),
             Err(_) => Err(Fault::OutOfMemory),
@@ -90,10 +90,15 @@ fn rsync_text(alloc: Global, text: &[u8]) -> Result<Vec<u8>, Fault>
 pub fn uri(alloc: Global, input: Vec<u8>) -> Result<Vec<u8>, Fault>
     ensures { Answers Uri input.items (answer_of result) }
 {
-    let text = without_last_line_feed(input.as_slice());
-    if starts_with_ignore_case(text, b"https://") {
-        https_text(alloc, text)
+    let mut text = input;
+    drop_last_line_feed(&mut text);
+    let octets = match Bytes::from_vec(text) {
+        Ok(octets) => octets,
+        Err(_) => return Err(Fault::OutOfMemory),
+    };
+    if starts_with_ignore_case(octets.as_slice(), b"https://") {
+        https_text(alloc, octets)
     } else {
-        rsync_text(alloc, text)
+        rsync_text(alloc, octets)
     }
 }
