@@ -1,19 +1,20 @@
 -- What the reading of a header says in the terms of its grammar.
-use Rattle.std.proofs.Common.{◌≡◌, ℕ, ◌⊎◌, Bool, List, [], ◌∷◌, ◌++◌, Result, Ok, Err, refl, sym, ap, ◌∙◌, inl, inr, append_assoc}
+use Rattle.std.proofs.Common.{◌≡◌, ℕ, ◌⊎◌, Bool, List, [], ◌∷◌, ◌++◌, Result, Ok, Err, refl, sym, ap, ◌∙◌, subst, inl, inr, append_assoc}
 use Rattle.std.proofs.lemmas.List.{append-nil}
 use Rattle.rpki_der.specs.declared.error.DecodeError.{DecodeError}
 use Rattle.rpki_der.specs.declared.error.DecodeError.TheVariants.{Truncated, BadTag, BadLength, Unexpected, Content, Trailing, OutOfMemory}
 use Rattle.rpki_der.specs.declared.tag.Header.{Header}
 use Rattle.rpki_der.specs.TagName.{TagName}
 use Rattle.rpki_der.specs.Header.{identifier_octets, length_octets, header_octets}
-use Rattle.std.specs.Prelude.{IfOk, IfErr}
-use Rattle.rpki_der.specs.HeaderReading.{Gives, identifier_at, length_at, header_at}
+use Rattle.rpki_der.proofs.HeaderReading.{identifier_at, length_at, header_at}
 use Rattle.rpki_der.specs.Reading.{Spells, Accepts, Refuses, IsCut}
+use Rattle.rpki_der.specs.HeaderParts.{SpellsLength, IsPartFault}
 use Rattle.rpki_der.specs.Values.{SpellsIdentifier, SpellsHeader, HasTag, HasIdentifier, IsHeaderFault}
 use Rattle.rpki_der.proofs.InSteps.{IsBytes, IsBytes-append, pair-is}
 use Rattle.rpki_der.proofs.Identifier.{identifier-empty, identifier-takes, identifier-again, identifier-stays, identifier-completes, identifier-errors}
 use Rattle.rpki_der.proofs.Length.{length-errors, length-stays}
-use Rattle.rpki_der.proofs.HeaderLaws.{header-again, header-takes, header-cases, header-completes, header-from, header-bad, identifier-grows}
+use Rattle.rpki_der.proofs.PartReading.{part-read, part-failed, identifier-part, length-part}
+use Rattle.rpki_der.proofs.HeaderLaws.{IsBytes-behind, header-again, header-takes, header-cases, header-completes, header-from, header-bad, identifier-grows}
 
 -- a header at the front is read
 pub read-from : (s : List ℕ) (h : Header) (r : List ℕ) → Spells SpellsHeader s h r → header_at s ≡ Ok (h, r)
@@ -99,26 +100,36 @@ header-fault s (Content x) bytes failed = elim (other s (Content x) failed) [ in
 header-fault s Trailing bytes failed = elim (other s Trailing failed) [ inl t ↦ cc | inr (inl b) ↦ cc | inr (inr b) ↦ cc ]
 header-fault s OutOfMemory bytes failed = elim (other s OutOfMemory failed) [ inl t ↦ cc | inr (inl b) ↦ cc | inr (inr b) ↦ cc ]
 
--- what the function answers
-pub read-ok : {X : Type 0} (view : X → Header × List ℕ) (s : List ℕ) → IsBytes s → (r : Result X DecodeError) → Gives view r (header_at s) → IfOk r (λ x. Accepts SpellsHeader s (view x).0 (view x).1)
-read-ok view s bytes (Ok x) e = header-accepts s (view x).0 (view x).1 bytes e
-read-ok view s bytes (Err d) e = tt
+-- ---- of its two parts
 
-pub read-err : {X : Type 0} (view : X → Header × List ℕ) (s : List ℕ) → IsBytes s → (r : Result X DecodeError) → Gives view r (header_at s) → IfErr r (λ d. Refuses SpellsHeader s × IsHeaderFault s d)
-read-err view s bytes (Ok x) e = tt
-read-err view s bytes (Err d) e = (header-refuses s d e, header-fault s d bytes e)
+-- what is left after what was read
+rest-bytes : {V : Type 0} {G : V → List ℕ → Type 0} (s : List ℕ) (v : V) (r : List ℕ) → IsBytes s → Spells G s v r → IsBytes r
+rest-bytes s v r bytes sp = IsBytes-behind sp.front r (subst IsBytes sp.parts bytes)
+
+pub header-of-parts : (s q r : List ℕ) (t : TagName) (f : Bool) (n : ℕ) → IsBytes s → Accepts SpellsIdentifier s (t, f) q → Accepts SpellsLength q n r
+    → Accepts SpellsHeader s (record { tag = t; constructed = f; length = n }) r
+header-of-parts s q r t f n bytes a b =
+    header-accepts s (record { tag = t; constructed = f; length = n }) r bytes
+    (header-from s q (t, f) (part-read identifier-part s (t, f) q a.spells) ∙ rw (part-read length-part q n r b.spells) refl)
+
+pub header-stops : (s : List ℕ) (e : DecodeError) → IsBytes s → Refuses SpellsIdentifier s × IsPartFault SpellsIdentifier BadTag s e → Refuses SpellsHeader s × IsHeaderFault s e
+header-stops s e bytes h =
+    let failed = header-bad s e (part-failed identifier-part s e bytes h) in
+    (header-refuses s e failed, header-fault s e bytes failed)
+
+pub header-stops-later : (s q : List ℕ) (i : TagName × Bool) (e : DecodeError) → IsBytes s → Accepts SpellsIdentifier s i q → Refuses SpellsLength q × IsPartFault SpellsLength BadLength q e
+    → Refuses SpellsHeader s × IsHeaderFault s e
+header-stops-later s q i e bytes a h =
+    let failed : header_at s ≡ Err e =
+    header-from s q i (part-read identifier-part s i q a.spells) ∙ rw (part-failed length-part q e (rest-bytes s i q bytes a.spells) h) refl in
+    (header-refuses s e failed, header-fault s e bytes failed)
 
 -- whether the tag begins s
-pub tag-found : (s : List ℕ) (t u : TagName) (f : Bool) (r : List ℕ) → IsBytes s → identifier_at s ≡ Ok ((u, f), r) → u ≡ t → HasTag t s
-tag-found s t u f r bytes e same =
-    let h = identifier-takes s (u, f) r bytes e in
-    rw (← same) (f, r, record { front = identifier_octets u f; parts = h.octets; spelled = record { legal = h.legal; octets = refl } })
-
-pub tag-is : (s : List ℕ) (t u : TagName) (f : Bool) (r : List ℕ) → identifier_at s ≡ Ok ((u, f), r) → HasTag t s → u ≡ t
-tag-is s t u f r e (g, q, h) = let k = pair-is (u, f) (t, g) r q (sym e ∙ identifier-from s (t, g) q h) in ap (λ (x : TagName × Bool). x.0) k.0
-
-pub tag-none : (s : List ℕ) (t : TagName) (e : DecodeError) → identifier_at s ≡ Err e → HasTag t s → ⊥
-tag-none s t e failed (g, q, h) = let k = identifier-from s (t, g) q h in absurd cc
+pub tag-found : (s : List ℕ) (t u : TagName) (f : Bool) (r : List ℕ) → Accepts SpellsIdentifier s (u, f) r → (HasTag t s → u ≡ t) × (u ≡ t → HasTag t s)
+tag-found s t u f r a = (
+  λ (g, q, h). ap (λ (i : TagName × Bool). i.0) (sym (a.only (t, g) q h).0),
+  λ same. rw (← same) (f, r, a.spells),
+)
 
 -- nothing begins with a tag where nothing is
 pub tag-empty : (t : TagName) → HasTag t [] → ⊥

@@ -7,7 +7,7 @@ use Rattle.rpki_der.specs.declared.tag.Class.{Class}
 use Rattle.rpki_der.specs.declared.tag.Class.TheVariants.{Universal, Application, Context, Private}
 use Rattle.rpki_der.specs.TagName.{TagName, IsTag, tag_of}
 use Rattle.rpki_der.specs.Header.{class_number, form_number, lead, identifier_octets}
-use Rattle.rpki_der.specs.HeaderReading.{◌>>=◌, class_at, number_at, identifier_at}
+use Rattle.rpki_der.proofs.HeaderReading.{◌>>=◌, class_at, number_at, identifier_at}
 use Rattle.rpki_der.proofs.InSteps.{IsBytes, IsBytes-rest, IsBytes-cons, pair-is, bind-ok, bind-err}
 use Rattle.rpki_der.proofs.TagNumber.{groups, number-again, number-takes, number-stays, number-completes, number-errors}
 use Rattle.rpki_der.proofs.Digits.{digits-zero}
@@ -15,7 +15,7 @@ use Rattle.std.proofs.Math.Nat.{pow-zero}
 
 -- ---- the first octet
 
-class-again : (c : Class) → class_at (class_number c) ≡ c
+pub class-again : (c : Class) → class_at (class_number c) ≡ c
 class-again Universal = refl
 class-again Application = refl
 class-again Context = refl
@@ -86,15 +86,15 @@ identifier-empty = refl
 abbrev found : ℕ → ℕ → List ℕ → Result ((TagName × Bool) × List ℕ) DecodeError
 found b n s = Ok ((tag_of (class_at (b / 64)) n, eqb (b / 32 % 2) 1), s)
 
-identifier-low : (b : ℕ) (s : List ℕ) → b % 32 < 31 → (eqb (b / 64) 0 && eqb (b % 32) 0) ≡ false → identifier_at (b ∷ s) ≡ found b (b % 32) s
+pub identifier-low : (b : ℕ) (s : List ℕ) → b % 32 < 31 → (eqb (b / 64) 0 && eqb (b % 32) 0) ≡ false → identifier_at (b ∷ s) ≡ found b (b % 32) s
 unfolding identifier_at
 identifier-low b s lt named = rw (lt-ltb (b % 32) 31 lt, named) refl
 
-identifier-none : (b : ℕ) (s : List ℕ) → b % 32 < 31 → (eqb (b / 64) 0 && eqb (b % 32) 0) ≡ true → identifier_at (b ∷ s) ≡ Err BadTag
+pub identifier-none : (b : ℕ) (s : List ℕ) → b % 32 < 31 → (eqb (b / 64) 0 && eqb (b % 32) 0) ≡ true → identifier_at (b ∷ s) ≡ Err BadTag
 unfolding identifier_at
 identifier-none b s lt unnamed = rw (lt-ltb (b % 32) 31 lt, unnamed) refl
 
-identifier-high : (b : ℕ) (s : List ℕ) → 31 ≤ b % 32 → identifier_at (b ∷ s) ≡ (number_at 4 0 s >>= λ n. found b n.0 n.1)
+pub identifier-high : (b : ℕ) (s : List ℕ) → 31 ≤ b % 32 → identifier_at (b ∷ s) ≡ (number_at 4 0 s >>= λ n. found b n.0 n.1)
 unfolding identifier_at
 identifier-high b s ge = rw (le-ltb (b % 32) 31 ge) refl
 

@@ -7,7 +7,7 @@ use Rattle.std.proofs.lemmas.Nat.{div_below}
 use Rattle.rpki_der.specs.declared.error.DecodeError.{DecodeError}
 use Rattle.rpki_der.specs.declared.error.DecodeError.TheVariants.{Truncated, BadLength}
 use Rattle.rpki_der.specs.Header.{digits, length_octets}
-use Rattle.rpki_der.specs.HeaderReading.{octets_at, length_at}
+use Rattle.rpki_der.proofs.HeaderReading.{octets_at, length_at}
 use Rattle.rpki_der.proofs.InSteps.{IsBytes, IsBytes-rest, IsBytes-cons, pair-is}
 use Rattle.rpki_der.proofs.Digits.{digits-zero, digits-last, digits-push, digits-spare, length-digits, some-digits}
 
@@ -47,6 +47,10 @@ octets-feed (suc k) q i s lt =
           rw (digits-last 256 0 k q ne, size, append_assoc) (octets-feed k (q / 256) (suc i) ((0 + q % 256) ∷ s) below ∙ step)
     ]
 
+-- what is written is read again, whatever follows
+pub octets-again : (n : ℕ) (s : List ℕ) → 128 ≤ n → n < 2 ^ 32 → octets_at (length (digits 256 0 4 n)) 0 (digits 256 0 4 n ++ s) ≡ Ok (n, s)
+octets-again n s ge lt = (rw zero-add at (octets-feed 4 n 0 s lt)) ∙ octets-done n s ge
+
 cube : (i n : ℕ) → i ≤ 3 → n < 256 ^ i → n < 256 ^ 3
 cube zero n le lt = omega (arith, pow-zero 256)
 cube (suc zero) n le lt = omega arith
@@ -75,7 +79,7 @@ pub record AreOctets (n k : ℕ) (p s r : List ℕ) : Type 0 where
   pub high : n < 2 ^ 32
 
 -- what is read was written so
-octets-take : (k i n : ℕ) (s : List ℕ) (m : ℕ) (r : List ℕ) → i + k ≤ 4 → n < 256 ^ i → IsBytes s → octets_at k n s ≡ Ok (m, r) → AreOctets m k (digits 256 0 4 n) s r
+pub octets-take : (k i n : ℕ) (s : List ℕ) (m : ℕ) (r : List ℕ) → i + k ≤ 4 → n < 256 ^ i → IsBytes s → octets_at k n s ≡ Ok (m, r) → AreOctets m k (digits 256 0 4 n) s r
 octets-take zero i n s m r four lt bytes e =
     elim (cases_lt n 128) [
       | inl small ↦ absurd (let h = octets-small n s small in cc)
@@ -102,7 +106,7 @@ octets-take (suc k) i n (b ∷ s) m r four lt bytes e =
           }
     ]
 
-octets-stay : (k n : ℕ) (s t : List ℕ) → octets_at k n s ≡ Err BadLength → octets_at k n (s ++ t) ≡ Err BadLength
+pub octets-stay : (k n : ℕ) (s t : List ℕ) → octets_at k n s ≡ Err BadLength → octets_at k n (s ++ t) ≡ Err BadLength
 octets-stay zero n s t e =
     elim (cases_lt n 128) [
       | inl small ↦ octets-small n (s ++ t) small
@@ -122,7 +126,7 @@ octets-fill (suc k) n big =
     let h = octets-fill k (n * 256 + 255) (omega arith) in
     (h.0, 255 ∷ h.1, IsBytes-cons 255 h.1 (omega arith) h.2, octets-more k n 255 h.1 (λ z. omega arith) ∙ h.3)
 
-octets-complete : (k n : ℕ) (s : List ℕ) → octets_at k n s ≡ Err Truncated → (m : ℕ) × (t : List ℕ) × IsBytes t × (octets_at k n (s ++ t) ≡ Ok (m, []))
+pub octets-complete : (k n : ℕ) (s : List ℕ) → octets_at k n s ≡ Err Truncated → (m : ℕ) × (t : List ℕ) × IsBytes t × (octets_at k n (s ++ t) ≡ Ok (m, []))
 octets-complete zero n s e =
     elim (cases_lt n 128) [
       | inl small ↦ absurd (let h = octets-small n s small in cc)
@@ -137,7 +141,7 @@ octets-complete (suc k) n (b ∷ s) e =
           (h.0, h.1, h.2, octets-more k n b (s ++ h.1) ne ∙ h.3)
     ]
 
-octets-errors : (k n : ℕ) (s : List ℕ) (e : DecodeError) → octets_at k n s ≡ Err e → (e ≡ Truncated) ⊎ (e ≡ BadLength)
+pub octets-errors : (k n : ℕ) (s : List ℕ) (e : DecodeError) → octets_at k n s ≡ Err e → (e ≡ Truncated) ⊎ (e ≡ BadLength)
 octets-errors zero n s e h =
     elim (cases_lt n 128) [
       | inl small ↦ inr (let g = octets-small n s small in cc)
@@ -152,16 +156,16 @@ octets-errors (suc k) n (b ∷ s) e h =
 
 -- ---- the length octets
 
-length-empty : length_at [] ≡ Err Truncated
+pub length-empty : length_at [] ≡ Err Truncated
 unfolding length_at
 length-empty = refl
 
-length-short : (b : ℕ) (s : List ℕ) → b < 128 → length_at (b ∷ s) ≡ Ok (b, s)
+pub length-short : (b : ℕ) (s : List ℕ) → b < 128 → length_at (b ∷ s) ≡ Ok (b, s)
 unfolding length_at
 length-short b s lt = rw (lt-ltb b 128 lt) refl
 
 -- neither 0x80 nor more than four octets
-length-wrong : (b : ℕ) (s : List ℕ) → 128 ≤ b → (b ≡ 128) ⊎ (132 < b) → length_at (b ∷ s) ≡ Err BadLength
+pub length-wrong : (b : ℕ) (s : List ℕ) → 128 ≤ b → (b ≡ 128) ⊎ (132 < b) → length_at (b ∷ s) ≡ Err BadLength
 unfolding length_at
 length-wrong b s ge wrong =
     elim wrong [
@@ -169,7 +173,7 @@ length-wrong b s ge wrong =
       | inr lt ↦ rw (le-ltb b 128 ge, ne_eqb b 128 (λ z. omega arith), lt-ltb 132 b lt) refl
     ]
 
-length-long : (b : ℕ) (s : List ℕ) → 128 < b → b ≤ 132 → length_at (b ∷ s) ≡ octets_at (b - 128) 0 s
+pub length-long : (b : ℕ) (s : List ℕ) → 128 < b → b ≤ 132 → length_at (b ∷ s) ≡ octets_at (b - 128) 0 s
 unfolding length_at
 length-long b s lt le = rw (le-ltb b 128 (omega arith), ne_eqb b 128 (λ z. omega arith), le-ltb 132 b le) refl
 

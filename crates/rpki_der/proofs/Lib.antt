@@ -1,8 +1,10 @@
+pub mod HeaderReading
 pub mod InSteps
 pub mod Digits
 pub mod TagNumber
 pub mod Length
 pub mod Identifier
+pub mod PartReading
 pub mod HeaderLaws
 pub mod ReadingLaws
 pub mod HeaderReads

@@ -4,7 +4,7 @@ pub mod ErrorText
 pub mod TagName
 pub mod Header
 pub mod ShortestForm
-pub mod HeaderReading
+pub mod HeaderParts
 pub mod Reading
 pub mod Values
 pub mod Cursor

@@ -1,9 +1,11 @@
 //! Headers, read from the front of a slice.
 
-ghost use Rattle.std.specs.Prelude.{◌≡◌, ◌≤◌, List, ℕ, IfOk, IfErr, IsTrue, ◌↔◌};
+ghost use Rattle.std.specs.Prelude.{◌≡◌, ◌<◌, ◌≤◌, List, ℕ, IfOk, IfErr, IsTrue, ◌↔◌};
 ghost use Rattle.rpki_der.specs.Reading.{Accepts, Refuses};
-ghost use Rattle.rpki_der.specs.Values.{SpellsHeader, HasTag, IsHeaderFault};
-ghost use Rattle.rpki_der.specs.HeaderReading.{Gives, class_at, number_at, identifier_at, octets_at, length_at, header_at};
+ghost use Rattle.rpki_der.specs.declared.error.DecodeError.TheVariants.{BadTag, BadLength};
+ghost use Rattle.rpki_der.specs.Header.{class_number};
+ghost use Rattle.rpki_der.specs.Values.{SpellsIdentifier, SpellsHeader, HasTag, IsHeaderFault};
+ghost use Rattle.rpki_der.specs.HeaderParts.{SpellsTagNumber, SpellsLength, SpellsLongLength, ReadsPart};
 
 use crate::error::DecodeError;
 use crate::tag::{Class, Header, Tag};
@@ -13,7 +15,7 @@ use crate::tag::{Class, Header, Tag};
 ///
 /// Truncated where the octets end within the number; else BadTag where they are no such form.
 fn tag_number(s: &[u8]) -> Result<(u32, &[u8]), DecodeError>
-    ensures { Gives (λ x. (x.0, x.1.now)) result (number_at 4 0 s.now) }
+    ensures { ReadsPart (λ x. (x.0, x.1.now)) SpellsTagNumber BadTag s.now result }
 {
     let mut number: u32 = 0;
     for i in 0..4usize {
@@ -38,9 +40,8 @@ fn tag_number(s: &[u8]) -> Result<(u32, &[u8]), DecodeError>
 /// The identifier octets at the front (X.690 8.1.2): the tag, whether the value is constructed, and what is behind.
 ///
 /// The refusals are Truncated and BadTag.
-#[tactic(auto, unfolding(crate::specs::HeaderReading::identifier_at))]
 fn identifier(s: &[u8]) -> Result<(Tag, bool, &[u8]), DecodeError>
-    ensures { Gives (λ x. ((x.0, x.1), x.2.now)) result (identifier_at s.now) }
+    ensures { ReadsPart (λ x. ((x.0, x.1), x.2.now)) SpellsIdentifier BadTag s.now result }
 {
     let [first, rest @ ..] = s else {
         return Err(DecodeError::Truncated);
@@ -60,7 +61,8 @@ fn identifier(s: &[u8]) -> Result<(Tag, bool, &[u8]), DecodeError>
 
 /// The class with this number, from 0 to 3 (X.690 8.1.2.2, table 1).
 fn class_of(number: u8) -> Class
-    ensures { result ≡ class_at number }
+    requires { number < 4 }
+    ensures { class_number result ≡ number }
 {
     match number {
         0 => Class::Universal,
@@ -73,9 +75,8 @@ fn class_of(number: u8) -> Class
 /// The length octets at the front (X.690 8.1.3, 10.1), and what is behind.
 ///
 /// The refusals are Truncated and BadLength.
-#[tactic(auto, unfolding(crate::specs::HeaderReading::length_at))]
 fn length(s: &[u8]) -> Result<(u32, &[u8]), DecodeError>
-    ensures { Gives (λ x. (x.0, x.1.now)) result (length_at s.now) }
+    ensures { ReadsPart (λ x. (x.0, x.1.now)) SpellsLength BadLength s.now result }
 {
     let [first, rest @ ..] = s else {
         return Err(DecodeError::Truncated);
@@ -94,7 +95,7 @@ fn length(s: &[u8]) -> Result<(u32, &[u8]), DecodeError>
 /// Truncated where the octets end within the length; else BadLength where fewer octets, or one below 128, would do.
 fn long_length(count: usize, s: &[u8]) -> Result<(u32, &[u8]), DecodeError>
     requires { count ≤ 4 }
-    ensures { Gives (λ x. (x.0, x.1.now)) result (octets_at count 0 s.now) }
+    ensures { ReadsPart (λ x. (x.0, x.1.now)) (SpellsLongLength count) BadLength s.now result }
 {
     let mut length: u32 = 0;
     for i in 0..count {
@@ -118,14 +119,6 @@ fn long_length(count: usize, s: &[u8]) -> Result<(u32, &[u8]), DecodeError>
 pub(crate) fn header(s: &[u8]) -> Result<(Header, &[u8]), DecodeError>
     ensures ok { IfOk result (λ x. Accepts SpellsHeader s.now x.0 x.1.now) }
     ensures err { IfErr result (λ e. Refuses SpellsHeader s.now × IsHeaderFault s.now e) }
-{
-    plain_header(s)
-}
-
-/// The same, as its identifier octets and its length octets are read one after the other.
-#[tactic(auto, unfolding(crate::specs::HeaderReading::header_at))]
-fn plain_header(s: &[u8]) -> Result<(Header, &[u8]), DecodeError>
-    ensures { Gives (λ x. (x.0, x.1.now)) result (header_at s.now) }
 {
     // `?` has no rule here, since a `Tag` has an invariant and stands beside a reference
     let (tag, constructed, rest) = match identifier(s) {

@@ -1,6 +1,6 @@
--- What the private readers of headers do with octets, from the left: the plain program that they are. No public contract
--- speaks of it; the proofs show that it finds the headers of Header.antt and their faults.
-use Rattle.std.specs.Prelude.{ℕ, zero, suc, Bool, ◌≡◌, ◌+◌, ◌-◌, ◌*◌, ◌/◌, ◌%◌, ◌==◌, ◌&&◌, ◌||◌, nat_lt, if◌then◌else◌, List, [], ◌∷◌, Result, Ok, Err}
+-- Headers read from the left as a plain program: what the loops of the readers keep is said with it, and the laws below
+-- show that it finds the headers of Header.antt and their faults.
+use Rattle.std.specs.Prelude.{ℕ, zero, suc, Bool, ◌+◌, ◌-◌, ◌*◌, ◌/◌, ◌%◌, ◌==◌, ◌&&◌, ◌||◌, nat_lt, if◌then◌else◌, List, [], ◌∷◌, Result, Ok, Err}
 use Rattle.rpki_der.specs.declared.error.DecodeError.{DecodeError}
 use Rattle.rpki_der.specs.declared.error.DecodeError.TheVariants.{Truncated, BadTag, BadLength}
 use Rattle.rpki_der.specs.declared.tag.Class.{Class}
@@ -12,11 +12,6 @@ infixl 10 ◌>>=◌
 abbrev pub ◌>>=◌ : {A B : Type 0} → Result A DecodeError → (A → Result B DecodeError) → Result B DecodeError
 (Ok x) >>= f = f x
 (Err e) >>= f = Err e
-
--- what a function answered, seen by view, is what reading gives
-abbrev pub Gives : {X Y : Type 0} → (X → Y) → Result X DecodeError → Result Y DecodeError → Type 0
-Gives view (Ok x) read = read ≡ Ok (view x)
-Gives view (Err e) read = read ≡ Err e
 
 -- a tag's number from n on, in at most k further octets
 unfoldable pub number_at : ℕ → ℕ → List ℕ → Result (ℕ × List ℕ) DecodeError
