@@ -6,8 +6,8 @@ use Rattle.rpki_der.specs.Leaves.{IsOnly}
 use Rattle.rpki_der.specs.Joined.{sequence_legal, set_legal}
 use Rattle.rpki_der.proofs.EncodeLaws.{leaf_legal, tlv_at_most}
 use Rattle.rpki.specs.Oids.{sha256}
-use Rattle.rpki.specs.AlgorithmOctets.{oid-legal}
-use Rattle.rpki.specs.BareOctets.{bare-short}
+use Rattle.rpki.specs.AlgorithmOctetsLaws.{oid-legal}
+use Rattle.rpki.specs.BareOctetsLaws.{bare-short}
 use Rattle.rpki.specs.Digest.{IsDigestContents, SpellsDigest, SpellsDigestSet, digest_octets, digest_set_octets}
 
 pub digest-spelled : SpellsDigest tt digest_octets

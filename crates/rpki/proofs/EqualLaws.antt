@@ -6,7 +6,7 @@ use mathlib.Core.Bool.{beq}
 use Rattle.rpki.proofs.NamedLaws.{and-first, and-second}
 use Rattle.rpki.specs.Oids.{sha256_with_rsa_encryption}
 use Rattle.rpki.specs.Algorithm.{SpellsAlgorithm}
-use Rattle.rpki.specs.AlgorithmOctets.{algorithm-is}
+use Rattle.rpki.specs.AlgorithmOctetsLaws.{algorithm-is}
 use Rattle.rpki.specs.SignedData.{SignedParts, parts_of}
 use Rattle.rpki.specs.SignedEqual.{same_signed}
 

@@ -11,7 +11,8 @@ use Rattle.rpki.specs.declared.crypto.keys.PublicKeyFormat.{PublicKeyFormat}
 use Rattle.rpki.specs.declared.crypto.keys.PublicKeyFormat.TheVariants.{Rsa, EcdsaP256}
 use Rattle.rpki.specs.Oids.{rsa_encryption, sha256_with_rsa_encryption, ec_public_key, secp256r1}
 use Rattle.rpki.specs.Algorithm.{IsIdentified, IsParameters}
-use Rattle.rpki.specs.AlgorithmOctets.{parameters_octets, identified_octets, identified-short, oid-legal, null-legal}
+use Rattle.rpki.specs.AlgorithmOctets.{parameters_octets, identified_octets}
+use Rattle.rpki.specs.AlgorithmOctetsLaws.{identified-short, oid-legal, null-legal}
 use Rattle.rpki.specs.KeyFormat.{IsFormatContents, SpellsFormat, format_contents, format_octets}
 use Rattle.rpki.specs.SignatureNames.{IsCmsContents}
 use Rattle.rpki.proofs.InOrderLaws.{both-read, no-first, no-second}

@@ -1,10 +1,10 @@
 -- Where a reader that is put together of others may answer that memory ran out.
-use Rattle.std.proofs.Common.{◌≡◌, ◌≢◌, ℕ, true, false, List, [], ◌++◌, refl, sym, ap, ◌∙◌, append_assoc}
+use Rattle.std.proofs.Common.{◌≡◌, ◌≢◌, ℕ, true, List, [], ◌++◌, refl, sym, ap, ◌∙◌, append_assoc}
 use Rattle.std.proofs.lemmas.List.{append-nil}
 use Rattle.rpki_der.specs.declared.error.DecodeError.{DecodeError}
 use Rattle.rpki_der.specs.declared.error.DecodeError.TheVariants.{Truncated, BadTag, BadLength, Unexpected, Content, Trailing, OutOfMemory}
 use Rattle.rpki_der.specs.TagName.{TagName}
-use Rattle.rpki_der.specs.Reading.{Spells, Accepts, Refusal, SpellsNothing, UnlessMemory, OrMemoryWhere, Finds}
+use Rattle.rpki_der.specs.Reading.{Spells, Accepts, Refusal, SpellsNothing, UnlessMemory, OrMemoryWhere}
 use Rattle.rpki_der.specs.Values.{SpellsContents, SpellsLeaf, IsContentsFault, GivesOuterFault}
 use Rattle.rpki_der.specs.Members.{IsValue, SpellsValue}
 use Rattle.rpki_der.specs.Walk.{HasEither}

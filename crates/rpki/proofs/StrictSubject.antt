@@ -8,7 +8,7 @@ use Rattle.rpki_der.specs.Leaves.{IsOid, IsOidOf}
 use Rattle.rpki_der.specs.Text.{is_printable, are_printable, IsPrintableText}
 use Rattle.rpki_der.specs.Joined.{sequence_legal, set_legal, primitive_value}
 use Rattle.rpki_der.proofs.EncodeLaws.{leaf_legal, tlv_at_most}
-use Rattle.rpki.specs.AlgorithmOctets.{oid-legal}
+use Rattle.rpki.specs.AlgorithmOctetsLaws.{oid-legal}
 use Rattle.rpki.specs.Oids.{common_name}
 use Rattle.rpki.specs.Name.{Attribute, attribute_of, IsAttribute, SpellsAttribute, SpellsSome, SpellsRelative, SpellsName}
 use Rattle.rpki.specs.StrictName.{IsPrintable, IsPrintableOrUtf8, IsKnown, IsStrict, attributes, IsRpkiName, IsRouterName}

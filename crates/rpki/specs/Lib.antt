@@ -1,3 +1,4 @@
+-- Definitions: what the contracts say. They are trusted, and read against the standards.
 pub mod Oids
 pub mod InOrder
 pub mod Algorithm
@@ -13,7 +14,6 @@ pub mod Signature
 pub mod SignatureNames
 pub mod Digest
 pub mod AlgorithmOctets
-pub mod BareOctets
 pub mod SignedData
 pub mod SignedEqual
 pub mod Extension
@@ -24,3 +24,7 @@ pub mod InspectName
 pub mod ErrorContent
 pub mod InspectedName
 pub mod UpdateFirst
+-- Lemmas, which the prover checks: ghost items of impls cite them.
+pub mod AlgorithmOctetsLaws
+pub mod BareOctetsLaws
+pub mod SignedEqualLaws

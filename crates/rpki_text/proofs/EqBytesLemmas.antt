@@ -13,7 +13,7 @@ use Rattle.rpki_text.specs.UriText.{is_uri_byte, lowercase, same_text}
 use Rattle.rpki_text.specs.Segments.{is_slash}
 use Rattle.rpki_text.specs.SegmentLaws.{path_text-segments}
 use Rattle.rpki_text.specs.RsyncText.{IsCut, IsRsync, authority_of, module_name_of, path_of, uri_of, same_uri, path_refusal, rsync_refusal, eq_rsync_bytes, has_scheme, has_module}
-use Rattle.rpki_text.specs.SameUri.{same_uri-texts}
+use Rattle.rpki_text.specs.SameUriLaws.{same_uri-texts}
 use Rattle.rpki_text.proofs.UriLemmas.{path_passes}
 use Rattle.rpki_text.proofs.LawLemmas.{spelled}
 use Rattle.rpki_text.proofs.PartLemmas.{read_parts, ReadParts, slash-lowercase, before_first-no_slash}

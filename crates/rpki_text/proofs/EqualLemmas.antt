@@ -7,7 +7,7 @@ use Rattle.std.proofs.lemmas.Slice.Eq.{bytes_eq-Decides}
 use Rattle.rpki_text.specs.UriText.{lowercase}
 use Rattle.rpki_text.specs.Segments.{is_slash}
 use Rattle.rpki_text.specs.RsyncText.{authority_of, module_name_of, path_of, RsyncUri, uri_of, same_uri, parent_uri, canonical_module_of}
-use Rattle.rpki_text.specs.SameUri.{same_uri_equiv, same_uri-texts}
+use Rattle.rpki_text.specs.SameUriLaws.{same_uri_equiv, same_uri-texts}
 use Rattle.rpki_text.proofs.PartLemmas.{read_parts, ReadParts, slash-lowercase, before_first-no_slash}
 
 -- the four parts of two equal URIs

@@ -7,7 +7,7 @@ use borrow.Author.Tests.{eqb-true}
 use Rattle.rpki_text.specs.UriText.{lowercase}
 use Rattle.rpki_text.specs.Segments.{is_slash}
 use Rattle.rpki_text.specs.HttpsText.{https_authority, https_path, HttpsUri, https_uri_of, IsHttpsUri, SpellsHttps, same_https, https_parent_uri}
-use Rattle.rpki_text.specs.SameHttps.{same_https_equiv}
+use Rattle.rpki_text.specs.SameHttpsLaws.{same_https_equiv}
 use Rattle.rpki_text.proofs.HttpsLemmas.{AtSlash, https_read}
 use Rattle.rpki_text.proofs.PartLemmas.{slash-lowercase}
 use Rattle.rpki_text.proofs.TextLemmas.{length-lowercase}

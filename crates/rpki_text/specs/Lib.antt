@@ -1,12 +1,14 @@
+-- Definitions: what the contracts say. They are trusted, and read against the standards.
 pub mod Segments
 pub mod UriText
 pub mod RsyncText
 pub mod HttpsText
 pub mod SchemeText
 pub mod HexText
-pub mod SegmentLaws
-pub mod SameUri
 pub mod ErrorText
 pub mod Laws
-pub mod SameHttps
 pub mod Base64Text
+-- Lemmas, which the prover checks: ghost items of impls cite them.
+pub mod SegmentLaws
+pub mod SameUriLaws
+pub mod SameHttpsLaws

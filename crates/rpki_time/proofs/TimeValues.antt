@@ -9,7 +9,7 @@ use Rattle.rpki_der.specs.Values.{SpellsContents}
 use Rattle.rpki_der.proofs.EncodeLaws.{tlv_legal}
 use Rattle.rpki_time.specs.Time.{IsTimeYear, cut}
 use Rattle.rpki_time.specs.TimeText.{utc_text, generalized_text, is_utc_year, IsUtcYear}
-use Rattle.rpki_time.specs.TimeMembers.{utc_legal, generalized_legal}
+use Rattle.rpki_time.specs.TimeValueLaws.{utc_legal, generalized_legal}
 use Rattle.rpki_time.specs.TimeValue.{ReadsAs, SpellsTime, IsPrimitive, IsTimeFault, octets_where, time_octets, utc_octets, generalized_octets}
 use Rattle.rpki_time.proofs.ReadBack.{flat_there, reads_back, tlv_short}
 use Rattle.rpki_time.proofs.Texts.{utc_reads_cut, generalized_reads_cut, in_window}

@@ -1,3 +1,4 @@
+-- Definitions: what the contracts say. They are trusted, and read against the standards.
 pub mod Serial
 pub mod Time
 pub mod TimeText
@@ -6,4 +7,5 @@ pub mod TimeValue
 pub mod Validity
 pub mod PeriodValue
 pub mod ErrorTexts
-pub mod TimeMembers
+-- Lemmas, which the prover checks: ghost items of impls cite them.
+pub mod TimeValueLaws

@@ -116,7 +116,7 @@ impl Model for VariedTime {
 
 impl Values for VariedTime {
     ghost use Rattle.rpki_time.specs.TimeValue.{time_tree};
-    ghost use Rattle.rpki_time.specs.TimeMembers.{time_is_value_list, time_spelled, time_measured};
+    ghost use Rattle.rpki_time.specs.TimeValueLaws.{time_is_value_list, time_spelled, time_measured};
 
     ghost tree = { time_tree };
 
@@ -135,7 +135,7 @@ impl Values for VariedTime {
         true
     }
 
-    #[tactic(auto, using(crate::specs::TimeMembers::time_is_value))]
+    #[tactic(auto, using(crate::specs::TimeValueLaws::time_is_value))]
     fn count(&self) -> u64 {
         1
     }

@@ -121,7 +121,8 @@ impl SignatureAlgorithm for RpkiSignatureAlgorithm {
     ghost use Rattle.std.proofs.Common.{lit<};
     ghost use Rattle.rpki.specs.Oids.{sha256_with_rsa_encryption};
     ghost use Rattle.rpki.specs.Algorithm.{SpellsAlgorithm};
-    ghost use Rattle.rpki.specs.AlgorithmOctets.{algorithm_octets, algorithm-spelled, algorithm-value, algorithm-one};
+    ghost use Rattle.rpki.specs.AlgorithmOctets.{algorithm_octets};
+    ghost use Rattle.rpki.specs.AlgorithmOctetsLaws.{algorithm-spelled, algorithm-value, algorithm-one};
     ghost use Rattle.rpki.specs.declared.crypto.keys.PublicKeyFormat.TheVariants.{Rsa};
 
     ghost spells = { SpellsAlgorithm sha256_with_rsa_encryption };

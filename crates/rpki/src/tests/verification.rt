@@ -55,7 +55,7 @@ impl SignatureAlgorithm for OwnAlgorithm {
     ghost use Rattle.std.specs.Prelude.{[], ◌∷◌, refl};
     ghost use Rattle.std.proofs.Common.{lit<};
     ghost use Rattle.rpki.specs.SignatureNames.{SpellsBare, bare_octets};
-    ghost use Rattle.rpki.specs.BareOctets.{bare-spelled, bare-value};
+    ghost use Rattle.rpki.specs.BareOctetsLaws.{bare-spelled, bare-value};
     ghost use Rattle.rpki.specs.declared.crypto.keys.PublicKeyFormat.TheVariants.{Rsa};
 
     ghost spells = { SpellsBare (42 ∷ 3 ∷ []) };

@@ -164,9 +164,11 @@ fn comparisons(rt: HostRuntime) -> Result<(), Fail> {
     Ok(())
 }
 
-fn put(line: &mut String, part: &str) -> Result<(), Fail> {
-    line.push_str(" ")?;
-    line.push_str(part)?;
+fn put(line: &mut String, parts: &[&str]) -> Result<(), Fail> {
+    for part in parts {
+        line.push_str(" ")?;
+        line.push_str(part)?;
+    }
     Ok(())
 }
 
@@ -175,10 +177,13 @@ fn parts(alloc: Global, text: &str) -> Result<String, Fail> {
     let mut u = parsed(alloc, text)?;
     let mut line = format!(in alloc; "{u}")?;
     let canonical = u.canonical_authority(alloc)?.into_owned(alloc)?;
-    put(&mut line, u.scheme().as_str())?;
-    put(&mut line, u.authority())?;
-    put(&mut line, canonical.as_str())?;
-    put(&mut line, u.path())?;
+    let parts = [
+        u.scheme().as_str(),
+        u.authority(),
+        canonical.as_str(),
+        u.path(),
+    ];
+    put(&mut line, &parts)?;
     let dir = u.path_is_dir();
     u.path_into_dir(alloc)?;
     Ok(format!(in alloc; "{line} {dir} {u}")?)
@@ -207,20 +212,21 @@ fn uri_parts(rt: HostRuntime) -> Result<(), Fail> {
     Ok(())
 }
 
+// Whether the text was read, and is that of the URI.
+fn is_text<E: Drop>(read: Result<Https, E>, text: &str) -> bool {
+    match read {
+        Ok(uri) => uri.as_str() == text && uri.as_bytes().as_slice() == text.as_bytes(),
+        Err(_) => false,
+    }
+}
+
 fn copies_agree(alloc: Global, text: &str) -> Result<bool, Fail> {
-    let mut u = Https::from_str(alloc, text)?;
-    let copy = u.clone()?;
-    u.unshare(alloc)?;
-    let again = Https::from_slice(alloc, u.as_slice())?;
-    let owned = Https::from_string(String::from_str(alloc, text)?)?;
-    Ok(
-        u.as_str() == text
-            && copy.as_str() == text
-            && again.as_str() == text
-            && owned.as_str() == text
-            && u.as_bytes().as_slice() == text.as_bytes()
-            && u.scheme() == Scheme::Https,
-    )
+    let owned = is_text(Https::from_string(String::from_str(alloc, text)?), text);
+    let mut uri = Https::from_str(alloc, text)?;
+    uri.unshare(alloc)?;
+    let copied = is_text(uri.clone(), text);
+    let again = is_text(Https::from_slice(alloc, uri.as_slice()), text);
+    Ok(owned && copied && again && uri.as_str() == text)
 }
 
 #[test]

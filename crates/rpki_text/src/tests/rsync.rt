@@ -453,28 +453,27 @@ fn other_octets(rt: HostRuntime) -> Result<(), Fail> {
     Ok(())
 }
 
-fn put(line: &mut String, part: &str) -> Result<(), Fail> {
-    line.push_str(" ")?;
-    line.push_str(part)?;
+fn put(line: &mut String, parts: &[&str]) -> Result<(), Fail> {
+    for part in parts {
+        line.push_str(" ")?;
+        line.push_str(part)?;
+    }
     Ok(())
 }
 
 fn put_canonical(alloc: Global, line: &mut String, u: &Rsync) -> Result<(), Fail> {
     let authority = u.canonical_authority(alloc)?.into_owned(alloc)?;
     let module = u.canonical_module(alloc)?.into_owned(alloc)?;
-    put(line, authority.as_str())?;
-    put(line, module.as_str())
+    put(line, &[authority.as_str(), module.as_str()])
 }
 
 // The text that Display prints, and the parts behind it.
 fn parts(alloc: Global, text: &str) -> Result<String, Fail> {
     let u = parsed(alloc, text)?;
     let mut line = format!(in alloc; "{u}")?;
-    put(&mut line, u.authority())?;
-    put(&mut line, u.module_name())?;
-    put(&mut line, u.module())?;
+    put(&mut line, &[u.authority(), u.module_name(), u.module()])?;
     put_canonical(alloc, &mut line, &u)?;
-    put(&mut line, u.path())?;
+    put(&mut line, &[u.path()])?;
     let (dir, certificate, len) = (u.path_is_dir(), u.ends_with(".cer"), u.path_bytes().len());
     Ok(format!(in alloc; "{line} {dir} {certificate} {len}")?)
 }
@@ -506,21 +505,23 @@ fn uri_parts(rt: HostRuntime) -> Result<(), Fail> {
     Ok(())
 }
 
-// The texts that each way of making a copy gives, which are all the same.
+// Whether the text was read, and is that of the URI.
+fn is_text<E: Drop>(read: Result<Rsync, E>, text: &str) -> bool {
+    match read {
+        Ok(uri) => uri.as_str() == text,
+        Err(_) => false,
+    }
+}
+
+// Each way of making a copy gives the same text.
 fn copies_agree(alloc: Global, text: &str) -> Result<bool, Fail> {
-    let mut u = Rsync::from_str(alloc, text)?;
-    let copy = u.clone()?;
-    u.unshare(alloc)?;
-    let octets = u.to_bytes()?;
-    let again = Rsync::from_slice(alloc, u.as_slice())?;
-    let owned = Rsync::from_string(String::from_str(alloc, text)?)?;
-    Ok(
-        u.as_str() == text
-            && copy.as_str() == text
-            && again.as_str() == text
-            && owned.as_str() == text
-            && octets.as_slice() == text.as_bytes(),
-    )
+    let owned = is_text(Rsync::from_string(String::from_str(alloc, text)?), text);
+    let mut uri = Rsync::from_str(alloc, text)?;
+    uri.unshare(alloc)?;
+    let copied = is_text(uri.clone(), text);
+    let again = is_text(Rsync::from_slice(alloc, uri.as_slice()), text);
+    let octets = uri.to_bytes()?.as_slice() == text.as_bytes();
+    Ok(owned && copied && again && octets && uri.as_str() == text)
 }
 
 #[test]

@@ -4,7 +4,7 @@ ghost use Rattle.std.specs.Cow.{cow_str_bytes};
 ghost use Rattle.std.specs.List.{list_all};
 ghost use Rattle.std.specs.Option.{option_map, unwrap_or};
 ghost use Rattle.std.specs.Ordering.{on};
-ghost use Rattle.rpki_text.specs.SameHttps.{same_https-hashed, https_equiv, https_per};
+ghost use Rattle.rpki_text.specs.SameHttpsLaws.{same_https-hashed, https_equiv, https_per};
 ghost use Rattle.rpki_text.specs.Segments.{is_dir, with_slash};
 ghost use Rattle.rpki_text.specs.UriText.{lowercase, is_uri_byte};
 ghost use Rattle.rpki_text.specs.HttpsText.{https_refusal, IsHttpsCut, https_authority, https_path, https_uri_of, IsHttpsUri, SpellsHttps, same_https, https_hashed, eq_https_bytes, ends_in_slash, https_joined, https_joined_uri, https_join_refusal, https_into_dir, https_parent_of, https_parent_uri};

@@ -4,7 +4,7 @@ ghost use Rattle.std.specs.Cow.{cow_str_bytes};
 ghost use Rattle.std.specs.List.{list_all, position_or_len, ends_with};
 ghost use Rattle.std.specs.Option.{option_copied, option_map, unwrap_or};
 ghost use Rattle.std.specs.Ordering.{on};
-ghost use Rattle.rpki_text.specs.SameUri.{same_uri-hashed, texts_equiv, texts_per};
+ghost use Rattle.rpki_text.specs.SameUriLaws.{same_uri-hashed, texts_equiv, texts_per};
 ghost use Rattle.rpki_text.specs.Segments.{is_slash, is_dir, with_slash};
 ghost use Rattle.rpki_text.specs.UriText.{lowercase, is_uri_byte};
 ghost use Rattle.rpki_text.specs.RsyncText.{rsync_refusal, has_module, RsyncUri, IsRsyncUri, uri_of, Spells, relative, is_parent, is_identical, IsWayBack, IsParentText, IsRsync, parent_uri, parent_of, joined, joined_uri, join_refusal, same_uri, hashed, IsCut, authority_of, module_name_of, module_of, canonical_module_of, path_of, eq_rsync_bytes};

@@ -36,7 +36,7 @@ impl SignatureAlgorithm for BgpsecSignatureAlgorithm {
     ghost use Rattle.std.proofs.Common.{lit<};
     ghost use Rattle.rpki.specs.Oids.{ecdsa_with_sha256};
     ghost use Rattle.rpki.specs.SignatureNames.{SpellsBare, bare_octets};
-    ghost use Rattle.rpki.specs.BareOctets.{bare-spelled, bare-value};
+    ghost use Rattle.rpki.specs.BareOctetsLaws.{bare-spelled, bare-value};
     ghost use Rattle.rpki.specs.declared.crypto.keys.PublicKeyFormat.TheVariants.{EcdsaP256};
 
     ghost spells = { SpellsBare ecdsa_with_sha256 };

@@ -207,7 +207,8 @@ impl<Alg: SignatureAlgorithm> SignedData<Alg> {
 /// parameters.
 impl PartialEq for SignedData<RpkiSignatureAlgorithm> {
     ghost use Rattle.std.specs.Cmp.{partial_equiv_from_equiv};
-    ghost use Rattle.rpki.specs.SignedEqual.{same_signed, same_signed_equivalence};
+    ghost use Rattle.rpki.specs.SignedEqual.{same_signed};
+    ghost use Rattle.rpki.specs.SignedEqualLaws.{same_signed_equivalence};
 
     ghost eq = { same_signed };
 
@@ -221,7 +222,7 @@ impl PartialEq for SignedData<RpkiSignatureAlgorithm> {
 }
 
 impl Eq for SignedData<RpkiSignatureAlgorithm> {
-    ghost use Rattle.rpki.specs.SignedEqual.{same_signed_equivalence};
+    ghost use Rattle.rpki.specs.SignedEqualLaws.{same_signed_equivalence};
 
     ghost laws = { same_signed_equivalence };
 }

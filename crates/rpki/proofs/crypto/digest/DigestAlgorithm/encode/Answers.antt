@@ -1,6 +1,6 @@
 use Rattle.std.proofs.Common.{lit<}
 use Rattle.rpki.specs.Oids.{sha256}
-use Rattle.rpki.specs.BareOctets.{bare-short}
+use Rattle.rpki.specs.BareOctetsLaws.{bare-short}
 use Rattle.rpki.proofs.DigestLaws.{digest-spelled}
 use Rattle.rpki.proofs.crypto.digest.DigestAlgorithm.encode.Goals as goal
 

@@ -1,6 +1,6 @@
 use Rattle.std.proofs.Common.{true, lit<, inl}
 use Rattle.rpki.specs.Oids.{rsa_encryption}
-use Rattle.rpki.specs.AlgorithmOctets.{identified-short, algorithm-spelled}
+use Rattle.rpki.specs.AlgorithmOctetsLaws.{identified-short, algorithm-spelled}
 use Rattle.rpki.proofs.crypto.signature.RpkiSignatureAlgorithm.cms_encode.Goals as goal
 
 pub returns-clause-short : goal.returns-clause-short

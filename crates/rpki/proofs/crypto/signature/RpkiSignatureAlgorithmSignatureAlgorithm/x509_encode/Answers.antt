@@ -1,6 +1,6 @@
 use Rattle.std.proofs.Common.{true, lit<}
 use Rattle.rpki.specs.Oids.{sha256_with_rsa_encryption}
-use Rattle.rpki.specs.AlgorithmOctets.{identified-short}
+use Rattle.rpki.specs.AlgorithmOctetsLaws.{identified-short}
 use Rattle.rpki.proofs.crypto.signature.RpkiSignatureAlgorithmSignatureAlgorithm.x509_encode.Goals as goal
 
 pub returns-clause-short : goal.returns-clause-short

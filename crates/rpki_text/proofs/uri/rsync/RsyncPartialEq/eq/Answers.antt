@@ -1,6 +1,6 @@
 use Rattle.std.proofs.Common.{◌&&◌, bytes_eq, sym, ap, ◌∙◌}
 use Rattle.rpki_text.specs.RsyncText.{path_of}
-use Rattle.rpki_text.specs.SameUri.{same_uri-texts}
+use Rattle.rpki_text.specs.SameUriLaws.{same_uri-texts}
 use Rattle.rpki_text.proofs.uri.rsync.RsyncPartialEq.eq.Goals as goal
 
 pub returns-then-has_module_of : goal.returns-then-has_module_of

@@ -1,6 +1,6 @@
 use Rattle.std.proofs.Common.{lit<}
 use Rattle.rpki.specs.Oids.{ecdsa_with_sha256}
-use Rattle.rpki.specs.BareOctets.{bare-short}
+use Rattle.rpki.specs.BareOctetsLaws.{bare-short}
 use Rattle.rpki.proofs.crypto.signature.bgpsec.BgpsecSignatureAlgorithmSignatureAlgorithm.x509_encode.Goals as goal
 
 pub returns-clause-short : goal.returns-clause-short

@@ -9,7 +9,7 @@ use Rattle.rpki_der.specs.Members.{IsValue}
 use Rattle.rpki_der.specs.Joined.{sequence_legal}
 use Rattle.rpki_der.proofs.EncodeLaws.{leaf_legal, tlv_at_most}
 use Rattle.rpki_der.proofs.LeafValues.{leaf_value_alone, composed_value_alone}
-use Rattle.rpki.specs.AlgorithmOctets.{oid-legal}
+use Rattle.rpki.specs.AlgorithmOctetsLaws.{oid-legal}
 use Rattle.rpki.specs.SignatureNames.{SpellsBare, bare_octets}
 
 pub bare-short : (o : List ℕ) → length o < 2 ^ 31 → length (tlv oid false o) < 2 ^ 32
