@@ -14,6 +14,8 @@ pub mod LeavesLaws
 pub mod FlatLaws
 pub mod FaultsApart
 pub mod ComposedLaws
+pub mod InsideLaws
+pub mod TriedLaws
 pub mod Integers
 pub mod OidLaws
 pub mod TextLaws

@@ -27,6 +27,7 @@ pub mod OptionalPart
 pub mod Tree
 pub mod LeafLaws
 pub mod Inside
+pub mod Composed
 -- Lemmas, which the prover checks: ghost items of impls cite them.
 pub mod NumberLaws
 pub mod EqualLaws

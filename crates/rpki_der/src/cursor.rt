@@ -196,7 +196,7 @@ impl<'a> Constructed<'a> {
     }
 
     /// Whether what is left begins with the identifier octets of this tag, in either form.
-    pub(crate) fn has_tag(&self, tag: Tag) -> bool
+    pub fn has_tag(&self, tag: Tag) -> bool
         ensures { IsTrue result ↔ HasTag tag (left self.now) }
     {
         begins_with(self.rest(), tag)

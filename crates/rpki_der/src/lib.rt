@@ -3,6 +3,7 @@
 
 mod bit_string;
 mod captured;
+mod composed;
 mod cursor;
 mod encode;
 mod error;
@@ -30,6 +31,8 @@ pub use tag::{Class, Header, Steps, Tag};
 pub use text::{PrintableString, Utf8String};
 pub use value::Content;
 
+#[cfg(test)]
+mod composed_tests;
 #[cfg(test)]
 mod encode_tests;
 #[cfg(test)]

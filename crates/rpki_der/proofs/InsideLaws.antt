@@ -1,0 +1,128 @@
+-- A reader of one value, over the reader of its contents that it calls.
+use Rattle.std.proofs.Common.{◌≡◌, ◌≢◌, ℕ, Bool, true, List, [], Result, Ok, Err, refl, sym, subst, ◌∙◌}
+use Rattle.rpki_der.specs.declared.error.DecodeError.{DecodeError}
+use Rattle.rpki_der.specs.declared.error.DecodeError.TheVariants.{Truncated, BadTag, BadLength, Unexpected, Content, Trailing, OutOfMemory}
+use Rattle.rpki_der.specs.declared.cursor.Constructed.{Constructed}
+use Rattle.rpki_der.specs.Cursor.{left}
+use Rattle.rpki_der.specs.TagName.{TagName}
+use Rattle.rpki_der.specs.Reading.{Spells, Refusal, Reads, UnlessMemory, OrMemoryWhere, TakesNoMemory}
+use Rattle.rpki_der.specs.Values.{SpellsContents, SpellsLeaf, IsContentsFault, GivesOuterFault, IsOuterFault}
+use Rattle.rpki_der.specs.Inside.{HasInside}
+use Rattle.rpki_der.specs.Composed.{Inside, NotInside, ReadsInside, ReadsAll}
+use Rattle.rpki_der.specs.Composed.NotInside.{Outside, Refused, More}
+use Rattle.rpki_der.proofs.ReadingLaws.{UnlessMemory-weaker, UnlessMemory-from}
+use Rattle.rpki_der.proofs.LeavesLaws.{contents-no-memory}
+use Rattle.rpki_der.proofs.ComposedLaws.{outer-refused, inner-refused, inner-accepted, without-memory, nothing-whole, nothing-after, all-read}
+
+-- ---- where memory runs out
+
+-- another error
+pub no-memory : (P : List ℕ → Type 0) (K : List ℕ → DecodeError → Type 0) (s : List ℕ) (e : DecodeError) → e ≢ OutOfMemory → K s e → OrMemoryWhere P K s e
+no-memory P K s Truncated n h = h
+no-memory P K s BadTag n h = h
+no-memory P K s BadLength n h = h
+no-memory P K s Unexpected n h = h
+no-memory P K s (Content x) n h = h
+no-memory P K s Trailing n h = h
+no-memory P K s OutOfMemory n h = absurd (n refl)
+
+-- the error of a part, which takes memory where P says so of the octets that it reads
+pub part-memory : (P Q : List ℕ → Type 0) (L K : List ℕ → DecodeError → Type 0) (c s : List ℕ) (e : DecodeError)
+    → (P c → Q s) → OrMemoryWhere P L c e → K s e → OrMemoryWhere Q K s e
+part-memory P Q L K c s Truncated f m h = h
+part-memory P Q L K c s BadTag f m h = h
+part-memory P Q L K c s BadLength f m h = h
+part-memory P Q L K c s Unexpected f m h = h
+part-memory P Q L K c s (Content x) f m h = h
+part-memory P Q L K c s Trailing f m h = h
+part-memory P Q L K c s OutOfMemory f m h = f m
+
+-- a refusal that isn't for want of memory
+pub unless-memory : (e : DecodeError) {P : Type 0} → e ≢ OutOfMemory → UnlessMemory e P → P
+unless-memory Truncated n h = h
+unless-memory BadTag n h = h
+unless-memory BadLength n h = h
+unless-memory Unexpected n h = h
+unless-memory (Content x) n h = h
+unless-memory Trailing n h = h
+unless-memory OutOfMemory n h = absurd (n refl)
+
+-- ---- one value, over the reader of its contents
+
+-- the error of a call that `?` hands on as it is
+abbrev pub Same : DecodeError → DecodeError → Type 0
+Same c e = e ≡ c
+
+trailing-other : (e : DecodeError) → Same Trailing e → e ≢ OutOfMemory
+trailing-other e same z = let k : Trailing ≡ OutOfMemory = sym same ∙ z in cc
+
+outside-other : (t : TagName) (f : Bool) (s q : List ℕ) (c e : DecodeError) → Refusal (SpellsContents t f) (IsContentsFault t f) s q c → Same c e → e ≢ OutOfMemory
+outside-other t f s q c e h same z = contents-no-memory t f s c h.kind (sym same ∙ z)
+
+module _ {X V : Type 0} (view : X → V) (t : TagName) (f : Bool) (C : V → List ℕ → Type 0) (K : List ℕ → DecodeError → Type 0)
+    (reads : Constructed → Result X DecodeError → Constructed → Type 0)
+    (law : (b a : Constructed) (x : Result X DecodeError) → reads b x a → ReadsAll view C K (left b) (left a) x) where
+  refused : (s : List ℕ) (e : DecodeError) → NotInside t f Same reads s e → Refusal (SpellsLeaf t f C) (GivesOuterFault t f) s s e
+  refused s e (Outside c q h same) = outer-refused t f C s q s e refl (subst (Refusal (SpellsContents t f) (IsContentsFault t f) s q) (sym same) h)
+  refused s e (Refused q d h) = inner-refused t f C s (left h.before) q s e refl h.value (law h.before h.after (Err e) h.read).0
+  refused s e (More x q d h some same) = inner-refused t f C s (left h.before) q s e refl h.value (UnlessMemory-from e ((law h.before h.after (Ok x) h.read).1 (λ z. some (sym h.rest ∙ z))))
+
+  -- a SEQUENCE, or another value, whose contents a closure reads
+  pub read-inside : (s r : List ℕ) (x : Result X DecodeError) → ReadsInside t f Same reads s r x → Reads view (SpellsLeaf t f C) (GivesOuterFault t f) s r x
+  read-inside s r (Ok x) h = inner-accepted t f C s (left h.before) r (view x) h.value ((law h.before h.after (Ok x) h.read).0 h.rest)
+  read-inside s r (Err e) h = subst (λ q. Refusal (SpellsLeaf t f C) (GivesOuterFault t f) s q e) (sym h.0) (refused s e h.1)
+
+  -- the same where the closure takes no memory
+  module _ (never : (c : List ℕ) → K c OutOfMemory → ⊥) where
+    other : (s : List ℕ) (e : DecodeError) → NotInside t f Same reads s e → e ≢ OutOfMemory
+    other s e (Outside c q h same) = outside-other t f s q c e h same
+    other s e (Refused q d h) = λ z. never (left h.before) (subst (K (left h.before)) z (law h.before h.after (Err e) h.read).1)
+    other s e (More x q d h some same) = trailing-other e same
+
+    pub read-inside-never : (s r : List ℕ) (x : Result X DecodeError) → ReadsInside t f Same reads s r x → Reads view (SpellsLeaf t f C) (IsOuterFault t f) s r x
+    read-inside-never s r (Ok x) h = read-inside s r (Ok x) h
+    read-inside-never s r (Err e) h = without-memory (SpellsLeaf t f C) (GivesOuterFault t f) s r e (other s e h.1) (read-inside s r (Err e) h)
+
+-- the same, where the closure says that it takes no memory
+pub read-inside-exactly : {X V : Type 0} (view : X → V) (t : TagName) (f : Bool) (C : V → List ℕ → Type 0) (L : List ℕ → DecodeError → Type 0)
+    (reads : Constructed → Result X DecodeError → Constructed → Type 0)
+    (law : (b a : Constructed) (x : Result X DecodeError) → reads b x a → ReadsAll view C (TakesNoMemory L) (left b) (left a) x)
+    (s r : List ℕ) (x : Result X DecodeError) → ReadsInside t f Same reads s r x → Reads view (SpellsLeaf t f C) (IsOuterFault t f) s r x
+read-inside-exactly view t f C L reads law = read-inside-never view t f C (TakesNoMemory L) reads law (λ c k. k.other refl)
+
+-- the same, where it takes memory only for contents that have P
+module _ {X V : Type 0} (view : X → V) (t : TagName) (C : V → List ℕ → Type 0) (P : List ℕ → Type 0) (L : List ℕ → DecodeError → Type 0)
+    (reads : Constructed → Result X DecodeError → Constructed → Type 0)
+    (law : (b a : Constructed) (x : Result X DecodeError) → reads b x a → ReadsAll view C (OrMemoryWhere P L) (left b) (left a) x) where
+  memory : (s : List ℕ) (e : DecodeError) → NotInside t true Same reads s e → GivesOuterFault t true s e → OrMemoryWhere (HasInside t P) (GivesOuterFault t true) s e
+  memory s e (Outside c q h same) k = no-memory (HasInside t P) (GivesOuterFault t true) s e (outside-other t true s q c e h same) k
+  memory s e (Refused q d h) k =
+      part-memory P (HasInside t P) L (GivesOuterFault t true) (left h.before) s e (λ p. (left h.before, q, h.value.spells, p)) (law h.before h.after (Err e) h.read).1 k
+  memory s e (More x q d h some same) k = no-memory (HasInside t P) (GivesOuterFault t true) s e (trailing-other e same) k
+
+  pub read-inside-where : (s r : List ℕ) (x : Result X DecodeError) → ReadsInside t true Same reads s r x
+      → Reads view (SpellsLeaf t true C) (OrMemoryWhere (HasInside t P) (GivesOuterFault t true)) s r x
+  read-inside-where s r (Ok x) h = read-inside view t true C (OrMemoryWhere P L) reads law s r (Ok x) h
+  read-inside-where s r (Err e) h =
+      let k = read-inside view t true C (OrMemoryWhere P L) reads law s r (Err e) h in
+      record { unchanged = k.unchanged; refuses = k.refuses; kind = memory s e h.1 k.kind }
+
+-- ---- the reader of the contents
+
+-- a reader of a beginning is one of the whole
+pub reads-all : {X V : Type 0} (view : X → V) (G : V → List ℕ → Type 0) (K : List ℕ → DecodeError → Type 0) (s r : List ℕ) (x : Result X DecodeError) → Reads view G K s r x → ReadsAll view G K s r x
+reads-all view G K s r (Ok x) h = (all-read G s (view x) r h, nothing-after G s r (view x) h)
+reads-all view G K s r (Err e) h = (UnlessMemory-weaker e (nothing-whole G s) h.refuses, h.kind)
+
+-- What the reader of the contents says of refusals alone, where the contents have B, is said of the value.
+module _ {X : Type 0} (t : TagName) (f : Bool) (B : List ℕ → Type 0) (R : Result X DecodeError → Type 0) (refusal : (x : X) → R (Ok x) → ⊥)
+    (reads : Constructed → Result X DecodeError → Constructed → Type 0)
+    (law : (b a : Constructed) (x : Result X DecodeError) → reads b x a → B (left b) → R x) where
+  within : (s q c r d : List ℕ) (x : Result X DecodeError) → Inside t f reads s q x d → Spells (SpellsContents t f) s c r → B c → R x
+  within s q c r d x h l b = law h.before h.after x h.read (subst B (h.value.only c r l).0 b)
+
+  pub refused-inside : (s q c r : List ℕ) (x : Result X DecodeError) → ReadsInside t f Same reads s q x → Spells (SpellsContents t f) s c r → B c → R x
+  refused-inside s q c r (Ok x) h l b = within s q c r [] (Ok x) h l b
+  refused-inside s q c r (Err e) (same, Outside a p h k) l b = absurd (unless-memory a (contents-no-memory t f s a h.kind) h.refuses c r l)
+  refused-inside s q c r (Err e) (same, Refused p d h) l b = within s p c r d (Err e) h l b
+  refused-inside s q c r (Err e) (same, More x p d h some k) l b = absurd (refusal x (within s p c r d (Ok x) h l b))
