@@ -157,10 +157,7 @@ impl Serial {
         ensures { Reads (λ n. n) SpellsSerial IsSerialFault (left cons.old) (left cons.new) result }
     {
         let mut after = *cons;
-        let number = match after.take_unsigned() {
-            Ok(number) => number,
-            Err(e) => return Err(e),
-        };
+        let number = after.take_unsigned()?;
         match Serial::from_slice(number.as_slice()) {
             Ok(serial) => {
                 *cons = after;

@@ -5,7 +5,6 @@ ghost use Rattle.rpki_der.specs.Cursor.{left};
 ghost use Rattle.rpki_der.specs.ErrorText.{text_of};
 ghost use Rattle.rpki_der.specs.Flat.{SpellsFlat, IsFlatFault};
 ghost use Rattle.rpki_der.specs.Reading.{Reads, ReadsWhere};
-ghost use Rattle.rpki_der.specs.Values.{HasTag};
 ghost use Rattle.rpki_time.specs.TimeValue.{ReadsAs, SpellsTime, IsPrimitive, IsTimeFault, HasTimeTag};
 
 use crate::time::Time;
@@ -59,14 +58,6 @@ fn take_primitive<'a>(cons: &mut Constructed<'a>) -> Result<(Tag, &'a [u8]), Dec
     }
 }
 
-/// Whether what is left begins with the identifier octets of the tag, in either form.
-fn begins_with(cons: &Constructed<'_>, tag: Tag) -> bool
-    ensures { IsTrue result ↔ HasTag tag (left cons.now) }
-{
-    let mut ahead = *cons;
-    !matches!(ahead.take_opt_value_if(tag), Ok(None))
-}
-
 impl Time {
     /// Reads a time: UTC time or generalized time (X.690 11.7, 11.8; RFC 5280 4.1.2.5). It takes no memory.
     ///
@@ -95,7 +86,7 @@ impl Time {
     pub fn take_opt_from(cons: &mut Constructed<'_>) -> Result<Option<Time>, DecodeError>
         ensures { ReadsWhere HasTimeTag (λ t. t) SpellsTime IsTimeFault (left cons.old) (left cons.new) result }
     {
-        if !begins_with(cons, Tag::UTC_TIME) && !begins_with(cons, Tag::GENERALIZED_TIME) {
+        if !cons.has_tag(Tag::UTC_TIME) && !cons.has_tag(Tag::GENERALIZED_TIME) {
             return Ok(None);
         }
         match Time::take_from(cons) {

@@ -4,7 +4,8 @@ ghost use Rattle.jiff.specs.Types.{DateTime as Civil};
 ghost use Rattle.jiff.specs.Words.{civil_nanos, signed_nanos};
 ghost use Rattle.rpki_time.specs.Time.{IsTimeNanos, seconds};
 ghost use Rattle.rpki_der.specs.Cursor.{left};
-ghost use Rattle.rpki_der.specs.Reading.{Reads, Decodes, TakesNoMemory, AnyFault};
+ghost use Rattle.rpki_der.specs.Reading.{Reads, TakesNoMemory, AnyFault};
+ghost use Rattle.rpki_der.specs.Composed.{ReadsAll};
 ghost use Rattle.rpki_der.specs.TagName.{sequence};
 ghost use Rattle.rpki_der.specs.Values.{IsOuterFault};
 ghost use Rattle.rpki_time.specs.PeriodValue.{IsPeriod, SpellsPeriod, period_octets};
@@ -169,24 +170,6 @@ impl Validity {
         self.not_after.verify_not_after(now)
     }
 
-    /// The period whose two times are all of the contents, the start first.
-    fn take_times(mut contents: Constructed<'_>) -> Result<Validity, DecodeError>
-        ensures { Decodes (λ p. p) IsPeriod (TakesNoMemory AnyFault) (left contents.entry) result }
-    {
-        let not_before = match Time::take_from(&mut contents) {
-            Ok(time) => time,
-            Err(e) => return Err(e),
-        };
-        let not_after = match Time::take_from(&mut contents) {
-            Ok(time) => time,
-            Err(e) => return Err(e),
-        };
-        match contents.finish() {
-            Ok(()) => Ok(Validity::new(not_before, not_after)),
-            Err(e) => Err(e),
-        }
-    }
-
     /// Reads a period of validity: a SEQUENCE of two times and nothing else, the start first (RFC 5280 4.1.2.5). It
     /// takes no memory.
     ///
@@ -195,18 +178,21 @@ impl Validity {
     pub fn take_from(cons: &mut Constructed<'_>) -> Result<Validity, DecodeError>
         ensures { Reads (λ p. p) SpellsPeriod (IsOuterFault sequence true) (left cons.old) (left cons.new) result }
     {
-        let mut after = *cons;
-        let contents = match after.take_sequence() {
-            Ok(contents) => contents,
-            Err(e) => return Err(e),
-        };
-        match Validity::take_times(contents) {
-            Ok(period) => {
-                *cons = after;
-                Ok(period)
-            }
-            Err(e) => Err(e),
-        }
+        cons.in_sequence(
+            |contents|
+                ensures { ReadsAll (λ p. p) IsPeriod (TakesNoMemory AnyFault) (left contents.old) (left contents.new) result }
+            {
+                let not_before = match Time::take_from(contents) {
+                    Ok(time) => time,
+                    Err(e) => return Err(e),
+                };
+                let not_after = match Time::take_from(contents) {
+                    Ok(time) => time,
+                    Err(e) => return Err(e),
+                };
+                Ok(Validity::new(not_before, not_after))
+            },
+        )
     }
 
     /// The period as certificates have it: a SEQUENCE of its two times, each as [Time::encode_varied] writes it. It
