@@ -4,7 +4,7 @@ use Rattle.std.proofs.lemmas.Bool.{cases_lt}
 use Rattle.std.proofs.lemmas.List.{append_cancel_left}
 use Rattle.rpki_der.specs.TagName.{TagName, IsTag}
 use Rattle.rpki_der.specs.Header.{digits, identifier_octets, length_octets, tlv}
-use Rattle.rpki_der.proofs.HeaderReading.{length_at}
+use Rattle.rpki_der.specs.HeaderReading.{length_at}
 use Rattle.rpki_der.specs.Values.{SpellsContents, SpellsLeaf}
 use Rattle.rpki_der.specs.Members.{Members, spell, count, AreValues}
 use Rattle.rpki_der.specs.Members.Members.{Empty, Primitive, Constructed}

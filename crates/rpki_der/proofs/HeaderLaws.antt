@@ -5,7 +5,7 @@ use Rattle.rpki_der.specs.declared.error.DecodeError.TheVariants.{Truncated}
 use Rattle.rpki_der.specs.declared.tag.Header.{Header}
 use Rattle.rpki_der.specs.TagName.{TagName}
 use Rattle.rpki_der.specs.Header.{identifier_octets, length_octets, header_octets, IsHeader}
-use Rattle.rpki_der.proofs.HeaderReading.{◌>>=◌, identifier_at, length_at, header_at}
+use Rattle.rpki_der.specs.HeaderReading.{◌>>=◌, identifier_at, length_at, header_at}
 use Rattle.rpki_der.proofs.InSteps.{IsBytes, IsBytes-append, IsBytes-cons, pair-is, bind-ok, bind-err}
 use Rattle.rpki_der.proofs.Identifier.{IsIdentifier, identifier-takes, identifier-again, identifier-completes}
 use Rattle.rpki_der.proofs.Length.{IsLength, length-takes, length-again, length-completes}

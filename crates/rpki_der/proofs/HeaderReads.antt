@@ -6,7 +6,7 @@ use Rattle.rpki_der.specs.declared.error.DecodeError.TheVariants.{Truncated, Bad
 use Rattle.rpki_der.specs.declared.tag.Header.{Header}
 use Rattle.rpki_der.specs.TagName.{TagName}
 use Rattle.rpki_der.specs.Header.{identifier_octets, length_octets, header_octets}
-use Rattle.rpki_der.proofs.HeaderReading.{identifier_at, length_at, header_at}
+use Rattle.rpki_der.specs.HeaderReading.{identifier_at, length_at, header_at}
 use Rattle.rpki_der.specs.Reading.{Spells, Accepts, Refuses, IsCut}
 use Rattle.rpki_der.specs.HeaderParts.{SpellsLength, IsPartFault}
 use Rattle.rpki_der.specs.Values.{SpellsIdentifier, SpellsHeader, HasTag, HasIdentifier, IsHeaderFault}

@@ -7,7 +7,7 @@ use Rattle.rpki_der.specs.declared.tag.Class.{Class}
 use Rattle.rpki_der.specs.declared.tag.Class.TheVariants.{Universal, Application, Context, Private}
 use Rattle.rpki_der.specs.TagName.{TagName, IsTag, tag_of}
 use Rattle.rpki_der.specs.Header.{class_number, form_number, lead, identifier_octets}
-use Rattle.rpki_der.proofs.HeaderReading.{◌>>=◌, class_at, number_at, identifier_at}
+use Rattle.rpki_der.specs.HeaderReading.{◌>>=◌, class_at, number_at, identifier_at}
 use Rattle.rpki_der.proofs.InSteps.{IsBytes, IsBytes-rest, IsBytes-cons, pair-is, bind-ok, bind-err}
 use Rattle.rpki_der.proofs.TagNumber.{groups, number-again, number-takes, number-stays, number-completes, number-errors}
 use Rattle.rpki_der.proofs.Digits.{digits-zero}

@@ -23,7 +23,7 @@ one_index {octets} {index} {other} i j =
 -- ---- each entry stands where it says
 
 -- a part behind pre
-part_at : (pre x post : List ℕ) (i e : ℕ) → i ≡ length pre → e ≡ i + length x → between i e (pre ++ (x ++ post)) ≡ x
+pub part_at : (pre x post : List ℕ) (i e : ℕ) → i ≡ length pre → e ≡ i + length x → between i e (pre ++ (x ++ post)) ≡ x
 part_at pre x post i e h k =
     let n : e - i ≡ length x = omega arith in
     ap (λ (m : ℕ). take m (drop i (pre ++ (x ++ post)))) n ∙ ap (λ (y : List ℕ). take (length x) y) (drop_at pre (x ++ post) i (sym h)) ∙ take_at x post (length x) refl

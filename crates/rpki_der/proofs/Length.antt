@@ -7,7 +7,7 @@ use Rattle.std.proofs.lemmas.Nat.{div_below}
 use Rattle.rpki_der.specs.declared.error.DecodeError.{DecodeError}
 use Rattle.rpki_der.specs.declared.error.DecodeError.TheVariants.{Truncated, BadLength}
 use Rattle.rpki_der.specs.Header.{digits, length_octets}
-use Rattle.rpki_der.proofs.HeaderReading.{octets_at, length_at}
+use Rattle.rpki_der.specs.HeaderReading.{octets_at, length_at}
 use Rattle.rpki_der.proofs.InSteps.{IsBytes, IsBytes-rest, IsBytes-cons, pair-is}
 use Rattle.rpki_der.proofs.Digits.{digits-zero, digits-last, digits-push, digits-spare, length-digits, some-digits}
 

@@ -1,4 +1,3 @@
-pub mod HeaderReading
 pub mod InSteps
 pub mod Digits
 pub mod TagNumber
@@ -32,6 +31,8 @@ pub mod UnsignedLaws
 pub mod LeafValues
 pub mod LeavesWritten
 pub mod KindsApart
+pub mod MemberLaws
+pub mod FrontLaws
 mod SomeFault
 mod ShortestLaws
 mod IndexReading

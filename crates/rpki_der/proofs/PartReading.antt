@@ -11,7 +11,7 @@ use Rattle.rpki_der.specs.Header.{class_number, digits, identifier_octets, lengt
 use Rattle.rpki_der.specs.Reading.{Spells, Accepts, Refuses, IsCut}
 use Rattle.rpki_der.specs.Values.{SpellsIdentifier}
 use Rattle.rpki_der.specs.HeaderParts.{SpellsTagNumber, SpellsLength, SpellsLongLength, IsPartFault, ReadsPart}
-use Rattle.rpki_der.proofs.HeaderReading.{class_at, number_at, identifier_at, octets_at, length_at}
+use Rattle.rpki_der.specs.HeaderReading.{class_at, number_at, identifier_at, octets_at, length_at}
 use Rattle.rpki_der.proofs.InSteps.{IsBytes, IsBytes-append, IsBytes-cons, IsBytes-tail, pair-is}
 use Rattle.rpki_der.proofs.Digits.{digits-zero}
 use Rattle.rpki_der.proofs.TagNumber.{number-again, number-takes, number-stays, number-completes, number-errors}

@@ -7,7 +7,7 @@ use Rattle.rpki_der.specs.declared.error.DecodeError.TheVariants.{Truncated}
 use Rattle.rpki_der.specs.declared.tag.Header.{Header}
 use Rattle.rpki_der.specs.TagName.{TagName}
 use Rattle.rpki_der.specs.Header.{tlv}
-use Rattle.rpki_der.proofs.HeaderReading.{header_at}
+use Rattle.rpki_der.specs.HeaderReading.{header_at}
 use Rattle.rpki_der.specs.Number.{AreOctets}
 use Rattle.rpki_der.specs.Reading.{Spells}
 use Rattle.rpki_der.specs.Values.{SpellsHeader}

@@ -5,6 +5,7 @@ pub mod TagName
 pub mod Header
 pub mod ShortestForm
 pub mod HeaderParts
+pub mod HeaderReading
 pub mod Reading
 pub mod Values
 pub mod Cursor
@@ -14,6 +15,9 @@ pub mod ContentView
 pub mod Members
 pub mod Index
 pub mod IndexParts
+pub mod IndexMembers
+pub mod MembersLeft
+pub mod Front
 pub mod NestedFault
 pub mod Number
 pub mod Integer

@@ -1,9 +1,10 @@
 //! Values that were read or made, as their octets.
 
-ghost use Rattle.std.specs.Prelude.{◌≡◌, ℕ, List, IfOk, count_by, is_none};
+ghost use Rattle.std.specs.Prelude.{◌≡◌, ◌<◌, ℕ, List, length, IfOk, count_by, is_none};
 ghost use Rattle.std.specs.List.{AllByRecursion};
 ghost use Rattle.rpki_der.specs.Members.{AreValues};
 ghost use Rattle.rpki_der.specs.Index.{Entry, IsIndex, StandsAt};
+ghost use Rattle.rpki_der.specs.IndexMembers.{HasEntry};
 
 use crate::cursor::Constructed;
 use crate::index::HeaderEntry;
@@ -69,6 +70,8 @@ impl Captured {
         ensures index { IsIndex self.now result.now }
         ensures only { (x : List Entry) → IsIndex self.now x → x ≡ result.now }
         ensures places { AllByRecursion (StandsAt self.now) result.now }
+        // The numbers below its length are those of entries.
+        ensures numbers { (n : ℕ) → n < length result.now → HasEntry self.now n }
     {
         &self.index
     }

@@ -123,3 +123,82 @@ fn a_cursor_on_captured_values_reads_them(rt: HostRuntime) {
     });
     assert!(rt; indexed);
 }
+
+/// A value, the number of a parent, the numbers of its members, and the contents of the last of these.
+struct Parent {
+    octets: &'static [u8],
+    number: Option<usize>,
+    members: &'static [usize],
+    contents: &'static [u8],
+}
+
+// a SEQUENCE of a SEQUENCE around an empty SEQUENCE, and then of NULL, an empty SET and NULL
+const NESTED: &[u8] = &[
+    0x30, 0x0a, 0x30, 0x02, 0x30, 0x00, 0x05, 0x00, 0x31, 0x00, 0x05, 0x00,
+];
+
+const PARENTS: [Parent; 5] = [
+    Parent {
+        octets: NESTED,
+        number: None,
+        members: &[0],
+        contents: &[0x30, 0x02, 0x30, 0x00, 0x05, 0x00, 0x31, 0x00, 0x05, 0x00],
+    },
+    Parent {
+        octets: NESTED,
+        number: Some(0),
+        members: &[1, 3, 4, 5],
+        contents: &[],
+    },
+    Parent {
+        octets: NESTED,
+        number: Some(1),
+        members: &[2],
+        contents: &[],
+    },
+    Parent {
+        octets: NESTED,
+        number: Some(5),
+        members: &[],
+        contents: &[],
+    },
+    Parent {
+        octets: &[
+            0x30, 0x09, 0x06, 0x03, 0x55, 0x1d, 0x13, 0x04, 0x02, 0x30, 0x00,
+        ],
+        number: Some(0),
+        members: &[1, 2],
+        contents: &[0x30, 0x00],
+    },
+];
+
+/// Whether these are the members of the value of this number, and the last of them has these contents.
+fn has_members(found: &Captured, row: &Parent) -> bool {
+    let mut members = match row.number {
+        None => found.members(None),
+        Some(number) if number < found.headers().len() => found.members(Some(number)),
+        Some(_) => return false,
+    };
+    for wanted in row.members {
+        if members.next() != Some(*wanted) {
+            return false;
+        }
+    }
+    let last = match row.members.last().copied() {
+        Some(last) if last < found.headers().len() => found.contents(last),
+        _ => b"",
+    };
+    members.next().is_none() && last == row.contents
+}
+
+#[test]
+fn members_are_named_in_order(rt: HostRuntime) {
+    for row in &PARENTS {
+        let source: Bytes = Bytes::from_static(row.octets);
+        let same = match Constructed::new(&source).capture_one(rt.alloc()) {
+            Ok(found) => has_members(&found, row),
+            Err(_) => false,
+        };
+        assert!(rt; same, "{:?}", row.number);
+    }
+}

@@ -78,6 +78,18 @@ impl<'a> Constructed<'a> {
         }
     }
 
+    /// As [Constructed::take_bool] where what is left begins with the identifier octets of a BOOLEAN, in either form;
+    /// else None.
+    pub fn take_opt_bool(&mut self) -> Result<Option<bool>, DecodeError>
+        ensures { ReadsWhere (HasTag boolean) (λ b. b) (SpellsLeaf boolean false IsBoolean) (IsLeafFault boolean false IsBoolean) (left self.old) (left self.new) result }
+    {
+        if !self.has_tag(Tag::BOOLEAN) {
+            return Ok(None);
+        }
+        let value = self.take_bool()?;
+        Ok(Some(value))
+    }
+
     /// The octets of an OCTET STRING (X.690 8.7) in primitive form.
     ///
     /// The refusals are those of a header; then Unexpected for another tag or form; then Truncated.

@@ -13,6 +13,7 @@ mod index;
 mod integer;
 pub mod laws;
 mod leaf;
+mod members;
 mod oid;
 mod tag;
 mod text;
@@ -26,6 +27,7 @@ pub use encode::{Primitive, PrimitiveContent, Sequence, Set, Values, Wrapped, wr
 pub use error::{ContentError, DecodeError};
 pub use index::HeaderEntry;
 pub use integer::{InvalidInteger, Unsigned};
+pub use members::Members;
 pub use oid::{ConstOid, Oid};
 pub use tag::{Class, Header, Steps, Tag};
 pub use text::{PrintableString, Utf8String};

@@ -139,6 +139,7 @@ enum Reader {
     Sequence,
     Set,
     OptionalNull,
+    OptionalBoolean,
     OptionalTagged,
     OptionalSequence,
     OptionalSet,
@@ -171,6 +172,11 @@ fn optional_inside<'a>(
     }
 }
 
+/// The word of a truth value.
+fn word_of(value: bool) -> &'static [u8] {
+    if value { b"true" } else { b"false" }
+}
+
 /// The octets of the value that the reader answered, or the number of its refusal.
 fn read<'a>(reader: Reader, cursor: &mut Constructed<'a>) -> Result<&'a [u8], u8> {
     match reader {
@@ -179,7 +185,7 @@ fn read<'a>(reader: Reader, cursor: &mut Constructed<'a>) -> Result<&'a [u8], u8
             Err(e) => Err(e.number()),
         },
         Reader::Boolean => match cursor.take_bool() {
-            Ok(value) => Ok(if value { b"true" } else { b"false" }),
+            Ok(value) => Ok(word_of(value)),
             Err(e) => Err(e.number()),
         },
         Reader::Unsigned => match cursor.take_unsigned() {
@@ -207,6 +213,11 @@ fn read<'a>(reader: Reader, cursor: &mut Constructed<'a>) -> Result<&'a [u8], u8
         Reader::Set => inside_of(cursor.take_set()),
         Reader::OptionalNull => match cursor.take_opt_null() {
             Ok(Some(())) => Ok(&[]),
+            Ok(None) => Err(9),
+            Err(e) => Err(e.number()),
+        },
+        Reader::OptionalBoolean => match cursor.take_opt_bool() {
+            Ok(Some(value)) => Ok(word_of(value)),
             Ok(None) => Err(9),
             Err(e) => Err(e.number()),
         },
@@ -295,6 +306,17 @@ const LEAVES: &[(Reader, &[u8], Result<&[u8], u8>, usize)] = &[
     (Reader::OptionalNull, &[0x25, 0x00], Err(4), 2),
     (Reader::OptionalNull, &[0x05, 0x00, 0x05], Ok(&[]), 1),
     (Reader::OptionalNull, &[0x1f], Err(9), 1),
+    (Reader::OptionalBoolean, &[], Err(9), 0),
+    (Reader::OptionalBoolean, &[0x04, 0x00], Err(9), 2),
+    (Reader::OptionalBoolean, &[0x01], Err(1), 1),
+    (Reader::OptionalBoolean, &[0x21, 0x00], Err(4), 2),
+    (Reader::OptionalBoolean, &[0x01, 0x01, 0x01], Err(5), 3),
+    (
+        Reader::OptionalBoolean,
+        &[0x01, 0x01, 0x00, 0x04],
+        Ok(b"false"),
+        1,
+    ),
     (
         Reader::OptionalTagged,
         &[0xa6, 0x01, 0x05, 0x06],

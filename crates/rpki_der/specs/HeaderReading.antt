@@ -1,5 +1,6 @@
--- Headers read from the left as a plain program: what the loops of the readers keep is said with it, and the laws below
--- show that it finds the headers of Header.antt and their faults.
+-- The header at the front of octets, as a function: it reads them from the left. By it a type that keeps octets says what
+-- they stand for (Front.antt), and the loops of the readers say what they keep. The proofs show that it finds the headers of
+-- Header.antt and their faults.
 use Rattle.std.specs.Prelude.{ℕ, zero, suc, Bool, ◌+◌, ◌-◌, ◌*◌, ◌/◌, ◌%◌, ◌==◌, ◌&&◌, ◌||◌, nat_lt, if◌then◌else◌, List, [], ◌∷◌, Result, Ok, Err}
 use Rattle.rpki_der.specs.declared.error.DecodeError.{DecodeError}
 use Rattle.rpki_der.specs.declared.error.DecodeError.TheVariants.{Truncated, BadTag, BadLength}

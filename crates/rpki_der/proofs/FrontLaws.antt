@@ -1,0 +1,34 @@
+-- The value at the front of octets that begin with one.
+use Rattle.std.proofs.Common.{◌≡◌, ℕ, Bool, List, [], ◌++◌, length, refl, sym, ap, ◌∙◌, append_assoc, append-nil}
+use Rattle.std.specs.Prelude.{Ok}
+use Rattle.std.proofs.lemmas.List.{take_at, drop_at}
+use Rattle.rpki_der.specs.TagName.{TagName}
+use Rattle.rpki_der.specs.Header.{IsHeader, header_octets}
+use Rattle.rpki_der.specs.HeaderReading.{header_at}
+use Rattle.rpki_der.specs.declared.tag.Header.{Header}
+use Rattle.rpki_der.specs.Values.{SpellsContents}
+use Rattle.rpki_der.specs.Front.{front_contents, after_front}
+use Rattle.rpki_der.proofs.HeaderLaws.{header-again}
+
+header_found : (t : TagName) (f : Bool) (c p r : List ℕ) → SpellsContents t f c p → (h : Header) × (h.length ≡ length c) × (header_at (p ++ r) ≡ Ok (h, c ++ r))
+header_found t f c p r s =
+    let h : Header = record { tag = t; constructed = f; length = length c } in
+    let legal : IsHeader h = record { tag = s.tag; length = s.fits } in
+    let split : p ++ r ≡ header_octets h ++ (c ++ r) = ap (λ (x : List ℕ). x ++ r) s.octets ∙ append_assoc (header_octets h) c r in
+    (h, refl, ap header_at split ∙ header-again h (c ++ r) legal)
+
+-- the contents of the value, and what follows it
+pub front_contents_of : (t : TagName) (f : Bool) (c p r : List ℕ) → SpellsContents t f c p → front_contents (p ++ r) ≡ c
+unfolding front_contents
+front_contents_of t f c p r s = let k = header_found t f c p r s in rw (k.2, k.1) (take_at c r (length c) refl)
+
+pub after_front_of : (t : TagName) (f : Bool) (c p r : List ℕ) → SpellsContents t f c p → after_front (p ++ r) ≡ r
+unfolding after_front
+after_front_of t f c p r s = let k = header_found t f c p r s in rw (k.2, k.1) (drop_at c r (length c) refl)
+
+-- the same of the value alone
+pub contents_alone : (t : TagName) (f : Bool) (c p : List ℕ) → SpellsContents t f c p → front_contents p ≡ c
+contents_alone t f c p s = ap front_contents (sym (append-nil p)) ∙ front_contents_of t f c p [] s
+
+pub nothing_after : (t : TagName) (f : Bool) (c p : List ℕ) → SpellsContents t f c p → after_front p ≡ []
+nothing_after t f c p s = ap after_front (sym (append-nil p)) ∙ after_front_of t f c p [] s
