@@ -124,10 +124,7 @@ impl<'a> Constructed<'a> {
         ensures { Reads (λ b. b) (SpellsLeaf bit_string false IsBits) (OrMemoryWhere (Finds (SpellsLeaf bit_string false IsBits)) (IsLeafFault bit_string false IsBits)) (left self.old) (left self.new) result }
     {
         let mut after = *self;
-        let contents = match after.take_contents(Tag::BIT_STRING, false) {
-            Ok(contents) => contents,
-            Err(e) => return Err(e),
-        };
+        let contents = after.take_contents(Tag::BIT_STRING, false)?;
         let [unused, octets @ ..] = contents.rest() else {
             return Err(DecodeError::Content(ContentError::from_static("malformed BIT STRING")));
         };

@@ -123,10 +123,7 @@ impl<'a> Constructed<'a> {
         ensures { Reads number_of (SpellsLeaf integer false IsUnsigned) (IsLeafFault integer false IsUnsigned) (left self.old) (left self.new) result }
     {
         let mut after = *self;
-        let contents = match after.take_contents(Tag::INTEGER, false) {
-            Ok(contents) => contents,
-            Err(e) => return Err(e),
-        };
+        let contents = after.take_contents(Tag::INTEGER, false)?;
         match unsigned_of(contents.rest()) {
             Some(number) => {
                 *self = after;

@@ -34,10 +34,7 @@ impl<'a> Constructed<'a> {
         ensures { Reads (λ _. tt) (SpellsLeaf null false IsNull) (IsLeafFault null false IsNull) (left self.old) (left self.new) result }
     {
         let mut after = *self;
-        let contents = match after.take_contents(Tag::NULL, false) {
-            Ok(contents) => contents,
-            Err(e) => return Err(e),
-        };
+        let contents = after.take_contents(Tag::NULL, false)?;
         if !contents.is_empty() {
             return Err(DecodeError::Content(ContentError::from_static("malformed NULL")));
         }
@@ -65,10 +62,7 @@ impl<'a> Constructed<'a> {
         ensures { Reads (λ b. b) (SpellsLeaf boolean false IsBoolean) (IsLeafFault boolean false IsBoolean) (left self.old) (left self.new) result }
     {
         let mut after = *self;
-        let contents = match after.take_contents(Tag::BOOLEAN, false) {
-            Ok(contents) => contents,
-            Err(e) => return Err(e),
-        };
+        let contents = after.take_contents(Tag::BOOLEAN, false)?;
         match boolean_of(contents.rest()) {
             Some(value) => {
                 *self = after;
@@ -96,9 +90,7 @@ impl<'a> Constructed<'a> {
     pub fn take_octets(&mut self) -> Result<&'a [u8], DecodeError>
         ensures { Reads (λ x. x.now) (SpellsContents octet_string false) (IsContentsFault octet_string false) (left self.old) (left self.new) result }
     {
-        match self.take_contents(Tag::OCTET_STRING, false) {
-            Ok(contents) => Ok(contents.rest()),
-            Err(e) => Err(e),
-        }
+        let contents = self.take_contents(Tag::OCTET_STRING, false)?;
+        Ok(contents.rest())
     }
 }

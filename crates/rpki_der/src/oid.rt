@@ -56,10 +56,8 @@ impl<'a> Oid<&'a [u8]> {
     pub fn skip_in(cons: &mut Constructed<'_>) -> Result<(), DecodeError>
         ensures { Reads (λ _. tt) (SpellsLeaf oid false IsAnyOid) (IsLeafFault oid false IsAnyOid) (left cons.old) (left cons.new) result }
     {
-        match cons.take_oid() {
-            Ok(_) => Ok(()),
-            Err(e) => Err(e),
-        }
+        cons.take_oid()?;
+        Ok(())
     }
 
     /// Moves past this very object identifier, as [Constructed::skip_oid_if].
@@ -86,10 +84,7 @@ impl<'a> Constructed<'a> {
         ensures { Reads (λ o. o.0.now) (SpellsLeaf oid false IsOidOf) (IsLeafFault oid false IsOidOf) (left self.old) (left self.new) result }
     {
         let mut after = *self;
-        let contents = match after.take_contents(Tag::OID, false) {
-            Ok(contents) => contents,
-            Err(e) => return Err(e),
-        };
+        let contents = after.take_contents(Tag::OID, false)?;
         if !is_oid(contents.rest()) {
             return Err(DecodeError::Content(ContentError::from_static(
                 "malformed object identifier",
@@ -114,10 +109,7 @@ impl<'a> Constructed<'a> {
         ensures { Reads (λ _. tt) (SpellsLeaf oid false (IsOnly expected.now)) (IsLeafFault oid false (IsOnly expected.now)) (left self.old) (left self.new) result }
     {
         let mut after = *self;
-        let contents = match after.take_contents(Tag::OID, false) {
-            Ok(contents) => contents,
-            Err(e) => return Err(e),
-        };
+        let contents = after.take_contents(Tag::OID, false)?;
         if !contents.is_only(expected) {
             return Err(DecodeError::Content(ContentError::from_static(
                 "unexpected object identifier",

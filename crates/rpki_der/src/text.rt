@@ -115,10 +115,7 @@ impl<'a> Constructed<'a> {
         ensures { Reads (λ p. p) (SpellsLeaf printable_string false IsPrintableText) (IsLeafFault printable_string false IsPrintableText) (left self.old) (left self.new) result }
     {
         let mut after = *self;
-        let contents = match after.take_contents(Tag::PRINTABLE_STRING, false) {
-            Ok(contents) => contents,
-            Err(e) => return Err(e),
-        };
+        let contents = after.take_contents(Tag::PRINTABLE_STRING, false)?;
         match printable_of(contents.rest()) {
             Some(text) => {
                 *self = after;
@@ -138,10 +135,7 @@ impl<'a> Constructed<'a> {
         ensures { Reads (λ u. u) (SpellsLeaf utf8_string false IsUtf8Text) (IsLeafFault utf8_string false IsUtf8Text) (left self.old) (left self.new) result }
     {
         let mut after = *self;
-        let contents = match after.take_contents(Tag::UTF8_STRING, false) {
-            Ok(contents) => contents,
-            Err(e) => return Err(e),
-        };
+        let contents = after.take_contents(Tag::UTF8_STRING, false)?;
         match utf8_of(contents.rest()) {
             Some(text) => {
                 *self = after;

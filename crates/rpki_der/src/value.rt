@@ -123,10 +123,8 @@ impl<'a> Constructed<'a> {
         if !self.has_tag(tag) {
             return Ok(None);
         }
-        match self.take_value_if(tag) {
-            Ok(content) => Ok(Some(content)),
-            Err(e) => Err(e),
-        }
+        let content = self.take_value_if(tag)?;
+        Ok(Some(content))
     }
 
     /// A cursor on the contents of a SEQUENCE (X.690 8.9); moves past it. The contents are judged by who reads them.
@@ -155,10 +153,8 @@ impl<'a> Constructed<'a> {
         if !self.has_tag(Tag::SEQUENCE) {
             return Ok(None);
         }
-        match self.take_sequence() {
-            Ok(contents) => Ok(Some(contents)),
-            Err(e) => Err(e),
-        }
+        let contents = self.take_sequence()?;
+        Ok(Some(contents))
     }
 
     /// As [Constructed::take_set] where what is left begins with the identifier octets of a SET, in either form; else
@@ -169,9 +165,7 @@ impl<'a> Constructed<'a> {
         if !self.has_tag(Tag::SET) {
             return Ok(None);
         }
-        match self.take_set() {
-            Ok(contents) => Ok(Some(contents)),
-            Err(e) => Err(e),
-        }
+        let contents = self.take_set()?;
+        Ok(Some(contents))
     }
 }

@@ -177,10 +177,7 @@ impl<'a> Constructed<'a> {
         if octets.is_empty() {
             return Ok(None);
         }
-        let size = match walk_front(alloc, octets, false, &mut Vec::new(alloc), steps) {
-            Ok(size) => size,
-            Err(e) => return Err(e),
-        };
+        let size = walk_front(alloc, octets, false, &mut Vec::new(alloc), steps)?;
         let (_, behind) = self.split_at(size);
         *self = behind;
         Ok(Some(()))
@@ -210,10 +207,7 @@ impl<'a> Constructed<'a> {
             return Err(DecodeError::Truncated);
         }
         let mut index = Vec::new(alloc);
-        let size = match walk_front(alloc, octets, true, &mut index, &mut Steps::new()) {
-            Ok(size) => size,
-            Err(e) => return Err(e),
-        };
+        let size = walk_front(alloc, octets, true, &mut index, &mut Steps::new())?;
         let (value, behind) = self.split_at(size);
         let bytes = value.to_bytes()?;
         *self = behind;

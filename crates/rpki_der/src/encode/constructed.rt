@@ -42,10 +42,8 @@ fn write_around<V: Values, W: Write>(
     requires { V.is_short values.now × (length (V.encoded values.now) < 2 ^ 32) }
     ensures { Writes (W.contents out.old) (W.contents out.new) result (tlv tag constructed (V.encoded values.now)) }
 {
-    match write_header(out, tag, constructed, values.encoded_len()) {
-        Ok(()) => values.write_encoded(out),
-        Err(e) => Err(e),
-    }
+    write_header(out, tag, constructed, values.encoded_len())?;
+    values.write_encoded(out)
 }
 
 /// A SEQUENCE of the values (X.690 8.9, 8.10).

@@ -150,10 +150,8 @@ impl<'a> PrimitiveContent for &'a BitString {
 fn write_bits<W: Write>(out: &mut W, bits: &BitString) -> Result<(), io::Error>
     ensures { Writes (W.contents out.old) (W.contents out.new) result (bits_contents bits.now) }
 {
-    match write_whole(out, &[bits.unused()]) {
-        Ok(()) => write_whole(out, bits.octet_slice()),
-        Err(e) => Err(e),
-    }
+    write_whole(out, &[bits.unused()])?;
+    write_whole(out, bits.octet_slice())
 }
 
 impl BitString {

@@ -39,9 +39,7 @@ impl<A: Values, B: Values> Values for (A, B) {
     }
 
     fn write_encoded<W: Write>(&self, out: &mut W) -> Result<(), io::Error> {
-        match self.0.write_encoded(out) {
-            Ok(()) => self.1.write_encoded(out),
-            Err(e) => Err(e),
-        }
+        self.0.write_encoded(out)?;
+        self.1.write_encoded(out)
     }
 }

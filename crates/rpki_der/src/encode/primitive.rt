@@ -123,9 +123,7 @@ impl<P: PrimitiveContent> Values for Primitive<P> {
     }
 
     fn write_encoded<W: Write>(&self, out: &mut W) -> Result<(), io::Error> {
-        match write_header(out, self.tag(), false, self.content.encoded_len()) {
-            Ok(()) => self.content.write_encoded(out),
-            Err(e) => Err(e),
-        }
+        write_header(out, self.tag(), false, self.content.encoded_len())?;
+        self.content.write_encoded(out)
     }
 }

@@ -45,12 +45,8 @@ impl<A: Values, B: Values, C: Values> Values for (A, B, C) {
     }
 
     fn write_encoded<W: Write>(&self, out: &mut W) -> Result<(), io::Error> {
-        match self.0.write_encoded(out) {
-            Ok(()) => match self.1.write_encoded(out) {
-                Ok(()) => self.2.write_encoded(out),
-                Err(e) => Err(e),
-            },
-            Err(e) => Err(e),
-        }
+        self.0.write_encoded(out)?;
+        self.1.write_encoded(out)?;
+        self.2.write_encoded(out)
     }
 }

@@ -34,10 +34,8 @@ impl<'a> PrimitiveContent for Unsigned<'a> {
     #[tactic(auto, using(crate::proofs::Writing::writes_of_cut, crate::proofs::Writing::beginning_of, crate::proofs::Writing::beginning_more, crate::proofs::Writing::writes_then, crate::proofs::UnsignedLaws::unsigned_bare, crate::proofs::UnsignedLaws::unsigned_behind))]
     fn write_encoded<W: Write>(&self, out: &mut W) -> Result<(), io::Error> {
         if needs_zero(self) {
-            match write_whole(out, &[0]) {
-                Ok(()) => write_whole(out, self.as_slice()),
-                Err(e) => Err(e),
-            }
+            write_whole(out, &[0])?;
+            write_whole(out, self.as_slice())
         } else {
             write_whole(out, self.as_slice())
         }

@@ -14,11 +14,11 @@ pub fn write_whole<W: Write>(out: &mut W, octets: &[u8]) -> io::Result<()>
 {
     let mut rest = octets;
     while !rest.is_empty() {
-        match out.write(rest) {
-            Ok(0) => return Err(io::Error::from(io::ErrorKind::WriteZero)),
-            Ok(n) => rest = &rest[n..],
-            Err(e) => return Err(e),
+        let taken = out.write(rest)?;
+        if taken == 0 {
+            return Err(io::Error::from(io::ErrorKind::WriteZero));
         }
+        rest = &rest[taken..];
     }
     Ok(())
 }

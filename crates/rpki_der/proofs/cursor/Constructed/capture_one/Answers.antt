@@ -17,10 +17,12 @@ returns-then-is_empty-clause-fault c = λ e f.
     let none : length c.rest-octets.result.now ≡ 0 = eqb-true _ _ (sym c.is_empty.ensures ∙ c.if-is_empty.true) in
     inr (ap (λ (x : DecodeError). Err x) (sym (nothing_fault (sym c.rest-octets.ensures ∙ nil_from_length c.rest-octets.result.now none) f)))
 
-pub returns-in-Err-clause-reads : goal.returns-in-Err-clause-reads
-returns-in-Err-clause-reads c = rw (← c.rest-octets.ensures) (capture_refused c.in-Err.ensures.refused)
+pub returns-in_err-size-clause-reads : goal.returns-in_err-size-clause-reads
+returns-in_err-size-clause-reads c =
+    let p = err_from_is_err_and c.from_residual.result c.from_residual.ensures.1 in
+    rw (p.1, p.2, ← c.rest-octets.ensures) (capture_refused c.in_err-size.ensures.refused)
 
 pub returns-in_err-bytes-clause-reads : goal.returns-in_err-bytes-clause-reads
 returns-in_err-bytes-clause-reads c =
-    let p = err_from_is_err_and c.from_residual.result c.from_residual.ensures.1 in
-    rw (p.1, p.2, ← c.rest-octets.ensures) (capture_memory c.in-Ok.ensures.accepted)
+    let p = err_from_is_err_and c.from_residual-in_err-bytes.result c.from_residual-in_err-bytes.ensures.1 in
+    rw (p.1, p.2, ← c.rest-octets.ensures) (capture_memory c.in_ok-size.ensures.accepted)

@@ -4,16 +4,17 @@ use Rattle.rpki_der.specs.Cursor.{left}
 use Rattle.rpki_der.specs.Leaves.{IsOnly}
 use Rattle.rpki_der.specs.TagName.{oid}
 use Rattle.rpki_der.proofs.LeavesLaws.{leaf-refused, leaf-accepted, leaf-bad}
+use Rattle.rpki_der.proofs.TriedLaws.{tried-refused}
 use Rattle.rpki_der.proofs.cursor.Constructed.take_only_oid.Goals as goal
 
-pub returns-in-Err : goal.returns-in-Err
-returns-in-Err c = leaf-refused oid false (IsOnly c.args.expected.now) _ _ _ c.in-Err.e refl c.in-Err.ensures
+pub returns-in_err-contents : goal.returns-in_err-contents
+returns-in_err-contents c = tried-refused _ _ _ _ _ _ _ c.from_residual.ensures (leaf-refused oid false (IsOnly c.args.expected.now) _ _ _ c.in_err-contents.field-0.0 refl c.in_err-contents.ensures)
 
 pub returns-then-not-is_only : goal.returns-then-not-is_only
 returns-then-not-is_only c =
-    leaf-bad oid false (IsOnly c.args.expected.now) _ (left c.in-Ok.contents) _ _ c.from_static.result refl c.in-Ok.ensures
+    leaf-bad oid false (IsOnly c.args.expected.now) _ (left c.in_ok-contents.contents) _ _ c.from_static.result refl c.in_ok-contents.ensures
     (λ v same. iff_false c.is_only.ensures c.if-not-is_only.true same)
 
 pub returns : goal.returns
 returns c =
-    leaf-accepted oid false (IsOnly c.args.expected.now) _ (left c.in-Ok.contents) _ tt c.in-Ok.ensures (c.is_only.ensures.0 c.if-not-is_only.false) (λ w is. refl)
+    leaf-accepted oid false (IsOnly c.args.expected.now) _ (left c.in_ok-contents.contents) _ tt c.in_ok-contents.ensures (c.is_only.ensures.0 c.if-not-is_only.false) (λ w is. refl)

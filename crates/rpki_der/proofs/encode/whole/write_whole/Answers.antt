@@ -1,4 +1,5 @@
 use Rattle.std.proofs.Common.{◌≡◌, ℕ, Bool, false, eqb, List, [], length, take, arith, sym, ◌∙◌}
+use Rattle.std.proofs.lemmas.Result.{err_from_is_err_and}
 use Rattle.rpki_der.proofs.Writing.{all_but_then, cut_at, cut_before, keeps_take}
 use Rattle.rpki_der.proofs.encode.whole.write_whole.Goals as goal
 
@@ -7,12 +8,14 @@ some-left xs b e f none = let g : eqb (length xs) 0 ≡ false = sym f ∙ e in l
 
 pub loop-rest-preserved : goal.loop-rest-preserved
 loop-rest-preserved g c =
-    all_but_then _ _ _ _ c.loop-rest.rest.now (take c.in-Ok.n c.loop-rest.rest.now) _ c.loop-rest.invariant
-    (cut_at c.in-Ok.n c.loop-rest.rest.now) c.in-Ok.ensures.bytes
+    all_but_then _ _ _ _ c.loop-rest.rest.now (take c.in_ok-taken.taken c.loop-rest.rest.now) _ c.loop-rest.invariant
+    (cut_at c.in_ok-taken.taken c.loop-rest.rest.now) c.in_ok-taken.ensures.bytes
 
-pub returns-in-Ok-eq0 : goal.returns-in-Ok-eq0
-returns-in-Ok-eq0 g c =
-    cut_before _ _ _ _ c.loop-rest.rest.now c.loop-rest.invariant (some-left _ _ c.loop-rest-test.true c.is_empty.ensures) (keeps_take _ _ _ _ (omega arith) c.in-Ok-eq0.ensures.bytes)
+pub returns-then-taken-eq0 : goal.returns-then-taken-eq0
+returns-then-taken-eq0 g c =
+    cut_before _ _ _ _ c.loop-rest.rest.now c.loop-rest.invariant (some-left _ _ c.loop-rest-test.true c.is_empty.ensures) (keeps_take _ _ _ _ (omega (arith, c.if-taken-eq0.true)) c.in_ok-taken.ensures.bytes)
 
-pub returns-in-Err : goal.returns-in-Err
-returns-in-Err g c = cut_before _ _ _ _ c.loop-rest.rest.now c.loop-rest.invariant (some-left _ _ c.loop-rest-test.true c.is_empty.ensures) c.in-Err.ensures.bytes
+pub returns-in_err-taken : goal.returns-in_err-taken
+returns-in_err-taken g c =
+    let p = err_from_is_err_and c.from_residual.result c.from_residual.ensures.1 in
+    rw p.1 (cut_before _ _ _ _ c.loop-rest.rest.now c.loop-rest.invariant (some-left _ _ c.loop-rest-test.true c.is_empty.ensures) c.in_err-taken.ensures.bytes)
