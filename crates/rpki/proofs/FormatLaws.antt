@@ -1,8 +1,11 @@
 -- Formats of keys and signatures of signed objects, from the object identifier that was read.
-use Rattle.std.proofs.Common.{◌≡◌, ◌⊎◌, ℕ, Bool, true, false, List, [], inl, inr, refl, sym, ◌∙◌, subst, lit<, arith, ◌<◌, ◌^◌, length, length-append}
+use Rattle.std.proofs.Common.{Result, Ok, Err, ◌≡◌, ◌⊎◌, ℕ, Bool, true, false, List, [], inl, inr, refl, sym, ◌∙◌, subst, lit<, arith, ◌<◌, ◌^◌, length, length-append}
 use Rattle.rpki_der.specs.TagName.{oid, null, sequence}
 use Rattle.rpki_der.specs.Header.{tlv}
-use Rattle.rpki_der.specs.Reading.{Spells, Accepts, Refuses, SpellsNothing}
+use Rattle.rpki_der.specs.declared.error.DecodeError.{DecodeError}
+use Rattle.rpki_der.specs.Reading.{Spells, Accepts, Refuses, SpellsNothing, TakesNoMemory, AnyFault}
+use Rattle.rpki_der.specs.Composed.{ReadsAll}
+use Rattle.rpki_der.proofs.ReadingLaws.{UnlessMemory-weaker}
 use Rattle.rpki_der.specs.Values.{SpellsLeaf}
 use Rattle.rpki_der.specs.Leaves.{IsOid, IsOidOf, IsOnly, IsNull}
 use Rattle.rpki_der.specs.Joined.{sequence_legal}
@@ -134,3 +137,8 @@ cms-read c x m b a (inr e) h = (inr (identified-read sha256_with_rsa_encryption 
 
 pub cms-not-read : (c x m : List ℕ) → Accepts AnyName c x m → SpellsNothing IsParameters m → SpellsNothing IsCmsContents c
 cms-not-read c x m a none b h = none b (cms-parameters c x m b a h)
+
+pub cms-all : (c x m r : List ℕ) (y : Result Bool DecodeError) → Accepts AnyName c x m → (x ≡ rsa_encryption) ⊎ (x ≡ sha256_with_rsa_encryption)
+    → ReadsAll (λ b. b) IsParameters (TakesNoMemory AnyFault) m r y → ReadsAll (λ b. b) IsCmsContents (TakesNoMemory AnyFault) c r y
+cms-all c x m r (Ok b) a known h = (λ end. cms-read c x m b a known (h.0 end), λ some. cms-not-read c x m a (h.1 some))
+cms-all c x m r (Err e) a known h = (UnlessMemory-weaker e (cms-not-read c x m a) h.0, record { other = h.1.other; kind = tt })

@@ -3,8 +3,8 @@ use Rattle.std.proofs.Common.{◌≡◌, ◌≢◌, ◌↔◌, IsTrue, ℕ, ◌+
 use Rattle.std.proofs.lemmas.List.{append-nil}
 use Rattle.rpki_der.specs.declared.error.DecodeError.{DecodeError}
 use Rattle.rpki_der.specs.TagName.{TagName, sequence, set, oid}
-use Rattle.rpki_der.specs.Reading.{Spells, Accepts, Refuses, Refusal, UnlessMemory, SpellsNothing, AnyFault, OrMemoryWhere}
-use Rattle.rpki_der.specs.Values.{SpellsContents, SpellsLeaf, GivesOuterFault, IsOuterFault}
+use Rattle.rpki_der.specs.Reading.{Spells, Accepts, Refuses, Refusal, SpellsNothing, OrMemoryWhere}
+use Rattle.rpki_der.specs.Values.{SpellsContents, SpellsLeaf, GivesOuterFault}
 use Rattle.rpki_der.specs.Leaves.{IsOidOf}
 use Rattle.rpki_der.specs.Members.{IsValue, IsValueList, SpellsValue}
 use Rattle.rpki_der.proofs.MembersLaws.{value_some}
@@ -16,7 +16,8 @@ use Rattle.rpki_der.proofs.LeafValues.{leaf_value_alone, composed_value_alone}
 use Rattle.rpki_der.proofs.LeavesLaws.{leaf-value}
 use Rattle.rpki.specs.Name.{Attribute, attribute_of, IsIdentifierThen, IsAttribute, SpellsAttribute, SpellsEach, SpellsSome, SpellsRelative, SpellsName, IsName, SpellsNameOctets, SpellsAny}
 use Rattle.rpki.specs.NameValue.{HasAfter, HasAttributeValue, HasRelativeValue, HasNameValue}
-use Rattle.rpki.proofs.MemoryLaws.{no-memory, part-memory, value-either}
+use Rattle.rpki_der.proofs.InsideLaws.{part-memory}
+use Rattle.rpki.proofs.MemoryLaws.{value-either}
 
 -- ---- whichever value is spelled
 
@@ -137,38 +138,9 @@ unidentified c none w h = none w.identifier w.value (record { front = h.front; p
 pub attribute-identified : (s : List ℕ) (a : Attribute) (r : List ℕ) → Spells SpellsAttribute s a r → Spells (SpellsLeaf sequence true IsIdentifierThen) s a r
 attribute-identified s a r h = record { front = h.front; parts = h.parts; spelled = record { contents = h.spelled.contents; value = h.spelled.value; spelled = h.spelled.spelled.identified } }
 
-any-identified : (s : List ℕ) (r : List ℕ) → Spells (SpellsLeaf sequence true (SpellsAny IsAttribute)) s tt r → (a : Attribute) × Spells (SpellsLeaf sequence true IsIdentifierThen) s a r × IsValue a.value
-any-identified s r h =
-    let g = any-leaf sequence true IsAttribute h.front h.spelled in
-    (g.0, attribute-identified s g.0 r (record { front = h.front; parts = h.parts; spelled = g.1 }), g.1.spelled.one)
-
-pub attribute-unidentified : (s r : List ℕ) (e : DecodeError) → Refusal (SpellsLeaf sequence true IsIdentifierThen) (IsOuterFault sequence true) s r e → Refusal (SpellsLeaf sequence true (SpellsAny IsAttribute)) (OrMemoryWhere HasAttributeValue (GivesOuterFault sequence true)) s s e
-attribute-unidentified s r e h = record {
-  unchanged = refl;
-  refuses = UnlessMemory-weaker e (λ none x q k. let g = any-identified s q k in none g.0 q g.1) h.refuses;
-  kind = no-memory HasAttributeValue (GivesOuterFault sequence true) s e h.kind.other h.kind.kind;
-}
-
-pub attribute-accepted : (s r : List ℕ) (a : Attribute) → Accepts (SpellsLeaf sequence true IsIdentifierThen) s a r → IsValue a.value → Accepts (SpellsLeaf sequence true (SpellsAny IsAttribute)) s tt r
-attribute-accepted s r a h one = record {
-  spells = record {
-    front = h.spells.front;
-    parts = h.spells.parts;
-    spelled = record { contents = h.spells.spelled.contents; value = h.spells.spelled.value; spelled = (a, record { identified = h.spells.spelled.spelled; one = one }) };
-  };
-  only = λ w q k. let g = any-identified s q k in (refl, (h.only g.0 q g.1).1);
-}
-
-pub attribute-valueless : (s r : List ℕ) (a : Attribute) (e : DecodeError) → Accepts (SpellsLeaf sequence true IsIdentifierThen) s a r → UnlessMemory e (SpellsNothing SpellsAnyValue a.value) × OrMemoryWhere HasEither AnyFault a.value e
-    → Refusal (SpellsLeaf sequence true (SpellsAny IsAttribute)) (OrMemoryWhere HasAttributeValue (GivesOuterFault sequence true)) s s e
-attribute-valueless s r a e h (k, m) = record {
-  unchanged = refl;
-  refuses = UnlessMemory-weaker e (λ none x q l. let g = any-identified s q l in none tt (subst (λ (w : Attribute). IsValue w.value) (h.only g.0 q g.1).0 g.2)) k;
-  kind =
-      let l = leaf-value sequence true IsIdentifierThen s a r h.spells in
-      part-memory HasEither HasAttributeValue AnyFault (GivesOuterFault sequence true) a.value s e
-      (λ v. (l.0, r, l.1, (a, l.2, v))) m (λ none. absurd (none l.0 r l.1));
-}
+-- what follows the identifier of an attribute is a value
+pub identified-value : (c m : List ℕ) (o : List ℕ) → Accepts (SpellsLeaf oid false IsOidOf) c o m → (w : Attribute) → IsAttribute w c → IsValue m
+identified-value c m o a w h = subst (λ (v : Attribute). IsValue v.value) ((identified c m o a).1 w h.identified) h.one
 
 -- ---- a name is one value
 

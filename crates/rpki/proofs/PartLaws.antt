@@ -1,35 +1,17 @@
 -- What the readers of parts answer, in the words of who reads all of something.
-use Rattle.std.proofs.Common.{◌≡◌, ◌≢◌, ℕ, Bool, true, false, List, [], refl, sym, subst}
+use Rattle.std.proofs.Common.{ℕ, Bool, true, false, List, Result, refl, sym, subst}
 use Rattle.rpki_der.specs.declared.error.DecodeError.{DecodeError}
-use Rattle.rpki_der.specs.declared.error.DecodeError.TheVariants.{Truncated, BadTag, BadLength, Unexpected, Content, Trailing, OutOfMemory}
 use Rattle.rpki_der.specs.TagName.{TagName, oid, sequence}
-use Rattle.rpki_der.specs.Reading.{Accepts, Refuses, Refusal, SpellsNothing, UnlessMemory}
-use Rattle.rpki_der.specs.Values.{SpellsContents, SpellsLeaf, IsLeafFault, IsContentsFault}
-use Rattle.rpki_der.specs.Leaves.{IsOidOf}
-use Rattle.rpki_der.proofs.ReadingLaws.{UnlessMemory-weaker, UnlessMemory-from}
-use Rattle.rpki_der.proofs.ComposedLaws.{nothing-whole, nothing-after}
-use Rattle.rpki_der.proofs.LeavesLaws.{leaf-no-memory, contents-no-memory}
-use Rattle.rpki.specs.Unknown.{BeginsUnknown, NamesUnknown}
-
--- a leaf isn't there
-pub leaf-not-read : {V : Type 0} (t : TagName) (f : Bool) (C : V → List ℕ → Type 0) (s r : List ℕ) (e : DecodeError)
-    → Refusal (SpellsLeaf t f C) (IsLeafFault t f C) s r e → UnlessMemory e (SpellsNothing (SpellsLeaf t f C) s) × (e ≢ OutOfMemory)
-leaf-not-read t f C s r e h = (UnlessMemory-weaker e (nothing-whole (SpellsLeaf t f C) s) h.refuses, leaf-no-memory t f C s e h.kind)
-
--- something is left
-pub more-not-read : {V : Type 0} (G : V → List ℕ → Type 0) (s m : List ℕ) (v : V) (e : DecodeError)
-    → Accepts G s v m → (e ≡ Trailing) × (m ≡ [] → ⊥) → UnlessMemory e (SpellsNothing G s) × (e ≢ OutOfMemory)
-more-not-read G s m v e a h = (UnlessMemory-from e (nothing-after G s m v a h.1), λ z. let t = h.0 in cc)
-
--- a refusal that isn't for want of memory
-pub unless-memory : (e : DecodeError) {P : Type 0} → e ≢ OutOfMemory → UnlessMemory e P → P
-unless-memory Truncated n h = h
-unless-memory BadTag n h = h
-unless-memory BadLength n h = h
-unless-memory Unexpected n h = h
-unless-memory (Content x) n h = h
-unless-memory Trailing n h = h
-unless-memory OutOfMemory n h = absurd (n refl)
+use Rattle.rpki_der.specs.Reading.{Accepts, Refuses, Refusal, Reads}
+use Rattle.rpki_der.specs.Values.{SpellsLeaf, IsLeafFault, IsOuterFault}
+use Rattle.rpki_der.specs.Leaves.{IsOidOf, IsOnly}
+use Rattle.rpki_der.specs.declared.cursor.Constructed.{Constructed}
+use Rattle.rpki_der.specs.Cursor.{left}
+use Rattle.rpki_der.specs.Composed.{ReadsInside}
+use Rattle.rpki_der.proofs.InsideLaws.{Same, read-inside-never, reads-all, unless-memory, refused-inside}
+use Rattle.rpki_der.proofs.LeavesLaws.{leaf-no-memory}
+use Rattle.rpki.specs.SignatureNames.{SpellsBare}
+use Rattle.rpki.specs.Unknown.{BeginsUnknown, NamesUnknown, IsRefusedWith}
 
 -- contents that say less
 pub dropped-none : {V W : Type 0} (t : TagName) (f : Bool) (C : V → List ℕ → Type 0) (D : W → List ℕ → Type 0) (s : List ℕ)
@@ -50,11 +32,19 @@ none-unknown Known c q e h u = unless-memory e (leaf-no-memory oid false IsOidOf
 pub known-named : (Known : List ℕ → Type 0) (c x m : List ℕ) → Accepts (SpellsLeaf oid false IsOidOf) c x m → Known x → BeginsUnknown Known c → ⊥
 known-named Known c x m a known u = u.unknown (subst Known (sym (a.only u.identifier u.rest u.begins).0) known)
 
--- no SEQUENCE begins
-pub no-sequence : (Known : List ℕ → Type 0) (s q : List ℕ) (e : DecodeError)
-    → Refusal (SpellsContents sequence true) (IsContentsFault sequence true) s q e → NamesUnknown Known s → ⊥
-no-sequence Known s q e h u = unless-memory e (contents-no-memory sequence true s e h.kind) h.refuses u.contents u.rest u.begins
+-- what the reader of the contents says of them, where the identifier isn't known
+module _ {X : Type 0} (Known : List ℕ → Type 0) (text : List ℕ) (reads : Constructed → Result X DecodeError → Constructed → Type 0)
+    (law : (b a : Constructed) (x : Result X DecodeError) → reads b x a → BeginsUnknown Known (left b) → IsRefusedWith text x) where
+  pub unknown-inside : (s q : List ℕ) (x : Result X DecodeError) → ReadsInside sequence true Same reads s q x → NamesUnknown Known s → IsRefusedWith text x
+  unknown-inside s q x h u = refused-inside sequence true (BeginsUnknown Known) (IsRefusedWith text) (λ y k. k) reads law s q u.contents u.rest x h u.begins u.names
 
--- one does, with these contents
-pub names-unknown : (Known : List ℕ → Type 0) (s c q : List ℕ) → Accepts (SpellsContents sequence true) s c q → NamesUnknown Known s → BeginsUnknown Known c
-names-unknown Known s c q a u = subst (BeginsUnknown Known) (a.only u.contents u.rest u.begins).0 u.names
+-- ---- an identifier alone
+
+module _ (o : List ℕ) (reads : Constructed → Result (Unit {0}) DecodeError → Constructed → Type 0)
+    (law : (b a : Constructed) (x : Result (Unit {0}) DecodeError) → reads b x a
+    → Reads (λ u. u) (SpellsLeaf oid false (IsOnly o)) (IsLeafFault oid false (IsOnly o)) (left b) (left a) x) where
+  pub only-inside : (s r : List ℕ) (x : Result (Unit {0}) DecodeError) → ReadsInside sequence true Same reads s r x → Reads (λ u. u) (SpellsBare o) (IsOuterFault sequence true) s r x
+  only-inside =
+      read-inside-never (λ u. u) sequence true (SpellsLeaf oid false (IsOnly o)) (IsLeafFault oid false (IsOnly o)) reads
+      (λ b a x h. reads-all (λ u. u) (SpellsLeaf oid false (IsOnly o)) (IsLeafFault oid false (IsOnly o)) (left b) (left a) x (law b a x h))
+      (λ s k. leaf-no-memory oid false (IsOnly o) s _ k refl)

@@ -8,8 +8,8 @@ use Rattle.rpki_der.specs.Leaves.{Bits, IsBits, bits_of}
 use Rattle.rpki_der.specs.Members.{SpellsValue}
 use Rattle.rpki_der.specs.Walk.{HasEither}
 use Rattle.rpki_der.proofs.ReadingLaws.{UnlessMemory-weaker}
+use Rattle.rpki_der.proofs.InsideLaws.{part-memory}
 use Rattle.rpki.specs.SignedData.{SignedParts, parts_of, SpellsSignature, IsSignedContents}
-use Rattle.rpki.proofs.MemoryLaws.{part-memory}
 
 -- ---- the signature, of a bit string
 

@@ -1,15 +1,32 @@
 -- What a reader returns where a `?` ends it.
-use Rattle.std.proofs.Common.{◌≡◌, ℕ, List, Result, Ok, Err, sym, subst}
+use Rattle.std.proofs.Common.{◌≡◌, ◌≢◌, ℕ, List, Result, Ok, Err, sym, subst}
 use Rattle.std.specs.Prelude.{IsErr, IsErrAnd}
 use Rattle.rpki_der.specs.declared.error.DecodeError.{DecodeError}
-use Rattle.rpki_der.specs.Reading.{SpellsNothing, UnlessMemory, Refusal, Reads, Decodes}
+use Rattle.rpki_der.specs.declared.error.DecodeError.TheVariants.{OutOfMemory}
+use Rattle.rpki_der.specs.Reading.{SpellsNothing, UnlessMemory, Refusal, Reads, Decodes, TakesNoMemory, AnyFault}
+use Rattle.rpki_der.specs.Composed.{ReadsAll}
+use Rattle.rpki_der.proofs.ReadingLaws.{UnlessMemory-weaker}
 
+-- a reader of a beginning
 pub tried-refused : {X V : Type 0} (view : X → V) (G : V → List ℕ → Type 0) (K : List ℕ → DecodeError → Type 0) (s r : List ℕ) (d : DecodeError) (x : Result X DecodeError)
     → IsErr x × IsErrAnd x (λ e. e ≡ d) → Refusal G K s r d → Reads view G K s r x
 tried-refused view G K s r d (Ok x) h k = absurd h.1
 tried-refused view G K s r d (Err e) h k = subst (λ q. Refusal G K s r q) (sym h.1) k
 
+-- a reader of the whole
 pub tried-nothing : {X V : Type 0} (view : X → V) (G : V → List ℕ → Type 0) (K : List ℕ → DecodeError → Type 0) (s : List ℕ) (d : DecodeError) (x : Result X DecodeError)
     → IsErr x × IsErrAnd x (λ e. e ≡ d) → UnlessMemory d (SpellsNothing G s) × K s d → Decodes view G K s x
 tried-nothing view G K s d (Ok x) h k = absurd h.1
 tried-nothing view G K s d (Err e) h k = subst (λ q. UnlessMemory q (SpellsNothing G s) × K s q) (sym h.1) k
+
+-- a reader of the whole of some contents
+pub tried-inside : {X V : Type 0} (view : X → V) (G : V → List ℕ → Type 0) (K : List ℕ → DecodeError → Type 0) (s r : List ℕ) (d : DecodeError) (x : Result X DecodeError)
+    → IsErr x × IsErrAnd x (λ e. e ≡ d) → UnlessMemory d (SpellsNothing G s) × K s d → ReadsAll view G K s r x
+tried-inside view G K s r d (Ok x) h k = absurd h.1
+tried-inside view G K s r d (Err e) h k = subst (λ q. UnlessMemory q (SpellsNothing G s) × K s q) (sym h.1) k
+
+-- the same, where it takes no memory
+pub tried-exactly : {X V : Type 0} {P : Type 0} (view : X → V) (G : V → List ℕ → Type 0) (s r : List ℕ) (d : DecodeError) (x : Result X DecodeError)
+    → IsErr x × IsErrAnd x (λ e. e ≡ d) → (P → SpellsNothing G s) → UnlessMemory d P → d ≢ OutOfMemory → ReadsAll view G (TakesNoMemory AnyFault) s r x
+tried-exactly view G s r d x h f none other =
+    tried-inside view G (TakesNoMemory AnyFault) s r d x h (UnlessMemory-weaker d f none, record { other = other; kind = tt })

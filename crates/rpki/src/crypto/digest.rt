@@ -13,7 +13,7 @@ use crate::crypto::Provider;
 use crate::crypto::identifier::take_algorithm;
 use crate::oid;
 use rpki_der::{
-    ConstOid, Constructed, DecodeError, Primitive, PrimitiveContent, Sequence, Set, Values,
+    ConstOid, Constructed, DecodeError, Primitive, PrimitiveContent, Sequence, Set, Tag, Values,
 };
 
 /// The algorithm of digests: SHA-256 (RFC 7935 2, FIPS 180-4). There is no other.
@@ -58,10 +58,8 @@ impl DigestAlgorithm {
     pub fn take_from(cons: &mut Constructed<'_>) -> Result<DigestAlgorithm, DecodeError>
         ensures { Reads (λ _. tt) SpellsDigest (IsOuterFault sequence true) (left cons.old) (left cons.new) result }
     {
-        match take_algorithm(cons, oid::SHA256) {
-            Ok(_) => Ok(DigestAlgorithm::sha256()),
-            Err(e) => Err(e),
-        }
+        take_algorithm(cons, oid::SHA256)?;
+        Ok(DigestAlgorithm::sha256())
     }
 
     /// As [DigestAlgorithm::take_from] where what is left begins with the identifier octets of a SEQUENCE, in either
@@ -69,14 +67,11 @@ impl DigestAlgorithm {
     pub fn take_opt_from(cons: &mut Constructed<'_>) -> Result<Option<DigestAlgorithm>, DecodeError>
         ensures { ReadsWhere (HasTag sequence) (λ _. tt) SpellsDigest (IsOuterFault sequence true) (left cons.old) (left cons.new) result }
     {
-        let mut ahead = *cons;
-        if let Ok(None) = ahead.take_opt_sequence() {
+        if !cons.has_tag(Tag::SEQUENCE) {
             return Ok(None);
         }
-        match DigestAlgorithm::take_from(cons) {
-            Ok(algorithm) => Ok(Some(algorithm)),
-            Err(e) => Err(e),
-        }
+        let algorithm = DigestAlgorithm::take_from(cons)?;
+        Ok(Some(algorithm))
     }
 
     /// A SET of exactly one algorithm identifier (RFC 5652 5.1, RFC 6488 2.1.2). It takes no memory.
@@ -86,32 +81,15 @@ impl DigestAlgorithm {
     pub fn take_set_from(cons: &mut Constructed<'_>) -> Result<DigestAlgorithm, DecodeError>
         ensures { Reads (λ _. tt) SpellsDigestSet (IsOuterFault set true) (left cons.old) (left cons.new) result }
     {
-        let mut after = *cons;
-        let mut contents = match after.take_set() {
-            Ok(contents) => contents,
-            Err(e) => return Err(e),
-        };
-        let algorithm = match DigestAlgorithm::take_from(&mut contents) {
-            Ok(algorithm) => algorithm,
-            Err(e) => return Err(e),
-        };
-        match contents.finish() {
-            Ok(()) => {
-                *cons = after;
-                Ok(algorithm)
-            }
-            Err(e) => Err(e),
-        }
+        cons.in_set(|contents| DigestAlgorithm::take_from(contents))
     }
 
     /// Moves past a SET of exactly one algorithm identifier, as [DigestAlgorithm::take_set_from].
     pub fn skip_set(cons: &mut Constructed<'_>) -> Result<(), DecodeError>
         ensures { Reads (λ _. tt) SpellsDigestSet (IsOuterFault set true) (left cons.old) (left cons.new) result }
     {
-        match DigestAlgorithm::take_set_from(cons) {
-            Ok(_) => Ok(()),
-            Err(e) => Err(e),
-        }
+        DigestAlgorithm::take_set_from(cons)?;
+        Ok(())
     }
 
     /// The object identifier of SHA-256 alone.
@@ -121,10 +99,8 @@ impl DigestAlgorithm {
     pub fn take_oid_from(cons: &mut Constructed<'_>) -> Result<DigestAlgorithm, DecodeError>
         ensures { Reads (λ _. tt) SpellsDigestName (IsLeafFault oid false (IsOnly sha256)) (left cons.old) (left cons.new) result }
     {
-        match cons.skip_oid_if(oid::SHA256) {
-            Ok(()) => Ok(DigestAlgorithm::sha256()),
-            Err(e) => Err(e),
-        }
+        cons.skip_oid_if(oid::SHA256)?;
+        Ok(DigestAlgorithm::sha256())
     }
 
     /// What writes the algorithm identifier, without parameters (RFC 5754 2).

@@ -154,10 +154,8 @@ impl SignatureAlgorithm for RpkiSignatureAlgorithm {
     fn x509_take_from(cons: &mut Constructed<'_>) -> Result<Self, DecodeError>
         ensures { Reads (λ a. a) (SpellsAlgorithm sha256_with_rsa_encryption) (IsOuterFault sequence true) (left cons.old) (left cons.new) result }
     {
-        match take_algorithm(cons, oid::SHA256_WITH_RSA_ENCRYPTION) {
-            Ok(has_parameters) => Ok(RpkiSignatureAlgorithm { has_parameters }),
-            Err(e) => Err(e),
-        }
+        let has_parameters = take_algorithm(cons, oid::SHA256_WITH_RSA_ENCRYPTION)?;
+        Ok(RpkiSignatureAlgorithm { has_parameters })
     }
 
     fn x509_encode(&self) -> Self::Encoder {

@@ -8,7 +8,6 @@ ghost use Rattle.rpki_der.specs.Values.{IsOuterFault};
 ghost use Rattle.rpki.specs.SignatureNames.{SpellsBare};
 
 use super::{Always, written};
-use crate::crypto::parameters::take_only;
 use crate::crypto::{
     BgpsecSignatureAlgorithm, Provider, PublicKey, RpkiSignature, RpkiSignatureAlgorithm,
     Signature, SignatureAlgorithm, SigningAlgorithm,
@@ -85,18 +84,8 @@ impl SignatureAlgorithm for OwnAlgorithm {
     fn x509_take_from(cons: &mut Constructed<'_>) -> Result<Self, DecodeError>
         ensures { Reads (λ a. a) (SpellsBare (42 ∷ 3 ∷ [])) (IsOuterFault sequence true) (left cons.old) (left cons.new) result }
     {
-        let mut after = *cons;
-        let contents = match after.take_sequence() {
-            Ok(contents) => contents,
-            Err(e) => return Err(e),
-        };
-        match take_only(contents, OWN_NAME) {
-            Ok(()) => {
-                *cons = after;
-                Ok(OwnAlgorithm { only: () })
-            }
-            Err(e) => Err(e),
-        }
+        cons.in_sequence(|contents| contents.skip_oid_if(OWN_NAME))?;
+        Ok(OwnAlgorithm { only: () })
     }
 
     fn x509_encode(&self) -> Self::Encoder {

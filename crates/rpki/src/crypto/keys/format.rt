@@ -3,13 +3,14 @@
 ghost use Rattle.std.specs.Prelude.{◌≡◌, ◌≢◌, ◌↔◌, IsTrue, true, codes};
 ghost use Rattle.rpki_der.specs.Cursor.{left};
 ghost use Rattle.rpki_der.specs.TagName.{sequence};
-ghost use Rattle.rpki_der.specs.Reading.{Reads, Decodes};
+ghost use Rattle.rpki_der.specs.Reading.{Reads, TakesNoMemory, AnyFault};
+ghost use Rattle.rpki_der.specs.Composed.{ReadsAll};
 ghost use Rattle.rpki_der.specs.Values.{IsOuterFault};
 ghost use Rattle.rpki.specs.declared.crypto.keys.PublicKeyFormat.{PublicKeyFormat};
 ghost use Rattle.rpki.specs.KeyFormat.{IsFormatContents, SpellsFormat, IsFormatName, format_octets};
 ghost use Rattle.rpki.specs.Unknown.{BeginsUnknown, NamesUnknown, IsRefusedWith};
 
-use crate::crypto::parameters::{is_named, take_only, take_parameters};
+use crate::crypto::parameters::{is_named, take_parameters};
 use crate::crypto::{PublicKeyFormat, RpkiSignatureAlgorithm};
 use crate::oid;
 use rpki_der::{
@@ -49,18 +50,25 @@ impl PublicKeyFormat {
         ensures reads { Reads (λ f. f) SpellsFormat (IsOuterFault sequence true) (left cons.old) (left cons.new) result }
         ensures unknown { NamesUnknown IsFormatName (left cons.old) → IsRefusedWith (codes "invalid public key format") result }
     {
-        let mut after = *cons;
-        let contents = match after.take_sequence() {
-            Ok(contents) => contents,
-            Err(e) => return Err(e),
-        };
-        match take_format_contents(contents) {
-            Ok(format) => {
-                *cons = after;
-                Ok(format)
-            }
-            Err(e) => Err(e),
-        }
+        cons.in_sequence(
+            |contents|
+                ensures reads { ReadsAll (λ f. f) IsFormatContents (TakesNoMemory AnyFault) (left contents.old) (left contents.new) result }
+                ensures unknown { BeginsUnknown IsFormatName (left contents.old) → IsRefusedWith (codes "invalid public key format") result }
+            {
+                let identifier = contents.take_oid()?;
+                if is_named(&identifier, oid::RSA_ENCRYPTION) {
+                    take_parameters(contents)?;
+                    Ok(PublicKeyFormat::Rsa)
+                } else if is_named(&identifier, oid::EC_PUBLIC_KEY) {
+                    contents.skip_oid_if(oid::SECP256R1)?;
+                    Ok(PublicKeyFormat::EcdsaP256)
+                } else {
+                    Err(DecodeError::Content(ContentError::from_static(
+                        "invalid public key format",
+                    )))
+                }
+            },
+        )
     }
 
     /// What writes the algorithm identifier, with a NULL for RSA.
@@ -94,30 +102,5 @@ impl From<RpkiSignatureAlgorithm> for PublicKeyFormat {
 
     fn from(_algorithm: RpkiSignatureAlgorithm) -> PublicKeyFormat {
         PublicKeyFormat::Rsa
-    }
-}
-
-/// Reads all of the contents of the algorithm identifier of a format.
-fn take_format_contents(contents: Constructed<'_>) -> Result<PublicKeyFormat, DecodeError>
-    ensures decodes { Decodes (λ f. f) IsFormatContents (λ _ e. e ≢ DecodeError.OutOfMemory) (left contents.entry) result }
-    ensures unknown { BeginsUnknown IsFormatName (left contents.entry) → IsRefusedWith (codes "invalid public key format") result }
-{
-    let mut contents = contents;
-    let identifier = match contents.take_oid() {
-        Ok(identifier) => identifier,
-        Err(e) => return Err(e),
-    };
-    if is_named(&identifier, oid::RSA_ENCRYPTION) {
-        match take_parameters(contents) {
-            Ok(_) => Ok(PublicKeyFormat::Rsa),
-            Err(e) => Err(e),
-        }
-    } else if is_named(&identifier, oid::EC_PUBLIC_KEY) {
-        match take_only(contents, oid::SECP256R1) {
-            Ok(()) => Ok(PublicKeyFormat::EcdsaP256),
-            Err(e) => Err(e),
-        }
-    } else {
-        Err(DecodeError::Content(ContentError::from_static("invalid public key format")))
     }
 }

@@ -72,10 +72,7 @@ impl KeyIdentifier {
         ensures { Reads (λ k. k) SpellsKeyIdentifier (IsIdentifierFault IsKeyIdentifier) (left cons.old) (left cons.new) result }
     {
         let mut after = *cons;
-        let octets = match after.take_octets() {
-            Ok(octets) => octets,
-            Err(e) => return Err(e),
-        };
+        let octets = after.take_octets()?;
         match key_identifier_of(octets) {
             Ok(identifier) => {
                 *cons = after;
@@ -90,8 +87,7 @@ impl KeyIdentifier {
     pub fn take_opt_from(cons: &mut Constructed<'_>) -> Result<Option<KeyIdentifier>, DecodeError>
         ensures { ReadsWhere (HasTag octet_string) (λ k. k) SpellsKeyIdentifier (IsIdentifierFault IsKeyIdentifier) (left cons.old) (left cons.new) result }
     {
-        let mut ahead = *cons;
-        if let Ok(None) = ahead.take_opt_value_if(Tag::OCTET_STRING) {
+        if !cons.has_tag(Tag::OCTET_STRING) {
             return Ok(None);
         }
         match KeyIdentifier::take_from(cons) {

@@ -6,6 +6,7 @@ ghost use Rattle.rpki_der.specs.TagName.{sequence};
 ghost use Rattle.rpki_der.specs.Reading.{Reads, Decodes, AnyFault, OrMemoryWhere, Finds, IsWholeFault};
 ghost use Rattle.rpki_der.specs.Values.{GivesOuterFault};
 ghost use Rattle.rpki_der.specs.Inside.{HasInside};
+ghost use Rattle.rpki_der.specs.Composed.{ReadsAll};
 ghost use Rattle.rpki_der.specs.Leaves.{AreBits, bits_of};
 ghost use Rattle.rpki.specs.PublicKey.{KeyParts, key_of, IsKeyContents, SpellsKey, key_contents, key_octets};
 
@@ -118,14 +119,9 @@ impl PublicKey {
             (IsWholeFault SpellsKey (OrMemoryWhere (HasInside sequence (Finds IsKeyContents)) (GivesOuterFault sequence true))) bytes result }
     {
         let mut cons = Constructed::new(&bytes);
-        let key = match PublicKey::take_from(&mut cons) {
-            Ok(key) => key,
-            Err(e) => return Err(e),
-        };
-        match cons.finish() {
-            Ok(()) => Ok(key),
-            Err(e) => Err(e),
-        }
+        let key = PublicKey::take_from(&mut cons)?;
+        cons.finish()?;
+        Ok(key)
     }
 
     /// A public key (SubjectPublicKeyInfo, RFC 5280 4.1): a SEQUENCE of a format and a BIT STRING, whose octets it
@@ -137,18 +133,15 @@ impl PublicKey {
         ensures { Reads (λ k. k) SpellsKey (OrMemoryWhere (HasInside sequence (Finds IsKeyContents)) (GivesOuterFault sequence true))
             (left cons.old) (left cons.new) result }
     {
-        let mut after = *cons;
-        let contents = match after.take_sequence() {
-            Ok(contents) => contents,
-            Err(e) => return Err(e),
-        };
-        match take_key_contents(contents) {
-            Ok(key) => {
-                *cons = after;
-                Ok(key)
-            }
-            Err(e) => Err(e),
-        }
+        cons.in_sequence(
+            |contents|
+                ensures { ReadsAll (λ k. k) IsKeyContents (OrMemoryWhere (Finds IsKeyContents) AnyFault) (left contents.old) (left contents.new) result }
+            {
+                let algorithm = PublicKeyFormat::take_from(contents)?;
+                let bits = contents.take_bit_string()?;
+                Ok(PublicKey { algorithm, bits })
+            },
+        )
     }
 
     /// What writes the key (SubjectPublicKeyInfo, RFC 5280 4.1), which it takes with it.
@@ -181,28 +174,7 @@ impl PublicKey {
         requires { length (key_contents self.now) < 2 ^ 32 }
         ensures { IfOk result (λ b. b ≡ key_octets self.now) }
     {
-        match Captured::from_values(alloc, &self.encode_ref()) {
-            Ok(key) => Ok(key.into_bytes()),
-            Err(e) => Err(e),
-        }
-    }
-}
-
-/// Reads all of the contents of a public key.
-fn take_key_contents(contents: Constructed<'_>) -> Result<PublicKey, DecodeError>
-    ensures { Decodes (λ k. k) IsKeyContents (OrMemoryWhere (Finds IsKeyContents) AnyFault) (left contents.entry) result }
-{
-    let mut contents = contents;
-    let algorithm = match PublicKeyFormat::take_from(&mut contents) {
-        Ok(algorithm) => algorithm,
-        Err(e) => return Err(e),
-    };
-    let bits = match contents.take_bit_string() {
-        Ok(bits) => bits,
-        Err(e) => return Err(e),
-    };
-    match contents.finish() {
-        Ok(()) => Ok(PublicKey { algorithm, bits }),
-        Err(e) => Err(e),
+        let key = Captured::from_values(alloc, &self.encode_ref())?;
+        Ok(key.into_bytes())
     }
 }

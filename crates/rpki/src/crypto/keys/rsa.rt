@@ -3,7 +3,8 @@
 ghost use Rattle.std.specs.Prelude.{◌≡◌, ◌≢◌, ◌≤◌, ◌+◌, ◌^◌, ◌⊎◌, ◌↔◌, [], length, true, IfOk, IsErrOf};
 ghost use Rattle.rpki_der.specs.Cursor.{left};
 ghost use Rattle.rpki_der.specs.TagName.{sequence};
-ghost use Rattle.rpki_der.specs.Reading.{Reads, Decodes, TakesNoMemory, IsWholeFault};
+ghost use Rattle.rpki_der.specs.Reading.{Reads, Decodes, TakesNoMemory, IsWholeFault, AnyFault};
+ghost use Rattle.rpki_der.specs.Composed.{ReadsAll};
 ghost use Rattle.rpki_der.specs.Values.{GivesOuterFault, IsOuterFault};
 ghost use Rattle.rpki_der.specs.Number.{number_of};
 ghost use Rattle.rpki.specs.declared.crypto.keys.PublicKeyFormat.TheVariants.{Rsa};
@@ -34,14 +35,8 @@ impl PublicKey {
         ensures again { IfOk result (λ k. IsRsaKey k k.bits.octets) }
         ensures empty { IsErrOf result InvalidInteger.Empty ↔ ((modulus.now ≡ []) ⊎ (exponent.now ≡ [])) }
     {
-        let modulus = match Unsigned::from_slice(modulus) {
-            Ok(modulus) => modulus,
-            Err(e) => return Err(e),
-        };
-        let exponent = match Unsigned::from_slice(exponent) {
-            Ok(exponent) => exponent,
-            Err(e) => return Err(e),
-        };
+        let modulus = Unsigned::from_slice(modulus)?;
+        let exponent = Unsigned::from_slice(exponent)?;
         let numbers = Sequence::new((modulus.encode(), exponent.encode()));
         match Captured::from_values(alloc, &numbers) {
             Ok(octets) => Ok(PublicKey::of_bits(octets.into_bytes())),
@@ -57,61 +52,32 @@ impl PublicKey {
     pub fn rsa_from_bits_bytes(bytes: Bytes) -> Result<PublicKey, DecodeError>
         ensures { Decodes (λ k. k) IsRsaKey (TakesNoMemory (IsWholeFault IsRsaKey (GivesOuterFault sequence true))) bytes result }
     {
-        match check_rsa_bits(&bytes) {
-            Ok(()) => Ok(PublicKey::of_bits(bytes)),
-            Err(e) => Err(e),
-        }
+        check_rsa_bits(&bytes)?;
+        Ok(PublicKey::of_bits(bytes))
     }
 }
 
-/// Whether all of the octets are the bits of an RSA key.
+/// Tests that all of the octets are the bits of an RSA key.
 fn check_rsa_bits(octets: &Bytes) -> Result<(), DecodeError>
     ensures { Decodes (λ _. tt) SpellsRsaBits (TakesNoMemory (IsWholeFault SpellsRsaBits (GivesOuterFault sequence true))) octets.now result }
 {
     let mut cons = Constructed::new(octets);
-    match take_rsa_bits(&mut cons) {
-        Ok(()) => {}
-        Err(e) => return Err(e),
-    }
-    match cons.finish() {
-        Ok(()) => Ok(()),
-        Err(e) => Err(e),
-    }
+    take_rsa_bits(&mut cons)?;
+    cons.finish()?;
+    Ok(())
 }
 
-/// Moves past the bits of an RSA key.
+/// Moves past the bits of an RSA key: a SEQUENCE of two INTEGERs that are not negative.
 fn take_rsa_bits(cons: &mut Constructed<'_>) -> Result<(), DecodeError>
     ensures { Reads (λ _. tt) SpellsRsaBits (IsOuterFault sequence true) (left cons.old) (left cons.new) result }
 {
-    let mut after = *cons;
-    let contents = match after.take_sequence() {
-        Ok(contents) => contents,
-        Err(e) => return Err(e),
-    };
-    match take_two_numbers(contents) {
-        Ok(()) => {
-            *cons = after;
+    cons.in_sequence(
+        |contents|
+            ensures { ReadsAll (λ _. tt) AreTwoNumbers (TakesNoMemory AnyFault) (left contents.old) (left contents.new) result }
+        {
+            contents.take_unsigned()?;
+            contents.take_unsigned()?;
             Ok(())
-        }
-        Err(e) => Err(e),
-    }
-}
-
-/// Reads all of the contents: two INTEGERs that are not negative.
-fn take_two_numbers(contents: Constructed<'_>) -> Result<(), DecodeError>
-    ensures { Decodes (λ _. tt) AreTwoNumbers (λ _ e. e ≢ DecodeError.OutOfMemory) (left contents.entry) result }
-{
-    let mut contents = contents;
-    match contents.take_unsigned() {
-        Ok(_) => {}
-        Err(e) => return Err(e),
-    }
-    match contents.take_unsigned() {
-        Ok(_) => {}
-        Err(e) => return Err(e),
-    }
-    match contents.finish() {
-        Ok(()) => Ok(()),
-        Err(e) => Err(e),
-    }
+        },
+    )
 }

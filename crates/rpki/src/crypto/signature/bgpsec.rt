@@ -10,7 +10,6 @@ ghost use Rattle.rpki.specs.SignatureNames.{SpellsBare};
 
 use super::SignatureAlgorithm;
 use crate::crypto::SigningAlgorithm;
-use crate::crypto::parameters::take_only;
 use crate::oid;
 use rpki_der::{ConstOid, Constructed, DecodeError, Primitive, PrimitiveContent, Sequence};
 use std::marker::Model;
@@ -68,18 +67,8 @@ impl SignatureAlgorithm for BgpsecSignatureAlgorithm {
     fn x509_take_from(cons: &mut Constructed<'_>) -> Result<Self, DecodeError>
         ensures { Reads (λ a. a) (SpellsBare ecdsa_with_sha256) (IsOuterFault sequence true) (left cons.old) (left cons.new) result }
     {
-        let mut after = *cons;
-        let contents = match after.take_sequence() {
-            Ok(contents) => contents,
-            Err(e) => return Err(e),
-        };
-        match take_only(contents, oid::ECDSA_WITH_SHA256) {
-            Ok(()) => {
-                *cons = after;
-                Ok(BgpsecSignatureAlgorithm { only: () })
-            }
-            Err(e) => Err(e),
-        }
+        cons.in_sequence(|contents| contents.skip_oid_if(oid::ECDSA_WITH_SHA256))?;
+        Ok(BgpsecSignatureAlgorithm { only: () })
     }
 
     fn x509_encode(&self) -> Self::Encoder {

@@ -3,7 +3,8 @@
 ghost use Rattle.std.specs.Prelude.{◌≡◌, ◌≢◌, ◌↔◌, IsTrue, true, codes};
 ghost use Rattle.rpki_der.specs.Cursor.{left};
 ghost use Rattle.rpki_der.specs.TagName.{sequence};
-ghost use Rattle.rpki_der.specs.Reading.{Reads, Decodes};
+ghost use Rattle.rpki_der.specs.Reading.{Reads, TakesNoMemory, AnyFault};
+ghost use Rattle.rpki_der.specs.Composed.{ReadsAll};
 ghost use Rattle.rpki_der.specs.Values.{IsOuterFault};
 ghost use Rattle.rpki.specs.Oids.{rsa_encryption};
 ghost use Rattle.rpki.specs.AlgorithmOctets.{algorithm_octets};
@@ -28,18 +29,22 @@ impl RpkiSignatureAlgorithm {
         ensures reads { Reads (λ a. a) SpellsCms (IsOuterFault sequence true) (left cons.old) (left cons.new) result }
         ensures unknown { NamesUnknown IsCmsName (left cons.old) → IsRefusedWith (codes "invalid signature algorithm") result }
     {
-        let mut after = *cons;
-        let contents = match after.take_sequence() {
-            Ok(contents) => contents,
-            Err(e) => return Err(e),
-        };
-        match take_cms_contents(contents) {
-            Ok(has_parameters) => {
-                *cons = after;
-                Ok(RpkiSignatureAlgorithm { has_parameters })
-            }
-            Err(e) => Err(e),
-        }
+        let has_parameters = cons.in_sequence(
+            |contents|
+                ensures reads { ReadsAll (λ b. b) IsCmsContents (TakesNoMemory AnyFault) (left contents.old) (left contents.new) result }
+                ensures unknown { BeginsUnknown IsCmsName (left contents.old) → IsRefusedWith (codes "invalid signature algorithm") result }
+            {
+                let identifier = contents.take_oid()?;
+                if is_cms_name(&identifier) {
+                    take_parameters(contents)
+                } else {
+                    Err(DecodeError::Content(ContentError::from_static(
+                        "invalid signature algorithm",
+                    )))
+                }
+            },
+        )?;
+        Ok(RpkiSignatureAlgorithm { has_parameters })
     }
 
     /// What writes the algorithm identifier in a signed object: rsaEncryption with a NULL (RFC 7935 2).
@@ -52,26 +57,6 @@ impl RpkiSignatureAlgorithm {
         let identifier = oid::RSA_ENCRYPTION.encode();
         let parameters = ().encode();
         Sequence::new((identifier, parameters))
-    }
-}
-
-/// Reads all of the contents of the algorithm identifier: whether a NULL is there.
-fn take_cms_contents(contents: Constructed<'_>) -> Result<bool, DecodeError>
-    ensures decodes { Decodes (λ b. b) IsCmsContents (λ _ e. e ≢ DecodeError.OutOfMemory) (left contents.entry) result }
-    ensures unknown { BeginsUnknown IsCmsName (left contents.entry) → IsRefusedWith (codes "invalid signature algorithm") result }
-{
-    let mut contents = contents;
-    let identifier = match contents.take_oid() {
-        Ok(identifier) => identifier,
-        Err(e) => return Err(e),
-    };
-    if is_cms_name(&identifier) {
-        match take_parameters(contents) {
-            Ok(present) => Ok(present),
-            Err(e) => Err(e),
-        }
-    } else {
-        Err(DecodeError::Content(ContentError::from_static("invalid signature algorithm")))
     }
 }
 

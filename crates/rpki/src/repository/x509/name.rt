@@ -58,14 +58,9 @@ impl Name {
             (left cons.old) (left cons.new) result }
     {
         let mut after = *cons;
-        match skip_name(alloc, &mut after) {
-            Ok(()) => {}
-            Err(e) => return Err(e),
-        }
-        match cons.capture_one(alloc) {
-            Ok(captured) => Ok(Name { captured }),
-            Err(e) => Err(e),
-        }
+        skip_name(alloc, &mut after)?;
+        let captured = cons.capture_one(alloc)?;
+        Ok(Name { captured })
     }
 
     /// Tests that the name is one of a certificate of the RPKI, unless `strict` is false: one common name and at most

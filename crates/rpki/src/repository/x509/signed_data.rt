@@ -85,18 +85,9 @@ impl<Alg: SignatureAlgorithm + Drop> SignedData<Alg> {
         ensures { Reads (λ x. x) (IsSignedContents Alg.spells) (OrMemoryWhere HasEither AnyFault) (left cons.old) (left cons.new) result }
     {
         let mut after = *cons;
-        let signed = match after.capture_one(alloc) {
-            Ok(signed) => signed,
-            Err(e) => return Err(e),
-        };
-        let algorithm = match Alg::x509_take_from(&mut after) {
-            Ok(algorithm) => algorithm,
-            Err(e) => return Err(e),
-        };
-        let value = match signature_value(&mut after) {
-            Ok(value) => value,
-            Err(e) => return Err(e),
-        };
+        let signed = after.capture_one(alloc)?;
+        let algorithm = Alg::x509_take_from(&mut after)?;
+        let value = signature_value(&mut after)?;
         *cons = after;
         Ok(SignedData::new(signed, Signature::new(algorithm, value)))
     }
@@ -112,22 +103,7 @@ impl<Alg: SignatureAlgorithm + Drop> SignedData<Alg> {
         ensures { Reads (λ x. x) (SpellsSigned Alg.spells) (OrMemoryWhere (HasInside sequence HasEither) (GivesOuterFault sequence true))
             (left cons.old) (left cons.new) result }
     {
-        let mut after = *cons;
-        let mut inner = match after.take_sequence() {
-            Ok(inner) => inner,
-            Err(e) => return Err(e),
-        };
-        let found = match SignedData::from_constructed(alloc, &mut inner) {
-            Ok(found) => found,
-            Err(e) => return Err(e),
-        };
-        match inner.finish() {
-            Ok(()) => {
-                *cons = after;
-                Ok(found)
-            }
-            Err(e) => Err(e),
-        }
+        cons.in_sequence(|contents| SignedData::from_constructed(alloc, contents))
     }
 
     /// Signed data, and nothing else.
@@ -144,14 +120,9 @@ impl<Alg: SignatureAlgorithm + Drop> SignedData<Alg> {
             ((s t : List ℕ) → Alg.spells v.algorithm s → Alg.spells v.algorithm t → s ≡ t) → DifferInCount v.value bytes other) }
     {
         let mut cons = Constructed::new(&bytes);
-        let found = match SignedData::take_from(alloc, &mut cons) {
-            Ok(found) => found,
-            Err(e) => return Err(e),
-        };
-        match cons.finish() {
-            Ok(()) => Ok(found),
-            Err(e) => Err(e),
-        }
+        let found = SignedData::take_from(alloc, &mut cons)?;
+        cons.finish()?;
+        Ok(found)
     }
 }
 
@@ -266,10 +237,8 @@ impl<'a, Alg> PrimitiveContent for SignatureValueContent<'a, Alg> {
     }
 
     fn write_encoded<W: Write>(&self, out: &mut W) -> Result<(), io::Error> {
-        match write_whole(out, &[0]) {
-            Ok(()) => write_whole(out, self.signature.value().as_slice()),
-            Err(e) => Err(e),
-        }
+        write_whole(out, &[0])?;
+        write_whole(out, self.signature.value().as_slice())
     }
 }
 
@@ -278,15 +247,8 @@ fn signature_value(cons: &mut Constructed<'_>) -> Result<Bytes, DecodeError>
     ensures { Reads (λ v. v) SpellsSignature (OrMemoryWhere (Finds SpellsSignature) AnyFault) (left cons.old) (left cons.new) result }
 {
     let mut after = *cons;
-    let bits = match after.take_bit_string() {
-        Ok(bits) => bits,
-        Err(e) => return Err(e),
-    };
-    match bits.octet_bytes() {
-        Ok(value) => {
-            *cons = after;
-            Ok(value)
-        }
-        Err(_) => Err(DecodeError::OutOfMemory),
-    }
+    let bits = after.take_bit_string()?;
+    let value = bits.octet_bytes()?;
+    *cons = after;
+    Ok(value)
 }

@@ -59,10 +59,8 @@ impl Name {
         ensures strict { IfOk result (λ n. IsRpkiName n × IsRouterName n) }
     {
         let written = key.encode_subject_name(provider);
-        match Captured::from_values(alloc, &written) {
-            Ok(captured) => Ok(Name::of_captured(captured)),
-            Err(e) => Err(e),
-        }
+        let captured = Captured::from_values(alloc, &written)?;
+        Ok(Name::of_captured(captured))
     }
 }
 

@@ -12,13 +12,9 @@ pub fn update_first<T: Drop, E, F: FnOnce() -> Result<Option<T>, E>>(
     requires { F.IsAlwaysCallable op }
     ensures { UpdatesFirst (F.post op) option.old option.new result }
 {
-    match op() {
-        Ok(given) => {
-            if option.is_none() {
-                *option = given;
-            }
-            Ok(())
-        }
-        Err(e) => Err(e),
+    let given = op()?;
+    if option.is_none() {
+        *option = given;
     }
+    Ok(())
 }

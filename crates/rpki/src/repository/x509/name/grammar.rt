@@ -3,11 +3,11 @@
 ghost use Rattle.std.specs.Prelude.{true};
 ghost use Rattle.rpki_der.specs.Cursor.{left};
 ghost use Rattle.rpki_der.specs.TagName.{sequence, set};
-ghost use Rattle.rpki_der.specs.Reading.{Reads, Decodes, AnyFault, OrMemoryWhere};
+ghost use Rattle.rpki_der.specs.Reading.{Reads, AnyFault, OrMemoryWhere};
+ghost use Rattle.rpki_der.specs.Composed.{ReadsAll};
 ghost use Rattle.rpki_der.specs.Values.{SpellsLeaf, GivesOuterFault, IsOuterFault};
-ghost use Rattle.rpki_der.specs.Walk.{SpellsAnyValue, HasEither};
 ghost use Rattle.rpki.specs.Name.{attribute_of, IsIdentifierThen, IsAttribute, SpellsAttribute, SpellsSome, SpellsRelative, SpellsAny};
-ghost use Rattle.rpki.specs.NameValue.{HasAfter, HasAttributeValue, HasRelativeValue, HasNameValue};
+ghost use Rattle.rpki.specs.NameValue.{HasAfter, IdentifiesValue, HasAttributeValue, HasRelativeValue, HasNameValue};
 
 use rpki_der::{Constructed, ContentError, DecodeError, Oid};
 use std::alloc::Global;
@@ -19,32 +19,10 @@ pub(super) fn take_identifier<'a>(
     ensures { Reads (λ x. attribute_of x.0.0.now (left x.1)) (SpellsLeaf sequence true IsIdentifierThen) (IsOuterFault sequence true) (left cons.old) (left cons.new) result }
 {
     let mut after = *cons;
-    let mut contents = match after.take_sequence() {
-        Ok(contents) => contents,
-        Err(e) => return Err(e),
-    };
-    let identifier = match contents.take_oid() {
-        Ok(identifier) => identifier,
-        Err(e) => return Err(e),
-    };
+    let mut contents = after.take_sequence()?;
+    let identifier = contents.take_oid()?;
     *cons = after;
     Ok((identifier, contents))
-}
-
-/// Tests that one value is left, and nothing else.
-fn check_value(alloc: Global, value: Constructed<'_>) -> Result<(), DecodeError>
-    ensures { Decodes (λ _. tt) SpellsAnyValue (OrMemoryWhere HasEither AnyFault) (left value.entry) result }
-{
-    let mut after = value;
-    match after.skip_one(alloc) {
-        Ok(Some(())) => {}
-        Ok(None) => return Err(DecodeError::Content(ContentError::from_static("invalid name"))),
-        Err(e) => return Err(e),
-    }
-    match after.finish() {
-        Ok(()) => Ok(()),
-        Err(e) => Err(e),
-    }
 }
 
 /// Moves past an attribute: a SEQUENCE of an OBJECT IDENTIFIER and one value.
@@ -52,36 +30,31 @@ fn skip_attribute(alloc: Global, cons: &mut Constructed<'_>) -> Result<(), Decod
     ensures { Reads (λ _. tt) (SpellsLeaf sequence true (SpellsAny IsAttribute))
         (OrMemoryWhere HasAttributeValue (GivesOuterFault sequence true)) (left cons.old) (left cons.new) result }
 {
-    let mut after = *cons;
-    let (_, value) = match take_identifier(&mut after) {
-        Ok(found) => found,
-        Err(e) => return Err(e),
-    };
-    match check_value(alloc, value) {
-        Ok(()) => {
-            *cons = after;
-            Ok(())
-        }
-        Err(e) => Err(e),
-    }
+    cons.in_sequence(
+        |contents|
+            ensures { ReadsAll (λ _. tt) (SpellsAny IsAttribute) (OrMemoryWhere IdentifiesValue AnyFault) (left contents.old) (left contents.new) result }
+        {
+            contents.take_oid()?;
+            match contents.skip_one(alloc)? {
+                Some(()) => Ok(()),
+                None => Err(DecodeError::Content(ContentError::from_static("invalid name"))),
+            }
+        },
+    )
 }
 
-/// Tests that these contents are attributes, one at least.
-fn check_attributes(alloc: Global, contents: Constructed<'_>) -> Result<(), DecodeError>
-    ensures { Decodes (λ _. tt) (SpellsAny (SpellsSome SpellsAttribute))
-        (OrMemoryWhere (HasAfter SpellsAttribute HasAttributeValue) AnyFault) (left contents.entry) result }
+/// Moves past the attributes that these contents are, one at least.
+fn skip_attributes(alloc: Global, contents: &mut Constructed<'_>) -> Result<(), DecodeError>
+    ensures { ReadsAll (λ _. tt) (SpellsAny (SpellsSome SpellsAttribute))
+        (OrMemoryWhere (HasAfter SpellsAttribute HasAttributeValue) AnyFault) (left contents.old) (left contents.new) result }
 {
     if contents.is_empty() {
         return Err(DecodeError::Content(ContentError::from_static(
             "empty relative distinguished name",
         )));
     }
-    let mut rest = contents;
-    'attributes: while !rest.is_empty() {
-        match skip_attribute(alloc, &mut rest) {
-            Ok(()) => {}
-            Err(e) => return Err(e),
-        }
+    'attributes: while !contents.is_empty() {
+        skip_attribute(alloc, contents)?;
     }
     Ok(())
 }
@@ -91,34 +64,19 @@ fn skip_relative(alloc: Global, cons: &mut Constructed<'_>) -> Result<(), Decode
     ensures { Reads (λ _. tt) (SpellsLeaf set true (SpellsAny (SpellsSome SpellsAttribute)))
         (OrMemoryWhere HasRelativeValue (GivesOuterFault set true)) (left cons.old) (left cons.new) result }
 {
-    let mut after = *cons;
-    let contents = match after.take_set() {
-        Ok(contents) => contents,
-        Err(e) => return Err(e),
-    };
-    match check_attributes(alloc, contents) {
-        Ok(()) => {
-            *cons = after;
-            Ok(())
-        }
-        Err(e) => Err(e),
-    }
+    cons.in_set(|contents| skip_attributes(alloc, contents))
 }
 
-/// Tests that these contents are relative distinguished names, one at least.
-fn check_relatives(alloc: Global, contents: Constructed<'_>) -> Result<(), DecodeError>
-    ensures { Decodes (λ _. tt) (SpellsAny (SpellsSome SpellsRelative))
-        (OrMemoryWhere (HasAfter SpellsRelative HasRelativeValue) AnyFault) (left contents.entry) result }
+/// Moves past the relative distinguished names that these contents are, one at least.
+fn skip_relatives(alloc: Global, contents: &mut Constructed<'_>) -> Result<(), DecodeError>
+    ensures { ReadsAll (λ _. tt) (SpellsAny (SpellsSome SpellsRelative))
+        (OrMemoryWhere (HasAfter SpellsRelative HasRelativeValue) AnyFault) (left contents.old) (left contents.new) result }
 {
     if contents.is_empty() {
         return Err(DecodeError::Content(ContentError::from_static("empty distinguished name")));
     }
-    let mut rest = contents;
-    'relatives: while !rest.is_empty() {
-        match skip_relative(alloc, &mut rest) {
-            Ok(()) => {}
-            Err(e) => return Err(e),
-        }
+    'relatives: while !contents.is_empty() {
+        skip_relative(alloc, contents)?;
     }
     Ok(())
 }
@@ -128,16 +86,5 @@ pub(super) fn skip_name(alloc: Global, cons: &mut Constructed<'_>) -> Result<(),
     ensures { Reads (λ _. tt) (SpellsLeaf sequence true (SpellsAny (SpellsSome SpellsRelative)))
         (OrMemoryWhere HasNameValue (GivesOuterFault sequence true)) (left cons.old) (left cons.new) result }
 {
-    let mut after = *cons;
-    let contents = match after.take_sequence() {
-        Ok(contents) => contents,
-        Err(e) => return Err(e),
-    };
-    match check_relatives(alloc, contents) {
-        Ok(()) => {
-            *cons = after;
-            Ok(())
-        }
-        Err(e) => Err(e),
-    }
+    cons.in_sequence(|contents| skip_relatives(alloc, contents))
 }

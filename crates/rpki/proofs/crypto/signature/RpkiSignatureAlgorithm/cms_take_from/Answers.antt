@@ -1,27 +1,29 @@
-use Rattle.std.proofs.Common.{refl, true}
-use Rattle.rpki_der.specs.Cursor.{left}
+use Rattle.std.proofs.Common.{rules, codes, Ok, Err, true}
+use Rattle.std.proofs.lemmas.Result.{err_from_is_err_and}
+use Rattle.rpki_der.specs.Reading.{AnyFault}
 use Rattle.rpki_der.specs.TagName.{sequence}
-use Rattle.rpki_der.proofs.ComposedLaws.{outer-refused-exactly, inner-refused-exactly, inner-accepted}
+use Rattle.rpki_der.proofs.InsideLaws.{read-inside-exactly}
+use Rattle.rpki_der.proofs.TriedLaws.{tried-refused}
 use Rattle.rpki.specs.SignatureNames.{IsCmsContents, IsCmsName}
-use Rattle.rpki.proofs.PartLaws.{no-sequence, names-unknown}
+use Rattle.rpki.proofs.PartLaws.{unknown-inside}
 use Rattle.rpki.proofs.crypto.signature.RpkiSignatureAlgorithm.cms_take_from.Goals as goal
 
-pub returns-in-Err-clause-reads : goal.returns-in-Err-clause-reads
-returns-in-Err-clause-reads c = outer-refused-exactly sequence true IsCmsContents _ _ _ c.in-Err.e refl c.in-Err.ensures
+pub returns-in_err-has_parameters-clause-reads : goal.returns-in_err-has_parameters-clause-reads
+returns-in_err-has_parameters-clause-reads c =
+    let e = c.in_err-has_parameters.field-0.0 in
+    tried-refused _ _ _ _ _ _ _ c.from_residual.ensures
+    (read-inside-exactly (λ b. b) sequence true IsCmsContents AnyFault _ (λ b a x h. search rules) _ _ (Err e) c.in_err-has_parameters.ensures)
 
-pub returns-in-Err-clause-unknown : goal.returns-in-Err-clause-unknown
-returns-in-Err-clause-unknown c = λ u. absurd (no-sequence IsCmsName _ _ c.in-Err.e c.in-Err.ensures u)
+pub returns-in_err-has_parameters-clause-unknown : goal.returns-in_err-has_parameters-clause-unknown
+returns-in_err-has_parameters-clause-unknown c =
+    let p = err_from_is_err_and c.from_residual.result c.from_residual.ensures.1 in
+    let e = c.in_err-has_parameters.field-0.0 in
+    rw (p.1, p.2) (unknown-inside IsCmsName (codes "invalid signature algorithm") _ (λ b a x h. search rules) _ _ (Err e) c.in_err-has_parameters.ensures)
 
-pub returns-in-Ok-take_cms_contents-clause-reads : goal.returns-in-Ok-take_cms_contents-clause-reads
-returns-in-Ok-take_cms_contents-clause-reads c =
-    inner-accepted sequence true IsCmsContents _ (left c.in-Ok.contents) _ _ c.in-Ok.ensures c.in-Ok-take_cms_contents.ensures.decodes
+pub returns-clause-reads : goal.returns-clause-reads
+returns-clause-reads c =
+    read-inside-exactly (λ b. b) sequence true IsCmsContents AnyFault _ (λ b a x h. search rules) _ _ (Ok c.in_ok-has_parameters.has_parameters) c.in_ok-has_parameters.ensures
 
-pub returns-in-Ok-take_cms_contents-clause-unknown : goal.returns-in-Ok-take_cms_contents-clause-unknown
-returns-in-Ok-take_cms_contents-clause-unknown c = λ u. c.in-Ok-take_cms_contents.ensures.unknown (names-unknown IsCmsName _ (left c.in-Ok.contents) _ c.in-Ok.ensures u)
-
-pub returns-in-Err-take_cms_contents-clause-reads : goal.returns-in-Err-take_cms_contents-clause-reads
-returns-in-Err-take_cms_contents-clause-reads c =
-    inner-refused-exactly sequence true IsCmsContents _ (left c.in-Ok.contents) _ _ c.in-Err-take_cms_contents.e refl c.in-Ok.ensures c.in-Err-take_cms_contents.ensures.decodes
-
-pub returns-in-Err-take_cms_contents-clause-unknown : goal.returns-in-Err-take_cms_contents-clause-unknown
-returns-in-Err-take_cms_contents-clause-unknown c = λ u. c.in-Err-take_cms_contents.ensures.unknown (names-unknown IsCmsName _ (left c.in-Ok.contents) _ c.in-Ok.ensures u)
+pub returns-clause-unknown : goal.returns-clause-unknown
+returns-clause-unknown c =
+    unknown-inside IsCmsName (codes "invalid signature algorithm") _ (λ b a x h. search rules) _ _ (Ok c.in_ok-has_parameters.has_parameters) c.in_ok-has_parameters.ensures

@@ -1,14 +1,15 @@
 use Rattle.std.proofs.Common.{refl}
+use Rattle.rpki_der.proofs.TriedLaws.{tried-refused}
 use Rattle.rpki.proofs.KeyIdentifierLaws.{not-octets, identifier-read, other-size}
 use Rattle.rpki.proofs.crypto.keys.key_identifier.KeyIdentifier.take_from.Goals as goal
 
+pub returns-in_err-octets : goal.returns-in_err-octets
+returns-in_err-octets c = tried-refused _ _ _ _ _ _ _ c.from_residual.ensures (not-octets _ _ _ c.in_err-octets.field-0.0 refl c.in_err-octets.ensures)
+
+pub returns-in-Ok : goal.returns-in-Ok
+returns-in-Ok c = identifier-read _ _ _ _ c.in_ok-octets.ensures c.in-Ok.ensures
+
 pub returns-in-Err : goal.returns-in-Err
-returns-in-Err c = not-octets _ _ _ c.in-Err.e refl c.in-Err.ensures
-
-pub returns-in-Ok-key_identifier_of : goal.returns-in-Ok-key_identifier_of
-returns-in-Ok-key_identifier_of c = identifier-read _ _ _ _ c.in-Ok.ensures c.in-Ok-key_identifier_of.ensures
-
-pub returns-in-Err-key_identifier_of : goal.returns-in-Err-key_identifier_of
-returns-in-Err-key_identifier_of c =
-    let h = c.in-Err-key_identifier_of.ensures in
-    other-size _ _ _ _ c.in-Err-key_identifier_of.e refl c.in-Ok.ensures h.0 h.1
+returns-in-Err c =
+    let h = c.in-Err.ensures in
+    other-size _ _ _ _ c.in-Err.e refl c.in_ok-octets.ensures h.0 h.1

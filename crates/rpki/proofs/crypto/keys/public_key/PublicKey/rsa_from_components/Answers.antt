@@ -10,10 +10,10 @@ use Rattle.rpki.proofs.crypto.keys.public_key.PublicKey.rsa_from_components.Goal
 
 pub from_values-requires : goal.from_values-requires
 from_values-requires c =
-    let m = c.in-Ok.modulus in
-    let n = c.in-Ok-from_slice.exponent in
-    let lm : length m ≤ length c.args.modulus.now = shorter m c.args.modulus.now c.in-Ok.ensures.magnitude (octets_fit c.args.modulus.now c.type_inv.modulus) c.in-Ok.ensures.some c.in-Ok.ensures.value in
-    let ln : length n ≤ length c.args.exponent.now = shorter n c.args.exponent.now c.in-Ok-from_slice.ensures.magnitude (octets_fit c.args.exponent.now c.type_inv.exponent) c.in-Ok-from_slice.ensures.some c.in-Ok-from_slice.ensures.value in
+    let m = c.in_ok-modulus.modulus in
+    let n = c.in_ok-exponent.exponent in
+    let lm : length m ≤ length c.args.modulus.now = shorter m c.args.modulus.now c.in_ok-modulus.ensures.magnitude (octets_fit c.args.modulus.now c.type_inv.modulus) c.in_ok-modulus.ensures.some c.in_ok-modulus.ensures.value in
+    let ln : length n ≤ length c.args.exponent.now = shorter n c.args.exponent.now c.in_ok-exponent.ensures.magnitude (octets_fit c.args.exponent.now c.type_inv.exponent) c.in_ok-exponent.ensures.some c.in_ok-exponent.ensures.value in
     let small : length m + length n ≤ 2 ^ 31 = omega (arith, c.requires) in
     let all : length (two_integers m n) < 2 ^ 32 = numbers-short m n small in
     rw c.new-numbers.ensures (
@@ -24,23 +24,23 @@ from_values-requires c =
       rw (c.encode.ensures.encoded, c.encode-2.ensures.encoded) (omega (arith, tlv_at_most sequence true (two_integers m n))),
     )
 
-pub returns-in-Ok-from_values-clause-bits : goal.returns-in-Ok-from_values-clause-bits
-returns-in-Ok-from_values-clause-bits c =
-    let m = c.in-Ok.modulus in
-    let n = c.in-Ok-from_slice.exponent in
-    let lm : length m ≤ length c.args.modulus.now = shorter m c.args.modulus.now c.in-Ok.ensures.magnitude (octets_fit c.args.modulus.now c.type_inv.modulus) c.in-Ok.ensures.some c.in-Ok.ensures.value in
-    let ln : length n ≤ length c.args.exponent.now = shorter n c.args.exponent.now c.in-Ok-from_slice.ensures.magnitude (octets_fit c.args.exponent.now c.type_inv.exponent) c.in-Ok-from_slice.ensures.some c.in-Ok-from_slice.ensures.value in
+pub returns-in-Ok-clause-bits : goal.returns-in-Ok-clause-bits
+returns-in-Ok-clause-bits c =
+    let m = c.in_ok-modulus.modulus in
+    let n = c.in_ok-exponent.exponent in
+    let lm : length m ≤ length c.args.modulus.now = shorter m c.args.modulus.now c.in_ok-modulus.ensures.magnitude (octets_fit c.args.modulus.now c.type_inv.modulus) c.in_ok-modulus.ensures.some c.in_ok-modulus.ensures.value in
+    let ln : length n ≤ length c.args.exponent.now = shorter n c.args.exponent.now c.in_ok-exponent.ensures.magnitude (octets_fit c.args.exponent.now c.type_inv.exponent) c.in_ok-exponent.ensures.some c.in_ok-exponent.ensures.value in
     let small : length m + length n ≤ 2 ^ 31 = omega (arith, c.requires) in
     let is : c.of_bits.result.bits.octets ≡ tlv sequence true (two_integers m n) =
-    ap (λ (k : KeyParts). k.bits.octets) c.of_bits.ensures ∙ c.into_bytes.ensures ∙ c.in-Ok-from_values.ensures ∙ (rw (c.new-numbers.ensures, c.encode.ensures.encoded, c.encode-2.ensures.encoded) refl) in
-    rsa-bits c.args.modulus.now c.args.exponent.now m n c.of_bits.result.bits.octets c.in-Ok.ensures.magnitude c.in-Ok-from_slice.ensures.magnitude small c.in-Ok.ensures.value c.in-Ok-from_slice.ensures.value is
+    ap (λ (k : KeyParts). k.bits.octets) c.of_bits.ensures ∙ c.into_bytes.ensures ∙ c.in-Ok.ensures ∙ (rw (c.new-numbers.ensures, c.encode.ensures.encoded, c.encode-2.ensures.encoded) refl) in
+    rsa-bits c.args.modulus.now c.args.exponent.now m n c.of_bits.result.bits.octets c.in_ok-modulus.ensures.magnitude c.in_ok-exponent.ensures.magnitude small c.in_ok-modulus.ensures.value c.in_ok-exponent.ensures.value is
 
-pub returns-in-Ok-from_values-clause-again : goal.returns-in-Ok-from_values-clause-again
-returns-in-Ok-from_values-clause-again c =
+pub returns-in-Ok-clause-again : goal.returns-in-Ok-clause-again
+returns-in-Ok-clause-again c =
     record {
       format = ap (λ (k : KeyParts). k.format) c.of_bits.ensures;
       bits = rw c.of_bits.ensures refl;
       numbers = some-numbers _ _ _ (bits-of c);
     } where
-      bits-of : goal.returns-in-Ok-from_values-clause-bits
-      bits-of = returns-in-Ok-from_values-clause-bits
+      bits-of : goal.returns-in-Ok-clause-bits
+      bits-of = returns-in-Ok-clause-bits

@@ -1,15 +1,19 @@
 use Rattle.rpki_der.specs.NestedFault.{IsCaptureFault}
+use Rattle.rpki_der.proofs.TriedLaws.{tried-refused}
 use Rattle.rpki.proofs.NameLaws.{name-refused, captured-name, name-captured, name-uncaptured}
 use Rattle.rpki.proofs.repository.x509.name.Name.take_from.Goals as goal
 
-pub returns-in-Err : goal.returns-in-Err
-returns-in-Err c = name-refused _ _ c.in-Err.e c.in-Err.ensures
+pub returns-in_err-skip_name : goal.returns-in_err-skip_name
+returns-in_err-skip_name c =
+    tried-refused _ _ _ _ _ _ _ c.from_residual.ensures (name-refused _ _ c.in_err-skip_name.field-0.0 c.in_err-skip_name.ensures)
+
+pub returns-in_err-captured : goal.returns-in_err-captured
+returns-in_err-captured c =
+    tried-refused _ _ _ _ _ _ _ c.from_residual-in_err-captured.ensures
+    (name-uncaptured IsCaptureFault _ _ _ c.in_err-captured.field-0.0 c.in_ok-skip_name.ensures c.in_err-captured.ensures.reads)
 
 pub invariant_of-result : goal.invariant_of-result
-invariant_of-result c = captured-name _ _ _ _ c.in-Ok.ensures c.in-Ok-capture_one.ensures.reads
+invariant_of-result c = captured-name _ _ _ _ c.in_ok-skip_name.ensures c.in_ok-captured.ensures.reads
 
-pub returns-in-Ok-capture_one : goal.returns-in-Ok-capture_one
-returns-in-Ok-capture_one c = name-captured _ _ _ _ c.in-Ok.ensures c.in-Ok-capture_one.ensures.reads
-
-pub returns-in-Err-capture_one : goal.returns-in-Err-capture_one
-returns-in-Err-capture_one c = name-uncaptured IsCaptureFault _ _ _ c.in-Err-capture_one.e c.in-Ok.ensures c.in-Err-capture_one.ensures.reads
+pub returns : goal.returns
+returns c = name-captured _ _ _ _ c.in_ok-skip_name.ensures c.in_ok-captured.ensures.reads

@@ -1,28 +1,36 @@
 use Rattle.rpki_der.specs.NestedFault.{IsCaptureFault}
 use Rattle.rpki_der.specs.Reading.{AnyFault, Finds}
 use Rattle.rpki_der.specs.Walk.{HasEither}
+use Rattle.rpki_der.proofs.InsideLaws.{no-memory, part-memory}
+use Rattle.rpki_der.proofs.TriedLaws.{tried-refused}
 use Rattle.rpki.specs.SignedData.{SpellsSignature}
-use Rattle.rpki.proofs.MemoryLaws.{no-memory, part-memory, has-either}
+use Rattle.rpki.proofs.MemoryLaws.{has-either}
 use Rattle.rpki.proofs.Signing.{part-refused, no-value, no-algorithm, no-signature, contents-accepted}
 use Rattle.rpki.proofs.repository.x509.signed_data.SignedData.from_constructed.Goals as goal
 
-pub returns-in-Err : goal.returns-in-Err
-returns-in-Err g c =
-    part-refused g.Alg.SignatureAlgorithm.spells _ _ _ _ _ _ (no-value g.Alg.SignatureAlgorithm.spells _)
-    (part-memory HasEither HasEither IsCaptureFault AnyFault _ _ c.in-Err.e (λ h. h) c.in-Err.ensures.reads.kind tt) c.in-Err.ensures.reads
+pub returns-in_err-signed : goal.returns-in_err-signed
+returns-in_err-signed g c =
+    let h = c.in_err-signed.ensures.reads in
+    tried-refused _ _ _ _ _ _ _ c.from_residual.ensures
+    (part-refused g.Alg.SignatureAlgorithm.spells _ _ _ _ _ _ (no-value g.Alg.SignatureAlgorithm.spells _)
+    (part-memory HasEither HasEither IsCaptureFault AnyFault _ _ c.in_err-signed.field-0.0 (λ h. h) h.kind tt) h)
 
-pub returns-in-Err-x509_take_from : goal.returns-in-Err-x509_take_from
-returns-in-Err-x509_take_from g c =
-    part-refused g.Alg.SignatureAlgorithm.spells _ _ _ _ _ _ (no-algorithm g.Alg.SignatureAlgorithm.spells _ _ _ c.in-Ok.ensures.reads)
-    (no-memory HasEither AnyFault _ c.in-Err-x509_take_from.e c.in-Err-x509_take_from.ensures.kind.other tt) c.in-Err-x509_take_from.ensures
+pub returns-in_err-algorithm : goal.returns-in_err-algorithm
+returns-in_err-algorithm g c =
+    let h = c.in_err-algorithm.ensures in
+    tried-refused _ _ _ _ _ _ _ c.from_residual-in_err-algorithm.ensures
+    (part-refused g.Alg.SignatureAlgorithm.spells _ _ _ _ _ _ (no-algorithm g.Alg.SignatureAlgorithm.spells _ _ _ c.in_ok-signed.ensures.reads)
+    (no-memory HasEither AnyFault _ c.in_err-algorithm.field-0.0 h.kind.other tt) h)
 
-pub returns-in-Err-signature_value : goal.returns-in-Err-signature_value
-returns-in-Err-signature_value g c =
-    part-refused g.Alg.SignatureAlgorithm.spells _ _ _ _ _ _ (no-signature g.Alg.SignatureAlgorithm.spells _ _ _ _ _ c.in-Ok.ensures.reads c.in-Ok-x509_take_from.ensures)
-    (part-memory (Finds SpellsSignature) HasEither AnyFault AnyFault _ _ c.in-Err-signature_value.e (λ h. has-either _ _ _ c.in-Ok.ensures.reads) c.in-Err-signature_value.ensures.kind tt)
-    c.in-Err-signature_value.ensures
+pub returns-in_err-value : goal.returns-in_err-value
+returns-in_err-value g c =
+    let h = c.in_err-value.ensures in
+    let signed = c.in_ok-signed.ensures.reads in
+    tried-refused _ _ _ _ _ _ _ c.from_residual-in_err-value.ensures
+    (part-refused g.Alg.SignatureAlgorithm.spells _ _ _ _ _ _ (no-signature g.Alg.SignatureAlgorithm.spells _ _ _ _ _ signed c.in_ok-algorithm.ensures)
+    (part-memory (Finds SpellsSignature) HasEither AnyFault AnyFault _ _ c.in_err-value.field-0.0 (λ k. has-either _ _ _ signed) h.kind tt) h)
 
 pub returns : goal.returns
 returns g c =
     rw (c.new-2.ensures, c.new.ensures)
-    (contents-accepted g.Alg.SignatureAlgorithm.spells _ _ _ _ _ _ _ c.in-Ok.ensures.reads c.in-Ok-x509_take_from.ensures c.in-Ok-signature_value.ensures)
+    (contents-accepted g.Alg.SignatureAlgorithm.spells _ _ _ _ _ _ _ c.in_ok-signed.ensures.reads c.in_ok-algorithm.ensures c.in_ok-value.ensures)

@@ -3,10 +3,10 @@ use Rattle.rpki_der.specs.Cursor.{left}
 use Rattle.rpki_der.specs.TagName.{set}
 use Rattle.rpki.specs.Name.{SpellsSome, SpellsAttribute}
 use Rattle.rpki.proofs.NameLaws.{Remains}
-use Rattle.rpki.proofs.repository.x509.name.grammar.check_relatives.Given as goal
+use Rattle.rpki.proofs.repository.x509.name.grammar.skip_relatives.Given as goal
 
 abbrev pub invariant-relatives : goal.invariant-relatives
-invariant-relatives l = Remains set true (SpellsSome SpellsAttribute) (left l.fn.contents) (left l.rest)
+invariant-relatives l = Remains set true (SpellsSome SpellsAttribute) (left l.fn.contents) (left l.contents)
 
 abbrev pub decreases-relatives : goal.decreases-relatives
-decreases-relatives l = length (left l.rest)
+decreases-relatives l = length (left l.contents)

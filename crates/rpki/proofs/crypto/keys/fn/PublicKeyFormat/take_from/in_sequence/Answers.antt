@@ -1,0 +1,91 @@
+use Rattle.std.proofs.Common.{false, inl, inr}
+use Rattle.rpki_der.specs.Cursor.{left}
+use Rattle.rpki_der.specs.TagName.{oid}
+use Rattle.rpki_der.specs.Values.{SpellsLeaf}
+use Rattle.rpki_der.specs.Leaves.{IsOidOf, IsOnly}
+use Rattle.rpki_der.proofs.ComposedLaws.{all-read, nothing-whole, nothing-after}
+use Rattle.rpki_der.proofs.LeavesLaws.{leaf-no-memory}
+use Rattle.rpki_der.proofs.TriedLaws.{tried-exactly}
+use Rattle.rpki.specs.Oids.{secp256r1}
+use Rattle.rpki.specs.KeyFormat.{IsFormatName, IsFormatContents}
+use Rattle.rpki.proofs.FormatLaws.{no-format, other-format, rsa-read, rsa-not-read, ec-read, ec-not-read}
+use Rattle.rpki.proofs.PartLaws.{none-unknown, known-named}
+use Rattle.rpki.proofs.crypto.keys.fn.PublicKeyFormat.take_from.in_sequence.Goals as goal
+
+pub returns-in_err-identifier : goal.returns-in_err-identifier
+returns-in_err-identifier c =
+    let s = left c.args.contents.now in
+    let e = c.in_err-identifier.field-0.0 in
+    let h = c.in_err-identifier.ensures in
+    record {
+      reads = tried-exactly (λ f. f) IsFormatContents s _ e _ c.from_residual.ensures (no-format s) h.refuses (leaf-no-memory oid false IsOidOf s e h.kind);
+      unknown = λ u. absurd (none-unknown IsFormatName s _ e h u);
+    }
+
+-- ---- RSA
+
+pub returns-in_err-take_parameters : goal.returns-in_err-take_parameters
+returns-in_err-take_parameters c =
+    let s = left c.args.contents.now in
+    let a = c.in_ok-identifier.ensures in
+    let is = c.is_named.ensures.0 c.if-is_named.true in
+    let h = c.in_err-take_parameters.ensures in
+    record {
+      reads = tried-exactly (λ f. f) IsFormatContents s _ c.in_err-take_parameters.field-0.0 _ c.from_residual-in_err-take_parameters.ensures (rsa-not-read s _ _ a is) h.0 h.1.other;
+      unknown = λ u. absurd (known-named IsFormatName s _ _ a (inl is) u);
+    }
+
+pub returns-in_ok-take_parameters : goal.returns-in_ok-take_parameters
+returns-in_ok-take_parameters c =
+    let s = left c.args.contents.now in
+    let a = c.in_ok-identifier.ensures in
+    let is = c.is_named.ensures.0 c.if-is_named.true in
+    let h = c.in_ok-take_parameters.ensures in
+    record {
+      reads = (λ end. rsa-read s _ _ _ a is (h.0 end), λ some. rsa-not-read s _ _ a is (h.1 some));
+      unknown = λ u. known-named IsFormatName s _ _ a (inl is) u;
+    }
+
+-- ---- ECDSA
+
+pub returns-in_err-skip_oid_if : goal.returns-in_err-skip_oid_if
+returns-in_err-skip_oid_if c =
+    let s = left c.args.contents.now in
+    let m = left c.take_oid.new.self in
+    let e = c.in_err-skip_oid_if.field-0.0 in
+    let a = c.in_ok-identifier.ensures in
+    let is = c.is_named-else-is_named.ensures.0 c.if-is_named-2.true in
+    let h = c.in_err-skip_oid_if.ensures in
+    record {
+      reads = tried-exactly (λ f. f) IsFormatContents s _ e _ c.from_residual-in_err-skip_oid_if.ensures
+          (λ none. ec-not-read s _ m a is (nothing-whole (SpellsLeaf oid false (IsOnly secp256r1)) m none)) h.refuses (leaf-no-memory oid false (IsOnly secp256r1) m e h.kind);
+      unknown = λ u. absurd (known-named IsFormatName s _ _ a (inr is) u);
+    }
+
+pub returns-in_ok-skip_oid_if : goal.returns-in_ok-skip_oid_if
+returns-in_ok-skip_oid_if c =
+    let s = left c.args.contents.now in
+    let a = c.in_ok-identifier.ensures in
+    let is = c.is_named-else-is_named.ensures.0 c.if-is_named-2.true in
+    let h = c.in_ok-skip_oid_if.ensures in
+    record {
+      reads = (
+        λ end. ec-read s _ _ a is (all-read (SpellsLeaf oid false (IsOnly secp256r1)) _ _ _ h end),
+        λ some. ec-not-read s _ _ a is (nothing-after (SpellsLeaf oid false (IsOnly secp256r1)) _ _ _ h some),
+      );
+      unknown = λ u. known-named IsFormatName s _ _ a (inr is) u;
+    }
+
+-- ---- another identifier
+
+pub returns-else-is_named-2 : goal.returns-else-is_named-2
+returns-else-is_named-2 c =
+    record {
+      reads = (
+        other-format (left c.args.contents.now) _ _ c.in_ok-identifier.ensures
+            (λ e. let h = c.is_named.ensures.1 e in let k = c.if-is_named.false in cc)
+            (λ e. let h = c.is_named-else-is_named.ensures.1 e in let k = c.if-is_named-2.false in cc),
+        record { other = λ z. cc; kind = tt },
+      );
+      unknown = λ u. c.from_static.ensures;
+    }

@@ -1,0 +1,38 @@
+use Rattle.std.proofs.Common.{refl, true}
+use Rattle.rpki_der.specs.Cursor.{left}
+use Rattle.rpki_der.specs.TagName.{sequence}
+use Rattle.rpki_der.specs.Reading.{AnyFault, OrMemoryWhere}
+use Rattle.rpki_der.specs.Values.{GivesOuterFault}
+use Rattle.rpki_der.proofs.ReadingLaws.{UnlessMemory-weaker}
+use Rattle.rpki_der.proofs.InsideLaws.{part-memory}
+use Rattle.rpki_der.proofs.TriedLaws.{tried-inside}
+use Rattle.rpki.specs.Name.{IsAttribute, SpellsAttribute, SpellsSome, SpellsAny}
+use Rattle.rpki.specs.NameValue.{HasAfter, HasAttributeValue}
+use Rattle.rpki.proofs.NameLaws.{nothing-spelled, remains-then, remains-refused, remains-after, remains-nothing, at-end, not-at-end}
+use Rattle.rpki.proofs.repository.x509.name.grammar.skip_attributes.Goals as goal
+
+pub returns-then-is_empty : goal.returns-then-is_empty
+returns-then-is_empty c = (nothing-spelled sequence true IsAttribute (left c.args.contents.now) (at-end _ _ c.if-is_empty.true c.is_empty.ensures), tt)
+
+pub attributes-preserved : goal.attributes-preserved
+attributes-preserved c =
+    remains-then sequence true IsAttribute _ (left c.attributes.contents) _ (not-at-end _ _ c.attributes-test.true c.is_empty-in-attributes.ensures) c.attributes.invariant c.in_ok-skip_attribute.ensures
+
+pub returns-in_err-skip_attribute : goal.returns-in_err-skip_attribute
+returns-in_err-skip_attribute c =
+    let P = HasAfter SpellsAttribute HasAttributeValue in
+    let s = left c.args.contents.now in
+    let m = left c.attributes.contents in
+    let e = c.in_err-skip_attribute.field-0.0 in
+    let h = c.in_err-skip_attribute.ensures in
+    tried-inside (λ u. tt) (SpellsAny (SpellsSome SpellsAttribute)) (OrMemoryWhere P AnyFault) s _ e _ c.from_residual.ensures (
+      UnlessMemory-weaker e (remains-refused sequence true IsAttribute s m (not-at-end _ _ c.attributes-test.true c.is_empty-in-attributes.ensures) c.attributes.invariant) h.refuses,
+      part-memory HasAttributeValue P (GivesOuterFault sequence true) AnyFault m s e (remains-after sequence true IsAttribute HasAttributeValue s m c.attributes.invariant) h.kind tt,
+    )
+
+pub returns : goal.returns
+returns c =
+    let end = at-end _ _ c.attributes-test.false c.is_empty-in-attributes.ensures in (
+      λ z. (remains-nothing sequence true IsAttribute _ _ (not-at-end _ _ c.if-is_empty.false c.is_empty.ensures) z c.attributes.invariant, λ w k. refl),
+      λ some. absurd (some end),
+    )
