@@ -15,3 +15,5 @@ pub mod MemoryLaws
 pub mod NameLaws
 pub mod InspectionLaws
 pub mod NameOne
+pub mod ExtensionLaws
+pub mod ExtensionIndex

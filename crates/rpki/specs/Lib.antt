@@ -17,6 +17,8 @@ pub mod AlgorithmOctets
 pub mod SignedData
 pub mod SignedEqual
 pub mod Extension
+pub mod ExtensionValue
+pub mod ExtensionEqual
 pub mod Name
 pub mod NameValue
 pub mod StrictName

@@ -10,6 +10,7 @@ ghost use Rattle.rpki_der.specs.declared.error.DecodeError.{DecodeError};
 ghost use Rattle.rpki.specs.SignedData.{SignedParts, SpellsSigned, DifferInCount};
 ghost use Rattle.rpki.specs.KeyIdentifier.{SpellsKeyIdentifier};
 ghost use Rattle.rpki.specs.PublicKey.{KeyParts};
+ghost use Rattle.rpki.specs.ExtensionValue.{ExtensionParts, SpellsExtension};
 ghost use Rattle.rpki.specs.Signature.{SignatureParts};
 ghost use Rattle.rpki.specs.ErrorContent.{content_of, verification_content, HaveSameContent};
 ghost use Rattle.rpki.specs.declared.crypto.SigningAlgorithm.{SigningAlgorithm};
@@ -27,7 +28,7 @@ use crate::crypto::{
     SigningAlgorithm,
 };
 use crate::repository::error::{InspectionError, ValidationError, VerificationError};
-use crate::repository::x509::{Name, SignedData};
+use crate::repository::x509::{CertExtension, Name, SignedData};
 use rpki_der::DecodeError;
 use std::hash::Hash;
 
@@ -94,6 +95,13 @@ pub fn equal_signatures_have_equal_parts<Alg: PartialEq>()
 /// Names are equal where their octets are.
 pub fn equal_names_have_equal_octets()
     ensures { (m n : List ℕ) → IsTrue (⟦<Name as PartialEq>⟧.eq m n) ↔ (m ≡ n) }
+{}
+
+/// Extensions are equal where their identifiers and their octets are, and both are critical or neither is; and octets are
+/// an extension in one way alone.
+pub fn equal_extensions_have_equal_parts()
+    ensures equal { (v w : ExtensionParts) → IsTrue (⟦<CertExtension as PartialEq>⟧.eq v w) ↔ (v ≡ w) }
+    ensures one_reading { (v w : ExtensionParts) (octets : List ℕ) → SpellsExtension v octets → SpellsExtension w octets → v ≡ w }
 {}
 
 /// Algorithms and formats are equal to themselves alone. Of the RPKI's algorithm it counts whether parameters were

@@ -6,9 +6,12 @@ use Rattle.rpki_der.specs.TagName.{TagName}
 use Rattle.rpki_der.specs.Header.{IsHeader, header_octets}
 use Rattle.rpki_der.specs.HeaderReading.{header_at}
 use Rattle.rpki_der.specs.declared.tag.Header.{Header}
-use Rattle.rpki_der.specs.Values.{SpellsContents}
+use Rattle.rpki_der.specs.Reading.{Spells}
+use Rattle.rpki_der.specs.Values.{SpellsContents, HasTag}
 use Rattle.rpki_der.specs.Front.{front_contents, after_front}
 use Rattle.rpki_der.proofs.HeaderLaws.{header-again}
+use Rattle.rpki_der.proofs.HeaderReads.{identifier-from, tag-is}
+use Rattle.rpki_der.proofs.LeavesLaws.{leaf-tag}
 
 header_found : (t : TagName) (f : Bool) (c p r : List ℕ) → SpellsContents t f c p → (h : Header) × (h.length ≡ length c) × (header_at (p ++ r) ≡ Ok (h, c ++ r))
 header_found t f c p r s =
@@ -32,3 +35,13 @@ contents_alone t f c p s = ap front_contents (sym (append-nil p)) ∙ front_cont
 
 pub nothing_after : (t : TagName) (f : Bool) (c p : List ℕ) → SpellsContents t f c p → after_front p ≡ []
 nothing_after t f c p s = ap after_front (sym (append-nil p)) ∙ after_front_of t f c p [] s
+
+-- a list begins with one tag
+pub one_tag : (s : List ℕ) (t u : TagName) → HasTag t s → HasTag u s → t ≡ u
+one_tag s t u (f, r, h) other = tag-is s u t f r (identifier-from s (t, f) r h) other
+
+-- a value begins with its tag
+pub contents_tag : (t : TagName) (f : Bool) (s c r : List ℕ) → Spells (SpellsContents t f) s c r → HasTag t s
+contents_tag t f s c r h =
+    leaf-tag t f (λ (v : List ℕ) (w : List ℕ). w ≡ v) s c r
+    (record { front = h.front; parts = h.parts; spelled = record { contents = c; value = h.spelled; spelled = refl } })

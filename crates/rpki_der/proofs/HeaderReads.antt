@@ -36,7 +36,7 @@ header-accepts s h r bytes e = record {
 pub header-refuses : (s : List ℕ) (e : DecodeError) → header_at s ≡ Err e → Refuses SpellsHeader s
 header-refuses s e failed h r f = let g = read-from s h r f in absurd cc
 
-identifier-from : (s : List ℕ) (i : TagName × Bool) (r : List ℕ) → Spells SpellsIdentifier s i r → identifier_at s ≡ Ok (i, r)
+pub identifier-from : (s : List ℕ) (i : TagName × Bool) (r : List ℕ) → Spells SpellsIdentifier s i r → identifier_at s ≡ Ok (i, r)
 identifier-from s i r f = rw (f.parts, f.spelled.octets) (identifier-again i.0 i.1 r f.spelled.legal)
 
 -- a spelling that is all of a list

@@ -1,11 +1,13 @@
 //! Parts of certificates and of other signed objects (RFC 5280, RFC 6487).
 
+mod cert_extension;
 mod extension;
 mod name;
 mod signed_data;
 mod subject_name;
 mod update;
 
+pub use cert_extension::{CertExtension, ExtensionBytes};
 pub use extension::{Extension, encode_extension};
 pub use name::Name;
 pub use rpki_time::{
@@ -16,6 +18,8 @@ pub use signed_data::{SignatureValueContent, SignedData};
 pub use subject_name::SubjectName;
 pub use update::update_first;
 
+#[cfg(test)]
+mod cert_extension_tests;
 #[cfg(test)]
 mod extension_tests;
 #[cfg(test)]

@@ -2,6 +2,7 @@
 
 ghost use Rattle.std.specs.Prelude.{◌≡◌, ◌<◌, ◌^◌, ◌↔◌, length};
 ghost use Rattle.rpki.specs.Extension.{extension_contents, extension_octets};
+ghost use Rattle.rpki.specs.ExtensionValue.{extension_parts, SpellsExtension, CanBeWritten};
 
 use rpki_der::{ConstOid, Primitive, PrimitiveContent, Sequence, Values, Wrapped};
 
@@ -15,6 +16,10 @@ pub fn encode_extension<V: Values>(oid: ConstOid, critical: bool, content: V) ->
     // It fits exactly where the content does and the contents have fewer than 2^32 octets.
     ensures short { ⟦<Extension<V> as Values>⟧.is_short result
         ↔ (V.is_short content × (length (extension_contents oid.entry.0.now critical (V.encoded content)) < 2 ^ 32)) }
+    // Where it fits, what is written of a valid identifier is read as the extension of these parts.
+    ensures read_back { CanBeWritten (extension_parts oid.entry.0.now critical (V.encoded content))
+        → SpellsExtension (extension_parts oid.entry.0.now critical (V.encoded content))
+        (extension_octets oid.entry.0.now critical (V.encoded content)) }
 {
     let critical = if critical { Some(true.encode()) } else { None };
     Sequence::new((oid.encode(), critical, Wrapped::new(content)))

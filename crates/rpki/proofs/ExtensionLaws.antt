@@ -1,0 +1,267 @@
+-- Extensions: what their grammar has, one value at most, and what is written of them.
+use Rattle.std.proofs.Common.{◌≡◌, ◌↔◌, ℕ, ◌+◌, ◌<◌, ◌≤◌, ◌^◌, Bool, true, false, Option, Some, None, Ok, List, [], ◌∷◌, ◌++◌, length, inl, inr, refl, sym, ap, subst, ◌∙◌, arith, lit<, append_assoc, append-nil, length-append}
+use Rattle.std.specs.Prelude.{nat_eq, bytes_eq, unwrap_or}
+use Rattle.std.proofs.lemmas.Bool.{false_from_ne_true, eqb-true}
+use Rattle.rpki_der.specs.declared.error.DecodeError.{DecodeError}
+use Rattle.rpki_der.specs.TagName.{TagName, oid, boolean, octet_string, sequence}
+use Rattle.rpki_der.specs.Header.{tlv}
+use Rattle.rpki_der.specs.Reading.{Spells, Accepts, Refuses, Refusal, SpellsNothing, ReadsWhere, OrMemoryWhere, Finds}
+use Rattle.rpki_der.specs.Values.{SpellsContents, SpellsLeaf, HasTag, IsLeafFault, GivesOuterFault, IsOuterFault}
+use Rattle.rpki_der.specs.Leaves.{IsOid, IsOidOf, IsBoolean, boolean_contents}
+use Rattle.rpki_der.specs.Front.{front_contents, after_front}
+use Rattle.rpki_der.specs.Members.{IsValue, IsValueList, SpellsValue}
+use Rattle.rpki_der.specs.Walk.{HasEither}
+use Rattle.rpki_der.specs.Joined.{primitive_value_list, value_lists_append, no_value_list}
+use Rattle.rpki_der.proofs.ReadingLaws.{UnlessMemory-weaker}
+use Rattle.rpki_der.proofs.EncodeLaws.{tlv_at_least, tlv_at_most}
+use Rattle.rpki_der.proofs.LeafValues.{composed_value_alone}
+use Rattle.rpki_der.proofs.LeavesLaws.{leaf-tag, leaf-value}
+use Rattle.rpki_der.proofs.ComposedLaws.{all-read}
+use Rattle.rpki_der.proofs.FrontLaws.{front_contents_of, after_front_of, contents_alone, nothing_after, one_tag, contents_tag}
+use Rattle.rpki.specs.Extension.{critical_octets, extension_contents}
+use Rattle.rpki.specs.ExtensionValue.{ExtensionParts, extension_parts, SpellsCritical, IsExtensionContents, SpellsExtension, written_extension, CanBeWritten, parts_in, parts_of_extension}
+use Rattle.rpki.proofs.MemoryLaws.{no-memory, part-memory}
+
+-- ---- one value
+
+-- a BOOLEAN has the contents FF where it is true
+is-true : (b : Bool) → bytes_eq (boolean_contents b) (255 ∷ []) ≡ b
+is-true true = refl
+is-true false = refl
+
+some-length : (xs : List ℕ) → 2 ≤ length xs → nat_eq (length xs) 0 ≡ false
+some-length xs h = false_from_ne_true (nat_eq (length xs) 0) (λ e. let z = eqb-true (length xs) 0 e in absurd (omega arith))
+
+parts-are : (x : ExtensionParts) (c : List ℕ) → IsExtensionContents x c → parts_in c ≡ x
+unfolding parts_in
+parts-are x c h = go h.critical
+  where
+    first : (r : List ℕ) → c ≡ h.first ++ r → (front_contents c ≡ x.identifier) × (after_front c ≡ r)
+    first r e = (
+      ap front_contents e ∙ front_contents_of oid false h.identifier.contents h.first r h.identifier.value ∙ h.identifier.spelled.0,
+      ap after_front e ∙ after_front_of oid false h.identifier.contents h.first r h.identifier.value,
+    )
+
+    go : SpellsCritical x.critical h.second → parts_in c ≡ x
+    go (inr (absent, nothing)) =
+        let e : c ≡ h.first ++ h.third = h.parts ∙ ap (λ (y : List ℕ). h.first ++ (y ++ h.third)) nothing in
+        let f = first h.third e in
+        let end = nothing_after octet_string false x.content h.third h.content in
+        let last = contents_alone octet_string false x.content h.third h.content in
+        rw (f.1, f.0, end, last, ← absent) refl
+    go (inl b) =
+        let f = first (h.second ++ h.third) h.parts in
+        let behind = after_front_of boolean false b.contents h.second h.third b.value in
+        let flag = front_contents_of boolean false b.contents h.second h.third b.value ∙ b.spelled in
+        let last = contents_alone octet_string false x.content h.third h.content in
+        let size : 2 ≤ length h.third = omega (arith, tlv_at_least octet_string false x.content, ap length h.content.octets) in
+        rw (f.1, f.0, behind, some-length h.third size, flag, last, is-true x.critical) refl
+
+-- octets that are an extension stand for its parts
+pub extension-is : (x : ExtensionParts) (p : List ℕ) → SpellsExtension x p → parts_of_extension p ≡ x
+unfolding parts_of_extension
+extension-is x p h = ap parts_in (contents_alone sequence true h.contents p h.value) ∙ parts-are x h.contents h.spelled
+
+pub one-extension : (x y : ExtensionParts) (p : List ℕ) → SpellsExtension x p → SpellsExtension y p → x ≡ y
+one-extension x y p h k = sym (extension-is x p h) ∙ extension-is y p k
+
+pub one-contents : (x y : ExtensionParts) (c : List ℕ) → IsExtensionContents x c → IsExtensionContents y c → y ≡ x
+one-contents x y c h k = sym (parts-are y c k) ∙ parts-are x c h
+
+-- ---- reading the parts
+
+abbrev Identifier : List ℕ → List ℕ → Type 0
+Identifier = SpellsLeaf oid false IsOidOf
+
+abbrev Flag : Bool → List ℕ → Type 0
+Flag = SpellsLeaf boolean false IsBoolean
+
+abbrev Octets : List ℕ → List ℕ → Type 0
+Octets = SpellsContents octet_string false
+
+-- what the reader of an optional BOOLEAN answered
+abbrev pub AnswersFlag : List ℕ → List ℕ → Option Bool → Type 0
+AnswersFlag m r p = ReadsWhere (HasTag boolean) (λ (b : Bool). b) Flag (IsLeafFault boolean false IsBoolean) m r (Ok p)
+
+first-part : (x : ExtensionParts) (c : List ℕ) (h : IsExtensionContents x c) → Spells Identifier c x.identifier (h.second ++ h.third)
+first-part x c h = record { front = h.first; parts = h.parts; spelled = h.identifier }
+
+pub no-identifier : (c : List ℕ) → Refuses Identifier c → SpellsNothing IsExtensionContents c
+no-identifier c none x h = none x.identifier (h.second ++ h.third) (first-part x c h)
+
+-- behind the identifier stand the others
+others : (x : ExtensionParts) (c i m : List ℕ) → Accepts Identifier c i m → (h : IsExtensionContents x c) → h.second ++ h.third ≡ m
+others x c i m a h = (a.only x.identifier (h.second ++ h.third) (first-part x c h)).1
+
+-- an OCTET STRING is no BOOLEAN
+no-flag : (m third content : List ℕ) → m ≡ third → Octets content third → HasTag boolean m → ⊥
+no-flag m third content e o has =
+    let found = contents_tag octet_string false m content [] (record { front = third; parts = e ∙ sym (append-nil third); spelled = o }) in
+    let same = ap (λ (t : TagName). t.number) (one_tag m boolean octet_string has found) in
+    absurd (omega arith)
+
+pub bad-flag : (c i m : List ℕ) → Accepts Identifier c i m → HasTag boolean m → Refuses Flag m → SpellsNothing IsExtensionContents c
+bad-flag c i m a has none x h = go h.critical
+  where
+    go : SpellsCritical x.critical h.second → ⊥
+    go (inl b) = none x.critical h.third (record { front = h.second; parts = sym (others x c i m a h); spelled = b })
+    go (inr (absent, nothing)) = no-flag m h.third x.content (sym (others x c i m a h) ∙ ap (λ (y : List ℕ). y ++ h.third) nothing) h.content has
+
+-- what is left behind the BOOLEAN, if there is one, is the OCTET STRING
+left-octets : (x : ExtensionParts) (c i m r : List ℕ) (p : Option Bool) → Accepts Identifier c i m → AnswersFlag m r p → (h : IsExtensionContents x c) → h.third ≡ r
+left-octets x c i m r None a (none, same) h = go h.critical
+  where
+    go : SpellsCritical x.critical h.second → h.third ≡ r
+    go (inl b) = absurd (none (leaf-tag boolean false IsBoolean m x.critical h.third (record { front = h.second; parts = sym (others x c i m a h); spelled = b })))
+    go (inr (absent, nothing)) = ap (λ (y : List ℕ). y ++ h.third) (sym nothing) ∙ others x c i m a h ∙ sym same
+left-octets x c i m r (Some b) a (has, n) h = go h.critical
+  where
+    go : SpellsCritical x.critical h.second → h.third ≡ r
+    go (inl k) = (n.only x.critical h.third (record { front = h.second; parts = sym (others x c i m a h); spelled = k })).1
+    go (inr (absent, nothing)) = absurd (no-flag m h.third x.content (sym (others x c i m a h) ∙ ap (λ (y : List ℕ). y ++ h.third) nothing) h.content has)
+
+pub no-octets : (c i m r : List ℕ) (p : Option Bool) → Accepts Identifier c i m → AnswersFlag m r p → Refuses Octets r → SpellsNothing IsExtensionContents c
+no-octets c i m r p a f none x h =
+    none x.content [] (record { front = h.third; parts = sym (left-octets x c i m r p a f h) ∙ sym (append-nil h.third); spelled = h.content })
+
+pub more-behind : (c i m r o q : List ℕ) (p : Option Bool) → Accepts Identifier c i m → AnswersFlag m r p → Accepts Octets r o q → (q ≡ [] → ⊥) → SpellsNothing IsExtensionContents c
+more-behind c i m r o q p a f g some x h =
+    some (sym (g.only x.content [] (record { front = h.third; parts = sym (left-octets x c i m r p a f h) ∙ sym (append-nil h.third); spelled = h.content })).1)
+
+pub parts-read : (c i m r o q : List ℕ) (p : Option Bool) → Accepts Identifier c i m → AnswersFlag m r p → Accepts Octets r o q → q ≡ [] → IsExtensionContents (extension_parts i (unwrap_or p false) o) c
+parts-read c i m r o q None a (none, same) g end = record {
+  first = a.spells.front;
+  second = [];
+  third = r;
+  parts = a.spells.parts ∙ ap (λ (y : List ℕ). a.spells.front ++ y) (sym same);
+  identifier = a.spells.spelled;
+  critical = inr (refl, refl);
+  content = (all-read Octets r o q g end).0;
+}
+parts-read c i m r o q (Some b) a (has, n) g end = record {
+  first = a.spells.front;
+  second = n.spells.front;
+  third = r;
+  parts = a.spells.parts ∙ ap (λ (y : List ℕ). a.spells.front ++ y) n.spells.parts;
+  identifier = a.spells.spelled;
+  critical = inl n.spells.spelled;
+  content = (all-read Octets r o q g end).0;
+}
+
+-- ---- an extension is one value
+
+flag-values : (b : Bool) (p : List ℕ) → SpellsCritical b p → IsValueList p
+flag-values b p (inl h) = subst IsValueList (sym h.value.octets) (primitive_value_list boolean h.contents h.value.tag h.value.fits)
+flag-values b p (inr (absent, nothing)) = subst IsValueList (sym nothing) no_value_list
+
+contents-values : (x : ExtensionParts) (c : List ℕ) → IsExtensionContents x c → IsValueList c
+contents-values x c h =
+    let one = subst IsValueList (sym h.identifier.value.octets) (primitive_value_list oid h.identifier.contents h.identifier.value.tag h.identifier.value.fits) in
+    let last = subst IsValueList (sym h.content.octets) (primitive_value_list octet_string x.content h.content.tag h.content.fits) in
+    subst IsValueList (sym h.parts)
+    (value_lists_append h.first (h.second ++ h.third) one (value_lists_append h.second h.third (flag-values x.critical h.second h.critical) last))
+
+pub extension-value : (x : ExtensionParts) (p : List ℕ) → SpellsExtension x p → IsValue p
+extension-value x p h = composed_value_alone sequence IsExtensionContents x p (contents-values x) h
+
+-- ---- an extension, captured
+
+value-of : (s : List ℕ) (x : ExtensionParts) (r : List ℕ) (h : Spells SpellsExtension s x r) → Spells SpellsValue s h.front r
+value-of s x r h = record { front = h.front; parts = h.parts; spelled = record { same = refl; value = extension-value x h.front h.spelled } }
+
+pub captured-extension : (s r v q : List ℕ) (x : ExtensionParts) → Accepts SpellsExtension s x r → Accepts SpellsValue s v q → SpellsExtension x v
+captured-extension s r v q x a b = subst (SpellsExtension x) (b.only a.spells.front r (value-of s x r a.spells)).0 a.spells.spelled
+
+pub kept-extension : (s r v q : List ℕ) (x : ExtensionParts) → Accepts SpellsExtension s x r → Accepts SpellsValue s v q → SpellsExtension (parts_of_extension v) v
+kept-extension s r v q x a b =
+    let h = captured-extension s r v q x a b in
+    subst (λ (y : ExtensionParts). SpellsExtension y v) (sym (extension-is x v h)) h
+
+pub extension-captured : (s r v q : List ℕ) (x : ExtensionParts) → Accepts SpellsExtension s x r → Accepts SpellsValue s v q → Accepts SpellsExtension s (parts_of_extension v) q
+extension-captured s r v q x a b =
+    let h = captured-extension s r v q x a b in
+    subst (λ (y : ExtensionParts). Accepts SpellsExtension s y q) (sym (extension-is x v h))
+    (subst (λ (l : List ℕ). Accepts SpellsExtension s x l) (b.only a.spells.front r (value-of s x r a.spells)).1 a)
+
+pub extension-refused : (s q r : List ℕ) (e : DecodeError) → r ≡ s → Refusal SpellsExtension (IsOuterFault sequence true) s q e
+    → Refusal SpellsExtension (OrMemoryWhere (Finds SpellsExtension) (GivesOuterFault sequence true)) s r e
+extension-refused s q r e same h = record {
+  unchanged = same;
+  refuses = h.refuses;
+  kind = no-memory (Finds SpellsExtension) (GivesOuterFault sequence true) s e h.kind.other h.kind.kind;
+}
+
+pub extension-uncaptured : (K : List ℕ → DecodeError → Type 0) (s r q : List ℕ) (x : ExtensionParts) (e : DecodeError) → Accepts SpellsExtension s x r → Refusal SpellsValue (OrMemoryWhere HasEither K) s q e
+    → Refusal SpellsExtension (OrMemoryWhere (Finds SpellsExtension) (GivesOuterFault sequence true)) s q e
+extension-uncaptured K s r q x e a h = record {
+  unchanged = h.unchanged;
+  refuses = UnlessMemory-weaker e (λ none y p k. none k.front p (value-of s y p k)) h.refuses;
+  kind =
+      let l = leaf-value sequence true IsExtensionContents s x r a.spells in
+      part-memory HasEither (Finds SpellsExtension) K (GivesOuterFault sequence true) s s e (λ v. (x, r, a.spells)) h.kind (λ none. absurd (none l.0 r l.1));
+}
+
+-- ---- what is written
+
+critical-legal : (b : Bool) → SpellsCritical b (critical_octets b)
+critical-legal true = inl (record { contents = 255 ∷ []; value = record { tag = record { below = lit< tt; named = λ _. lit< tt }; fits = lit< tt; octets = refl }; spelled = refl })
+critical-legal false = inr (refl, refl)
+
+pub written-read : (x : ExtensionParts) → CanBeWritten x → SpellsExtension x (written_extension x)
+written-read x h =
+    let first = tlv oid false x.identifier in
+    let flag = critical_octets x.critical in
+    let third = tlv octet_string false x.content in
+    let sizes : length x.identifier + length x.content < 2 ^ 32 =
+    omega (arith, h.short, length-append (first ++ flag) third, length-append first flag, tlv_at_least oid false x.identifier, tlv_at_least octet_string false x.content) in
+    record {
+      contents = extension_contents x.identifier x.critical x.content;
+      value = record { tag = record { below = lit< tt; named = λ _. lit< tt }; fits = h.short; octets = refl };
+      spelled = record {
+        first = first;
+        second = flag;
+        third = third;
+        parts = append_assoc first flag third;
+        identifier = record { contents = x.identifier; value = record { tag = record { below = lit< tt; named = λ _. lit< tt }; fits = omega arith; octets = refl }; spelled = (refl, h.identifier) };
+        critical = critical-legal x.critical;
+        content = record { tag = record { below = lit< tt; named = λ _. lit< tt }; fits = omega arith; octets = refl };
+      };
+    }
+
+-- at most what was read is written
+critical-at-most : (b : Bool) (p : List ℕ) → SpellsCritical b p → length (critical_octets b) ≤ length p
+critical-at-most true (p) (inl h) = let e = h.value.octets ∙ ap (λ (c : List ℕ). tlv boolean false c) h.spelled in omega (arith, ap length e)
+critical-at-most true p (inr (absent, nothing)) = absurd (cc)
+critical-at-most false p h = omega arith
+
+pub can-be-written : (x : ExtensionParts) (p : List ℕ) → SpellsExtension x p → CanBeWritten x
+can-be-written x p h =
+    let k = h.spelled in
+    let first = tlv oid false x.identifier in
+    let flag = critical_octets x.critical in
+    let third = tlv octet_string false x.content in
+    let named : k.first ≡ first = k.identifier.value.octets ∙ ap (λ (c : List ℕ). tlv oid false c) k.identifier.spelled.0 in
+    record {
+      identifier = subst IsOid k.identifier.spelled.0 k.identifier.spelled.1;
+      short = omega (
+        arith,
+        h.value.fits,
+        ap length k.parts,
+        length-append k.first (k.second ++ k.third),
+        length-append k.second k.third,
+        length-append (first ++ flag) third,
+        length-append first flag,
+        ap length named,
+        ap length k.content.octets,
+        critical-at-most x.critical k.second k.critical,
+      );
+    }
+
+pub written-fits : (x : ExtensionParts) → CanBeWritten x → length (written_extension x) < 2 ^ 63
+written-fits x h = omega (arith, h.short, tlv_at_most sequence true (extension_contents x.identifier x.critical x.content))
+
+pub written-same : (x y : ExtensionParts) → CanBeWritten x → CanBeWritten y → (written_extension x ≡ written_extension y) ↔ (x ≡ y)
+written-same x y h k = (
+  λ e. one-extension x y (written_extension y) (subst (SpellsExtension x) e (written-read x h)) (written-read y k),
+  λ e. ap written_extension e,
+)

@@ -1,0 +1,193 @@
+//! Extensions of certificates, read and kept (RFC 5280 4.1, 4.2).
+
+ghost use Rattle.std.specs.Prelude.{◌≡◌, ◌<◌, ◌^◌, ◌↔◌, true, false, length, IfOk, IfSome, IfNone};
+ghost use Rattle.rpki_der.specs.Cursor.{left};
+ghost use Rattle.rpki_der.specs.TagName.{sequence};
+ghost use Rattle.rpki_der.specs.Reading.{Reads, ReadsWhere, OrMemoryWhere, Finds};
+ghost use Rattle.rpki_der.specs.Values.{HasTag, GivesOuterFault};
+ghost use Rattle.rpki_der.specs.Leaves.{boolean_contents};
+ghost use Rattle.rpki.specs.Extension.{extension_octets};
+ghost use Rattle.rpki.specs.ExtensionValue.{ExtensionParts, extension_parts, SpellsExtension, written_extension, CanBeWritten, parts_of_extension};
+
+mod grammar;
+
+use self::grammar::take_extension;
+use rpki_der::{
+    Captured, Constructed, DecodeError, Oid, Primitive, PrimitiveContent, Sequence, Tag, Values,
+};
+use std::alloc::{AllocError, Global};
+use std::marker::Model;
+
+/// An extension of a certificate: an identifier, whether the extension is critical, and the octets of its value, as it
+/// was read (RFC 5280 4.1, 4.2).
+#[derive(Debug, Drop)]
+pub struct CertExtension {
+    captured: Captured,
+}
+
+impl Model for CertExtension {
+    ghost use Rattle.rpki.specs.ExtensionValue.{ExtensionParts, SpellsExtension, parts_of_extension};
+
+    ghost Value = { ExtensionParts };
+
+    ghost view = { λ x. parts_of_extension x.captured };
+
+    ghost invariant = { λ x. SpellsExtension (parts_of_extension x.captured) x.captured };
+}
+
+/// What writes an extension that was read: its identifier, TRUE where it is critical, and the OCTET STRING.
+pub type ExtensionBytes<'a> = Sequence<
+    (
+        Primitive<Oid<&'a [u8]>>,
+        Option<Primitive<bool>>,
+        Primitive<&'a [u8]>,
+    ),
+>;
+
+/// What writes the extension of these parts.
+fn encode_parts<'a>(id: Oid<&'a [u8]>, critical: bool, octets: &'a [u8]) -> ExtensionBytes<'a>
+    requires { CanBeWritten (extension_parts id.0.now critical octets.now) }
+    ensures octets { ⟦<ExtensionBytes<'static> as Values>⟧.encoded result ≡ extension_octets id.entry.0.now critical octets.now }
+    ensures short { ⟦<ExtensionBytes<'static> as Values>⟧.is_short result }
+{
+    let critical = if critical { Some(true.encode()) } else { None };
+    Sequence::new((id.encode(), critical, octets.encode()))
+}
+
+impl CertExtension {
+    /// An extension: a SEQUENCE of an OBJECT IDENTIFIER, of a BOOLEAN that says whether it is critical, and of an OCTET
+    /// STRING. The BOOLEAN may be left out, which is FALSE; a FALSE that is spelled is read too, although X.690 11.5
+    /// forbids it.
+    ///
+    /// The refusal of a SEQUENCE where that refuses; else those of the parts, Trailing for octets that follow them, and
+    /// OutOfMemory on allocation failure, only where an extension is there.
+    pub fn take_from(
+        alloc: Global,
+        cons: &mut Constructed<'_>,
+    ) -> Result<CertExtension, DecodeError>
+        ensures { Reads (λ x. x) SpellsExtension (OrMemoryWhere (Finds SpellsExtension) (GivesOuterFault sequence true))
+            (left cons.old) (left cons.new) result }
+    {
+        let mut after = *cons;
+        match take_extension(&mut after) {
+            Ok(_) => {}
+            Err(e) => return Err(e),
+        }
+        match cons.capture_one(alloc) {
+            Ok(captured) => Ok(CertExtension { captured }),
+            Err(e) => Err(e),
+        }
+    }
+
+    /// As [CertExtension::take_from] where what is left begins with the identifier octets of a SEQUENCE, in either form;
+    /// else None, and the cursor stays where it is.
+    pub fn take_opt_from(
+        alloc: Global,
+        cons: &mut Constructed<'_>,
+    ) -> Result<Option<CertExtension>, DecodeError>
+        ensures { ReadsWhere (HasTag sequence) (λ x. x) SpellsExtension
+            (OrMemoryWhere (Finds SpellsExtension) (GivesOuterFault sequence true)) (left cons.old) (left cons.new) result }
+    {
+        let mut ahead = *cons;
+        if let Ok(None) = ahead.take_opt_sequence() {
+            return Ok(None);
+        }
+        match CertExtension::take_from(alloc, cons) {
+            Ok(extension) => Ok(Some(extension)),
+            Err(e) => Err(e),
+        }
+    }
+
+    /// The contents of the parts, as the index has them: of the identifier, of the BOOLEAN where it is there, and of the
+    /// OCTET STRING.
+    fn parts(&self) -> (&[u8], Option<&[u8]>, &[u8])
+        ensures identifier { result.0.now ≡ self.now.identifier }
+        ensures absent { IfNone result.1 (self.now.critical ≡ false) }
+        ensures critical { IfSome result.1 (λ c. c.now ≡ boolean_contents self.now.critical) }
+        ensures content { result.2.now ≡ self.now.content }
+        ensures writable { CanBeWritten self.now }
+    {
+        let mut members = self.captured.members(Some(0));
+        let first = members.next().unwrap();
+        let second = members.next().unwrap();
+        let identifier = self.captured.contents(first);
+        let next = self.captured.contents(second);
+        match members.next() {
+            Some(third) => (identifier, Some(next), self.captured.contents(third)),
+            None => (identifier, None, next),
+        }
+    }
+
+    /// The identifier. It comes from the index: no header is read again, and no memory is taken.
+    pub fn id(&self) -> Oid<&[u8]>
+        ensures value { result.0.now ≡ self.now.identifier }
+        // It is an identifier, and a length announces the contents of the extension.
+        ensures writable { CanBeWritten self.now }
+    {
+        Oid(self.parts().0)
+    }
+
+    /// Whether the extension is critical; it is not where the BOOLEAN is left out. It comes from the index.
+    pub fn critical(&self) -> bool
+        ensures { result ≡ self.now.critical }
+    {
+        match self.parts().1 {
+            Some(contents) => contents == [0xff].as_slice(),
+            None => false,
+        }
+    }
+
+    /// The octets of the OCTET STRING, which the extension's identifier gives a meaning. They come from the index.
+    pub fn octets(&self) -> &[u8]
+        ensures { result.now ≡ self.now.content }
+    {
+        self.parts().2
+    }
+
+    /// What writes the extension: the identifier, TRUE where it is critical, and the OCTET STRING. FALSE is left out,
+    /// as X.690 11.5 asks.
+    pub fn encode_ref(&self) -> ExtensionBytes<'_>
+        ensures octets { ⟦<ExtensionBytes<'static> as Values>⟧.encoded result ≡ written_extension self.now }
+        ensures short { ⟦<ExtensionBytes<'static> as Values>⟧.is_short result }
+        ensures size { length (written_extension self.now) < 2 ^ 63 }
+        // What is written is read as the same extension.
+        ensures read_back { SpellsExtension self.now (written_extension self.now) }
+        // Extensions are written as the same octets exactly where they are equal.
+        ensures same { (other : ExtensionParts) → CanBeWritten other
+            → (written_extension self.now ≡ written_extension other) ↔ (self.now ≡ other) }
+    {
+        encode_parts(self.id(), self.critical(), self.octets())
+    }
+
+    /// The same extension, whose octets are shared.
+    ///
+    /// AllocError where memory runs out.
+    pub fn clone(&self) -> Result<CertExtension, AllocError>
+        ensures { IfOk result (λ x. x ≡ self.now) }
+    {
+        let captured = self.captured.clone()?;
+        Ok(CertExtension { captured })
+    }
+}
+
+/// Two extensions are equal where their three parts are; one may spell FALSE that the other leaves out.
+impl PartialEq for CertExtension {
+    ghost use Rattle.std.specs.Cmp.{partial_equiv_from_equiv};
+    ghost use Rattle.rpki.specs.ExtensionEqual.{same_extension, same_extension_equivalence};
+
+    ghost eq = { same_extension };
+
+    ghost laws = { partial_equiv_from_equiv same_extension_equivalence };
+
+    fn eq(&self, other: &Self) -> bool {
+        self.id().0 == other.id().0
+            && self.critical() == other.critical()
+            && self.octets() == other.octets()
+    }
+}
+
+impl Eq for CertExtension {
+    ghost use Rattle.rpki.specs.ExtensionEqual.{same_extension_equivalence};
+
+    ghost laws = { same_extension_equivalence };
+}
