@@ -1,11 +1,9 @@
-//! Makes one call on an rsync URI so many times. `tests/growths/run` counts the growths of a call with it, and
-//! `bench/uris.py` measures its time.
-#![tactic(auto)]
+//! One call on an rsync URI, made so many times.
 
-use anyhow::{Result, bail};
-use rpki_text::uri::{Error, Rsync};
+use crate::refusal::Failure;
+use crate::report::Report;
+use rpki::uri::{Error, Rsync};
 use std::alloc::{AllocError, Global};
-use std::env;
 
 /// A directory with so many segments.
 fn directory(alloc: Global, segments: usize) -> Result<String, AllocError> {
@@ -44,18 +42,18 @@ fn sum(alloc: Global, call: &str, segments: usize, times: usize) -> Result<usize
     Ok(sum)
 }
 
-fn main(rt: HostRuntime) -> Result<()> {
-    let mut words = env::args(&rt)?.skip(1);
-    let (Some(call), Some(segments), Some(times)) = (words.next(), words.next(), words.next())
-    else {
-        bail!("usage: rpki_growths CALL SEGMENTS TIMES");
+/// Makes the call so many times on a URI of so many segments, and tells the sum of its answers.
+pub fn tell(
+    alloc: Global,
+    report: Report,
+    call: &str,
+    segments: &str,
+    times: &str,
+) -> Result<(), Failure> {
+    let (Ok(segments), Ok(times)) = (segments.parse::<usize>(), times.parse::<usize>()) else {
+        return Err(Failure::Usage);
     };
-    let sum = sum(
-        rt.alloc(),
-        call.as_str(),
-        segments.parse::<usize>()?,
-        times.parse::<usize>()?,
-    )?;
-    println!(rt; "{call} {sum}")?;
+    let sum = sum(alloc, call, segments, times)?;
+    report.number(call, sum as u64)?;
     Ok(())
 }

@@ -1,0 +1,34 @@
+//! What a call makes.
+
+use crate::refusal::Refusal;
+use bytes::Bytes;
+use rpki::crypto::{PublicKey, RpkiSignature, RpkiSignatureAlgorithm};
+use rpki::der::{BitString, Captured};
+use rpki::repository::x509::{Name, SignedData};
+use rpki::uri::{Https, Rsync};
+
+/// Signed data of the RPKI.
+pub type RpkiSignedData = SignedData<RpkiSignatureAlgorithm>;
+
+/// What a call makes.
+#[derive(Drop)]
+pub enum Made {
+    /// The call answers that there is nothing.
+    Nothing,
+    /// The call succeeded, and makes nothing.
+    Done,
+    Octets(Bytes),
+    Data(Vec<u8>),
+    Text(String),
+    Rsync(Rsync),
+    Https(Https),
+    Captured(Captured),
+    Bits(BitString),
+    Key(PublicKey),
+    Name(Name),
+    Signed(RpkiSignedData),
+    Signature(RpkiSignature),
+}
+
+/// What a call makes, or why it makes nothing.
+pub type Outcome = Result<Made, Refusal>;

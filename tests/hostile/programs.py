@@ -1,0 +1,48 @@
+"""The programs, as they were built, and runs of them."""
+import os
+import subprocess
+from typing import NamedTuple
+
+TOP = os.path.dirname(os.path.dirname(os.path.dirname(os.path.abspath(__file__))))
+
+
+class Seen(NamedTuple):
+    """What is seen of a run."""
+
+    status: int
+    output: bytes
+    faults: bytes
+
+
+class Programs(NamedTuple):
+    """Both programs, as one compiler built them: `rpkibasic`, and `rpki_calls`, which makes one call."""
+
+    compiler: str
+    basic: str
+    calls: str
+
+
+def built(name, ending=""):
+    """Where a built program is, or would be."""
+    return os.path.join(TOP, "crates", name, "out", name + ending)
+
+
+def programs():
+    """The programs as LLVM built them, and as Rattle's own compiler did where it could. What no one built yet is
+    proved and built first."""
+    for name, words in [("rpkibasic", []), ("rpki_calls", ["text", "rsync_into_string"])]:
+        if not os.path.exists(built(name)):
+            folder = os.path.join(TOP, "crates", name)
+            subprocess.run(["rt", "run", "--", *words], cwd=folder, stdin=subprocess.DEVNULL, capture_output=True)
+    found = []
+    for compiler, ending in [("LLVM", ""), ("Rattle", ".by-rattle")]:
+        pair = Programs(compiler, built("rpkibasic", ending), built("rpki_calls", ending))
+        if compiler == "LLVM" or (os.path.exists(pair.basic) and os.path.exists(pair.calls)):
+            found.append(pair)
+    return found
+
+
+def run(program, words, octets=b"", **options):
+    """A run of a program with these words over this input, for a minute at most."""
+    done = subprocess.run([program, *words], input=octets, capture_output=True, timeout=60, close_fds=False, **options)
+    return Seen(done.returncode, done.stdout, done.stderr)
