@@ -1,5 +1,9 @@
 //! Makes one call of the library, named by its words, on what standard input holds, and tells what is seen of it: what
 //! it made or why it made nothing, and what its arguments hold afterwards. `tests/hostile/run` looks at these lines.
+//!
+//! The words are a group of calls (what the input is read as, or what is made of it), the call, and for `join` the path
+//! that is joined. `write` writes an encoder's values to writers that fail. `repeat` reads no input: it makes one call on
+//! an rsync URI of so many segments so many times, and tells the sum of the answers, for `bench/uris.py`.
 #![tactic(auto)]
 
 mod cursors;
@@ -85,7 +89,10 @@ fn tell(rt: &HostRuntime, words: &[String]) -> Result<(), Failure> {
 /// The exit status of a run that tells of no call, and the line that says why.
 fn failed(rt: &HostRuntime, failure: Failure) -> u8 {
     let (status, line) = match failure {
-        Failure::Usage => (2, "usage: rpki_calls GROUP CALL [PATH]\n"),
+        Failure::Usage => (
+            2,
+            "usage: rpki_calls GROUP CALL [PATH] | repeat CALL SEGMENTS TIMES\n",
+        ),
         Failure::Refused => (1, "refused\n"),
         Failure::OutOfMemory => (1, "out of memory\n"),
         Failure::Stream => (1, "input or output failed\n"),
