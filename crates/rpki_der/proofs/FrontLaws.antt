@@ -10,7 +10,8 @@ use Rattle.rpki_der.specs.Reading.{Spells}
 use Rattle.rpki_der.specs.Values.{SpellsContents, HasTag}
 use Rattle.rpki_der.specs.Front.{front_contents, after_front}
 use Rattle.rpki_der.proofs.HeaderLaws.{header-again}
-use Rattle.rpki_der.proofs.HeaderReads.{identifier-from, tag-is}
+use Rattle.rpki_der.proofs.HeaderReads.{identifier-from}
+use Rattle.rpki_der.proofs.InSteps.{pair-is}
 use Rattle.rpki_der.proofs.LeavesLaws.{leaf-tag}
 
 header_found : (t : TagName) (f : Bool) (c p r : List ℕ) → SpellsContents t f c p → (h : Header) × (h.length ≡ length c) × (header_at (p ++ r) ≡ Ok (h, c ++ r))
@@ -38,7 +39,8 @@ nothing_after t f c p s = ap after_front (sym (append-nil p)) ∙ after_front_of
 
 -- a list begins with one tag
 pub one_tag : (s : List ℕ) (t u : TagName) → HasTag t s → HasTag u s → t ≡ u
-one_tag s t u (f, r, h) other = tag-is s u t f r (identifier-from s (t, f) r h) other
+one_tag s t u (f, r, h) (g, q, k) =
+    ap (λ (i : TagName × Bool). i.0) (pair-is (t, f) (u, g) r q (sym (identifier-from s (t, f) r h) ∙ identifier-from s (u, g) q k)).0
 
 -- a value begins with its tag
 pub contents_tag : (t : TagName) (f : Bool) (s c r : List ℕ) → Spells (SpellsContents t f) s c r → HasTag t s
