@@ -17,10 +17,10 @@ use Rattle.rpki_der.proofs.EncodeLaws.{tlv_at_least, tlv_at_most}
 use Rattle.rpki_der.proofs.LeafValues.{composed_value_alone}
 use Rattle.rpki_der.proofs.LeavesLaws.{leaf-tag, leaf-value}
 use Rattle.rpki_der.proofs.ComposedLaws.{all-read}
+use Rattle.rpki_der.proofs.InsideLaws.{no-memory, part-memory}
 use Rattle.rpki_der.proofs.FrontLaws.{front_contents_of, after_front_of, contents_alone, nothing_after, one_tag, contents_tag}
 use Rattle.rpki.specs.Extension.{critical_octets, extension_contents}
 use Rattle.rpki.specs.ExtensionValue.{ExtensionParts, extension_parts, SpellsCritical, IsExtensionContents, SpellsExtension, written_extension, CanBeWritten, parts_in, parts_of_extension}
-use Rattle.rpki.proofs.MemoryLaws.{no-memory, part-memory}
 
 -- ---- one value
 

@@ -69,14 +69,9 @@ impl CertExtension {
             (left cons.old) (left cons.new) result }
     {
         let mut after = *cons;
-        match take_extension(&mut after) {
-            Ok(_) => {}
-            Err(e) => return Err(e),
-        }
-        match cons.capture_one(alloc) {
-            Ok(captured) => Ok(CertExtension { captured }),
-            Err(e) => Err(e),
-        }
+        take_extension(&mut after)?;
+        let captured = cons.capture_one(alloc)?;
+        Ok(CertExtension { captured })
     }
 
     /// As [CertExtension::take_from] where what is left begins with the identifier octets of a SEQUENCE, in either form;
@@ -88,14 +83,11 @@ impl CertExtension {
         ensures { ReadsWhere (HasTag sequence) (λ x. x) SpellsExtension
             (OrMemoryWhere (Finds SpellsExtension) (GivesOuterFault sequence true)) (left cons.old) (left cons.new) result }
     {
-        let mut ahead = *cons;
-        if let Ok(None) = ahead.take_opt_sequence() {
+        if !cons.has_tag(Tag::SEQUENCE) {
             return Ok(None);
         }
-        match CertExtension::take_from(alloc, cons) {
-            Ok(extension) => Ok(Some(extension)),
-            Err(e) => Err(e),
-        }
+        let extension = CertExtension::take_from(alloc, cons)?;
+        Ok(Some(extension))
     }
 
     /// The contents of the parts, as the index has them: of the identifier, of the BOOLEAN where it is there, and of the

@@ -16,22 +16,11 @@ fn take_parts<'a>(contents: Constructed<'a>) -> Result<(Oid<&'a [u8]>, bool, &'a
     ensures { Decodes (λ x. extension_parts x.0.0.now x.1 x.2.now) IsExtensionContents (λ _ e. e ≢ DecodeError.OutOfMemory) (left contents.entry) result }
 {
     let mut rest = contents;
-    let identifier = match rest.take_oid() {
-        Ok(identifier) => identifier,
-        Err(e) => return Err(e),
-    };
-    let critical = match rest.take_opt_bool() {
-        Ok(found) => found.unwrap_or(false),
-        Err(e) => return Err(e),
-    };
-    let octets = match rest.take_octets() {
-        Ok(octets) => octets,
-        Err(e) => return Err(e),
-    };
-    match rest.finish() {
-        Ok(()) => Ok((identifier, critical, octets)),
-        Err(e) => Err(e),
-    }
+    let identifier = rest.take_oid()?;
+    let critical = rest.take_opt_bool()?.unwrap_or(false);
+    let octets = rest.take_octets()?;
+    rest.finish()?;
+    Ok((identifier, critical, octets))
 }
 
 /// Moves past an extension, and gives its parts: the identifier, whether it is critical, and the octets.
@@ -41,15 +30,8 @@ pub(super) fn take_extension<'a>(
     ensures { Reads (λ x. extension_parts x.0.0.now x.1 x.2.now) SpellsExtension (IsOuterFault sequence true) (left cons.old) (left cons.new) result }
 {
     let mut after = *cons;
-    let contents = match after.take_sequence() {
-        Ok(contents) => contents,
-        Err(e) => return Err(e),
-    };
-    match take_parts(contents) {
-        Ok(parts) => {
-            *cons = after;
-            Ok(parts)
-        }
-        Err(e) => Err(e),
-    }
+    let contents = after.take_sequence()?;
+    let parts = take_parts(contents)?;
+    *cons = after;
+    Ok(parts)
 }
