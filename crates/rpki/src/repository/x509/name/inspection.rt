@@ -121,10 +121,7 @@ impl Profile {
                 Ok(read) => read,
                 Err(_) => return Err(refusal("invalid name")),
             };
-            all = match self.add(all, identifier, value) {
-                Ok(all) => all,
-                Err(e) => return Err(e),
-            };
+            all = self.add(all, identifier, value)?;
         }
         Ok(all)
     }
@@ -144,10 +141,7 @@ impl Profile {
                 Ok(relative) => relative,
                 Err(_) => return Err(refusal("invalid name")),
             };
-            all = match self.add_attributes(all, relative) {
-                Ok(all) => all,
-                Err(e) => return Err(e),
-            };
+            all = self.add_attributes(all, relative)?;
         }
         Ok(all)
     }
@@ -165,10 +159,7 @@ impl Profile {
             common_name: false,
             serial_number: false,
         };
-        let found = match self.add_relatives(nothing, contents) {
-            Ok(found) => found,
-            Err(e) => return Err(e),
-        };
+        let found = self.add_relatives(nothing, contents)?;
         if !found.common_name {
             return Err(refusal("missing common name"));
         }

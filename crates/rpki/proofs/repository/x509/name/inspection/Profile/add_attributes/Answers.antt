@@ -1,4 +1,5 @@
 use Rattle.std.proofs.Common.{[], ◌∷◌, ◌++◌, true, subst, sym}
+use Rattle.std.proofs.lemmas.Result.{err_from_is_err_and}
 use Rattle.rpki_der.specs.Cursor.{left}
 use Rattle.rpki_der.specs.TagName.{sequence}
 use Rattle.rpki.specs.Name.{Attribute, IsAttribute, SpellsAttribute, IsIdentifierThen}
@@ -19,25 +20,28 @@ returns-in-Err c =
     (not-at-end _ _ c.attributes-test.true c.is_empty.ensures) c.attributes.invariant
     (λ v q g. absurd (no-attribute (left c.attributes.rest) _ _ c.in-Err.ensures v q g)) xs h.each
 
-pub returns-in-Err-add : goal.returns-in-Err-add
-returns-in-Err-add c =
+pub returns-in_err-all : goal.returns-in_err-all
+returns-in_err-all c =
+    let p = err_from_is_err_and c.from_residual.result c.from_residual.ensures.1 in
+    rw p.1 (
     λ xs h.
     through-refused SpellsAttribute (λ ys. ys) (permitted c.args.self) (found_of c.args.found) (found_of c.attributes.all) _ (left c.attributes.rest) join-attributes
     (not-at-end _ _ c.attributes-test.true c.is_empty.ensures) c.attributes.invariant
     (λ v q g before rest f strict.
     let k = this-attribute (left c.attributes.rest) _ _ c.in-Ok.ensures v q g in
-    c.in-Err-add.ensures before rest f (subst (λ (a : Attribute). IsStrict (permitted c.args.self) ((before ++ a ∷ []) ++ rest)) k.1 strict)) xs h.each
+    c.in_err-all.ensures before rest f (subst (λ (a : Attribute). IsStrict (permitted c.args.self) ((before ++ a ∷ []) ++ rest)) k.1 strict)) xs h.each
+    )
 
 pub attributes-smaller : goal.attributes-smaller
 attributes-smaller c = leaf-shorter sequence true IsIdentifierThen (left c.attributes.rest) _ (left c.take_identifier.new.cons) c.in-Ok.ensures.spells
 
 pub attributes-preserved : goal.attributes-preserved
 attributes-preserved c =
-    through-more SpellsAttribute (λ ys. ys) (permitted c.args.self) (found_of c.args.found) (found_of c.attributes.all) (found_of c.in-Ok-add.all) _ (left c.attributes.rest) _ join-attributes
+    through-more SpellsAttribute (λ ys. ys) (permitted c.args.self) (found_of c.args.found) (found_of c.attributes.all) (found_of c.in_ok-all.all) _ (left c.attributes.rest) _ join-attributes
     (not-at-end _ _ c.attributes-test.true c.is_empty.ensures) c.attributes.invariant
     (λ v q g.
     let k = this-attribute (left c.attributes.rest) _ _ c.in-Ok.ensures v q g in
-    (k.0, λ before f. subst (λ (a : Attribute). IsFound (permitted c.args.self) (found_of c.in-Ok-add.all) (before ++ a ∷ [])) (sym k.1) (c.in-Ok-add.ensures before f)))
+    (k.0, λ before f. subst (λ (a : Attribute). IsFound (permitted c.args.self) (found_of c.in_ok-all.all) (before ++ a ∷ [])) (sym k.1) (c.in_ok-all.ensures before f)))
 
 pub returns : goal.returns
 returns c =

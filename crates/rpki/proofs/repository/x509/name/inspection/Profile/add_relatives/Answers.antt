@@ -1,4 +1,5 @@
 use Rattle.std.proofs.Common.{List, ◌++◌, true, subst, sym}
+use Rattle.std.proofs.lemmas.Result.{err_from_is_err_and}
 use Rattle.rpki_der.specs.Cursor.{left}
 use Rattle.rpki_der.specs.TagName.{set}
 use Rattle.rpki.specs.Name.{Attribute, SpellsAttribute, SpellsSome, SpellsRelative}
@@ -19,25 +20,28 @@ returns-in-Err c =
     (not-at-end _ _ c.relatives-test.true c.is_empty.ensures) c.relatives.invariant
     (λ v q g. absurd (no-contents set (SpellsSome SpellsAttribute) (left c.relatives.rest) _ _ c.in-Err.ensures v q g)) parts h.each
 
-pub returns-in-Err-add_attributes : goal.returns-in-Err-add_attributes
-returns-in-Err-add_attributes c =
+pub returns-in_err-all : goal.returns-in_err-all
+returns-in_err-all c =
+    let p = err_from_is_err_and c.from_residual.result c.from_residual.ensures.1 in
+    rw p.1 (
     λ parts h.
     through-refused SpellsRelative attributes (permitted c.args.self) (found_of c.args.found) (found_of c.relatives.all) _ (left c.relatives.rest) join-relatives
     (not-at-end _ _ c.relatives-test.true c.is_empty.ensures) c.relatives.invariant
     (λ v q g before rest f strict.
     let k = these-contents set (SpellsSome SpellsAttribute) (left c.relatives.rest) _ _ c.in-Ok.ensures v q g in
-    c.in-Err-add_attributes.ensures v k.1 before rest f (subst (λ (xs : List Attribute). IsStrict (permitted c.args.self) ((before ++ xs) ++ rest)) (one-relative v) strict)) parts h.each
+    c.in_err-all.ensures v k.1 before rest f (subst (λ (xs : List Attribute). IsStrict (permitted c.args.self) ((before ++ xs) ++ rest)) (one-relative v) strict)) parts h.each
+    )
 
 pub relatives-smaller : goal.relatives-smaller
 relatives-smaller c = contents-shorter set true (left c.relatives.rest) _ (left c.take_set.new.self) c.in-Ok.ensures.spells
 
 pub relatives-preserved : goal.relatives-preserved
 relatives-preserved c =
-    through-more SpellsRelative attributes (permitted c.args.self) (found_of c.args.found) (found_of c.relatives.all) (found_of c.in-Ok-add_attributes.all) _ (left c.relatives.rest) _ join-relatives
+    through-more SpellsRelative attributes (permitted c.args.self) (found_of c.args.found) (found_of c.relatives.all) (found_of c.in_ok-all.all) _ (left c.relatives.rest) _ join-relatives
     (not-at-end _ _ c.relatives-test.true c.is_empty.ensures) c.relatives.invariant
     (λ v q g.
     let k = these-contents set (SpellsSome SpellsAttribute) (left c.relatives.rest) _ _ c.in-Ok.ensures v q g in
-    (k.0, λ before f. subst (λ (xs : List Attribute). IsFound (permitted c.args.self) (found_of c.in-Ok-add_attributes.all) (before ++ xs)) (sym (one-relative v)) (c.in-Ok-add_attributes.ensures v k.1 before f)))
+    (k.0, λ before f. subst (λ (xs : List Attribute). IsFound (permitted c.args.self) (found_of c.in_ok-all.all) (before ++ xs)) (sym (one-relative v)) (c.in_ok-all.ensures v k.1 before f)))
 
 pub returns : goal.returns
 returns c =
