@@ -13,7 +13,7 @@ from typing import FrozenSet, List, NamedTuple
 from der import bits, nested, sequence
 from programs import run
 from vectors import (
-    KEY, KEY_DIGITS, NAME, RSA_OF_NUMBERS, RSA_SIGNATURE, SIGNED, SUBJECT, USAGE,
+    EXTENSIONS, EXTENSIONS_WRITTEN, KEY, KEY_DIGITS, NAME, RSA_OF_NUMBERS, RSA_SIGNATURE, SIGNED, SUBJECT, USAGE,
 )
 
 NOT_TOLD = (1, b"", b"out of memory\n")
@@ -167,6 +167,8 @@ WORDS = [
     (["uri"], RSYNC, 0, b"scheme rsync\nauthority host\nmodule module\npath foo/bar\n", b""),
     (["uri"], HTTPS + b"\n", 0, b"scheme https\nauthority host\npath /foo/bar\n", b""),
     (["uri"], b"rsync:///module/foo", 1, b"", b"refused 6\n"),
+    (["ext"], EXTENSIONS, 0, EXTENSIONS_WRITTEN, b""),
+    (["ext"], EXTENSIONS + b"\x30", 1, b"", b"refused 1\n"),
     ([], b"", 0, USAGE, b""),
     (["x"], b"", 2, b"", USAGE),
 ]

@@ -7,7 +7,7 @@ import subprocess
 import tempfile
 
 from programs import Seen, run
-from vectors import KEY, KEY_DIGITS, SIGNED, USAGE
+from vectors import EXTENSIONS, EXTENSIONS_WRITTEN, KEY, KEY_DIGITS, SIGNED, USAGE
 
 URI = b"rSync://hOst/module/foo/bar\n"
 
@@ -17,6 +17,7 @@ ANSWERED = [
     (["data"], SIGNED, bytes.fromhex("3000")),
     (["key"], KEY, KEY_DIGITS + b"\n"),
     (["uri"], URI, b"scheme rsync\nauthority host\nmodule module\npath foo/bar\n"),
+    (["ext"], EXTENSIONS, EXTENSIONS_WRITTEN),
     ([], b"", USAGE),
 ]
 REFUSED = [
@@ -25,6 +26,7 @@ REFUSED = [
     (["again"], b"", 1, b"refused 1\n"),
     (["key"], b"\x31\x00", 1, b"refused 4\n"),
     (["uri"], b"rsync:///module/foo", 1, b"refused 6\n"),
+    (["ext"], EXTENSIONS + bytes.fromhex("3005 0603551D13"), 1, b"refused 1\n"),
 ]
 UNREAD = (1, b"", b"input could not be read\n")
 UNWRITTEN = b"output could not be written\n"
@@ -52,7 +54,7 @@ def inputs_that_end_early(programs):
     """A connection that gives one octet at a call and is then reset, after each count of octets; or closed, at the end.
 
     A peer that is closed with octets unread resets the connection: the reader gets what was sent, and then an error."""
-    for words, octets, output in ANSWERED[:4]:
+    for words, octets, output in ANSWERED[:-1]:
         for count in range(len(octets) + 1):
             for reset in [True, False]:
                 ours, theirs = socket.socketpair(socket.AF_UNIX, socket.SOCK_SEQPACKET)

@@ -4,7 +4,7 @@ import hashlib
 from der import bits, sequence, tlv, unsigned
 
 # How the program `rpkibasic` is used.
-USAGE = b"usage: rpkibasic again|data|key|uri\n"
+USAGE = b"usage: rpkibasic again|data|key|uri|ext\n"
 
 # Algorithm identifiers: RFC 8017 A.2.4 and A.1, RFC 5480 2.1.1, RFC 5754 2.2, RFC 5758 3.2.
 RSA_SIGNATURE = bytes.fromhex("300D06092A864886F70D01010B0500")
@@ -37,6 +37,10 @@ VALIDITY = bytes.fromhex("3020") + tlv(0x17, b"200101000000Z") + tlv(0x18, b"205
 CONSTRAINTS = bytes.fromhex("300C 0603551D13 0101FF 04023000")
 CONSTRAINTS_NOT_CRITICAL = bytes.fromhex("3009 0603551D13 04023000")
 
+# Two extensions, the first with a FALSE that X.690 11.5 leaves out; and the same as they are written.
+EXTENSIONS = bytes.fromhex("300C 0603551D13 010100 04023000") + CONSTRAINTS
+EXTENSIONS_WRITTEN = CONSTRAINTS_NOT_CRITICAL + CONSTRAINTS
+
 # Values that are read whole as one, whatever a reader of their type says of their contents.
 VALUES = [
     SIGNED,
@@ -67,6 +71,7 @@ VALUES = [
     VALIDITY,
     CONSTRAINTS,
     CONSTRAINTS_NOT_CRITICAL,
+    EXTENSIONS[:14],
     bytes.fromhex("3006 3004 3002 3000"),
     bytes.fromhex("1F1F00"),
     bytes.fromhex("1F810000"),
