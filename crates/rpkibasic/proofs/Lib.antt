@@ -5,3 +5,4 @@ pub mod Cuts
 pub mod Answering
 pub mod Rows
 pub mod OneAnswer
+pub mod ReadingOn

@@ -9,9 +9,10 @@ use Rattle.rpki_text.specs.declared.uri.error.Error.{Error}
 use Rattle.sha1.specs.Sha1.{sha1}
 use Rattle.rpkibasic.specs.UriLines.{without_last_line_feed, uri_refusal_of}
 use Rattle.rpkibasic.specs.Fault.{text_of}
-use Rattle.rpkibasic.specs.Run.{Signed, SpellsRpki, SpellsOnly, written_algorithm, IsTooLong, IsFaultOf, IsRefusedText, IsDue}
+use Rattle.rpki_der.specs.declared.error.DecodeError.{DecodeError}
+use Rattle.rpkibasic.specs.Run.{SpellsExtensions, written_extensions, IsExtensionFault, Signed, SpellsRpki, SpellsOnly, written_algorithm, IsTooLong, IsFaultOf, IsRefusedText, IsDue}
 use Rattle.rpkibasic.specs.declared.command.Command.{Command}
-use Rattle.rpkibasic.specs.declared.command.Command.TheVariants.{Again, Data, Key, Uri}
+use Rattle.rpkibasic.specs.declared.command.Command.TheVariants.{Again, Data, Key, Uri, Ext}
 use Rattle.rpkibasic.specs.declared.fault.Fault.{Fault}
 use Rattle.rpkibasic.specs.declared.fault.Fault.TheVariants.{Usage, Refused, RefusedUri, TooLong, OutOfMemory, Input, Output}
 
@@ -24,6 +25,7 @@ one-text Again input s t a b = of-one SpellsRpki (written_signed written_algorit
 one-text Data input s t a b = of-one SpellsRpki (λ x. x.signed) input a.0 b.0 s t a.1 b.1 a.2 b.2
 one-text Key input s t a b = of-one SpellsKey (λ k. hex_text (sha1 k.bits.octets) ++ 10 ∷ []) input a.0 b.0 s t a.1 b.1 a.2 b.2
 one-text Uri input s t a b = a.1 ∙ sym b.1
+one-text Ext input s t a b = of-one SpellsExtensions written_extensions input a.0 b.0 s t a.1 b.1 a.2 b.2
 
 -- a fault of an input is T, or the input is in no grammar
 two-faults : {V : Type 0} (G : V → List ℕ → Type 0) (T : Type 0) (input : List ℕ) (f : Fault) → IsFaultOf G T input f → (T × (text_of f ≡ text_of TooLong)) ⊎ (SpellsNothing G input × (text_of f ≡ codes "refused "))
@@ -45,6 +47,16 @@ one-wrong wrong Input h = absurd h
 one-wrong wrong Usage h = absurd h
 one-wrong wrong Output h = absurd h
 
+-- why an input isn't extensions
+not-extensions : (input : List ℕ) (f : Fault) → IsExtensionFault input f → (e : DecodeError) × (f ≡ Refused e) × SpellsNothing SpellsExtensions input
+not-extensions input (Refused e) h = (e, refl, h.none)
+not-extensions input (RefusedUri e) h = absurd h
+not-extensions input TooLong h = absurd h
+not-extensions input OutOfMemory h = absurd h
+not-extensions input Input h = absurd h
+not-extensions input Usage h = absurd h
+not-extensions input Output h = absurd h
+
 -- what fits is not too long
 not-too-long : (input s : List ℕ) → IsDue Again input (Ok s) → IsTooLong input → ⊥
 not-too-long input s a b =
@@ -61,6 +73,7 @@ pub text-or-fault : (command : Command) (input s : List ℕ) (e : Fault) → IsD
 text-or-fault Again input s e a b = no-fault SpellsRpki (IsTooLong input) input a.0 e a.1.0 (not-too-long input s a) b
 text-or-fault Data input s e a b = no-fault SpellsRpki ⊥ input a.0 e a.1.0 (λ z. z) b
 text-or-fault Key input s e a b = no-fault SpellsKey ⊥ input a.0 e a.1.0 (λ z. z) b
+text-or-fault Ext input s e a b = (not-extensions input e b).2 a.0 a.1.0
 text-or-fault Uri input s e a b = let w = one-wrong (uri_refusal_of (without_last_line_feed input)) e b in let x = sym a.0 ∙ w.2 in cc
 
 one-kind : {V : Type 0} (G : V → List ℕ → Type 0) (T : Type 0) (input : List ℕ) (e f : Fault) → (T → SpellsNothing G input → ⊥) → IsFaultOf G T input e → IsFaultOf G T input f → text_of e ≡ text_of f
@@ -89,3 +102,4 @@ one-fault Again input e f a b = one-kind SpellsRpki (IsTooLong input) input e f 
 one-fault Data input e f a b = one-kind SpellsRpki ⊥ input e f (λ z none. z) a b
 one-fault Key input e f a b = one-kind SpellsKey ⊥ input e f (λ z none. z) a b
 one-fault Uri input e f a b = ap text_of (one-uri-fault input e f a b)
+one-fault Ext input e f a b = ap text_of (not-extensions input e a).1 ∙ sym (ap text_of (not-extensions input f b).1)

@@ -1,8 +1,10 @@
 -- What a run answers, and what is seen of it.
 use Rattle.std.specs.Prelude.{◌≡◌, ◌≢◌, ◌⊎◌, ℕ, Bool, true, ◌<◌, ◌≤◌, ◌^◌, List, [], ◌∷◌, ◌++◌, length, Option, Some, None, Result, Ok, Err}
 use Rattle.std.specs.Io.KnownBytes.{Appends}
+use Rattle.std.specs.List.{flat_map}
+use Rattle.rpki_der.specs.declared.error.DecodeError.{DecodeError}
 use Rattle.rpki_der.specs.declared.error.DecodeError.TheVariants as der
-use Rattle.rpki_der.specs.Reading.{SpellsNothing, IsWholeFault}
+use Rattle.rpki_der.specs.Reading.{Refuses, SpellsNothing, IsWholeFault}
 use Rattle.rpki_der.specs.Values.{GivesOuterFault}
 use Rattle.rpki_der.specs.TagName.{sequence}
 use Rattle.rpki_der.specs.Written.{AppendsCut}
@@ -11,6 +13,8 @@ use Rattle.rpki.specs.Algorithm.{SpellsAlgorithm}
 use Rattle.rpki.specs.AlgorithmOctets.{algorithm_octets}
 use Rattle.rpki.specs.SignedData.{SignedParts, SpellsSigned, written_contents, written_signed}
 use Rattle.rpki.specs.PublicKey.{KeyParts, SpellsKey}
+use Rattle.rpki.specs.Name.{SpellsEach}
+use Rattle.rpki.specs.ExtensionValue.{ExtensionParts, SpellsExtension, written_extension}
 use Rattle.rpki_text.specs.HexText.{hex_text}
 use Rattle.sha1.specs.Sha1.{sha1}
 use Rattle.rpki_text.specs.declared.uri.error.Error.{Error}
@@ -20,7 +24,7 @@ use Rattle.rpkibasic.specs.Fault.{usage_text, line, status_of}
 use Rattle.rpkibasic.specs.declared.fault.Fault.{Fault}
 use Rattle.rpkibasic.specs.declared.fault.Fault.TheVariants.{Usage, Refused, RefusedUri, TooLong, OutOfMemory, Input, Output}
 use Rattle.rpkibasic.specs.declared.command.Command.{Command}
-use Rattle.rpkibasic.specs.declared.command.Command.TheVariants.{Again, Data, Key, Uri}
+use Rattle.rpkibasic.specs.declared.command.Command.TheVariants.{Again, Data, Key, Uri, Ext}
 
 -- ---- what is answered: a text, or a fault
 
@@ -81,6 +85,40 @@ IsRefusedText wrong Input = ⊥
 IsRefusedText wrong Usage = ⊥
 IsRefusedText wrong Output = ⊥
 
+-- extensions, one after another
+abbrev pub SpellsExtensions : List ExtensionParts → List ℕ → Type 0
+SpellsExtensions = SpellsEach SpellsExtension
+
+-- what is written of them, in order
+abbrev pub written_extensions : List ExtensionParts → List ℕ
+written_extensions xs = flat_map written_extension xs
+
+-- The input is extensions, one after another, and the text is what is written of each.
+abbrev pub AreExtensions : List ℕ → List ℕ → Type 0
+AreExtensions input text = (xs : List ExtensionParts) × SpellsOnly SpellsExtensions xs input × (text ≡ written_extensions xs)
+
+-- Behind extensions stand octets that no extension begins, and the reader of one refuses them so; and so the input isn't
+-- extensions.
+pub record StopsAt (input : List ℕ) (e : DecodeError) : Type 0 where
+  pub front : List ℕ
+  pub rest : List ℕ
+  pub before : List ExtensionParts
+  pub parts : input ≡ front ++ rest
+  pub read : SpellsExtensions before front
+  pub refused : Refuses SpellsExtension rest
+  pub kind : (e ≢ der.OutOfMemory) × GivesOuterFault sequence true rest e
+  pub none : SpellsNothing SpellsExtensions input
+
+-- why an input isn't extensions
+abbrev pub IsExtensionFault : List ℕ → Fault → Type 0
+IsExtensionFault input (Refused e) = StopsAt input e
+IsExtensionFault input (RefusedUri e) = ⊥
+IsExtensionFault input TooLong = ⊥
+IsExtensionFault input OutOfMemory = ⊥
+IsExtensionFault input Input = ⊥
+IsExtensionFault input Usage = ⊥
+IsExtensionFault input Output = ⊥
+
 -- the answer that is due to the input, which is one for each command
 abbrev pub IsDue : Command → List ℕ → Answer → Type 0
 IsDue Again input (Ok text) = IsAgain input text
@@ -91,6 +129,8 @@ IsDue Key input (Ok text) = IsKeyLine input text
 IsDue Key input (Err fault) = IsFaultOf SpellsKey ⊥ input fault
 IsDue Uri input (Ok text) = IsLines input text
 IsDue Uri input (Err fault) = IsRefusedText (uri_refusal_of (without_last_line_feed input)) fault
+IsDue Ext input (Ok text) = AreExtensions input text
+IsDue Ext input (Err fault) = IsExtensionFault input fault
 
 -- a fact of each fault but an allocation failure
 abbrev pub UnlessMemory : Fault → Type 0 → Type 0

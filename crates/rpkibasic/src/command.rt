@@ -15,6 +15,8 @@ pub enum Command {
     Key,
     /// The parts of a URI.
     Uri,
+    /// Extensions, written again.
+    Ext,
 }
 
 impl Command {
@@ -28,6 +30,7 @@ impl Command {
             [word] if word.as_str() == "data" => Some(Command::Data),
             [word] if word.as_str() == "key" => Some(Command::Key),
             [word] if word.as_str() == "uri" => Some(Command::Uri),
+            [word] if word.as_str() == "ext" => Some(Command::Ext),
             _ => None,
         }
     }

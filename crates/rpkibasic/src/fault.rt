@@ -31,7 +31,7 @@ pub enum Fault {
 }
 
 /// The line that tells how the program is used.
-pub const USAGE: &[u8] = b"usage: rpkibasic again|data|key|uri\n";
+pub const USAGE: &[u8] = b"usage: rpkibasic again|data|key|uri|ext\n";
 
 impl Fault {
     /// The exit status that goes with it.

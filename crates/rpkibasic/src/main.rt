@@ -4,6 +4,7 @@
 mod answers;
 mod arguments;
 mod command;
+mod extensions;
 mod fault;
 mod input;
 mod keys;

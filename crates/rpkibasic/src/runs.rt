@@ -9,6 +9,7 @@ ghost use Rattle.rpkibasic.specs.declared.command.Command.{Command as AnyCommand
 
 use crate::answers::{again, data};
 use crate::command::Command;
+use crate::extensions::ext;
 use crate::fault::{Fault, USAGE, refuse};
 use crate::input::read_all;
 use crate::keys::key;
@@ -27,6 +28,7 @@ fn answer<R: Read>(alloc: Global, command: Command, input: &mut R) -> Result<Vec
         Command::Data => data(alloc, octets),
         Command::Key => key(alloc, octets),
         Command::Uri => uri(alloc, octets),
+        Command::Ext => ext(alloc, octets),
     }
 }
 

@@ -43,7 +43,20 @@ const FIRST: &[u8] =
 const ABC_KEY: &[u8] =
     b"\x30\x15\x30\x0d\x06\x09\x2a\x86\x48\x86\xf7\x0d\x01\x01\x01\x05\x00\x03\x04\x00\x61\x62\x63";
 
-const USAGE_LINE: &[u8] = b"usage: rpkibasic again|data|key|uri\n";
+/// Basic constraints that are not critical, with FALSE and without it, and critical ones.
+const FALSE_SPELLED: &[u8] = &[
+    0x30, 0x0c, 0x06, 0x03, 0x55, 0x1d, 0x13, 0x01, 0x01, 0x00, 0x04, 0x02, 0x30, 0x00,
+];
+
+const FALSE_LEFT_OUT: &[u8] = &[
+    0x30, 0x09, 0x06, 0x03, 0x55, 0x1d, 0x13, 0x04, 0x02, 0x30, 0x00,
+];
+
+const CRITICAL: &[u8] = &[
+    0x30, 0x0c, 0x06, 0x03, 0x55, 0x1d, 0x13, 0x01, 0x01, 0xff, 0x04, 0x02, 0x30, 0x00,
+];
+
+const USAGE_LINE: &[u8] = b"usage: rpkibasic again|data|key|uri|ext\n";
 
 /// What is seen of a run: the status, the output and the faults.
 #[derive(Drop)]
@@ -91,7 +104,7 @@ struct Case {
     input: &'static [&'static [u8]],
     status: u8,
     output: &'static [&'static [u8]],
-    faults: &'static str,
+    faults: &'static [u8],
 }
 
 /// Runs whose words, input and answers are known, one after another.
@@ -109,7 +122,7 @@ const CASES: &[Case] = &[
             WITH_PARAMETERS,
             &[0x03, 0x02, 0x00, 0xaa],
         ],
-        faults: "",
+        faults: b"",
     },
     Case {
         words: &["data"],
@@ -120,7 +133,7 @@ const CASES: &[Case] = &[
         ],
         status: 0,
         output: &[&[0x30, 0x00]],
-        faults: "",
+        faults: b"",
     },
     Case {
         words: &["again"],
@@ -131,7 +144,7 @@ const CASES: &[Case] = &[
         ],
         status: 1,
         output: &[],
-        faults: "refused 6\n",
+        faults: b"refused 6\n",
     },
     Case {
         words: &["again"],
@@ -146,7 +159,7 @@ const CASES: &[Case] = &[
             WITH_PARAMETERS,
             &[0x03, 0x02, 0x00, 0xaa],
         ],
-        faults: "",
+        faults: b"",
     },
     Case {
         words: &["again"],
@@ -161,7 +174,7 @@ const CASES: &[Case] = &[
             WITH_PARAMETERS,
             &[0x03, 0x02, 0x00, 0xaa],
         ],
-        faults: "",
+        faults: b"",
     },
     Case {
         words: &["again"],
@@ -172,7 +185,7 @@ const CASES: &[Case] = &[
         ],
         status: 1,
         output: &[],
-        faults: "refused 5\n",
+        faults: b"refused 5\n",
     },
     Case {
         words: &["again"],
@@ -183,7 +196,7 @@ const CASES: &[Case] = &[
         ],
         status: 1,
         output: &[],
-        faults: "refused 1\n",
+        faults: b"refused 1\n",
     },
     Case {
         words: &["data"],
@@ -194,7 +207,7 @@ const CASES: &[Case] = &[
         ],
         status: 0,
         output: &[&[0x30, 0x02, 0x02, 0x00]],
-        faults: "",
+        faults: b"",
     },
     Case {
         words: &["again"],
@@ -209,7 +222,7 @@ const CASES: &[Case] = &[
             WITH_PARAMETERS,
             &[0x03, 0x02, 0x00, 0xaa],
         ],
-        faults: "",
+        faults: b"",
     },
     Case {
         words: &["data"],
@@ -220,49 +233,49 @@ const CASES: &[Case] = &[
         ],
         status: 1,
         output: &[],
-        faults: "refused 6\n",
+        faults: b"refused 6\n",
     },
     Case {
         words: &["data"],
         input: &[],
         status: 1,
         output: &[],
-        faults: "refused 1\n",
+        faults: b"refused 1\n",
     },
     Case {
         words: &["key"],
         input: &[],
         status: 1,
         output: &[],
-        faults: "refused 1\n",
+        faults: b"refused 1\n",
     },
     Case {
         words: &["uri"],
         input: &[],
         status: 1,
         output: &[],
-        faults: "refused 4\n",
+        faults: b"refused 4\n",
     },
     Case {
         words: &["again"],
         input: &[&[0x00, 0x00]],
         status: 1,
         output: &[],
-        faults: "refused 2\n",
+        faults: b"refused 2\n",
     },
     Case {
         words: &["again"],
         input: &[&[0x31, 0x00]],
         status: 1,
         output: &[],
-        faults: "refused 4\n",
+        faults: b"refused 4\n",
     },
     Case {
         words: &["again"],
         input: &[&[0x30, 0x81, 0x00]],
         status: 1,
         output: &[],
-        faults: "refused 3\n",
+        faults: b"refused 3\n",
     },
     Case {
         words: &["key"],
@@ -273,7 +286,7 @@ const CASES: &[Case] = &[
         ],
         status: 0,
         output: &[b"A9993E364706816ABA3E25717850C26C9CD0D89D\n"],
-        faults: "",
+        faults: b"",
     },
     Case {
         words: &["key"],
@@ -284,140 +297,208 @@ const CASES: &[Case] = &[
         ],
         status: 1,
         output: &[],
-        faults: "refused 6\n",
+        faults: b"refused 6\n",
     },
     Case {
         words: &["key"],
         input: &[&[0x31, 0x00]],
         status: 1,
         output: &[],
-        faults: "refused 4\n",
+        faults: b"refused 4\n",
     },
     Case {
         words: &["key"],
         input: &[&[0x30, 0x81, 0x00]],
         status: 1,
         output: &[],
-        faults: "refused 3\n",
+        faults: b"refused 3\n",
     },
     Case {
         words: &["key"],
         input: &[&[0x30, 0x12], RSA_WITH_PARAMETERS, &[0x03, 0x01, 0x00]],
         status: 0,
         output: &[b"DA39A3EE5E6B4B0D3255BFEF95601890AFD80709\n"],
-        faults: "",
+        faults: b"",
     },
     Case {
         words: &["key"],
         input: &[&[0x30, 0x10], RSA_WITHOUT_PARAMETERS, &[0x03, 0x01, 0x00]],
         status: 0,
         output: &[b"DA39A3EE5E6B4B0D3255BFEF95601890AFD80709\n"],
-        faults: "",
+        faults: b"",
     },
     Case {
         words: &["uri"],
         input: &[b"rSync://hOst/module/foo/bar\n"],
         status: 0,
         output: &[b"scheme rsync\nauthority host\nmodule module\npath foo/bar\n"],
-        faults: "",
+        faults: b"",
     },
     Case {
         words: &["uri"],
         input: &[b"rsync://host/module/"],
         status: 0,
         output: &[b"scheme rsync\nauthority host\nmodule module\npath \n"],
-        faults: "",
+        faults: b"",
     },
     Case {
         words: &["uri"],
         input: &[b"rsync:///module/foo"],
         status: 1,
         output: &[],
-        faults: "refused 6\n",
+        faults: b"refused 6\n",
     },
     Case {
         words: &["uri"],
         input: &[b"rsync://host/module"],
         status: 1,
         output: &[],
-        faults: "refused 2\n",
+        faults: b"refused 2\n",
     },
     Case {
         words: &["uri"],
         input: &[b"rsync://host/module/foo/bar/.."],
         status: 1,
         output: &[],
-        faults: "refused 5\n",
+        faults: b"refused 5\n",
     },
     Case {
         words: &["uri"],
         input: &[b"https://example.com/some"],
         status: 0,
         output: &[b"scheme https\nauthority example.com\npath /some\n"],
-        faults: "",
+        faults: b"",
     },
     Case {
         words: &["uri"],
         input: &[b"https://HOST\n"],
         status: 0,
         output: &[b"scheme https\nauthority host\npath \n"],
-        faults: "",
+        faults: b"",
     },
     Case {
         words: &["uri"],
         input: &[b"HTTPS://Example.COM\n"],
         status: 0,
         output: &[b"scheme https\nauthority example.com\npath \n"],
-        faults: "",
+        faults: b"",
     },
     Case {
         words: &["uri"],
         input: &[b"rsync://host/module/a\n\n"],
         status: 1,
         output: &[],
-        faults: "refused 1\n",
+        faults: b"refused 1\n",
     },
     Case {
         words: &["uri"],
         input: &[b"http://example.com/"],
         status: 1,
         output: &[],
-        faults: "refused 4\n",
+        faults: b"refused 4\n",
+    },
+    Case {
+        words: &["ext"],
+        input: &[FALSE_SPELLED],
+        status: 0,
+        output: &[FALSE_LEFT_OUT],
+        faults: b"",
+    },
+    Case {
+        words: &["ext"],
+        input: &[CRITICAL],
+        status: 0,
+        output: &[CRITICAL],
+        faults: b"",
+    },
+    Case {
+        words: &["ext"],
+        input: &[FALSE_SPELLED, CRITICAL],
+        status: 0,
+        output: &[FALSE_LEFT_OUT, CRITICAL],
+        faults: b"",
+    },
+    Case {
+        words: &["ext"],
+        input: &[],
+        status: 0,
+        output: &[],
+        faults: b"",
+    },
+    Case {
+        words: &["ext"],
+        input: &[&[
+            0x30, 0x0c, 0x06, 0x03, 0x55, 0x1d, 0x13, 0x01, 0x01, 0x01, 0x04, 0x02, 0x30, 0x00,
+        ]],
+        status: 1,
+        output: &[],
+        faults: b"refused 5\n",
+    },
+    // an extension, and then one that is none
+    Case {
+        words: &["ext"],
+        input: &[CRITICAL, &[0x30, 0x05, 0x06, 0x03, 0x55, 0x1d, 0x13]],
+        status: 1,
+        output: &[],
+        faults: b"refused 1\n",
+    },
+    Case {
+        words: &["ext"],
+        input: &[&[0x30, 0x05, 0x06, 0x03, 0x55, 0x1d, 0x13]],
+        status: 1,
+        output: &[],
+        faults: b"refused 1\n",
+    },
+    Case {
+        words: &["ext"],
+        input: &[&[
+            0x30, 0x0b, 0x06, 0x03, 0x55, 0x1d, 0x13, 0x04, 0x02, 0x30, 0x00, 0x05, 0x00,
+        ]],
+        status: 1,
+        output: &[],
+        faults: b"refused 6\n",
+    },
+    Case {
+        words: &["ext"],
+        input: &[&[0x31, 0x00]],
+        status: 1,
+        output: &[],
+        faults: b"refused 4\n",
     },
     Case {
         words: &[],
         input: &[&[0x30]],
         status: 0,
-        output: &[b"usage: rpkibasic again|data|key|uri\n"],
-        faults: "",
+        output: &[USAGE_LINE],
+        faults: b"",
     },
     Case {
         words: &["x"],
         input: &[],
         status: 2,
         output: &[],
-        faults: "usage: rpkibasic again|data|key|uri\n",
+        faults: USAGE_LINE,
     },
     Case {
         words: &["again", "again"],
         input: &[],
         status: 2,
         output: &[],
-        faults: "usage: rpkibasic again|data|key|uri\n",
+        faults: USAGE_LINE,
     },
     Case {
         words: &[""],
         input: &[],
         status: 2,
         output: &[],
-        faults: "usage: rpkibasic again|data|key|uri\n",
+        faults: USAGE_LINE,
     },
     Case {
         words: &["Again"],
         input: &[],
         status: 2,
         output: &[],
-        faults: "usage: rpkibasic again|data|key|uri\n",
+        faults: USAGE_LINE,
     },
 ];
 
@@ -443,11 +524,7 @@ fn worked_runs(rt: HostRuntime) -> Result<(), Fail> {
             output.as_slice(),
             "{words:?} {input:?}"
         );
-        assert_eq!(rt;
-            seen.faults.as_slice(),
-            case.faults.as_bytes(),
-            "{words:?} {input:?}"
-        );
+        assert_eq!(rt; seen.faults.as_slice(), case.faults, "{words:?} {input:?}");
     }
     Ok(())
 }

@@ -1,6 +1,6 @@
 //! Runs over readers and writers that fail, and over a reader that comes to its end late or never.
 
-use super::{ABC_KEY, FAULTS, FIRST, Seen, USAGE_LINE, owned};
+use super::{ABC_KEY, FALSE_LEFT_OUT, FALSE_SPELLED, FAULTS, FIRST, Seen, USAGE_LINE, owned};
 use crate::fault::refuse;
 use crate::runs::run;
 use std::alloc::{AllocError, Global};
@@ -199,7 +199,7 @@ impl Failure {
 }
 
 /// Words, an input and the output: one row for each word, and one without words.
-const ANSWERED: [(&[&str], &[u8], &[u8]); 5] = [
+const ANSWERED: [(&[&str], &[u8], &[u8]); 6] = [
     (&["again"], FIRST, FIRST),
     (&["data"], FIRST, &[0x30, 0x00]),
     (
@@ -212,6 +212,7 @@ const ANSWERED: [(&[&str], &[u8], &[u8]); 5] = [
         b"rSync://hOst/module/foo/bar\n",
         b"scheme rsync\nauthority host\nmodule module\npath foo/bar\n",
     ),
+    (&["ext"], FALSE_SPELLED, FALSE_LEFT_OUT),
     (&[], b"", USAGE_LINE),
 ];
 

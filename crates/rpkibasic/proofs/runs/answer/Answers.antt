@@ -1,4 +1,4 @@
-use Rattle.rpkibasic.specs.declared.command.Command.TheVariants.{Again, Data, Key, Uri}
+use Rattle.rpkibasic.specs.declared.command.Command.TheVariants.{Again, Data, Key, Uri, Ext}
 use Rattle.rpkibasic.proofs.Answering.{answered}
 use Rattle.rpkibasic.proofs.runs.answer.Goals as goal
 
@@ -13,3 +13,6 @@ returns-in-Key g c = answered c.args.command Key _ _ _ c.in-Key.is c.in_ok-octet
 
 pub returns-in-Uri : goal.returns-in-Uri
 returns-in-Uri g c = answered c.args.command Uri _ _ _ c.in-Uri.is c.in_ok-octets.ensures.whole c.in_ok-octets.ensures.most c.uri.ensures
+
+pub returns-in-Ext : goal.returns-in-Ext
+returns-in-Ext g c = answered c.args.command Ext _ _ _ c.in-Ext.is c.in_ok-octets.ensures.whole c.in_ok-octets.ensures.most c.ext.ensures

@@ -1,0 +1,61 @@
+//! Extensions, one after another.
+
+ghost use Rattle.std.specs.Prelude.{◌≡◌, MatchResult, IfOk};
+ghost use Rattle.rpkibasic.specs.Run.{Answers, SpellsOnly, SpellsExtensions, written_extensions, UnlessMemory, IsExtensionFault};
+ghost use Rattle.rpkibasic.specs.View.{answer_of};
+ghost use Rattle.rpkibasic.specs.declared.command.Command.TheVariants.{Ext};
+
+use crate::fault::Fault;
+use bytes::Bytes;
+use rpki::der::{Constructed, Values};
+use rpki::repository::x509::CertExtension;
+use std::alloc::{AllocError, Global};
+
+/// The extensions that the input is, one after another to its end.
+fn extensions(alloc: Global, input: Vec<u8>) -> Result<Vec<CertExtension>, Fault>
+    ensures { MatchResult result (λ all. SpellsOnly SpellsExtensions all.items input.items)
+        (λ f. UnlessMemory f (IsExtensionFault input.items f)) }
+{
+    let octets = match Bytes::from_vec(input) {
+        Ok(octets) => octets,
+        Err(_) => return Err(Fault::OutOfMemory),
+    };
+    let mut rest = Constructed::new(&octets);
+    let mut all = Vec::new(alloc);
+    'extensions: while !rest.is_empty() {
+        let extension = match CertExtension::take_from(alloc, &mut rest) {
+            Ok(extension) => extension,
+            Err(e) => return Err(Fault::from(e)),
+        };
+        match all.push(extension) {
+            Ok(()) => {}
+            Err(_) => return Err(Fault::OutOfMemory),
+        }
+    }
+    Ok(all)
+}
+
+/// What is written of the extensions, in order.
+fn written(alloc: Global, extensions: &[CertExtension]) -> Result<Vec<u8>, AllocError>
+    ensures { IfOk result (λ text. text.items ≡ written_extensions extensions.now) }
+{
+    let mut text = Vec::new(alloc);
+    'extensions: for extension in extensions {
+        match extension.encode_ref().write_encoded(&mut text) {
+            Ok(()) => {}
+            Err(_) => return Err(AllocError),
+        }
+    }
+    Ok(text)
+}
+
+/// The extensions that the input is, written again, once all of them are read.
+pub fn ext(alloc: Global, input: Vec<u8>) -> Result<Vec<u8>, Fault>
+    ensures { Answers Ext input.items (answer_of result) }
+{
+    let all = extensions(alloc, input)?;
+    match written(alloc, all.as_slice()) {
+        Ok(text) => Ok(text),
+        Err(_) => Err(Fault::OutOfMemory),
+    }
+}
