@@ -120,7 +120,7 @@ pub(crate) fn header(s: &[u8]) -> Result<(Header, &[u8]), DecodeError>
     ensures ok { IfOk result (λ x. Accepts SpellsHeader s.now x.0 x.1.now) }
     ensures err { IfErr result (λ e. Refuses SpellsHeader s.now × IsHeaderFault s.now e) }
 {
-    // `?` has no rule here, since a `Tag` has an invariant and stands beside a reference
+    // `?` has no rule here, since a `Tag` is `Copy` with an `impl Model`, and stands beside a reference
     let (tag, constructed, rest) = match identifier(s) {
         Ok(found) => found,
         Err(e) => return Err(e),
