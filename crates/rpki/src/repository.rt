@@ -1,6 +1,4 @@
 //! What repositories hold.
 
 pub mod error;
-#[cfg(test)]
-mod error_tests;
 pub mod x509;

@@ -2,10 +2,15 @@
 
 mod algorithms;
 mod comparisons;
+mod errors;
+mod extension_encoders;
+mod extensions;
 mod identifiers;
 mod keys;
+mod names;
 mod oid;
 mod signed_data;
+mod updates;
 mod verification;
 mod writers;
 

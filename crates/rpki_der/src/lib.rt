@@ -34,12 +34,4 @@ pub use text::{PrintableString, Utf8String};
 pub use value::Content;
 
 #[cfg(test)]
-mod composed_tests;
-#[cfg(test)]
-mod encode_tests;
-#[cfg(test)]
-mod index_tests;
-#[cfg(test)]
 mod tests;
-#[cfg(test)]
-mod walk_tests;

@@ -17,12 +17,3 @@ pub use rpki_time::{
 pub use signed_data::{SignatureValueContent, SignedData};
 pub use subject_name::SubjectName;
 pub use update::update_first;
-
-#[cfg(test)]
-mod cert_extension_tests;
-#[cfg(test)]
-mod extension_tests;
-#[cfg(test)]
-mod name_tests;
-#[cfg(test)]
-mod update_tests;

@@ -1,5 +1,7 @@
-use super::encode_extension;
+//! Extensions that are made.
+
 use crate::oid;
+use crate::repository::x509::encode_extension;
 use rpki_der::{Captured, PrimitiveContent, Sequence, Values};
 use std::alloc::{AllocError, Global};
 use std::test::Fail;

@@ -1,4 +1,6 @@
-use super::*;
+//! Walks over nested values.
+
+use crate::*;
 use bytes::Bytes;
 use std::alloc::{AllocError, Global};
 use std::test::Fail;

@@ -1,4 +1,6 @@
-use super::*;
+//! Encoders, and writers that fail.
+
+use crate::*;
 use bytes::Bytes;
 use std::alloc::{AllocError, Global};
 use std::io;

@@ -1,5 +1,7 @@
-use super::error::*;
+//! Texts and comparisons of errors.
+
 use crate::crypto::SignatureVerificationError;
+use crate::repository::error::*;
 use rpki_der::{ContentError, DecodeError};
 use rpki_time::ValidityPeriodError;
 use std::test::Fail;

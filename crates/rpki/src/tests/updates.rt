@@ -1,4 +1,6 @@
-use super::*;
+//! The first value that is given.
+
+use crate::repository::x509::*;
 
 // An option, what an operation gives, and what the option is then.
 const CASES: [(Option<u8>, Option<u8>, Option<u8>); 4] = [

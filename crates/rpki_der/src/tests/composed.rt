@@ -1,6 +1,6 @@
-//! Worked cases of values whose contents a closure reads.
+//! Values whose contents a closure reads.
 
-use super::*;
+use crate::*;
 use bytes::Bytes;
 
 /// A name, whether a SET is read, the octets, the answer of a reader of one BOOLEAN inside, and how many octets are left.

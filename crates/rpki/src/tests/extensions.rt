@@ -1,4 +1,6 @@
-use super::CertExtension;
+//! Extensions that are read.
+
+use crate::repository::x509::CertExtension;
 use bytes::Bytes;
 use rpki_der::{Captured, Constructed, DecodeError, Values};
 use std::alloc::{AllocError, Global};

@@ -1,4 +1,6 @@
-use super::*;
+//! The index of headers.
+
+use crate::*;
 use bytes::Bytes;
 use std::test::Fail;
 

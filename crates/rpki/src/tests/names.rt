@@ -1,5 +1,7 @@
-use super::*;
+//! Names, and their inspections.
+
 use crate::repository::error::InspectionError;
+use crate::repository::x509::*;
 use bytes::Bytes;
 use rpki_der::{Captured, Constructed, ContentError, DecodeError};
 use std::alloc::Global;
