@@ -1,0 +1,3 @@
+pub mod Revoked
+pub mod Beside
+pub mod Verified

@@ -1,0 +1,21 @@
+-- Entries of a revocation list (RFC 5280 5.1.2.6).
+use Rattle.std.specs.Prelude.{ℕ, true, List}
+use Rattle.jiff.specs.Types.{DateTime}
+use Rattle.rpki_der.specs.TagName.{sequence}
+use Rattle.rpki_der.specs.Values.{SpellsLeaf}
+use Rattle.rpki.specs.InOrder.{SpellsBoth}
+use Rattle.rpki_time.specs.Serial.{SpellsSerial}
+use Rattle.rpki_time.specs.TimeValue.{SpellsTime}
+use Rattle.rpki_examples.specs.declared.revoked.RevokedCertificate.{RevokedCertificate}
+
+-- the number and the time
+abbrev pub entry_of : RevokedCertificate → ℕ × DateTime
+entry_of c = (c.serial, c.date)
+
+-- a serial number, and then a time
+abbrev pub IsRevoked : ℕ × DateTime → List ℕ → Type 0
+IsRevoked e contents = SpellsBoth SpellsSerial SpellsTime e.0 e.1 contents
+
+-- a SEQUENCE of the two
+abbrev pub SpellsRevoked : ℕ × DateTime → List ℕ → Type 0
+SpellsRevoked = SpellsLeaf sequence true IsRevoked

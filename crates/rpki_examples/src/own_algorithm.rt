@@ -1,0 +1,83 @@
+//! An algorithm type of one's own.
+
+ghost use Rattle.std.specs.Prelude.{true, [], ◌∷◌};
+ghost use Rattle.rpki_der.specs.Cursor.{left};
+ghost use Rattle.rpki_der.specs.TagName.{sequence};
+ghost use Rattle.rpki_der.specs.Reading.{Reads};
+ghost use Rattle.rpki_der.specs.Values.{IsOuterFault};
+ghost use Rattle.rpki.specs.SignatureNames.{SpellsBare};
+
+use rpki::crypto::{SignatureAlgorithm, SigningAlgorithm};
+use rpki::der::{ConstOid, Constructed, DecodeError, Oid, Primitive, PrimitiveContent, Sequence};
+use std::marker::Model;
+
+/// The object identifier 2.999, which stands for examples (X.660 A.2).
+const OWN_NAME: ConstOid = Oid(&[0x88, 0x37]);
+
+/// RSA with SHA-256 under a name of its own, without parameters.
+#[derive(Clone, Copy, Debug, PartialEq, Eq)]
+pub struct OwnAlgorithm {
+    only: (),
+}
+
+/// There is one value.
+impl Model for OwnAlgorithm {
+    ghost Value = { Unit {0} };
+
+    ghost view = { λ _. tt };
+
+    ghost inverse = { λ _. record { only = tt } };
+}
+
+impl SignatureAlgorithm for OwnAlgorithm {
+    type Encoder = Sequence<Primitive<ConstOid>>;
+
+    ghost use Rattle.std.specs.Prelude.{[], ◌∷◌, refl};
+    ghost use Rattle.std.proofs.Common.{lit<};
+    ghost use Rattle.rpki.specs.SignatureNames.{SpellsBare, bare_octets};
+    ghost use Rattle.rpki.specs.BareOctets.{bare-spelled, bare-value};
+    ghost use Rattle.rpki.specs.declared.crypto.keys.PublicKeyFormat.TheVariants.{Rsa};
+
+    ghost spells = { SpellsBare (136 ∷ 55 ∷ []) };
+
+    ghost written = { λ _. bare_octets (136 ∷ 55 ∷ []) };
+
+    ghost norm = { λ a. a };
+
+    ghost format = { λ _. Rsa };
+
+    ghost spelled_value = { λ a s h. bare-value (136 ∷ 55 ∷ []) a s h };
+
+    ghost spells_one = { λ a b s h k. refl };
+
+    ghost written_spells = { λ a. bare-spelled (136 ∷ 55 ∷ []) a (lit< tt) };
+
+    ghost norm_norm = { λ _. refl };
+
+    ghost written_norm = { λ _. refl };
+
+    ghost norm_format = { λ _. refl };
+
+    fn signing_algorithm(&self) -> SigningAlgorithm {
+        SigningAlgorithm::RsaSha256
+    }
+
+    /// A SEQUENCE of the object identifier and nothing else.
+    ///
+    /// The errors of `take_sequence` where that fails; `Content` for another identifier; `Trailing` for parameters.
+    fn x509_take_from(cons: &mut Constructed<'_>) -> Result<Self, DecodeError>
+        ensures { Reads (λ a. a) (SpellsBare (136 ∷ 55 ∷ [])) (IsOuterFault sequence true)
+            (left cons.old) (left cons.new) result }
+    {
+        let mut after = *cons;
+        let mut contents = after.take_sequence()?;
+        contents.skip_oid_if(OWN_NAME)?;
+        contents.finish()?;
+        *cons = after;
+        Ok(OwnAlgorithm { only: () })
+    }
+
+    fn x509_encode(&self) -> Self::Encoder {
+        Sequence::new(OWN_NAME.encode())
+    }
+}

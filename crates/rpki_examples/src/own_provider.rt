@@ -1,0 +1,52 @@
+//! A provider of one's own.
+
+use rpki::crypto::Provider;
+use sha1::Sha1;
+use sha2::{Digest, Sha256};
+
+/// A provider that makes digests by the crates `sha1` and `sha2`, and takes one RSA signature for right.
+///
+/// A provider with RSA of its own calls it in `rsa_check`, and `rsa_of` is the definition that this RSA is proved
+/// against: a function of the key's bits, the message and the signature. All that the layer proves of verification is
+/// said of that function.
+#[derive(Drop)]
+pub struct OneSignature {
+    /// The bits of the key.
+    pub bits: &'static [u8],
+    /// What is signed.
+    pub message: &'static [u8],
+    /// The signature.
+    pub signature: &'static [u8],
+}
+
+impl Provider for OneSignature {
+    ghost use Rattle.std.specs.Prelude.{◌&&◌, bytes_eq, false};
+    ghost use Rattle.sha1.specs.Sha1.{sha1};
+    ghost use Rattle.sha2.specs.Sha256.{sha256};
+
+    ghost sha1_of = { λ _ octets. sha1 octets };
+
+    ghost sha256_of = { λ _ octets. sha256 octets };
+
+    ghost rsa_of = { λ p bits message signature. bytes_eq p.bits.now bits && bytes_eq p.message.now message
+        && bytes_eq p.signature.now signature };
+
+    ghost ecdsa_of = { λ _ _ _ _. false };
+
+    fn sha1(&self, octets: &[u8]) -> [u8; 20] {
+        Sha1::digest(octets)
+    }
+
+    fn sha256(&self, octets: &[u8]) -> [u8; 32] {
+        Sha256::digest(octets)
+    }
+
+    fn rsa_check(&self, bits: &[u8], message: &[u8], signature: &[u8]) -> bool {
+        self.bits == bits && self.message == message && self.signature == signature
+    }
+
+    /// It knows no ECDSA key.
+    fn ecdsa_check(&self, _bits: &[u8], _message: &[u8], _signature: &[u8]) -> bool {
+        false
+    }
+}

@@ -1,0 +1,46 @@
+//! A SEQUENCE of one's own: an entry of a revocation list.
+
+ghost use Rattle.std.specs.Prelude.{true};
+ghost use Rattle.rpki_der.specs.Cursor.{left};
+ghost use Rattle.rpki_der.specs.TagName.{sequence};
+ghost use Rattle.rpki_der.specs.Reading.{Reads};
+ghost use Rattle.rpki_der.specs.Values.{IsOuterFault};
+ghost use Rattle.rpki_examples.specs.Revoked.{entry_of, SpellsRevoked};
+
+use rpki::der::{Constructed, DecodeError};
+use rpki::repository::x509::{Serial, Time};
+
+/// A certificate that is revoked: its serial number, and when it was revoked (RFC 5280 5.1.2.6). In the RPKI an entry
+/// has no extensions (RFC 6487 5).
+#[derive(Clone, Copy)]
+pub struct RevokedCertificate {
+    /// The serial number.
+    pub serial: Serial,
+    /// When it was revoked.
+    pub date: Time,
+}
+
+impl RevokedCertificate {
+    /// Reads an entry: a SEQUENCE of a serial number and a time, and nothing else. It allocates nothing.
+    ///
+    /// The errors of [Constructed::take_sequence] where that fails; else those of the first part that could not be
+    /// read, or `Trailing` where more follows. An error leaves the cursor where it was.
+    pub fn take_from(cons: &mut Constructed<'_>) -> Result<RevokedCertificate, DecodeError>
+        ensures { Reads entry_of SpellsRevoked (IsOuterFault sequence true)
+            (left cons.old) (left cons.new) result }
+    {
+        let mut after = *cons;
+        let mut contents = after.take_sequence()?;
+        let serial = match Serial::take_from(&mut contents) {
+            Ok(serial) => serial,
+            Err(e) => return Err(e),
+        };
+        let date = match Time::take_from(&mut contents) {
+            Ok(date) => date,
+            Err(e) => return Err(e),
+        };
+        contents.finish()?;
+        *cons = after;
+        Ok(RevokedCertificate { serial, date })
+    }
+}
