@@ -1,4 +1,7 @@
-//! Serial numbers, times and periods of validity, as certificates have them (RFC 5280 4.1.2.2, 4.1.2.5).
+//! Serial numbers, times and validity periods, as certificates have them (RFC 5280 4.1.2.2, 4.1.2.5).
+//!
+//! `Serial::take_from`, `Time::take_from` and `Validity::take_from` read them from a cursor of `rpki_der`.
+//! `crates/rpki_examples/src/revoked.rt` reads the first two; docs/CALLING.md explains it.
 #![tactic(auto)]
 
 pub mod laws;
