@@ -21,14 +21,9 @@ fn decoded(alloc: Global, input: Vec<u8>) -> Result<RpkiSignedData, Fault>
     ensures { MatchResult result (λ v. SpellsOnly SpellsRpki v input.items)
         (λ f. UnlessMemory f (IsFaultOf SpellsRpki ⊥ input.items f)) }
 {
-    let octets = match Bytes::from_vec(input) {
-        Ok(octets) => octets,
-        Err(_) => return Err(Fault::OutOfMemory),
-    };
-    match SignedData::decode(alloc, octets) {
-        Ok(signed) => Ok(signed),
-        Err(e) => Err(Fault::from(e)),
-    }
+    let octets = Bytes::from_vec(input)?;
+    let signed = SignedData::decode(alloc, octets)?;
+    Ok(signed)
 }
 
 /// What is written of the signed data.
@@ -61,8 +56,6 @@ pub fn data(alloc: Global, input: Vec<u8>) -> Result<Vec<u8>, Fault>
     ensures { Answers Data input.items (answer_of result) }
 {
     let signed = decoded(alloc, input)?;
-    match Vec::from_slice(alloc, signed.data().as_slice()) {
-        Ok(text) => Ok(text),
-        Err(_) => Err(Fault::OutOfMemory),
-    }
+    let text = Vec::from_slice(alloc, signed.data().as_slice())?;
+    Ok(text)
 }

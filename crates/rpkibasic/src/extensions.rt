@@ -16,21 +16,12 @@ fn extensions(alloc: Global, input: Vec<u8>) -> Result<Vec<CertExtension>, Fault
     ensures { MatchResult result (λ all. SpellsOnly SpellsExtensions all.items input.items)
         (λ f. UnlessMemory f (IsExtensionFault input.items f)) }
 {
-    let octets = match Bytes::from_vec(input) {
-        Ok(octets) => octets,
-        Err(_) => return Err(Fault::OutOfMemory),
-    };
+    let octets = Bytes::from_vec(input)?;
     let mut rest = Constructed::new(&octets);
     let mut all = Vec::new(alloc);
     'extensions: while !rest.is_empty() {
-        let extension = match CertExtension::take_from(alloc, &mut rest) {
-            Ok(extension) => extension,
-            Err(e) => return Err(Fault::from(e)),
-        };
-        match all.push(extension) {
-            Ok(()) => {}
-            Err(_) => return Err(Fault::OutOfMemory),
-        }
+        let extension = CertExtension::take_from(alloc, &mut rest)?;
+        all.push(extension)?;
     }
     Ok(all)
 }
@@ -54,8 +45,6 @@ pub fn ext(alloc: Global, input: Vec<u8>) -> Result<Vec<u8>, Fault>
     ensures { Answers Ext input.items (answer_of result) }
 {
     let all = extensions(alloc, input)?;
-    match written(alloc, all.as_slice()) {
-        Ok(text) => Ok(text),
-        Err(_) => Err(Fault::OutOfMemory),
-    }
+    let text = written(alloc, all.as_slice())?;
+    Ok(text)
 }

@@ -8,6 +8,7 @@ ghost use Rattle.rpkibasic.specs.Run.{IsTold};
 use crate::input::Unread;
 use rpki::der::{DecodeError, write_whole};
 use rpki::uri;
+use std::alloc::{AllocError, AllocFailed};
 use std::io;
 use std::io::Write;
 
@@ -42,6 +43,28 @@ impl Fault {
             Fault::Usage => 2,
             _ => 1,
         }
+    }
+}
+
+impl From<AllocError> for Fault {
+    ghost use Rattle.std.specs.Prelude.{◌≡◌};
+    ghost use Rattle.rpkibasic.specs.declared.fault.Fault.TheVariants.{OutOfMemory};
+
+    ghost from_gives = { λ _ f. f ≡ OutOfMemory };
+
+    fn from(_e: AllocError) -> Fault {
+        Fault::OutOfMemory
+    }
+}
+
+impl<T: Drop> From<AllocFailed<T>> for Fault {
+    ghost use Rattle.std.specs.Prelude.{◌≡◌};
+    ghost use Rattle.rpkibasic.specs.declared.fault.Fault.TheVariants.{OutOfMemory};
+
+    ghost from_gives = { λ _ f. f ≡ OutOfMemory };
+
+    fn from(_e: AllocFailed<T>) -> Fault {
+        Fault::OutOfMemory
     }
 }
 

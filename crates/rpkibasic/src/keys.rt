@@ -18,14 +18,9 @@ fn decoded(input: Vec<u8>) -> Result<PublicKey, Fault>
     ensures { MatchResult result (λ k. SpellsOnly SpellsKey k input.items)
         (λ f. UnlessMemory f (IsFaultOf SpellsKey ⊥ input.items f)) }
 {
-    let octets = match Bytes::from_vec(input) {
-        Ok(octets) => octets,
-        Err(_) => return Err(Fault::OutOfMemory),
-    };
-    match PublicKey::decode(octets) {
-        Ok(key) => Ok(key),
-        Err(e) => Err(Fault::from(e)),
-    }
+    let octets = Bytes::from_vec(input)?;
+    let key = PublicKey::decode(octets)?;
+    Ok(key)
 }
 
 /// The line of the identifier: its hexadecimal digits.
@@ -43,8 +38,6 @@ pub fn key(alloc: Global, input: Vec<u8>) -> Result<Vec<u8>, Fault>
 {
     let key = decoded(input)?;
     let provider = BenchProvider::new(Vec::new(alloc));
-    match line_of(alloc, key.key_identifier(&provider)) {
-        Ok(line) => Ok(line),
-        Err(_) => Err(Fault::OutOfMemory),
-    }
+    let line = line_of(alloc, key.key_identifier(&provider))?;
+    Ok(line)
 }

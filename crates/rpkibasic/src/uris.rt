@@ -62,13 +62,9 @@ fn https_text(alloc: Global, text: Bytes) -> Result<Vec<u8>, Fault>
     ensures { MatchResult result (λ lines. (https_refusal text ≡ None) × (lines.items ≡ https_lines text))
         (λ f. UnlessMemory f (IsRefusedText (https_refusal text) f)) }
 {
-    match Https::from_bytes(text) {
-        Ok(uri) => match lines_of_https(alloc, &uri) {
-            Ok(lines) => Ok(lines),
-            Err(_) => Err(Fault::OutOfMemory),
-        },
-        Err(e) => Err(Fault::from(e)),
-    }
+    let uri = Https::from_bytes(text)?;
+    let lines = lines_of_https(alloc, &uri)?;
+    Ok(lines)
 }
 
 /// The lines of the rsync URI that the text is.
@@ -76,13 +72,9 @@ fn rsync_text(alloc: Global, text: Bytes) -> Result<Vec<u8>, Fault>
     ensures { MatchResult result (λ lines. (rsync_refusal text ≡ None) × (lines.items ≡ rsync_lines text))
         (λ f. UnlessMemory f (IsRefusedText (rsync_refusal text) f)) }
 {
-    match Rsync::from_bytes(text) {
-        Ok(uri) => match lines_of_rsync(alloc, &uri) {
-            Ok(lines) => Ok(lines),
-            Err(_) => Err(Fault::OutOfMemory),
-        },
-        Err(e) => Err(Fault::from(e)),
-    }
+    let uri = Rsync::from_bytes(text)?;
+    let lines = lines_of_rsync(alloc, &uri)?;
+    Ok(lines)
 }
 
 /// The lines of the URI that the input is, without one line feed at its end: an https URI where the text begins with
@@ -92,10 +84,7 @@ pub fn uri(alloc: Global, input: Vec<u8>) -> Result<Vec<u8>, Fault>
 {
     let mut text = input;
     drop_last_line_feed(&mut text);
-    let octets = match Bytes::from_vec(text) {
-        Ok(octets) => octets,
-        Err(_) => return Err(Fault::OutOfMemory),
-    };
+    let octets = Bytes::from_vec(text)?;
     if starts_with_ignore_case(octets.as_slice(), b"https://") {
         https_text(alloc, octets)
     } else {

@@ -2,12 +2,15 @@ use Rattle.rpkibasic.specs.Run.{SpellsRpki}
 use Rattle.rpki_der.specs.Inside.{HasInside}
 use Rattle.rpki_der.specs.TagName.{sequence}
 use Rattle.rpki_der.specs.Walk.{HasEither}
+use Rattle.std.proofs.lemmas.Result.{err_from_is_err_and}
 use Rattle.rpkibasic.proofs.Faults.{fault-of}
 use Rattle.rpkibasic.proofs.answers.decoded.Goals as goal
 
-pub returns-in-Ok-decode : goal.returns-in-Ok-decode
-returns-in-Ok-decode c = rw c.in-Ok.ensures.ok at c.in-Ok-decode.ensures.decodes
+pub returns : goal.returns
+returns c = rw c.in_ok-octets.ensures.ok at c.in_ok-signed.ensures.decodes
 
-pub returns-in-Err-decode : goal.returns-in-Err-decode
-returns-in-Err-decode c =
-    rw c.from.ensures (fault-of SpellsRpki (HasInside sequence HasEither) ⊥ c.args.input.items c.in-Err-decode.e (rw c.in-Ok.ensures.ok at c.in-Err-decode.ensures.decodes))
+pub returns-in_err-signed : goal.returns-in_err-signed
+returns-in_err-signed c =
+    let p = err_from_is_err_and c.from_residual-in_err-signed.result c.from_residual-in_err-signed.ensures.1 in
+    rw (p.1, p.2)
+    (fault-of SpellsRpki (HasInside sequence HasEither) ⊥ c.args.input.items c.in_err-signed.field-0.0 (rw c.in_ok-octets.ensures.ok at c.in_err-signed.ensures.decodes))
