@@ -1,5 +1,5 @@
--- Extensions of certificates that are read (RFC 5280 4.1, 4.2): a SEQUENCE of an OBJECT IDENTIFIER, a BOOLEAN whose default
--- is FALSE, and an OCTET STRING.
+-- Extensions of certificates that are read (RFC 5280 4.1, 4.2): a SEQUENCE of an OBJECT IDENTIFIER, a BOOLEAN whose
+-- default is FALSE, and an OCTET STRING.
 use Rattle.std.specs.Prelude.{◌≡◌, ◌⊎◌, ◌<◌, ◌^◌, ℕ, Bool, true, false, List, [], ◌∷◌, ◌++◌, length, nat_eq, bytes_eq, if◌then◌else◌}
 use Rattle.rpki_der.specs.TagName.{oid, boolean, octet_string, sequence}
 use Rattle.rpki_der.specs.Values.{SpellsContents, SpellsLeaf}
@@ -42,8 +42,8 @@ pub record CanBeWritten (x : ExtensionParts) : Type 0 where
   pub identifier : IsOid x.identifier
   pub short : length (extension_contents x.identifier x.critical x.content) < 2 ^ 32
 
--- The parts that stand in octets, as a function of them: of the contents of an extension, and of a whole extension. Nothing
--- stands behind an OCTET STRING; behind a BOOLEAN there is one.
+-- The parts that stand in octets, as a function of them: of the contents of an extension, and of a whole extension.
+-- Nothing stands behind an OCTET STRING; behind a BOOLEAN there is one.
 unfoldable pub parts_in : List ℕ → ExtensionParts
 parts_in c =
     let rest = after_front c in

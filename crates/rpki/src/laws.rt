@@ -97,11 +97,12 @@ pub fn equal_names_have_equal_octets()
     ensures { (m n : List ℕ) → IsTrue (⟦<Name as PartialEq>⟧.eq m n) ↔ (m ≡ n) }
 {}
 
-/// Extensions are equal where their identifiers and their octets are, and both are critical or neither is; and octets are
-/// an extension in one way alone.
+/// Extensions are equal where their identifiers and their octets are, and both are critical or neither is; and octets
+/// are an extension in one way alone.
 pub fn equal_extensions_have_equal_parts()
     ensures equal { (v w : ExtensionParts) → IsTrue (⟦<CertExtension as PartialEq>⟧.eq v w) ↔ (v ≡ w) }
-    ensures one_reading { (v w : ExtensionParts) (octets : List ℕ) → SpellsExtension v octets → SpellsExtension w octets → v ≡ w }
+    ensures one_reading { (v w : ExtensionParts) (octets : List ℕ)
+        → SpellsExtension v octets → SpellsExtension w octets → v ≡ w }
 {}
 
 /// Algorithms and formats are equal to themselves alone. Of the RPKI's algorithm it counts whether parameters were

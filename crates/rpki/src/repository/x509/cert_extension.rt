@@ -47,7 +47,8 @@ pub type ExtensionBytes<'a> = Sequence<
 /// What writes the extension of these parts.
 fn encode_parts<'a>(id: Oid<&'a [u8]>, critical: bool, octets: &'a [u8]) -> ExtensionBytes<'a>
     requires { CanBeWritten (extension_parts id.0.now critical octets.now) }
-    ensures octets { ⟦<ExtensionBytes<'static> as Values>⟧.encoded result ≡ extension_octets id.entry.0.now critical octets.now }
+    ensures octets { ⟦<ExtensionBytes<'static> as Values>⟧.encoded result
+        ≡ extension_octets id.entry.0.now critical octets.now }
     ensures short { ⟦<ExtensionBytes<'static> as Values>⟧.is_short result }
 {
     let critical = if critical { Some(true.encode()) } else { None };
@@ -74,14 +75,15 @@ impl CertExtension {
         Ok(CertExtension { captured })
     }
 
-    /// As [CertExtension::take_from] where what is left begins with the identifier octets of a SEQUENCE, in either form;
-    /// else None, and the cursor stays where it is.
+    /// As [CertExtension::take_from] where what is left begins with the identifier octets of a SEQUENCE, in either
+    /// form; else None, and the cursor stays where it is.
     pub fn take_opt_from(
         alloc: Global,
         cons: &mut Constructed<'_>,
     ) -> Result<Option<CertExtension>, DecodeError>
         ensures { ReadsWhere (HasTag sequence) (λ x. x) SpellsExtension
-            (OrMemoryWhere (Finds SpellsExtension) (GivesOuterFault sequence true)) (left cons.old) (left cons.new) result }
+            (OrMemoryWhere (Finds SpellsExtension) (GivesOuterFault sequence true))
+            (left cons.old) (left cons.new) result }
     {
         if !cons.has_tag(Tag::SEQUENCE) {
             return Ok(None);
@@ -90,8 +92,8 @@ impl CertExtension {
         Ok(Some(extension))
     }
 
-    /// The contents of the parts, as the index has them: of the identifier, of the BOOLEAN where it is there, and of the
-    /// OCTET STRING.
+    /// The contents of the parts, as the index has them: of the identifier, of the BOOLEAN where it is there, and of
+    /// the OCTET STRING.
     fn parts(&self) -> (&[u8], Option<&[u8]>, &[u8])
         ensures identifier { result.0.now ≡ self.now.identifier }
         ensures absent { IfNone result.1 (self.now.critical ≡ false) }

@@ -13,7 +13,8 @@ use rpki_der::{Constructed, DecodeError, Oid};
 /// The parts that are all of these contents: the identifier, whether the extension is critical, and the octets. A
 /// BOOLEAN that is left out stands for FALSE, its default; FALSE is read where it is spelled.
 fn take_parts<'a>(contents: Constructed<'a>) -> Result<(Oid<&'a [u8]>, bool, &'a [u8]), DecodeError>
-    ensures { Decodes (λ x. extension_parts x.0.0.now x.1 x.2.now) IsExtensionContents (λ _ e. e ≢ DecodeError.OutOfMemory) (left contents.entry) result }
+    ensures { Decodes (λ x. extension_parts x.0.0.now x.1 x.2.now) IsExtensionContents (λ _ e. e ≢ DecodeError.OutOfMemory)
+        (left contents.entry) result }
 {
     let mut rest = contents;
     let identifier = rest.take_oid()?;
@@ -27,7 +28,8 @@ fn take_parts<'a>(contents: Constructed<'a>) -> Result<(Oid<&'a [u8]>, bool, &'a
 pub(super) fn take_extension<'a>(
     cons: &mut Constructed<'a>,
 ) -> Result<(Oid<&'a [u8]>, bool, &'a [u8]), DecodeError>
-    ensures { Reads (λ x. extension_parts x.0.0.now x.1 x.2.now) SpellsExtension (IsOuterFault sequence true) (left cons.old) (left cons.new) result }
+    ensures { Reads (λ x. extension_parts x.0.0.now x.1 x.2.now) SpellsExtension (IsOuterFault sequence true)
+        (left cons.old) (left cons.new) result }
 {
     let mut after = *cons;
     let contents = after.take_sequence()?;
