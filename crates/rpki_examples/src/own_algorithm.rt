@@ -35,7 +35,7 @@ impl SignatureAlgorithm for OwnAlgorithm {
     ghost use Rattle.std.specs.Prelude.{[], ◌∷◌, refl};
     ghost use Rattle.std.proofs.Common.{lit<};
     ghost use Rattle.rpki.specs.SignatureNames.{SpellsBare, bare_octets};
-    ghost use Rattle.rpki.specs.BareOctets.{bare-spelled, bare-value};
+    ghost use Rattle.rpki.specs.BareOctetsLaws.{bare-spelled, bare-value};
     ghost use Rattle.rpki.specs.declared.crypto.keys.PublicKeyFormat.TheVariants.{Rsa};
 
     ghost spells = { SpellsBare (136 ∷ 55 ∷ []) };
@@ -64,16 +64,12 @@ impl SignatureAlgorithm for OwnAlgorithm {
 
     /// A SEQUENCE of the object identifier and nothing else.
     ///
-    /// The errors of `take_sequence` where that fails; `Content` for another identifier; `Trailing` for parameters.
+    /// The errors of `in_sequence` where there is none; `Content` for another identifier; `Trailing` for parameters.
     fn x509_take_from(cons: &mut Constructed<'_>) -> Result<Self, DecodeError>
         ensures { Reads (λ a. a) (SpellsBare (136 ∷ 55 ∷ [])) (IsOuterFault sequence true)
             (left cons.old) (left cons.new) result }
     {
-        let mut after = *cons;
-        let mut contents = after.take_sequence()?;
-        contents.skip_oid_if(OWN_NAME)?;
-        contents.finish()?;
-        *cons = after;
+        cons.in_sequence(|contents| contents.skip_oid_if(OWN_NAME))?;
         Ok(OwnAlgorithm { only: () })
     }
 

@@ -3,9 +3,10 @@
 ghost use Rattle.std.specs.Prelude.{true};
 ghost use Rattle.rpki_der.specs.Cursor.{left};
 ghost use Rattle.rpki_der.specs.TagName.{sequence};
-ghost use Rattle.rpki_der.specs.Reading.{Reads};
+ghost use Rattle.rpki_der.specs.Reading.{Reads, TakesNoMemory, AnyFault};
+ghost use Rattle.rpki_der.specs.Composed.{ReadsAll};
 ghost use Rattle.rpki_der.specs.Values.{IsOuterFault};
-ghost use Rattle.rpki_examples.specs.Revoked.{entry_of, SpellsRevoked};
+ghost use Rattle.rpki_examples.specs.Revoked.{entry_of, IsRevoked, SpellsRevoked};
 
 use rpki::der::{Constructed, DecodeError};
 use rpki::repository::x509::{Serial, Time};
@@ -23,24 +24,26 @@ pub struct RevokedCertificate {
 impl RevokedCertificate {
     /// Reads an entry: a SEQUENCE of a serial number and a time, and nothing else. It allocates nothing.
     ///
-    /// The errors of [Constructed::take_sequence] where that fails; else those of the first part that could not be
+    /// The errors of [Constructed::in_sequence] where there is none; else those of the first part that could not be
     /// read, or `Trailing` where more follows. An error leaves the cursor where it was.
     pub fn take_from(cons: &mut Constructed<'_>) -> Result<RevokedCertificate, DecodeError>
         ensures { Reads entry_of SpellsRevoked (IsOuterFault sequence true)
             (left cons.old) (left cons.new) result }
     {
-        let mut after = *cons;
-        let mut contents = after.take_sequence()?;
-        let serial = match Serial::take_from(&mut contents) {
-            Ok(serial) => serial,
-            Err(e) => return Err(e),
-        };
-        let date = match Time::take_from(&mut contents) {
-            Ok(date) => date,
-            Err(e) => return Err(e),
-        };
-        contents.finish()?;
-        *cons = after;
-        Ok(RevokedCertificate { serial, date })
+        cons.in_sequence(
+            |contents|
+                ensures { ReadsAll entry_of IsRevoked (TakesNoMemory AnyFault) (left contents.old) (left contents.new) result }
+            {
+                let serial = match Serial::take_from(contents) {
+                    Ok(serial) => serial,
+                    Err(e) => return Err(e),
+                };
+                let date = match Time::take_from(contents) {
+                    Ok(date) => date,
+                    Err(e) => return Err(e),
+                };
+                Ok(RevokedCertificate { serial, date })
+            },
+        )
     }
 }

@@ -1,5 +1,5 @@
 use Rattle.std.proofs.Common.{lit<, [], ◌∷◌}
-use Rattle.rpki.specs.BareOctets.{bare-short}
+use Rattle.rpki.specs.BareOctetsLaws.{bare-short}
 use Rattle.rpki_examples.proofs.own_algorithm.OwnAlgorithmSignatureAlgorithm.x509_encode.Goals as goal
 
 pub returns-clause-short : goal.returns-clause-short

@@ -1,0 +1,39 @@
+use Rattle.std.proofs.Common.{false}
+use Rattle.rpki_der.specs.Cursor.{left}
+use Rattle.rpki_der.specs.TagName.{integer}
+use Rattle.rpki_der.proofs.ReadingLaws.{UnlessMemory-weaker}
+use Rattle.rpki_der.proofs.ComposedLaws.{nothing-whole, nothing-after, all-read}
+use Rattle.rpki_der.proofs.LeavesLaws.{leaf-no-memory}
+use Rattle.rpki.proofs.InOrderLaws.{both-read, no-first, no-second}
+use Rattle.rpki_time.specs.Serial.{IsSerialContents, SpellsSerial}
+use Rattle.rpki_time.specs.TimeValue.{SpellsTime}
+use Rattle.rpki_examples.proofs.Parts.{time_no_memory, both_same}
+use Rattle.rpki_examples.proofs.revoked.fn.RevokedCertificate.take_from.in_sequence.Goals as goal
+
+pub returns-in-Err : goal.returns-in-Err
+returns-in-Err c =
+    let s = left c.args.contents.now in
+    let e = c.in-Err.e in (
+      UnlessMemory-weaker e (λ none v k. no-first SpellsSerial SpellsTime s none v.0 v.1 k) c.in-Err.ensures.refuses,
+      record { other = leaf-no-memory integer false IsSerialContents s e c.in-Err.ensures.kind.0; kind = tt },
+    )
+
+pub returns-in-Err-take_from : goal.returns-in-Err-take_from
+returns-in-Err-take_from c =
+    let s = left c.args.contents.now in
+    let m = left c.take_from.new.cons in
+    let e = c.in-Err-take_from.e in (
+      UnlessMemory-weaker e (λ none v k. no-second SpellsSerial SpellsTime s m _ c.in-Ok.ensures (nothing-whole SpellsTime m none) v.0 v.1 k) c.in-Err-take_from.ensures.refuses,
+      record { other = time_no_memory m e c.in-Err-take_from.ensures.kind; kind = tt },
+    )
+
+pub returns : goal.returns
+returns c =
+    let s = left c.args.contents.now in
+    let a = c.in-Ok.ensures in
+    let b = c.in-Ok-take_from.ensures in (
+      λ end.
+          let k = both-read SpellsSerial SpellsTime s _ _ _ a (all-read SpellsTime _ _ _ b end) in
+          (k.0, λ w h. let q = k.1 w.0 w.1 h in both_same w.0 c.in-Ok.serial w.1 c.in-Ok-take_from.date q.0 q.1),
+      λ some v k. no-second SpellsSerial SpellsTime s _ _ a (nothing-after SpellsTime _ _ _ b some) v.0 v.1 k,
+    )
