@@ -17,7 +17,7 @@ pub record Inside {X E : Type 0} (t : TagName) (f : Bool) (reads : Constructed �
   pub read : reads before x after
   pub rest : left after ≡ d
 
--- Why s is refused with e: the value isn't there; or the reader of its contents refuses them; or it leaves some of them.
+-- The error e of s: the value isn't there; or the reader of its contents rejects them; or it leaves some of them.
 -- Errors of this reader's own are turned into those of the reader of the contents.
 pub data NotInside {X E : Type 0} (t : TagName) (f : Bool) (turned : DecodeError → E → Type 0)
     (reads : Constructed → Result X E → Constructed → Type 0) (s : List ℕ) (e : E) : Type 0 where
@@ -31,8 +31,8 @@ abbrev pub ReadsInside : {X E : Type 0} → TagName → Bool → (DecodeError �
 ReadsInside t f turned reads s r (Ok x) = Inside t f reads s r (Ok x) []
 ReadsInside t f turned reads s r (Err e) = (r ≡ s) × NotInside t f turned reads s e
 
--- A reader of the whole of s left r. Where r is empty s spells the answer and nothing else; where it isn't, or where s is
--- refused, s spells nothing.
+-- A reader of the whole of s left r. Where r is empty s spells the result and nothing else; where it isn't, or where s
+-- is rejected, s spells nothing.
 abbrev pub ReadsAll : {X V : Type 0} → (X → V) → (V → List ℕ → Type 0) → (List ℕ → DecodeError → Type 0) → List ℕ → List ℕ → Result X DecodeError → Type 0
 ReadsAll {X} {V} view G K s r (Ok x) = (r ≡ [] → G (view x) s × ((w : V) → G w s → w ≡ view x)) × (r ≢ [] → SpellsNothing G s)
 ReadsAll view G K s r (Err e) = UnlessMemory e (SpellsNothing G s) × K s e

@@ -6,7 +6,7 @@ use Rattle.rpki_der.specs.Leaves.{Bits}
 abbrev pub null_contents : Unit {0} → List ℕ
 null_contents v = []
 
--- the subidentifiers, as they stand (X.690 8.19)
+-- the subidentifiers, unchanged (X.690 8.19)
 abbrev pub oid_contents : List ℕ → List ℕ
 oid_contents octets = octets
 

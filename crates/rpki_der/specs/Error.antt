@@ -13,7 +13,7 @@ error_number (Content e) = 5
 error_number Trailing = 6
 error_number OutOfMemory = 7
 
--- the error of contents that a refusal has inside; of the other refusals nothing is said
+-- the error of contents that is inside an error; of the other errors nothing is said
 abbrev pub IsContentOf : DecodeError → ContentError → Type 0
 IsContentOf (Content inner) e = e ≡ inner
 IsContentOf Truncated e = Unit {0}

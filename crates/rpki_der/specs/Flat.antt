@@ -14,7 +14,7 @@ pub record SpellsFlat (W : TagName → Bool → Type 0) (x : TagName × Bool × 
 abbrev pub IsAnyTag : TagName → Bool → Type 0
 IsAnyTag t f = Unit {0}
 
--- the first fault of a reader of such values
+-- the first error of a reader of such values
 abbrev pub IsFlatFault : (TagName → Bool → Type 0) → List ℕ → DecodeError → Type 0
 IsFlatFault W = IsValueFault (λ h. W h.tag h.constructed) (IsCut (SpellsFlat W))
 

@@ -26,8 +26,8 @@ form_number false = 0
 abbrev pub lead : TagName → Bool → ℕ → ℕ
 lead t constructed low = 64 * class_number t.class + 32 * form_number constructed + low
 
--- the identifier octets of a tag in a form: a number of 31 or more is written behind the first octet
--- in digits of base 128, all but the last with the top bit set (X.690 8.1.2.2 and 8.1.2.4)
+-- the identifier octets of a tag in a form: a number of 31 or more is written after the first octet in digits of base
+-- 128, all but the last with the top bit set (X.690 8.1.2.2 and 8.1.2.4)
 unfoldable pub identifier_octets : TagName → Bool → List ℕ
 identifier_octets t constructed =
     if nat_lt t.number 31

@@ -1,5 +1,5 @@
--- The parts of a header, and what a reader of one answers. The readers of headers say it to one another; no public
--- contract does.
+-- The parts of a header, and what a reader of one returns. Only the contracts between the readers of headers say it; no
+-- public contract does.
 use Rattle.std.specs.Prelude.{◌≡◌, ℕ, ◌/◌, ◌%◌, ◌^◌, ◌<◌, ◌≤◌, ◌⊎◌, List, [], ◌∷◌, ◌++◌, length, Result, Ok, Err}
 use Rattle.rpki_der.specs.declared.error.DecodeError.{DecodeError}
 use Rattle.rpki_der.specs.declared.error.DecodeError.TheVariants.{Truncated}

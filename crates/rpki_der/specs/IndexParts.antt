@@ -3,7 +3,7 @@ use Rattle.std.specs.Prelude.{◌≡◌, ℕ, ◌+◌, Bool, true, false, List, 
 use Rattle.rpki_der.specs.Members.{Members, spell, HaveHeaders, count}
 use Rattle.rpki_der.specs.Index.{Entry, entries}
 
--- These octets are one value, and its entries were added, its place behind so many octets.
+-- These octets are one value, and its entries were added, its place after so many octets.
 pub record IsListed (before : ℕ) (old : List Entry) (octets : List ℕ) (new : List Entry) : Type 0 where
   pub members : Members
   pub legal : HaveHeaders members
@@ -34,7 +34,7 @@ abbrev pub name_of : Bool → ℕ → ℕ → ℕ
 name_of true number past = number
 name_of false number past = past
 
--- the entry with this number ends there, behind so many octets
+-- the entry with this number ends there, after so many octets
 pub record EndsAt (before : ℕ) (es : List Entry) (number end : ℕ) : Type 0 where
   pub found : Entry
   pub is : slice_get es number ≡ Some found

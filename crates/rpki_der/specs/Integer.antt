@@ -1,4 +1,4 @@
--- Contents of an INTEGER that is not negative (X.690 8.3).
+-- Contents of a non-negative INTEGER (X.690 8.3).
 use Rattle.std.specs.Prelude.{◌≡◌, ℕ, ◌≤◌, ◌<◌, ◌⊎◌, nat_lt, if◌then◌else◌, List, ◌∷◌, length, slice_index}
 use Rattle.rpki_der.specs.Number.{number_of, AreOctets}
 
@@ -20,7 +20,7 @@ pub record IsMinimal (c : List ℕ) : Type 0 where
   pub first_bit : slice_index c 0 < 128
   pub nine_bits : (1 < length c) → (0 < slice_index c 0) ⊎ (128 ≤ slice_index c 1)
 
--- a number's own octets, without a bit for the sign: no zero in front, but for zero itself, which is one octet
+-- a number's own octets, without a bit for the sign: no leading zero, but for zero itself, which is one octet
 pub record IsMagnitude (octets : List ℕ) : Type 0 where
   pub each : AreOctets octets
   pub nonempty : 0 < length octets

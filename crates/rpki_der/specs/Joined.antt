@@ -28,7 +28,7 @@ headers_joined Empty more p q = q
 headers_joined (Primitive t c rest) more p q = (p.0, headers_joined rest more p.1 q)
 headers_joined (Constructed t ms rest) more p q = (p.0, p.1, headers_joined rest more p.2 q)
 
--- values behind values
+-- values after values
 pub values_append : (k n : ℕ) (a b : List ℕ) → AreValues k a → AreValues n b → AreValues (k + n) (a ++ b)
 values_append k n a b p q = record {
   members = joined p.members q.members;

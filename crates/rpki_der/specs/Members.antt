@@ -21,13 +21,13 @@ HaveHeaders Empty = Unit {0}
 HaveHeaders (Primitive t c rest) = (IsTag t × (length c < 2 ^ 32)) × HaveHeaders rest
 HaveHeaders (Constructed t ms rest) = (IsTag t × (length (spell ms) < 2 ^ 32)) × HaveHeaders ms × HaveHeaders rest
 
--- how many values, those inside others aside
+-- how many values, not counting nested values
 abbrev pub count : Members → ℕ
 count Empty = 0
 count (Primitive t c rest) = 1 + count rest
 count (Constructed t ms rest) = 1 + count rest
 
--- how many headers, those of the values inside others included
+-- how many headers, those of nested values included
 abbrev pub header_count : Members → ℕ
 header_count Empty = 0
 header_count (Primitive t c rest) = 1 + header_count rest

@@ -27,7 +27,7 @@ SpellsNothing {V} G s = (v : V) → G v s → ⊥
 abbrev pub IsCut : {V : Type 0} → (V → List ℕ → Type 0) → List ℕ → Type 0
 IsCut {V} G s = (v : V) × (b : ℕ) × (more : List ℕ) × G v (s ++ b ∷ more)
 
--- a fact for each error but want of memory
+-- a fact for each error but allocation failure
 abbrev pub UnlessMemory : DecodeError → Type 0 → Type 0
 UnlessMemory Truncated P = P
 UnlessMemory BadTag P = P
@@ -37,19 +37,19 @@ UnlessMemory (Content e) P = P
 UnlessMemory Trailing P = P
 UnlessMemory OutOfMemory P = Unit {0}
 
--- A refusal of s by a reader of the grammar G that leaves r: nothing changed, no beginning of s is in G, and K
--- says which refusal it is.
+-- An error of a reader of the grammar G on s that leaves r: nothing changed, no beginning of s is in G, and K says
+-- which error it is.
 pub record Refusal {V : Type 0} (G : V → List ℕ → Type 0) (K : List ℕ → DecodeError → Type 0) (s r : List ℕ) (e : DecodeError) : Type 0 where
   pub unchanged : r ≡ s
   pub refuses : UnlessMemory e (Refuses G s)
   pub kind : K s e
 
--- A reader of the grammar G found s and left r. The answer x stands for the value view x.
+-- A reader of the grammar G found s and left r. The result x stands for the value view x.
 abbrev pub Reads : {X V : Type 0} → (X → V) → (V → List ℕ → Type 0) → (List ℕ → DecodeError → Type 0) → List ℕ → List ℕ → Result X DecodeError → Type 0
 Reads view G K s r (Ok x) = Accepts G s (view x) r
 Reads view G K s r (Err e) = Refusal G K s r e
 
--- The same for an optional reader, which answers None exactly where s does not begin as B says.
+-- The same for an optional reader, which returns None exactly where s does not begin as B says.
 abbrev pub ReadsWhere : {X V : Type 0} → (List ℕ → Type 0) → (X → V) → (V → List ℕ → Type 0) → (List ℕ → DecodeError → Type 0) → List ℕ → List ℕ → Result (Option X) DecodeError → Type 0
 ReadsWhere B view G K s r (Ok None) = (B s → ⊥) × (r ≡ s)
 ReadsWhere B view G K s r (Ok (Some x)) = B s × Accepts G s (view x) r
@@ -60,7 +60,7 @@ abbrev pub Decodes : {X V : Type 0} → (X → V) → (V → List ℕ → Type 0
 Decodes {X} {V} view G K s (Ok x) = G (view x) s × ((w : V) → G w s → w ≡ view x)
 Decodes view G K s (Err e) = UnlessMemory e (SpellsNothing G s) × K s e
 
--- the kinds of K, and want of memory where P is there
+-- the kinds of K, and allocation failure where P holds
 abbrev pub OrMemoryWhere : (List ℕ → Type 0) → (List ℕ → DecodeError → Type 0) → List ℕ → DecodeError → Type 0
 OrMemoryWhere P K s Truncated = K s Truncated
 OrMemoryWhere P K s BadTag = K s BadTag
@@ -74,7 +74,7 @@ OrMemoryWhere P K s OutOfMemory = P s
 abbrev pub Finds : {V : Type 0} → (V → List ℕ → Type 0) → List ℕ → Type 0
 Finds {V} G s = (v : V) × (r : List ℕ) × Spells G s v r
 
--- a kind of K, and never want of memory
+-- a kind of K, and never allocation failure
 pub record TakesNoMemory (K : List ℕ → DecodeError → Type 0) (s : List ℕ) (e : DecodeError) : Type 0 where
   pub other : e ≢ OutOfMemory
   pub kind : K s e
@@ -83,7 +83,7 @@ pub record TakesNoMemory (K : List ℕ → DecodeError → Type 0) (s : List ℕ
 abbrev pub AnyFault : List ℕ → DecodeError → Type 0
 AnyFault s e = Unit {0}
 
--- The refusal of a reader of whole octets: Trailing where a proper beginning is in the grammar; where no beginning is,
+-- The error of a reader of whole octets: Trailing where a proper beginning is in the grammar; where no beginning is,
 -- what the reader of a beginning says.
 pub record IsWholeFault {V : Type 0} (G : V → List ℕ → Type 0) (K : List ℕ → DecodeError → Type 0) (s : List ℕ) (e : DecodeError) : Type 0 where
   pub trailing : (v : V) (b : ℕ) (more : List ℕ) → Spells G s v (b ∷ more) → UnlessMemory e (e ≡ Trailing)

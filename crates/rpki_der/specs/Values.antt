@@ -1,4 +1,4 @@
--- Values by their header, and the first fault of who reads one.
+-- Values by their header, and the first error of a reader of one.
 use Rattle.std.specs.Prelude.{◌≡◌, ℕ, Bool, ◌<◌, ◌^◌, ◌⊎◌, List, length}
 use Rattle.rpki_der.specs.declared.error.DecodeError.{DecodeError}
 use Rattle.rpki_der.specs.declared.error.DecodeError.TheVariants.{Truncated, BadTag, BadLength, Unexpected, Content, Trailing, OutOfMemory}
@@ -17,7 +17,7 @@ pub record SpellsHeader (h : Header) (p : List ℕ) : Type 0 where
   pub legal : IsHeader h
   pub octets : p ≡ header_octets h
 
--- a value of this tag and form, whatever its contents
+-- a value of this tag and form, with any contents
 pub record SpellsContents (t : TagName) (f : Bool) (contents p : List ℕ) : Type 0 where
   pub tag : IsTag t
   pub fits : length contents < 2 ^ 32
@@ -73,10 +73,10 @@ IsLeafFault {V} t f C s (Content e) = (c : List ℕ) × (r : List ℕ) × Spells
 IsLeafFault t f C s Trailing = ⊥
 IsLeafFault t f C s OutOfMemory = ⊥
 
--- A composed reader of one value gives the very fault of that value where there is none; elsewhere any kind.
+-- A composed reader of one value gives exactly the fault of that value where there is none; elsewhere any kind.
 abbrev pub GivesOuterFault : TagName → Bool → List ℕ → DecodeError → Type 0
 GivesOuterFault t f s e = Refuses (SpellsContents t f) s → IsContentsFault t f s e
 
--- The same, and never want of memory.
+-- The same, and never allocation failure.
 abbrev pub IsOuterFault : TagName → Bool → List ℕ → DecodeError → Type 0
 IsOuterFault t f = TakesNoMemory (GivesOuterFault t f)

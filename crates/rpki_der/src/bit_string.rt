@@ -41,7 +41,7 @@ impl BitString {
         }
     }
 
-    /// The bit string of these octets, of whose last this many bits are unused. It asks that the two are legal, as
+    /// The bit string of these octets, of whose last this many bits are unused. Requires that the two are legal, as
     /// [BitString::is_legal] tests.
     pub fn new(unused: u8, bytes: Bytes) -> BitString
         requires { AreBits (bits_of unused bytes) }
@@ -67,16 +67,16 @@ impl BitString {
 
     /// The octets, shared.
     ///
-    /// AllocError where memory runs out.
+    /// Returns `AllocError` if allocation fails.
     pub fn octet_bytes(&self) -> Result<Bytes, AllocError>
         ensures { IfOk result (λ b. b ≡ self.now.octets) }
     {
         self.bytes.clone()
     }
 
-    /// The same bit string, whose octets are shared.
+    /// Returns a copy of the bit string that shares its octets.
     ///
-    /// AllocError where memory runs out.
+    /// Returns `AllocError` if allocation fails.
     pub fn clone(&self) -> Result<BitString, AllocError>
         ensures { IfOk result (λ b. b ≡ self.now) }
     {
@@ -118,8 +118,8 @@ impl<'a> Constructed<'a> {
 
     /// A bit string (X.690 8.6, 11.2). It shares the octets with the input.
     ///
-    /// The refusals are those of a header; then Unexpected for another tag or form; then Truncated; then Content for
-    /// contents that are no bit string; then OutOfMemory.
+    /// The errors are those of a header; then `Unexpected` for another tag or form; then `Truncated`; then `Content`
+    /// for contents that are not those of a bit string; then `OutOfMemory` if allocation fails.
     pub fn take_bit_string(&mut self) -> Result<BitString, DecodeError>
         ensures { Reads (λ b. b) (SpellsLeaf bit_string false IsBits) (OrMemoryWhere (Finds (SpellsLeaf bit_string false IsBits)) (IsLeafFault bit_string false IsBits)) (left self.old) (left self.new) result }
     {

@@ -12,8 +12,9 @@ use bytes::Bytes;
 use std::alloc::AllocError;
 use std::marker::Model;
 
-/// A list of values, as the octets that spell them one after another (X.690 8.1.1, 8.1.2.5). At every depth the contents
-/// of a constructed value are values that fill them; structure alone counts. An index of all their headers is kept beside.
+/// A list of values, as the octets that encode them one after another (X.690 8.1.1, 8.1.2.5). At every depth the
+/// contents of a constructed value are values that fill them; the contents of primitive values are not validated. An
+/// index of all their headers is kept with them.
 #[derive(Debug, Drop)]
 pub struct Captured {
     bytes: Bytes,
@@ -34,7 +35,7 @@ impl Model for Captured {
 impl Captured {
     ghost use Rattle.rpki_der.specs.Cursor.{left};
 
-    /// The values that these octets are, with their index.
+    /// Wraps the values that these octets encode, with their index.
     pub(crate) fn of_index(bytes: Bytes, index: Vec<HeaderEntry>) -> Captured
         requires { IsIndex bytes index.items }
         ensures { result ≡ bytes }
@@ -49,7 +50,7 @@ impl Captured {
         self.bytes.as_slice()
     }
 
-    /// The octets, without what is known of them.
+    /// The octets alone, without the index.
     pub fn into_bytes(self) -> Bytes
         ensures { result ≡ self }
     {
@@ -83,9 +84,9 @@ impl Captured {
         Constructed::indexed(&self.bytes, self.headers())
     }
 
-    /// The same values, octet for octet. They share the octets.
+    /// Returns a copy of the values, octet for octet, that shares the octets.
     ///
-    /// `AllocError` where memory runs out.
+    /// Returns `AllocError` if allocation fails.
     pub fn clone(&self) -> Result<Captured, AllocError>
         ensures { IfOk result (λ c. c ≡ self.now) }
     {
@@ -95,7 +96,7 @@ impl Captured {
     }
 }
 
-/// How many entries are of no value that is inside another.
+/// How many entries are of values that are not nested in another.
 fn outer_count(index: &[HeaderEntry]) -> usize
     ensures { result ≡ count_by (λ e. is_none e.parent) index.now }
 {

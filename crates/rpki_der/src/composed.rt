@@ -32,8 +32,8 @@ impl<'a> Constructed<'a> {
 
     /// Reads a SEQUENCE (X.690 8.9) whose contents `op` reads to their end.
     ///
-    /// Returns an error of [Constructed::take_sequence] if there is no such value; the error of `op` if that refuses the
-    /// contents; Trailing if it leaves some of them. An error leaves the cursor where it was.
+    /// Returns an error of [Constructed::take_sequence] if there is no such value; the error of `op` if that rejects
+    /// the contents; `Trailing` if it leaves some of them. An error leaves the cursor where it was.
     pub fn in_sequence<
         T: Drop,
         E: Drop + From<DecodeError>,
@@ -48,8 +48,8 @@ impl<'a> Constructed<'a> {
 
     /// Reads a SET (X.690 8.11) whose contents `op` reads to their end.
     ///
-    /// Returns an error of [Constructed::take_set] if there is no such value; the error of `op` if that refuses the
-    /// contents; Trailing if it leaves some of them. An error leaves the cursor where it was.
+    /// Returns an error of [Constructed::take_set] if there is no such value; the error of `op` if that rejects the
+    /// contents; `Trailing` if it leaves some of them. An error leaves the cursor where it was.
     pub fn in_set<
         T: Drop,
         E: Drop + From<DecodeError>,

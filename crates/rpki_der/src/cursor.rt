@@ -14,14 +14,14 @@ use std::alloc::AllocError;
 
 /// What is left of shared octets, or of the contents of a value in them.
 ///
-/// A reader moves the cursor past what it reads. A reader that refuses leaves it where it was. A cursor on captured values
-/// has their index, and takes from it each header that has an entry, in place of reading it again.
+/// A reader moves the cursor past what it reads. A reader that fails leaves it where it was. A cursor on captured
+/// values has their index, and takes from it each header that has an entry, instead of reading it again.
 #[derive(Clone, Copy)]
 pub struct Constructed<'a> {
     source: &'a Bytes,
     start: usize,
     end: usize,
-    /// The index of the source, or no entries where there is none.
+    /// The index of the source; empty if there is none.
     index: &'a [HeaderEntry],
     /// The number of the first entry that does not stand before the start.
     next: usize,
@@ -102,7 +102,7 @@ impl<'a> Constructed<'a> {
         self.end - self.start
     }
 
-    /// The first octets, as many as are asked for, and those behind them.
+    /// The first `at` octets, and those after them.
     pub(crate) fn split_at(&self, at: usize) -> (Constructed<'a>, Constructed<'a>)
         requires { at ≤ length (left self.now) }
         ensures front { left result.0 ≡ take at (left self.now) }
@@ -126,7 +126,7 @@ impl<'a> Constructed<'a> {
         (front, behind)
     }
 
-    /// Ok where nothing is left, else Trailing: the last step of a reader of whole octets, or of whole contents.
+    /// Returns Ok if nothing is left, else `Trailing`: the last step of a reader of whole octets, or of whole contents.
     pub fn finish(self) -> Result<(), DecodeError>
         ensures { MatchResult result (λ _. left self.entry ≡ []) (λ e. (e ≡ DecodeError.Trailing) × (left self.entry ≢ [])) }
     {
@@ -152,7 +152,7 @@ impl<'a> Constructed<'a> {
         }
     }
 
-    /// The header at the front, and a cursor on what is behind.
+    /// The header at the front, and a cursor on what follows.
     pub(crate) fn after_header(&self) -> Result<(Header, Constructed<'a>), DecodeError>
         ensures ok { IfOk result (λ x. Accepts SpellsHeader (left self.now) x.0 (left x.1)) }
         ensures err { IfErr result (λ e. Refuses SpellsHeader (left self.now) × IsHeaderFault (left self.now) e) }
@@ -177,9 +177,9 @@ impl<'a> Constructed<'a> {
 
     /// The header at the front (X.690 8.1.2, 8.1.3). The cursor moves past the header alone.
     ///
-    /// The steps rise by one, also where the call refuses; it asks that their count is below 2^64 - 1. The refusals are
-    /// Truncated, BadTag and BadLength: the octets are looked at from the left, and the first that can't be continued
-    /// to a legal spelling decides.
+    /// The count of steps rises by one, also if the call fails; requires that it is below 2^64 - 1. The errors are
+    /// `Truncated`, `BadTag` and `BadLength`: the octets are read from the left, and the first that cannot be continued
+    /// to a legal encoding decides.
     pub fn take_header(&mut self, steps: &mut Steps) -> Result<Header, DecodeError>
         requires { steps.old < 2 ^ 64 - 1 }
         ensures reads { Reads (λ h. h) SpellsHeader IsHeaderFault (left self.old) (left self.new) result }

@@ -1,4 +1,4 @@
-//! Encoders: values that are written in the distinguished encoding rules.
+//! Encoders: values written in the distinguished encoding rules.
 
 mod captured;
 mod constructed;

@@ -1,4 +1,4 @@
-//! Why octets are refused.
+//! Errors of decoding.
 
 ghost use Rattle.std.specs.Prelude.{◌≡◌};
 ghost use Rattle.rpki_der.specs.Error.{error_number};
@@ -8,7 +8,7 @@ use std::alloc::{AllocError, AllocFailed};
 use std::error::Error;
 use std::fmt;
 
-/// Why the contents of a value are refused, as a text.
+/// An error in the contents of a value, as a text.
 #[derive(Clone, Copy, Debug, PartialEq, Eq)]
 pub struct ContentError {
     text: &'static str,
@@ -38,7 +38,7 @@ impl fmt::Display for ContentError {
 
 impl Error for ContentError {}
 
-/// Why octets could not be read as the value that was asked for.
+/// Why octets could not be read as the requested value.
 #[derive(Clone, Copy, Debug, PartialEq, Eq)]
 pub enum DecodeError {
     /// The octets end before the value does.
@@ -50,11 +50,11 @@ pub enum DecodeError {
     BadLength,
     /// The value has another tag, or another form.
     Unexpected,
-    /// The contents are not those of the type that was asked for.
+    /// The contents are not those of the requested type.
     Content(ContentError),
     /// Octets follow the value.
     Trailing,
-    /// Memory ran out.
+    /// Allocation failed.
     OutOfMemory,
 }
 

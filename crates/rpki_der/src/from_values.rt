@@ -1,4 +1,4 @@
-//! Values that are written and captured.
+//! Captured values from encoders.
 
 ghost use Rattle.std.specs.Prelude.{◌≡◌, ◌<◌, ◌^◌, length, IfOk};
 ghost use Rattle.rpki_der.specs.Index.{IsIndex};
@@ -12,9 +12,9 @@ use bytes::Bytes;
 use std::alloc::{AllocError, Global};
 
 impl Captured {
-    /// The values, captured: they hold the octets that are written.
+    /// Captures the values: the result holds the octets that are written.
     ///
-    /// It asks that the values fit, as [Values::fits] tests. `AllocError` where memory runs out.
+    /// Requires that the values fit, as [Values::fits] tests. Returns `AllocError` if allocation fails.
     pub fn from_values<V: Values>(alloc: Global, values: &V) -> Result<Captured, AllocError>
         requires { V.is_short values.now × (length (V.encoded values.now) < 2 ^ 63) }
         ensures { IfOk result (λ c. c ≡ V.encoded values.now) }
@@ -29,7 +29,7 @@ impl Captured {
     }
 }
 
-/// The index of octets that are values. It is `AllocError` where memory runs out.
+/// The index of octets that are values. Returns `AllocError` if allocation fails.
 fn index_values(alloc: Global, octets: &[u8]) -> Result<Vec<HeaderEntry>, AllocError>
     requires { length octets.now < 2 ^ 63 }
     ensures { IfOk result (λ index. IsIndex octets.now index.items) }

@@ -10,10 +10,10 @@ ghost use Rattle.rpki_der.specs.HeaderParts.{SpellsTagNumber, SpellsLength, Spel
 use crate::error::DecodeError;
 use crate::tag::{Class, Header, Tag};
 
-/// The number of a tag, in digits of base 128 of which all but the last have the top bit set (X.690 8.1.2.4.2), and what
-/// is behind: at most four octets, and the shortest form of a number of 31 or more.
+/// The number of a tag, in digits of base 128 of which all but the last have the top bit set (X.690 8.1.2.4.2), and the
+/// rest. The number has at most four octets, and is the shortest form of a number of 31 or more.
 ///
-/// Truncated where the octets end within the number; else BadTag where they are no such form.
+/// Returns `Truncated` if the octets end within the number; else `BadTag` if they have no such form.
 fn tag_number(s: &[u8]) -> Result<(u32, &[u8]), DecodeError>
     ensures { ReadsPart (λ x. (x.0, x.1.now)) SpellsTagNumber BadTag s.now result }
 {
@@ -37,9 +37,9 @@ fn tag_number(s: &[u8]) -> Result<(u32, &[u8]), DecodeError>
     Err(DecodeError::BadTag)
 }
 
-/// The identifier octets at the front (X.690 8.1.2): the tag, whether the value is constructed, and what is behind.
+/// The identifier octets at the front (X.690 8.1.2): the tag, whether the value is constructed, and the rest.
 ///
-/// The refusals are Truncated and BadTag.
+/// The errors are `Truncated` and `BadTag`.
 fn identifier(s: &[u8]) -> Result<(Tag, bool, &[u8]), DecodeError>
     ensures { ReadsPart (λ x. ((x.0, x.1), x.2.now)) SpellsIdentifier BadTag s.now result }
 {
@@ -72,9 +72,9 @@ fn class_of(number: u8) -> Class
     }
 }
 
-/// The length octets at the front (X.690 8.1.3, 10.1), and what is behind.
+/// The length octets at the front (X.690 8.1.3, 10.1): the length, and the rest.
 ///
-/// The refusals are Truncated and BadLength.
+/// The errors are `Truncated` and `BadLength`.
 fn length(s: &[u8]) -> Result<(u32, &[u8]), DecodeError>
     ensures { ReadsPart (λ x. (x.0, x.1.now)) SpellsLength BadLength s.now result }
 {
@@ -90,9 +90,10 @@ fn length(s: &[u8]) -> Result<(u32, &[u8]), DecodeError>
     long_length(usize::from(*first) - 128, rest)
 }
 
-/// A length in this many octets, most significant first (X.690 8.1.3.5), and what is behind.
+/// A length in this many octets, most significant first (X.690 8.1.3.5), and the rest.
 ///
-/// Truncated where the octets end within the length; else BadLength where fewer octets, or one below 128, would do.
+/// Returns `Truncated` if the octets end within the length; else `BadLength` if fewer octets, or one below 128, would
+/// do.
 fn long_length(count: usize, s: &[u8]) -> Result<(u32, &[u8]), DecodeError>
     requires { count ≤ 4 }
     ensures { ReadsPart (λ x. (x.0, x.1.now)) (SpellsLongLength count) BadLength s.now result }
@@ -113,9 +114,10 @@ fn long_length(count: usize, s: &[u8]) -> Result<(u32, &[u8]), DecodeError>
     Ok((length, &s[count..]))
 }
 
-/// The header at the front (X.690 8.1.2, 8.1.3), and what is behind.
+/// The header at the front (X.690 8.1.2, 8.1.3), and the rest.
 ///
-/// The refusals are Truncated, BadTag and BadLength: the first octet that can't be continued to a legal spelling decides.
+/// The errors are `Truncated`, `BadTag` and `BadLength`: the first octet that cannot be continued to a legal encoding
+/// decides.
 pub(crate) fn header(s: &[u8]) -> Result<(Header, &[u8]), DecodeError>
     ensures ok { IfOk result (λ x. Accepts SpellsHeader s.now x.0 x.1.now) }
     ensures err { IfErr result (λ e. Refuses SpellsHeader s.now × IsHeaderFault s.now e) }

@@ -1,4 +1,4 @@
-//! Whole numbers that are not negative.
+//! Non-negative INTEGERs.
 
 ghost use Rattle.std.specs.Prelude.{false, ◌≡◌, ◌≢◌, ◌<◌, ◌↔◌, ℕ, [], length, drop, IfOk, IfErr, IfSome, IfNone};
 ghost use Rattle.rpki_der.specs.Number.{number_of};
@@ -10,12 +10,12 @@ use crate::tag::Tag;
 use std::alloc::AllocError;
 use std::marker::Model;
 
-/// Why no number is made of octets.
+/// Error returned when octets are not a number.
 #[derive(Clone, Copy, Debug, PartialEq, Eq)]
 pub enum InvalidInteger {
-    /// There are none.
+    /// The input is empty.
     Empty,
-    /// Memory ran out.
+    /// Allocation failed.
     OutOfMemory,
 }
 
@@ -30,8 +30,7 @@ impl From<AllocError> for InvalidInteger {
     }
 }
 
-/// A whole number that is not negative: its octets, the most significant first, without zeros in front; zero is one
-/// octet.
+/// A non-negative INTEGER: its octets, the most significant first, without leading zeros; zero is one octet.
 #[derive(Debug, Drop)]
 pub struct Unsigned<'a> {
     octets: &'a [u8],
@@ -48,7 +47,7 @@ impl<'a> Model for Unsigned<'a> {
     ghost invariant = { λ u. IsMagnitude u.octets.now };
 }
 
-/// How many zeros can be left out in front of the octets: all, but for the last octet.
+/// How many leading zeros can be left out: all, but the last octet always stays.
 fn leading_zeros(octets: &[u8]) -> usize
     requires { 0 < length octets.now }
     ensures within { result < length octets.now }
@@ -63,9 +62,9 @@ fn leading_zeros(octets: &[u8]) -> usize
 }
 
 impl<'a> Unsigned<'a> {
-    /// The number that the octets write, the most significant first. Zeros in front are left out.
+    /// The number that the octets write, the most significant first. Leading zeros are left out.
     ///
-    /// Empty where there are no octets. It takes no memory.
+    /// Returns `Empty` if there are no octets. Allocates nothing.
     pub fn from_slice(octets: &'a [u8]) -> Result<Unsigned<'a>, InvalidInteger>
         ensures value { IfOk result (λ u. number_of u ≡ number_of octets.now) }
         ensures magnitude { IfOk result IsMagnitude }
@@ -81,7 +80,7 @@ impl<'a> Unsigned<'a> {
         })
     }
 
-    /// The octets of the number, the most significant first, without zeros in front; zero is one octet.
+    /// The octets of the number, the most significant first, without leading zeros; zero is one octet.
     pub fn as_slice(&self) -> &'a [u8]
         ensures octets { result.now ≡ self.now }
         ensures magnitude { IsMagnitude self.now }
@@ -90,7 +89,7 @@ impl<'a> Unsigned<'a> {
     }
 }
 
-/// The number whose INTEGER has these contents, if it is not negative and none of its octets can be left out.
+/// The number whose INTEGER has these contents, if it is non-negative and none of its octets can be left out.
 fn unsigned_of(contents: &[u8]) -> Option<Unsigned<'_>>
     ensures value { IfSome result (λ u. IsUnsigned (number_of u) contents.now) }
     ensures none { IfNone result ((n : ℕ) → IsUnsigned n contents.now → ⊥) }
@@ -115,10 +114,10 @@ impl<'a> Constructed<'a> {
     ghost use Rattle.rpki_der.specs.Reading.{Reads};
     ghost use Rattle.rpki_der.specs.Values.{SpellsLeaf, IsLeafFault};
 
-    /// An INTEGER that is not negative (X.690 8.3).
+    /// A non-negative INTEGER (X.690 8.3).
     ///
-    /// The refusals are those of a header; then Unexpected for another tag or form; then Truncated; then Content for
-    /// contents that are empty, negative or begin with nine equal bits.
+    /// The errors are those of a header; then `Unexpected` for another tag or form; then `Truncated`; then `Content`
+    /// for contents that are empty, negative or begin with nine equal bits.
     pub fn take_unsigned(&mut self) -> Result<Unsigned<'a>, DecodeError>
         ensures { Reads number_of (SpellsLeaf integer false IsUnsigned) (IsLeafFault integer false IsUnsigned) (left self.old) (left self.new) result }
     {

@@ -47,8 +47,8 @@ pub fn one_fault()
     ensures { (s : List ℕ) (d e : DecodeError) → IsHeaderFault s d → IsHeaderFault s e → d ≡ e }
 {}
 
-/// A value that is refused is refused for one reason: each reader of flat values, and each reader of leaves, has at
-/// most one refusal for given octets. Of a leaf whose contents are malformed the kind is one; its text is the reader's.
+/// Errors are unique: each reader of values by their tag and form, and each reader of leaves, has at most one error for
+/// given octets. For a leaf whose contents are malformed the kind is unique; its text is the reader's.
 pub fn one_refusal()
     ensures values { (t : TagName) (f : Bool) (s : List ℕ) (d e : DecodeError) → IsContentsFault t f s d → IsContentsFault t f s e → d ≡ e }
     ensures flat { (wanted : Option TagName) (s : List ℕ) (d e : DecodeError) → IsFlatFault (IsWanted wanted) s d → IsFlatFault (IsWanted wanted) s e → d ≡ e }
@@ -66,7 +66,7 @@ pub fn one_list_of_members()
     ensures { (vs ws : Members) → HaveHeaders vs → HaveHeaders ws → spell vs ≡ spell ws → vs ≡ ws }
 {}
 
-/// No proper beginning of a value is a value.
+/// No proper prefix of a value is a value.
 pub fn no_value_begins_a_value()
     ensures { (value other rest : List ℕ) → IsValue value → IsValue other → value ≡ other ++ rest → rest ≡ [] }
 {}
@@ -92,7 +92,7 @@ pub fn no_value_at_a_fault()
     ensures { (s value rest : List ℕ) (e : DecodeError) → IsNestedFault s e → IsValue value → s ≡ value ++ rest → ⊥ }
 {}
 
-/// Every proper beginning of a value is truncated, the empty one aside.
+/// Every proper prefix of a value is truncated, except the empty one.
 pub fn cut_value_is_truncated()
     ensures { (s more : List ℕ) (b : ℕ) → s ≢ [] → IsValue (s ++ b ∷ more) → IsNestedFault s Truncated }
 {}
@@ -102,7 +102,7 @@ pub fn nested_fault_kinds()
     ensures { (s : List ℕ) (e : DecodeError) → IsNestedFault s e → (e ≡ Truncated) ⊎ (e ≡ BadTag) ⊎ (e ≡ BadLength) }
 {}
 
-/// What the encoders of leaf values write is read as the value that was written.
+/// The encoding of a leaf value is read as the value that was written.
 pub fn leaves_read_back()
     ensures null { NullReadBack }
     ensures booleans { BooleansReadBack }
@@ -112,12 +112,12 @@ pub fn leaves_read_back()
     ensures bits { BitsReadBack }
 {}
 
-/// A captured value is read back as itself, whatever follows: no other beginning of the octets is a value.
+/// A captured value is read back as itself, whatever follows: no other prefix of the octets is a value.
 pub fn values_read_back()
     ensures { (value rest : List ℕ) → IsValue value → Accepts SpellsValue (value ++ rest) value rest }
 {}
 
-/// Leaf values are written as the same octets exactly where they are equal. NULL is one value.
+/// Leaf values have the same encoding exactly where they are equal. NULL is one value.
 pub fn leaves_written_the_same()
     ensures null { (a b : Unit {0}) → (tlv null false (null_contents a) ≡ tlv null false (null_contents b)) ↔ (a ≡ b) }
     ensures booleans { BooleansApart }
@@ -150,8 +150,8 @@ pub fn tag_constants() -> [Tag; 14]
     ]
 }
 
-/// The tags that `TAG` names of NULL, BOOLEAN, OBJECT IDENTIFIER, OCTET STRING, BIT STRING, owned and lent, and INTEGER:
-/// those under which `encode` writes them.
+/// The tags that `TAG` names of NULL, BOOLEAN, OBJECT IDENTIFIER, OCTET STRING, BIT STRING, owned and borrowed, and
+/// INTEGER: those under which `encode` writes them.
 pub fn content_tags() -> [Tag; 7]
     ensures { result ≡ null ∷ boolean ∷ oid ∷ octet_string ∷ bit_string ∷ bit_string ∷ integer ∷ [] }
 {

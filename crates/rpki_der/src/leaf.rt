@@ -28,8 +28,8 @@ impl<'a> Constructed<'a> {
 
     /// A NULL (X.690 8.8).
     ///
-    /// The refusals are those of a header; then Unexpected for another tag or form; then Truncated; then Content for
-    /// contents that are not empty.
+    /// The errors are those of a header; then `Unexpected` for another tag or form; then `Truncated`; then `Content`
+    /// for contents that are not empty.
     pub fn take_null(&mut self) -> Result<(), DecodeError>
         ensures { Reads (λ _. tt) (SpellsLeaf null false IsNull) (IsLeafFault null false IsNull) (left self.old) (left self.new) result }
     {
@@ -56,8 +56,8 @@ impl<'a> Constructed<'a> {
 
     /// A BOOLEAN (X.690 8.2, 11.1): one octet, FF for true and 00 for false.
     ///
-    /// The refusals are those of a header; then Unexpected for another tag or form; then Truncated; then Content for
-    /// other contents.
+    /// The errors are those of a header; then `Unexpected` for another tag or form; then `Truncated`; then `Content`
+    /// for other contents.
     pub fn take_bool(&mut self) -> Result<bool, DecodeError>
         ensures { Reads (λ b. b) (SpellsLeaf boolean false IsBoolean) (IsLeafFault boolean false IsBoolean) (left self.old) (left self.new) result }
     {
@@ -86,7 +86,7 @@ impl<'a> Constructed<'a> {
 
     /// The octets of an OCTET STRING (X.690 8.7) in primitive form.
     ///
-    /// The refusals are those of a header; then Unexpected for another tag or form; then Truncated.
+    /// The errors are those of a header; then `Unexpected` for another tag or form; then `Truncated`.
     pub fn take_octets(&mut self) -> Result<&'a [u8], DecodeError>
         ensures { Reads (λ x. x.now) (SpellsContents octet_string false) (IsContentsFault octet_string false) (left self.old) (left self.new) result }
     {

@@ -1,7 +1,8 @@
 //! The distinguished encoding rules of X.690: headers, values, a cursor that reads them, and encoders.
 //!
 //! A reader takes a [Constructed], the cursor, and moves it past what it reads: `Constructed::new(&octets).take_oid()`.
-//! An encoder is of the trait [Values]: ask `fits`, then `write_encoded`, or keep its octets by `Captured::from_values`.
+//! An encoder implements the trait [Values]: call `fits`, then `write_encoded`, or `Captured::from_values` to keep its
+//! octets.
 //! `crates/rpki_examples/src/revoked.rt` reads a SEQUENCE of its own; docs/CALLING.md explains it.
 #![tactic(auto)]
 

@@ -59,10 +59,10 @@ impl Captured {
     }
 
     /// The numbers of the entries that have this parent, in order: of the members of the value whose entry has the
-    /// number, or of the captured values themselves where there is no parent. They are numbers in
-    /// [Captured::headers]. It takes no memory.
+    /// number, or of the captured values themselves where there is no parent. They are numbers in [Captured::headers].
+    /// Allocates nothing.
     ///
-    /// It asks that the number of a parent is below `headers().len()`.
+    /// Requires that the number of a parent is below `headers().len()`.
     pub fn members(&self, parent: Option<usize>) -> Members<'_>
         requires { IfSome parent (HasEntry self.now) }
         ensures numbers { (index : List Entry) → IsIndex self.now index → numbers_left result ≡ member_numbers parent index }
@@ -76,9 +76,9 @@ impl Captured {
         }
     }
 
-    /// The contents octets of the value whose entry has this number, without a copy. It takes no memory.
+    /// The contents octets of the value whose entry has this number, without a copy. Allocates nothing.
     ///
-    /// It asks that the number is below `headers().len()`.
+    /// Requires that the number is below `headers().len()`.
     pub fn contents(&self, entry: usize) -> &[u8]
         requires { HasEntry self.now entry }
         ensures { (index : List Entry) (e : Entry) → IsIndex self.now index → slice_get index entry ≡ Some e

@@ -7,12 +7,12 @@ use crate::cursor::Constructed;
 use crate::error::{ContentError, DecodeError};
 use crate::tag::Tag;
 
-/// An object identifier by its contents octets (X.690 8.19). One that is read is valid; one made by hand may be none,
-/// and is written as it is.
+/// An object identifier by its contents octets (X.690 8.19). One that is read is valid; one made by hand may be
+/// invalid, and is written unchanged.
 #[derive(Clone, Copy, Debug, PartialEq, Eq)]
 pub struct Oid<T>(pub T);
 
-/// An object identifier that is known beforehand.
+/// An object identifier that is a constant.
 pub type ConstOid = Oid<&'static [u8]>;
 
 /// Whether these are the contents of an object identifier (X.690 8.19.2).
@@ -52,7 +52,7 @@ impl<'a> Oid<&'a [u8]> {
         cons.take_oid()
     }
 
-    /// Moves past an object identifier, whichever it is. The refusals are those of [Constructed::take_oid].
+    /// Moves past any object identifier. The errors are those of [Constructed::take_oid].
     pub fn skip_in(cons: &mut Constructed<'_>) -> Result<(), DecodeError>
         ensures { Reads (λ _. tt) (SpellsLeaf oid false IsAnyOid) (IsLeafFault oid false IsAnyOid) (left cons.old) (left cons.new) result }
     {
@@ -60,7 +60,7 @@ impl<'a> Oid<&'a [u8]> {
         Ok(())
     }
 
-    /// Moves past this very object identifier, as [Constructed::skip_oid_if].
+    /// Moves past exactly this object identifier, as [Constructed::skip_oid_if].
     pub fn skip_if(&self, cons: &mut Constructed<'_>) -> Result<(), DecodeError>
         ensures { Reads (λ _. tt) (SpellsLeaf oid false (IsOnly self.now.0.now)) (IsLeafFault oid false (IsOnly self.now.0.now)) (left cons.old) (left cons.new) result }
     {
@@ -77,9 +77,9 @@ impl<'a> Constructed<'a> {
 
     /// An object identifier (X.690 8.19): its contents octets.
     ///
-    /// The refusals are those of a header; then Unexpected for another tag or form; then Truncated; then Content for
-    /// contents that are no identifier: empty, cut within a subidentifier, or with a subidentifier that begins with
-    /// 80.
+    /// The errors are those of a header; then `Unexpected` for another tag or form; then `Truncated`; then `Content`
+    /// for contents that are not those of an object identifier: empty, cut within a subidentifier, or with a
+    /// subidentifier that begins with 80.
     pub fn take_oid(&mut self) -> Result<Oid<&'a [u8]>, DecodeError>
         ensures { Reads (λ o. o.0.now) (SpellsLeaf oid false IsOidOf) (IsLeafFault oid false IsOidOf) (left self.old) (left self.new) result }
     {
@@ -94,10 +94,10 @@ impl<'a> Constructed<'a> {
         Ok(Oid(contents.rest()))
     }
 
-    /// Moves past this very object identifier. One that is not valid is looked for by its octets alone.
+    /// Moves past exactly this object identifier. One that is not valid is matched by its octets alone.
     ///
-    /// The refusals are those of a header; then Unexpected for another tag or form; then Truncated; then Content for
-    /// other contents.
+    /// The errors are those of a header; then `Unexpected` for another tag or form; then `Truncated`; then `Content`
+    /// for other contents.
     pub fn skip_oid_if(&mut self, expected: ConstOid) -> Result<(), DecodeError>
         ensures { Reads (λ _. tt) (SpellsLeaf oid false (IsOnly expected.entry.0.now)) (IsLeafFault oid false (IsOnly expected.entry.0.now)) (left self.old) (left self.new) result }
     {

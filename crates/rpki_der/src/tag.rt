@@ -15,7 +15,7 @@ pub enum Class {
     Private,
 }
 
-/// A tag (X.690 8.1.2.2): a class, and a number below 2^28. Universal 0 is none.
+/// A tag (X.690 8.1.2.2): a class, and a number below 2^28. Universal 0 is not a tag.
 #[derive(Clone, Copy, Debug, PartialEq, Eq)]
 pub struct Tag {
     class: Class,
@@ -119,7 +119,7 @@ impl Tag {
         number: 6,
     };
 
-    /// The tag of a class and a number. It asks that the number is below 2^28, and not 0 in the class universal.
+    /// The tag of a class and a number. Requires that the number is below 2^28, and not 0 in the class universal.
     pub fn new(class: Class, number: u32) -> Tag
         requires { IsTag (tag_of class number) }
         ensures { result ≡ tag_of class number }
@@ -169,7 +169,7 @@ impl Header {
     }
 }
 
-/// How many headers were read, those that were refused included.
+/// How many headers were read, rejected ones included.
 #[derive(Debug, Drop)]
 pub struct Steps {
     count: u64,
@@ -191,7 +191,7 @@ impl Steps {
         Steps { count: 0 }
     }
 
-    /// One header more.
+    /// Counts one more header.
     pub(crate) fn raise(&mut self)
         requires { self.old < 2 ^ 64 - 1 }
         ensures { self.new ≡ self.old + 1 }

@@ -1,4 +1,4 @@
-//! Worked cases: expected octets and refusals come from X.690 and from worked examples.
+//! Worked cases: expected octets and errors come from X.690 and from worked examples.
 
 mod composed;
 mod encoders;

@@ -1,4 +1,4 @@
-//! Texts.
+//! Character strings (X.680 41).
 
 ghost use Rattle.std.specs.Prelude.{false, ◌≡◌, ◌↔◌, IsTrue, IfSome, IfNone, List, ℕ};
 ghost use Rattle.rpki_der.specs.Text.{is_printable, are_printable, IsPrintableText, IsUtf8Text};
@@ -8,7 +8,7 @@ use crate::error::{ContentError, DecodeError};
 use crate::tag::Tag;
 use std::marker::Model;
 
-/// A text of the characters of a PrintableString: A to Z, a to z, 0 to 9, space and `'()+,-./:=?` (X.680 41.4).
+/// A string of the characters of a PrintableString: A to Z, a to z, 0 to 9, space and `'()+,-./:=?` (X.680 41.4).
 #[derive(Debug, Drop)]
 pub struct PrintableString<'a> {
     text: &'a str,
@@ -26,7 +26,7 @@ impl<'a> Model for PrintableString<'a> {
 }
 
 impl<'a> PrintableString<'a> {
-    /// The text.
+    /// The string.
     pub fn as_str(&self) -> &'a str
         ensures text { result.now ≡ self.now }
         ensures printable { IsTrue (are_printable self.now) }
@@ -35,7 +35,7 @@ impl<'a> PrintableString<'a> {
     }
 }
 
-/// A text of any characters.
+/// A string of any characters.
 #[derive(Debug, Drop)]
 pub struct Utf8String<'a> {
     text: &'a str,
@@ -50,7 +50,7 @@ impl<'a> Model for Utf8String<'a> {
 }
 
 impl<'a> Utf8String<'a> {
-    /// The text.
+    /// The string.
     pub fn as_str(&self) -> &'a str
         ensures { result.now ≡ self.now }
     {
@@ -69,14 +69,14 @@ fn is_printable(octet: u8) -> bool
         )
 }
 
-/// Whether all of them are.
+/// Whether all of them are such characters.
 fn are_printable(contents: &[u8]) -> bool
     ensures { result ≡ are_printable contents.now }
 {
     contents.iter().all(|octet| is_printable(*octet))
 }
 
-/// The text of these contents, if each of them is a character of a PrintableString.
+/// The string with these contents, if each of them is a character of a PrintableString.
 fn printable_of(contents: &[u8]) -> Option<PrintableString<'_>>
     ensures value { IfSome result (λ p. IsPrintableText p contents.now) }
     ensures none { IfNone result ((text : List ℕ) → IsPrintableText text contents.now → ⊥) }
@@ -90,7 +90,7 @@ fn printable_of(contents: &[u8]) -> Option<PrintableString<'_>>
     }
 }
 
-/// The text of these contents, if they are UTF-8.
+/// The string with these contents, if they are UTF-8.
 fn utf8_of(contents: &[u8]) -> Option<Utf8String<'_>>
     ensures value { IfSome result (λ u. IsUtf8Text u contents.now) }
     ensures none { IfNone result ((text : List ℕ) → IsUtf8Text text contents.now → ⊥) }
@@ -109,8 +109,8 @@ impl<'a> Constructed<'a> {
 
     /// A PrintableString (X.690 8.23, X.680 41.4).
     ///
-    /// The refusals are those of a header; then Unexpected for another tag or form; then Truncated; then Content for
-    /// another character.
+    /// The errors are those of a header; then `Unexpected` for another tag or form; then `Truncated`; then `Content`
+    /// for another character.
     pub fn take_printable(&mut self) -> Result<PrintableString<'a>, DecodeError>
         ensures { Reads (λ p. p) (SpellsLeaf printable_string false IsPrintableText) (IsLeafFault printable_string false IsPrintableText) (left self.old) (left self.new) result }
     {
@@ -129,8 +129,8 @@ impl<'a> Constructed<'a> {
 
     /// A UTF8String (X.690 8.23).
     ///
-    /// The refusals are those of a header; then Unexpected for another tag or form; then Truncated; then Content for
-    /// contents that are not UTF-8.
+    /// The errors are those of a header; then `Unexpected` for another tag or form; then `Truncated`; then `Content`
+    /// for contents that are not UTF-8.
     pub fn take_utf8(&mut self) -> Result<Utf8String<'a>, DecodeError>
         ensures { Reads (λ u. u) (SpellsLeaf utf8_string false IsUtf8Text) (IsLeafFault utf8_string false IsUtf8Text) (left self.old) (left self.new) result }
     {

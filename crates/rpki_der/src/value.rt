@@ -14,7 +14,7 @@ pub enum Content<'a> {
     Constructed(Constructed<'a>),
 }
 
-/// Whether a value with this header is asked for: of the tag, or of any tag.
+/// Whether a value with this header is wanted: of the tag, or of any tag.
 fn is_wanted(wanted: Option<Tag>, found: &Header) -> bool
     ensures { IsTrue result ↔ IsWanted wanted found.now.tag found.now.constructed }
 {
@@ -32,7 +32,7 @@ impl<'a> Constructed<'a> {
     ghost use Rattle.rpki_der.specs.Values.{SpellsContents, HasTag, IsContentsFault};
     ghost use Rattle.rpki_der.specs.Flat.{SpellsFlat, IsFlatFault, IsAnyTag, IsTagged};
 
-    /// The contents of a value of this tag and form; moves past the value. The contents are judged by who reads them.
+    /// The contents of a value of this tag and form; moves past the value. The contents are not validated.
     pub(crate) fn take_contents(
         &mut self,
         tag: Tag,
@@ -81,7 +81,7 @@ impl<'a> Constructed<'a> {
 
     /// The value at the front, of any tag and form: its tag and its contents, which are not walked.
     ///
-    /// The refusals are those of a header, and Truncated where the contents are not all there.
+    /// The errors are those of a header, and `Truncated` if the contents are not all there.
     pub fn take_value(&mut self) -> Result<(Tag, Content<'a>), DecodeError>
         ensures { Reads (λ x. (x.0, is_constructed x.1, octets_of x.1)) (SpellsFlat IsAnyTag) (IsFlatFault IsAnyTag) (left self.old) (left self.new) result }
     {
@@ -99,7 +99,7 @@ impl<'a> Constructed<'a> {
 
     /// The contents of a value of this tag, in either form. They are not walked.
     ///
-    /// The refusals are those of a header; then Unexpected for another tag; then Truncated.
+    /// The errors are those of a header; then `Unexpected` for another tag; then `Truncated`.
     pub fn take_value_if(&mut self, tag: Tag) -> Result<Content<'a>, DecodeError>
         ensures { Reads (λ x. (tag, is_constructed x, octets_of x)) (SpellsFlat (IsTagged tag)) (IsFlatFault (IsTagged tag)) (left self.old) (left self.new) result }
     {
@@ -127,18 +127,18 @@ impl<'a> Constructed<'a> {
         Ok(Some(content))
     }
 
-    /// A cursor on the contents of a SEQUENCE (X.690 8.9); moves past it. The contents are judged by who reads them.
+    /// A cursor on the contents of a SEQUENCE (X.690 8.9); moves past it. The contents are not validated.
     ///
-    /// The refusals are those of a header; then Unexpected for another tag or form; then Truncated.
+    /// The errors are those of a header; then `Unexpected` for another tag or form; then `Truncated`.
     pub fn take_sequence(&mut self) -> Result<Constructed<'a>, DecodeError>
         ensures { Reads left (SpellsContents sequence true) (IsContentsFault sequence true) (left self.old) (left self.new) result }
     {
         self.take_contents(Tag::SEQUENCE, true)
     }
 
-    /// A cursor on the contents of a SET (X.690 8.11); moves past it. The contents are judged by who reads them.
+    /// A cursor on the contents of a SET (X.690 8.11); moves past it. The contents are not validated.
     ///
-    /// The refusals are those of a header; then Unexpected for another tag or form; then Truncated.
+    /// The errors are those of a header; then `Unexpected` for another tag or form; then `Truncated`.
     pub fn take_set(&mut self) -> Result<Constructed<'a>, DecodeError>
         ensures { Reads left (SpellsContents set true) (IsContentsFault set true) (left self.old) (left self.new) result }
     {

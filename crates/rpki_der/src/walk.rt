@@ -1,6 +1,6 @@
-//! One value, read to its end with all that is nested in it.
+//! One value, read with everything nested in it.
 //!
-//! The contents of a constructed value are values that fill them (X.690 8.1.2.5), to any depth. Structure alone counts:
+//! The contents of a constructed value are values that fill them (X.690 8.1.2.5), to any depth. Only structure counts:
 //! the contents of a primitive value are passed over by their length.
 
 ghost use Rattle.std.specs.Prelude.{◌≡◌, ◌+◌, ◌-◌, ◌*◌, ◌^◌, ◌<◌, ◌≤◌, ◌⊎◌, ℕ, List, [], length, take, drop, Ok, Err, IfOk, IfErr, IfSome, OnErr, ◌++◌, ◌∷◌, true, false};
@@ -41,8 +41,8 @@ fn enter(octets: &[u8], steps: &mut Steps) -> Result<(Header, usize), DecodeErro
     Ok((found, octets.len() - behind.len()))
 }
 
-/// Adds the entry of a value, where entries are kept. It gives what names the value while it is open: the number of the
-/// entry, or the end of the value where no entries are kept.
+/// Adds the entry of a value, where entries are kept. Returns what identifies the value while it is open: the number of
+/// the entry, or the end of the value where no entries are kept.
 fn note(
     entries: &mut Vec<HeaderEntry>,
     keep: bool,
@@ -61,7 +61,7 @@ fn note(
     Ok(number)
 }
 
-/// Where the open value of this name ends.
+/// Where the open value with this identification ends.
 fn end_of(entries: &[HeaderEntry], keep: bool, before: usize, name: usize) -> usize
     requires { (end : ℕ) × IsEnd keep before entries.now name end }
     ensures { IsEnd keep before entries.now name result }
@@ -74,7 +74,7 @@ fn end_of(entries: &[HeaderEntry], keep: bool, before: usize, name: usize) -> us
 }
 
 /// How many octets the value at the front takes. Where entries are kept, those of all its headers are added. The values
-/// that are still open stand on a stack, innermost last, each by the number of its entry, or by its end where no entries
+/// that are still open are on a stack, innermost last, each by the number of its entry, or by its end where no entries
 /// are kept. Places are counted from `before` octets in front.
 pub(crate) fn walk_value(
     alloc: Global,
@@ -130,7 +130,7 @@ pub(crate) fn walk_value(
     Ok(place)
 }
 
-/// The same, with what its contract says in the terms of a reader.
+/// As [walk_value], with its contract in the terms of a reader.
 fn walk_front(
     alloc: Global,
     octets: &[u8],
@@ -155,15 +155,14 @@ fn walk_front(
 impl<'a> Constructed<'a> {
     ghost use Rattle.rpki_der.specs.Cursor.{left};
 
-    /// Moves past one value with all that is nested in it (X.690 8.1.1, 8.1.2.5), or answers None where nothing is left.
+    /// Moves past one value with everything nested in it (X.690 8.1.1, 8.1.2.5), or returns None if nothing is left.
     ///
-    /// Each header that is looked at, at whatever depth, raises `steps` by one, the last one of a refused value too. It
-    /// asks that their count and the octets left are together below 2^64.
+    /// Each header that is read, at any depth, raises `steps` by one, the last one of a rejected value too. Requires
+    /// that their count and the octets left are together below 2^64.
     ///
-    /// A refusal leaves the cursor where it was. It is the first one from the left: the fault of the octets where a value
-    /// has to begin and no header does, which is `Truncated`, `BadTag` or `BadLength`; or `Truncated` where a value passes
-    /// the end of what holds it. `OutOfMemory` where the stack of open values could not grow, which a primitive value
-    /// doesn't need.
+    /// An error leaves the cursor where it was. It is the first one from the left: `Truncated`, `BadTag` or `BadLength`
+    /// where a value has to begin and no header does; or `Truncated` where a value passes the end of the one that
+    /// contains it. Returns `OutOfMemory` if the stack of open values cannot grow; a primitive value allocates nothing.
     pub fn walk(&mut self, alloc: Global, steps: &mut Steps) -> Result<Option<()>, DecodeError>
         requires room { steps.old + length (left self.old) < 2 ^ 64 }
         ensures reads { ReadsWhere IsNotEmpty (λ _. tt) SpellsAnyValue (OrMemoryWhere HasConstructed IsNestedFault) (left self.old) (left self.new) result }
@@ -183,7 +182,7 @@ impl<'a> Constructed<'a> {
         Ok(Some(()))
     }
 
-    /// Moves past one value, or answers None where nothing is left: as `walk`, with the same refusals, and no count.
+    /// Moves past one value, or returns None if nothing is left: as `walk`, with the same errors, and no count.
     pub fn skip_one(&mut self, alloc: Global) -> Result<Option<()>, DecodeError>
         ensures reads { ReadsWhere IsNotEmpty (λ _. tt) SpellsAnyValue (OrMemoryWhere HasConstructed IsNestedFault) (left self.old) (left self.new) result }
         ensures fault { (e : DecodeError) → IsNestedFault (left self.old) e → (result ≡ Err DecodeError.OutOfMemory) ⊎ (result ≡ Err e) }
@@ -194,10 +193,10 @@ impl<'a> Constructed<'a> {
         self.walk(alloc, &mut Steps::new())
     }
 
-    /// The very octets of one value with all that is nested in it, shared; moves past them.
+    /// Exactly the octets of one value with everything nested in it, shared; moves past them.
     ///
-    /// Refused as by `walk`, with the cursor where it was, and `Truncated` where nothing is left. `OutOfMemory` also where
-    /// the octets could not be shared.
+    /// The errors are those of `walk`, with the cursor where it was, and `Truncated` if nothing is left. Returns
+    /// `OutOfMemory` also if the octets cannot be shared.
     pub fn capture_one(&mut self, alloc: Global) -> Result<Captured, DecodeError>
         ensures reads { Reads (λ c. c) SpellsValue (OrMemoryWhere HasEither IsCaptureFault) (left self.old) (left self.new) result }
         ensures fault { (e : DecodeError) → IsCaptureFault (left self.old) e → (result ≡ Err DecodeError.OutOfMemory) ⊎ (result ≡ Err e) }

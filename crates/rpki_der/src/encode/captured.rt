@@ -1,4 +1,4 @@
-//! Captured values, written as they stand.
+//! Captured values, encoded as their original octets.
 
 ghost use Rattle.rpki_der.specs.Members.{IsValueList};
 
@@ -8,7 +8,7 @@ use crate::captured::Captured;
 use std::io;
 use std::io::Write;
 
-/// The values as they stand.
+/// Encodes the values as their original octets.
 impl<'a> Values for &'a Captured {
     ghost use Rattle.rpki_der.specs.Tree.Tree.{Captured as CapturedTree};
     ghost use Rattle.rpki_der.specs.TreeLaws.{as_it_is};

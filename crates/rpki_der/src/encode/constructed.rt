@@ -12,7 +12,7 @@ use std::io;
 use std::io::Write;
 use std::marker::Model;
 
-/// Whether the values can be written as the contents of a value, of whatever tag and form.
+/// Whether the values can be written as the contents of a value, of any tag and form.
 #[tactic(auto, using(crate::proofs::EncodeLaws::tlv_at_most))]
 fn fit_inside<V: Values>(values: &V) -> bool
     ensures { (t : TagName) (f : Bool) → IsTrue result

@@ -59,7 +59,7 @@ impl PrimitiveContent for bool {
     }
 }
 
-/// OBJECT IDENTIFIER: the octets as they stand (X.690 8.19).
+/// OBJECT IDENTIFIER: the octets unchanged (X.690 8.19).
 impl<'a> PrimitiveContent for Oid<&'a [u8]> {
     ghost plain = { oid };
 
@@ -124,7 +124,7 @@ impl PrimitiveContent for BitString {
     }
 }
 
-/// The same of a bit string that is lent.
+/// The same for a borrowed bit string.
 impl<'a> PrimitiveContent for &'a BitString {
     ghost plain = { bit_string };
 
@@ -155,7 +155,7 @@ fn write_bits<W: Write>(out: &mut W, bits: &BitString) -> Result<(), io::Error>
 }
 
 impl BitString {
-    /// The value of these bits under the tag of a BIT STRING; the bits are lent.
+    /// An encoder for the bit string under the tag of a BIT STRING; it borrows the bits.
     pub fn encode_ref(&self) -> Primitive<&BitString>
         ensures encoded { ⟦<Primitive<&'static BitString> as Values>⟧.encoded result ≡ tlv bit_string false (bits_contents self.now) }
         ensures short { ⟦<Primitive<&'static BitString> as Values>⟧.is_short result ↔ (length (bits_contents self.now) < 2 ^ 32) }

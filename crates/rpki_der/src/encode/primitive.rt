@@ -30,16 +30,16 @@ pub trait PrimitiveContent {
 
     /// Writes the contents octets.
     ///
-    /// The first error of the writer ends the call and is answered; a write of 0 octets is an error of the kind
-    /// `WriteZero`. After an error the writer holds a beginning of the octets.
+    /// The first error of the writer ends the call and is returned; a write of 0 octets is an error of the kind
+    /// `WriteZero`. After an error the writer has received a prefix of the octets.
     fn write_encoded<W: Write>(&self, out: &mut W) -> Result<(), io::Error>
         ensures { Writes (W.contents out.old) (W.contents out.new) result (contents self.now) };
 
-    /// `TAG`: each implementation answers `Self::TAG`, which ties the constant to the contracts.
+    /// `TAG`: each implementation returns `Self::TAG`, which ties the constant to the contracts.
     fn plain_tag(&self) -> Tag
         ensures { result ≡ plain };
 
-    /// The value of these contents under their own tag.
+    /// An encoder for the value with these contents, under their own tag.
     fn encode(self) -> Primitive<Self>
     where
         Self: Sized,
@@ -49,7 +49,7 @@ pub trait PrimitiveContent {
         Primitive::new(self.plain_tag(), self)
     }
 
-    /// The value of these contents under another tag, as IMPLICIT tagging has it (X.690 8.14.3).
+    /// An encoder for the value with these contents, under another tag, as IMPLICIT tagging has it (X.690 8.14.3).
     fn encode_as(self, tag: Tag) -> Primitive<Self>
     where
         Self: Sized,

@@ -1,4 +1,4 @@
-//! Whole numbers as contents.
+//! Non-negative INTEGERs as contents.
 
 ghost use Rattle.std.specs.Prelude.{◌↔◌, ◌≤◌, IsTrue, slice_index};
 ghost use Rattle.rpki_der.specs.TagName.{integer};
@@ -18,7 +18,7 @@ fn needs_zero(number: &Unsigned<'_>) -> bool
     number.as_slice()[0] >= 128
 }
 
-/// INTEGER: the octets of the number, behind a zero octet where their first bit is 1 (X.690 8.3).
+/// INTEGER: the octets of the number, after a zero octet if their first bit is 1 (X.690 8.3).
 impl<'a> PrimitiveContent for Unsigned<'a> {
     ghost plain = { integer };
 

@@ -10,7 +10,7 @@ use std::io::Write;
 
 /// A list of well-formed values that can be written.
 ///
-/// `fits` is the condition of the other three methods: a length announces fewer than 2^32 octets of contents, and
+/// `fits` is the precondition of the other three methods: a length announces fewer than 2^32 octets of contents, and
 /// what is written as a whole has fewer than 2^63 octets.
 pub trait Values {
     /// What is written, as a tree of values. The laws at the end say that the octets are its octets, and that "short" is
@@ -28,20 +28,20 @@ pub trait Values {
     fn fits(&self) -> bool
         ensures { IsTrue result ↔ (is_short self.now × (length (encoded self.now) < 2 ^ 63)) };
 
-    /// How many values are written, those inside others aside. It asks that they fit.
+    /// How many values are written, not counting nested values. Requires that they fit.
     fn count(&self) -> u64
         requires { is_short self.now × (length (encoded self.now) < 2 ^ 63) }
         ensures { AreValues result (encoded self.now) };
 
-    /// How many octets are written. It asks that the values fit.
+    /// How many octets are written. Requires that the values fit.
     fn encoded_len(&self) -> u64
         requires { is_short self.now × (length (encoded self.now) < 2 ^ 63) }
         ensures { result ≡ length (encoded self.now) };
 
-    /// Writes the values. It asks that they fit.
+    /// Writes the values. Requires that they fit.
     ///
-    /// The first error of the writer ends the call and is answered; a write of 0 octets is an error of the kind
-    /// `WriteZero`. After an error the writer holds a beginning of the octets.
+    /// The first error of the writer ends the call and is returned; a write of 0 octets is an error of the kind
+    /// `WriteZero`. After an error the writer has received a prefix of the octets.
     fn write_encoded<W: Write>(&self, out: &mut W) -> Result<(), io::Error>
         requires { is_short self.now × (length (encoded self.now) < 2 ^ 63) }
         ensures { Writes (W.contents out.old) (W.contents out.new) result (encoded self.now) };

@@ -1,4 +1,4 @@
-//! Octets, written to the last one.
+//! Writing octets, to the last one.
 
 ghost use Rattle.rpki_der.specs.Written.{WritesOrCuts};
 
@@ -7,8 +7,9 @@ use std::io::Write;
 
 /// Writes all of the octets.
 ///
-/// It ends at the first error of the writer, of any kind, and answers it. A write that takes 0 octets is an error
-/// too, of the kind `WriteZero`. After an error the writer holds a beginning of the octets, and not all of them.
+/// Ends at the first error of the writer, of any kind, `Interrupted` included, and returns it. A write that takes 0
+/// octets is an error too, of the kind `WriteZero`. After an error the writer has received a proper prefix of the
+/// octets.
 pub fn write_whole<W: Write>(out: &mut W, octets: &[u8]) -> io::Result<()>
     ensures { WritesOrCuts (W.contents out.old) (W.contents out.new) result octets.now }
 {

@@ -3,7 +3,8 @@
 use crate::*;
 use bytes::Bytes;
 
-/// A name, whether a SET is read, the octets, the answer of a reader of one BOOLEAN inside, and how many octets are left.
+/// A name, whether a SET is read, the octets, the result of a reader of one BOOLEAN inside, and how many octets are
+/// left.
 type Case = (
     &'static str,
     bool,
@@ -59,7 +60,7 @@ const CASES: &[Case] = &[
     ),
 ];
 
-/// What the reader answers for the case, and how many octets are left.
+/// What the reader returns for the case, and how many octets are left.
 fn answer(set: bool, octets: &'static [u8]) -> (Result<bool, DecodeError>, usize) {
     let source: Bytes = Bytes::from_static(octets);
     let mut cons = Constructed::new(&source);

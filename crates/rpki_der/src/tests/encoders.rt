@@ -54,7 +54,7 @@ const FAILURES: [(ErrorKind, bool); 4] = [
     (ErrorKind::Interrupted, true),
 ];
 
-/// Takes at most so many octets at a call, and fails as it is told.
+/// Takes at most so many octets at a call, and fails as configured.
 #[derive(Drop)]
 struct Failing {
     held: Vec<u8>,
@@ -433,7 +433,7 @@ fn pieces_are_written(rt: HostRuntime) -> Result<(), Fail> {
 #[test]
 fn octets_are_written_whole(rt: HostRuntime) -> Result<(), Fail> {
     let whole = [7, 1, 2, 3, 4, 5, 6, 7, 8, 9];
-    // octets a call, calls, octets that are written behind the first, and the error
+    // octets a call, calls, octets that are written after the first, and the error
     let cases = [
         (1, 0, 0, Some(ErrorKind::BrokenPipe)),
         (1, 5, 5, Some(ErrorKind::BrokenPipe)),

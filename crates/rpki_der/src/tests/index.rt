@@ -35,7 +35,7 @@ const ROWS: [Row; 4] = [
             (11, 13, 14, 19, false, Some(2)),
         ],
     },
-    // values behind closed ones
+    // values after closed ones
     Row {
         octets: &[
             0x30, 0x0a, 0x30, 0x02, 0x30, 0x00, 0x05, 0x00, 0x31, 0x00, 0x05, 0x00,

@@ -5,7 +5,7 @@ use bytes::Bytes;
 use std::alloc::AllocError;
 use std::test::Fail;
 
-/// What a call answered: the number of the refusal, or 0.
+/// What a call returned: the number of the error, or 0.
 fn answer<T: Drop>(outcome: Result<T, DecodeError>) -> u8 {
     match outcome {
         Ok(_) => 0,
@@ -13,7 +13,7 @@ fn answer<T: Drop>(outcome: Result<T, DecodeError>) -> u8 {
     }
 }
 
-/// The class, the number and the form of a tag, and a length; or the number of the refusal.
+/// The class, the number and the form of a tag, and a length; or the number of the error.
 type FoundHeader = Result<(Class, u32, bool, u32), u8>;
 
 /// The header in front, how many octets are left, and how many headers were counted.
@@ -145,7 +145,7 @@ enum Reader {
     OptionalSet,
 }
 
-/// The octets of the contents, or the number of the refusal.
+/// The octets of the contents, or the number of the error.
 fn contents_of<'a>(outcome: Result<Content<'a>, DecodeError>) -> Result<&'a [u8], u8> {
     match outcome {
         Ok(Content::Primitive(octets)) => Ok(octets),
@@ -177,7 +177,7 @@ fn word_of(value: bool) -> &'static [u8] {
     if value { b"true" } else { b"false" }
 }
 
-/// The octets of the value that the reader answered, or the number of its refusal.
+/// The octets of the value that the reader returned, or the number of its error.
 fn read<'a>(reader: Reader, cursor: &mut Constructed<'a>) -> Result<&'a [u8], u8> {
     match reader {
         Reader::Null => match cursor.take_null() {
@@ -353,7 +353,7 @@ fn leaves(rt: HostRuntime) {
     }
 }
 
-/// Whether the value in front has this tag, form and contents, and one octet is left behind it.
+/// Whether the value in front has this tag, form and contents, and one octet follows it.
 fn is_value(octets: &'static [u8], tag: Tag, constructed: bool, contents: &[u8]) -> bool {
     let source: Bytes = Bytes::from_static(octets);
     let mut cursor = Constructed::new(&source);
@@ -369,7 +369,7 @@ fn is_value(octets: &'static [u8], tag: Tag, constructed: bool, contents: &[u8])
     same && cursor.rest().len() == 1
 }
 
-/// The number of the refusal of a value of any tag, or 0.
+/// The number of the error of a value of any tag, or 0.
 fn any_value(octets: &'static [u8]) -> u8 {
     let source: Bytes = Bytes::from_static(octets);
     match Constructed::new(&source).take_value() {
@@ -406,7 +406,7 @@ fn values_of_any_tag(rt: HostRuntime) {
     assert_eq!(rt; any_value(&[0x30, 0x80]), 3);
 }
 
-/// The unused bits and the octets of a bit string, or the number of the refusal.
+/// The unused bits and the octets of a bit string, or the number of the error.
 const BITS: &[(&[u8], Result<(u8, &[u8]), u8>)] = &[
     (&[0x03, 0x00], Err(5)),
     (&[0x03, 0x01, 0x01], Err(5)),
@@ -438,7 +438,7 @@ fn bit_strings_are_read(rt: HostRuntime) {
     }
 }
 
-/// The octets of the number without zeros in front.
+/// The octets of the number without leading zeros.
 fn magnitude(octets: &'static [u8]) -> Result<&'static [u8], InvalidInteger> {
     match Unsigned::from_slice(octets) {
         Ok(number) => Ok(number.as_slice()),
@@ -462,8 +462,8 @@ fn magnitudes(rt: HostRuntime) {
     }
 }
 
-/// Whether the identifier is valid and is 2.999.3, and the numbers of the refusals where it is read, skipped, and
-/// skipped if it is 2.999.3: 0 for none.
+/// Whether the identifier is valid and is 2.999.3, and the numbers of the errors where it is read, skipped, and skipped
+/// if it is 2.999.3: 0 for none.
 fn identifier_of(octets: &'static [u8]) -> ((bool, bool), u8, u8, u8, u8) {
     let expected: ConstOid = Oid(&[0x88, 0x37, 0x03]);
     let source: Bytes = Bytes::from_static(octets);

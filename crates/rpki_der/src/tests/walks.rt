@@ -5,7 +5,7 @@ use bytes::Bytes;
 use std::alloc::{AllocError, Global};
 use std::test::Fail;
 
-/// What a walk over octets has to answer: 0 for a value, 9 for none, or the number of the fault; how many headers are
+/// What a walk over octets has to return: 0 for a value, 9 for none, or the number of the error; how many headers are
 /// counted, and how many octets are left.
 struct Row {
     octets: &'static [u8],
@@ -95,7 +95,7 @@ const ROWS: [Row; 13] = [
     },
 ];
 
-/// The number of what a call answered.
+/// The number of what a call returned.
 fn number_of(answer: Result<Option<()>, DecodeError>) -> u8 {
     match answer {
         Ok(Some(())) => 0,
@@ -146,7 +146,7 @@ fn captures(rt: HostRuntime) -> Result<(), Fail> {
     Ok(())
 }
 
-/// The octets of the value in front, of which there is one, or the number of the refusal; and how many octets are left.
+/// The octets of the value in front, of which there is one, or the number of the error; and how many octets are left.
 fn captured(alloc: Global, octets: &'static [u8]) -> (Result<Captured, u8>, usize) {
     let source: Bytes = Bytes::from_static(octets);
     let mut cursor = Constructed::new(&source);
@@ -175,7 +175,7 @@ fn captures_stop_at_the_same_faults(rt: HostRuntime) {
     }
 }
 
-/// Values with an octet behind each.
+/// Values with an octet after each.
 const VALUES: [&[u8]; 6] = [
     b"\x30\x06\x30\x04\x30\x02\x30\0\0",
     b"\x30\x15\x30\0\x30\x0d\x06\x09\x2a\x86\x48\x86\xf7\x0d\x01\x01\x0b\x05\0\x03\x02\0\xaa\0",
