@@ -33,7 +33,7 @@ abbrev pub xml_bytes_decode_of : List ℕ → Result (List ℕ) DecodeError
 xml_bytes_decode_of bytes =
     if is_utf8 bytes then xml_decode_of bytes else Err (no_text_error bytes)
 
--- the error of a decoding, against what should come out: want of memory may come at any time
+-- the error of a decoding, against what should come out: allocation may fail at any time
 abbrev pub IsBase64Failure : Result (List ℕ) DecodeError → Base64Error → Type 0
 IsBase64Failure outcome (Refused error) = outcome ≡ Err error
 IsBase64Failure outcome OutOfMemory = Unit {0}
@@ -42,7 +42,7 @@ IsBase64Failure outcome OutOfMemory = Unit {0}
 abbrev pub xml_cause : XmlDecodeError → Base64Error
 xml_cause error = error.cause
 
--- how an error prints: for a text that is refused that is left to the library `base64`
+-- how an error prints: for a text that is rejected that is left to the library `base64`
 abbrev pub base64_error_text : Base64Error → Option (List ℕ)
 base64_error_text (Refused error) = None
 base64_error_text OutOfMemory = Some (codes "out of memory")

@@ -12,6 +12,6 @@ abbrev pub hex_text : List ℕ → List ℕ
 hex_text [] = []
 hex_text (b ∷ bytes) = hex_digit (b / 16) ∷ hex_digit (b % 16) ∷ hex_text bytes
 
--- what was lent as `buffer` holds `octets` once the loan is over
+-- what was borrowed as `buffer` holds `octets` once the borrow is over
 abbrev pub EndsAs : MutBor (List ℕ) → List ℕ → Fml
 EndsAs buffer octets = follows_so (Array u8 0) (Array u8 0) buffer.ghost_name none (λ _ _. ⊤) (λ last. last ≡ octets)

@@ -38,7 +38,7 @@ pub record HttpsUri : Type 0 where
 unfoldable pub https_uri_of : List ℕ → HttpsUri
 https_uri_of text = record { authority = lowercase (https_authority text); path = https_path text }
 
--- what is an https URI: the authority in lower case and without a slash, the path empty or behind a slash
+-- what is an https URI: the authority in lower case and without a slash, the path empty or beginning with a slash
 pub record IsHttpsUri (u : HttpsUri) : Type 0 where
   pub lower : lowercase u.authority ≡ u.authority
   pub one_part : list_any is_slash u.authority ≡ false
@@ -71,7 +71,7 @@ ends_in_slash path = nat_lt 0 (length path) && is_dir path
 abbrev pub closed_path : List ℕ → List ℕ
 closed_path path = if ends_in_slash path then path else path ++ codes "/"
 
--- the URI with a path behind its own, a slash between
+-- the URI with a path appended to its own, a slash between
 unfoldable pub https_joined_uri : HttpsUri → List ℕ → HttpsUri
 https_joined_uri u path = record { authority = u.authority; path = closed_path u.path ++ path }
 
@@ -95,7 +95,8 @@ without_slash path = if ends_in_slash path then take (length path - 1) path else
 abbrev pub up_to_slash : List ℕ → List ℕ
 up_to_slash path = take (length path - suffix_len (λ b. not (is_slash b)) path) path
 
--- the path above: one last slash dropped, and then all behind the last slash that is left; none where nothing is left
+-- the path above: one last slash dropped, and then everything after the last slash that is left; none where nothing is
+-- left
 unfoldable pub path_above : List ℕ → Option (List ℕ)
 path_above path = if nat_lt 0 (length (without_slash path)) then Some (up_to_slash (without_slash path)) else None
 

@@ -40,7 +40,7 @@ authority_of text = before_first is_slash (drop 8 text)
 unfoldable pub module_name_of : List ℕ → List ℕ
 module_name_of text = before_first is_slash (after_first is_slash (drop 8 text))
 
--- the path, behind that slash
+-- the path, after that slash
 unfoldable pub path_of : List ℕ → List ℕ
 path_of text = after_first is_slash (after_first is_slash (drop 8 text))
 
@@ -102,13 +102,13 @@ pub record Spells (text : List ℕ) (u : RsyncUri) : Type 0 where
   pub any_case : (lowercase scheme ≡ codes "rsync://") × (lowercase authority ≡ u.authority)
   pub is : text ≡ scheme ++ authority ++ codes "/" ++ u.module_name ++ codes "/" ++ path_text u.segments u.is_dir
 
--- what stands in the first list behind the second, where it begins with the second
+-- what follows the second list in the first, where it begins with the second
 abbrev pub strip_prefix : List (List ℕ) → List (List ℕ) → Option (List (List ℕ))
 strip_prefix us [] = Some us
 strip_prefix [] (v ∷ vs) = None
 strip_prefix (u ∷ us) (v ∷ vs) = if bytes_eq u v then strip_prefix us vs else None
 
--- the path that is left of a path behind these segments, if it begins with them
+-- the path that is left of a path after these segments, if it begins with them
 unfoldable pub path_left : List ℕ → List (List ℕ) → Option (List ℕ)
 path_left path names = option_map (λ left. path_text left (is_dir path)) (strip_prefix (segments path) names)
 
@@ -164,11 +164,11 @@ parent_uri u =
 unfoldable pub is_parent : RsyncUri → RsyncUri → Bool
 is_parent u v = is_some (relative v u) && nat_lt (length u.segments) (length v.segments)
 
--- the same module and the same segments, whatever the marks
+-- the same module and the same segments, with any marks
 unfoldable pub is_identical : RsyncUri → RsyncUri → Bool
 is_identical u v = same_module u v && pointwise bytes_eq u.segments v.segments
 
--- the URI with a path's segments behind its own, and the path's mark: an empty path changes nothing
+-- the URI with a path's segments appended to its own, and the path's mark: an empty path changes nothing
 unfoldable pub joined_uri : RsyncUri → List ℕ → RsyncUri
 joined_uri u [] = u
 joined_uri u (b ∷ path) =

@@ -1,8 +1,9 @@
-//! Laws of the definitions. Each function does nothing, and its contract is the law that it is
-//! named for; the laws of single calls stand on those calls.
+//! Laws of the definitions. Each function does nothing, and its contract is the law that it is named for; the laws of
+//! single calls stand on those calls.
+
 ghost use Rattle.rpki_text.specs.Laws.{OneMeaning, EqualParts, EqualParents, EqualModuleAndPath, OneHttpsMeaning, EqualHttpsParts, EqualHttpsParents};
 
-/// A text stands for one rsync URI at most: what is read from it.
+/// A text stands for at most one rsync URI: the one that is read from it.
 pub fn rsync_texts_have_one_meaning()
     ensures { OneMeaning }
 {}
@@ -22,7 +23,7 @@ pub fn equal_rsync_uris_have_equal_modules_and_paths()
     ensures { EqualModuleAndPath }
 {}
 
-/// A text stands for one https URI at most: what is read from it.
+/// A text stands for at most one https URI: the one that is read from it.
 pub fn https_texts_have_one_meaning()
     ensures { OneHttpsMeaning }
 {}

@@ -1,5 +1,6 @@
-//! The published vectors, as tables. A test is proved too, so each is one loop over a table with
-//! a helper that makes the one call.
+//! The published vectors, as tables. A test is proved too, so each is one loop over a table with a helper that makes
+//! the one call.
+
 mod base_64;
 mod failing;
 mod general_name;

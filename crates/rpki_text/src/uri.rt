@@ -1,7 +1,7 @@
 //! The URIs that RPKI objects carry: rsync URIs (RFC 5781) and https URIs.
 //!
-//! A URI is kept as the text that it was spelled with, in shared memory. Its parts are cut out of
-//! that text, and equality and hash go by what the text stands for.
+//! A URI is kept as the text that it was spelled with, in shared memory. Its parts are cut out of that text, and
+//! equality and hash go by what the text stands for.
 
 mod characters;
 mod contents;

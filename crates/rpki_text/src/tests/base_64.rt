@@ -1,11 +1,12 @@
 //! Base 64.
+
 use crate::util::base_64::{Base64Error, DecodeError, DecodeSliceError, Serde, Slurm, Xml};
 use std::alloc::Global;
 use std::error::Error;
 use std::str;
 use std::test::Fail;
 
-// The octets that a text is read as, or what it is refused with.
+/// The octets that a text is decoded to, or the error.
 fn outcome(alloc: Global, read: Result<Vec<u8>, Base64Error>) -> Result<String, Fail> {
     match read {
         Ok(octets) => Ok(format!(in alloc;
@@ -91,7 +92,7 @@ fn other_texts(rt: HostRuntime) -> Result<(), Fail> {
     Ok(())
 }
 
-// The octets written in each flavour, and printed and written by the last.
+/// The octets written in each flavour, and printed and written by the last.
 fn written(alloc: Global, octets: &[u8]) -> Result<String, Fail> {
     let mut out: Vec<u8> = Vec::new(alloc);
     Slurm.write_encoded_slice(octets, &mut out)?;
@@ -119,7 +120,7 @@ fn encodings(rt: HostRuntime) -> Result<(), Fail> {
     Ok(())
 }
 
-// How long the text of so many zero octets is, and whether it has the digit of six zero bits alone.
+/// How long the text of so many zero octets is, and whether it has the digit of six zero bits alone.
 fn zeros_written(alloc: Global, count: usize) -> Result<(usize, bool), Fail> {
     let mut octets: Vec<u8> = Vec::new(alloc);
     for _ in 0..count {
@@ -143,7 +144,7 @@ fn long_encodings(rt: HostRuntime) -> Result<(), Fail> {
     Ok(())
 }
 
-// What a text is read into: four dots, of which the first may be written over.
+/// What a text is read into: four dots, of which the first may be written over.
 fn sliced(alloc: Global, text: &str, room: usize) -> Result<String, Fail> {
     let mut buf = [b'.'; 4];
     let read = Slurm.decode_slice(text, &mut buf[..room.min(4)]);

@@ -1,4 +1,5 @@
 //! Encoders over writers that fail.
+
 use crate::uri::{Https, Rsync};
 use crate::util::base_64::Slurm;
 use rpki_der::{PrimitiveContent, Values};

@@ -1,4 +1,5 @@
 //! URIs as general names and as IA5Strings.
+
 use crate::uri::{Error, Https, Rsync};
 use rpki_der::{Captured, Primitive, PrimitiveContent, Values};
 use std::alloc::Global;

@@ -1,4 +1,5 @@
 //! Hexadecimal digits.
+
 use crate::util::hex;
 
 #[test]

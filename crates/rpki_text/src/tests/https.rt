@@ -1,4 +1,5 @@
 //! Https URIs.
+
 use crate::uri::{Error, Https, Scheme};
 use bytes::Bytes;
 use std::alloc::Global;
@@ -122,7 +123,7 @@ fn hash_of(u: &Https) -> u64 {
     state.finish()
 }
 
-// Equal, equal by octets, the same authority, and hashed alike.
+/// Equal, equal by octets, the same authority, and hashed alike.
 fn comparison(alloc: Global, a: &str, b: &str) -> Result<(bool, bool, bool, bool), Fail> {
     let (u, v) = (parsed(alloc, a)?, parsed(alloc, b)?);
     Ok((
@@ -172,7 +173,7 @@ fn put(line: &mut String, parts: &[&str]) -> Result<(), Fail> {
     Ok(())
 }
 
-// The text that Display prints, the parts behind it, and the text as a directory.
+/// The text that Display prints, then its parts, and the text as a directory.
 fn parts(alloc: Global, text: &str) -> Result<String, Fail> {
     let mut u = parsed(alloc, text)?;
     let mut line = format!(in alloc; "{u}")?;
@@ -212,7 +213,7 @@ fn uri_parts(rt: HostRuntime) -> Result<(), Fail> {
     Ok(())
 }
 
-// Whether the text was read, and is that of the URI.
+/// Whether the text was read, and is that of the URI.
 fn is_text<E: Drop>(read: Result<Https, E>, text: &str) -> bool {
     match read {
         Ok(uri) => uri.as_str() == text && uri.as_bytes().as_slice() == text.as_bytes(),

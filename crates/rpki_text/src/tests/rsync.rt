@@ -1,4 +1,5 @@
 //! Rsync URIs.
+
 use crate::uri::{Error, Rsync, Scheme, check_uri_ascii, starts_with_ignore_case};
 use bytes::Bytes;
 use std::alloc::Global;
@@ -83,7 +84,7 @@ fn refusals(rt: HostRuntime) {
     }
 }
 
-// A text of parts that are each repeated.
+/// A text of parts that are each repeated.
 fn repeated(alloc: Global, parts: &[(&str, usize)]) -> Result<String, Fail> {
     let mut text = String::new(alloc);
     for (part, times) in parts {
@@ -132,7 +133,7 @@ fn limits(rt: HostRuntime) -> Result<(), Fail> {
     Ok(())
 }
 
-// 255 octets and a slash.
+/// 255 octets and a slash.
 const SEGMENT: &str =
     "aaaaaaaaaaaaaaaaaaaaaaaaaaaaaaaaaaaaaaaaaaaaaaaaaaaaaaaaaaaaaaaaaaaaaaaaaaaaaaaaaaaaaaaaaaaaaaaaaaaaaaaaaaaaaaaaaaaaaaaaaaaaaaaaaaaaaaaaaaaaaaaaaaaaaaaaaaaaaaaaaaaaaaaaaaaaaaaaaaaaaaaaaaaaaaaaaaaaaaaaaaaaaaaaaaaaaaaaaaaaaaaaaaaaaaaaaaaaaaaaaaaaaaaaaaaaaaa/";
 
@@ -242,7 +243,7 @@ fn joins(rt: HostRuntime) -> Result<(), Fail> {
     Ok(())
 }
 
-// The length of a long join, or the number of its refusal.
+/// The length of a long join, or the number of its error.
 fn long_join(alloc: Global, path: &[(&str, usize)]) -> Result<usize, Fail> {
     let path = repeated(alloc, path)?;
     match parsed(alloc, "rsync://host/module/")?.join(alloc, path.as_bytes()) {
@@ -265,7 +266,7 @@ fn long_joins(rt: HostRuntime) -> Result<(), Fail> {
     Ok(())
 }
 
-// The longest text that is read, what joining gives, and the length once it is a directory.
+/// The longest text that is read, what joining gives, and the length once it is a directory.
 fn longest(alloc: Global, path: &str) -> Result<(u8, usize, u8), Fail> {
     let text = repeated(
         alloc,
@@ -343,7 +344,7 @@ fn hash_of(u: &Rsync) -> u64 {
     state.finish()
 }
 
-// Identical, equal, equal by octets, above, below, and hashed alike.
+/// Identical, equal, equal by octets, above, below, and hashed alike.
 fn comparison(
     alloc: Global,
     a: &str,
@@ -467,7 +468,7 @@ fn put_canonical(alloc: Global, line: &mut String, u: &Rsync) -> Result<(), Fail
     put(line, &[authority.as_str(), module.as_str()])
 }
 
-// The text that Display prints, and the parts behind it.
+/// The text that Display prints, then its parts.
 fn parts(alloc: Global, text: &str) -> Result<String, Fail> {
     let u = parsed(alloc, text)?;
     let mut line = format!(in alloc; "{u}")?;
@@ -505,7 +506,7 @@ fn uri_parts(rt: HostRuntime) -> Result<(), Fail> {
     Ok(())
 }
 
-// Whether the text was read, and is that of the URI.
+/// Whether the text was read, and is that of the URI.
 fn is_text<E: Drop>(read: Result<Rsync, E>, text: &str) -> bool {
     match read {
         Ok(uri) => uri.as_str() == text,
@@ -513,7 +514,7 @@ fn is_text<E: Drop>(read: Result<Rsync, E>, text: &str) -> bool {
     }
 }
 
-// Each way of making a copy gives the same text.
+/// Each way of making a copy gives the same text.
 fn copies_agree(alloc: Global, text: &str) -> Result<bool, Fail> {
     let owned = is_text(Rsync::from_string(String::from_str(alloc, text)?), text);
     let mut uri = Rsync::from_str(alloc, text)?;
@@ -532,7 +533,7 @@ fn copies(rt: HostRuntime) -> Result<(), Fail> {
     Ok(())
 }
 
-// Which of the ways to read a text refuse it, by number.
+/// Whether each way to read a text gives the same error, or none.
 fn refused_alike(alloc: Global, text: &str) -> Result<bool, Fail> {
     let number = refusal(alloc, text);
     let of = |read: Result<Rsync, Error>| match read {

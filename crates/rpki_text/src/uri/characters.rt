@@ -1,4 +1,5 @@
-//! The characters of URIs, and texts whose letters' case doesn't count.
+//! The characters of URIs, and texts that are compared without regard to case.
+
 ghost use Rattle.std.specs.Prelude.{◌≡◌, ◌↔◌, ◌≤◌, true, false, length, take, bytes_eq, IsTrue, IsOk, IfOk, MatchResult, fold, flat_map};
 ghost use Rattle.std.specs.Char.{is_ascii_uppercase};
 ghost use Rattle.std.specs.List.{list_all, list_any, position_or_len};
@@ -20,11 +21,11 @@ fn is_uri_byte(b: u8) -> bool
     matches!(b, b'!' | b'$'..=b';' | b'=' | b'A'..=b'Z' | b'_' | b'a'..=b'z' | b'~')
 }
 
-/// Tests that each octet is a character that a URI may have: `!`, `$` to `;`, `=`, `A` to `Z`,
-/// `_`, `a` to `z` and `~`. These are the characters of RFC 3986 section 2 without `#`, `?`, `@`,
-/// `[` and `]`, so there is no query, no fragment and no user information.
+/// Tests that each octet is a character that a URI may have: `!`, `$` to `;`, `=`, `A` to `Z`, `_`, `a` to `z` and `~`.
+/// These are the characters of RFC 3986 section 2 without `#`, `?`, `@`, `[` and `]`, so there is no query, no fragment
+/// and no user information.
 ///
-/// Refuses with `Error::InvalidCharacters` where there is another, and takes no memory.
+/// Returns `Error::InvalidCharacters` if there is another character. Allocates nothing.
 pub fn check_uri_ascii(text: &[u8]) -> Result<(), Error>
     ensures { MatchResult result (λ _. list_all is_uri_byte text.now ≡ true)
         (λ e. (e ≡ Error.InvalidCharacters) × (list_all is_uri_byte text.now ≡ false)) }
@@ -37,15 +38,14 @@ pub fn check_uri_ascii(text: &[u8]) -> Result<(), Error>
     Ok(())
 }
 
-/// Whether `s` begins with `expected`, without regard to the case of ASCII letters: false where
-/// `s` is shorter.
+/// Whether `s` begins with `expected`, without regard to the case of ASCII letters: false if `s` is shorter.
 pub fn starts_with_ignore_case(s: &[u8], expected: &[u8]) -> bool
     ensures { result ≡ bytes_eq (lowercase (take (length expected.now) s.now)) (lowercase expected.now) }
 {
     s.len() >= expected.len() && s[..expected.len()].eq_ignore_ascii_case(expected)
 }
 
-// Where the first slash stands, or the length.
+/// Where the first slash stands, or the length.
 pub(super) fn slash_at(s: &[u8]) -> usize
     ensures value { result ≡ position_or_len is_slash s.now }
     ensures within { result ≤ length s.now }
@@ -53,7 +53,7 @@ pub(super) fn slash_at(s: &[u8]) -> usize
     s.iter().take_while(|b| **b != b'/').count()
 }
 
-// The octets of a URI as text.
+/// The octets of a URI as text.
 pub(super) fn uri_text(bytes: &[u8]) -> &str
     requires { list_all is_uri_byte bytes.now ≡ true }
     ensures { result.now ≡ bytes.now }
@@ -61,21 +61,23 @@ pub(super) fn uri_text(bytes: &[u8]) -> &str
     unsafe { str::from_utf8_unchecked(bytes) }
 }
 
-// Whether a letter is a capital.
+/// Whether the text has a capital letter.
 fn has_capital(text: &[u8]) -> bool
     ensures { result ≡ list_any is_ascii_uppercase text.now }
 {
     text.iter().any(|b| b.is_ascii_uppercase())
 }
 
-// Whether no letter is a capital: exactly then the text in lower case is itself.
+/// Whether the text has no capital letter: exactly then the text in lower case is itself.
 pub(super) fn has_no_capital(text: &[u8]) -> bool
     ensures { IsTrue result ↔ (lowercase text.now ≡ text.now) }
 {
     !has_capital(text)
 }
 
-// The text in lower case: itself, where it is, and then no memory is taken.
+/// The text in lower case: borrowed, with nothing allocated, if the text is in lower case already.
+///
+/// Returns `AllocError` if allocation fails.
 pub(super) fn in_lower_case(alloc: Global, text: &str) -> Result<CowStr<'_, Global>, AllocError>
     ensures ok { IfOk result (λ lower. cow_str_bytes lower ≡ lowercase text.now) }
     ensures free { lowercase text.now ≡ text.now → IsOk result }
@@ -88,7 +90,7 @@ pub(super) fn in_lower_case(alloc: Global, text: &str) -> Result<CowStr<'_, Glob
     Ok(CowStr::Owned(lower))
 }
 
-// The same octets, but for the case of the letters among the first `len`.
+/// Whether the octets are the same but for the case of the letters among the first `len`.
 pub(super) fn same_but_case(text: &[u8], len: usize, other: &[u8]) -> bool
     requires { len ≤ length text.now }
     ensures { result ≡ same_text len text.now other.now }
@@ -101,7 +103,7 @@ pub(super) fn same_but_case(text: &[u8], len: usize, other: &[u8]) -> bool
     front.eq_ignore_ascii_case(other_front) && rest == other_rest
 }
 
-// Hashes the octets one by one, in lower case.
+/// Hashes the octets one by one, in lower case.
 pub(super) fn hash_in_lower_case<H: Hasher>(bytes: &[u8], state: &mut H)
     ensures { state.new ≡ fold H.write state.old (flat_map fed.u8 (lowercase bytes.now)) }
 {

@@ -16,7 +16,7 @@ const URI_STRING: Tag = Tag::IA5_STRING;
 /// The tag of a URI among general names, uniformResourceIdentifier (RFC 5280 4.2.1.6).
 const URI_NAME: Tag = Tag::CTX_6;
 
-// The constant `TAG`, with a contract that says which tag it is.
+/// The constant `TAG`, with a contract that says which tag it is.
 fn rsync_tag() -> Tag
     ensures { result ≡ ia5_string }
 {
@@ -47,8 +47,8 @@ impl<'a> PrimitiveContent for &'a Rsync {
 }
 
 impl Rsync {
-    /// What writes the URI as a general name: its text, as it was spelled, under the context-specific tag 6
-    /// (RFC 5280 4.2.1.6).
+    /// An encoder for the URI as a general name: its text, as it was spelled, under the context-specific tag 6 (RFC
+    /// 5280 4.2.1.6).
     pub fn encode_general_name(&self) -> Primitive<&Rsync>
         ensures encoded { ⟦<Primitive<&'static Rsync> as Values>⟧.encoded result ≡ tlv context_6 false self.now }
         ensures short { ⟦<Primitive<&'static Rsync> as Values>⟧.is_short result ↔ (length self.now < 2 ^ 32) }
@@ -57,7 +57,7 @@ impl Rsync {
     }
 }
 
-// The constant `TAG`, with a contract that says which tag it is.
+/// The constant `TAG`, with a contract that says which tag it is.
 fn https_tag() -> Tag
     ensures { result ≡ ia5_string }
 {
@@ -88,8 +88,8 @@ impl<'a> PrimitiveContent for &'a Https {
 }
 
 impl Https {
-    /// What writes the URI as a general name: its text, as it was spelled, under the context-specific tag 6
-    /// (RFC 5280 4.2.1.6).
+    /// An encoder for the URI as a general name: its text, as it was spelled, under the context-specific tag 6 (RFC
+    /// 5280 4.2.1.6).
     pub fn encode_general_name(&self) -> Primitive<&Https>
         ensures encoded { ⟦<Primitive<&'static Https> as Values>⟧.encoded result ≡ tlv context_6 false self.now }
         ensures short { ⟦<Primitive<&'static Https> as Values>⟧.is_short result ↔ (length self.now < 2 ^ 32) }

@@ -1,17 +1,17 @@
-//! What can be wrong with a URI.
+//! Errors of URIs.
 
 use std::alloc::AllocError;
 use std::fmt;
 
-/// Why a text is no URI, or why two texts can't be joined to one.
+/// Why a text is not a URI, or why two texts cannot be joined to one.
 #[derive(Clone, Copy, Debug, PartialEq, Eq, Drop)]
 pub enum Error {
     /// There is a character that a URI may not have: `check_uri_ascii` has the list.
     InvalidCharacters,
-    /// The authority, the module or the slash behind the module of an rsync URI is missing, or the authority of an
-    /// https URI has 256 octets or more.
+    /// The authority, the module or the slash after the module of an rsync URI is missing, or the authority of an https
+    /// URI has 256 octets or more.
     BadUri,
-    /// An rsync URI has 3,072 octets or more behind its scheme and the slashes, or a path that is joined or the text
+    /// An rsync URI has 3,072 octets or more after its scheme and the slashes, or a path that is joined or the text
     /// that joining gives has as many.
     LongUri,
     /// The text doesn't begin with the scheme that is read, a colon and two slashes.
@@ -23,7 +23,7 @@ pub enum Error {
     EmptySegments,
     /// A segment has 256 octets or more.
     LongSegments,
-    /// Memory ran out.
+    /// Allocation failed.
     OutOfMemory,
 }
 

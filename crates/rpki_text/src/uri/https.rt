@@ -1,4 +1,5 @@
 //! Https URIs (RFC 9110 section 4.2.2).
+
 ghost use Rattle.std.specs.Prelude.{◌≡◌, ◌≤◌, true, false, length, take, bytes_eq, codes, Some, None, MatchResult, ◌+◌, ◌++◌, IfSome, IsOk, IfOk, OnOk, OnErr, IfErr, string_bytes};
 ghost use Rattle.std.specs.Cow.{cow_str_bytes};
 ghost use Rattle.std.specs.List.{list_all};
@@ -29,11 +30,11 @@ const SCHEME_LEN: usize = 8;
 /// An authority has fewer octets than this.
 const AUTHORITY_LIMIT: usize = 256;
 
-/// An https URI: an authority, which may be empty, and a path, which is empty or begins with a
-/// slash (RFC 9110 section 4.2.2, RFC 3986 section 3).
+/// An https URI: an authority, which may be empty, and a path, which is empty or begins with a slash (RFC 9110 section
+/// 4.2.2, RFC 3986 section 3).
 ///
-/// It keeps the text that it was spelled with. What the text stands for is the authority in lower
-/// case and the path; equality and hash go by these.
+/// It keeps the text that it was spelled with. What the text stands for is the authority in lower case and the path;
+/// equality and hash go by these.
 #[derive(Debug, Drop)]
 pub struct Https {
     bytes: Bytes,
@@ -54,11 +55,11 @@ impl Model for Https {
 
 /// # Reading
 impl Https {
-    /// Reads a URI, whose text is then these very octets. Takes no memory.
+    /// Reads a URI, whose text is then exactly these octets. Allocates nothing.
     ///
-    /// Refuses with the first of these that is true: `Error::InvalidCharacters` for a character
-    /// that a URI may not have; `Error::BadScheme` unless the text begins with `https://` in any
-    /// case; `Error::BadUri` for an authority of 256 octets or more.
+    /// Returns the first of these errors that applies: `Error::InvalidCharacters` for a character that a URI may not
+    /// have; `Error::BadScheme` unless the text begins with `https://`, ignoring case; `Error::BadUri` for an authority
+    /// of 256 octets or more.
     pub fn from_bytes(bytes: Bytes) -> Result<Https, Error>
         ensures { MatchResult result (λ u. (u ≡ bytes) × (https_refusal bytes ≡ None))
             (λ e. https_refusal bytes ≡ Some e) }
@@ -69,7 +70,7 @@ impl Https {
 
     /// Reads a URI from a copy of the octets.
     ///
-    /// Refuses as `from_bytes` does, and with `Error::OutOfMemory` where only the copy failed.
+    /// The errors are those of `from_bytes`; then `Error::OutOfMemory` if allocation fails.
     pub fn from_slice(alloc: Global, slice: &[u8]) -> Result<Https, Error>
         ensures ok { IfOk result (λ u. (u ≡ slice.now) × (https_refusal slice.now ≡ None)) }
         ensures err { IfErr result (λ e. e ≡ unwrap_or (https_refusal slice.now) Error.OutOfMemory) }
@@ -81,8 +82,8 @@ impl Https {
 
     /// Reads a URI from a text, whose memory it keeps.
     ///
-    /// Refuses as `from_bytes` does, and with `Error::OutOfMemory` where only the memory for
-    /// sharing failed. The text is then dropped.
+    /// The errors are those of `from_bytes`; then `Error::OutOfMemory` if allocation fails. After an error the text is
+    /// dropped.
     pub fn from_string(text: String) -> Result<Https, Error>
         ensures ok { IfOk result (λ u. (u ≡ string_bytes text) × (https_refusal (string_bytes text) ≡ None)) }
         ensures err { IfErr result (λ e. e ≡ unwrap_or (https_refusal (string_bytes text)) Error.OutOfMemory) }
@@ -94,7 +95,7 @@ impl Https {
 
     /// Reads a URI from a copy of the text.
     ///
-    /// Refuses as `from_bytes` does, and with `Error::OutOfMemory` where only the copy failed.
+    /// The errors are those of `from_bytes`; then `Error::OutOfMemory` if allocation fails.
     pub fn from_str(alloc: Global, text: &str) -> Result<Https, Error>
         ensures ok { IfOk result (λ u. (u ≡ text.now) × (https_refusal text.now ≡ None)) }
         ensures err { IfErr result (λ e. e ≡ unwrap_or (https_refusal text.now) Error.OutOfMemory) }
@@ -102,9 +103,9 @@ impl Https {
         Https::from_slice(alloc, text.as_bytes())
     }
 
-    /// The same URI with the same text.
+    /// Returns a copy of the URI that shares its text.
     ///
-    /// Fails where the memory for sharing does.
+    /// Returns `AllocError` if allocation fails.
     pub fn clone(&self) -> Result<Https, AllocError>
         ensures { IfOk result (λ copy. copy ≡ self.now) }
     {
@@ -117,7 +118,7 @@ impl Https {
 
     /// Moves the text, unchanged, to memory that nothing else shares.
     ///
-    /// Fails where that memory can't be had, and then changes nothing.
+    /// Returns `AllocError` if allocation fails, and then changes nothing.
     pub fn unshare(&mut self, alloc: Global) -> Result<(), AllocError>
         ensures { self.new ≡ self.old }
     {
@@ -129,7 +130,7 @@ impl Https {
 
 /// # The text and its parts
 impl Https {
-    /// The text as it was spelled, in octets. It spells this URI, and is read again.
+    /// The text as it was spelled, in octets. It spells this URI, and is accepted when it is read again.
     pub fn as_slice(&self) -> &[u8]
         ensures text { result.now ≡ self.now }
         ensures spelled { SpellsHttps self.now (https_uri_of self.now) }
@@ -169,7 +170,7 @@ impl Https {
 
     /// The authority in lower case.
     ///
-    /// Fails where the text has to be written and its memory can't be had.
+    /// Returns `AllocError` if the text has to be written and allocation fails.
     pub fn canonical_authority(&self, alloc: Global) -> Result<CowStr<'_, Global>, AllocError>
         ensures ok { IfOk result (λ text. cow_str_bytes text ≡ lowercase (https_authority self.now)) }
         ensures free { lowercase (https_authority self.now) ≡ https_authority self.now → IsOk result }
@@ -177,7 +178,7 @@ impl Https {
         in_lower_case(alloc, self.authority())
     }
 
-    /// The path: empty, or all from the first slash behind the scheme.
+    /// The path: empty, or everything from the first slash after `https://`.
     pub fn path(&self) -> &str
         ensures { result.now ≡ https_path self.now }
     {
@@ -211,7 +212,7 @@ impl Https {
         authority
     }
 
-    // The scheme and the authority.
+    /// The scheme and the authority.
     fn site(&self) -> &[u8]
         ensures { lowercase result.now ≡ codes "https://" ++ lowercase (https_authority self.now) }
     {
@@ -231,10 +232,10 @@ impl Https {
 
 /// # Paths
 impl Https {
-    /// Puts a slash last, unless the path is empty or has one. The text before is its beginning.
+    /// Puts a slash last, unless the path is empty or has one. The old text is a prefix of the new one.
     ///
-    /// Fails where the new text's memory can't be had, and then changes nothing. Where the path
-    /// is a directory already, nothing is taken and nothing fails.
+    /// Returns `AllocError` if allocation fails, and then changes nothing. If the path is a directory already,
+    /// allocates nothing and returns no error.
     pub fn path_into_dir(&mut self, alloc: Global) -> Result<(), AllocError>
         ensures ok { OnOk result (self.new ≡ https_into_dir self.old) }
         ensures meaning { OnOk result (https_uri_of self.new
@@ -251,10 +252,10 @@ impl Https {
         Ok(())
     }
 
-    /// The URI above: one last slash of the path dropped, and then all behind the last slash that
-    /// is left; `None` where nothing is left. Its text is a beginning of this one's.
+    /// The URI above: one last slash of the path dropped, and then everything after the last slash that is left; `None`
+    /// if nothing is left. Its text is a prefix of this one's.
     ///
-    /// Fails where the memory for sharing does.
+    /// Returns `AllocError` if allocation fails.
     pub fn parent(&self) -> Result<Option<Https>, AllocError>
         ensures text { IfOk result (λ o. o ≡ https_parent_of self.now) }
         ensures meaning { IfOk result (λ o. option_map https_uri_of o ≡ https_parent_uri (https_uri_of self.now)) }
@@ -270,11 +271,11 @@ impl Https {
         Ok(Some(Https { bytes, path_start }))
     }
 
-    /// The URI with the path behind its own, and this text as its beginning; a slash is put between
-    /// where this one's path is empty or ends without one, also for an empty argument.
+    /// The URI with the path appended to its own, and this text as its prefix; a slash is put between if this one's
+    /// path is empty or ends without one, also for an empty argument.
     ///
-    /// Refuses with `Error::InvalidCharacters` for a character that a URI may not have, and else
-    /// with `Error::OutOfMemory` where the new text's memory can't be had.
+    /// Returns `Error::InvalidCharacters` for a character that a URI may not have; then `Error::OutOfMemory` if
+    /// allocation fails.
     pub fn join(&self, alloc: Global, path: &[u8]) -> Result<Https, Error>
         ensures text { IfOk result (λ u. u ≡ https_joined self.now path.now) }
         ensures meaning { IfOk result (λ u. https_uri_of u ≡ https_joined_uri (https_uri_of self.now) path.now) }
@@ -304,8 +305,8 @@ impl Https {
             .eq_ignore_ascii_case(other.authority_bytes())
     }
 
-    /// Whether these octets are the text but for the case of its scheme and its authority. For
-    /// octets that are read as a URI this is equality with that URI.
+    /// Whether these octets are the text but for the case of its scheme and its authority. For octets that are read as
+    /// a URI this is equality with that URI.
     pub fn eq_bytes(&self, other: &[u8]) -> bool
         ensures text { result ≡ eq_https_bytes self.now other.now }
         ensures uri { https_refusal other.now ≡ None → result ≡ same_https (https_uri_of self.now) (https_uri_of other.now) }
@@ -347,7 +348,7 @@ impl fmt::Display for Https {
     }
 }
 
-// Tests a text, and finds where its path begins.
+/// Tests a text, and finds where its path begins.
 fn check_https(text: &[u8]) -> Result<usize, Error>
     ensures ok { OnOk result (https_refusal text.now ≡ None) }
     ensures cut { IfOk result (λ n. IsHttpsCut text.now n) }

@@ -1,5 +1,5 @@
-//! Paths: what stands behind the module of a URI, cut into segments at its slashes (RFC 3986
-//! section 3.3).
+//! Paths: what follows the module of a URI, cut into segments at its slashes (RFC 3986 section 3.3).
+
 ghost use Rattle.std.specs.Prelude.{◌≡◌, ◌≤◌, ◌<◌, ◌+◌, ◌-◌, ◌^◌, ◌++◌, [], ◌∷◌, ◌⊎◌, ℕ, not, true, false, length, take, drop, Some, None, MatchResult, MatchOption, IfSome, IfNone, IfOk, if◌then◌else◌};
 ghost use Rattle.std.specs.Iterator.{YieldsFirstBy, item_count};
 ghost use Rattle.std.specs.List.{suffix_len};
@@ -19,7 +19,7 @@ pub(super) const LEN_LIMIT: usize = 3072;
 /// A segment has fewer octets than this.
 const SEGMENT_LIMIT: usize = 256;
 
-// Tests one segment.
+/// Tests one segment.
 fn check_piece(piece: &[u8]) -> Result<(), Error>
     ensures { MatchResult result (λ _. piece_refusal piece.now ≡ None)
         (λ e. piece_refusal piece.now ≡ Some e) }
@@ -36,7 +36,7 @@ fn check_piece(piece: &[u8]) -> Result<(), Error>
     Ok(())
 }
 
-// The first segment of a path, and the path after it.
+/// The first segment of a path, and the path after it.
 #[tactic(auto, using(crate::proofs::SegmentLemmas::segment_steps))]
 fn first_segment(path: &[u8]) -> Option<(&[u8], &[u8])>
     ensures { MatchOption result (segments path.now ≡ [])
@@ -53,7 +53,7 @@ fn first_segment(path: &[u8]) -> Option<(&[u8], &[u8])>
     }
 }
 
-// The segments of a path, from the left.
+/// The segments of a path, from the left.
 #[derive(Drop)]
 struct Segments<'a> {
     rest: &'a [u8],
@@ -73,7 +73,7 @@ impl<'a> Iterator for Segments<'a> {
     }
 }
 
-// Tests the length of a path, and its segments from the left.
+/// Tests the length of a path, and its segments from the left.
 pub(super) fn check_path(path: &[u8]) -> Result<(), Error>
     ensures { MatchResult result (λ _. path_refusal path.now ≡ None)
         (λ e. path_refusal path.now ≡ Some e) }
@@ -87,8 +87,8 @@ pub(super) fn check_path(path: &[u8]) -> Result<(), Error>
     Ok(())
 }
 
-// The rest of a path that is the base or lies below it: what comes after the base's octets and a slash. A slash at the
-// end of the base doesn't count, and every path lies below an empty one.
+/// The rest of a path that is the base or lies below it: what comes after the base's octets and a slash. A slash at the
+/// end of the base doesn't count, and every path lies below an empty one.
 pub(super) fn path_below<'a>(path: &'a [u8], base: &[u8]) -> Option<&'a [u8]>
     requires { names_refusal (segments base.now) ≡ None }
     ensures below { option_copied result ≡ path_left path.now (segments base.now) }
@@ -104,7 +104,7 @@ pub(super) fn path_below<'a>(path: &'a [u8], base: &[u8]) -> Option<&'a [u8]>
     if *first == b'/' { Some(below) } else { None }
 }
 
-// How much of the text stands up to its last slash, with it.
+/// How much of the text stands up to its last slash, with it.
 fn after_last_slash(text: &[u8]) -> usize
     ensures within { result ≤ length text.now }
     ensures front { is_dir (take result text.now) ≡ true }
@@ -118,7 +118,7 @@ fn after_last_slash(text: &[u8]) -> usize
     end
 }
 
-// How much of the path stands before its last segment.
+/// How much of the path stands before its last segment.
 pub(super) fn parent_len(path: &[u8]) -> Option<usize>
     ensures none { IfNone result (path.now ≡ []) }
     ensures some { IfSome result (λ n. IsParentLen path.now n) }
@@ -132,7 +132,7 @@ pub(super) fn parent_len(path: &[u8]) -> Option<usize>
     }
 }
 
-// A path without one last slash.
+/// A path without one last slash.
 fn without_last_slash(path: &[u8]) -> &[u8]
     ensures { result.now ≡ without_slash path.now }
 {
@@ -142,7 +142,7 @@ fn without_last_slash(path: &[u8]) -> &[u8]
     if *last == b'/' { front } else { path }
 }
 
-// How much of an https path stands above it, if anything does.
+/// How much of an https path stands above it, if anything does.
 pub(super) fn len_above(path: &[u8]) -> Option<usize>
     ensures none { IfNone result (path_above path.now ≡ None) }
     ensures some { IfSome result (λ n. path_above path.now ≡ Some (take n path.now)) }
@@ -155,7 +155,7 @@ pub(super) fn len_above(path: &[u8]) -> Option<usize>
     Some(after_last_slash(front))
 }
 
-// The base, perhaps a slash, and the path: one growth to the final length.
+/// The base, perhaps a slash, and the path: one growth to the final length.
 pub(super) fn joined_bytes(
     alloc: Global,
     base: &[u8],

@@ -1,4 +1,5 @@
 //! Rsync URIs (RFC 5781).
+
 ghost use Rattle.std.specs.Prelude.{◌≡◌, ◌≤◌, ◌<◌, not, true, false, length, take, drop, bytes_eq, nat_eq, nat_lt, codes, Some, None, MatchResult, ◌+◌, ◌-◌, ◌&&◌, ◌++◌, ◌^◌, IfSome, IsOk, IfOk, OnOk, OnErr, IfErr, is_some, [], string_bytes};
 ghost use Rattle.std.specs.Cow.{cow_str_bytes};
 ghost use Rattle.std.specs.List.{list_all, position_or_len, ends_with};
@@ -27,16 +28,15 @@ const SCHEME_LEN: usize = 8;
 
 /// An rsync URI: an authority, a module and a path (RFC 5781 section 2).
 ///
-/// It keeps the text that it was spelled with. What the text stands for is the authority in lower
-/// case, the module, the path's segments, and whether the path ends with a slash; equality and
-/// hash go by these.
+/// It keeps the text that it was spelled with. What the text stands for is the authority in lower case, the module, the
+/// path's segments, and whether the path ends with a slash; equality and hash go by these.
 #[derive(Debug, Drop)]
 pub struct Rsync {
     bytes: Bytes,
     places: Places,
 }
 
-// Where the name of the module and the path begin in the text.
+/// Where the name of the module and the path begin in the text.
 #[derive(Clone, Copy, Debug)]
 struct Places {
     module_start: usize,
@@ -57,15 +57,13 @@ impl Model for Rsync {
 
 /// # Reading
 impl Rsync {
-    /// Reads a URI, whose text is then these very octets. Takes no memory.
+    /// Reads a URI, whose text is then exactly these octets. Allocates nothing.
     ///
-    /// Refuses with the first of these that is true: `Error::InvalidCharacters` for a character
-    /// that a URI may not have; `Error::BadScheme` unless the text begins with `rsync://` in any
-    /// case; `Error::LongUri` for 3,072 octets or more behind that; then, of the pieces between
-    /// slashes from the left, the first that is `.` or `..` (`Error::DotSegments`), has 256
-    /// octets or more (`Error::LongSegments`), or is empty and not the last
-    /// (`Error::EmptySegments`); `Error::BadUri` where the authority, the module or the slash
-    /// behind the module is missing.
+    /// Returns the first of these errors that applies: `Error::InvalidCharacters` for a character that a URI may not
+    /// have; `Error::BadScheme` unless the text begins with `rsync://`, ignoring case; `Error::LongUri` for 3,072
+    /// octets or more after that; then, of the pieces between slashes from the left, the first that is `.` or `..`
+    /// (`Error::DotSegments`), has 256 octets or more (`Error::LongSegments`), or is empty and not the last
+    /// (`Error::EmptySegments`); `Error::BadUri` if the authority, the module or the slash after the module is missing.
     pub fn from_bytes(bytes: Bytes) -> Result<Rsync, Error>
         ensures { MatchResult result (λ u. (u ≡ bytes) × (rsync_refusal bytes ≡ None))
             (λ e. rsync_refusal bytes ≡ Some e) }
@@ -76,7 +74,7 @@ impl Rsync {
 
     /// Reads a URI from a copy of the octets.
     ///
-    /// Refuses as `from_bytes` does, and with `Error::OutOfMemory` where only the copy failed.
+    /// The errors are those of `from_bytes`; then `Error::OutOfMemory` if allocation fails.
     pub fn from_slice(alloc: Global, slice: &[u8]) -> Result<Rsync, Error>
         ensures ok { IfOk result (λ u. (u ≡ slice.now) × (rsync_refusal slice.now ≡ None)) }
         ensures err { IfErr result (λ e. e ≡ unwrap_or (rsync_refusal slice.now) Error.OutOfMemory) }
@@ -88,8 +86,8 @@ impl Rsync {
 
     /// Reads a URI from a text, whose memory it keeps.
     ///
-    /// Refuses as `from_bytes` does, and with `Error::OutOfMemory` where only the memory for
-    /// sharing failed. The text is then dropped.
+    /// The errors are those of `from_bytes`; then `Error::OutOfMemory` if allocation fails. After an error the text is
+    /// dropped.
     pub fn from_string(text: String) -> Result<Rsync, Error>
         ensures ok { IfOk result (λ u. (u ≡ string_bytes text) × (rsync_refusal (string_bytes text) ≡ None)) }
         ensures err { IfErr result (λ e. e ≡ unwrap_or (rsync_refusal (string_bytes text)) Error.OutOfMemory) }
@@ -101,7 +99,7 @@ impl Rsync {
 
     /// Reads a URI from a copy of the text.
     ///
-    /// Refuses as `from_bytes` does, and with `Error::OutOfMemory` where only the copy failed.
+    /// The errors are those of `from_bytes`; then `Error::OutOfMemory` if allocation fails.
     pub fn from_str(alloc: Global, text: &str) -> Result<Rsync, Error>
         ensures ok { IfOk result (λ u. (u ≡ text.now) × (rsync_refusal text.now ≡ None)) }
         ensures err { IfErr result (λ e. e ≡ unwrap_or (rsync_refusal text.now) Error.OutOfMemory) }
@@ -109,9 +107,9 @@ impl Rsync {
         Rsync::from_slice(alloc, text.as_bytes())
     }
 
-    /// The same URI with the same text.
+    /// Returns a copy of the URI that shares its text.
     ///
-    /// Fails where the memory for sharing does.
+    /// Returns `AllocError` if allocation fails.
     pub fn clone(&self) -> Result<Rsync, AllocError>
         ensures { IfOk result (λ copy. copy ≡ self.now) }
     {
@@ -124,7 +122,7 @@ impl Rsync {
 
     /// Moves the text, unchanged, to memory that nothing else shares.
     ///
-    /// Fails where that memory can't be had, and then changes nothing.
+    /// Returns `AllocError` if allocation fails, and then changes nothing.
     pub fn unshare(&mut self, alloc: Global) -> Result<(), AllocError>
         ensures { self.new ≡ self.old }
     {
@@ -136,8 +134,8 @@ impl Rsync {
 
 /// # The text and its parts
 impl Rsync {
-    /// The text as it was spelled, in octets. It spells this URI, nothing is wrong with it but perhaps its length, and
-    /// where it has at most 3,079 octets it is read again.
+    /// The text as it was spelled, in octets. It spells this URI, nothing is wrong with it except perhaps its length,
+    /// and if it has at most 3,079 octets it is accepted when it is read again.
     pub fn as_slice(&self) -> &[u8]
         ensures text { result.now ≡ self.now }
         ensures spelled { Spells self.now (uri_of self.now) }
@@ -157,7 +155,7 @@ impl Rsync {
 
     /// The text as it was spelled, in the memory that this URI shares.
     ///
-    /// Fails where the memory for sharing does.
+    /// Returns `AllocError` if allocation fails.
     pub fn to_bytes(&self) -> Result<Bytes, AllocError>
         ensures { IfOk result (λ bytes. bytes ≡ self.now) }
     {
@@ -174,7 +172,7 @@ impl Rsync {
 
     /// The authority in lower case.
     ///
-    /// Fails where the text has to be written and its memory can't be had.
+    /// Returns `AllocError` if the text has to be written and allocation fails.
     pub fn canonical_authority(&self, alloc: Global) -> Result<CowStr<'_, Global>, AllocError>
         ensures ok { IfOk result (λ text. cow_str_bytes text ≡ lowercase (authority_of self.now)) }
         ensures free { lowercase (authority_of self.now) ≡ authority_of self.now → IsOk result }
@@ -189,17 +187,16 @@ impl Rsync {
         uri_text(self.module_name_bytes())
     }
 
-    /// All up to the path as it was spelled: the scheme, the authority and the module, with the
-    /// slash behind it.
+    /// Everything up to the path as it was spelled: the scheme, the authority and the module, with the slash after it.
     pub fn module(&self) -> &str
         ensures { result.now ≡ module_of self.now }
     {
         uri_text(self.module_bytes())
     }
 
-    /// All up to the path, with the scheme and the authority in lower case.
+    /// Everything up to the path, with the scheme and the authority in lower case.
     ///
-    /// Fails where the text has to be written and its memory can't be had.
+    /// Returns `AllocError` if the text has to be written and allocation fails.
     pub fn canonical_module(&self, alloc: Global) -> Result<CowStr<'_, Global>, AllocError>
         ensures ok { IfOk result (λ text. cow_str_bytes text ≡ canonical_module_of self.now) }
         ensures free { canonical_module_of self.now ≡ module_of self.now → IsOk result }
@@ -247,7 +244,7 @@ impl Rsync {
         self.path_bytes().ends_with(end.as_bytes())
     }
 
-    // The scheme, the authority and the slash after it.
+    /// The scheme, the authority and the slash after it.
     fn site(&self) -> &[u8]
         ensures lower { lowercase result.now ≡ codes "rsync://" ++ lowercase (authority_of self.now) ++ codes "/" }
         ensures module { module_of self.now ≡ result.now ++ module_name_of self.now ++ codes "/" }
@@ -257,7 +254,7 @@ impl Rsync {
         front
     }
 
-    // All after the site.
+    /// Everything after the scheme, the authority and the slash after it.
     fn rest_bytes(&self) -> &[u8]
         ensures { result.now ≡ module_name_of self.now ++ codes "/" ++ path_of self.now }
     {
@@ -292,7 +289,7 @@ impl Rsync {
         front
     }
 
-    // The path in octets, and what holds of the whole text.
+    /// The path in octets, and what holds of the whole text.
     fn path_part(&self) -> &[u8]
         ensures path { result.now ≡ path_of self.now }
         ensures form { IsRsync self.now }
@@ -313,11 +310,11 @@ impl Rsync {
 
 /// # Paths
 impl Rsync {
-    /// Puts a slash last, unless the path is empty or has one. There is no test of length, so the
-    /// text may become one that is not read again.
+    /// Puts a slash last, unless the path is empty or has one. There is no test of length, so the text may become one
+    /// that is rejected when it is read again.
     ///
-    /// Fails where the new text's memory can't be had, and then changes nothing. Where the path
-    /// is a directory already, nothing is taken and nothing fails.
+    /// Returns `AllocError` if allocation fails, and then changes nothing. If the path is a directory already,
+    /// allocates nothing and returns no error.
     pub fn path_into_dir(&mut self, alloc: Global) -> Result<(), AllocError>
         ensures ok { OnOk result (self.new ≡ with_slash self.old) }
         ensures meaning { OnOk result (uri_of self.new ≡ record (uri_of self.old) { is_dir = true }) }
@@ -333,10 +330,10 @@ impl Rsync {
         Ok(())
     }
 
-    /// The URI without its last segment, a slash last; `None` where there is no segment. Its text
-    /// is a beginning of this one's.
+    /// The URI without its last segment, a slash last; `None` if there is no segment. Its text is a prefix of this
+    /// one's.
     ///
-    /// Fails where the memory for sharing does.
+    /// Returns `AllocError` if allocation fails.
     pub fn parent(&self) -> Result<Option<Rsync>, AllocError>
         ensures text { IfOk result (λ o. o ≡ parent_of self.now) }
         ensures meaning { IfOk result (λ o. option_map uri_of o ≡ parent_uri (uri_of self.now)) }
@@ -353,14 +350,12 @@ impl Rsync {
         Ok(Some(Rsync { bytes, places }))
     }
 
-    /// The URI with the path's segments behind its own, and this text as its beginning; a slash is
-    /// put between where this one's text ends without one. An empty path gives a copy.
-    /// `relative_to` gives the path back.
+    /// The URI with the path's segments appended to its own, and this text as its prefix; a slash is put between if
+    /// this one's text ends without one. An empty path gives a copy. `relative_to` gives the path back.
     ///
-    /// Refuses a path that is not empty with the first of these that is true:
-    /// `Error::InvalidCharacters`; `Error::LongUri` for 3,072 octets or more of path; what is
-    /// wrong with its segments, as in `from_bytes`; `Error::LongUri` for a whole text of 3,072
-    /// octets or more; `Error::OutOfMemory`.
+    /// For a path that is not empty, returns the first of these errors that applies: `Error::InvalidCharacters`;
+    /// `Error::LongUri` for 3,072 octets or more of path; the error of its segments, as in `from_bytes`;
+    /// `Error::LongUri` for a whole text of 3,072 octets or more; `Error::OutOfMemory` if allocation fails.
     pub fn join(&self, alloc: Global, path: &[u8]) -> Result<Rsync, Error>
         ensures text { IfOk result (λ u. u ≡ joined self.now path.now) }
         ensures meaning { IfOk result (λ u. uri_of u ≡ joined_uri (uri_of self.now) path.now) }
@@ -374,10 +369,10 @@ impl Rsync {
         Ok(Rsync { bytes, places })
     }
 
-    /// The path from `other` to this URI, with this one's last slash: `None` unless both have the
-    /// same authority, in whatever case, and module and the other's segments are a beginning of
-    /// this one's; empty where no segment is left. Where it is not empty, joining it to `other`
-    /// gives an equal URI, unless this text has 3,072 octets or more. Takes no memory.
+    /// The path from `other` to this URI, with this one's last slash: `None` unless both have the same authority,
+    /// ignoring case, and the same module, and the other's segments are a prefix of this one's; empty if no segment is
+    /// left. Where it is not empty, joining it to `other` gives an equal URI, unless this text has 3,072 octets or
+    /// more. Allocates nothing.
     pub fn relative_to(&self, other: &Rsync) -> Option<&str>
         ensures path { option_copied result ≡ relative (uri_of self.now) (uri_of other.now) }
         ensures back { IfSome result (λ p. 0 < length p.now → IsWayBack self.now other.now p.now) }
@@ -387,9 +382,9 @@ impl Rsync {
         Some(uri_text(path))
     }
 
-    /// Whether `other` lies below this URI: the same authority and module, and this one's segments
-    /// are a strict beginning of the other's. No URI lies below itself, and what lies below one that
-    /// lies below a third lies below the third. Takes no memory.
+    /// Whether `other` lies below this URI: the same authority and module, and this one's segments are a proper prefix
+    /// of the other's. No URI lies below itself, and what lies below one that lies below a third lies below the third.
+    /// Allocates nothing.
     pub fn is_parent_of(&self, other: &Rsync) -> bool
         ensures value { result ≡ is_parent (uri_of self.now) (uri_of other.now) }
         ensures irreflexive { is_parent (uri_of self.now) (uri_of self.now) ≡ false }
@@ -402,8 +397,7 @@ impl Rsync {
         }
     }
 
-    /// Whether both have the same authority, module and segments, with or without a slash last.
-    /// Takes no memory.
+    /// Whether both have the same authority, module and segments, with or without a slash last. Allocates nothing.
     pub fn is_identical_to(&self, other: &Rsync) -> bool
         ensures { result ≡ is_identical (uri_of self.now) (uri_of other.now) }
     {
@@ -413,7 +407,7 @@ impl Rsync {
         }
     }
 
-    // The path from the base to this URI in octets, which is empty where the segments are the same.
+    /// The path from the base to this URI in octets, which is empty if the segments are the same.
     fn path_from(&self, base: &Rsync) -> Option<&[u8]>
         ensures path { option_copied result ≡ relative (uri_of self.now) (uri_of base.now) }
         ensures characters { IfSome result (λ p. list_all is_uri_byte p.now ≡ true) }
@@ -425,7 +419,7 @@ impl Rsync {
         path_below(self.path_part(), base.path_part())
     }
 
-    // The text with a slash last, where the path has none.
+    /// The text with a slash last, where the path has none.
     fn dir_text(&self, alloc: Global) -> Result<Bytes, AllocError>
         requires { is_dir (path_of self.now) ≡ false }
         ensures { IfOk result (λ b. b ≡ with_slash self.now) }
@@ -433,7 +427,7 @@ impl Rsync {
         joined_bytes(alloc, self.bytes.as_slice(), true, b"")
     }
 
-    // The length of a text that is joined, which its parts' lengths do not pass.
+    /// The length of the text with the path joined, which is at most the sum of the parts' lengths and one slash.
     fn joined_len(&self, path: &[u8]) -> usize
         requires { 0 < length path.now }
         ensures value { result ≡ length (joined self.now path.now) }
@@ -470,8 +464,8 @@ impl Rsync {
 
 /// # Equality and hash
 impl Rsync {
-    /// Whether these octets are the text but for the case of its scheme and its authority. For
-    /// octets that are read as a URI this is equality with that URI.
+    /// Whether these octets are the text but for the case of its scheme and its authority. For octets that are read as
+    /// a URI this is equality with that URI.
     pub fn eq_bytes(&self, other: &[u8]) -> bool
         ensures text { result ≡ eq_rsync_bytes self.now other.now }
         ensures uri { rsync_refusal other.now ≡ None → result ≡ same_uri (uri_of self.now) (uri_of other.now) }
@@ -513,7 +507,7 @@ impl fmt::Display for Rsync {
     }
 }
 
-// Where the module name and the path begin.
+/// Where the module name and the path begin.
 #[tactic(auto, using(crate::proofs::UriLemmas::places))]
 fn module_and_path(text: &[u8]) -> Option<Places>
     requires { 8 ≤ length text.now }
@@ -543,7 +537,7 @@ fn module_and_path(text: &[u8]) -> Option<Places>
     })
 }
 
-// Tests a text, and finds where its module name and its path begin.
+/// Tests a text, and finds where its module name and its path begin.
 #[tactic(auto, using(crate::proofs::UriLemmas::refusals))]
 fn check_rsync(text: &[u8]) -> Result<Places, Error>
     ensures ok { OnOk result (rsync_refusal text.now ≡ None) }

@@ -1,4 +1,5 @@
 //! The two schemes of RPKI URIs.
+
 ghost use Rattle.std.specs.Prelude.{◌≡◌, IfOk, codes, string_bytes};
 ghost use Rattle.rpki_text.specs.SchemeText.{scheme_name, scheme_text, is_https_scheme, is_rsync_scheme};
 
@@ -39,10 +40,9 @@ impl Scheme {
         }
     }
 
-    /// The beginning of a URI of this scheme: its name, a colon and two slashes, as Display
-    /// prints it.
+    /// The beginning of a URI of this scheme: its name, a colon and two slashes, as Display prints it.
     ///
-    /// Fails where the text's memory can't be had.
+    /// Returns `AllocError` if allocation fails.
     pub fn into_string(self, alloc: Global) -> Result<String, AllocError>
         ensures { IfOk result (λ text. string_bytes text ≡ scheme_text self) }
     {

@@ -1,6 +1,7 @@
 //! Octets as base 64 text (RFC 4648 sections 4 and 5), in the three flavours of the RPKI's protocols.
 //!
-//! An allocation failure may be returned before a text is looked at.
+//! A call that allocates may return an allocation failure before it reads the text.
+
 ghost use Rattle.std.specs.Prelude.{◌≡◌, false, Some, Ok, length, IfOk, IfErr, OnOk, string_bytes};
 ghost use Rattle.std.specs.Io.KnownBytes.{Appends};
 ghost use Rattle.std.specs.Str.{is_utf8};
@@ -22,7 +23,7 @@ use std::{fmt, io, str};
 pub enum Base64Error {
     /// The text is not base 64 of this flavour.
     Refused(DecodeError),
-    /// Memory ran out.
+    /// Allocation failed.
     OutOfMemory,
 }
 
@@ -46,7 +47,7 @@ pub struct XmlDecodeError {
 }
 
 impl XmlDecodeError {
-    /// What the decoding answered.
+    /// The error of the decoding.
     pub fn cause(&self) -> &Base64Error
         ensures { result.now ≡ xml_cause self.now }
     {
@@ -64,16 +65,16 @@ impl fmt::Display for XmlDecodeError {
 
 impl std::error::Error for XmlDecodeError {}
 
-/// Base 64 in XML documents: the standard alphabet with padding (RFC 4648 section 4), and white
-/// space anywhere: space, tab, line feed, form feed, carriage return.
+/// Base 64 in XML documents: the standard alphabet with padding (RFC 4648 section 4), and white space anywhere: space,
+/// tab, line feed, form feed, carriage return.
 #[derive(Drop)]
 pub struct Xml;
 
 impl Xml {
     /// The octets that the text stands for, read without its ASCII white space.
     ///
-    /// Refuses with the cause `Refused` where what is left is not base 64, the offset counted in
-    /// what is left, and with `OutOfMemory`.
+    /// Returns the cause `Refused` if the rest is not base 64, with the offset counted without the white space, and the
+    /// cause `OutOfMemory` if allocation fails.
     pub fn decode(self, alloc: Global, text: &str) -> Result<Vec<u8>, XmlDecodeError>
         ensures ok { IfOk result (λ v. xml_decode_of text.now ≡ Ok v.items) }
         ensures err { IfErr result (λ e. IsBase64Failure (xml_decode_of text.now) (xml_cause e)) }
@@ -86,9 +87,8 @@ impl Xml {
 
     /// The octets that a text stands for, which is given in octets.
     ///
-    /// Refuses as `decode` does; where the octets are not UTF-8, the cause is that the octet
-    /// after their longest beginning in UTF-8 is invalid, its offset counted in the octets as
-    /// they came, and no memory is taken.
+    /// The errors are those of `decode`; if the octets are not UTF-8, the cause is that the octet after their longest
+    /// prefix in UTF-8 is invalid, its offset counted in the original octets, and nothing is allocated.
     pub fn decode_bytes(self, alloc: Global, bytes: &[u8]) -> Result<Vec<u8>, XmlDecodeError>
         ensures ok { IfOk result (λ v. xml_bytes_decode_of bytes.now ≡ Ok v.items) }
         ensures err { IfErr result (λ e. IsBase64Failure (xml_bytes_decode_of bytes.now) (xml_cause e)) }
@@ -107,7 +107,7 @@ impl Xml {
 
     /// The octets as text, with padding.
     ///
-    /// Fails where the text's memory can't be had.
+    /// Returns `AllocError` if allocation fails.
     pub fn encode(self, alloc: Global, bytes: &[u8]) -> Result<String, AllocError>
         ensures { IfOk result (λ text. string_bytes text ≡ encode_of standard bytes.now) }
     {
@@ -122,7 +122,7 @@ pub struct Serde;
 impl Serde {
     /// The octets that the text stands for.
     ///
-    /// Refuses with `Refused` where it is not base 64 with its padding, and with `OutOfMemory`.
+    /// Returns `Refused` if it is not base 64 with its padding, and `OutOfMemory` if allocation fails.
     pub fn decode(self, alloc: Global, text: &str) -> Result<Vec<u8>, Base64Error>
         ensures ok { IfOk result (λ v. decode_of standard text.now ≡ Ok v.items) }
         ensures err { IfErr result (λ e. IsBase64Failure (decode_of standard text.now) e) }
@@ -132,7 +132,7 @@ impl Serde {
 
     /// The octets as text, with padding.
     ///
-    /// Fails where the text's memory can't be had.
+    /// Returns `AllocError` if allocation fails.
     pub fn encode(self, alloc: Global, bytes: &[u8]) -> Result<String, AllocError>
         ensures { IfOk result (λ text. string_bytes text ≡ encode_of standard bytes.now) }
     {
@@ -140,16 +140,15 @@ impl Serde {
     }
 }
 
-/// Base 64 in the files of Simplified Local Internet Number Resource Management (SLURM, RFC 8416):
-/// the alphabet that is safe in URLs (RFC 4648 section 5), read with padding or without and written
-/// without.
+/// Base 64 in the files of Simplified Local Internet Number Resource Management (SLURM, RFC 8416): the alphabet that is
+/// safe in URLs (RFC 4648 section 5), read with padding or without and written without.
 #[derive(Drop)]
 pub struct Slurm;
 
 impl Slurm {
     /// The octets that the text stands for.
     ///
-    /// Refuses with `Refused` where it is not base 64 of this alphabet, and with `OutOfMemory`.
+    /// Returns `Refused` if it is not base 64 of this alphabet, and `OutOfMemory` if allocation fails.
     pub fn decode(self, alloc: Global, text: &str) -> Result<Vec<u8>, Base64Error>
         ensures ok { IfOk result (λ v. decode_of url_safe_no_pad_indifferent text.now ≡ Ok v.items) }
         ensures err { IfErr result (λ e. IsBase64Failure (decode_of url_safe_no_pad_indifferent text.now) e) }
@@ -157,12 +156,11 @@ impl Slurm {
         Ok(URL_SAFE_NO_PAD_INDIFFERENT.decode(alloc, text.as_bytes())?)
     }
 
-    /// Writes the octets that the text stands for to the front of `output`, and answers how many
-    /// they are. Takes no memory.
+    /// Writes the octets that the text stands for to the front of `output`, and returns how many they are. Allocates
+    /// nothing.
     ///
-    /// Refuses with `DecodeSliceError::DecodeError` where the text is not base 64 of this
-    /// alphabet, and with `DecodeSliceError::OutputSliceTooSmall` where there is no room. What
-    /// `output` then holds is left open.
+    /// Returns `DecodeSliceError::DecodeError` if the text is not base 64 of this alphabet, and
+    /// `DecodeSliceError::OutputSliceTooSmall` if there is no room. What `output` then holds is unspecified.
     pub fn decode_slice(self, text: &str, output: &mut [u8]) -> Result<usize, DecodeSliceError>
         ensures value { result ≡ decode_slice_of url_safe_no_pad_indifferent text.now (length output.old) }
         ensures written { OnOk result (IsWrittenOver (decoded_bytes_of url_safe_no_pad_indifferent text.now) output.old output.new) }
@@ -172,16 +170,17 @@ impl Slurm {
 
     /// The octets as text, without padding.
     ///
-    /// Fails where the text's memory can't be had.
+    /// Returns `AllocError` if allocation fails.
     pub fn encode(self, alloc: Global, bytes: &[u8]) -> Result<String, AllocError>
         ensures { IfOk result (λ text. string_bytes text ≡ encode_of url_safe_no_pad_indifferent bytes.now) }
     {
         URL_SAFE_NO_PAD_INDIFFERENT.encode(alloc, bytes)
     }
 
-    /// Writes the octets as text, without padding, to `target`. Takes no memory.
+    /// Writes the octets as text, without padding, to `target`. Allocates nothing.
     ///
-    /// The first error of the target, of any kind, ends the call and is returned; how much then went out is left open.
+    /// The first error of the target, of any kind, ends the call and is returned; how much has been written by then is
+    /// unspecified.
     pub fn write_encoded_slice<W: io::Write>(self, bytes: &[u8], target: &mut W) -> io::Result<()>
         ensures { OnOk result (Appends (W.contents target.old) (W.contents target.new) (encode_of url_safe_no_pad_indifferent bytes.now)) }
     {
@@ -232,7 +231,7 @@ impl From<DecodeAllocError> for Base64Error {
     }
 }
 
-// What the octets stand for once their white space is dropped.
+/// The octets that the text stands for without its white space.
 fn decode_without_white_space(alloc: Global, text: &[u8]) -> Result<Vec<u8>, Base64Error>
     ensures ok { IfOk result (λ v. xml_decode_of text.now ≡ Ok v.items) }
     ensures err { IfErr result (λ e. IsBase64Failure (xml_decode_of text.now) e) }
@@ -243,7 +242,7 @@ fn decode_without_white_space(alloc: Global, text: &[u8]) -> Result<Vec<u8>, Bas
     Ok(STANDARD.decode(alloc, bare.as_slice())?)
 }
 
-// The text without its white space.
+/// The text without its white space.
 fn bare_text(alloc: Global, text: &[u8]) -> Result<Vec<u8>, AllocError>
     ensures { IfOk result (λ v. v.items ≡ without_white_space text.now) }
 {
