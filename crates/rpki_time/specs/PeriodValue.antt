@@ -1,4 +1,4 @@
--- Periods of validity as values (RFC 5280 4.1.2.5).
+-- Validity periods as values (RFC 5280 4.1.2.5).
 use Rattle.std.specs.Prelude.{◌≡◌, ℕ, true, List, ◌++◌}
 use Rattle.rpki_der.specs.TagName.{sequence}
 use Rattle.rpki_der.specs.Header.{tlv}

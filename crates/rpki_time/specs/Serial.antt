@@ -35,7 +35,7 @@ serial_contents n = contents_within 20 n
 abbrev pub serial_octets : ℕ → List ℕ
 serial_octets n = tlv integer false (serial_contents n)
 
--- an unsigned INTEGER of more octets is told by a text of its own
+-- an unsigned INTEGER of more octets has an error text of its own
 abbrev pub TellsLong : List ℕ → DecodeError → Type 0
 TellsLong s (Content e) = (n : ℕ) (r : List ℕ) → Spells (SpellsLeaf integer false IsUnsigned) s n r → text_of e ≡ codes "serial number longer than 20 bytes"
 TellsLong s Truncated = Unit {0}
@@ -45,6 +45,6 @@ TellsLong s Unexpected = Unit {0}
 TellsLong s Trailing = Unit {0}
 TellsLong s OutOfMemory = Unit {0}
 
--- the first fault of who reads a serial number: that of an INTEGER; Content where it is negative or longer
+-- the first error of a reader of a serial number: that of an INTEGER; Content where it is negative or longer
 abbrev pub IsSerialFault : List ℕ → DecodeError → Type 0
 IsSerialFault s e = IsLeafFault integer false IsSerialContents s e × TellsLong s e

@@ -24,7 +24,7 @@ pub record SpellsTime (t : DateTime) (p : List ℕ) : Type 0 where
   pub value : SpellsContents tag false text p
   pub reads : ReadsAs tag text t
 
--- the primitive form, whatever the tag
+-- the primitive form, of any tag
 abbrev pub IsPrimitive : TagName → Bool → Type 0
 IsPrimitive t f = f ≡ false
 
@@ -32,7 +32,7 @@ IsPrimitive t f = f ≡ false
 abbrev pub HasNoTime : List ℕ → Type 0
 HasNoTime s = (x : TagName × Bool × List ℕ) × (r : List ℕ) × Spells (SpellsFlat IsPrimitive) s x r × ((t : DateTime) → ReadsAs x.0 x.2 t → ⊥)
 
--- The first fault: that of the header; then the constructed form, of any tag; then contents that are longer than what
+-- The first error: that of the header; then the constructed form, of any tag; then contents that are longer than what
 -- is left; then a primitive value, of any tag, that is no time.
 abbrev pub IsTimeFault : List ℕ → DecodeError → Type 0
 IsTimeFault s Truncated = IsFlatFault IsPrimitive s Truncated

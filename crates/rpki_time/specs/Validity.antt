@@ -1,4 +1,4 @@
--- What contracts see of a period of validity: its two times.
+-- What contracts see of a validity period: its two times.
 use Rattle.std.specs.Prelude.{◌≡◌, ℤ, ◌≤ℤ◌}
 use Rattle.std.specs.Int.{int_min, int_max}
 use Rattle.jiff.specs.Types.{DateTime}

@@ -1,5 +1,5 @@
-//! Laws of serial numbers, times and periods. A law over definitions alone is a function that does nothing; a law of a
-//! call makes that call. The contract is the law.
+//! Laws of serial numbers, times and validity periods. A law over definitions alone is a function that does nothing; a
+//! law of a call makes that call. The contract is the law.
 
 ghost use Rattle.std.specs.Prelude.{◌≡◌, ◌≤◌, ◌<◌, ◌^◌, ◌<ℤ◌, ◌↔◌, ℕ, ℤ, List, ◌++◌, length, true, IsTrue, IfOk, Ok};
 ghost use Rattle.jiff.specs.Types.{DateTime as Civil};

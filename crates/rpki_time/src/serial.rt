@@ -1,4 +1,5 @@
 //! Serial numbers of certificates.
+
 ghost use Rattle.std.specs.Prelude.{◌≡◌, ◌<◌, ◌≤◌, ◌^◌, ◌==◌, ◌↔◌, [], length, IsOk, IfOk, IfErr, Err, slice_index};
 ghost use Rattle.std.specs.Ordering.{nat_cmp, as_partial_cmp};
 ghost use Rattle.std.specs.Cmp.{partial_order_from_own_ties};
@@ -21,12 +22,12 @@ use std::io::Write;
 use std::marker::Model;
 use std::{fmt, io};
 
-/// Why octets are no serial number.
+/// Error returned when octets are not a valid serial number.
 #[derive(Clone, Copy, Debug, PartialEq, Eq)]
 pub enum SerialSliceError {
-    /// There are none.
+    /// The input is empty.
     Empty,
-    /// They are more than 20, or 20 of which the first bit is set.
+    /// The input has more than 20 octets, or 20 of which the first bit is set.
     Long,
 }
 
@@ -69,8 +70,8 @@ impl From<SerialSliceError> for ContentError {
     }
 }
 
-/// The serial number of a certificate: a whole number below 2^159, so that its INTEGER has at most 20 contents octets
-/// (RFC 5280 4.1.2.2).
+/// The serial number of a certificate: a non-negative number below 2^159, so that its INTEGER has at most 20 contents
+/// octets (RFC 5280 4.1.2.2).
 #[derive(Clone, Copy)]
 pub struct Serial {
     octets: [u8; 20],
@@ -93,7 +94,7 @@ impl Model for Serial {
 }
 
 impl Serial {
-    /// The 20 octets of the number, the most significant first, with zeros in front.
+    /// The 20 octets of the number, the most significant first, with leading zeros.
     pub fn into_array(self) -> [u8; 20]
         ensures value { number_of result ≡ self }
         ensures first_bit { slice_index result 0 < 128 }
@@ -102,9 +103,9 @@ impl Serial {
         self.octets
     }
 
-    /// The number that the octets write, the most significant first. Zeros in front count as octets.
+    /// The number that the octets write, the most significant first. Leading zeros count as octets.
     ///
-    /// Empty where there are no octets; Long where they are more than 20, or 20 of which the first bit is set.
+    /// Returns `Empty` if there are no octets; `Long` if they are more than 20, or 20 of which the first bit is set.
     pub fn from_slice(octets: &[u8]) -> Result<Serial, SerialSliceError>
         ensures value { IfOk result (λ s. s ≡ number_of octets.now) }
         ensures empty { (result ≡ Err SerialSliceError.Empty) ↔ (octets.now ≡ []) }
@@ -126,7 +127,7 @@ impl Serial {
 
     /// The number that the octets write, the most significant first.
     ///
-    /// Long where the first bit is set.
+    /// Returns `Long` if the first bit is set.
     pub fn from_array(octets: [u8; 20]) -> Result<Serial, SerialSliceError>
         ensures value { IfOk result (λ s. s ≡ number_of octets) }
         ensures succeeds { IsOk result ↔ (slice_index octets 0 < 128) }
@@ -147,12 +148,11 @@ impl Serial {
         &self.octets[start..]
     }
 
-    /// Reads a serial number: an INTEGER that is not negative (X.690 8.3), of at most 20 contents octets. It takes no
-    /// memory.
+    /// Reads a serial number: a non-negative INTEGER (X.690 8.3) of at most 20 contents octets. Allocates nothing.
     ///
-    /// The refusals are those of a header; then Unexpected for another tag or form; then Truncated; then Content for
-    /// contents that are empty, negative or begin with nine equal bits, and, with the text `serial number longer than
-    /// 20 bytes`, for a number with more octets. A refusal leaves the cursor where it was.
+    /// The errors are those of a header; then `Unexpected` for another tag or form; then `Truncated`; then `Content`
+    /// for contents that are empty, negative or begin with nine equal bits, and, with the text `serial number longer
+    /// than 20 bytes`, for a number with more octets. An error leaves the cursor where it was.
     pub fn take_from(cons: &mut Constructed<'_>) -> Result<Serial, DecodeError>
         ensures { Reads (λ n. n) SpellsSerial IsSerialFault (left cons.old) (left cons.new) result }
     {
@@ -168,7 +168,7 @@ impl Serial {
     }
 }
 
-/// Long where the first bit is set.
+/// Returns `Long` if the first bit is set.
 impl TryFrom<[u8; 20]> for Serial {
     type Error = SerialSliceError;
 

@@ -1,4 +1,4 @@
-//! Worked cases of serial numbers, times and periods of validity.
+//! Worked cases of serial numbers, times and validity periods.
 
 mod failing;
 mod laws;
@@ -27,7 +27,7 @@ enum Reader {
     Period,
 }
 
-/// What a reader answered: a value, None, or a refusal by its number, but for the two with a promised text.
+/// What a reader returned: a value, None, or an error by its number, except for the two with a promised text.
 #[derive(Clone, Copy, Debug, PartialEq)]
 enum Found {
     Serial([u8; 20]),
@@ -101,7 +101,7 @@ fn answer(reader: Reader, cursor: &mut Constructed<'_>) -> Found {
     }
 }
 
-/// What the reader answers on these octets, which stand behind the header of an OCTET STRING; and how many are left.
+/// What the reader returns on these octets, which follow the header of an OCTET STRING; and how many are left.
 fn read(
     alloc: Global,
     reader: Reader,

@@ -1,5 +1,6 @@
 //! The texts of times: UTC time, YYMMDDHHMMSSZ, and generalized time, YYYYMMDDHHMMSSZ (X.690 11.7, 11.8; RFC 5280
 //! 4.1.2.5).
+
 ghost use Rattle.std.specs.Prelude.{◌≡◌, ◌↔◌, ◌+◌, ◌<◌, ◌≤◌, ℕ, ℤ, pos, length, IfSome, IfNone};
 ghost use Rattle.jiff.specs.Types.{DateTime as Civil};
 ghost use Rattle.rpki_time.specs.TimeText.{two_digits, utc_text, generalized_text, ReadsAsUtc, ReadsAsGeneralized, is_utc_year};
@@ -16,7 +17,7 @@ fn digits(number: u8) -> [u8; 2]
     [b'0' + number / 10, b'0' + number % 10]
 }
 
-/// The number whose two decimal digits stand at the place; None where other octets do.
+/// The number whose two decimal digits stand at the place; None if other octets do.
 fn pair_at(text: &[u8], at: usize) -> Option<u32>
     requires { at + 1 < length text.now }
     ensures value { IfSome result (IsPairAt text.now at) }
@@ -70,7 +71,7 @@ impl Time {
     }
 
     /// The time that the text writes as UTC time: two digits of the year from 50 on are of 19xx, and those below 50 of
-    /// 20xx (RFC 5280 4.1.2.5.1). None where it writes none.
+    /// 20xx (RFC 5280 4.1.2.5.1). None if it writes none.
     pub(crate) fn from_utc_text(text: &[u8]) -> Option<Time>
         ensures value { IfSome result (ReadsAsUtc text.now) }
         ensures none { IfNone result ((t : Civil) → ¬ (ReadsAsUtc text.now t)) }
@@ -87,7 +88,7 @@ impl Time {
         tail_at(year, text, 2)
     }
 
-    /// The time that the text writes as generalized time (RFC 5280 4.1.2.5.2). None where it writes none.
+    /// The time that the text writes as generalized time (RFC 5280 4.1.2.5.2). None if it writes none.
     pub(crate) fn from_generalized_text(text: &[u8]) -> Option<Time>
         ensures value { IfSome result (ReadsAsGeneralized text.now) }
         ensures none { IfNone result ((t : Civil) → ¬ (ReadsAsGeneralized text.now t)) }
@@ -111,8 +112,7 @@ impl Time {
     }
 }
 
-/// The time in the year whose month, day, hour, minute and second stand from the place on, then Z; None where they do
-/// not.
+/// The time in the year whose month, day, hour, minute and second stand from the place on, then Z; None if they do not.
 fn tail_at(year: u32, text: &[u8], at: usize) -> Option<Time>
     requires fits { length text.now ≡ at + 11 }
     requires year { year < 10_000 }

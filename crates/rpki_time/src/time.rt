@@ -1,4 +1,5 @@
 //! Times in UTC.
+
 ghost use Rattle.std.specs.Prelude.{◌≡◌, ◌↔◌, pos, ◌+ℤ◌, ◌-ℤ◌, IsSome, IfSome, Ok, IsOk, IfOk, IsOkAnd};
 ghost use Rattle.jiff.specs.Words.{civil_nanos, signed_nanos, parse_timestamp};
 ghost use Rattle.rpki_time.specs.Time.{IsTimeYear, IsTimeNanos, HasParts, ArePossible, IsFloorSecond, IsYearsOn, common_day, seconds};
@@ -90,7 +91,7 @@ impl Time {
         self.date_time.second() as u32
     }
 
-    /// The time of the date-time; None where it is not of the years 0 to 9999.
+    /// The time of the date-time; None if it is not of the years 0 to 9999.
     fn in_years(date_time: DateTime) -> Option<Time>
         ensures succeeds { IsSome result ↔ IsTimeYear date_time.date.year }
         ensures value { IfSome result (λ t. t ≡ date_time) }
@@ -103,7 +104,7 @@ impl Time {
 
     /// The time with these parts and no part of a second.
     ///
-    /// None where the year is not of 0 to 9999, or the calendar or a clock does not have the other parts.
+    /// None if the year is not of 0 to 9999, or the calendar or a clock does not have the other parts.
     pub fn utc(year: i32, month: u32, day: u32, hour: u32, minute: u32, second: u32) -> Option<Time>
         ensures succeeds { IsSome result ↔ ArePossible year month day hour minute second }
         ensures value { IfSome result (HasParts year month day hour minute second) }
@@ -128,7 +129,7 @@ impl Time {
         }
     }
 
-    /// The time later by the duration, exact to the nanosecond; None where that is not of the years 0 to 9999.
+    /// The time later by the duration, exact to the nanosecond; None if that is not of the years 0 to 9999.
     pub fn checked_add(self, duration: SignedDuration) -> Option<Time>
         ensures succeeds { IsSome result ↔ IsTimeNanos (civil_nanos self +ℤ signed_nanos duration) }
         ensures value { IfSome result (λ t. civil_nanos t ≡ civil_nanos self +ℤ signed_nanos duration) }
@@ -139,7 +140,7 @@ impl Time {
         }
     }
 
-    /// The time earlier by the duration, exact to the nanosecond; None where that is not of the years 0 to 9999.
+    /// The time earlier by the duration, exact to the nanosecond; None if that is not of the years 0 to 9999.
     pub fn checked_sub(self, duration: SignedDuration) -> Option<Time>
         ensures succeeds { IsSome result ↔ IsTimeNanos (civil_nanos self -ℤ signed_nanos duration) }
         ensures value { IfSome result (λ t. civil_nanos t ≡ civil_nanos self -ℤ signed_nanos duration) }
@@ -150,7 +151,7 @@ impl Time {
         }
     }
 
-    /// The time five minutes before the moment; None where that is not of the years 0 to 9999.
+    /// The time five minutes before the moment; None if that is not of the years 0 to 9999.
     pub fn five_minutes_ago(now: Time) -> Option<Time>
         ensures succeeds { IsSome result ↔ IsTimeNanos (civil_nanos now -ℤ seconds (pos 300)) }
         ensures value { IfSome result (λ t. civil_nanos t ≡ civil_nanos now -ℤ seconds (pos 300)) }
@@ -158,7 +159,7 @@ impl Time {
         now.checked_sub(SignedDuration::from_mins(5))
     }
 
-    /// The time five minutes after the moment; None where that is not of the years 0 to 9999.
+    /// The time five minutes after the moment; None if that is not of the years 0 to 9999.
     pub fn five_minutes_from_now(now: Time) -> Option<Time>
         ensures succeeds { IsSome result ↔ IsTimeNanos (civil_nanos now +ℤ seconds (pos 300)) }
         ensures value { IfSome result (λ t. civil_nanos t ≡ civil_nanos now +ℤ seconds (pos 300)) }
@@ -166,7 +167,7 @@ impl Time {
         now.checked_add(SignedDuration::from_mins(5))
     }
 
-    /// The time 24 hours after the moment; None where that is not of the years 0 to 9999.
+    /// The time 24 hours after the moment; None if that is not of the years 0 to 9999.
     pub fn tomorrow(now: Time) -> Option<Time>
         ensures succeeds { IsSome result ↔ IsTimeNanos (civil_nanos now +ℤ seconds (pos 86_400)) }
         ensures value { IfSome result (λ t. civil_nanos t ≡ civil_nanos now +ℤ seconds (pos 86_400)) }
@@ -174,7 +175,7 @@ impl Time {
         now.checked_add(SignedDuration::from_hours(24))
     }
 
-    /// The time seven times 24 hours after the moment; None where that is not of the years 0 to 9999.
+    /// The time seven times 24 hours after the moment; None if that is not of the years 0 to 9999.
     pub fn next_week(now: Time) -> Option<Time>
         ensures succeeds { IsSome result ↔ IsTimeNanos (civil_nanos now +ℤ seconds (pos 604_800)) }
         ensures value { IfSome result (λ t. civil_nanos t ≡ civil_nanos now +ℤ seconds (pos 604_800)) }
@@ -198,10 +199,10 @@ impl Time {
         Time::years_from_date(years, now.date_time)
     }
 
-    /// The same day that many years on, or before, at the same hour, minute and second. 29 February becomes 28
-    /// February always, and parts of a second are dropped.
+    /// The same day that many years on, or before, at the same hour, minute and second. 29 February becomes 28 February
+    /// always, and parts of a second are dropped.
     ///
-    /// None where the resulting year is not of 0 to 9999.
+    /// None if the resulting year is not of 0 to 9999.
     pub fn years_from_date(years: i32, date: DateTime) -> Option<Time>
         ensures succeeds { IsSome result ↔ IsTimeYear (date.date.year +ℤ years) }
         ensures value { IfSome result (IsYearsOn years date) }
@@ -234,7 +235,7 @@ fn common_day(month: u8, day: u8) -> u8
     if month == 2 && day == 29 { 28 } else { day }
 }
 
-/// A text is no moment of the years 0 to 9999.
+/// Error returned when a text is not a moment of the years 0 to 9999.
 #[derive(Clone, Copy, Debug, PartialEq, Eq)]
 pub struct TimeParseError;
 
@@ -250,9 +251,9 @@ impl fmt::Display for TimeParseError {
 
 impl Error for TimeParseError {}
 
-/// Reads a moment as text, as jiff reads a [Timestamp]; the time is its date-time in UTC. It takes no memory.
+/// Reads a moment as text, as jiff reads a [Timestamp]; the time is its date-time in UTC. Allocates nothing.
 ///
-/// An error where jiff reads no moment, and where its year in UTC is not of 0 to 9999.
+/// Returns an error if jiff reads no moment, or if its year in UTC is not of 0 to 9999.
 impl FromStr for Time {
     type Err = TimeParseError;
 

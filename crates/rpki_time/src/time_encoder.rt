@@ -1,4 +1,5 @@
 //! Writing times.
+
 ghost use Rattle.std.specs.Prelude.{◌≡◌, ◌<◌, ◌^◌, ◌↔◌, false, length};
 ghost use Rattle.rpki_der.specs.Header.{tlv};
 ghost use Rattle.rpki_der.specs.TagName.{utc_time, generalized_time};
@@ -158,7 +159,7 @@ impl Values for VariedTime {
 }
 
 impl Time {
-    /// The time as UTC time, whatever its year: the last two digits of the year are written. It always fits.
+    /// An encoder for the time as UTC time, in any year: the last two digits of the year are written. It always fits.
     #[tactic(auto, using(crate::proofs::TimeValues::utc_fits))]
     pub fn encode_utc_time(self) -> Primitive<UtcTime>
         ensures encoded { ⟦<Primitive<UtcTime> as Values>⟧.encoded result ≡ utc_octets self }
@@ -167,7 +168,7 @@ impl Time {
         UtcTime { time: self }.encode()
     }
 
-    /// The time as generalized time. It always fits.
+    /// An encoder for the time as generalized time. It always fits.
     #[tactic(auto, using(crate::proofs::TimeValues::generalized_fits))]
     pub fn encode_generalized_time(self) -> Primitive<GeneralizedTime>
         ensures encoded { ⟦<Primitive<GeneralizedTime> as Values>⟧.encoded result ≡ generalized_octets self }
@@ -176,8 +177,8 @@ impl Time {
         GeneralizedTime { time: self }.encode()
     }
 
-    /// The time as certificates have it: UTC time in the years 1950 to 2049, and generalized time in the others. It
-    /// always fits.
+    /// An encoder for the time as certificates have it: UTC time in the years 1950 to 2049, and generalized time in the
+    /// others. It always fits.
     #[tactic(auto, using(crate::proofs::TimeValues::time_fits))]
     pub fn encode_varied(self) -> VariedTime
         ensures time { result ≡ self }

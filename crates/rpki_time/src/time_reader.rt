@@ -1,4 +1,5 @@
 //! Reading times.
+
 ghost use Rattle.std.specs.Prelude.{◌≡◌, ◌↔◌, codes, false, IsTrue, IfSome, IfNone};
 ghost use Rattle.jiff.specs.Types.{DateTime as Civil};
 ghost use Rattle.rpki_der.specs.Cursor.{left};
@@ -10,14 +11,14 @@ ghost use Rattle.rpki_time.specs.TimeValue.{ReadsAs, SpellsTime, IsPrimitive, Is
 use crate::time::Time;
 use rpki_der::{Class, Constructed, Content, ContentError, DecodeError, Steps, Tag};
 
-/// Why contents are no time.
+/// The error of contents that are not a time.
 fn malformed() -> ContentError
     ensures { text_of result ≡ codes "malformed time value" }
 {
     ContentError::from_static("malformed time value")
 }
 
-/// The time that the text under this tag writes; None where the tag is neither of the two, or the text writes none.
+/// The time that the text under this tag writes; None if the tag is neither of the two, or the text writes none.
 fn time_under(tag: Tag, text: &[u8]) -> Option<Time>
     ensures value { IfSome result (ReadsAs tag text.now) }
     ensures none { IfNone result ((t : Civil) → ¬ (ReadsAs tag text.now t)) }
@@ -32,9 +33,9 @@ fn time_under(tag: Tag, text: &[u8]) -> Option<Time>
     }
 }
 
-/// The tag and the contents of a primitive value, of whatever tag; moves past it.
+/// The tag and the contents of a primitive value of any tag; moves past it.
 ///
-/// The refusals are those of a header; then Unexpected for the constructed form; then Truncated.
+/// The errors are those of a header; then `Unexpected` for the constructed form; then `Truncated`.
 fn take_primitive<'a>(cons: &mut Constructed<'a>) -> Result<(Tag, &'a [u8]), DecodeError>
     ensures { Reads (λ x. (x.0, false, x.1.now)) (SpellsFlat IsPrimitive) (IsFlatFault IsPrimitive) (left cons.old) (left cons.new) result }
 {
@@ -59,11 +60,11 @@ fn take_primitive<'a>(cons: &mut Constructed<'a>) -> Result<(Tag, &'a [u8]), Dec
 }
 
 impl Time {
-    /// Reads a time: UTC time or generalized time (X.690 11.7, 11.8; RFC 5280 4.1.2.5). It takes no memory.
+    /// Reads a time: UTC time or generalized time (X.690 11.7, 11.8; RFC 5280 4.1.2.5). Allocates nothing.
     ///
-    /// The refusals are those of a header; then Unexpected for the constructed form, of whatever tag; then Truncated;
-    /// then Content, with the text `malformed time value`, for every other primitive value, whatever its tag. A
-    /// refusal leaves the cursor where it was.
+    /// The errors are those of a header; then `Unexpected` for the constructed form of any tag; then `Truncated`; then
+    /// `Content`, with the text `malformed time value`, for every other primitive value of any tag. An error leaves the
+    /// cursor where it was.
     pub fn take_from(cons: &mut Constructed<'_>) -> Result<Time, DecodeError>
         ensures { Reads (λ t. t) SpellsTime IsTimeFault (left cons.old) (left cons.new) result }
     {

@@ -1,4 +1,5 @@
-//! Periods of validity.
+//! Validity periods.
+
 ghost use Rattle.std.specs.Prelude.{length, ◌<◌, ◌^◌, true, ◌≡◌, ◌↔◌, ◌+ℤ◌, ◌<ℤ◌, ◌≤ℤ◌, ◌*ℤ◌, pos, IsSome, IfSome, IsOk, IfErr, IsErrOf, IsTrue};
 ghost use Rattle.jiff.specs.Types.{DateTime as Civil};
 ghost use Rattle.jiff.specs.Words.{civil_nanos, signed_nanos};
@@ -19,7 +20,7 @@ use std::error::Error;
 use std::fmt;
 use std::marker::Model;
 
-/// Why a moment is outside a period of validity.
+/// Why a moment is outside a validity period.
 #[derive(Clone, Copy, Debug)]
 pub enum ValidityPeriodError {
     /// The period begins after the moment.
@@ -57,7 +58,7 @@ impl fmt::Display for ValidityPeriodError {
 impl Error for ValidityPeriodError {}
 
 impl Time {
-    /// Checks the moment against this time as a start: TooNew where the moment is before it.
+    /// Checks the moment against this time as a start: returns `TooNew` if the moment is before it.
     pub fn verify_not_before(self, now: Time) -> Result<(), ValidityPeriodError>
         ensures ok { IsOk result ↔ (civil_nanos self ≤ℤ civil_nanos now) }
         ensures err { IfErr result (λ e. e ≡ ValidityPeriodError.TooNew) }
@@ -68,7 +69,7 @@ impl Time {
         Ok(())
     }
 
-    /// Checks the moment against this time as an end: TooOld where the moment is after it.
+    /// Checks the moment against this time as an end: returns `TooOld` if the moment is after it.
     pub fn verify_not_after(self, now: Time) -> Result<(), ValidityPeriodError>
         ensures ok { IsOk result ↔ (civil_nanos now ≤ℤ civil_nanos self) }
         ensures err { IfErr result (λ e. e ≡ ValidityPeriodError.TooOld) }
@@ -80,7 +81,7 @@ impl Time {
     }
 }
 
-/// A period of validity: from one time to another, both included (RFC 5280 4.1.2.5). One whose end is before its start
+/// A validity period: from one time to another, both included (RFC 5280 4.1.2.5). One whose end is before its start
 /// never holds.
 #[derive(Clone, Copy, Debug, PartialEq, Eq, Hash)]
 pub struct Validity {
@@ -126,7 +127,7 @@ impl Validity {
 
     /// The period between the moment and the time later by the duration, the earlier of the two first.
     ///
-    /// None where that time is not of the years 0 to 9999.
+    /// None if that time is not of the years 0 to 9999.
     pub fn from_duration(now: Time, duration: SignedDuration) -> Option<Validity>
         ensures succeeds { IsSome result ↔ IsTimeNanos (civil_nanos now +ℤ signed_nanos duration) }
         ensures value { IfSome result (SpansBetween (civil_nanos now) (civil_nanos now +ℤ signed_nanos duration)) }
@@ -140,7 +141,7 @@ impl Validity {
 
     /// The period between the moment and the time that many seconds later, the earlier of the two first.
     ///
-    /// None where that time is not of the years 0 to 9999.
+    /// None if that time is not of the years 0 to 9999.
     pub fn from_secs(now: Time, secs: i64) -> Option<Validity>
         ensures succeeds { IsSome result ↔ IsTimeNanos (civil_nanos now +ℤ seconds secs) }
         ensures value { IfSome result (SpansBetween (civil_nanos now) (civil_nanos now +ℤ seconds secs)) }
@@ -161,7 +162,7 @@ impl Validity {
 
     /// Checks that the period holds at the moment, both ends included.
     ///
-    /// TooNew where the moment is before the start; else TooOld where it is after the end.
+    /// Returns `TooNew` if the moment is before the start; else `TooOld` if it is after the end.
     pub fn verify_at(self, now: Time) -> Result<(), ValidityPeriodError>
         ensures ok { IsOk result ↔ HoldsAt self now }
         ensures too_new { IsErrOf result ValidityPeriodError.TooNew ↔ (civil_nanos now <ℤ civil_nanos self.not_before) }
@@ -170,11 +171,11 @@ impl Validity {
         self.not_after.verify_not_after(now)
     }
 
-    /// Reads a period of validity: a SEQUENCE of two times and nothing else, the start first (RFC 5280 4.1.2.5). It
-    /// takes no memory.
+    /// Reads a validity period: a SEQUENCE of two times and nothing else, the start first (RFC 5280 4.1.2.5). Allocates
+    /// nothing.
     ///
-    /// Where there is no SEQUENCE the refusal is that of [Constructed::take_sequence]; else that of the first time
-    /// that could not be read, or Trailing where more follows. A refusal leaves the cursor where it was.
+    /// The errors are those of [Constructed::take_sequence] if there is no SEQUENCE; else that of the first time that
+    /// could not be read, or `Trailing` if more follows. An error leaves the cursor where it was.
     pub fn take_from(cons: &mut Constructed<'_>) -> Result<Validity, DecodeError>
         ensures { Reads (λ p. p) SpellsPeriod (IsOuterFault sequence true) (left cons.old) (left cons.new) result }
     {
@@ -195,8 +196,8 @@ impl Validity {
         )
     }
 
-    /// The period as certificates have it: a SEQUENCE of its two times, each as [Time::encode_varied] writes it. It
-    /// always fits.
+    /// An encoder for the period as certificates have it: a SEQUENCE of its two times, each as [Time::encode_varied]
+    /// writes it. It always fits.
     pub fn encode(self) -> Sequence<(VariedTime, VariedTime)>
         ensures encoded { ⟦<Sequence<(VariedTime, VariedTime)> as Values>⟧.encoded result ≡ period_octets self }
         ensures fits { ⟦<Sequence<(VariedTime, VariedTime)> as Values>⟧.is_short result × (length (period_octets self) < 2 ^ 63) }

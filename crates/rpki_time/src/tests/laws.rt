@@ -1,5 +1,5 @@
-//! The laws that are about calls, at some values. A law over definitions alone has no argument and no answer, so that
-//! there is nothing of it to compare.
+//! The laws that are about calls, at some values. A law over definitions alone has no argument and no result, so there
+//! is nothing of it to compare.
 
 use super::*;
 use crate::laws::{
@@ -7,7 +7,7 @@ use crate::laws::{
     times_read_back,
 };
 
-/// What the law's reader of such a value answers.
+/// What the law's reader of such a value returns.
 fn answer_of_law(written: Written, cursor: &mut Constructed<'_>) -> Found {
     match written {
         Written::Zero | Written::Octets(_) | Written::Number(_) | Written::Small(_) => {
@@ -31,7 +31,7 @@ fn answer_of_law(written: Written, cursor: &mut Constructed<'_>) -> Found {
     }
 }
 
-/// What the law's reader answers on what is written with a NULL after it; and how many octets are left.
+/// What the law's reader returns on what is written with a NULL after it; and how many octets are left.
 fn read_back(alloc: Global, written: Written) -> io::Result<(Found, usize)> {
     let mut out = FailsOnce::never(alloc);
     let values = write_to(alloc, &mut out, written)?;

@@ -1,4 +1,4 @@
-//! Worked cases of periods of validity.
+//! Worked cases of validity periods.
 
 use super::*;
 
@@ -36,7 +36,7 @@ const PERIODS: &[(Parts, Parts, Parts, Option<bool>)] = &[
     ),
 ];
 
-/// None where the check passed; else whether the refusal is that the object is too new.
+/// None where the check passed; else whether the error is that the object is too new.
 fn too_new(outcome: Result<(), ValidityPeriodError>) -> Option<bool> {
     match outcome {
         Ok(()) => None,
@@ -60,8 +60,8 @@ fn periods_hold(rt: HostRuntime) {
     }
 }
 
-/// The nanoseconds from a time to a moment, and whether the time is refused as a start and as an end: if so, whether it
-/// is too new.
+/// The nanoseconds from a time to a moment, and whether the time is rejected as a start and as an end: if so, whether
+/// it is too new.
 const ENDS: &[(i64, Option<bool>, Option<bool>)] = &[
     (-86_400_000_000_000, Some(true), None),
     (-1, Some(true), None),
@@ -70,7 +70,7 @@ const ENDS: &[(i64, Option<bool>, Option<bool>)] = &[
     (86_400_000_000_000, None, Some(false)),
 ];
 
-/// What the two checks of an end of a period answer, that many nanoseconds after the end.
+/// What the two checks of an end of a period return, that many nanoseconds after the end.
 fn verify_end(nanoseconds: i64) -> Option<(Option<bool>, Option<bool>)> {
     let parts = (2020, 2, 29, 23, 59, 59);
     let (end, now) = (time_of(parts)?, moment_of(parts, nanoseconds)?);
