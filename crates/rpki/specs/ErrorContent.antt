@@ -16,7 +16,7 @@ content_of e = e.inner
 abbrev pub verification_content : VerificationError → ContentError
 verification_content e = e.inner
 
--- the text of a refusal of contents; of the other refusals nothing is said
+-- the text of an error of contents; of the other errors nothing is said
 abbrev pub decode_text : DecodeError → Option (List ℕ)
 decode_text (Content e) = Some (text_of e)
 decode_text Truncated = None
@@ -32,7 +32,7 @@ validation_text (Decoding e) = decode_text e
 validation_text (Inspection e) = Some (text_of (content_of e))
 validation_text (Verification e) = Some (text_of (verification_content e))
 
--- errors of one kind: equal refusals, or the same text
+-- errors of one kind: equal decoding errors, or the same text
 abbrev pub HaveSameContent : (DecodeError → DecodeError → Bool) → ValidationError → ValidationError → Type 0
 HaveSameContent same (Decoding d) (Decoding e) = IsTrue (same d e)
 HaveSameContent same (Inspection d) (Inspection e) = text_of (content_of d) ≡ text_of (content_of e)

@@ -43,7 +43,7 @@ pub record CanBeWritten (x : ExtensionParts) : Type 0 where
   pub short : length (extension_contents x.identifier x.critical x.content) < 2 ^ 32
 
 -- The parts that stand in octets, as a function of them: of the contents of an extension, and of a whole extension.
--- Nothing stands behind an OCTET STRING; behind a BOOLEAN there is one.
+-- Nothing follows an OCTET STRING; one follows a BOOLEAN.
 unfoldable pub parts_in : List ℕ → ExtensionParts
 parts_in c =
     let rest = after_front c in

@@ -1,4 +1,4 @@
--- Two parts, one behind the other.
+-- Two parts, one after the other.
 use Rattle.std.specs.Prelude.{◌≡◌, ℕ, List, ◌++◌}
 
 -- a spelling of a, and then one of b

@@ -17,7 +17,7 @@ pub record IsFound (IsPermitted : List ℕ → Type 0) (x : Findings) (xs : List
   pub known : All IsKnown xs
   pub strings : All (λ a. IsPermitted a.value) xs
 
--- behind attributes in which x was found come these: what is found in all of them, or that they are no strict name,
+-- after attributes in which x was found come these: what is found in all of them, or that they are no strict name,
 -- whatever follows
 abbrev pub Finds : {X E : Type 0} → (List ℕ → Type 0) → (X → Findings) → X → List Attribute → Result X E → Type 0
 Finds P view x xs (Ok y) = (before : List Attribute) → IsFound P (view x) before → IsFound P (view y) (before ++ xs)

@@ -18,14 +18,14 @@ pub record IsKeyIdentifier (k c : List ℕ) : Type 0 where
 abbrev pub SpellsKeyIdentifier : List ℕ → List ℕ → Type 0
 SpellsKeyIdentifier = SpellsLeaf octet_string false IsKeyIdentifier
 
--- the same, whichever it is
+-- the same, for any identifier
 abbrev pub IsAnyKeyIdentifier : Unit {0} → List ℕ → Type 0
 IsAnyKeyIdentifier v c = length c ≡ 20
 
 abbrev pub identifier_error : List ℕ
 identifier_error = codes "invalid key identifier"
 
--- a refusal of contents has this text
+-- an error of contents has this text
 abbrev pub TellsOfContents : DecodeError → Type 0
 TellsOfContents (Content e) = text_of e ≡ identifier_error
 TellsOfContents Truncated = Unit {0}
@@ -35,7 +35,7 @@ TellsOfContents Unexpected = Unit {0}
 TellsOfContents Trailing = Unit {0}
 TellsOfContents OutOfMemory = Unit {0}
 
--- the first fault of an OCTET STRING whose contents are C, with the text for another number of octets
+-- the first error of an OCTET STRING whose contents are C, with the text for another number of octets
 pub record IsIdentifierFault {V : Type 0} (C : V → List ℕ → Type 0) (s : List ℕ) (e : DecodeError) : Type 0 where
   pub fault : IsLeafFault octet_string false C s e
   pub text : TellsOfContents e

@@ -14,13 +14,13 @@ pub record Attribute : Type 0 where
 abbrev pub attribute_of : List ℕ → List ℕ → Attribute
 attribute_of identifier value = record { identifier = identifier; value = value }
 
--- an OBJECT IDENTIFIER, and any octets behind it
+-- an OBJECT IDENTIFIER, and any octets after it
 pub record IsIdentifierThen (a : Attribute) (c : List ℕ) : Type 0 where
   pub front : List ℕ
   pub parts : c ≡ front ++ a.value
   pub identifier : SpellsLeaf oid false IsOidOf a.identifier front
 
--- an OBJECT IDENTIFIER, and one value behind it
+-- an OBJECT IDENTIFIER, and one value after it
 pub record IsAttribute (a : Attribute) (c : List ℕ) : Type 0 where
   pub identified : IsIdentifierThen a c
   pub one : IsValue a.value
@@ -39,7 +39,7 @@ pub record SpellsSome {V : Type 0} (G : V → List ℕ → Type 0) (vs : List V)
   pub some : vs ≢ []
   pub each : SpellsEach G vs p
 
--- a relative distinguished name: a SET of attributes, in whatever order
+-- a relative distinguished name: a SET of attributes, in any order
 abbrev pub SpellsRelative : List Attribute → List ℕ → Type 0
 SpellsRelative = SpellsLeaf set true (SpellsSome SpellsAttribute)
 
@@ -56,6 +56,6 @@ pub record SpellsNameOctets (v p : List ℕ) : Type 0 where
   pub same : p ≡ v
   pub named : IsName v
 
--- some value is spelled, whichever
+-- some value is spelled
 abbrev pub SpellsAny : {V : Type 0} → (V → List ℕ → Type 0) → Unit {0} → List ℕ → Type 0
 SpellsAny {V} G x p = (v : V) × G v p

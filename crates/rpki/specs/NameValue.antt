@@ -1,4 +1,4 @@
--- Where the value of an attribute begins in a name: a reader of names takes memory there, and nowhere before.
+-- Where the value of an attribute begins in a name: a reader of names allocates there, and nowhere before.
 use Rattle.std.specs.Prelude.{◌≡◌, ℕ, List, ◌++◌}
 use Rattle.rpki_der.specs.TagName.{sequence, set}
 use Rattle.rpki_der.specs.Inside.{HasInside}
@@ -9,7 +9,7 @@ use Rattle.rpki.specs.Name.{Attribute, IsIdentifierThen, SpellsAttribute, Spells
 abbrev pub HasAfter : {V : Type 0} → (V → List ℕ → Type 0) → (List ℕ → Type 0) → List ℕ → Type 0
 HasAfter {V} G P s = (vs : List V) × (front : List ℕ) × (rest : List ℕ) × SpellsEach G vs front × (s ≡ front ++ rest) × P rest
 
--- an OBJECT IDENTIFIER, and a value behind it, whatever its contents
+-- an OBJECT IDENTIFIER, and a value after it, with any contents
 abbrev pub IdentifiesValue : List ℕ → Type 0
 IdentifiesValue c = (a : Attribute) × IsIdentifierThen a c × HasEither a.value
 

@@ -1,4 +1,4 @@
--- What a provider of digests and of checks of signatures answers: functions of lists of octets.
+-- What a provider of digests and of checks of signatures returns: functions of lists of octets.
 use Rattle.std.specs.Prelude.{ℕ, Bool, ◌≡◌, List, IsTrue}
 use Rattle.rpki.specs.declared.crypto.keys.PublicKeyFormat.{PublicKeyFormat}
 use Rattle.rpki.specs.declared.crypto.keys.PublicKeyFormat.TheVariants.{Rsa, EcdsaP256}
@@ -12,6 +12,6 @@ abbrev pub check_of : Check → Check → PublicKeyFormat → Check
 check_of rsa ecdsa Rsa = rsa
 check_of rsa ecdsa EcdsaP256 = ecdsa
 
--- The key's format is the one that is asked for, and that format's check says so.
+-- The key's format is the required one, and that format's check says so.
 abbrev pub Verifies : Check → Check → PublicKeyFormat → PublicKeyFormat → List ℕ → List ℕ → List ℕ → Type 0
 Verifies rsa ecdsa asked format bits message value = (format ≡ asked) × IsTrue (check_of rsa ecdsa format bits message value)

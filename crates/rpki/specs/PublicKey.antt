@@ -19,7 +19,7 @@ pub record KeyParts : Type 0 where
 abbrev pub key_of : PublicKeyFormat → Bits → KeyParts
 key_of format bits = record { format = format; bits = bits }
 
--- the two, one behind the other
+-- the two, one after the other
 abbrev pub IsKeyContents : KeyParts → List ℕ → Type 0
 IsKeyContents k c = SpellsBoth SpellsFormat (SpellsLeaf bit_string false IsBits) k.format k.bits c
 
@@ -33,7 +33,7 @@ key_contents k = format_octets k.format ++ tlv bit_string false (bits_contents k
 abbrev pub key_octets : KeyParts → List ℕ
 key_octets k = tlv sequence true (key_contents k)
 
--- the bits of an RSA key: modulus and exponent, two INTEGERs that are not negative (RFC 8017 A.1.1, RFC 3279 2.3.1)
+-- the bits of an RSA key: modulus and exponent, two non-negative INTEGERs (RFC 8017 A.1.1, RFC 3279 2.3.1)
 abbrev pub SpellsRsaNumbers : ℕ → ℕ → List ℕ → Type 0
 SpellsRsaNumbers modulus exponent = SpellsLeaf sequence true (λ (v : Unit {0}) c. SpellsBoth (SpellsLeaf integer false IsUnsigned) (SpellsLeaf integer false IsUnsigned) modulus exponent c) tt
 

@@ -40,7 +40,7 @@ signature_octets unused value = tlv bit_string false (bits_contents (bits_of unu
 abbrev pub signed_octets : List ℕ → List ℕ → ℕ → List ℕ → List ℕ
 signed_octets d text unused value = tlv sequence true (d ++ text ++ signature_octets unused value)
 
--- what is written: the very slice, the algorithm as it is written, and no unused bits
+-- what is written: exactly the signed slice, the algorithm as it is written, and no unused bits
 abbrev pub written_contents : {A : Type 0} → (A → List ℕ) → SignedParts A → List ℕ
 written_contents written x = x.signed ++ written x.algorithm ++ signature_octets 0 x.value
 

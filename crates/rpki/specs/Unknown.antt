@@ -22,7 +22,7 @@ pub record NamesUnknown (Known : List ℕ → Type 0) (s : List ℕ) : Type 0 wh
   pub begins : Spells (SpellsContents sequence true) s contents rest
   pub names : BeginsUnknown Known contents
 
--- a refusal of contents, with this text
+-- an error of contents, with this text
 abbrev pub IsContentWith : List ℕ → DecodeError → Type 0
 IsContentWith text (Content e) = text_of e ≡ text
 IsContentWith text Truncated = ⊥
@@ -32,6 +32,6 @@ IsContentWith text Unexpected = ⊥
 IsContentWith text Trailing = ⊥
 IsContentWith text OutOfMemory = ⊥
 
--- the answer is that refusal
+-- the result is that error
 abbrev pub IsRefusedWith : {X : Type 0} → List ℕ → Result X DecodeError → Type 0
 IsRefusedWith text r = MatchResult r (λ _. ⊥) (IsContentWith text)

@@ -39,9 +39,9 @@ impl SigningAlgorithm {
     }
 }
 
-/// What makes digests and checks signatures. The layer itself does neither.
+/// A provider of digests and of checks of signatures. The layer itself computes neither.
 ///
-/// Each answer is a function of the provider's value and the arguments.
+/// Each result is a function of the provider's value and the arguments.
 pub trait Provider {
     ghost use Rattle.rpki.specs.Provider.{Check};
 
@@ -66,7 +66,7 @@ pub trait Provider {
         ensures { result ≡ sha256_of self.now octets.now };
 
     /// Whether this is the signature of the message by the RSA key with these bits, a SEQUENCE of modulus and exponent:
-    /// PKCS #1 v1.5 with SHA-256 (RFC 7935 2, RFC 8017 8.2). Which lengths of keys it takes is the provider's matter.
+    /// PKCS #1 v1.5 with SHA-256 (RFC 7935 2, RFC 8017 8.2). The provider decides which lengths of keys it accepts.
     fn rsa_check(&self, bits: &[u8], message: &[u8], signature: &[u8]) -> bool
         ensures { result ≡ rsa_of self.now bits.now message.now signature.now };
 

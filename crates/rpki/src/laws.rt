@@ -45,7 +45,7 @@ pub fn algorithms_have_formats()
     ensures bgpsec { ⟦<BgpsecSignatureAlgorithm as SignatureAlgorithm>⟧.format tt ≡ EcdsaP256 }
 {}
 
-/// Algorithms are written as the same octets exactly where their normal forms are equal.
+/// Algorithms have the same encoding exactly where their normal forms are equal.
 pub fn algorithms_are_written_apart<Alg: SignatureAlgorithm>()
     ensures { (a b : Alg) → (Alg.written a ≡ Alg.written b) ↔ (Alg.norm a ≡ Alg.norm b) }
 {}
@@ -63,8 +63,7 @@ pub fn equal_signed_data_have_equal_parts()
     ensures { (v w : SignedParts Bool) → IsTrue (⟦<SignedData<RpkiSignatureAlgorithm> as PartialEq>⟧.eq v w) ↔ (v ≡ w) }
 {}
 
-/// A key identifier that is written is read as itself, and two are written as the same octets where they are equal
-/// alone.
+/// A key identifier is read back from its encoding, and two have the same encoding only where they are equal.
 pub fn key_identifiers_are_read_back(identifier: &KeyIdentifier)
     ensures read_back { SpellsKeyIdentifier identifier.now (tlv octet_string false identifier.now) }
     ensures same { (other : List ℕ) → length other ≡ 20 → (tlv octet_string false identifier.now ≡ tlv octet_string false other) ↔ (identifier.now ≡ other) }
@@ -72,8 +71,8 @@ pub fn key_identifiers_are_read_back(identifier: &KeyIdentifier)
     let _ = identifier.as_slice();
 }
 
-/// Key identifiers are equal where their octets are, have the order of their octets, and are hashed as the same
-/// octets where they are equal alone.
+/// Key identifiers are equal where their octets are, have the order of their octets, and are hashed as the same octets
+/// only where they are equal.
 pub fn key_identifiers_go_by_their_octets()
     ensures equal { (k l : List ℕ) → IsTrue (⟦<KeyIdentifier as PartialEq>⟧.eq k l) ↔ (k ≡ l) }
     ensures order { (k l : List ℕ) → ⟦<KeyIdentifier as Ord>⟧.cmp k l ≡ slice_cmp nat_cmp k l }

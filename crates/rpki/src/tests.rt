@@ -1,4 +1,4 @@
-//! Worked cases: expected octets, texts and refusals come from the standards and their worked examples.
+//! Worked cases: expected octets, texts and errors come from the standards and their worked examples.
 
 mod algorithms;
 mod comparisons;
@@ -33,7 +33,7 @@ const DIGEST_OF_ABC: [u8; 20] = [
     0x9C, 0xD0, 0xD8, 0x9D,
 ];
 
-/// A provider that knows the digests of `abc` alone, and always gives the same answer to a check.
+/// A provider that knows the digests of `abc` alone, and always returns the same result of a check.
 #[derive(Drop)]
 struct Always {
     answer: bool,

@@ -44,16 +44,16 @@ impl DigestAlgorithm {
         32
     }
 
-    /// The digest of the octets by this algorithm, which the provider makes.
+    /// The digest of the octets by this algorithm, computed by the provider.
     pub fn digest<P: Provider>(&self, provider: &P, octets: &[u8]) -> [u8; 32]
         ensures { result ≡ P.sha256_of provider.now octets.now }
     {
         provider.sha256(octets)
     }
 
-    /// The algorithm identifier of SHA-256 (RFC 5754 2.2), with a NULL or without. It takes no memory.
+    /// The algorithm identifier of SHA-256 (RFC 5754 2.2), with a NULL or without. Allocates nothing.
     ///
-    /// The refusals of a SEQUENCE where that refuses; Content for another object identifier; Trailing for other
+    /// The errors are those of a SEQUENCE; then `Content` for another object identifier; then `Trailing` for other
     /// parameters.
     pub fn take_from(cons: &mut Constructed<'_>) -> Result<DigestAlgorithm, DecodeError>
         ensures { Reads (λ _. tt) SpellsDigest (IsOuterFault sequence true) (left cons.old) (left cons.new) result }
@@ -74,9 +74,9 @@ impl DigestAlgorithm {
         Ok(Some(algorithm))
     }
 
-    /// A SET of exactly one algorithm identifier (RFC 5652 5.1, RFC 6488 2.1.2). It takes no memory.
+    /// A SET of exactly one algorithm identifier (RFC 5652 5.1, RFC 6488 2.1.2). Allocates nothing.
     ///
-    /// The refusals of a SET where that refuses; those of [DigestAlgorithm::take_from]; Trailing where more follows in
+    /// The errors are those of a SET; then those of [DigestAlgorithm::take_from]; then `Trailing` if more follows in
     /// the SET.
     pub fn take_set_from(cons: &mut Constructed<'_>) -> Result<DigestAlgorithm, DecodeError>
         ensures { Reads (λ _. tt) SpellsDigestSet (IsOuterFault set true) (left cons.old) (left cons.new) result }
@@ -94,8 +94,8 @@ impl DigestAlgorithm {
 
     /// The object identifier of SHA-256 alone.
     ///
-    /// The refusals are those of a header; then Unexpected for another tag or form; then Truncated; then Content for
-    /// another identifier.
+    /// The errors are those of a header; then `Unexpected` for another tag or form; then `Truncated`; then `Content`
+    /// for another identifier.
     pub fn take_oid_from(cons: &mut Constructed<'_>) -> Result<DigestAlgorithm, DecodeError>
         ensures { Reads (λ _. tt) SpellsDigestName (IsLeafFault oid false (IsOnly sha256)) (left cons.old) (left cons.new) result }
     {
@@ -103,7 +103,7 @@ impl DigestAlgorithm {
         Ok(DigestAlgorithm::sha256())
     }
 
-    /// What writes the algorithm identifier, without parameters (RFC 5754 2).
+    /// An encoder for the algorithm identifier, without parameters (RFC 5754 2).
     pub fn encode(self) -> Sequence<Primitive<ConstOid>>
         ensures octets { ⟦<Sequence<Primitive<ConstOid>> as Values>⟧.encoded result ≡ digest_octets }
         ensures short { ⟦<Sequence<Primitive<ConstOid>> as Values>⟧.is_short result }
@@ -113,7 +113,7 @@ impl DigestAlgorithm {
         Sequence::new(oid::SHA256.encode())
     }
 
-    /// What writes a SET of the algorithm identifier alone.
+    /// An encoder for a SET of the algorithm identifier alone.
     pub fn encode_set(self) -> Set<Sequence<Primitive<ConstOid>>>
         ensures octets { ⟦<Set<Sequence<Primitive<ConstOid>>> as Values>⟧.encoded result ≡ digest_set_octets }
         ensures short { ⟦<Set<Sequence<Primitive<ConstOid>>> as Values>⟧.is_short result }
@@ -123,7 +123,7 @@ impl DigestAlgorithm {
         Set::new(self.encode())
     }
 
-    /// What writes the object identifier alone.
+    /// An encoder for the object identifier alone.
     pub fn encode_oid(self) -> Primitive<ConstOid>
         ensures octets { ⟦<Primitive<ConstOid> as Values>⟧.encoded result ≡ digest_name_octets }
         ensures short { ⟦<Primitive<ConstOid> as Values>⟧.is_short result }
@@ -134,7 +134,7 @@ impl DigestAlgorithm {
     }
 }
 
-/// The digest of the octets by SHA-1 (FIPS 180-4), which the provider makes. It serves for key identifiers alone.
+/// The digest of the octets by SHA-1 (FIPS 180-4), computed by the provider. It is used for key identifiers alone.
 pub fn sha1_digest<P: Provider>(provider: &P, octets: &[u8]) -> [u8; 20]
     ensures { result ≡ P.sha1_of provider.now octets.now }
 {

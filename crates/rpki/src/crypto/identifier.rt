@@ -12,9 +12,9 @@ ghost use Rattle.rpki.specs.Algorithm.{IsIdentified, SpellsAlgorithm};
 use crate::crypto::parameters::take_parameters;
 use rpki_der::{ConstOid, Constructed, DecodeError, Oid};
 
-/// The algorithm identifier of this object identifier: whether its parameters, a NULL, are there.
+/// Reads the algorithm identifier of this object identifier, and returns whether its parameters, a NULL, are there.
 ///
-/// The refusals of a SEQUENCE; Content for another identifier; Trailing for other parameters.
+/// The errors are those of a SEQUENCE; then `Content` for another identifier; then `Trailing` for other parameters.
 pub(crate) fn take_algorithm(
     cons: &mut Constructed<'_>,
     expected: ConstOid,

@@ -12,7 +12,7 @@ ghost use Rattle.rpki.specs.Algorithm.{IsParameters};
 
 use rpki_der::{ConstOid, Constructed, DecodeError, Oid};
 
-/// Whether it is this very object identifier.
+/// Whether it is exactly this object identifier.
 pub(crate) fn is_named(found: &Oid<&[u8]>, expected: ConstOid) -> bool
     ensures { IsTrue result ↔ (found.now.0.now ≡ expected.entry.0.now) }
 {

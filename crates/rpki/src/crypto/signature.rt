@@ -25,11 +25,10 @@ use std::marker::Model;
 
 /// An algorithm of signatures, as certificates and signed data name it by an algorithm identifier.
 ///
-/// A type of one's own proves the six laws: a spelling is one value and belongs to one algorithm; what is written
-/// spells the normal form; and the normal form is its own normal form, written in the same way, with keys of the same
-/// format.
+/// An implementation proves the six laws: a spelling is one value and belongs to one algorithm; what is written spells
+/// the normal form; and the normal form is its own normal form, written in the same way, with keys of the same format.
 pub trait SignatureAlgorithm: Sized {
-    /// What writes the algorithm identifier.
+    /// An encoder for the algorithm identifier.
     type Encoder: Values;
 
     ghost use Rattle.rpki.specs.declared.crypto.keys.PublicKeyFormat.{PublicKeyFormat};
@@ -57,11 +56,11 @@ pub trait SignatureAlgorithm: Sized {
         self.signing_algorithm().public_key_format()
     }
 
-    /// An algorithm identifier (RFC 5280 4.1.1.2). It takes no memory.
+    /// An algorithm identifier (RFC 5280 4.1.1.2). Allocates nothing.
     fn x509_take_from(cons: &mut Constructed<'_>) -> Result<Self, DecodeError>
         ensures { Reads (λ a. a) spells (TakesNoMemory AnyFault) (left cons.old) (left cons.new) result };
 
-    /// What writes the algorithm identifier (RFC 5280 4.1.1.2).
+    /// An encoder for the algorithm identifier (RFC 5280 4.1.1.2).
     fn x509_encode(&self) -> Self::Encoder
         ensures octets { Self.Encoder.encoded result ≡ written self.now }
         ensures short { Self.Encoder.is_short result };
@@ -149,8 +148,9 @@ impl SignatureAlgorithm for RpkiSignatureAlgorithm {
         SigningAlgorithm::RsaSha256
     }
 
-    /// The identifier of RSA signatures with SHA-256, with a NULL or without. The refusals of a SEQUENCE where that
-    /// refuses; Content for another identifier; Trailing for other parameters.
+    /// The identifier of RSA signatures with SHA-256, with a NULL or without.
+    ///
+    /// The errors are those of a SEQUENCE; then `Content` for another identifier; then `Trailing` for other parameters.
     fn x509_take_from(cons: &mut Constructed<'_>) -> Result<Self, DecodeError>
         ensures { Reads (λ a. a) (SpellsAlgorithm sha256_with_rsa_encryption) (IsOuterFault sequence true) (left cons.old) (left cons.new) result }
     {
@@ -214,9 +214,9 @@ impl<Alg> Signature<Alg> {
 }
 
 impl<Alg: Copy> Signature<Alg> {
-    /// The same signature, whose octets are shared.
+    /// Returns a copy of the signature that shares its octets.
     ///
-    /// AllocError where memory runs out.
+    /// Returns `AllocError` if allocation fails.
     pub fn clone(&self) -> Result<Signature<Alg>, AllocError>
         ensures { IfOk result (λ s. s ≡ self.now) }
     {

@@ -1,4 +1,4 @@
-//! Why objects of the repository are refused.
+//! Why objects of the repository are rejected.
 
 ghost use Rattle.std.specs.Prelude.{◌≡◌};
 
@@ -8,7 +8,7 @@ use rpki_time::ValidityPeriodError;
 use std::error::Error;
 use std::fmt;
 
-/// An object that was read breaks a rule of its profile.
+/// An object that was read violates its profile.
 #[derive(Clone, Copy, Debug, PartialEq, Eq)]
 pub struct InspectionError {
     inner: ContentError,
@@ -60,7 +60,7 @@ impl From<InspectionError> for ContentError {
     }
 }
 
-/// An object is not vouched for: a signature, a period or an issuer is not as it has to be.
+/// An object failed verification: a signature, a validity period or an issuer is not as required.
 #[derive(Clone, Copy, Debug, PartialEq, Eq)]
 pub struct VerificationError {
     inner: ContentError,
@@ -115,7 +115,7 @@ impl From<SignatureVerificationError> for VerificationError {
     }
 }
 
-/// The error that says it of a certificate.
+/// The error that reports it of a certificate.
 impl From<ValidityPeriodError> for VerificationError {
     ghost use Rattle.rpki_der.specs.ErrorText.{text_of};
     ghost use Rattle.rpki.specs.ErrorContent.{verification_content};
@@ -138,9 +138,9 @@ impl From<ValidityPeriodError> for VerificationError {
 pub enum ValidationError {
     /// It could not be read.
     Decoding(DecodeError),
-    /// It breaks a rule of its profile.
+    /// It violates its profile.
     Inspection(InspectionError),
-    /// It is not vouched for.
+    /// It failed verification.
     Verification(VerificationError),
 }
 

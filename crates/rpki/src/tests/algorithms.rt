@@ -31,7 +31,7 @@ fn refused<T: Drop>(answer: Result<T, DecodeError>) -> u8 {
     }
 }
 
-/// The number of the refusal, or 0, and how many octets are left.
+/// The number of the error, or 0, and how many octets are left.
 fn read(reader: Reader, octets: &'static [u8]) -> (u8, usize) {
     let source: Bytes = Bytes::from_static(octets);
     let mut cons = Constructed::new(&source);

@@ -60,7 +60,7 @@ const READ: [Read; 4] = [
     },
 ];
 
-// Octets that no extension begins, and the number of the refusal.
+// Octets that no extension begins, and the number of the error.
 const REFUSED: [(&[u8], u8); 13] = [
     (&[], 1),
     (&[0x31, 0x00], 4),
@@ -104,7 +104,7 @@ const REFUSED: [(&[u8], u8); 13] = [
         ],
         1,
     ),
-    // something behind it
+    // something after it
     (
         &[
             0x30, 0x0b, 0x06, 0x03, 0x55, 0x1d, 0x13, 0x04, 0x02, 0x30, 0x00, 0x05, 0x00,
@@ -113,7 +113,7 @@ const REFUSED: [(&[u8], u8); 13] = [
     ),
 ];
 
-// What the optional reader answers: the number of its refusal, 0 for an extension and 9 for None.
+// What the optional reader returns: the number of its error, 0 for an extension and 9 for None.
 const OPTIONAL: [(&[u8], u8); 6] = [
     (&[], 9),
     (&[0x31, 0x00], 9),
@@ -164,7 +164,7 @@ fn extensions_are_read(rt: HostRuntime) -> Result<(), Fail> {
     Ok(())
 }
 
-/// The number of the refusal, 0 where there is none, and how many octets are left.
+/// The number of the error, 0 if there is none, and how many octets are left.
 fn outcome(alloc: Global, octets: &'static [u8]) -> (u8, usize) {
     let source = Bytes::from_static(octets);
     let mut cons = Constructed::new(&source);

@@ -59,7 +59,7 @@ pub(super) const SPELLED: &[u8] =
 const NINETEEN: &[u8] =
     b"\x04\x13\xA9\x99\x3E\x36\x47\x06\x81\x6A\xBA\x3E\x25\x71\x78\x50\xC2\x6C\x9C\xD0\xD8";
 
-/// What is read: 0 for an identifier, 8 for none, else the number of the refusal; and how many octets are left.
+/// What is read: 0 for an identifier, 8 for none, else the number of the error; and how many octets are left.
 fn optional(octets: &'static [u8]) -> (u8, usize) {
     let source: Bytes = Bytes::from_static(octets);
     let mut cons = Constructed::new(&source);
@@ -83,7 +83,7 @@ fn skipped(octets: &'static [u8]) -> (u8, usize) {
     (number, cons.rest().len())
 }
 
-/// The refusal of an identifier.
+/// The error of an identifier.
 fn refusal_of(octets: &'static [u8]) -> Option<DecodeError> {
     let source: Bytes = Bytes::from_static(octets);
     match KeyIdentifier::take_from(&mut Constructed::new(&source)) {
@@ -109,7 +109,7 @@ fn identifier_of(content: &Content<'_>) -> Option<KeyIdentifier> {
     }
 }
 
-/// The refusal of contents.
+/// The error of contents.
 fn content_refusal(content: &Content<'_>) -> Option<DecodeError> {
     match KeyIdentifier::from_content(content) {
         Ok(_) => None,

@@ -43,7 +43,7 @@ pub(super) const KEY_OF_ABC: &[u8] =
 const KEY_AND_MORE: &[u8] =
     b"\x30\x15\x30\x0D\x06\x09\x2A\x86\x48\x86\xF7\x0D\x01\x01\x01\x05\x00\x03\x04\x00\x61\x62\x63\x00";
 
-// An octet behind the bits, within the SEQUENCE.
+// An octet after the bits, within the SEQUENCE.
 const KEY_WITH_MORE_INSIDE: &[u8] =
     b"\x30\x16\x30\x0D\x06\x09\x2A\x86\x48\x86\xF7\x0D\x01\x01\x01\x05\x00\x03\x04\x00\x61\x62\x63\x00";
 
@@ -60,7 +60,7 @@ const KEY_WITHOUT_NULL: &[u8] =
 const P256_KEY: &[u8] =
     b"\x30\x1A\x30\x13\x06\x07\x2A\x86\x48\xCE\x3D\x02\x01\x06\x08\x2A\x86\x48\xCE\x3D\x03\x01\x07\x03\x03\x00\x04\x01";
 
-/// The octets of the bits; or the number of the refusal.
+/// The octets of the bits; or the number of the error.
 fn bits_of(octets: &'static [u8]) -> Result<Bytes, u8> {
     match PublicKey::decode(Bytes::from_static(octets)) {
         Ok(key) => match key.bits_bytes() {

@@ -172,7 +172,7 @@ fn signed_data_has_parts(rt: HostRuntime) -> Result<(), Fail> {
     Ok(())
 }
 
-// Octets that are no signed data, and the number of the refusal.
+// Octets that are no signed data, and the number of the error.
 const REFUSED: &[(&[u8], u8)] = &[
     // two unused bits that are not zero
     (
@@ -184,7 +184,7 @@ const REFUSED: &[(&[u8], u8)] = &[
         b"\x30\x17\x30\x02\x04\x05\x30\x0D\x06\x09\x2A\x86\x48\x86\xF7\x0D\x01\x01\x0B\x05\x00\x03\x02\x00\xAA",
         1,
     ),
-    // an octet behind the signature, and one behind the SEQUENCE
+    // an octet after the signature, and one after the SEQUENCE
     (
         b"\x30\x16\x30\x00\x30\x0D\x06\x09\x2A\x86\x48\x86\xF7\x0D\x01\x01\x0B\x05\x00\x03\x02\x00\xAA\x00",
         6,
@@ -233,8 +233,8 @@ fn read_front(
     Ok((signed, cons.rest().len()))
 }
 
-// Octets that begin with no parts of signed data, and the number of the refusal: nothing, a value that passes the end,
-// nothing behind a value, and another algorithm.
+// Octets that begin with no parts of signed data, and the number of the error: nothing, a value that passes the end,
+// nothing after a value, and another algorithm.
 const NO_PARTS: &[(&[u8], u8)] = &[
     (b"", 1),
     (b"\x04\x05", 1),

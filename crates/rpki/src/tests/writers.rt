@@ -85,8 +85,8 @@ fn written<V: Values>(
     }))
 }
 
-/// Whether the call ended at the fault, with its kind, and left what the earlier calls took; or, where there was no such
-/// call, wrote everything.
+/// Whether the call ended at the failure, with its kind, and left what the earlier calls took; or, where there was no
+/// such call, wrote everything.
 fn is_ended(outcome: &Outcome, fault: Fault, expected: &[u8]) -> bool {
     if fault.at < expected.len() {
         outcome.octets.as_slice() == &expected[..fault.at]

@@ -17,7 +17,7 @@ use rpki_der::{
     ConstOid, Constructed, ContentError, DecodeError, Primitive, PrimitiveContent, Sequence, Values,
 };
 
-/// What writes a format of keys: its object identifier, and then a NULL for RSA or the curve for P-256.
+/// An encoder for a format of keys: its object identifier, and then a NULL for RSA or the curve for P-256.
 pub type PublicKeyFormatEncoder = Sequence<
     (
         Primitive<ConstOid>,
@@ -42,10 +42,10 @@ impl PublicKeyFormat {
     }
 
     /// The algorithm identifier of a format of keys (RFC 5280 4.1.2.7): rsaEncryption with a NULL or without, or
-    /// id-ecPublicKey with the curve P-256. It takes no memory.
+    /// id-ecPublicKey with the curve P-256. Allocates nothing.
     ///
-    /// The refusals of a SEQUENCE where that refuses; Content `invalid public key format` for another object
-    /// identifier; else that of the part that refuses, and Trailing for octets that follow the parts.
+    /// The errors are those of a SEQUENCE; then `Content` with the text `invalid public key format` for another object
+    /// identifier; then that of the part that is malformed, and `Trailing` for octets that follow the parts.
     pub fn take_from(cons: &mut Constructed<'_>) -> Result<PublicKeyFormat, DecodeError>
         ensures reads { Reads (λ f. f) SpellsFormat (IsOuterFault sequence true) (left cons.old) (left cons.new) result }
         ensures unknown { NamesUnknown IsFormatName (left cons.old) → IsRefusedWith (codes "invalid public key format") result }
@@ -71,13 +71,13 @@ impl PublicKeyFormat {
         )
     }
 
-    /// What writes the algorithm identifier, with a NULL for RSA.
+    /// An encoder for the algorithm identifier, with a NULL for RSA.
     pub fn encode(self) -> PublicKeyFormatEncoder
         ensures octets { ⟦<Sequence<(Primitive<ConstOid>, Option<Primitive<()>>, Option<Primitive<ConstOid>>)> as Values>⟧.encoded result ≡ format_octets self }
         ensures short { ⟦<Sequence<(Primitive<ConstOid>, Option<Primitive<()>>, Option<Primitive<ConstOid>>)> as Values>⟧.is_short result }
         // What is written is read as the format.
         ensures read_back { SpellsFormat self (format_octets self) }
-        // Formats are written as the same octets exactly where they are equal.
+        // Formats have the same encoding exactly where they are equal.
         ensures same { (other : PublicKeyFormat) → (format_octets self ≡ format_octets other) ↔ (self ≡ other) }
     {
         match self {

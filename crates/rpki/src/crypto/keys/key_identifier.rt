@@ -64,10 +64,10 @@ impl KeyIdentifier {
         self.as_slice() == octets
     }
 
-    /// A key identifier: an OCTET STRING of twenty octets (RFC 5280 4.2.1.2). It takes no memory.
+    /// A key identifier: an OCTET STRING of twenty octets (RFC 5280 4.2.1.2). Allocates nothing.
     ///
-    /// The refusals are those of a header; then Unexpected for another tag or form; then Truncated; then Content
-    /// `invalid key identifier` for another number of octets.
+    /// The errors are those of a header; then `Unexpected` for another tag or form; then `Truncated`; then `Content`
+    /// with the text `invalid key identifier` for another number of octets.
     pub fn take_from(cons: &mut Constructed<'_>) -> Result<KeyIdentifier, DecodeError>
         ensures { Reads (λ k. k) SpellsKeyIdentifier (IsIdentifierFault IsKeyIdentifier) (left cons.old) (left cons.new) result }
     {
@@ -96,7 +96,7 @@ impl KeyIdentifier {
         }
     }
 
-    /// Moves past a key identifier where [KeyIdentifier::take_opt_from] reads one; else None. The refusals are the same.
+    /// Moves past a key identifier where [KeyIdentifier::take_opt_from] reads one; else None. The errors are the same.
     pub fn skip_opt_in(cons: &mut Constructed<'_>) -> Result<Option<()>, DecodeError>
         ensures { ReadsWhere (HasTag octet_string) (λ _. tt) (SpellsLeaf octet_string false IsAnyKeyIdentifier) (IsIdentifierFault IsAnyKeyIdentifier) (left cons.old) (left cons.new) result }
     {
@@ -109,7 +109,8 @@ impl KeyIdentifier {
 
     /// The key identifier with these contents.
     ///
-    /// Unexpected for values as contents; Content `invalid key identifier` where there are not twenty octets.
+    /// Returns `Unexpected` for values as contents; `Content` with the text `invalid key identifier` if there are not
+    /// twenty octets.
     pub fn from_content(content: &Content<'_>) -> Result<KeyIdentifier, DecodeError>
         ensures value { IfOk result (λ k. (is_constructed content.now ≡ false) × IsKeyIdentifier k (octets_of content.now)) }
         ensures form { is_constructed content.now ≡ true → MatchResult result (λ _. ⊥) (λ e. e ≡ Unexpected) }
@@ -152,7 +153,7 @@ impl From<KeyIdentifier> for [u8; 20] {
     }
 }
 
-/// Twenty octets are a key identifier; others are refused.
+/// Twenty octets are a key identifier; any other number is an error.
 impl TryFrom<&[u8]> for KeyIdentifier {
     type Error = KeyIdentifierSliceError;
 
@@ -169,7 +170,7 @@ impl TryFrom<&[u8]> for KeyIdentifier {
     }
 }
 
-/// Forty hexadecimal digits of either case are a key identifier; other texts are refused.
+/// Forty hexadecimal digits of either case are a key identifier; any other text is an error.
 impl FromStr for KeyIdentifier {
     type Err = ParseKeyIdentifierError;
 
@@ -271,7 +272,7 @@ fn key_identifier_tag() -> Tag
     <KeyIdentifier as PrimitiveContent>::TAG
 }
 
-/// A text is no key identifier.
+/// Error returned when a text is not a key identifier.
 #[derive(Clone, Debug, Drop)]
 pub struct ParseKeyIdentifierError;
 
@@ -288,7 +289,7 @@ impl fmt::Display for ParseKeyIdentifierError {
 
 impl Error for ParseKeyIdentifierError {}
 
-/// Octets are no key identifier, since there are not twenty.
+/// Error returned when octets are not a key identifier, since there are not twenty.
 #[derive(Clone, Debug, Drop)]
 pub struct KeyIdentifierSliceError;
 

@@ -68,7 +68,7 @@ impl PublicKey {
 
     /// The octets of the bits, without the count of unused bits, shared.
     ///
-    /// AllocError where memory runs out.
+    /// Returns `AllocError` if allocation fails.
     pub fn bits_bytes(&self) -> Result<Bytes, AllocError>
         ensures { IfOk result (λ b. b ≡ self.now.bits.octets) }
     {
@@ -89,8 +89,8 @@ impl PublicKey {
         self.algorithm.allow_router_cert()
     }
 
-    /// The key identifier: the SHA-1 digest of the octets of the bits, without the count of unused bits
-    /// (RFC 6487 4.8.2). The provider makes it.
+    /// The key identifier: the SHA-1 digest of the octets of the bits, without the count of unused bits (RFC 6487
+    /// 4.8.2). The provider computes the digest.
     pub fn key_identifier<P: Provider>(&self, provider: &P) -> KeyIdentifier
         ensures value { result ≡ P.sha1_of provider.now self.now.bits.octets }
         ensures size { length result ≡ 20 }
@@ -98,9 +98,9 @@ impl PublicKey {
         KeyIdentifier::from(sha1_digest(provider, self.bits()))
     }
 
-    /// The same key, whose bits are shared.
+    /// Returns a copy of the key that shares its bits.
     ///
-    /// AllocError where memory runs out.
+    /// Returns `AllocError` if allocation fails.
     pub fn clone(&self) -> Result<PublicKey, AllocError>
         ensures { IfOk result (λ k. k ≡ self.now) }
     {
@@ -113,7 +113,7 @@ impl PublicKey {
 
     /// A public key (SubjectPublicKeyInfo, RFC 5280 4.1), and nothing else.
     ///
-    /// The refusals of [PublicKey::take_from]; Trailing where the key is followed by something.
+    /// The errors are those of [PublicKey::take_from]; then `Trailing` if something follows the key.
     pub fn decode(bytes: Bytes) -> Result<PublicKey, DecodeError>
         ensures { Decodes (λ k. k) SpellsKey
             (IsWholeFault SpellsKey (OrMemoryWhere (HasInside sequence (Finds IsKeyContents)) (GivesOuterFault sequence true))) bytes result }
@@ -127,8 +127,8 @@ impl PublicKey {
     /// A public key (SubjectPublicKeyInfo, RFC 5280 4.1): a SEQUENCE of a format and a BIT STRING, whose octets it
     /// shares.
     ///
-    /// The refusals of a SEQUENCE where that refuses; else those of the parts, Trailing for octets that follow them,
-    /// and OutOfMemory on allocation failure, only where both parts are there.
+    /// The errors are those of a SEQUENCE; then those of the parts, `Trailing` for octets that follow them, and
+    /// `OutOfMemory` if allocation fails, only where both parts are there.
     pub fn take_from(cons: &mut Constructed<'_>) -> Result<PublicKey, DecodeError>
         ensures { Reads (λ k. k) SpellsKey (OrMemoryWhere (HasInside sequence (Finds IsKeyContents)) (GivesOuterFault sequence true))
             (left cons.old) (left cons.new) result }
@@ -144,7 +144,7 @@ impl PublicKey {
         )
     }
 
-    /// What writes the key (SubjectPublicKeyInfo, RFC 5280 4.1), which it takes with it.
+    /// An encoder for the key (SubjectPublicKeyInfo, RFC 5280 4.1), which it owns.
     pub fn encode(self) -> Sequence<(PublicKeyFormatEncoder, Primitive<BitString>)>
         ensures octets { ⟦<Sequence<(Sequence<(Primitive<ConstOid>, Option<Primitive<()>>, Option<Primitive<ConstOid>>)>, Primitive<BitString>)> as Values>⟧.encoded result ≡ key_octets self }
         // It fits exactly where its contents have fewer than 2^32 octets.
@@ -154,22 +154,22 @@ impl PublicKey {
         Sequence::new((algorithm.encode(), bits.encode()))
     }
 
-    /// What writes the key (SubjectPublicKeyInfo, RFC 5280 4.1), which it borrows.
+    /// An encoder for the key (SubjectPublicKeyInfo, RFC 5280 4.1), which it borrows.
     pub fn encode_ref(&self) -> Sequence<(PublicKeyFormatEncoder, Primitive<&BitString>)>
         ensures octets { ⟦<Sequence<(Sequence<(Primitive<ConstOid>, Option<Primitive<()>>, Option<Primitive<ConstOid>>)>, Primitive<&'static BitString>)> as Values>⟧.encoded result ≡ key_octets self.now }
         // It fits exactly where its contents have fewer than 2^32 octets.
         ensures short { ⟦<Sequence<(Sequence<(Primitive<ConstOid>, Option<Primitive<()>>, Option<Primitive<ConstOid>>)>, Primitive<&'static BitString>)> as Values>⟧.is_short result ↔ (length (key_contents self.now) < 2 ^ 32) }
         // What is written is read as the key.
         ensures read_back { length (key_contents self.now) < 2 ^ 32 → SpellsKey self.now (key_octets self.now) }
-        // Keys are written as the same octets exactly where they are equal.
+        // Keys have the same encoding exactly where they are equal.
         ensures same { (other : KeyParts) → length (key_contents self.now) < 2 ^ 32 → length (key_contents other) < 2 ^ 32 → (key_octets self.now ≡ key_octets other) ↔ (self.now ≡ other) }
     {
         Sequence::new((self.algorithm.encode(), self.bits.encode_ref()))
     }
 
-    /// The octets of the key as it is written (SubjectPublicKeyInfo, RFC 5280 4.1). It asks that `encode_ref().fits()`.
+    /// The encoding of the key (SubjectPublicKeyInfo, RFC 5280 4.1). Requires that `encode_ref().fits()`.
     ///
-    /// AllocError where memory runs out.
+    /// Returns `AllocError` if allocation fails.
     pub fn to_info_bytes(&self, alloc: Global) -> Result<Bytes, AllocError>
         requires { length (key_contents self.now) < 2 ^ 32 }
         ensures { IfOk result (λ b. b ≡ key_octets self.now) }

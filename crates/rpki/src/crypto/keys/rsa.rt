@@ -18,10 +18,10 @@ use rpki_der::{
 use std::alloc::Global;
 
 impl PublicKey {
-    /// The RSA key of these two numbers, most significant octet first. Zeros in front are left out. The lengths of
-    /// the two sum to at most 2^31.
+    /// The RSA key of these two numbers, most significant octet first. Leading zeros are left out. Requires that the
+    /// lengths of the two sum to at most 2^31.
     ///
-    /// Empty where one of them has no octets; OutOfMemory where memory runs out.
+    /// Returns `Empty` if one of them has no octets; `OutOfMemory` if allocation fails.
     pub fn rsa_from_components(
         alloc: Global,
         modulus: &[u8],
@@ -44,11 +44,10 @@ impl PublicKey {
         }
     }
 
-    /// The RSA key with these bits: a SEQUENCE of two INTEGERs that are not negative, and nothing else. It takes no
-    /// memory.
+    /// The RSA key with these bits: a SEQUENCE of two non-negative INTEGERs, and nothing else. Allocates nothing.
     ///
-    /// The refusals of a SEQUENCE where that refuses; else those of the INTEGERs, and Trailing for octets that follow
-    /// them or the SEQUENCE.
+    /// The errors are those of a SEQUENCE; then those of the INTEGERs, and `Trailing` for octets that follow them or
+    /// the SEQUENCE.
     pub fn rsa_from_bits_bytes(bytes: Bytes) -> Result<PublicKey, DecodeError>
         ensures { Decodes (λ k. k) IsRsaKey (TakesNoMemory (IsWholeFault IsRsaKey (GivesOuterFault sequence true))) bytes result }
     {
@@ -67,7 +66,7 @@ fn check_rsa_bits(octets: &Bytes) -> Result<(), DecodeError>
     Ok(())
 }
 
-/// Moves past the bits of an RSA key: a SEQUENCE of two INTEGERs that are not negative.
+/// Moves past the bits of an RSA key: a SEQUENCE of two non-negative INTEGERs.
 fn take_rsa_bits(cons: &mut Constructed<'_>) -> Result<(), DecodeError>
     ensures { Reads (λ _. tt) SpellsRsaBits (IsOuterFault sequence true) (left cons.old) (left cons.new) result }
 {

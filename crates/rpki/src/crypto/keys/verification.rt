@@ -10,9 +10,9 @@ use std::error::Error;
 use std::fmt;
 
 impl PublicKey {
-    /// Whether the signature of the message is by this key, as the provider says.
+    /// Checks that the signature of the message is by this key, as the provider says.
     ///
-    /// It is refused where the signature's algorithm has keys of another format, and where the provider says no.
+    /// Returns an error if the signature's algorithm has keys of another format, or if the provider says no.
     pub fn verify<P: Provider, Alg: SignatureAlgorithm>(
         &self,
         provider: &P,
@@ -38,7 +38,7 @@ impl PublicKey {
     }
 }
 
-/// A signature is not that of the message by the key.
+/// Error returned when a signature is not that of the message by the key.
 #[derive(Clone, Copy, Debug, PartialEq, Eq)]
 pub struct SignatureVerificationError;
 

@@ -62,8 +62,10 @@ impl SignatureAlgorithm for BgpsecSignatureAlgorithm {
         SigningAlgorithm::EcdsaP256Sha256
     }
 
-    /// The identifier of ECDSA signatures with SHA-256, without parameters. The refusals of a SEQUENCE where that
-    /// refuses; Content for another identifier; Trailing for parameters, also a NULL.
+    /// The identifier of ECDSA signatures with SHA-256, without parameters.
+    ///
+    /// The errors are those of a SEQUENCE; then `Content` for another identifier; then `Trailing` for parameters, also
+    /// a NULL.
     fn x509_take_from(cons: &mut Constructed<'_>) -> Result<Self, DecodeError>
         ensures { Reads (λ a. a) (SpellsBare ecdsa_with_sha256) (IsOuterFault sequence true) (left cons.old) (left cons.new) result }
     {

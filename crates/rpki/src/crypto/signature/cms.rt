@@ -21,10 +21,10 @@ use rpki_der::{
 
 impl RpkiSignatureAlgorithm {
     /// The algorithm identifier in a signed object: rsaEncryption or sha256WithRSAEncryption, each with a NULL or
-    /// without. Which identifier it was isn't remembered. It takes no memory.
+    /// without. Which identifier it was isn't remembered. Allocates nothing.
     ///
-    /// The refusals of a SEQUENCE where that refuses; Content `invalid signature algorithm` for another object
-    /// identifier; else that of the part that refuses, and Trailing for other parameters.
+    /// The errors are those of a SEQUENCE; then `Content` with the text `invalid signature algorithm` for another
+    /// object identifier; then that of the part that is malformed, and `Trailing` for other parameters.
     pub fn cms_take_from(cons: &mut Constructed<'_>) -> Result<RpkiSignatureAlgorithm, DecodeError>
         ensures reads { Reads (λ a. a) SpellsCms (IsOuterFault sequence true) (left cons.old) (left cons.new) result }
         ensures unknown { NamesUnknown IsCmsName (left cons.old) → IsRefusedWith (codes "invalid signature algorithm") result }
@@ -47,7 +47,7 @@ impl RpkiSignatureAlgorithm {
         Ok(RpkiSignatureAlgorithm { has_parameters })
     }
 
-    /// What writes the algorithm identifier in a signed object: rsaEncryption with a NULL (RFC 7935 2).
+    /// An encoder for the algorithm identifier in a signed object: rsaEncryption with a NULL (RFC 7935 2).
     pub fn cms_encode(&self) -> Sequence<(Primitive<ConstOid>, Primitive<()>)>
         ensures octets { ⟦<Sequence<(Primitive<ConstOid>, Primitive<()>)> as Values>⟧.encoded result ≡ algorithm_octets rsa_encryption true }
         ensures short { ⟦<Sequence<(Primitive<ConstOid>, Primitive<()>)> as Values>⟧.is_short result }

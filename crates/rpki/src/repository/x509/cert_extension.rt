@@ -35,7 +35,7 @@ impl Model for CertExtension {
     ghost invariant = { λ x. SpellsExtension (parts_of_extension x.captured) x.captured };
 }
 
-/// What writes an extension that was read: its identifier, TRUE where it is critical, and the OCTET STRING.
+/// An encoder for an extension that was read: its identifier, TRUE where it is critical, and the OCTET STRING.
 pub type ExtensionBytes<'a> = Sequence<
     (
         Primitive<Oid<&'a [u8]>>,
@@ -44,7 +44,7 @@ pub type ExtensionBytes<'a> = Sequence<
     ),
 >;
 
-/// What writes the extension of these parts.
+/// An encoder for the extension of these parts.
 fn encode_parts<'a>(id: Oid<&'a [u8]>, critical: bool, octets: &'a [u8]) -> ExtensionBytes<'a>
     requires { CanBeWritten (extension_parts id.0.now critical octets.now) }
     ensures octets { ⟦<ExtensionBytes<'static> as Values>⟧.encoded result
@@ -60,8 +60,8 @@ impl CertExtension {
     /// STRING. The BOOLEAN may be left out, which is FALSE; a FALSE that is spelled is read too, although X.690 11.5
     /// forbids it.
     ///
-    /// The refusal of a SEQUENCE where that refuses; else those of the parts, Trailing for octets that follow them, and
-    /// OutOfMemory on allocation failure, only where an extension is there.
+    /// The errors are those of a SEQUENCE; then those of the parts, `Trailing` for octets that follow them, and
+    /// `OutOfMemory` if allocation fails, only where an extension is there.
     pub fn take_from(
         alloc: Global,
         cons: &mut Constructed<'_>,
@@ -112,7 +112,7 @@ impl CertExtension {
         }
     }
 
-    /// The identifier. It comes from the index: no header is read again, and no memory is taken.
+    /// The identifier. It comes from the index: no header is read again, and nothing is allocated.
     pub fn id(&self) -> Oid<&[u8]>
         ensures value { result.0.now ≡ self.now.identifier }
         // It is an identifier, and a length announces the contents of the extension.
@@ -138,24 +138,24 @@ impl CertExtension {
         self.parts().2
     }
 
-    /// What writes the extension: the identifier, TRUE where it is critical, and the OCTET STRING. FALSE is left out,
-    /// as X.690 11.5 asks.
+    /// An encoder for the extension: the identifier, TRUE where it is critical, and the OCTET STRING. FALSE is left
+    /// out, as X.690 11.5 requires.
     pub fn encode_ref(&self) -> ExtensionBytes<'_>
         ensures octets { ⟦<ExtensionBytes<'static> as Values>⟧.encoded result ≡ written_extension self.now }
         ensures short { ⟦<ExtensionBytes<'static> as Values>⟧.is_short result }
         ensures size { length (written_extension self.now) < 2 ^ 63 }
-        // What is written is read as the same extension.
+        // The encoding is read as the same extension.
         ensures read_back { SpellsExtension self.now (written_extension self.now) }
-        // Extensions are written as the same octets exactly where they are equal.
+        // Extensions have the same encoding exactly where they are equal.
         ensures same { (other : ExtensionParts) → CanBeWritten other
             → (written_extension self.now ≡ written_extension other) ↔ (self.now ≡ other) }
     {
         encode_parts(self.id(), self.critical(), self.octets())
     }
 
-    /// The same extension, whose octets are shared.
+    /// Returns a copy of the extension that shares its octets.
     ///
-    /// AllocError where memory runs out.
+    /// Returns `AllocError` if allocation fails.
     pub fn clone(&self) -> Result<CertExtension, AllocError>
         ensures { IfOk result (λ x. x ≡ self.now) }
     {

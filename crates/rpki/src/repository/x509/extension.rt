@@ -6,17 +6,17 @@ ghost use Rattle.rpki.specs.ExtensionValue.{extension_parts, SpellsExtension, Ca
 
 use rpki_der::{ConstOid, Primitive, PrimitiveContent, Sequence, Values, Wrapped};
 
-/// What writes an extension: its identifier, TRUE where it is critical, and an OCTET STRING around its content.
+/// An encoder for an extension: its identifier, TRUE where it is critical, and an OCTET STRING around its content.
 pub type Extension<V> = Sequence<(Primitive<ConstOid>, Option<Primitive<bool>>, Wrapped<V>)>;
 
-/// What writes the extension with this identifier around the content (RFC 5280 4.1). Where it is not critical the
+/// An encoder for the extension with this identifier around the content (RFC 5280 4.1). Where it is not critical the
 /// BOOLEAN is left out, since FALSE is its default (X.690 11.5).
 pub fn encode_extension<V: Values>(oid: ConstOid, critical: bool, content: V) -> Extension<V>
     ensures octets { ⟦<Extension<V> as Values>⟧.encoded result ≡ extension_octets oid.entry.0.now critical (V.encoded content) }
     // It fits exactly where the content does and the contents have fewer than 2^32 octets.
     ensures short { ⟦<Extension<V> as Values>⟧.is_short result
         ↔ (V.is_short content × (length (extension_contents oid.entry.0.now critical (V.encoded content)) < 2 ^ 32)) }
-    // Where it fits, what is written of a valid identifier is read as the extension of these parts.
+    // Where it fits, the encoding with a valid identifier is read as the extension of these parts.
     ensures read_back { CanBeWritten (extension_parts oid.entry.0.now critical (V.encoded content))
         → SpellsExtension (extension_parts oid.entry.0.now critical (V.encoded content))
         (extension_octets oid.entry.0.now critical (V.encoded content)) }

@@ -49,10 +49,10 @@ impl Name {
     /// A name: a SEQUENCE of one relative distinguished name at least, each a SET of one attribute at least, each a
     /// SEQUENCE of an OBJECT IDENTIFIER and of one value. The order within a SET is free.
     ///
-    /// The refusal of a SEQUENCE where that refuses; else Content `empty distinguished name` for an empty SEQUENCE,
-    /// `empty relative distinguished name` for an empty SET and `invalid name` for an attribute without a value, the
-    /// refusals of the parts, Trailing for what follows an attribute's value, and OutOfMemory on allocation failure,
-    /// only where an attribute has a value.
+    /// The errors are those of a SEQUENCE; then `Content` with the text `empty distinguished name` for an empty
+    /// SEQUENCE, `empty relative distinguished name` for an empty SET and `invalid name` for an attribute without a
+    /// value, those of the parts, `Trailing` for what follows an attribute's value, and `OutOfMemory` if allocation
+    /// fails, only where an attribute has a value.
     pub fn take_from(alloc: Global, cons: &mut Constructed<'_>) -> Result<Name, DecodeError>
         ensures { Reads (λ n. n) SpellsNameOctets (OrMemoryWhere HasNameValue (GivesOuterFault sequence true))
             (left cons.old) (left cons.new) result }
@@ -66,8 +66,8 @@ impl Name {
     /// Tests that the name is one of a certificate of the RPKI, unless `strict` is false: one common name and at most
     /// one serial number, each a PrintableString, and no other attribute (RFC 6487 4.4).
     ///
-    /// The texts are `missing common name`, `multiple common names` and `multiple serial numbers`, and `invalid name`
-    /// for another attribute and for another string.
+    /// The texts of the errors are `missing common name`, `multiple common names` and `multiple serial numbers`, and
+    /// `invalid name` for another attribute and for another string.
     pub fn inspect_rpki(&self, strict: bool) -> Result<(), InspectionError>
         ensures ok { IfOk result (λ _. IsTrue strict → IsRpkiName self.now) }
         ensures err { IfErr result (λ _. IsTrue strict × (IsRpkiName self.now → ⊥)) }
@@ -81,7 +81,8 @@ impl Name {
     /// Tests that the name is one of a router's certificate, unless `strict` is false: the same, and each string is a
     /// PrintableString or a UTF8String (RFC 8209 3.1.1).
     ///
-    /// The texts are those of [Name::inspect_rpki], but `unpermitted string variant in common name` for another string.
+    /// The texts of the errors are those of [Name::inspect_rpki], but `unpermitted string variant in common name` for
+    /// another string.
     pub fn inspect_router(&self, strict: bool) -> Result<(), InspectionError>
         ensures ok { IfOk result (λ _. IsTrue strict → IsRouterName self.now) }
         ensures err { IfErr result (λ _. IsTrue strict × (IsRouterName self.now → ⊥)) }
@@ -92,12 +93,12 @@ impl Name {
         Profile::Router.inspect(self.captured.cursor())
     }
 
-    /// What writes the name: its octets as they were read.
+    /// An encoder for the name: its original octets.
     pub fn encode_ref(&self) -> &Captured
         ensures octets { result.now ≡ self.now }
         ensures named { IsName result.now }
         ensures one { IsValue result.now }
-        // What is written is read as the same name.
+        // The encoding is read as the same name.
         ensures read_back { SpellsNameOctets self.now result.now }
         // They have one reading.
         ensures one_reading { (x y : List (List Attribute)) → SpellsName x result.now → SpellsName y result.now → x ≡ y }
@@ -105,9 +106,9 @@ impl Name {
         &self.captured
     }
 
-    /// The same name, whose octets are shared.
+    /// Returns a copy of the name that shares its octets.
     ///
-    /// AllocError where memory runs out.
+    /// Returns `AllocError` if allocation fails.
     pub fn clone(&self) -> Result<Name, AllocError>
         ensures { IfOk result (λ n. n ≡ self.now) }
     {

@@ -1,4 +1,4 @@
-//! Signed data: a value, and a signature over its very octets (RFC 5280 4.1).
+//! Signed data: a value, and a signature over exactly its octets (RFC 5280 4.1).
 
 ghost use Rattle.std.specs.Prelude.{◌≡◌, ◌<◌, ◌^◌, ◌↔◌, true, false, ℕ, List, length, IfOk, IsOk};
 ghost use Rattle.rpki_der.specs.Cursor.{left};
@@ -29,7 +29,7 @@ use std::io;
 use std::io::Write;
 use std::marker::Model;
 
-/// One value, and a signature over its very octets, by an algorithm of the RPKI unless another is named.
+/// One value, and a signature over exactly its octets, by an algorithm of the RPKI unless another is named.
 #[derive(Debug, Drop)]
 pub struct SignedData<Alg = RpkiSignatureAlgorithm> {
     signed: Captured,
@@ -48,7 +48,7 @@ impl<Alg> Model for SignedData<Alg> {
 }
 
 impl<Alg> SignedData<Alg> {
-    /// A captured value and a signature over it. One value was captured: `values()` is 1.
+    /// A captured value and a signature over it. Requires that one value was captured: `values()` is 1.
     pub fn new(signed: Captured, signature: Signature<Alg>) -> SignedData<Alg>
         requires { AreValues 1 signed }
         ensures { result ≡ parts_of signed signature.algorithm signature.value }
@@ -56,7 +56,7 @@ impl<Alg> SignedData<Alg> {
         SignedData { signed, signature }
     }
 
-    /// The value, as the very octets that are signed.
+    /// The value, as exactly the octets that are signed.
     pub fn data(&self) -> &Captured
         ensures slice { result.now ≡ self.now.signed }
         ensures one { IsValue result.now }
@@ -76,8 +76,7 @@ impl<Alg: SignatureAlgorithm + Drop> SignedData<Alg> {
     /// Reads the three parts of signed data, with no SEQUENCE around them: one value, an algorithm identifier and a BIT
     /// STRING. What follows them is left.
     ///
-    /// The refusals of the part that refuses; OutOfMemory on allocation failure, and only where a value begins what is
-    /// left.
+    /// The errors are those of the parts; `OutOfMemory` if allocation fails, only where a value begins what is left.
     pub fn from_constructed(
         alloc: Global,
         cons: &mut Constructed<'_>,
@@ -94,8 +93,8 @@ impl<Alg: SignatureAlgorithm + Drop> SignedData<Alg> {
 
     /// Signed data: a SEQUENCE of the three parts and of nothing else.
     ///
-    /// The refusal of a SEQUENCE where that refuses; else those of the parts, Trailing for octets that follow them,
-    /// and OutOfMemory on allocation failure, only where a value begins the contents of the SEQUENCE.
+    /// The errors are those of a SEQUENCE; then those of the parts, `Trailing` for octets that follow them, and
+    /// `OutOfMemory` if allocation fails, only where a value begins the contents of the SEQUENCE.
     pub fn take_from(
         alloc: Global,
         cons: &mut Constructed<'_>,
@@ -108,7 +107,7 @@ impl<Alg: SignatureAlgorithm + Drop> SignedData<Alg> {
 
     /// Signed data, and nothing else.
     ///
-    /// The refusals of [SignedData::take_from]; Trailing where signed data is followed by something.
+    /// The errors are those of [SignedData::take_from]; then `Trailing` if something follows signed data.
     pub fn decode(alloc: Global, bytes: Bytes) -> Result<SignedData<Alg>, DecodeError>
         ensures decodes { Decodes (λ x. x) (SpellsSigned Alg.spells)
             (IsWholeFault (SpellsSigned Alg.spells) (OrMemoryWhere (HasInside sequence HasEither) (GivesOuterFault sequence true))) bytes result }
@@ -127,8 +126,8 @@ impl<Alg: SignatureAlgorithm + Drop> SignedData<Alg> {
 }
 
 impl<Alg: SignatureAlgorithm + 'static> SignedData<Alg> {
-    /// What writes the signed data: the very slice, the algorithm as it is written, and the signature without unused
-    /// bits.
+    /// An encoder for the signed data: exactly the signed octets, the algorithm as it is written, and the signature
+    /// without unused bits.
     pub fn encode_ref(
         &self,
     ) -> Sequence<
@@ -142,9 +141,9 @@ impl<Alg: SignatureAlgorithm + 'static> SignedData<Alg> {
         // It fits exactly where its contents have fewer than 2^32 octets.
         ensures short { ⟦<Sequence<(&'static Captured, Alg::Encoder, Primitive<SignatureValueContent<'static, Alg>>)> as Values>⟧.is_short result
             ↔ (length (written_contents Alg.written self.now) < 2 ^ 32) }
-        // What is written is read as the normal form.
+        // The encoding is read as the normal form.
         ensures read_back { length (written_contents Alg.written self.now) < 2 ^ 32 → SpellsSigned Alg.spells (normal_parts Alg.norm self.now) (written_signed Alg.written self.now) }
-        // Two values are written as the same octets exactly where their normal forms are equal.
+        // Two values have the same encoding exactly where their normal forms are equal.
         ensures same { (other : SignedParts Alg) → IsValue other.signed → length (written_contents Alg.written self.now) < 2 ^ 32 → length (written_contents Alg.written other) < 2 ^ 32 →
             (written_signed Alg.written self.now ≡ written_signed Alg.written other) ↔ (normal_parts Alg.norm self.now ≡ normal_parts Alg.norm other) }
     {
@@ -160,9 +159,9 @@ impl<Alg: SignatureAlgorithm + 'static> SignedData<Alg> {
 }
 
 impl<Alg: SignatureAlgorithm> SignedData<Alg> {
-    /// Whether the signature is by this key over the very slice, as the provider says.
+    /// Checks that the signature is by this key over exactly the signed octets, as the provider says.
     ///
-    /// It is refused where the algorithm has keys of another format, and where the provider says no.
+    /// Returns an error if the algorithm has keys of another format, or if the provider says no.
     pub fn verify_signature<P: Provider>(
         &self,
         provider: &P,
@@ -199,9 +198,9 @@ impl Eq for SignedData<RpkiSignatureAlgorithm> {
 }
 
 impl<Alg: Copy> SignedData<Alg> {
-    /// The same value, whose octets are shared.
+    /// Returns a copy of the value that shares its octets.
     ///
-    /// AllocError where memory runs out.
+    /// Returns `AllocError` if allocation fails.
     pub fn clone(&self) -> Result<SignedData<Alg>, AllocError>
         ensures { IfOk result (λ v. v ≡ self.now) }
     {
@@ -242,7 +241,7 @@ impl<'a, Alg> PrimitiveContent for SignatureValueContent<'a, Alg> {
     }
 }
 
-/// The octets of a signature, whatever its count of unused bits.
+/// The octets of a signature, with any count of unused bits.
 fn signature_value(cons: &mut Constructed<'_>) -> Result<Bytes, DecodeError>
     ensures { Reads (λ v. v) SpellsSignature (OrMemoryWhere (Finds SpellsSignature) AnyFault) (left cons.old) (left cons.new) result }
 {

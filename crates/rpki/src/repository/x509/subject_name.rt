@@ -13,18 +13,18 @@ use crate::oid;
 use rpki_der::{Captured, ConstOid, Primitive, PrimitiveContent, Sequence, Set, Values};
 use std::alloc::{AllocError, Global};
 
-/// What writes the name of a subject of the RPKI: one common name, a PrintableString of the key identifier in
+/// An encoder for the name of a subject of the RPKI: one common name, a PrintableString of the key identifier in
 /// hexadecimal digits (RFC 6487 4.5).
 pub type SubjectName = Sequence<Set<Sequence<(Primitive<ConstOid>, Primitive<PublicKeyCn>)>>>;
 
 impl PublicKey {
-    /// What writes the name of the subject with this key: one common name, the key identifier in hexadecimal digits
-    /// (RFC 6487 4.5). The provider makes the digest.
+    /// An encoder for the name of the subject with this key: one common name, the key identifier in hexadecimal digits
+    /// (RFC 6487 4.5). The provider computes the digest.
     pub fn encode_subject_name<P: Provider>(&self, provider: &P) -> SubjectName
         ensures octets { ⟦<Sequence<Set<Sequence<(Primitive<ConstOid>, Primitive<PublicKeyCn>)>>> as Values>⟧.encoded result ≡ subject_octets (P.sha1_of provider.now self.now.bits.octets) }
         ensures short { ⟦<Sequence<Set<Sequence<(Primitive<ConstOid>, Primitive<PublicKeyCn>)>>> as Values>⟧.is_short result }
         ensures size { length (subject_octets (P.sha1_of provider.now self.now.bits.octets)) < 2 ^ 63 }
-        // What is written is a name that passes both strict inspections.
+        // The encoding is a name that passes both strict inspections.
         ensures strict { IsRpkiName (subject_octets (P.sha1_of provider.now self.now.bits.octets)) × IsRouterName (subject_octets (P.sha1_of provider.now self.now.bits.octets)) }
     {
         let name = common_name(self.key_identifier(provider));
@@ -32,7 +32,7 @@ impl PublicKey {
     }
 }
 
-/// What writes a common name: the attribute of this key identifier (RFC 5280 4.1.2.4).
+/// An encoder for a common name: the attribute of this key identifier (RFC 5280 4.1.2.4).
 fn common_name(identifier: KeyIdentifier) -> Sequence<(Primitive<ConstOid>, Primitive<PublicKeyCn>)>
     requires { length identifier ≡ 20 }
     ensures octets { ⟦<Sequence<(Primitive<ConstOid>, Primitive<PublicKeyCn>)> as Values>⟧.encoded result ≡ tlv sequence true (attribute_contents identifier) }
@@ -48,7 +48,7 @@ fn common_name(identifier: KeyIdentifier) -> Sequence<(Primitive<ConstOid>, Prim
 impl Name {
     /// The name of the subject with this key: what [PublicKey::encode_subject_name] writes.
     ///
-    /// AllocError where memory runs out.
+    /// Returns `AllocError` if allocation fails.
     pub fn from_pub_key<P: Provider>(
         alloc: Global,
         provider: &P,
@@ -67,7 +67,7 @@ impl Name {
 impl PublicKey {
     /// The name of the subject with this key, as [Name::from_pub_key] makes it.
     ///
-    /// AllocError where memory runs out.
+    /// Returns `AllocError` if allocation fails.
     pub fn to_subject_name<P: Provider>(
         &self,
         alloc: Global,

@@ -1,10 +1,10 @@
-//! Options that are given a value once.
+//! Setting an `Option` once.
 
 ghost use Rattle.rpki.specs.UpdateFirst.{UpdatesFirst};
 
-/// Calls the operation, always, and keeps what it gives where the option was None.
+/// Calls the operation, always, and keeps what it returns if the option was None.
 ///
-/// The operation's refusal, with the option as it was.
+/// Returns the operation's error, with the option unchanged.
 pub fn update_first<T: Drop, E, F: FnOnce() -> Result<Option<T>, E>>(
     option: &mut Option<T>,
     op: F,

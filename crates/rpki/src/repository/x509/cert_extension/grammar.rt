@@ -24,7 +24,7 @@ fn take_parts<'a>(contents: Constructed<'a>) -> Result<(Oid<&'a [u8]>, bool, &'a
     Ok((identifier, critical, octets))
 }
 
-/// Moves past an extension, and gives its parts: the identifier, whether it is critical, and the octets.
+/// Moves past an extension, and returns its parts: the identifier, whether it is critical, and the octets.
 pub(super) fn take_extension<'a>(
     cons: &mut Constructed<'a>,
 ) -> Result<(Oid<&'a [u8]>, bool, &'a [u8]), DecodeError>

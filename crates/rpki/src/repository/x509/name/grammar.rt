@@ -12,7 +12,7 @@ ghost use Rattle.rpki.specs.NameValue.{HasAfter, IdentifiesValue, HasAttributeVa
 use rpki_der::{Constructed, ContentError, DecodeError, Oid};
 use std::alloc::Global;
 
-/// The identifier of an attribute, and a cursor on the octets behind it in the SEQUENCE.
+/// The identifier of an attribute, and a cursor on the rest of the SEQUENCE.
 pub(super) fn take_identifier<'a>(
     cons: &mut Constructed<'a>,
 ) -> Result<(Oid<&'a [u8]>, Constructed<'a>), DecodeError>

@@ -28,7 +28,7 @@ pub(super) struct Found {
     serial_number: bool,
 }
 
-/// The refusal of this text.
+/// The error of this text.
 pub(super) fn refusal(text: &'static str) -> InspectionError {
     InspectionError::new(ContentError::from_static(text))
 }
@@ -66,7 +66,7 @@ impl Profile {
         }
     }
 
-    /// The refusal of another string.
+    /// The error of another string.
     fn refused_string(self) -> InspectionError {
         match self {
             Profile::Rpki => refusal("invalid name"),
@@ -76,8 +76,8 @@ impl Profile {
 
     /// What is found once this attribute is there too.
     ///
-    /// Refused where a second common name or serial number, another attribute, or a string that is not permitted is
-    /// found.
+    /// Returns an error if a second common name or serial number, another attribute, or a string that is not permitted
+    /// is found.
     fn add(
         self,
         found: Found,
@@ -106,7 +106,7 @@ impl Profile {
         Ok(found)
     }
 
-    /// What is found in these attributes, behind what was found before.
+    /// What is found in these attributes, after what was found before.
     fn add_attributes(
         self,
         found: Found,
@@ -126,7 +126,7 @@ impl Profile {
         Ok(all)
     }
 
-    /// The same of relative distinguished names.
+    /// The same for relative distinguished names.
     fn add_relatives(
         self,
         found: Found,
