@@ -25,7 +25,7 @@ replied command octets (Err Input) few h = inl (h, few)
 replied command octets (Err Usage) few h = inl (h, few)
 replied command octets (Err Output) few h = inl (h, few)
 
--- what is answered to the octets that were read is answered to the input
+-- what is returned for the octets that were read is returned for the input
 pub answered : (command asked : Command) (input : Option (List ℕ)) (octets : List ℕ) (a : Answer) → command ≡ asked → IfSome input (λ bytes. octets ≡ bytes) → length octets ≤ most_octets
     → Answers asked octets a → IfSome input (λ bytes. Replies command bytes a)
 answered command asked None octets a is same few h = tt

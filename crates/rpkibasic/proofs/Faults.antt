@@ -10,7 +10,7 @@ use Rattle.rpki_der.specs.TagName.{sequence}
 use Rattle.rpkibasic.specs.Fault.{refusal}
 use Rattle.rpkibasic.specs.Run.{IsFaultOf, UnlessMemory}
 
--- the fault of a refusal by the reader of whole octets
+-- the fault of an error of the reader of whole octets
 pub fault-of : {V : Type 0} (G : V → List ℕ → Type 0) (P : List ℕ → Type 0) (T : Type 0) (input : List ℕ) (e : DecodeError)
     → UnlessNoMemory e (SpellsNothing G input) × IsWholeFault G (OrMemoryWhere P (GivesOuterFault sequence true)) input e → UnlessMemory (refusal e) (IsFaultOf G T input (refusal e))
 fault-of G P T input Truncated h = ((λ (z : Truncated ≡ OutOfMemory). cc), h.0, record { trailing = h.1.trailing; kind = h.1.kind })

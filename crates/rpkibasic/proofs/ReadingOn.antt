@@ -11,7 +11,7 @@ use Rattle.rpki.proofs.NameLaws.{leaf-nowhere}
 use Rattle.rpkibasic.specs.Fault.{refusal}
 use Rattle.rpkibasic.specs.Run.{SpellsOnly, SpellsExtensions, StopsAt, IsExtensionFault, UnlessMemory}
 
--- these extensions were read, and what is left is extensions exactly where the whole is, behind these
+-- these extensions were read, and what is left is extensions exactly where the whole is, after these
 pub record HaveRead (input : List ℕ) (xs : List ExtensionParts) (rest : List ℕ) : Type 0 where
   pub front : List ℕ
   pub parts : input ≡ front ++ rest

@@ -1,4 +1,4 @@
--- What is told of a fault.
+-- What is reported of a fault.
 use Rattle.std.specs.Prelude.{ℕ, ◌+◌, List, [], ◌∷◌, ◌++◌, codes}
 use Rattle.rpki_der.specs.declared.error.DecodeError.{DecodeError}
 use Rattle.rpki_der.specs.declared.error.DecodeError.TheVariants.{Truncated, BadTag, BadLength, Unexpected, Content, Trailing}
@@ -15,7 +15,7 @@ use Rattle.rpkibasic.specs.declared.fault.Fault.TheVariants.{Usage, Refused, Ref
 abbrev pub usage_text : List ℕ
 usage_text = codes "usage: rpkibasic again|data|key|uri|ext\n"
 
--- the line of a fault, that of a refusal up to its number
+-- the line of a fault, up to the number where the input is rejected
 abbrev pub text_of : Fault → List ℕ
 text_of Usage = usage_text
 text_of (Refused e) = codes "refused "
@@ -25,7 +25,7 @@ text_of OutOfMemory = codes "out of memory\n"
 text_of Input = codes "input could not be read\n"
 text_of Output = codes "output could not be written\n"
 
--- the number and the end of the line of a refusal
+-- the number and the end of the line where the input is rejected
 abbrev pub number_text : Fault → List ℕ
 number_text (Refused e) = (48 + error_number e) ∷ 10 ∷ []
 number_text (RefusedUri e) = (48 + uri_error_number e) ∷ 10 ∷ []
@@ -49,7 +49,7 @@ status_of OutOfMemory = 1
 status_of Input = 1
 status_of Output = 1
 
--- the fault of a reader's refusal
+-- the fault of a reader's error
 abbrev pub refusal : DecodeError → Fault
 refusal Truncated = Refused Truncated
 refusal BadTag = Refused BadTag
@@ -59,7 +59,7 @@ refusal (Content e) = Refused (Content e)
 refusal Trailing = Refused Trailing
 refusal der.OutOfMemory = OutOfMemory
 
--- the fault of a text that is no URI
+-- the fault of a text that is not a URI
 abbrev pub uri_refusal : Error → Fault
 uri_refusal uri.InvalidCharacters = RefusedUri uri.InvalidCharacters
 uri_refusal uri.BadUri = RefusedUri uri.BadUri

@@ -8,7 +8,7 @@ abbrev pub most_octets : ℕ
 most_octets = 16_777_215 * 4_096
 
 -- Why the octets that a reader has were not read to their end: each of 16,777,216 calls gave one of them or more; or
--- memory ran out, which an octet takes; or the reader failed.
+-- allocation failed, where there was an octet; or the reader failed.
 abbrev pub IsUnread : List ℕ → Unread → Type 0
 IsUnread octets Endless = 16_777_216 ≤ length octets
 IsUnread octets OutOfMemory = octets ≢ []

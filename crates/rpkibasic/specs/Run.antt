@@ -1,4 +1,4 @@
--- What a run answers, and what is seen of it.
+-- What a run returns, and what is seen of it.
 use Rattle.std.specs.Prelude.{◌≡◌, ◌≢◌, ◌⊎◌, ℕ, Bool, true, ◌<◌, ◌≤◌, ◌^◌, List, [], ◌∷◌, ◌++◌, length, Option, Some, None, Result, Ok, Err}
 use Rattle.std.specs.Io.KnownBytes.{Appends}
 use Rattle.std.specs.List.{flat_map}
@@ -26,7 +26,7 @@ use Rattle.rpkibasic.specs.declared.fault.Fault.TheVariants.{Usage, Refused, Ref
 use Rattle.rpkibasic.specs.declared.command.Command.{Command}
 use Rattle.rpkibasic.specs.declared.command.Command.TheVariants.{Again, Data, Key, Uri, Ext}
 
--- ---- what is answered: a text, or a fault
+-- ---- what is returned: a text, or a fault
 
 abbrev pub Answer : Type 0
 Answer = Result (List ℕ) Fault
@@ -45,7 +45,7 @@ written_algorithm present = algorithm_octets sha256_with_rsa_encryption true
 abbrev pub SpellsOnly : {V : Type 0} → (V → List ℕ → Type 0) → V → List ℕ → Type 0
 SpellsOnly {V} G v octets = G v octets × ((w : V) → G w octets → w ≡ v)
 
--- Why an input gives no text: it is in the grammar of none, and the reader of whole octets refuses it so; or T.
+-- Why an input gives no text: it is in the grammar of none, and the reader of whole octets rejects it so; or T.
 abbrev pub IsFaultOf : {V : Type 0} → (V → List ℕ → Type 0) → Type 0 → List ℕ → Fault → Type 0
 IsFaultOf G T input (Refused e) = (e ≢ der.OutOfMemory) × SpellsNothing G input × IsWholeFault G (GivesOuterFault sequence true) input e
 IsFaultOf G T input (RefusedUri e) = ⊥
@@ -97,7 +97,7 @@ written_extensions xs = flat_map written_extension xs
 abbrev pub AreExtensions : List ℕ → List ℕ → Type 0
 AreExtensions input text = (xs : List ExtensionParts) × SpellsOnly SpellsExtensions xs input × (text ≡ written_extensions xs)
 
--- Behind extensions stand octets that no extension begins, and the reader of one refuses them so; and so the input isn't
+-- After extensions stand octets that no extension begins, and the reader of one rejects them so; and so the input isn't
 -- extensions.
 pub record StopsAt (input : List ℕ) (e : DecodeError) : Type 0 where
   pub front : List ℕ

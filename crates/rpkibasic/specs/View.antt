@@ -1,4 +1,4 @@
--- What clauses see of an answer that the program holds.
+-- What clauses see of a result that the program holds.
 use Rattle.std.specs.Prelude.{ℕ, List, Result, Ok, Err, Vec}
 use Rattle.std.specs.Borrow.{Bor}
 use Rattle.rpkibasic.specs.declared.fault.Fault.{Fault}
@@ -9,7 +9,7 @@ abbrev pub answer_of : {Z : Type 0} → Result (Vec ℕ Z) Fault → Answer
 answer_of (Ok text) = Ok text.items
 answer_of (Err fault) = Err fault
 
--- a text that is lent
+-- a text that is borrowed
 abbrev pub lent_of : Result (Bor (List ℕ)) Fault → Answer
 lent_of (Ok text) = Ok text.now
 lent_of (Err fault) = Err fault

@@ -1,4 +1,4 @@
-//! What each command answers.
+//! What each command returns.
 
 ghost use Rattle.std.specs.Prelude.{◌≡◌, ◌≢◌, ◌<◌, ◌≤◌, ◌^◌, ◌⊎◌, length, true, MatchResult, IfSome};
 ghost use Rattle.rpkibasic.specs.Run.{SpellsOnly, SpellsRpki, IsFaultOf, UnlessMemory, Answers, written_algorithm};

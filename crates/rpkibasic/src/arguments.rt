@@ -9,8 +9,10 @@ use std::alloc::Global;
 use std::io::ErrorKind;
 use std::{env, io};
 
-/// The words: the arguments after the first, which is the program's name. Where there are no arguments the fault is
-/// OutOfMemory or, as one is not UTF-8 and so no word that the program knows, Usage.
+/// The words: the arguments after the first, which is the program's name.
+///
+/// Returns `OutOfMemory` if allocation fails; `Usage` if the arguments are missing for another reason: one is not
+/// UTF-8, and so no word that the program knows.
 pub fn words_of(alloc: Global, arguments: io::Result<env::Args>) -> Result<Vec<String>, Fault>
     ensures words { IfOk arguments (λ all. MatchResult result
         (λ words. words.items ≡ drop 1 (into_iter_items all)) (λ fault. fault ≡ Fault.OutOfMemory)) }

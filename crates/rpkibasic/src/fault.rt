@@ -1,4 +1,4 @@
-//! Why nothing is answered.
+//! Why a run has no result.
 
 ghost use Rattle.std.specs.Prelude.{◌≡◌};
 ghost use Rattle.rpki_der.specs.Written.{WritesOrCuts};
@@ -12,18 +12,18 @@ use std::alloc::{AllocError, AllocFailed};
 use std::io;
 use std::io::Write;
 
-/// Why nothing is answered.
+/// Why a run has no result.
 #[derive(Clone, Copy, Debug, PartialEq, Eq)]
 pub enum Fault {
     /// The words name no command.
     Usage,
-    /// The input is refused as DER.
+    /// The input is rejected as DER.
     Refused(DecodeError),
-    /// The input is refused as a URI.
+    /// The input is rejected as a URI.
     RefusedUri(uri::Error),
     /// The contents that would be written have 2^32 octets or more, and no length announces them.
     TooLong,
-    /// Memory ran out.
+    /// Allocation failed.
     OutOfMemory,
     /// The input could not be read to its end.
     Input,
@@ -31,11 +31,11 @@ pub enum Fault {
     Output,
 }
 
-/// The line that tells how the program is used.
+/// The line that says how the program is used.
 pub const USAGE: &[u8] = b"usage: rpkibasic again|data|key|uri|ext\n";
 
 impl Fault {
-    /// The exit status that goes with it.
+    /// The exit status for it.
     pub fn status(self) -> u8
         ensures { result ≡ status_of self }
     {
@@ -68,7 +68,7 @@ impl<T: Drop> From<AllocFailed<T>> for Fault {
     }
 }
 
-/// An allocation failure is a fault of its own, and no refusal.
+/// An allocation failure is a fault of its own, and no error of the input.
 impl From<DecodeError> for Fault {
     ghost use Rattle.std.specs.Prelude.{◌≡◌};
     ghost use Rattle.rpkibasic.specs.Fault.{refusal};
@@ -83,7 +83,7 @@ impl From<DecodeError> for Fault {
     }
 }
 
-/// An allocation failure is a fault of its own, and no refusal.
+/// An allocation failure is a fault of its own, and no error of the input.
 impl From<uri::Error> for Fault {
     ghost use Rattle.std.specs.Prelude.{◌≡◌};
     ghost use Rattle.rpkibasic.specs.Fault.{uri_refusal};
@@ -113,7 +113,7 @@ impl From<Unread> for Fault {
     }
 }
 
-/// The line of a fault that is no refusal, or of a refusal up to its number.
+/// The line of a fault, up to the number where the input is rejected.
 fn text_of(fault: Fault) -> &'static [u8]
     ensures { result.now ≡ text_of fault }
 {

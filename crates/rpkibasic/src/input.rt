@@ -15,7 +15,7 @@ pub enum Unread {
     Failed(io::Error),
     /// No call of the reader found the end.
     Endless,
-    /// Memory ran out.
+    /// Allocation failed.
     OutOfMemory,
 }
 
@@ -46,7 +46,8 @@ const CALLS: u32 = 16_777_216;
 
 /// All of the input. The reader is asked for 4,096 octets at a time.
 ///
-/// Failed where the reader fails; Endless where it has not come to its end after 16,777,216 calls; OutOfMemory.
+/// Returns `Failed` if the reader fails; `Endless` if it has not come to its end after 16,777,216 calls; `OutOfMemory`
+/// if allocation fails.
 pub fn read_all<R: Read>(alloc: Global, input: &mut R) -> Result<Vec<u8>, Unread>
     ensures whole { IfOk result (λ v. IfSome (R.remaining input.old) (λ octets. v.items ≡ octets)) }
     ensures end { OnOk result (IsAtEnd (R.remaining input.new)) }

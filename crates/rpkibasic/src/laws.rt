@@ -1,4 +1,4 @@
-//! A law of the answers: the function does nothing, and its contract is the law.
+//! A law of the results: the function does nothing, and its contract is the law.
 
 ghost use Rattle.std.specs.Prelude.{◌≡◌, ℕ, List, Ok, Err};
 ghost use Rattle.rpkibasic.specs.Fault.{text_of};
@@ -7,8 +7,8 @@ ghost use Rattle.rpkibasic.specs.declared.command.Command.{Command};
 ghost use Rattle.rpkibasic.specs.declared.command.Command.TheVariants.{Uri};
 ghost use Rattle.rpkibasic.specs.declared.fault.Fault.{Fault};
 
-/// One answer is due to an input: one text and no fault, or one fault and no text. The number of a refusal as DER
-/// alone is left open.
+/// One result is due to an input: one text and no fault, or one fault and no text. The number of an error of DER alone
+/// is left open.
 pub fn one_answer_is_due()
     ensures texts { (command : Command) (input s t : List ℕ)
         → IsDue command input (Ok s) → IsDue command input (Ok t) → s ≡ t }

@@ -12,7 +12,7 @@ use std::marker::Model;
 /// The bits of a key, a message, and the signature of that message by that key.
 pub type Row = (Vec<u8>, Vec<u8>, Vec<u8>);
 
-/// A provider that makes digests by SHA-1 and SHA-256 (FIPS 180-4), and looks signatures up in a table.
+/// A provider that computes digests by SHA-1 and SHA-256 (FIPS 180-4), and looks signatures up in a table.
 ///
 /// It computes no signature: RSA and ECDSA signatures verify exactly where the bits, the message and the signature
 /// stand together in a row.
@@ -32,7 +32,7 @@ impl Model for BenchProvider {
 }
 
 impl BenchProvider {
-    /// The provider with this table. It takes no memory.
+    /// The provider with this table. Allocates nothing.
     pub fn new(table: Vec<Row>) -> BenchProvider
         ensures { result ≡ rows_of table.items }
     {

@@ -18,7 +18,7 @@ use rpki::der::write_whole;
 use std::alloc::Global;
 use std::io::{Read, Write};
 
-/// What the command answers to the input.
+/// What the command returns for the input.
 fn answer<R: Read>(alloc: Global, command: Command, input: &mut R) -> Result<Vec<u8>, Fault>
     ensures { IfSome (R.remaining input.old) (λ octets. Replies command octets (answer_of result)) }
 {
@@ -32,7 +32,7 @@ fn answer<R: Read>(alloc: Global, command: Command, input: &mut R) -> Result<Vec
     }
 }
 
-/// Writes the answer: a text to the output, or the line of a fault to the faults. The exit status.
+/// Writes a result: a text to the output, or the line of a fault to the faults. Returns the exit status.
 fn show<W: Write, F: Write>(answer: Result<&[u8], Fault>, output: &mut W, faults: &mut F) -> u8
     ensures { Shows (W.contents output.old) (W.contents output.new) (F.contents faults.old) (F.contents faults.new) (lent_of answer.entry) result }
 {
@@ -45,12 +45,13 @@ fn show<W: Write, F: Write>(answer: Result<&[u8], Fault>, output: &mut W, faults
     }
 }
 
-/// Answers the words, which are the program's arguments, over its input, and returns its exit status.
+/// Runs the command that the words, which are the program's arguments, name, over its input, and returns its exit
+/// status.
 ///
-/// Without words the usage line goes to the output. With one word that the program knows, the input is read to its
-/// end, the answer is made, and only then is anything written. Other words get the usage line as a fault.
+/// Without words the usage line goes to the output. With one word that the program knows, the input is read to its end,
+/// the result is made, and only then is anything written. Other words get the usage line as a fault.
 ///
-/// The status is 0 where the output was written, 2 for other words, and 1 for any other fault, whose line goes to the
+/// The status is 0 if the output was written, 2 for other words, and 1 for any other fault, whose line goes to the
 /// faults. A line of a fault that can't be written changes no status.
 pub fn run<R: Read, W: Write, F: Write>(
     alloc: Global,
@@ -59,7 +60,7 @@ pub fn run<R: Read, W: Write, F: Write>(
     output: &mut W,
     faults: &mut F,
 ) -> u8
-    // A command is answered from the whole input, or the program gives up.
+    // A command has its result from the whole input, or the program gives up.
     ensures replies { (command : AnyCommand) → map string_bytes words.now ≡ word_of command ∷ [] →
         IfSome (R.remaining input.old) (λ octets. (a : Answer) × Replies command octets a
         × Shows (W.contents output.old) (W.contents output.new) (F.contents faults.old) (F.contents faults.new) a result) }

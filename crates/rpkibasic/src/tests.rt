@@ -107,7 +107,7 @@ struct Case {
     faults: &'static [u8],
 }
 
-/// Runs whose words, input and answers are known, one after another.
+/// Runs whose words, input and results are known, one after another.
 const CASES: &[Case] = &[
     Case {
         words: &["again"],
@@ -434,7 +434,7 @@ const CASES: &[Case] = &[
         output: &[],
         faults: b"refused 5\n",
     },
-    // an extension, and then one that is none
+    // an extension, and then octets that are none
     Case {
         words: &["ext"],
         input: &[CRITICAL, &[0x30, 0x05, 0x06, 0x03, 0x55, 0x1d, 0x13]],
@@ -552,7 +552,7 @@ fn proper_beginnings_are_truncated(rt: HostRuntime) -> Result<(), Fail> {
     Ok(())
 }
 
-/// A URI and so many `a` behind it, the status, and the fault.
+/// A URI and so many `a` after it, the status, and the fault.
 const LONG: [(&[u8], usize, u8, &[u8]); 6] = [
     (b"rsync://host/module/", 255, 0, b""),
     (b"rsync://host/module/", 256, 1, b"refused 7\n"),
@@ -769,7 +769,7 @@ const SIGNED: [&[u8]; 2] = [
     b"\x30\x15\x30\x00\x30\x0d\x06\x09\x2a\x86\x48\x86\xf7\x0d\x01\x01\x0b\x05\x00\x03\x02\x01\xaa",
 ];
 
-/// Whether the signed data is by the key, as the provider says; no where the one or the other is refused.
+/// Whether the signed data is by the key, as the provider says; no where the one or the other is rejected.
 fn verifies(alloc: Global, provider: &BenchProvider, octets: &'static [u8]) -> bool {
     let key = match PublicKey::decode(Bytes::from_static(ABC_KEY)) {
         Ok(key) => key,

@@ -78,7 +78,7 @@ fn rsync_text(alloc: Global, text: Bytes) -> Result<Vec<u8>, Fault>
 }
 
 /// The lines of the URI that the input is, without one line feed at its end: an https URI where the text begins with
-/// that scheme, in whatever case, else an rsync URI.
+/// that scheme, ignoring case, else an rsync URI.
 pub fn uri(alloc: Global, input: Vec<u8>) -> Result<Vec<u8>, Fault>
     ensures { Answers Uri input.items (answer_of result) }
 {

@@ -249,7 +249,7 @@ fn failed_inputs(rt: HostRuntime) -> Result<(), Fail> {
 /// How many calls of the reader there are at most.
 const CALLS: usize = 16_777_216;
 
-/// What `again` answers to a reader that comes to its end at this call, where it is called as often as may be, each
+/// What `again` returns for a reader that comes to its end at this call, where it is called as often as may be, each
 /// time for 4,096 octets or more.
 fn seen_of_long(alloc: Global, last: usize) -> Result<Option<Seen>, AllocError> {
     let mut reader = LongReader {
