@@ -27,7 +27,7 @@ fn walk(alloc: Global, cursor: &mut Constructed<'_>, steps: &mut Steps) -> Outco
     walked(cursor.walk(alloc, steps))
 }
 
-/// Makes one call that takes memory. `walk` counts.
+/// Makes one call that allocates. `walk` counts.
 fn take(alloc: Global, call: &str, cursor: &mut Constructed<'_>, steps: &mut Steps) -> Outcome {
     match call {
         "capture_one" => Ok(Made::Captured(cursor.capture_one(alloc)?)),
@@ -39,7 +39,7 @@ fn take(alloc: Global, call: &str, cursor: &mut Constructed<'_>, steps: &mut Ste
     }
 }
 
-/// Reads a header, and tells of it.
+/// Reads a header, and reports it.
 fn tell_header(report: Report, cursor: &mut Constructed<'_>, steps: &mut Steps) -> io::Result<()> {
     if steps.count() == u64::MAX {
         return report.refused(Refusal::NoCall);
@@ -50,7 +50,7 @@ fn tell_header(report: Report, cursor: &mut Constructed<'_>, steps: &mut Steps) 
     }
 }
 
-/// Makes one call on a cursor on all of these octets, and tells what it makes, how many headers were counted, what is
+/// Makes one call on a cursor on all of these octets, and reports what it makes, how many headers were counted, what is
 /// left, whether that is the end, and the octets that the cursor stands on.
 pub fn tell(alloc: Global, report: Report, call: &str, octets: Vec<u8>) -> Result<(), Failure> {
     let source = Bytes::from_vec(octets)?;

@@ -13,7 +13,7 @@ pub type RpkiSignedData = SignedData<RpkiSignatureAlgorithm>;
 /// What a call makes.
 #[derive(Drop)]
 pub enum Made {
-    /// The call answers that there is nothing.
+    /// The call returns None.
     Nothing,
     /// The call succeeded, and makes nothing.
     Done,

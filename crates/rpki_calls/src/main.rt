@@ -1,9 +1,10 @@
-//! Makes one call of the library, named by its words, on what standard input holds, and tells what is seen of it: what
-//! it made or why it made nothing, and what its arguments hold afterwards. `tests/hostile/run` looks at these lines.
+//! Makes one call of the library, named by its words, on what standard input holds, and reports what is seen of it:
+//! what it made or why it made nothing, and what its arguments hold afterwards. `tests/hostile/run` looks at these
+//! lines.
 //!
 //! The words are a group of calls (what the input is read as, or what is made of it), the call, and for `join` the path
-//! that is joined. `write` writes an encoder's values to writers that fail. `repeat` reads no input: it makes one call on
-//! an rsync URI of so many segments so many times, and tells the sum of the answers, for `bench/uris.py`.
+//! that is joined. `write` writes an encoder's values to writers that fail. `repeat` reads no input: it makes one call
+//! on an rsync URI of so many segments so many times, and reports the sum of the results, for `bench/uris.py`.
 #![tactic(auto)]
 
 mod cursors;
@@ -86,7 +87,7 @@ fn tell(rt: &HostRuntime, words: &[String]) -> Result<(), Failure> {
     }
 }
 
-/// The exit status of a run that tells of no call, and the line that says why.
+/// The exit status of a run that reports no call, and the line that says why.
 fn failed(rt: &HostRuntime, failure: Failure) -> u8 {
     let (status, line) = match failure {
         Failure::Usage => (

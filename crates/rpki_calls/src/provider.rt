@@ -4,7 +4,7 @@ use rpki::crypto::Provider;
 use sha1::Sha1;
 use sha2::{Digest, Sha256};
 
-/// Makes digests by SHA-1 and SHA-256 (FIPS 180-4), and finds no signature good.
+/// Computes digests by SHA-1 and SHA-256 (FIPS 180-4), and finds no signature good.
 #[derive(Clone, Copy)]
 pub struct Digests;
 

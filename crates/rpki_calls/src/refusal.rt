@@ -1,4 +1,4 @@
-//! Why a call made nothing, and why a run tells of no call.
+//! Why a call made nothing, and why a run reports no call.
 
 use rpki::der::{DecodeError, InvalidInteger};
 use rpki::uri;
@@ -9,11 +9,11 @@ use std::io;
 /// Why a call made nothing.
 #[derive(Clone, Copy, Debug, PartialEq, Eq, Drop)]
 pub enum Refusal {
-    /// The call refused its input, with an error of this number; 0 for an error that has none.
+    /// The call rejected its input, with an error of this number; 0 for an error that has none.
     Refused(u8),
-    /// Memory ran out.
+    /// Allocation failed.
     OutOfMemory,
-    /// There is no such call, or its condition does not hold.
+    /// There is no such call, or its precondition does not hold.
     NoCall,
 }
 
@@ -65,14 +65,14 @@ impl From<XmlDecodeError> for Refusal {
     }
 }
 
-/// Why a run tells of no call.
+/// Why a run reports no call.
 #[derive(Debug, Drop)]
 pub enum Failure {
     /// The words name no call.
     Usage,
-    /// The arguments of the call could not be made: they are refused.
+    /// The arguments of the call could not be made: they are rejected.
     Refused,
-    /// Memory ran out before the call.
+    /// Allocation failed before the call.
     OutOfMemory,
     /// The input could not be read, or the output not be written.
     Stream,

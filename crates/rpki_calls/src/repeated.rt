@@ -31,7 +31,7 @@ fn answer(alloc: Global, call: &str, base: &Rsync, file: &Rsync) -> Result<usize
     }
 }
 
-/// The sum of so many answers.
+/// The sum of so many results.
 fn sum(alloc: Global, call: &str, segments: usize, times: usize) -> Result<usize, Error> {
     let base = Rsync::from_string(directory(alloc, segments)?)?;
     let file = base.join(alloc, b"file")?;
@@ -42,7 +42,7 @@ fn sum(alloc: Global, call: &str, segments: usize, times: usize) -> Result<usize
     Ok(sum)
 }
 
-/// Makes the call so many times on a URI of so many segments, and tells the sum of its answers.
+/// Makes the call so many times on a URI of so many segments, and reports the sum of its results.
 pub fn tell(
     alloc: Global,
     report: Report,

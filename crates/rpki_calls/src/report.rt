@@ -1,4 +1,4 @@
-//! Lines that tell what is seen of a call. Telling takes no memory.
+//! Lines that report what is seen of a call. Reporting allocates nothing.
 
 use crate::made::{Made, Outcome};
 use crate::refusal::Refusal;
@@ -26,7 +26,7 @@ impl Write for Digits {
     }
 }
 
-/// Tells what is seen of a call, a line each: a word, and mostly a value.
+/// Reports what is seen of a call, a line each: a word, and mostly a value.
 #[derive(Clone, Copy)]
 pub struct Report {
     out: Stdout,
@@ -97,7 +97,7 @@ impl Report {
         out.write_all(b"\n")
     }
 
-    /// The line of a refusal.
+    /// The line of an error.
     pub fn refused(&self, refusal: Refusal) -> io::Result<()> {
         match refusal {
             Refusal::Refused(number) => self.number("refused", u64::from(number)),
@@ -125,7 +125,7 @@ impl Report {
         }
     }
 
-    /// The line of what a call made, or of its refusal.
+    /// The line of what a call made, or of its error.
     pub fn outcome(&self, outcome: Outcome) -> io::Result<()> {
         match outcome {
             Ok(made) => self.made(&made),

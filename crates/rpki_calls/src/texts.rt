@@ -33,7 +33,7 @@ fn of_text(alloc: Global, call: &str, text: &str) -> Outcome {
     }
 }
 
-/// Makes one call on octets, and tells what it makes, and the octets as they are then.
+/// Makes one call on octets, and reports what it makes, and the octets as they are then.
 pub fn tell(alloc: Global, report: Report, call: &str, octets: Vec<u8>) -> Result<(), Failure> {
     report.outcome(of_octets(alloc, call, &octets))?;
     report.octets("held", &octets)?;

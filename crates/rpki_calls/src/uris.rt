@@ -84,7 +84,7 @@ fn of_https(alloc: Global, call: &str, uri: &mut Https, path: &str) -> Outcome {
     }
 }
 
-/// Tells of a text that is lent, or made in other case.
+/// Reports a text that is borrowed, or made in other case.
 fn tell_text(report: Report, text: Result<CowStr<'_, Global>, AllocError>) -> io::Result<()> {
     match text {
         Ok(text) => report.octets("made", text.as_str().as_bytes()),
@@ -92,7 +92,7 @@ fn tell_text(report: Report, text: Result<CowStr<'_, Global>, AllocError>) -> io
     }
 }
 
-/// Reads the octets as an rsync URI, and tells of it.
+/// Reads the octets as an rsync URI, and reports it.
 pub fn tell_rsync_of(
     alloc: Global,
     report: Report,
@@ -103,7 +103,7 @@ pub fn tell_rsync_of(
     Ok(())
 }
 
-/// Reads the octets as an https URI, and tells of it.
+/// Reads the octets as an https URI, and reports it.
 pub fn tell_https_of(
     alloc: Global,
     report: Report,
@@ -114,8 +114,8 @@ pub fn tell_https_of(
     Ok(())
 }
 
-/// Makes one call on the rsync URI that the octets are, and tells what it makes, and the URI as it is then. `join` adds
-/// this path.
+/// Makes one call on the rsync URI that the octets are, and reports what it makes, and the URI as it is then. `join`
+/// adds this path.
 pub fn tell_rsync(
     alloc: Global,
     report: Report,
@@ -133,7 +133,7 @@ pub fn tell_rsync(
     Ok(())
 }
 
-/// The same of the https URI that the octets are.
+/// The same for the https URI that the octets are.
 pub fn tell_https(
     alloc: Global,
     report: Report,

@@ -68,7 +68,7 @@ fn of_octets(alloc: Global, call: &str, octets: Bytes) -> Outcome {
     }
 }
 
-/// Makes one call on octets, and tells what it makes.
+/// Makes one call on octets, and reports what it makes.
 pub fn tell_whole(
     alloc: Global,
     report: Report,
@@ -80,7 +80,7 @@ pub fn tell_whole(
     Ok(())
 }
 
-/// Makes one call on the captured value that the octets are, and tells what it makes, and what the value holds then.
+/// Makes one call on the captured value that the octets are, and reports what it makes, and what the value holds then.
 pub fn tell_captured(
     alloc: Global,
     report: Report,
@@ -94,7 +94,7 @@ pub fn tell_captured(
     Ok(())
 }
 
-/// The same of the bit string that the octets are.
+/// The same for the bit string that the octets are.
 pub fn tell_bits(report: Report, call: &str, octets: Vec<u8>) -> Result<(), Failure> {
     let source = Bytes::from_vec(octets)?;
     let bits = Constructed::new(&source).take_bit_string()?;
@@ -103,7 +103,7 @@ pub fn tell_bits(report: Report, call: &str, octets: Vec<u8>) -> Result<(), Fail
     Ok(())
 }
 
-/// The same of the public key that the octets are.
+/// The same for the public key that the octets are.
 pub fn tell_key(alloc: Global, report: Report, call: &str, octets: Vec<u8>) -> Result<(), Failure> {
     let key = PublicKey::decode(Bytes::from_vec(octets)?)?;
     report.outcome(of_key(alloc, call, &key))?;
@@ -111,7 +111,7 @@ pub fn tell_key(alloc: Global, report: Report, call: &str, octets: Vec<u8>) -> R
     Ok(())
 }
 
-/// The same of the signed data that the octets are.
+/// The same for the signed data that the octets are.
 pub fn tell_signed(
     alloc: Global,
     report: Report,
@@ -124,7 +124,7 @@ pub fn tell_signed(
     Ok(())
 }
 
-/// The same of the name that the octets are.
+/// The same for the name that the octets are.
 pub fn tell_name(
     alloc: Global,
     report: Report,

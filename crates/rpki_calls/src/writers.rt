@@ -69,7 +69,7 @@ impl Write for Failing {
     }
 }
 
-/// What a writer holds that fails at this call, and whether it failed, told in a line.
+/// What a writer holds that fails at this call, and whether it failed, reported in a line.
 fn tell_one<V: Values>(
     alloc: Global,
     report: Report,
@@ -95,7 +95,7 @@ fn tell_one<V: Values>(
 }
 
 /// Writes the values to a writer that fails at its first call, at its second, and so on until none fails, in each way;
-/// and tells each time what it holds then.
+/// and reports each time what it holds then.
 pub fn tell<V: Values>(alloc: Global, report: Report, values: &V) -> Result<(), Failure> {
     for number in 0..u64::MAX {
         let Some(way) = Way::of_number(number) else {
