@@ -1,4 +1,4 @@
--- The contents of an algorithm identifier, from what the readers of its parts answer.
+-- The contents of an algorithm identifier, from what the readers of its parts return.
 use Rattle.std.proofs.Common.{◌≡◌, ℕ, Bool, true, false, Option, Some, None, Result, Ok, Err, List, [], ◌++◌, refl, sym, ap, subst, ◌∙◌}
 use Rattle.std.specs.Prelude.{is_some}
 use Rattle.std.proofs.lemmas.List.{append-nil}
@@ -17,7 +17,7 @@ use Rattle.rpki.proofs.NamedLaws.{identified-read, no-parameters}
 whole : (p : List ℕ) → SpellsLeaf null false IsNull tt p → Spells (SpellsLeaf null false IsNull) p tt []
 whole p h = record { front = p; parts = sym (append-nil p); spelled = h }
 
--- ---- with what the optional reader answered
+-- ---- with what the optional reader returned
 
 abbrev pub AnswersNull : {X : Type 0} → List ℕ → List ℕ → Option X → Type 0
 AnswersNull {X} m r p = ReadsWhere {X = X} (HasTag null) (λ _. tt) (SpellsLeaf null false IsNull) (IsLeafFault null false IsNull) m r (Ok p)

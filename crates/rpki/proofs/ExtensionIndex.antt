@@ -95,7 +95,7 @@ is-some r t e = subst IsSome (sym e) refl
 abbrev pub HasContents : List ℕ → ℕ → List ℕ → Type 0
 HasContents octets n c = (index : List Entry) × (e : Entry) × IsIndex octets index × (slice_get index n ≡ Some e) × (slice_range octets e.contents e.past ≡ c)
 
--- what is lent under a number
+-- what is borrowed under a number
 abbrev pub Lends : List ℕ → ℕ → List ℕ → Type 0
 Lends octets n found = (index : List Entry) (e : Entry) → IsIndex octets index → slice_get index n ≡ Some e → found ≡ slice_range octets e.contents e.past
 
@@ -131,7 +131,7 @@ module _ (x : ExtensionParts) (octets : List ℕ) (h : SpellsExtension x octets)
         | inr e ↦ (got 2 (3 ∷ []) after₁ after₂ r₂ (got 1 (2 ∷ 3 ∷ []) ns after₁ r₁ e step₁).1 step₂).0
       ]
 
-      -- the third call finds an OCTET STRING behind a BOOLEAN, or nothing behind the OCTET STRING
+      -- the third call finds an OCTET STRING after a BOOLEAN, or nothing after the OCTET STRING
       abbrev pub Others : Option ℕ → Type 0
       Others r₃ =
           ((r₃ ≡ None) × (x.critical ≡ false) × HasContents octets 2 x.content)

@@ -79,7 +79,7 @@ Flag = SpellsLeaf boolean false IsBoolean
 abbrev Octets : List ℕ → List ℕ → Type 0
 Octets = SpellsContents octet_string false
 
--- what the reader of an optional BOOLEAN answered
+-- what the reader of an optional BOOLEAN returned
 abbrev pub AnswersFlag : List ℕ → List ℕ → Option Bool → Type 0
 AnswersFlag m r p = ReadsWhere (HasTag boolean) (λ (b : Bool). b) Flag (IsLeafFault boolean false IsBoolean) m r (Ok p)
 
@@ -89,7 +89,7 @@ first-part x c h = record { front = h.first; parts = h.parts; spelled = h.identi
 pub no-identifier : (c : List ℕ) → Refuses Identifier c → SpellsNothing IsExtensionContents c
 no-identifier c none x h = none x.identifier (h.second ++ h.third) (first-part x c h)
 
--- behind the identifier stand the others
+-- after the identifier stand the others
 others : (x : ExtensionParts) (c i m : List ℕ) → Accepts Identifier c i m → (h : IsExtensionContents x c) → h.second ++ h.third ≡ m
 others x c i m a h = (a.only x.identifier (h.second ++ h.third) (first-part x c h)).1
 
@@ -107,7 +107,7 @@ bad-flag c i m a has none x h = go h.critical
     go (inl b) = none x.critical h.third (record { front = h.second; parts = sym (others x c i m a h); spelled = b })
     go (inr (absent, nothing)) = no-flag m h.third x.content (sym (others x c i m a h) ∙ ap (λ (y : List ℕ). y ++ h.third) nothing) h.content has
 
--- what is left behind the BOOLEAN, if there is one, is the OCTET STRING
+-- what is left after the BOOLEAN, if there is one, is the OCTET STRING
 left-octets : (x : ExtensionParts) (c i m r : List ℕ) (p : Option Bool) → Accepts Identifier c i m → AnswersFlag m r p → (h : IsExtensionContents x c) → h.third ≡ r
 left-octets x c i m r None a (none, same) h = go h.critical
   where

@@ -1,4 +1,4 @@
--- Reading two parts, one behind the other, where the second is all that is left.
+-- Reading two parts, one after the other, where the second is all that is left.
 use Rattle.std.proofs.Common.{◌≡◌, ℕ, List, subst}
 use Rattle.rpki_der.specs.Reading.{Spells, Accepts, Refuses, SpellsNothing}
 use Rattle.rpki.specs.InOrder.{SpellsBoth}

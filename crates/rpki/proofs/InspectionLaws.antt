@@ -20,7 +20,7 @@ use Rattle.rpki.specs.StrictName.{has_identifier, count_of, IsKnown, IsStrict, a
 use Rattle.rpki.specs.InspectName.{Findings, IsFound}
 use Rattle.rpki.proofs.NameLaws.{attribute-identified}
 
--- ---- refusals of readers that take no memory
+-- ---- errors of readers that allocate nothing
 
 pub surely : (e : DecodeError) {P : Type 0} → e ≢ OutOfMemory → UnlessMemory e P → P
 surely Truncated ne h = h
@@ -31,7 +31,7 @@ surely (Content x) ne h = h
 surely Trailing ne h = h
 surely OutOfMemory ne h = absurd (ne refl)
 
--- whether the whole is in the grammar, from what a reader of a beginning answered
+-- whether the whole is in the grammar, from what a reader of a beginning returned
 pub whole-read : {V : Type 0} (G : V → List ℕ → Type 0) (s r : List ℕ) (v : V) (b : Bool) → Accepts G s v r → IsTrue b ↔ (r ≡ []) → IsTrue b ↔ ((w : V) × G w s)
 whole-read {V} G s r v b a h = (λ e. (v, (all-read G s v r a (h.0 e)).0), λ g. h.1 (sym (a.only g.0 [] (spelled-whole G s g.0 g.1)).1))
 
@@ -79,7 +79,7 @@ found-serial P x before a h none is permitted =
     let other : has_identifier common_name a ≡ false = rw name refl in
     found-more P x (record { common = x.common; serial = true }) before a h (rw other (omega arith)) (rw (none, is) refl) (inr name) permitted
 
--- ---- an attribute that no strict name has behind those that were found
+-- ---- an attribute that no strict name has after those that were found
 
 count-with : (o : List ℕ) (before rest : List Attribute) (a : Attribute) → count_of o ((before ++ a ∷ []) ++ rest) ≡ (count_of o before + cond (has_identifier o a) 1 0) + count_of o rest
 count-with o before rest a =

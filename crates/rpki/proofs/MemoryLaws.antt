@@ -1,4 +1,4 @@
--- Where a reader that is put together of others may answer that memory ran out.
+-- Where a reader that is put together of others may return that allocation failed.
 use Rattle.std.proofs.Common.{◌≡◌, ℕ, List, [], ◌++◌, refl, sym, ap, ◌∙◌, append_assoc}
 use Rattle.std.proofs.lemmas.List.{append-nil}
 use Rattle.rpki_der.specs.Reading.{Spells, Accepts}

@@ -55,7 +55,7 @@ each-more G [] p front v h k = ([], record { front = front; parts = ap (λ (q : 
 each-more G (w ∷ vs) p front v h k =
     (h.0 ++ front, record { front = h.1.front; parts = ap (λ (q : List ℕ). q ++ front) h.1.parts ∙ append_assoc h.1.front h.0 front; spelled = h.1.spelled }, each-more G vs h.0 front v h.2 k)
 
--- what is left stands behind such a list, and is one exactly where the whole is
+-- what is left follows such a list, and is one exactly where the whole is
 pub record Remains {V : Type 0} (t : TagName) (f : Bool) (C : V → List ℕ → Type 0) (c m : List ℕ) : Type 0 where
   pub whole : IsEach t f C m → IsEach t f C c
   pub rest : IsEach t f C c → IsEach t f C m
@@ -64,7 +64,7 @@ pub record Remains {V : Type 0} (t : TagName) (f : Bool) (C : V → List ℕ →
 pub remains-all : {V : Type 0} (t : TagName) (f : Bool) (C : V → List ℕ → Type 0) (c : List ℕ) → Remains t f C c c
 remains-all t f C c = record { whole = λ h. h; rest = λ h. h; before = ([], [], c, refl, refl, refl) }
 
--- what begins what is left begins behind such a list
+-- what begins what is left begins after such a list
 pub remains-after : {V : Type 0} (t : TagName) (f : Bool) (C : V → List ℕ → Type 0) (P : List ℕ → Type 0) (c m : List ℕ) → Remains t f C c m → P m → HasAfter (SpellsLeaf t f C) P c
 remains-after t f C P c m h p = let (vs, front, r, each, parts, same) = h.before in (vs, front, r, each, parts, subst P (sym same) p)
 
@@ -118,7 +118,7 @@ nothing-spelled {V} t f C c end x k = none-of k.0 k.1
     none-of [] g = g.some refl
     none-of (v ∷ vs) g = leaf-nowhere t f C c v g.each.0 end g.each.1
 
--- ---- the identifier of an attribute, and what is behind it
+-- ---- the identifier of an attribute, and what follows it
 
 pub identified : (c m : List ℕ) (o : List ℕ) → Accepts (SpellsLeaf oid false IsOidOf) c o m → IsIdentifierThen (attribute_of o m) c × ((w : Attribute) → IsIdentifierThen w c → w ≡ attribute_of o m)
 identified c m o a = (

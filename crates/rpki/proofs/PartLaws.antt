@@ -1,4 +1,4 @@
--- What the readers of parts answer, in the words of who reads all of something.
+-- What the readers of parts return, in the words of a reader of all of something.
 use Rattle.std.proofs.Common.{ℕ, Bool, true, false, List, Result, refl, sym, subst}
 use Rattle.rpki_der.specs.declared.error.DecodeError.{DecodeError}
 use Rattle.rpki_der.specs.TagName.{TagName, oid, sequence}

@@ -98,7 +98,7 @@ no-rsa-key s e h = (
   },
 )
 
--- a reader of whole octets that takes no memory
+-- a reader of whole octets that allocates nothing
 pub whole-refused : {V : Type 0} (G : V → List ℕ → Type 0) (s r : List ℕ) (e : DecodeError)
     → Refusal G (IsOuterFault sequence true) s r e → UnlessMemory e (SpellsNothing G s) × TakesNoMemory (IsWholeFault G (GivesOuterFault sequence true)) s e
 whole-refused G s r e h =

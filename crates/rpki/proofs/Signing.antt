@@ -37,7 +37,7 @@ signature-refused K s r e h = record {
   kind = part-memory (Finds (SpellsLeaf bit_string false IsBits)) (Finds SpellsSignature) K AnyFault s s e (signature-found s) h.kind tt;
 }
 
--- ---- the parts, one behind the other
+-- ---- the parts, one after the other
 
 record Steps {A : Type 0} (G : A → List ℕ → Type 0) (s : List ℕ) (x : SignedParts A) (r : List ℕ) : Type 0 where
   m : List ℕ
@@ -103,7 +103,7 @@ no-signature {A} G s m q d a one two none x r h =
     let f = two.only x.algorithm w.q (subst (λ (l : List ℕ). Spells G l x.algorithm w.q) e.1 w.two) in
     none x.value r (subst (λ (l : List ℕ). Spells SpellsSignature l x.value r) f.1 w.three)
 
--- a refusal of one of the parts
+-- an error of one of the parts
 pub part-refused : {A V : Type 0} (G : A → List ℕ → Type 0) (H : V → List ℕ → Type 0) (K : List ℕ → DecodeError → Type 0) (s m q : List ℕ) (e : DecodeError)
     → (Refuses H m → Refuses (IsSignedContents G) s) → OrMemoryWhere HasEither AnyFault s e → Refusal H K m q e
     → Refusal (IsSignedContents G) (OrMemoryWhere HasEither AnyFault) s s e

@@ -33,7 +33,7 @@ const DIGEST_OF_ABC: [u8; 20] = [
     0x9C, 0xD0, 0xD8, 0x9D,
 ];
 
-/// A provider that knows the digests of `abc` alone, and always returns the same result of a check.
+/// A provider that knows the digests of `abc` alone, and returns the same result for every check.
 #[derive(Drop)]
 struct Always {
     answer: bool,

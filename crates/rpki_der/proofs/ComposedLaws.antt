@@ -16,7 +16,7 @@ pub outer-refused : {V : Type 0} (t : TagName) (f : Bool) (C : V → List ℕ �
     → Refusal (SpellsContents t f) (IsContentsFault t f) s q e → Refusal (SpellsLeaf t f C) (GivesOuterFault t f) s r e
 outer-refused t f C s q r e same h = record { unchanged = same; refuses = (leaf-refused t f C s q r e same h).refuses; kind = λ none. h.kind }
 
--- its contents spell nothing, or memory ran out
+-- its contents spell nothing, or allocation failed
 pub inner-refused : {V : Type 0} (t : TagName) (f : Bool) (C : V → List ℕ → Type 0) (s c q r : List ℕ) (e : DecodeError) → r ≡ s
     → Accepts (SpellsContents t f) s c q → UnlessMemory e (SpellsNothing C c) → Refusal (SpellsLeaf t f C) (GivesOuterFault t f) s r e
 inner-refused {V} t f C s c q r e same a h = record {
@@ -28,23 +28,23 @@ inner-refused {V} t f C s c q r e same a h = record {
   kind = λ none. absurd (none c q a.spells);
 }
 
--- the reader of the contents answered
+-- the reader of the contents returned
 pub inner-accepted : {V : Type 0} (t : TagName) (f : Bool) (C : V → List ℕ → Type 0) (s c r : List ℕ) (v : V)
     → Accepts (SpellsContents t f) s c r → C v c × ((w : V) → C w c → w ≡ v) → Accepts (SpellsLeaf t f C) s v r
 inner-accepted t f C s c r v a h = leaf-accepted t f C s c r v a h.0 h.1
 
--- a refusal that names no want of memory, by a reader that takes none
+-- an error that is not OutOfMemory, of a reader that allocates nothing
 pub without-memory : {V : Type 0} (G : V → List ℕ → Type 0) (K : List ℕ → DecodeError → Type 0) (s r : List ℕ) (e : DecodeError)
     → e ≢ OutOfMemory → Refusal G K s r e → Refusal G (TakesNoMemory K) s r e
 without-memory G K s r e ne h = record { unchanged = h.unchanged; refuses = h.refuses; kind = record { other = ne; kind = h.kind } }
 
--- the value isn't there, and the reader takes no memory
+-- the value isn't there, and the reader allocates nothing
 pub outer-refused-exactly : {V : Type 0} (t : TagName) (f : Bool) (C : V → List ℕ → Type 0) (s q r : List ℕ) (e : DecodeError) → r ≡ s
     → Refusal (SpellsContents t f) (IsContentsFault t f) s q e → Refusal (SpellsLeaf t f C) (IsOuterFault t f) s r e
 outer-refused-exactly t f C s q r e same h =
     without-memory (SpellsLeaf t f C) (GivesOuterFault t f) s r e (contents-no-memory t f s e h.kind) (outer-refused t f C s q r e same h)
 
--- its contents spell nothing, and the reader takes no memory
+-- its contents spell nothing, and the reader allocates nothing
 pub inner-refused-exactly : {V : Type 0} (t : TagName) (f : Bool) (C : V → List ℕ → Type 0) (s c q r : List ℕ) (e : DecodeError) → r ≡ s
     → Accepts (SpellsContents t f) s c q → UnlessMemory e (SpellsNothing C c) × (e ≢ OutOfMemory) → Refusal (SpellsLeaf t f C) (IsOuterFault t f) s r e
 inner-refused-exactly t f C s c q r e same a h =
@@ -60,7 +60,7 @@ spelled-whole G s v h = record { front = s; parts = sym (append-nil s); spelled 
 pub nothing-whole : {V : Type 0} (G : V → List ℕ → Type 0) (s : List ℕ) → Refuses G s → SpellsNothing G s
 nothing-whole G s none v h = none v [] (spelled-whole G s v h)
 
--- something is left behind the beginning that is in the grammar
+-- something is left after the beginning that is in the grammar
 pub nothing-after : {V : Type 0} (G : V → List ℕ → Type 0) (s r : List ℕ) (v : V) → Accepts G s v r → (r ≡ [] → ⊥) → SpellsNothing G s
 nothing-after G s r v a some w h = some (sym (a.only w [] (spelled-whole G s w h)).1)
 
@@ -70,13 +70,13 @@ all-read {V} G s v r a end =
     let p : s ≡ a.spells.front = a.spells.parts ∙ ap (λ (l : List ℕ). a.spells.front ++ l) end ∙ append-nil a.spells.front in
     (subst (G v) (sym p) a.spells.spelled, λ w h. (a.only w [] (spelled-whole G s w h)).0)
 
--- what a reader of whole octets answers where something is left
+-- what a reader of whole octets returns where something is left
 pub more-left : {V : Type 0} (G : V → List ℕ → Type 0) (K : List ℕ → DecodeError → Type 0) (s : List ℕ) (v : V) (r : List ℕ)
     → Accepts G s v r → (r ≡ [] → ⊥) → SpellsNothing G s × IsWholeFault G K s Trailing
 more-left {V} G K s v r a some =
     (nothing-after G s r v a some, record { trailing = λ w b more h. refl; kind = λ none. absurd (none v r a.spells) })
 
--- what it answers where the reader of the beginning refused
+-- what it returns where the reader of the beginning failed
 pub not-read : {V : Type 0} (G : V → List ℕ → Type 0) (K : List ℕ → DecodeError → Type 0) (s r : List ℕ) (e : DecodeError)
     → Refusal G K s r e → UnlessMemory e (SpellsNothing G s) × IsWholeFault G K s e
 not-read {V} G K s r e h = (

@@ -1,4 +1,4 @@
--- What is left behind a cursor.
+-- What is left after a cursor.
 use Rattle.std.proofs.Common.{◌≡◌, ℕ, ◌+◌, ◌-◌, ◌≤◌, List, [], ◌++◌, length, take, drop, refl, sym, ap, ◌∙◌, arith, length-append}
 use Rattle.std.specs.Prelude.{slice_range}
 use Rattle.std.proofs.lemmas.List.{take-take, take_rest, drop_at, drop-take, drop-drop, length-take, length-drop}
@@ -10,7 +10,7 @@ length-cut s i j le in_s = omega (arith, length-take (j - i) (drop i s), length-
 pub whole-cut : (s : List ℕ) (n : ℕ) → n ≡ length s → slice_range s 0 n ≡ s
 whole-cut s n e = rw e (take_rest s 0)
 
--- what is behind a front of a cut
+-- what follows a front of a cut
 pub behind-cut : (s : List ℕ) (i j : ℕ) (front rest : List ℕ) → i ≤ j → j ≤ length s → slice_range s i j ≡ front ++ rest → slice_range s (j - length rest) j ≡ rest
 behind-cut s i j front rest le in_s e =
     let size = length-cut s i j le in_s in

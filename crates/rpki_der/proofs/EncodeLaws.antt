@@ -65,7 +65,7 @@ same-fronts (c ∷ a) (d ∷ b) x y l e =
     let r = same-fronts a b x y (omega arith) t in
     (let p = r.0 in cc, r.1)
 
--- behind one tag in one form, equal octets have equal contents, and the same follows
+-- after one tag in one form, equal octets have equal contents, and the same follows
 pub tlv_same_then : (t : TagName) (f : Bool) (c d x y : List ℕ) → length c < 2 ^ 32 → length d < 2 ^ 32 → tlv t f c ++ x ≡ tlv t f d ++ y → (c ≡ d) × (x ≡ y)
 tlv_same_then t f c d x y small small' e =
     let h : length_octets (length c) ++ (c ++ x) ≡ length_octets (length d) ++ (d ++ y) =

@@ -45,7 +45,7 @@ takes-so s q i n h r r' a b e =
     let octets : s ≡ header_octets (made i n) ++ r' = rw (a.octets, b.octets) (sym (append_assoc (identifier_octets i.0 i.1) (length_octets n) r')) in
     rw (← is.0, ← is.1) (record { legal = record { tag = a.legal; length = b.high }; octets = octets })
 
--- bytes stay bytes behind a front
+-- bytes stay bytes after a front
 pub IsBytes-behind : (p q : List ℕ) → IsBytes (p ++ q) → IsBytes q
 IsBytes-behind [] q h = h
 IsBytes-behind (b ∷ p) q h = IsBytes-behind p q (λ i. h (suc i))
@@ -66,7 +66,7 @@ identifier-grows s t i q bytes e =
     let h = identifier-takes s i q bytes e in
     rw (h.octets, append_assoc) (identifier-again i.0 i.1 (q ++ t) h.legal)
 
--- where a fault comes from: the identifier octets, or the length octets behind them
+-- where a fault comes from: the identifier octets, or the length octets after them
 pub header-cases : (s : List ℕ) (e : DecodeError) → header_at s ≡ Err e → (identifier_at s ≡ Err e) ⊎ ((i : TagName × Bool) × (q : List ℕ) × (identifier_at s ≡ Ok (i, q)) × (length_at q ≡ Err e))
 header-cases s e h =
     elim (bind-err (identifier_at s) behind e (sym (header-is s) ∙ h)) [

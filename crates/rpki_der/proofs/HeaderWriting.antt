@@ -15,12 +15,12 @@ pub digits_none : (b m k n : ℕ) → (k ≡ 0) ⊎ ((k ≡ 0 → ⊥) × (n ≡
 digits_none b m k n (inl e) = rw e (digits-no-room b m n)
 digits_none b m k n (inr e) = rw e.1 (digits-zero b m k)
 
--- the last digit behind the others
+-- the last digit after the others
 pub digits_more : (b m k n : ℕ) → (k ≡ 0 → ⊥) → (n ≡ 0 → ⊥) → digits b m k n ≡ digits b m (k - 1) (n / b) ++ (m + n % b) ∷ []
 digits_more b m zero n room ne = absurd (room refl)
 digits_more b m (suc k) n room ne = let e : suc k - 1 ≡ k = omega arith in rw e (digits-last b m k n ne)
 
--- ---- octets behind octets
+-- ---- octets after octets
 
 pub pushed_nothing : (old back : List ℕ) → back ≡ [] → old ≡ old ++ back
 pushed_nothing old back e = rw e (sym (append-nil old))

@@ -1,4 +1,5 @@
--- Laws of the index of values: it is one, each entry stands where it says, and values behind values have entries behind entries.
+-- Laws of the index of values: it is one, each entry stands where it says, and values after values have entries after
+-- entries.
 use Rattle.std.proofs.Common.{◌≡◌, ℕ, suc, ◌+◌, ◌-◌, ◌≤◌, Bool, true, false, cond, List, [], ◌∷◌, ◌++◌, length, take, drop, Option, Some, None, refl, sym, ap, ◌∙◌, subst, arith, append_assoc, append-nil, length-append, length-drop, take-append-drop}
 use Rattle.std.specs.Prelude.{is_none, count_by, if◌then◌else◌}
 use Rattle.std.specs.List.{between, AllByRecursion}
@@ -22,7 +23,7 @@ one_index {octets} {index} {other} i j =
 
 -- ---- each entry stands where it says
 
--- a part behind pre
+-- a part after pre
 pub part_at : (pre x post : List ℕ) (i e : ℕ) → i ≡ length pre → e ≡ i + length x → between i e (pre ++ (x ++ post)) ≡ x
 part_at pre x post i e h k =
     let n : e - i ≡ length x = omega arith in
@@ -123,7 +124,7 @@ index_values {octets} {index} k i n = record {
   counted = sym (n ∙ ap (λ (x : List Entry). count_by stands_alone x) i.is ∙ count_outer i.members 0 0);
 }
 
--- ---- values behind values
+-- ---- values after values
 
 entries_joined : (vs ws : Members) (at : ℕ) (parent : Option ℕ) (n : ℕ) → entries (joined vs ws) at parent n ≡ entries vs at parent n ++ entries ws (at + length (spell vs)) parent (n + length (entries vs at parent n))
 entries_joined Empty ws at parent n =

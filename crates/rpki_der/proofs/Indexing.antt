@@ -381,7 +381,7 @@ walking_done {keep} {b} {old} {s} {names} {es} {place} {n} none w = go names non
     go [] z ends h o l = done ends h o l
     go (x ∷ xs) z ends h o l = absurd (cc (z, slice_get-get_or (x ∷ xs) (length (x ∷ xs) - 1) x (omega arith)))
 
--- ---- want of memory
+-- ---- allocation failure
 
 pub takes_memory_open : {s : List ℕ} {h : Header} (keep : Bool) (k : ℕ) → not h.constructed ≡ false → Spells SpellsHeader s h (drop k s) → k + h.length ≤ length s → TakesMemory keep s
 takes_memory_open true k form sp fits = (true, has_constructed k form sp fits)

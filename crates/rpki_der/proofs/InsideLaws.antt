@@ -14,7 +14,7 @@ use Rattle.rpki_der.proofs.ReadingLaws.{UnlessMemory-weaker, UnlessMemory-from}
 use Rattle.rpki_der.proofs.LeavesLaws.{contents-no-memory}
 use Rattle.rpki_der.proofs.ComposedLaws.{outer-refused, inner-refused, inner-accepted, without-memory, nothing-whole, nothing-after, all-read}
 
--- ---- where memory runs out
+-- ---- where allocation fails
 
 -- another error
 pub no-memory : (P : List ℕ → Type 0) (K : List ℕ → DecodeError → Type 0) (s : List ℕ) (e : DecodeError) → e ≢ OutOfMemory → K s e → OrMemoryWhere P K s e
@@ -26,7 +26,7 @@ no-memory P K s (Content x) n h = h
 no-memory P K s Trailing n h = h
 no-memory P K s OutOfMemory n h = absurd (n refl)
 
--- the error of a part, which takes memory where P says so of the octets that it reads
+-- the error of a part, which allocates where P says so of the octets that it reads
 pub part-memory : (P Q : List ℕ → Type 0) (L K : List ℕ → DecodeError → Type 0) (c s : List ℕ) (e : DecodeError)
     → (P c → Q s) → OrMemoryWhere P L c e → K s e → OrMemoryWhere Q K s e
 part-memory P Q L K c s Truncated f m h = h
@@ -37,7 +37,7 @@ part-memory P Q L K c s (Content x) f m h = h
 part-memory P Q L K c s Trailing f m h = h
 part-memory P Q L K c s OutOfMemory f m h = f m
 
--- a refusal that isn't for want of memory
+-- an error that isn't allocation failure
 pub unless-memory : (e : DecodeError) {P : Type 0} → e ≢ OutOfMemory → UnlessMemory e P → P
 unless-memory Truncated n h = h
 unless-memory BadTag n h = h
@@ -72,7 +72,7 @@ module _ {X V : Type 0} (view : X → V) (t : TagName) (f : Bool) (C : V → Lis
   read-inside s r (Ok x) h = inner-accepted t f C s (left h.before) r (view x) h.value ((law h.before h.after (Ok x) h.read).0 h.rest)
   read-inside s r (Err e) h = subst (λ q. Refusal (SpellsLeaf t f C) (GivesOuterFault t f) s q e) (sym h.0) (refused s e h.1)
 
-  -- the same where the closure takes no memory
+  -- the same where the closure allocates nothing
   module _ (never : (c : List ℕ) → K c OutOfMemory → ⊥) where
     other : (s : List ℕ) (e : DecodeError) → NotInside t f Same reads s e → e ≢ OutOfMemory
     other s e (Outside c q h same) = outside-other t f s q c e h same
@@ -83,14 +83,14 @@ module _ {X V : Type 0} (view : X → V) (t : TagName) (f : Bool) (C : V → Lis
     read-inside-never s r (Ok x) h = read-inside s r (Ok x) h
     read-inside-never s r (Err e) h = without-memory (SpellsLeaf t f C) (GivesOuterFault t f) s r e (other s e h.1) (read-inside s r (Err e) h)
 
--- the same, where the closure says that it takes no memory
+-- the same, where the closure says that it allocates nothing
 pub read-inside-exactly : {X V : Type 0} (view : X → V) (t : TagName) (f : Bool) (C : V → List ℕ → Type 0) (L : List ℕ → DecodeError → Type 0)
     (reads : Constructed → Result X DecodeError → Constructed → Type 0)
     (law : (b a : Constructed) (x : Result X DecodeError) → reads b x a → ReadsAll view C (TakesNoMemory L) (left b) (left a) x)
     (s r : List ℕ) (x : Result X DecodeError) → ReadsInside t f Same reads s r x → Reads view (SpellsLeaf t f C) (IsOuterFault t f) s r x
 read-inside-exactly view t f C L reads law = read-inside-never view t f C (TakesNoMemory L) reads law (λ c k. k.other refl)
 
--- the same, where it takes memory only for contents that have P
+-- the same, where it allocates only for contents that have P
 module _ {X V : Type 0} (view : X → V) (t : TagName) (C : V → List ℕ → Type 0) (P : List ℕ → Type 0) (L : List ℕ → DecodeError → Type 0)
     (reads : Constructed → Result X DecodeError → Constructed → Type 0)
     (law : (b a : Constructed) (x : Result X DecodeError) → reads b x a → ReadsAll view C (OrMemoryWhere P L) (left b) (left a) x) where
@@ -114,7 +114,7 @@ pub reads-all : {X V : Type 0} (view : X → V) (G : V → List ℕ → Type 0) 
 reads-all view G K s r (Ok x) h = (all-read G s (view x) r h, nothing-after G s r (view x) h)
 reads-all view G K s r (Err e) h = (UnlessMemory-weaker e (nothing-whole G s) h.refuses, h.kind)
 
--- What the reader of the contents says of refusals alone, where the contents have B, is said of the value.
+-- What the reader of the contents says of errors alone, where the contents have B, is said of the value.
 module _ {X : Type 0} (t : TagName) (f : Bool) (B : List ℕ → Type 0) (R : Result X DecodeError → Type 0) (refusal : (x : X) → R (Ok x) → ⊥)
     (reads : Constructed → Result X DecodeError → Constructed → Type 0)
     (law : (b a : Constructed) (x : Result X DecodeError) → reads b x a → B (left b) → R x) where

@@ -120,7 +120,7 @@ magnitude-left xs i o in_xs some =
       no_zero_in_front = λ long. let h = some (omega arith) in omega arith;
     }
 
--- the contents of an INTEGER that begin with a zero are the magnitude's octets behind it
+-- the contents of an INTEGER that begin with a zero are the magnitude's octets after it
 pub behind-zero : (xs : List ℕ) → AreOctets xs → 1 < length xs → get_or xs 0 0 ≡ 0 → 128 ≤ get_or xs 1 0 → IsUnsigned (number_of (drop 1 xs)) xs × IsMagnitude (drop 1 xs)
 behind-zero xs o long none high =
     let m : IsMinimal xs = record { nonempty = omega arith; first_bit = omega arith; nine_bits = λ _. inr high } in (

@@ -1,4 +1,4 @@
--- The kinds of refusals of readers of values and leaves exclude one another.
+-- The kinds of errors of readers of values and leaves exclude one another.
 use Rattle.std.proofs.Common.{◌≡◌, ℕ, ◌⊎◌, ◌<◌, Bool, List, [], ◌∷◌, ◌++◌, length, refl, sym, ap, ◌∙◌, inl, inr, arith, length-append}
 use Rattle.std.proofs.lemmas.List.{append-nil}
 use Rattle.rpki_der.specs.declared.error.ContentError.{ContentError}
@@ -18,7 +18,7 @@ use Rattle.rpki_der.proofs.FaultsApart.{beginnings, no-fault-at-header, one-faul
 abbrev head-of : TagName → Bool → ℕ → Header
 head-of t f n = record { tag = t; constructed = f; length = n }
 
--- what the kind says of the header in front, and of what is behind it
+-- what the kind says of the header in front, and of what follows it
 abbrev Says : (Header → Type 0) → Header → List ℕ → DecodeError → Type 0
 Says P h r e = ((e ≡ Truncated) × P h × (length r < h.length)) ⊎ ((e ≡ Unexpected) × (P h → ⊥))
 

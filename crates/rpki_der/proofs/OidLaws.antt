@@ -4,7 +4,7 @@ use Rattle.std.proofs.lemmas.Bool.{cases_eq, lt-ltb}
 use borrow.Author.Tests.{ltb-true}
 use Rattle.rpki_der.specs.Leaves.{IsOid}
 
--- whether a subidentifier may begin at the place: in front, or behind an octet with the top bit clear
+-- whether a subidentifier may begin at the place: in front, or after an octet with the top bit clear
 abbrev pub begins_at : List ℕ → ℕ → Bool
 begins_at s zero = true
 begins_at s (suc i) = nat_lt (get_or s i 0) 128

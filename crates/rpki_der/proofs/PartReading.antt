@@ -18,7 +18,7 @@ use Rattle.rpki_der.proofs.TagNumber.{number-again, number-takes, number-stays, 
 use Rattle.rpki_der.proofs.Identifier.{class-again, identifier-empty, identifier-none, identifier-low, identifier-high, identifier-again, identifier-takes, identifier-stays, identifier-completes, identifier-errors}
 use Rattle.rpki_der.proofs.Length.{octets-again, octets-take, octets-stay, octets-complete, octets-errors, length-again, length-takes, length-stays, length-completes, length-errors, length-empty, length-short, length-wrong, length-long}
 
--- f reads the parts that G spells, and answers bad where octets can't be continued to one
+-- f reads the parts that G spells, and returns bad where octets can't be continued to one
 pub record IsPart {V : Type 0} (G : V → List ℕ → Type 0) (bad : DecodeError) (f : List ℕ → Result (V × List ℕ) DecodeError) : Type 0 where
   pub again : (v : V) (p s : List ℕ) → G v p → f (p ++ s) ≡ Ok (v, s)
   pub takes : (s : List ℕ) (v : V) (r : List ℕ) → IsBytes s → f s ≡ Ok (v, r) → Spells G s v r
@@ -154,7 +154,7 @@ length-more : (s : List ℕ) → 1 ≤ length s → 128 < get_or s 0 0 → get_o
 length-more [] le gt few = absurd (omega arith)
 length-more (b ∷ s) le gt few = rw (take_rest (b ∷ s) 1) (length-long b s gt few)
 
--- the answer of the reader of the octets that follow is the answer
+-- the result of the reader of the octets that follow is the result
 pub length-follows : {X : Type 0} (view : X → ℕ × List ℕ) (s : List ℕ) (r : Result X DecodeError) → IsBytes s → 1 ≤ length s → 128 < get_or s 0 0 → get_or s 0 0 ≤ 132
     → ReadsPart view (SpellsLongLength (get_or s 0 0 - 128)) BadLength (tail s) r → ReadsPart view SpellsLength BadLength s r
 length-follows view s (Ok x) bytes le gt few a =
@@ -197,7 +197,7 @@ identifier-fails (b ∷ s) e le ge h =
     let failed : number_at 4 0 s ≡ Err e = rw (take_rest (b ∷ s) 1) at h in
     identifier-high b s ge ∙ rw failed refl
 
--- the answer of the reader of the octets that follow is the answer
+-- the result of the reader of the octets that follow is the result
 pub number-follows : (s : List ℕ) (k : Class) (n : ℕ) (q : List ℕ) → IsBytes s → 1 ≤ length s → class_number k ≡ get_or s 0 0 / 64 → 31 ≤ get_or s 0 0 % 32
     → Accepts SpellsTagNumber (tail s) n q → Accepts SpellsIdentifier s (tag_of k n, eqb (get_or s 0 0 / 32 % 2) 1) q
 number-follows s k n q bytes le class ge a =

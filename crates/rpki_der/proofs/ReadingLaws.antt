@@ -1,10 +1,10 @@
--- How readings are put together, whatever the grammars are.
+-- How readings are put together, for any grammars.
 use Rattle.std.proofs.Common.{ℕ, List}
 use Rattle.rpki_der.specs.declared.error.DecodeError.{DecodeError}
 use Rattle.rpki_der.specs.declared.error.DecodeError.TheVariants.{Truncated, BadTag, BadLength, Unexpected, Content, Trailing, OutOfMemory}
 use Rattle.rpki_der.specs.Reading.{Refuses, UnlessMemory, Refusal, OrMemoryWhere}
 
--- a weaker fact for each error but want of memory
+-- a weaker fact for each error but allocation failure
 pub UnlessMemory-weaker : (e : DecodeError) {P Q : Type 0} → (P → Q) → UnlessMemory e P → UnlessMemory e Q
 UnlessMemory-weaker Truncated f h = f h
 UnlessMemory-weaker BadTag f h = f h
@@ -24,7 +24,7 @@ UnlessMemory-from (Content e) h = h
 UnlessMemory-from Trailing h = h
 UnlessMemory-from OutOfMemory h = tt
 
--- a refusal by a reader of one grammar is one by a reader of another
+-- an error of a reader of one grammar is one of a reader of another
 pub Refusal-weaker : {V W : Type 0} {G : V → List ℕ → Type 0} {H : W → List ℕ → Type 0} {K L : List ℕ → DecodeError → Type 0} {s r : List ℕ} {e : DecodeError}
     → (Refuses G s → Refuses H s) → (K s e → L s e) → Refusal G K s r e → Refusal H L s r e
 Refusal-weaker {e = e} f g h = record { unchanged = h.unchanged; refuses = UnlessMemory-weaker e f h.refuses; kind = g h.kind }

@@ -93,7 +93,7 @@ first s bytes some inside = go (header_at s) refl
     go (Err e) is = inr (inr (e, AtHeader some (header-fault s e bytes is)))
     go (Ok (h, r)) is = sized h r (spelled-from s h r bytes is) (cases_lt (length r) h.length)
 
--- what is behind a value is shorter
+-- what follows a value is shorter
 behind : (t : TagName) (f : Bool) (c r s : List ℕ) → s ≡ tlv t f c ++ r → length r < length s
 behind t f c r s is = omega (arith, ap length is, two_octets t f (length c), length-append (tlv t f c) r, length-append (header t f (length c)) c)
 

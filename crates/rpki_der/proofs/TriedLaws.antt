@@ -25,7 +25,7 @@ pub tried-inside : {X V : Type 0} (view : X → V) (G : V → List ℕ → Type 
 tried-inside view G K s r d (Ok x) h k = absurd h.1
 tried-inside view G K s r d (Err e) h k = subst (λ q. UnlessMemory q (SpellsNothing G s) × K s q) (sym h.1) k
 
--- the same, where it takes no memory
+-- the same, where it allocates nothing
 pub tried-exactly : {X V : Type 0} {P : Type 0} (view : X → V) (G : V → List ℕ → Type 0) (s r : List ℕ) (d : DecodeError) (x : Result X DecodeError)
     → IsErr x × IsErrAnd x (λ e. e ≡ d) → (P → SpellsNothing G s) → UnlessMemory d P → d ≢ OutOfMemory → ReadsAll view G (TakesNoMemory AnyFault) s r x
 tried-exactly view G s r d x h f none other =

@@ -60,7 +60,7 @@ too-long t f s h q a lt c r v =
     let parts = ap length d.rest ∙ length-append c r in
     omega arith
 
--- with zeros behind it would be a value
+-- with zeros after it would be a value
 pub cut-value : (t : TagName) (f : Bool) (s : List ℕ) (h : Header) (q : List ℕ) → Spells SpellsHeader s h q → h.tag ≡ t → h.constructed ≡ f → length q < h.length → IsCut (SpellsContents t f) s
 cut-value t f s h q a tag form lt =
     let k = h.length - (length q + 1) in

@@ -1,4 +1,4 @@
--- From what a walk reads and refuses: that nothing else is read or refused.
+-- From what a walk reads and rejects: that nothing else is read or rejected.
 use Rattle.std.proofs.Common.{◌≡◌, ◌≢◌, ◌⊎◌, ℕ, ◌<◌, ◌≤◌, true, false, List, [], ◌++◌, length, take, drop, refl, sym, ap, ◌∙◌, subst, arith, inl, inr, Result, Ok, Err, IfOk, IfErr, take-append-drop, length-append, append_assoc}
 use Rattle.std.proofs.lemmas.List.{length-take-le, drop_at}
 use Rattle.rpki_der.specs.declared.error.DecodeError.{DecodeError}
@@ -19,7 +19,7 @@ value_parts {s} {v} {r} sp = sp.parts ∙ ap (λ (x : List ℕ). x ++ r) sp.spel
 no_value : {s : List ℕ} {e : DecodeError} → IsNestedFault s e → Refuses SpellsValue s
 no_value fault v r sp = fault_or_value r fault sp.spelled.value (value_parts sp)
 
--- no fault is want of memory
+-- no fault is an allocation failure
 no_memory : {s : List ℕ} → IsNestedFault s OutOfMemory → ⊥
 no_memory fault = kinds (fault_kinds fault)
   where
@@ -28,7 +28,7 @@ no_memory fault = kinds (fault_kinds fault)
     kinds (inr (inl e)) = cc e
     kinds (inr (inr e)) = cc e
 
--- a fault, or want of memory where P holds
+-- a fault, or allocation failure where P holds
 refusal_of : (P : List ℕ → Type 0) (s : List ℕ) (e : DecodeError) → ((e ≡ OutOfMemory) × P s) ⊎ IsNestedFault s e → Refusal SpellsValue (OrMemoryWhere P IsNestedFault) s s e
 refusal_of P s e (inl z) = subst (λ (x : DecodeError). Refusal SpellsValue (OrMemoryWhere P IsNestedFault) s s x) (sym z.0) (record { unchanged = refl; refuses = tt; kind = z.1 })
 refusal_of P s e (inr f) = Refusal-or-memory-where P IsNestedFault s s e (λ k. absurd (no_memory k)) (record { unchanged = refl; refuses = UnlessMemory-from e (no_value f); kind = f })

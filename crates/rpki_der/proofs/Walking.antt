@@ -111,7 +111,7 @@ part_before s i e n h =
 pub length_part : (s : List ℕ) (i e : ℕ) → i ≤ e → e ≤ length s → length (between i e s) ≡ e - i
 length_part s i e l h = length-take-le (e - i) (drop i s) (omega (arith, length-drop i s))
 
--- the front of a part, with what stands behind it in that part
+-- the front of a part, with what follows it in that part
 pub record HasFrontAt (s : List ℕ) (i e : ℕ) (t : TagName) (f : Bool) (k n : ℕ) : Type 0 where
   pub fits : i + k + n ≤ e
   pub header_size : k ≡ length (header t f (length (between (i + k) (i + k + n) s)))

@@ -61,7 +61,7 @@ fn note(
     Ok(number)
 }
 
-/// Where the open value with this identification ends.
+/// Where the open value that `name` identifies ends.
 fn end_of(entries: &[HeaderEntry], keep: bool, before: usize, name: usize) -> usize
     requires { (end : ℕ) × IsEnd keep before entries.now name end }
     ensures { IsEnd keep before entries.now name result }
@@ -162,7 +162,8 @@ impl<'a> Constructed<'a> {
     ///
     /// An error leaves the cursor where it was. It is the first one from the left: `Truncated`, `BadTag` or `BadLength`
     /// where a value has to begin and no header does; or `Truncated` where a value passes the end of the one that
-    /// contains it. Returns `OutOfMemory` if the stack of open values cannot grow; a primitive value allocates nothing.
+    /// contains it. Returns `OutOfMemory` if the stack of open values cannot grow; for a primitive value the call
+    /// allocates nothing.
     pub fn walk(&mut self, alloc: Global, steps: &mut Steps) -> Result<Option<()>, DecodeError>
         requires room { steps.old + length (left self.old) < 2 ^ 64 }
         ensures reads { ReadsWhere IsNotEmpty (λ _. tt) SpellsAnyValue (OrMemoryWhere HasConstructed IsNestedFault) (left self.old) (left self.new) result }

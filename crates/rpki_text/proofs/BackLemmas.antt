@@ -1,4 +1,4 @@
--- A path that `relative_to` answers leads back when it is joined.
+-- A path that `relative_to` returns leads back when it is joined.
 use Rattle.std.proofs.Common.{◌≡◌, ℕ, ◌<◌, Bool, true, false, ◌&&◌, List, [], ◌∷◌, ◌++◌, length, Some, None, bytes_eq, sym, refl, ap, ◌∙◌, inl, inr, arith}
 use Rattle.std.proofs.lemmas.List.{append_assoc}
 use Rattle.std.proofs.lemmas.Slice.Eq.{bytes_eq-Decides}
@@ -25,7 +25,7 @@ below_open path b p o l h = by_cases (path_left-some path b p h) where
       let is : r ≡ p = cc in
       e ∙ sym (append_assoc b (47 ∷ []) r) ∙ ap (λ x. (b ++ 47 ∷ []) ++ x) is
 
--- a path that is left of another, put behind it with a slash between, is that other
+-- a path that is left of another, put after it with a slash between, is that other
 pub path_back : (path base p : List ℕ) → names_refusal (segments base) ≡ None → 0 < length p → path_left path (segments base) ≡ Some p → with_slash base ++ p ≡ path
 path_back path base p good l h = by_cases (slash_cases base) where
   by_cases : SlashCases base → with_slash base ++ p ≡ path

@@ -32,7 +32,7 @@ join-append (p ∷ q ∷ ps) qs f k =
 bytes_eq-is : (u v : List ℕ) → bytes_eq u v ≡ true → u ≡ v
 bytes_eq-is u v h = (bytes_eq-Decides u v).0 h
 
--- what is left comes behind the prefix
+-- what is left comes after the prefix
 pub strip_prefix-is : (us vs left : List (List ℕ)) → strip_prefix us vs ≡ Some left → us ≡ vs ++ left
 strip_prefix-is us [] left h = cc
 strip_prefix-is [] (v ∷ vs) left h = cc
@@ -121,7 +121,7 @@ trimmed base l good = by_cases (slash_cases base) where
       let names : segments base ≡ pieces f = ap segments e ∙ segments-before_slash f in
       rw (← same) (names, named-open f (ap names_refusal (sym names) ∙ good))
 
--- the path below a base, by what stands behind the base in it
+-- the path below a base, by what follows the base in it
 pub below-none : (path base : List ℕ) → 0 < length base → names_refusal (segments base) ≡ None → ((rest : List ℕ) → path ≡ without_slash base ++ rest → ⊥) → path_left path (segments base) ≡ None
 below-none path base l good h = ap (path_left path) (trimmed base l good).0 ∙ path_left-none path (without_slash base) none where
   none : AtOrBelow path (without_slash base) → ⊥

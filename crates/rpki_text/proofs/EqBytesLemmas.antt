@@ -19,7 +19,7 @@ use Rattle.rpki_text.proofs.LawLemmas.{spelled}
 use Rattle.rpki_text.proofs.PartLemmas.{read_parts, ReadParts, slash-lowercase, before_first-no_slash}
 use Rattle.rpki_text.proofs.TextLemmas.{SameText, same_text-parts, length-lowercase}
 
--- a text that is not refused has the form, and is cut at its two places
+-- a text that is not rejected has the form, and is cut at its two places
 passes_form : (t : List ℕ) → rsync_refusal t ≡ None → IsRsync t
 unfolding rsync_refusal
 passes_form t h = by_cases (list_all is_uri_byte t) refl (has_scheme t) refl (path_refusal (drop 8 t)) refl (has_module t) refl h where
@@ -38,7 +38,7 @@ passes_cut t h = (
   record { form = passes_form t h; module_starts = refl; path_starts = refl },
 )
 
--- the scheme and the authority, and what stands behind them
+-- the scheme and the authority, and what follows them
 pub behind : List ℕ → List ℕ
 behind t = 47 ∷ (module_name_of t ++ 47 ∷ path_of t)
 

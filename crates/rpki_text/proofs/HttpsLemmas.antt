@@ -23,7 +23,7 @@ use Rattle.rpki_text.proofs.JoinLemmas.{take_parts}
 use Rattle.rpki_text.proofs.PartLemmas.{lowercase-lowercase, slash-lowercase, before_first-no_slash, before_slash}
 use Rattle.rpki_text.proofs.TextLemmas.{length-lowercase, SameText, same_text-parts}
 
--- ---- the refusal, test by test
+-- ---- the error, test by test
 
 pub https_refuses_characters : (t : List ℕ) → list_all is_uri_byte t ≡ false → https_refusal t ≡ Some InvalidCharacters
 unfolding https_refusal
@@ -42,7 +42,7 @@ unfolding https_refusal
 https_refuses_authority t h k l =
     let long : nat_le 256 (length (https_authority t)) ≡ true = let e = authority_long t in grind (arith, nat_tests) in rw (h, k, long) refl
 
--- what a text that is not refused has
+-- what a text that is not rejected has
 pub record HttpsForm (t : List ℕ) : Type 0 where
   pub characters : list_all is_uri_byte t ≡ true
   pub scheme : lowercase (take 8 t) ≡ codes "https://"

@@ -106,7 +106,7 @@ pub strip_prefix-append : (vs r : List (List ℕ)) → strip_prefix (vs ++ r) vs
 strip_prefix-append [] r = refl
 strip_prefix-append (v ∷ vs) r = rw (bytes_eq-same v) (strip_prefix-append vs r)
 
--- ---- a text that goes on behind its path's beginning
+-- ---- a text that goes on after its path's beginning
 
 position-append : (xs ys : List ℕ) → position_or_len is_slash xs < length xs → position_or_len is_slash (xs ++ ys) ≡ position_or_len is_slash xs
 position-append [] ys h = absurd (omega arith)
@@ -178,7 +178,7 @@ pub names_refusal-back : (us vs : List (List ℕ)) → names_refusal (us ++ vs) 
 names_refusal-back [] vs h = h
 names_refusal-back (u ∷ us) vs h = names_refusal-back us vs (option_or-rest (piece_refusal u) (names_refusal (us ++ vs)) h)
 
--- behind the scheme, the names are those before the path and those of the path
+-- after the scheme, the names are those before the path and those of the path
 behind_scheme : (g y : List ℕ) → 8 ≤ length g → segments (drop 8 ((g ++ 47 ∷ []) ++ y)) ≡ pieces (drop 8 g) ++ segments y
 behind_scheme g y h = ap segments (ap (drop 8) (append_assoc g (47 ∷ []) y) ∙ drop-append-le 8 g (47 ∷ y) h) ∙ segments-at_slash (drop 8 g) y
 
@@ -288,7 +288,7 @@ cut_joined t m n c p good names =
     ap names_refusal (segments-joined (path_of t) p) ∙ names_refusal-append (segments (path_of t)) (segments p) (path_names t m n c h) names in
     subst (λ (s : List ℕ). IsCut s m n) (sym (joined-text t p m n h)) (cut_changed t m n c h y good_y names_y)
 
--- the URI with the segments of the path behind its own
+-- the URI with the segments of the path after its own
 pub uri_of-joined : (t : List ℕ) (m n : ℕ) → IsCut t m n → (p : List ℕ) → list_all is_uri_byte p ≡ true → names_refusal (segments p) ≡ None
     → uri_of (with_slash t ++ p) ≡ record { authority = (uri_of t).authority; module_name = (uri_of t).module_name; segments = (uri_of t).segments ++ segments p; is_dir = is_dir p }
 unfolding uri_of
@@ -315,7 +315,7 @@ relative-joined t m n c (b ∷ bs) good names =
     relative-longer (uri_of (with_slash t ++ b ∷ bs)) (uri_of t) (segments (b ∷ bs)) (ap (λ u. u.authority) e) (ap (λ u. u.module_name) e) (ap (λ u. u.segments) e)
     ∙ ap Some (ap (λ u. path_text (segments (b ∷ bs)) u.is_dir) e ∙ path_text-segments (b ∷ bs))
 
--- ---- what a join refuses
+-- ---- what a join rejects
 
 pub is_dir-text : (t : List ℕ) (m p : ℕ) → IsCut t m p → is_dir t ≡ is_dir (path_of t)
 is_dir-text t m p c = let h = head_of t m p c in ap is_dir (h.is ∙ append_assoc h.head (47 ∷ []) (path_of t)) ∙ is_dir-at_slash h.head (path_of t)
@@ -359,7 +359,7 @@ unfolding join_refusal
 join_refuses_nothing t [] l h k n = absurd (omega arith)
 join_refuses_nothing t (b ∷ p) l h k n = let short : nat_le 3072 (length (joined t (b ∷ p))) ≡ false = grind (arith, nat_tests) in rw (h, k, short) refl
 
--- what a join that refuses nothing has tested
+-- what a join that rejects nothing has tested
 pub join_tested : (t p : List ℕ) → join_refusal t p ≡ None → (list_all is_uri_byte p ≡ true) × (names_refusal (segments p) ≡ None)
 unfolding join_refusal path_refusal
 join_tested t [] h = (refl, ap names_refusal segments-empty)
@@ -389,7 +389,7 @@ joined-empty t p e = rw e refl
 
 -- ---- the parent
 
--- where a path is cut behind a slash, its segments are cut too
+-- where a path is cut after a slash, its segments are cut too
 pub segments-closed : (f p : List ℕ) → is_dir f ≡ true → segments (f ++ p) ≡ segments f ++ segments p
 segments-closed f p h = ap (λ s. segments (s ++ p)) (sym (with_slash-dir f h)) ∙ segments-joined f p
 

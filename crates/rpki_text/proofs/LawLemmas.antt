@@ -15,7 +15,7 @@ use Rattle.rpki_text.specs.UriText.{lowercase}
 use Rattle.rpki_text.specs.RsyncText.{authority_of, module_name_of, path_of, IsRsync, IsCut, uri_of, Spells, rsync_refusal, path_refusal, names_refusal}
 use Rattle.rpki_text.proofs.UriLemmas.{module_places, after_first-drop, refuses_nothing}
 
--- a list with a slash is what stands before it, the slash, and what stands behind
+-- a list with a slash is what stands before it, the slash, and what follows
 at_slash : (s : List ℕ) → position_or_len is_slash s < length s → s ≡ before_first is_slash s ++ codes "/" ++ after_first is_slash s
 at_slash s h =
     split_at_first is_slash s 0 h ∙ ap (λ b. before_first is_slash s ++ (b ∷ after_first is_slash s)) (eqb-true _ 47 (passes_at_first is_slash s 0 h)) ∙ sym (append_assoc (before_first is_slash s) (47 ∷ []) (after_first is_slash s))

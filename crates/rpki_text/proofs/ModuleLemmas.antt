@@ -44,7 +44,7 @@ pub lower_site : (t site : List ℕ) → lowercase site ≡ codes "rsync://" ++ 
 lower_site t site low is same =
     append_cancel_right _ _ (module_name_of t) (append_cancel_right _ _ (codes "/") (canonical_by t (lowercase site) low ∙ same ∙ is))
 
--- so it takes no memory where a test says that there is one
+-- so it allocates nothing where a test says that there is one
 pub lent : {P : Type 0} (t site : List ℕ) (b : Bool) → lowercase site ≡ codes "rsync://" ++ lowercase (authority_of t) ++ codes "/"
     → module_of t ≡ site ++ module_name_of t ++ codes "/" → IsTrue b ↔ (lowercase site ≡ site) → b ≡ false → canonical_module_of t ≡ module_of t → P
 lent t site true low is test h same = absurd (cc)

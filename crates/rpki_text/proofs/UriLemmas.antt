@@ -66,7 +66,7 @@ module_places t a m ea em h =
     let l : length (drop (9 + a) t) ≡ length t - (9 + a) = length-drop (9 + a) t in
     record { some_authority = grind (arith, nat_tests); some_module = grind (arith, nat_tests); fits = grind (arith, nat_tests) }
 
--- the refusal, test by test
+-- the error, test by test
 pub refuses_characters : (t : List ℕ) → list_all is_uri_byte t ≡ false → rsync_refusal t ≡ Some InvalidCharacters
 unfolding rsync_refusal
 refuses_characters t h = rw h refl

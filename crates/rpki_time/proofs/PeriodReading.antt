@@ -120,7 +120,7 @@ period_same p q y z = (
   period_octets-cut : (p : Period) → period_octets (cut_period p) ≡ period_octets p
   period_octets-cut p = ap (tlv sequence true) (both _ _ _ _ (time_octets-cut p.not_before) (time_octets-cut p.not_after))
 
--- the reader takes no memory
+-- the reader allocates nothing
 pub period_no_memory : (s : List ℕ) → IsOuterFault sequence true s OutOfMemory → ⊥
 period_no_memory s h = h.other refl
 

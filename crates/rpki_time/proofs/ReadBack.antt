@@ -1,4 +1,4 @@
--- What a reader answers where the octets are known.
+-- What a reader returns where the octets are known.
 use Rattle.std.proofs.Common.{◌+◌, ◌<◌, [], ◌∷◌, ◌≡◌, ℕ, ◌≤◌, Bool, List, ◌++◌, length, drop, Result, Ok, Err, refl, ap, subst, arith, length-append}
 use Rattle.std.proofs.lemmas.List.{take_at, drop_at}
 use Rattle.rpki_der.specs.declared.error.DecodeError.{DecodeError}
@@ -31,7 +31,7 @@ contents_there t f s c r v =
     let P : List ℕ → Type 0 = λ x. Accepts (SpellsContents t f) s x (drop (length c) (c ++ r)) in
     subst (λ (x : List ℕ). Accepts (SpellsContents t f) s c x) (drop_at c r (length c) refl) (subst P (take_at c r (length c) refl) k)
 
--- the same of whichever tag and form is wanted
+-- the same for any tag and form that is wanted
 pub flat_there : (W : TagName → Bool → Type 0) (t : TagName) (f : Bool) (s c r : List ℕ) → W t f → Spells (SpellsContents t f) s c r → (let x : TagName × Bool × List ℕ = (t, f, c) in Accepts (SpellsFlat W) s x r)
 flat_there W t f s c r w v =
     let a = header_there s (header_of t f (length c)) (c ++ r) (value-header t f s c r v) in
@@ -45,7 +45,7 @@ pub leaf_there : {V : Type 0} (t : TagName) (f : Bool) (C : V → List ℕ → T
 leaf_there t f C s v r k one =
     leaf-accepted t f C s k.spelled.contents r v (contents_there t f s k.spelled.contents r (record { front = k.front; parts = k.parts; spelled = k.spelled.value })) k.spelled.spelled one
 
--- a reader that takes no memory reads what is there
+-- a reader that allocates nothing reads what is there
 pub reads_back : {V : Type 0} (G : V → List ℕ → Type 0) (K : List ℕ → DecodeError → Type 0) (s r : List ℕ) (x : Result V DecodeError) (v : V) (q : List ℕ)
     → (K s OutOfMemory → ⊥) → Reads (λ w. w) G K s r x → Accepts G s v q → (x ≡ Ok v) × (r ≡ q)
 reads_back G K s r (Ok w) v q never h a = let e = a.only w r h.spells in (ap Ok e.0, e.1)

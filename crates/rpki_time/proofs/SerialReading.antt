@@ -1,4 +1,4 @@
--- A serial number in an INTEGER that is not negative.
+-- A serial number in a non-negative INTEGER.
 use Rattle.std.proofs.Common.{◌≤◌, ◌+◌, ◌≡◌, ◌↔◌, ℕ, ◌<◌, ◌^◌, false, List, [], ◌++◌, length, Result, Ok, Err, IfOk, lit<, refl, sym, ap, subst, ◌∙◌, arith}
 use Rattle.std.specs.Prelude.{codes}
 use Rattle.rpki_der.specs.declared.error.ContentError.{ContentError}
@@ -27,7 +27,7 @@ SpellsUnsigned = SpellsLeaf integer false IsUnsigned
 abbrev IsUnsignedFault : List ℕ → DecodeError → Type 0
 IsUnsignedFault = IsLeafFault integer false IsUnsigned
 
--- the INTEGER of a serial number is one that is not negative
+-- the INTEGER of a serial number is a non-negative one
 is_unsigned : (s : List ℕ) (n : ℕ) (r : List ℕ) → Spells SpellsSerial s n r → Spells SpellsUnsigned s n r
 is_unsigned s n r k = record { front = k.front; parts = k.parts; spelled = record { contents = k.spelled.contents; value = k.spelled.value; spelled = k.spelled.spelled.0 } }
 

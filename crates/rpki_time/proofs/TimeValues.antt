@@ -105,7 +105,7 @@ time_same t u yt yu = (
   λ e. sym (time_octets-cut t) ∙ ap time_octets e ∙ time_octets-cut u,
 )
 
--- ---- what the reader answers
+-- ---- what the reader returns
 
 pub time_read_back : (s r : List ℕ) (x : Result DateTime DecodeError) (t : DateTime) (q : List ℕ) → Reads (λ w. w) SpellsTime IsTimeFault s r x → Spells SpellsTime s t q → (x ≡ Ok t) × (r ≡ q)
 time_read_back s r x t q h k = reads_back SpellsTime IsTimeFault s r x t q (λ never. never) h (time_there s t q k)

@@ -1,5 +1,5 @@
-//! The texts of times: UTC time, YYMMDDHHMMSSZ, and generalized time, YYYYMMDDHHMMSSZ (X.690 11.7, 11.8; RFC 5280
-//! 4.1.2.5).
+//! The texts of times: UTC time, YYMMDDHHMMSSZ, and generalized time, YYYYMMDDHHMMSSZ (X.690 11.7, 11.8;
+//! RFC 5280 4.1.2.5).
 
 ghost use Rattle.std.specs.Prelude.{◌≡◌, ◌↔◌, ◌+◌, ◌<◌, ◌≤◌, ℕ, ℤ, pos, length, IfSome, IfNone};
 ghost use Rattle.jiff.specs.Types.{DateTime as Civil};

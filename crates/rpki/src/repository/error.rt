@@ -115,7 +115,7 @@ impl From<SignatureVerificationError> for VerificationError {
     }
 }
 
-/// The error that reports it of a certificate.
+/// The error of a certificate that is not yet valid or has expired.
 impl From<ValidityPeriodError> for VerificationError {
     ghost use Rattle.rpki_der.specs.ErrorText.{text_of};
     ghost use Rattle.rpki.specs.ErrorContent.{verification_content};

@@ -23,7 +23,7 @@ const MIDDLE: [u8; 20] = [
     0x80, 1, 2, 3, 4, 5, 6, 7, 8, 9, 10, 11, 12, 13, 14, 15, 16, 17, 18, 0x80,
 ];
 
-// The same but for the first or the last octet, and how they stand to it: the first octet that differs decides.
+/// The same but for the first or the last octet, and how they stand to it: the first octet that differs decides.
 const OTHERS: &[(u8, u8, Ordering)] = &[
     (0x80, 0x80, Ordering::Equal),
     (0x7F, 0x80, Ordering::Less),

@@ -6,7 +6,7 @@ use rpki_der::{ContentError, DecodeError};
 use rpki_time::ValidityPeriodError;
 use std::test::Fail;
 
-// The five ways to one text.
+/// The five ways to one text.
 #[test]
 fn texts_are_passed_on(rt: HostRuntime) -> Result<(), Fail> {
     let content = ContentError::from_static("invalid name");
@@ -44,7 +44,7 @@ fn texts_of_what_is_not_vouched_for(rt: HostRuntime) -> Result<(), Fail> {
     Ok(())
 }
 
-// Equal where the kind and the text are.
+/// Equal where the kind and the text are.
 #[test]
 fn errors_are_compared(rt: HostRuntime) {
     let contents = [

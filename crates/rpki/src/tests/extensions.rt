@@ -6,7 +6,7 @@ use rpki_der::{Captured, Constructed, DecodeError, Values};
 use std::alloc::{AllocError, Global};
 use std::test::Fail;
 
-// Basic constraints, key usage and no known extension, as they are spelled; their parts, and what is written of them.
+/// Basic constraints, key usage and no known extension, as they are spelled; their parts, and what is written of them.
 struct Read {
     octets: &'static [u8],
     id: &'static [u8],
@@ -60,7 +60,7 @@ const READ: [Read; 4] = [
     },
 ];
 
-// Octets that no extension begins, and the number of the error.
+/// Octets that no extension begins, and the number of the error.
 const REFUSED: [(&[u8], u8); 13] = [
     (&[], 1),
     (&[0x31, 0x00], 4),
@@ -113,7 +113,7 @@ const REFUSED: [(&[u8], u8); 13] = [
     ),
 ];
 
-// What the optional reader returns: the number of its error, 0 for an extension and 9 for None.
+/// What the optional reader returns: the number of its error, 0 for an extension and 9 for None.
 const OPTIONAL: [(&[u8], u8); 6] = [
     (&[], 9),
     (&[0x31, 0x00], 9),
@@ -208,7 +208,7 @@ fn an_extension_may_be_absent(rt: HostRuntime) {
     }
 }
 
-// Other spellings, and whether they are equal to the first that is read.
+/// Other spellings, and whether they are equal to the first that is read.
 const COMPARED: [(&[u8], bool); 4] = [
     (
         &[

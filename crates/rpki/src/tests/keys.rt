@@ -43,11 +43,11 @@ pub(super) const KEY_OF_ABC: &[u8] =
 const KEY_AND_MORE: &[u8] =
     b"\x30\x15\x30\x0D\x06\x09\x2A\x86\x48\x86\xF7\x0D\x01\x01\x01\x05\x00\x03\x04\x00\x61\x62\x63\x00";
 
-// An octet after the bits, within the SEQUENCE.
+/// An octet after the bits, within the SEQUENCE.
 const KEY_WITH_MORE_INSIDE: &[u8] =
     b"\x30\x16\x30\x0D\x06\x09\x2A\x86\x48\x86\xF7\x0D\x01\x01\x01\x05\x00\x03\x04\x00\x61\x62\x63\x00";
 
-// The identifier of a signature algorithm where that of a format stands.
+/// The identifier of a signature algorithm where that of a format stands.
 const KEY_OF_NO_FORMAT: &[u8] =
     b"\x30\x13\x30\x0D\x06\x09\x2A\x86\x48\x86\xF7\x0D\x01\x01\x0B\x05\x00\x03\x02\x00\x80";
 
@@ -143,7 +143,7 @@ fn public_keys_are_read_one_by_one(rt: HostRuntime) -> Result<(), Fail> {
     Ok(())
 }
 
-// The bits 1000 0000, all of them or all but the last; and the same octet as bits of a P-256 key.
+/// The bits 1000 0000, all of them or all but the last; and the same octet as bits of a P-256 key.
 const EIGHT_BITS: &[u8] =
     b"\x30\x13\x30\x0D\x06\x09\x2A\x86\x48\x86\xF7\x0D\x01\x01\x01\x05\x00\x03\x02\x00\x80";
 

@@ -7,17 +7,17 @@ use rpki_der::{Captured, Constructed, ContentError, DecodeError};
 use std::alloc::Global;
 use std::test::Fail;
 
-// The name of one common name, A, as a PrintableString.
+/// The name of one common name, A, as a PrintableString.
 const NAME: [u8; 14] = [
     0x30, 0x0c, 0x31, 0x0a, 0x30, 0x08, 0x06, 0x03, 0x55, 0x04, 0x03, 0x13, 0x01, 0x41,
 ];
 
-// The same as a UTF8String.
+/// The same as a UTF8String.
 const UTF8_NAME: [u8; 14] = [
     0x30, 0x0c, 0x31, 0x0a, 0x30, 0x08, 0x06, 0x03, 0x55, 0x04, 0x03, 0x0c, 0x01, 0x41,
 ];
 
-// Octets that are no name, and why: the number of the error, and its text where that is one of contents.
+/// Octets that are no name, and why: the number of the error, and its text where that is one of contents.
 struct Refused {
     octets: &'static [u8],
     number: u8,
@@ -72,7 +72,7 @@ const REFUSED: [Refused; 8] = [
     },
 ];
 
-// Names, and the texts of the two strict inspections' errors, empty where there is none.
+/// Names, and the texts of the two strict inspections' errors, empty where there is none.
 struct Inspected {
     octets: &'static [u8],
     rpki: &'static str,
@@ -147,14 +147,14 @@ const INSPECTED: [Inspected; 9] = [
     },
 ];
 
-// The name that these octets begin with.
+/// The name that these octets begin with.
 fn name_of(alloc: Global, octets: &'static [u8]) -> Result<Name, DecodeError> {
     let source = Bytes::from_static(octets);
     let mut cons = Constructed::new(&source);
     Name::take_from(alloc, &mut cons)
 }
 
-// Whether the result is this error, or none where the text is empty.
+/// Whether the result is this error, or none where the text is empty.
 fn is_text(answer: Result<(), InspectionError>, text: &'static str) -> bool {
     match answer {
         Ok(()) => text.is_empty(),

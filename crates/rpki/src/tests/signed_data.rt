@@ -25,7 +25,7 @@ fn signature_of(
     }
 }
 
-// Algorithm identifiers and octets of signatures, and whether they are those of an identifier with parameters and AA.
+/// Algorithm identifiers and octets of signatures, and whether they are those of an identifier with parameters and AA.
 const SIGNATURES: &[(&[u8], &[u8], bool)] = &[
     (RSA_SIGNATURE, b"\xAA", true),
     (RSA_SIGNATURE_WITHOUT, b"\xAA", false),
@@ -172,7 +172,7 @@ fn signed_data_has_parts(rt: HostRuntime) -> Result<(), Fail> {
     Ok(())
 }
 
-// Octets that are no signed data, and the number of the error.
+/// Octets that are no signed data, and the number of the error.
 const REFUSED: &[(&[u8], u8)] = &[
     // two unused bits that are not zero
     (
@@ -210,7 +210,7 @@ fn other_octets_are_no_signed_data(rt: HostRuntime) {
     }
 }
 
-// Octets that begin with the three parts, and with signed data; a NULL follows in both.
+/// Octets that begin with the three parts, and with signed data; a NULL follows in both.
 const PARTS_AND_NULL: &[u8] =
     b"\x30\x00\x30\x0D\x06\x09\x2A\x86\x48\x86\xF7\x0D\x01\x01\x0B\x05\x00\x03\x02\x00\xAA\x05\x00";
 
@@ -233,8 +233,8 @@ fn read_front(
     Ok((signed, cons.rest().len()))
 }
 
-// Octets that begin with no parts of signed data, and the number of the error: nothing, a value that passes the end,
-// nothing after a value, and another algorithm.
+/// Octets that begin with no parts of signed data, and the number of the error: nothing, a value that passes the end,
+/// nothing after a value, and another algorithm.
 const NO_PARTS: &[(&[u8], u8)] = &[
     (b"", 1),
     (b"\x04\x05", 1),

@@ -2,7 +2,7 @@
 
 use crate::repository::x509::*;
 
-// An option, what an operation gives, and what the option is then.
+/// An option, what an operation gives, and what the option is then.
 const CASES: [(Option<u8>, Option<u8>, Option<u8>); 4] = [
     (None, None, None),
     (None, Some(1), Some(1)),

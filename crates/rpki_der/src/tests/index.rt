@@ -134,7 +134,7 @@ struct Parent {
     contents: &'static [u8],
 }
 
-// a SEQUENCE of a SEQUENCE around an empty SEQUENCE, and then of NULL, an empty SET and NULL
+/// a SEQUENCE of a SEQUENCE around an empty SEQUENCE, and then of NULL, an empty SET and NULL
 const NESTED: &[u8] = &[
     0x30, 0x0a, 0x30, 0x02, 0x30, 0x00, 0x05, 0x00, 0x31, 0x00, 0x05, 0x00,
 ];

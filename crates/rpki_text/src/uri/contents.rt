@@ -47,8 +47,8 @@ impl<'a> PrimitiveContent for &'a Rsync {
 }
 
 impl Rsync {
-    /// An encoder for the URI as a general name: its text, as it was spelled, under the context-specific tag 6 (RFC
-    /// 5280 4.2.1.6).
+    /// An encoder for the URI as a general name: its text, as it was spelled, under the context-specific tag 6
+    /// (RFC 5280 4.2.1.6).
     pub fn encode_general_name(&self) -> Primitive<&Rsync>
         ensures encoded { ⟦<Primitive<&'static Rsync> as Values>⟧.encoded result ≡ tlv context_6 false self.now }
         ensures short { ⟦<Primitive<&'static Rsync> as Values>⟧.is_short result ↔ (length self.now < 2 ^ 32) }
@@ -88,8 +88,8 @@ impl<'a> PrimitiveContent for &'a Https {
 }
 
 impl Https {
-    /// An encoder for the URI as a general name: its text, as it was spelled, under the context-specific tag 6 (RFC
-    /// 5280 4.2.1.6).
+    /// An encoder for the URI as a general name: its text, as it was spelled, under the context-specific tag 6
+    /// (RFC 5280 4.2.1.6).
     pub fn encode_general_name(&self) -> Primitive<&Https>
         ensures encoded { ⟦<Primitive<&'static Https> as Values>⟧.encoded result ≡ tlv context_6 false self.now }
         ensures short { ⟦<Primitive<&'static Https> as Values>⟧.is_short result ↔ (length self.now < 2 ^ 32) }

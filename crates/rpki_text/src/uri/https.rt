@@ -30,8 +30,8 @@ const SCHEME_LEN: usize = 8;
 /// An authority has fewer octets than this.
 const AUTHORITY_LIMIT: usize = 256;
 
-/// An https URI: an authority, which may be empty, and a path, which is empty or begins with a slash (RFC 9110 section
-/// 4.2.2, RFC 3986 section 3).
+/// An https URI: an authority, which may be empty, and a path, which is empty or begins with a slash (RFC 9110
+/// section 4.2.2, RFC 3986 section 3).
 ///
 /// It keeps the text that it was spelled with. What the text stands for is the authority in lower case and the path;
 /// equality and hash go by these.

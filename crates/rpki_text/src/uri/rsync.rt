@@ -351,7 +351,8 @@ impl Rsync {
     }
 
     /// The URI with the path's segments appended to its own, and this text as its prefix; a slash is put between if
-    /// this one's text ends without one. An empty path gives a copy. `relative_to` gives the path back.
+    /// this one's text ends without one. An empty path gives a copy, for which the only error is `Error::OutOfMemory`.
+    /// `relative_to` gives the path back.
     ///
     /// For a path that is not empty, returns the first of these errors that applies: `Error::InvalidCharacters`;
     /// `Error::LongUri` for 3,072 octets or more of path; the error of its segments, as in `from_bytes`;

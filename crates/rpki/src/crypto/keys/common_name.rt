@@ -10,8 +10,8 @@ use rpki_der::{PrimitiveContent, Tag, write_whole};
 use std::io;
 use std::io::Write;
 
-/// The common name of a key: the forty hexadecimal digits of its identifier, as the contents of a PrintableString (RFC
-/// 6487 4.5).
+/// The common name of a key: the forty hexadecimal digits of its identifier, as the contents of a PrintableString
+/// (RFC 6487 4.5).
 #[derive(Clone, Copy, Debug)]
 pub struct PublicKeyCn {
     digits: [u8; 40],

@@ -89,8 +89,8 @@ impl PublicKey {
         self.algorithm.allow_router_cert()
     }
 
-    /// The key identifier: the SHA-1 digest of the octets of the bits, without the count of unused bits (RFC 6487
-    /// 4.8.2). The provider computes the digest.
+    /// The key identifier: the SHA-1 digest of the octets of the bits, without the count of unused bits
+    /// (RFC 6487 4.8.2). The provider computes the digest.
     pub fn key_identifier<P: Provider>(&self, provider: &P) -> KeyIdentifier
         ensures value { result ≡ P.sha1_of provider.now self.now.bits.octets }
         ensures size { length result ≡ 20 }

@@ -1,4 +1,5 @@
--- `encode` meets its contract: a walk of its MIR by hand. After `written`, the buffer is shared for all the time that it was lent, so what it holds then is what its lender has back.
+-- `encode` meets its contract: a walk of its MIR by hand. After `written`, the buffer is shared for all the time that
+-- it was borrowed, so what it holds then is what its owner has back.
 -- A walk is a list of steps over a context, the things that are owned, which comments show as [first; second; ..].
 use Rattle.std.specs.Prelude.{⊤}
 use Rattle.std.proofs.Common.{◌≡◌, ℕ, ◌*◌, ◌≤◌, List, [], ◌∷◌, ◌++◌, length, take, drop, refl, ap, w8, Bor, MutBor}

@@ -11,7 +11,7 @@ use Rattle.rpki.specs.ExtensionValue.{extension_parts, IsExtensionContents}
 use Rattle.rpki.proofs.ExtensionLaws.{no-identifier, bad-flag, no-octets, more-behind, parts-read, one-contents}
 use Rattle.rpki.proofs.repository.x509.cert_extension.grammar.take_parts.Goals as goal
 
--- an error that takes no memory
+-- an error that is not allocation failure
 abbrev Another : List ℕ → DecodeError → Type 0
 Another s e = e ≢ OutOfMemory
 
