@@ -13,7 +13,8 @@ from typing import FrozenSet, List, NamedTuple
 from der import bits, nested, sequence
 from programs import run
 from vectors import (
-    EXTENSIONS, EXTENSIONS_WRITTEN, KEY, KEY_DIGITS, NAME, RSA_OF_NUMBERS, RSA_SIGNATURE, SIGNED, SUBJECT, USAGE,
+    EXTENSIONS, EXTENSIONS_WRITTEN, KEY, KEY_DIGITS, NAME, ORGANIZATION, ROUTER_ORGANIZATION, RSA_OF_NUMBERS,
+    RSA_SIGNATURE, SIGNED, SUBJECT, USAGE,
 )
 
 NOT_TOLD = (1, b"", b"out of memory\n")
@@ -169,6 +170,9 @@ WORDS = [
     (["uri"], b"rsync:///module/foo", 1, b"", b"refused 6\n"),
     (["ext"], EXTENSIONS, 0, EXTENSIONS_WRITTEN, b""),
     (["ext"], EXTENSIONS + b"\x30", 1, b"", b"refused 1\n"),
+    (["name"], ORGANIZATION, 0, b"rpki yes\nrouter yes\n", b""),
+    (["name"], ROUTER_ORGANIZATION, 0, b"rpki no\nrouter yes\n", b""),
+    (["name"], ORGANIZATION + b"\x00", 1, b"", b"refused 6\n"),
     ([], b"", 0, USAGE, b""),
     (["x"], b"", 2, b"", USAGE),
 ]

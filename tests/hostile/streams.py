@@ -7,7 +7,9 @@ import subprocess
 import tempfile
 
 from programs import Seen, run
-from vectors import EXTENSIONS, EXTENSIONS_WRITTEN, KEY, KEY_DIGITS, SIGNED, USAGE
+from vectors import (
+    EXTENSIONS, EXTENSIONS_WRITTEN, KEY, KEY_DIGITS, ORGANIZATION, ROUTER_ORGANIZATION, SIGNED, USAGE,
+)
 
 URI = b"rSync://hOst/module/foo/bar\n"
 
@@ -18,6 +20,7 @@ ANSWERED = [
     (["key"], KEY, KEY_DIGITS + b"\n"),
     (["uri"], URI, b"scheme rsync\nauthority host\nmodule module\npath foo/bar\n"),
     (["ext"], EXTENSIONS, EXTENSIONS_WRITTEN),
+    (["name"], ROUTER_ORGANIZATION, b"rpki no\nrouter yes\n"),
     ([], b"", USAGE),
 ]
 REFUSED = [
@@ -27,6 +30,7 @@ REFUSED = [
     (["key"], b"\x31\x00", 1, b"refused 4\n"),
     (["uri"], b"rsync:///module/foo", 1, b"refused 6\n"),
     (["ext"], EXTENSIONS + bytes.fromhex("3005 0603551D13"), 1, b"refused 1\n"),
+    (["name"], ORGANIZATION + b"\x00", 1, b"refused 6\n"),
 ]
 UNREAD = (1, b"", b"input could not be read\n")
 UNWRITTEN = b"output could not be written\n"

@@ -4,7 +4,7 @@ import hashlib
 from der import bits, sequence, tlv, unsigned
 
 # How the program `rpkibasic` is used.
-USAGE = b"usage: rpkibasic again|data|key|uri|ext\n"
+USAGE = b"usage: rpkibasic again|data|key|uri|ext|name\n"
 
 # Algorithm identifiers: RFC 8017 A.2.4 and A.1, RFC 5480 2.1.1, RFC 5754 2.2, RFC 5758 3.2.
 RSA_SIGNATURE = bytes.fromhex("300D06092A864886F70D01010B0500")
@@ -26,6 +26,10 @@ KEY_DIGITS = KEY_IDENTIFIER.hex().upper().encode()
 
 COMMON_NAME = bytes.fromhex("0603550403")
 NAME = bytes.fromhex("300C 310A 3008 0603550403 130141")
+# A name with an organization name before the common name; and the same where that is a UTF8String, as routers may
+# have it.
+ORGANIZATION = bytes.fromhex("3018 310A 3008 060355040A 130142 310A 3008 0603550403 130141")
+ROUTER_ORGANIZATION = bytes.fromhex("3018 310A 3008 060355040A 0C0142 310A 3008 0603550403 130141")
 SUBJECT = sequence(tlv(0x31, sequence(COMMON_NAME, tlv(0x13, KEY_DIGITS))))
 
 # The RSA key of the numbers 128 and 65,537 (RFC 8017 A.1.1).

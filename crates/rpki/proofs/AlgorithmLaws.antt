@@ -11,7 +11,7 @@ use Rattle.rpki_der.specs.Leaves.{IsNull, IsOnly}
 use Rattle.rpki.specs.Algorithm.{IsParameters, IsIdentified}
 use Rattle.rpki_der.proofs.ReadingLaws.{UnlessMemory-weaker}
 use Rattle.rpki_der.proofs.LeavesLaws.{leaf-tag}
-use Rattle.rpki_der.proofs.HeaderReads.{tag-empty}
+use Rattle.rpki_der.proofs.HeaderReadingLaws.{tag-empty}
 use Rattle.rpki.proofs.NamedLaws.{identified-read, no-parameters}
 
 whole : (p : List ℕ) → SpellsLeaf null false IsNull tt p → Spells (SpellsLeaf null false IsNull) p tt []

@@ -3,7 +3,7 @@ use Rattle.std.proofs.Common.{true, false, ◌<◌, ◌^◌, [], length, append-
 use Rattle.rpki_der.specs.TagName.{oid, sequence, set}
 use Rattle.rpki_der.specs.Header.{tlv}
 use Rattle.rpki_der.specs.Leaves.{IsOnly}
-use Rattle.rpki_der.specs.Joined.{sequence_legal, set_legal}
+use Rattle.rpki_der.specs.ValueListLaws.{sequence_legal, set_legal}
 use Rattle.rpki_der.proofs.EncodeLaws.{leaf_legal, tlv_at_most}
 use Rattle.rpki.specs.Oids.{sha256}
 use Rattle.rpki.specs.AlgorithmOctetsLaws.{oid-legal}

@@ -11,10 +11,10 @@ use Rattle.rpki_der.specs.Leaves.{IsOid, IsOidOf, IsBoolean, boolean_contents}
 use Rattle.rpki_der.specs.Front.{front_contents, after_front}
 use Rattle.rpki_der.specs.Members.{IsValue, IsValueList, SpellsValue}
 use Rattle.rpki_der.specs.Walk.{HasEither}
-use Rattle.rpki_der.specs.Joined.{primitive_value_list, value_lists_append, no_value_list}
+use Rattle.rpki_der.specs.ValueListLaws.{primitive_value_list, value_lists_append, no_value_list}
 use Rattle.rpki_der.proofs.ReadingLaws.{UnlessMemory-weaker}
 use Rattle.rpki_der.proofs.EncodeLaws.{tlv_at_least, tlv_at_most}
-use Rattle.rpki_der.proofs.LeafValues.{composed_value_alone}
+use Rattle.rpki_der.proofs.LeafValueLaws.{composed_value_alone}
 use Rattle.rpki_der.proofs.LeavesLaws.{leaf-tag, leaf-value}
 use Rattle.rpki_der.proofs.ComposedLaws.{all-read}
 use Rattle.rpki_der.proofs.InsideLaws.{no-memory, part-memory}
@@ -51,11 +51,11 @@ parts-are x c h = go h.critical
         rw (f.1, f.0, end, last, ← absent) refl
     go (inl b) =
         let f = first (h.second ++ h.third) h.parts in
-        let behind = after_front_of boolean false b.contents h.second h.third b.value in
+        let following = after_front_of boolean false b.contents h.second h.third b.value in
         let flag = front_contents_of boolean false b.contents h.second h.third b.value ∙ b.spelled in
         let last = contents_alone octet_string false x.content h.third h.content in
         let size : 2 ≤ length h.third = omega (arith, tlv_at_least octet_string false x.content, ap length h.content.octets) in
-        rw (f.1, f.0, behind, some-length h.third size, flag, last, is-true x.critical) refl
+        rw (f.1, f.0, following, some-length h.third size, flag, last, is-true x.critical) refl
 
 -- octets that are an extension stand for its parts
 pub extension-is : (x : ExtensionParts) (p : List ℕ) → SpellsExtension x p → parts_of_extension p ≡ x
@@ -124,8 +124,8 @@ pub no-octets : (c i m r : List ℕ) (p : Option Bool) → Accepts Identifier c 
 no-octets c i m r p a f none x h =
     none x.content [] (record { front = h.third; parts = sym (left-octets x c i m r p a f h) ∙ sym (append-nil h.third); spelled = h.content })
 
-pub more-behind : (c i m r o q : List ℕ) (p : Option Bool) → Accepts Identifier c i m → AnswersFlag m r p → Accepts Octets r o q → (q ≡ [] → ⊥) → SpellsNothing IsExtensionContents c
-more-behind c i m r o q p a f g some x h =
+pub more-following : (c i m r o q : List ℕ) (p : Option Bool) → Accepts Identifier c i m → AnswersFlag m r p → Accepts Octets r o q → (q ≡ [] → ⊥) → SpellsNothing IsExtensionContents c
+more-following c i m r o q p a f g some x h =
     some (sym (g.only x.content [] (record { front = h.third; parts = sym (left-octets x c i m r p a f h) ∙ sym (append-nil h.third); spelled = h.content })).1)
 
 pub parts-read : (c i m r o q : List ℕ) (p : Option Bool) → Accepts Identifier c i m → AnswersFlag m r p → Accepts Octets r o q → q ≡ [] → IsExtensionContents (extension_parts i (unwrap_or p false) o) c

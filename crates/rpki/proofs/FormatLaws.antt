@@ -8,7 +8,7 @@ use Rattle.rpki_der.specs.Composed.{ReadsAll}
 use Rattle.rpki_der.proofs.ReadingLaws.{UnlessMemory-weaker}
 use Rattle.rpki_der.specs.Values.{SpellsLeaf}
 use Rattle.rpki_der.specs.Leaves.{IsOid, IsOidOf, IsOnly, IsNull}
-use Rattle.rpki_der.specs.Joined.{sequence_legal}
+use Rattle.rpki_der.specs.ValueListLaws.{sequence_legal}
 use Rattle.rpki_der.proofs.EncodeLaws.{leaf_legal, tlv_at_most}
 use Rattle.rpki.specs.declared.crypto.keys.PublicKeyFormat.{PublicKeyFormat}
 use Rattle.rpki.specs.declared.crypto.keys.PublicKeyFormat.TheVariants.{Rsa, EcdsaP256}
@@ -18,7 +18,7 @@ use Rattle.rpki.specs.AlgorithmOctets.{parameters_octets, identified_octets}
 use Rattle.rpki.specs.AlgorithmOctetsLaws.{identified-short, oid-legal, null-legal}
 use Rattle.rpki.specs.KeyFormat.{IsFormatContents, SpellsFormat, format_contents, format_octets}
 use Rattle.rpki.specs.SignatureNames.{IsCmsContents}
-use Rattle.rpki.proofs.InOrderLaws.{both-read, no-first, no-second}
+use Rattle.rpki.proofs.TwoPartsLaws.{both-read, no-first, no-second}
 use Rattle.rpki.proofs.NamedLaws.{plain-oid, named, one-name, other-name, no-name, identified-read, not-identified, no-parameters}
 
 rsa-valid : IsOid rsa_encryption

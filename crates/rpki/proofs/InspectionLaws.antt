@@ -14,10 +14,10 @@ use Rattle.rpki_der.specs.Reading.{Spells, Accepts, Refuses, Refusal, UnlessMemo
 use Rattle.rpki_der.specs.Values.{SpellsContents, SpellsLeaf, IsContentsFault, IsLeafFault, IsOuterFault}
 use Rattle.rpki_der.proofs.LeavesLaws.{leaf-value, leaf-no-memory, contents-no-memory}
 use Rattle.rpki_der.proofs.ComposedLaws.{all-read, nothing-whole, spelled-whole}
-use Rattle.rpki.specs.Oids.{common_name, serial_number}
+use Rattle.rpki.specs.Oids.{common_name, serial_number, organization_name}
 use Rattle.rpki.specs.Name.{Attribute, IsIdentifierThen, SpellsAttribute, SpellsEach, SpellsName, IsName}
 use Rattle.rpki.specs.StrictName.{has_identifier, count_of, IsKnown, IsStrict, attributes, IsNameOf}
-use Rattle.rpki.specs.InspectName.{Findings, IsFound}
+use Rattle.rpki.specs.Findings.{Findings, IsFound}
 use Rattle.rpki.proofs.NameLaws.{attribute-identified}
 
 -- ---- errors of readers that allocate nothing
@@ -57,27 +57,42 @@ all-one P a h = All-cons P a [] h (All-nil P)
 found-more : (P : List ℕ → Type 0) (x y : Findings) (before : List Attribute) (a : Attribute) → IsFound P x before
     → cond y.common 1 0 ≡ cond x.common 1 0 + cond (has_identifier common_name a) 1 0
     → cond y.serial 1 0 ≡ cond x.serial 1 0 + cond (has_identifier serial_number a) 1 0
+    → cond y.organization 1 0 ≡ cond x.organization 1 0 + cond (has_identifier organization_name a) 1 0
     → IsKnown a → P a.value → IsFound P y (before ++ a ∷ [])
-found-more P x y before a h c s known permitted = record {
+found-more P x y before a h c s o known permitted = record {
   common = count-append common_name before (a ∷ []) ∙ omega (arith, h.common, count-one common_name a, c);
   serial = count-append serial_number before (a ∷ []) ∙ omega (arith, h.serial, count-one serial_number a, s);
+  organization = count-append organization_name before (a ∷ []) ∙ omega (arith, h.organization, count-one organization_name a, o);
   known = All-append IsKnown before (a ∷ []) h.known (all-one IsKnown a known);
   strings = All-append (λ b. P b.value) before (a ∷ []) h.strings (all-one (λ b. P b.value) a permitted);
 }
 
 pub found-common : (P : List ℕ → Type 0) (x : Findings) (before : List Attribute) (a : Attribute) → IsFound P x before → x.common ≡ false → pointwise nat_eq a.identifier common_name ≡ true → P a.value
-    → IsFound P (record { common = true; serial = x.serial }) (before ++ a ∷ [])
+    → IsFound P (record { common = true; serial = x.serial; organization = x.organization }) (before ++ a ∷ [])
 found-common P x before a h none is permitted =
     let name : a.identifier ≡ common_name = same-octets a.identifier common_name is in
-    let other : has_identifier serial_number a ≡ false = rw name refl in
-    found-more P x (record { common = true; serial = x.serial }) before a h (rw (none, is) refl) (rw other (omega arith)) (inl name) permitted
+    let serial : has_identifier serial_number a ≡ false = rw name refl in
+    let organization : has_identifier organization_name a ≡ false = rw name refl in
+    found-more P x (record { common = true; serial = x.serial; organization = x.organization }) before a h
+    (rw (none, is) refl) (rw serial (omega arith)) (rw organization (omega arith)) (inl name) permitted
 
 pub found-serial : (P : List ℕ → Type 0) (x : Findings) (before : List Attribute) (a : Attribute) → IsFound P x before → x.serial ≡ false → pointwise nat_eq a.identifier serial_number ≡ true → P a.value
-    → IsFound P (record { common = x.common; serial = true }) (before ++ a ∷ [])
+    → IsFound P (record { common = x.common; serial = true; organization = x.organization }) (before ++ a ∷ [])
 found-serial P x before a h none is permitted =
     let name : a.identifier ≡ serial_number = same-octets a.identifier serial_number is in
-    let other : has_identifier common_name a ≡ false = rw name refl in
-    found-more P x (record { common = x.common; serial = true }) before a h (rw other (omega arith)) (rw (none, is) refl) (inr name) permitted
+    let common : has_identifier common_name a ≡ false = rw name refl in
+    let organization : has_identifier organization_name a ≡ false = rw name refl in
+    found-more P x (record { common = x.common; serial = true; organization = x.organization }) before a h
+    (rw common (omega arith)) (rw (none, is) refl) (rw organization (omega arith)) (inr (inl name)) permitted
+
+pub found-organization : (P : List ℕ → Type 0) (x : Findings) (before : List Attribute) (a : Attribute) → IsFound P x before → x.organization ≡ false → pointwise nat_eq a.identifier organization_name ≡ true → P a.value
+    → IsFound P (record { common = x.common; serial = x.serial; organization = true }) (before ++ a ∷ [])
+found-organization P x before a h none is permitted =
+    let name : a.identifier ≡ organization_name = same-octets a.identifier organization_name is in
+    let common : has_identifier common_name a ≡ false = rw name refl in
+    let serial : has_identifier serial_number a ≡ false = rw name refl in
+    found-more P x (record { common = x.common; serial = x.serial; organization = true }) before a h
+    (rw common (omega arith)) (rw serial (omega arith)) (rw (none, is) refl) (inr (inr name)) permitted
 
 -- ---- an attribute that no strict name has after those that were found
 
@@ -103,12 +118,21 @@ pub second-serial : (P : List ℕ → Type 0) (x : Findings) (before rest : List
     → IsStrict P ((before ++ a ∷ []) ++ rest) → ⊥
 second-serial P x before rest a f one is strict = two-of serial_number before rest a (let g = rw one at f.serial in g) is strict.serial
 
+pub second-organization : (P : List ℕ → Type 0) (x : Findings) (before rest : List Attribute) (a : Attribute) → IsFound P x before → x.organization ≡ true → pointwise nat_eq a.identifier organization_name ≡ true
+    → IsStrict P ((before ++ a ∷ []) ++ rest) → ⊥
+second-organization P x before rest a f one is strict =
+    two-of organization_name before rest a (let g = rw one at f.organization in g) is strict.organization
+
 not-of : (o : List ℕ) (a : Attribute) → pointwise nat_eq a.identifier o ≡ false → a.identifier ≡ o → ⊥
 not-of o a differs e = let same : pointwise nat_eq a.identifier o ≡ true = (pointwise_decides Decides-eqb a.identifier o).1 e in let both = sym same ∙ differs in absurd (cc)
 
 pub other-attribute : (P : List ℕ → Type 0) (before rest : List Attribute) (a : Attribute) → pointwise nat_eq a.identifier common_name ≡ false → pointwise nat_eq a.identifier serial_number ≡ false
-    → IsStrict P ((before ++ a ∷ []) ++ rest) → ⊥
-other-attribute P before rest a common serial strict = elim (all-with IsKnown before rest a strict.known) [ inl e ↦ not-of common_name a common e | inr e ↦ not-of serial_number a serial e ]
+    → pointwise nat_eq a.identifier organization_name ≡ false → IsStrict P ((before ++ a ∷ []) ++ rest) → ⊥
+other-attribute P before rest a common serial organization strict = elim (all-with IsKnown before rest a strict.known) [
+  | inl e ↦ not-of common_name a common e
+  | inr (inl e) ↦ not-of serial_number a serial e
+  | inr (inr e) ↦ not-of organization_name a organization e
+]
 
 pub other-string : (P : List ℕ → Type 0) (before rest : List Attribute) (a : Attribute) → (P a.value → ⊥) → IsStrict P ((before ++ a ∷ []) ++ rest) → ⊥
 other-string P before rest a none strict = none (all-with (λ b. P b.value) before rest a strict.strings)
@@ -133,7 +157,7 @@ pub record Middle {V : Type 0} (G : V → List ℕ → Type 0) (join : List V �
   pub done : List V
   pub todo : List V
   pub split : vs ≡ done ++ todo
-  pub behind : SpellsEach G todo m
+  pub following : SpellsEach G todo m
   pub found : (before : List Attribute) → IsFound P x before → IsFound P y (before ++ join done)
 
 abbrev pub Through : {V : Type 0} → (V → List ℕ → Type 0) → (List V → List Attribute) → (List ℕ → Type 0) → Findings → Findings → List ℕ → List ℕ → Type 0
@@ -144,23 +168,23 @@ through-nothing G join P x c j vs h = record {
   done = [];
   todo = vs;
   split = refl;
-  behind = h;
+  following = h;
   found = λ before f. subst (IsFound P x) (sym (ap (λ (l : List Attribute). before ++ l) j.none ∙ append-nil before)) f;
 }
 
 pub through-more : {V : Type 0} (G : V → List ℕ → Type 0) (join : List V → List Attribute) (P : List ℕ → Type 0) (x y z : Findings) (c m r : List ℕ) → IsJoin join → (m ≡ [] → ⊥) → Through G join P x y c m
     → ((v : V) (q : List ℕ) → Spells G m v q → (q ≡ r) × ((before : List Attribute) → IsFound P y before → IsFound P z (before ++ join (v ∷ [])))) → Through G join P x z c r
-through-more {V} G join P x y z c m r j some t step vs h = let g = t vs h in next g.done g.todo g.split g.behind g.found
+through-more {V} G join P x y z c m r j some t step vs h = let g = t vs h in next g.done g.todo g.split g.following g.found
   where
     next : (done todo : List V) → vs ≡ done ++ todo → SpellsEach G todo m → ((before : List Attribute) → IsFound P x before → IsFound P y (before ++ join done)) → Middle G join P x z vs r
-    next done [] split behind found = absurd (some behind)
-    next done (v ∷ ws) split behind found =
-        let k = step v behind.0 behind.1 in
+    next done [] split following found = absurd (some following)
+    next done (v ∷ ws) split following found =
+        let k = step v following.0 following.1 in
         record {
           done = done ++ v ∷ [];
           todo = ws;
           split = split ∙ sym (append_assoc done (v ∷ []) ws);
-          behind = subst (SpellsEach G ws) k.0 behind.2;
+          following = subst (SpellsEach G ws) k.0 following.2;
           found = λ before f.
               subst (IsFound P z) (append_assoc before (join done) (join (v ∷ [])) ∙ ap (λ (l : List Attribute). before ++ l) (sym (j.more done (v ∷ [])))) (k.1 (before ++ join done) (found before f));
         }
@@ -171,22 +195,22 @@ regroup a b d e g = simp append_assoc
 pub through-refused : {V : Type 0} (G : V → List ℕ → Type 0) (join : List V → List Attribute) (P : List ℕ → Type 0) (x y : Findings) (c m : List ℕ) → IsJoin join → (m ≡ [] → ⊥) → Through G join P x y c m
     → ((v : V) (q : List ℕ) → Spells G m v q → (before rest : List Attribute) → IsFound P y before → IsStrict P ((before ++ join (v ∷ [])) ++ rest) → ⊥)
     → (vs : List V) → SpellsEach G vs c → (before rest : List Attribute) → IsFound P x before → IsStrict P ((before ++ join vs) ++ rest) → ⊥
-through-refused {V} G join P x y c m j some t refused vs h before rest f strict = let g = t vs h in next g.done g.todo g.split g.behind (g.found before f)
+through-refused {V} G join P x y c m j some t refused vs h before rest f strict = let g = t vs h in next g.done g.todo g.split g.following (g.found before f)
   where
     next : (done todo : List V) → vs ≡ done ++ todo → SpellsEach G todo m → IsFound P y (before ++ join done) → ⊥
-    next done [] split behind found = some behind
-    next done (v ∷ ws) split behind found =
+    next done [] split following found = some following
+    next done (v ∷ ws) split following found =
         let joined : join vs ≡ join done ++ (join (v ∷ []) ++ join ws) = ap join split ∙ j.more done (v ∷ ws) ∙ ap (λ (l : List Attribute). join done ++ l) (j.more (v ∷ []) ws) in
-        refused v behind.0 behind.1 (before ++ join done) (join ws ++ rest) found
+        refused v following.0 following.1 (before ++ join done) (join ws ++ rest) found
         (subst (IsStrict P) (ap (λ (l : List Attribute). (before ++ l) ++ rest) joined ∙ regroup before (join done) (join (v ∷ [])) (join ws) rest) strict)
 
 pub through-all : {V : Type 0} (G : V → List ℕ → Type 0) (join : List V → List Attribute) (P : List ℕ → Type 0) (x y : Findings) (c m : List ℕ) → ((v : V) (q : List ℕ) → Spells G m v q → ⊥) → Through G join P x y c m
     → (vs : List V) → SpellsEach G vs c → (before : List Attribute) → IsFound P x before → IsFound P y (before ++ join vs)
-through-all {V} G join P x y c m nowhere t vs h before f = let g = t vs h in next g.done g.todo g.split g.behind (g.found before f)
+through-all {V} G join P x y c m nowhere t vs h before f = let g = t vs h in next g.done g.todo g.split g.following (g.found before f)
   where
     next : (done todo : List V) → vs ≡ done ++ todo → SpellsEach G todo m → IsFound P y (before ++ join done) → IsFound P y (before ++ join vs)
-    next done [] split behind found = subst (λ (l : List V). IsFound P y (before ++ join l)) (sym (split ∙ append-nil done)) found
-    next done (v ∷ ws) split behind found = absurd (nowhere v behind.0 behind.1)
+    next done [] split following found = subst (λ (l : List V). IsFound P y (before ++ join l)) (sym (split ∙ append-nil done)) found
+    next done (v ∷ ws) split following found = absurd (nowhere v following.0 following.1)
 
 -- ---- an attribute at the front
 
@@ -211,11 +235,11 @@ these-contents t C m r c h v q g =
 
 -- ---- the whole name
 
-pub nothing-found : (P : List ℕ → Type 0) → IsFound P (record { common = false; serial = false }) []
-nothing-found P = record { common = refl; serial = refl; known = All-nil IsKnown; strings = All-nil (λ a. P a.value) }
+pub nothing-found : (P : List ℕ → Type 0) → IsFound P (record { common = false; serial = false; organization = false }) []
+nothing-found P = record { common = refl; serial = refl; organization = refl; known = All-nil IsKnown; strings = All-nil (λ a. P a.value) }
 
 pub never-strict : (P : List ℕ → Type 0) (xs : List Attribute)
-    → ((before rest : List Attribute) → IsFound P (record { common = false; serial = false }) before → IsStrict P ((before ++ xs) ++ rest) → ⊥) → IsStrict P xs → ⊥
+    → ((before rest : List Attribute) → IsFound P (record { common = false; serial = false; organization = false }) before → IsStrict P ((before ++ xs) ++ rest) → ⊥) → IsStrict P xs → ⊥
 never-strict P xs h strict = h [] [] (nothing-found P) (subst (IsStrict P) (sym (append-nil xs)) strict)
 
 pub is-not : (b : Bool) → not b ≡ true → b ≡ false
@@ -237,6 +261,7 @@ pub found-strict : (P : List ℕ → Type 0) (x : Findings) (xs : List Attribute
 found-strict P x xs f one = record {
   common = let g = rw one at f.common in g;
   serial = omega (arith, f.serial, at-most-one x.serial);
+  organization = omega (arith, f.organization, at-most-one x.organization);
   known = f.known;
   strings = f.strings;
 }

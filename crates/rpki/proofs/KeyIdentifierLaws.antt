@@ -9,16 +9,17 @@ use Rattle.rpki_der.specs.Reading.{Accepts, Refusal}
 use Rattle.rpki_der.specs.Values.{SpellsContents, SpellsLeaf, IsContentsFault}
 use Rattle.rpki_der.proofs.LeavesLaws.{leaf-refused, leaf-accepted, leaf-bad, dropped-refused, dropped-accepted}
 use Rattle.rpki_der.specs.Header.{tlv}
-use Rattle.rpki_der.specs.Joined.{octet_string_legal}
+use Rattle.rpki_der.specs.ValueListLaws.{octet_string_legal}
 use Rattle.rpki_der.proofs.EncodeLaws.{leaf_legal, tlv_same}
 use Rattle.rpki_text.specs.HexText.{hex_digit, hex_text}
 use Rattle.std.proofs.Math.ListN.{set}
 use Rattle.std.proofs.lemmas.List.{length-map, get_or-map, take_more, take_more_set, take_all, map-append}
-use Rattle.rpki_text.proofs.HexLemmas.{length-hex_text, hex_text-append}
+use Rattle.rpki_text.proofs.HexLaws.{length-hex_text, hex_text-append}
 use Rattle.std.specs.List.{flat_map}
 use Rattle.std.specs.Hash.{u8, slice}
-use Rattle.rpki.specs.Unknown.{IsContentWith}
-use Rattle.rpki.specs.KeyIdentifier.{IsKeyIdentifier, SpellsKeyIdentifier, IsAnyKeyIdentifier, identifier_error, TellsOfContents, IsIdentifierFault, IsHexOf}
+use Rattle.rpki.specs.UnknownAlgorithm.{IsContentWith}
+use Rattle.rpki.specs.AnyValue.{SpellsAny}
+use Rattle.rpki.specs.KeyIdentifier.{IsKeyIdentifier, SpellsKeyIdentifier, identifier_error, TellsOfContents, IsIdentifierFault, IsHexOf}
 
 tells : (s : List ℕ) (e : DecodeError) → IsContentsFault octet_string false s e → TellsOfContents e
 tells s Truncated h = tt
@@ -58,12 +59,12 @@ identifier-same k l size size' = (λ e. tlv_same octet_string false k l (omega a
 
 -- the identifier is dropped
 
-pub any-read : (s k r : List ℕ) → Accepts SpellsKeyIdentifier s k r → Accepts (SpellsLeaf octet_string false IsAnyKeyIdentifier) s tt r
-any-read s k r a = dropped-accepted octet_string false IsKeyIdentifier IsAnyKeyIdentifier s k r (λ w c h. h.size) (λ c h. (c, record { same = refl; size = h })) a
+pub any-read : (s k r : List ℕ) → Accepts SpellsKeyIdentifier s k r → Accepts (SpellsLeaf octet_string false (SpellsAny IsKeyIdentifier)) s tt r
+any-read s k r a = dropped-accepted octet_string false IsKeyIdentifier (SpellsAny IsKeyIdentifier) s k r (λ w c h. (w, h)) (λ c h. h) a
 
-pub any-refused : (s r : List ℕ) (e : DecodeError) → Refusal SpellsKeyIdentifier (IsIdentifierFault IsKeyIdentifier) s r e → Refusal (SpellsLeaf octet_string false IsAnyKeyIdentifier) (IsIdentifierFault IsAnyKeyIdentifier) s r e
+pub any-refused : (s r : List ℕ) (e : DecodeError) → Refusal SpellsKeyIdentifier (IsIdentifierFault IsKeyIdentifier) s r e → Refusal (SpellsLeaf octet_string false (SpellsAny IsKeyIdentifier)) (IsIdentifierFault (SpellsAny IsKeyIdentifier)) s r e
 any-refused s r e h =
-    let k = dropped-refused octet_string false IsKeyIdentifier IsAnyKeyIdentifier s r e (λ c g. (c, record { same = refl; size = g }))
+    let k = dropped-refused octet_string false IsKeyIdentifier (SpellsAny IsKeyIdentifier) s r e (λ c g. g)
     (record { unchanged = h.unchanged; refuses = h.refuses; kind = h.kind.fault }) in
     record { unchanged = k.unchanged; refuses = k.refuses; kind = record { fault = k.kind; text = h.kind.text } }
 

@@ -9,12 +9,13 @@ use Rattle.rpki_der.specs.Leaves.{IsOidOf}
 use Rattle.rpki_der.specs.Members.{IsValue, IsValueList, SpellsValue}
 use Rattle.rpki_der.proofs.MembersLaws.{value_some}
 use Rattle.rpki_der.specs.Walk.{SpellsAnyValue, HasEither}
-use Rattle.rpki_der.specs.Joined.{values_append, no_values}
+use Rattle.rpki_der.specs.ValueListLaws.{values_append, no_values}
 use Rattle.rpki_der.proofs.ReadingLaws.{UnlessMemory-weaker}
 use Rattle.rpki_der.proofs.EncodeLaws.{tlv_at_least}
-use Rattle.rpki_der.proofs.LeafValues.{leaf_value_alone, composed_value_alone}
+use Rattle.rpki_der.proofs.LeafValueLaws.{leaf_value_alone, composed_value_alone}
 use Rattle.rpki_der.proofs.LeavesLaws.{leaf-value}
-use Rattle.rpki.specs.Name.{Attribute, attribute_of, IsIdentifierThen, IsAttribute, SpellsAttribute, SpellsEach, SpellsSome, SpellsRelative, SpellsName, IsName, SpellsNameOctets, SpellsAny}
+use Rattle.rpki.specs.Name.{Attribute, attribute_of, IsIdentifierThen, IsAttribute, SpellsAttribute, SpellsEach, SpellsSome, SpellsRelative, SpellsName, IsName, SpellsNameOctets}
+use Rattle.rpki.specs.AnyValue.{SpellsAny}
 use Rattle.rpki.specs.NameValue.{HasAfter, HasAttributeValue, HasRelativeValue, HasNameValue}
 use Rattle.rpki_der.proofs.InsideLaws.{part-memory}
 use Rattle.rpki.proofs.MemoryLaws.{value-either}
@@ -88,12 +89,12 @@ remains-then {V} t f C c m r some h a = record { whole = λ k. h.whole (longer k
         let g = any-leaf t f C a.spells.front a.spells.spelled in
         (g.0 ∷ k.0, (r, record { front = a.spells.front; parts = a.spells.parts; spelled = g.1 }, k.1))
 
-    behind : (vs : List V) → SpellsEach (SpellsLeaf t f C) vs m → IsEach t f C r
-    behind [] e = absurd (some e)
-    behind (v ∷ vs) k = (vs, subst (SpellsEach (SpellsLeaf t f C) vs) (a.only tt k.0 (any-at t f C m v k.0 k.1)).1 k.2)
+    following : (vs : List V) → SpellsEach (SpellsLeaf t f C) vs m → IsEach t f C r
+    following [] e = absurd (some e)
+    following (v ∷ vs) k = (vs, subst (SpellsEach (SpellsLeaf t f C) vs) (a.only tt k.0 (any-at t f C m v k.0 k.1)).1 k.2)
 
     shorter : IsEach t f C m → IsEach t f C r
-    shorter k = behind k.0 k.1
+    shorter k = following k.0 k.1
 
 -- no such value is at the front of what is left
 pub remains-refused : {V : Type 0} (t : TagName) (f : Bool) (C : V → List ℕ → Type 0) (c m : List ℕ) → (m ≡ [] → ⊥) → Remains t f C c m → Refuses (SpellsLeaf t f (SpellsAny C)) m → SpellsNothing (SpellsAny (SpellsSome (SpellsLeaf t f C))) c

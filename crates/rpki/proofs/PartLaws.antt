@@ -11,7 +11,7 @@ use Rattle.rpki_der.specs.Composed.{ReadsInside}
 use Rattle.rpki_der.proofs.InsideLaws.{Same, read-inside-never, reads-all, unless-memory, refused-inside}
 use Rattle.rpki_der.proofs.LeavesLaws.{leaf-no-memory}
 use Rattle.rpki.specs.SignatureNames.{SpellsBare}
-use Rattle.rpki.specs.Unknown.{BeginsUnknown, NamesUnknown, IsRefusedWith}
+use Rattle.rpki.specs.UnknownAlgorithm.{BeginsUnknown, NamesUnknown, IsRefusedWith}
 
 -- contents that say less
 pub dropped-none : {V W : Type 0} (t : TagName) (f : Bool) (C : V → List ℕ → Type 0) (D : W → List ℕ → Type 0) (s : List ℕ)

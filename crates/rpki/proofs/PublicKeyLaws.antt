@@ -9,7 +9,7 @@ use Rattle.rpki_der.specs.Leaves.{Bits, AreBits, IsBits, bits_of}
 use Rattle.rpki_der.specs.Contents.{bits_contents}
 use Rattle.rpki_der.specs.Integer.{IsUnsigned, IsMagnitude, unsigned_contents}
 use Rattle.rpki_der.specs.Number.{number_of, AreOctets}
-use Rattle.rpki_der.specs.Joined.{sequence_legal}
+use Rattle.rpki_der.specs.ValueListLaws.{sequence_legal}
 use Rattle.rpki_der.proofs.ReadingLaws.{UnlessMemory-weaker}
 use Rattle.rpki_der.proofs.ComposedLaws.{not-read}
 use Rattle.rpki_der.proofs.EncodeLaws.{leaf_legal, tlv_same, tlv_same_then, tlv_at_least, tlv_at_most, bits_same, bits_spelled}
@@ -17,9 +17,9 @@ use Rattle.rpki_der.proofs.UnsignedLaws.{unsigned_spelled, unsigned_at_most, mag
 use Rattle.rpki.specs.declared.crypto.keys.PublicKeyFormat.{PublicKeyFormat}
 use Rattle.rpki.specs.declared.crypto.keys.PublicKeyFormat.TheVariants.{Rsa, EcdsaP256}
 use Rattle.rpki.specs.Oids.{rsa_encryption, ec_public_key, secp256r1}
-use Rattle.rpki.specs.InOrder.{SpellsBoth}
+use Rattle.rpki.specs.TwoParts.{SpellsBoth}
 use Rattle.rpki.specs.KeyFormat.{SpellsFormat, format_contents, format_octets}
-use Rattle.rpki.specs.PublicKey.{KeyParts, key_of, IsKeyContents, SpellsKey, key_contents, key_octets, SpellsRsaNumbers, SpellsRsaBits, IsRsaKey}
+use Rattle.rpki.specs.PublicKey.{KeyParts, key_of, IsKeyContents, SpellsKey, key_contents, key_octets, AreRsaNumbers, SpellsRsaNumbers, SpellsRsaBits, IsRsaKey}
 use Rattle.rpki.proofs.FormatLaws.{format-short, format-spelled}
 use Rattle.rpki.proofs.MemoryLaws.{both-found}
 
@@ -121,12 +121,12 @@ numbers-short m n short =
 
 -- the two numbers that are written
 pub numbers-spelled : (m n : List ℕ) → IsMagnitude m → IsMagnitude n → length m + length n ≤ 2 ^ 31
-    → SpellsRsaNumbers (number_of m) (number_of n) (tlv sequence true (tlv integer false (unsigned_contents m) ++ tlv integer false (unsigned_contents n)))
+    → SpellsRsaNumbers (number_of m, number_of n) (tlv sequence true (tlv integer false (unsigned_contents m) ++ tlv integer false (unsigned_contents n)))
 numbers-spelled m n p q short =
     let one = tlv integer false (unsigned_contents m) in
     let two = tlv integer false (unsigned_contents n) in
     let sizes : length (one ++ two) < 2 ^ 32 = numbers-short m n short in
-    leaf_legal sequence true (λ (v : Unit {0}) c. SpellsBoth (SpellsLeaf integer false IsUnsigned) (SpellsLeaf integer false IsUnsigned) (number_of m) (number_of n) c) tt (one ++ two) sequence_legal sizes (record {
+    leaf_legal sequence true AreRsaNumbers (number_of m, number_of n) (one ++ two) sequence_legal sizes (record {
       first = one;
       second = two;
       parts = refl;
@@ -135,8 +135,8 @@ numbers-spelled m n p q short =
     })
 
 -- they are the bits of a key
-pub some-numbers : (m n : ℕ) (p : List ℕ) → SpellsRsaNumbers m n p → SpellsRsaBits tt p
-some-numbers m n p h = record { contents = h.contents; value = h.value; spelled = (m, n, h.spelled) }
+pub some-numbers : (n : ℕ × ℕ) (p : List ℕ) → SpellsRsaNumbers n p → SpellsRsaBits tt p
+some-numbers n p h = record { contents = h.contents; value = h.value; spelled = (n, h.spelled) }
 
 some-octets : (s : List ℕ) → (s ≡ [] → ⊥) → 0 < length s
 some-octets [] ne = absurd (ne refl)
@@ -150,9 +150,9 @@ abbrev pub two_integers : List ℕ → List ℕ → List ℕ
 two_integers m n = tlv integer false (unsigned_contents m) ++ tlv integer false (unsigned_contents n)
 
 pub rsa-bits : (modulus exponent m n octets : List ℕ) → IsMagnitude m → IsMagnitude n → length m + length n ≤ 2 ^ 31 → number_of m ≡ number_of modulus → number_of n ≡ number_of exponent
-    → octets ≡ tlv sequence true (two_integers m n) → SpellsRsaNumbers (number_of modulus) (number_of exponent) octets
+    → octets ≡ tlv sequence true (two_integers m n) → SpellsRsaNumbers (number_of modulus, number_of exponent) octets
 rsa-bits modulus exponent m n octets p q short e f is =
-    let h : SpellsRsaNumbers (number_of m) (number_of n) octets = rw is (numbers-spelled m n p q short) in
+    let h : SpellsRsaNumbers (number_of m, number_of n) octets = rw is (numbers-spelled m n p q short) in
     rw (← e, ← f) h
 
 -- a format in front of bits

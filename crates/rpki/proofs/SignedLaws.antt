@@ -6,7 +6,7 @@ use Rattle.rpki_der.specs.Header.{tlv}
 use Rattle.rpki_der.specs.Leaves.{AreBits, IsBits, bits_of}
 use Rattle.rpki_der.specs.Contents.{bits_contents}
 use Rattle.rpki_der.specs.Members.{IsValue}
-use Rattle.rpki_der.specs.Joined.{sequence_legal}
+use Rattle.rpki_der.specs.ValueListLaws.{sequence_legal}
 use Rattle.rpki_der.proofs.MembersLaws.{one_beginning}
 use Rattle.rpki_der.proofs.EncodeLaws.{leaf_legal, tlv_same, tlv_same_one, tlv_at_least, tlv_front, bits_spelled}
 use Rattle.rpki.specs.SignedData.{SignedParts, parts_of, IsSignedContents, SpellsSigned, signature_octets, signed_octets, written_contents, written_signed, normal_parts, DifferInCount}

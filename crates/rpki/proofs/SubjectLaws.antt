@@ -4,7 +4,7 @@ use Rattle.rpki_der.specs.TagName.{sequence, set, oid, printable_string}
 use Rattle.rpki_der.specs.Header.{tlv}
 use Rattle.rpki_der.proofs.EncodeLaws.{tlv_at_most}
 use Rattle.rpki_text.specs.HexText.{hex_text}
-use Rattle.rpki_text.proofs.HexLemmas.{length-hex_text}
+use Rattle.rpki_text.proofs.HexLaws.{length-hex_text}
 use Rattle.rpki.specs.Oids.{common_name}
 use Rattle.rpki.specs.SubjectName.{attribute_contents}
 

@@ -6,7 +6,7 @@ use Rattle.rpki_der.specs.Header.{tlv}
 use Rattle.rpki_der.specs.Values.{SpellsLeaf}
 use Rattle.rpki_der.specs.Leaves.{IsNull, IsOnly}
 use Rattle.rpki_der.specs.Members.{IsValue, IsValueList}
-use Rattle.rpki_der.specs.Joined.{primitive_value_list, no_value_list, value_lists_append, constructed_value}
+use Rattle.rpki_der.specs.ValueListLaws.{primitive_value_list, no_value_list, value_lists_append, constructed_value}
 use Rattle.rpki_der.proofs.EncodeLaws.{leaf_legal, tlv_at_most, tlv_some, tlv_same}
 use Rattle.rpki.specs.Algorithm.{IsParameters, IsIdentified, SpellsAlgorithm}
 use Rattle.rpki.specs.AlgorithmOctets.{parameters_octets, identified_octets, algorithm_octets}
@@ -23,11 +23,13 @@ parameters-are : (present : Bool) (p : List ℕ) → IsParameters present p → 
 parameters-are true p h = null-only p h
 parameters-are false p h = h
 
-pub algorithm-is : (o : List ℕ) (present : Bool) (s : List ℕ) → SpellsAlgorithm o present s → s ≡ algorithm_octets o present
+pub algorithm-is : (o : List ℕ) (present : Bool) (s : List ℕ) → SpellsAlgorithm o present s
+    → s ≡ algorithm_octets o present
 algorithm-is o present s h =
     let i = h.spelled in
     let inside : h.contents ≡ identified_octets o present =
-    i.parts ∙ ap (λ (p : List ℕ). p ++ i.second) (leaf-only o i.first i.identifier) ∙ ap (λ (p : List ℕ). tlv oid false o ++ p) (parameters-are present i.second i.parameters) in
+    i.parts ∙ ap (λ (p : List ℕ). p ++ i.second) (leaf-only o i.first i.identifier)
+    ∙ ap (λ (p : List ℕ). tlv oid false o ++ p) (parameters-are present i.second i.parameters) in
     h.value.octets ∙ ap (λ (c : List ℕ). tlv sequence true c) inside
 
 -- ---- and it is one
@@ -50,11 +52,19 @@ parameters-short true = tlv_at_most null false []
 parameters-short false = omega arith
 
 pub identified-short : (o : List ℕ) (present : Bool) → length o < 2 ^ 31 → length (identified_octets o present) < 2 ^ 32
-identified-short o present short = omega (arith, length-append (tlv oid false o) (parameters_octets present), tlv_at_most oid false o, parameters-short present)
+identified-short o present short = omega (
+  arith,
+  length-append (tlv oid false o)
+      (parameters_octets present),
+  tlv_at_most oid false o,
+  parameters-short present,
+)
 
-pub algorithm-spelled : (o : List ℕ) (present : Bool) → length o < 2 ^ 31 → SpellsAlgorithm o present (algorithm_octets o present)
+pub algorithm-spelled : (o : List ℕ) (present : Bool) → length o < 2 ^ 31
+    → SpellsAlgorithm o present (algorithm_octets o present)
 algorithm-spelled o present short =
-    leaf_legal sequence true (IsIdentified o) present (identified_octets o present) sequence-legal (identified-short o present short) (record {
+    leaf_legal sequence true (IsIdentified o) present (identified_octets o present) sequence-legal
+    (identified-short o present short) (record {
       first = tlv oid false o;
       second = parameters_octets present;
       parts = refl;
@@ -68,11 +78,13 @@ parameters-values : (present : Bool) → IsValueList (parameters_octets present)
 parameters-values true = primitive_value_list null [] null-legal (omega arith)
 parameters-values false = no_value_list
 
-pub algorithm-value : (o : List ℕ) (present : Bool) (s : List ℕ) → length o < 2 ^ 31 → SpellsAlgorithm o present s → IsValue s
+pub algorithm-value : (o : List ℕ) (present : Bool) (s : List ℕ) → length o < 2 ^ 31 → SpellsAlgorithm o present s
+    → IsValue s
 algorithm-value o present s short h =
     subst IsValue (sym (algorithm-is o present s h))
     (constructed_value sequence (identified_octets o present) sequence-legal (identified-short o present short)
-    (value_lists_append (tlv oid false o) (parameters_octets present) (primitive_value_list oid o oid-legal (omega arith)) (parameters-values present)))
+    (value_lists_append (tlv oid false o) (parameters_octets present)
+    (primitive_value_list oid o oid-legal (omega arith)) (parameters-values present)))
 
 parameters-one : (p q : Bool) → parameters_octets p ≡ parameters_octets q → p ≡ q
 parameters-one true true e = refl
@@ -80,12 +92,14 @@ parameters-one true false e = absurd (tlv_some null false [] e)
 parameters-one false true e = absurd (tlv_some null false [] (sym e))
 parameters-one false false e = refl
 
-behind : (a b c : List ℕ) → a ++ b ≡ a ++ c → b ≡ c
-behind [] b c e = e
-behind (x ∷ a) b c e = behind a b c (cc)
+following : (a b c : List ℕ) → a ++ b ≡ a ++ c → b ≡ c
+following [] b c e = e
+following (x ∷ a) b c e = following a b c (cc)
 
-pub algorithm-one : (o : List ℕ) (p q : Bool) (s : List ℕ) → length o < 2 ^ 31 → SpellsAlgorithm o p s → SpellsAlgorithm o q s → p ≡ q
+pub algorithm-one : (o : List ℕ) (p q : Bool) (s : List ℕ) → length o < 2 ^ 31 → SpellsAlgorithm o p s
+    → SpellsAlgorithm o q s → p ≡ q
 algorithm-one o p q s short h k =
     let e : algorithm_octets o p ≡ algorithm_octets o q = sym (algorithm-is o p s h) ∙ algorithm-is o q s k in
-    let inside = tlv_same sequence true (identified_octets o p) (identified_octets o q) (identified-short o p short) (identified-short o q short) e in
-    parameters-one p q (behind (tlv oid false o) (parameters_octets p) (parameters_octets q) inside)
+    let inside = tlv_same sequence true (identified_octets o p) (identified_octets o q) (identified-short o p short)
+    (identified-short o q short) e in
+    parameters-one p q (following (tlv oid false o) (parameters_octets p) (parameters_octets q) inside)

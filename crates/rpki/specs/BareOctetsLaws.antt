@@ -6,9 +6,9 @@ use Rattle.rpki_der.specs.Header.{tlv}
 use Rattle.rpki_der.specs.Leaves.{IsOnly}
 use Rattle.rpki_der.specs.Values.{SpellsLeaf}
 use Rattle.rpki_der.specs.Members.{IsValue}
-use Rattle.rpki_der.specs.Joined.{sequence_legal}
+use Rattle.rpki_der.specs.ValueListLaws.{sequence_legal}
 use Rattle.rpki_der.proofs.EncodeLaws.{leaf_legal, tlv_at_most}
-use Rattle.rpki_der.proofs.LeafValues.{leaf_value_alone, composed_value_alone}
+use Rattle.rpki_der.proofs.LeafValueLaws.{leaf_value_alone, composed_value_alone}
 use Rattle.rpki.specs.AlgorithmOctetsLaws.{oid-legal}
 use Rattle.rpki.specs.SignatureNames.{SpellsBare, bare_octets}
 
@@ -23,10 +23,12 @@ bare-spelled o v short =
 
 -- the identifier is one value
 pub bare-value : (o : List ℕ) (v : Unit {0}) (s : List ℕ) → SpellsBare o v s → IsValue s
-bare-value o v s h = composed_value_alone sequence (SpellsLeaf oid false (IsOnly o)) v s (λ c k. (1, leaf_value_alone oid (IsOnly o) v c k)) h
+bare-value o v s h = composed_value_alone sequence (SpellsLeaf oid false (IsOnly o)) v s
+    (λ c k. (1, leaf_value_alone oid (IsOnly o) v c k)) h
 
 -- and is spelled in one way
 pub bare-is : (o : List ℕ) (v : Unit {0}) (s : List ℕ) → SpellsBare o v s → s ≡ bare_octets o
 bare-is o v s h =
     let k = h.spelled in
-    h.value.octets ∙ ap (λ (c : List ℕ). tlv sequence true c) (k.value.octets ∙ ap (λ (c : List ℕ). tlv oid false c) k.spelled)
+    h.value.octets ∙ ap (λ (c : List ℕ). tlv sequence true c)
+    (k.value.octets ∙ ap (λ (c : List ℕ). tlv oid false c) k.spelled)

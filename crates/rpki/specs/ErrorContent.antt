@@ -36,7 +36,8 @@ validation_text (Verification e) = Some (text_of (verification_content e))
 abbrev pub HaveSameContent : (DecodeError → DecodeError → Bool) → ValidationError → ValidationError → Type 0
 HaveSameContent same (Decoding d) (Decoding e) = IsTrue (same d e)
 HaveSameContent same (Inspection d) (Inspection e) = text_of (content_of d) ≡ text_of (content_of e)
-HaveSameContent same (Verification d) (Verification e) = text_of (verification_content d) ≡ text_of (verification_content e)
+HaveSameContent same (Verification d) (Verification e) =
+    text_of (verification_content d) ≡ text_of (verification_content e)
 HaveSameContent same (Decoding d) (Inspection e) = ⊥
 HaveSameContent same (Decoding d) (Verification e) = ⊥
 HaveSameContent same (Inspection d) (Decoding e) = ⊥

@@ -10,7 +10,8 @@ critical_octets false = []
 
 -- the contents of the SEQUENCE, of these contents of the identifier and of the OCTET STRING
 abbrev pub extension_contents : List ℕ → Bool → List ℕ → List ℕ
-extension_contents identifier critical content = tlv oid false identifier ++ critical_octets critical ++ tlv octet_string false content
+extension_contents identifier critical content =
+    tlv oid false identifier ++ critical_octets critical ++ tlv octet_string false content
 
 abbrev pub extension_octets : List ℕ → Bool → List ℕ → List ℕ
 extension_octets identifier critical content = tlv sequence true (extension_contents identifier critical content)

@@ -1,15 +1,11 @@
 -- Which extensions are equal.
 use Rattle.std.specs.Prelude.{Bool, nat_eq}
 use Rattle.std.specs.Ordering.{on, eq_of_both}
-use Rattle.std.specs.Cmp.{IsEquivalence, bool_eq_equiv}
 use Rattle.std.specs.Cmp.Lexicographic.{pointwise}
-use Rattle.std.proofs.lemmas.Cmp.{nat_list_eq_equiv, and_equiv, on_equiv}
 use mathlib.Core.Bool.{beq}
 use Rattle.rpki.specs.ExtensionValue.{ExtensionParts}
 
 -- the same identifier, critical both or neither, and the same octets
 abbrev pub same_extension : ExtensionParts → ExtensionParts → Bool
-same_extension = eq_of_both (on (λ x. x.identifier) (pointwise nat_eq)) (eq_of_both (on (λ x. x.critical) beq) (on (λ x. x.content) (pointwise nat_eq)))
-
-pub same_extension_equivalence : IsEquivalence same_extension
-same_extension_equivalence = and_equiv (on_equiv (λ x. x.identifier) nat_list_eq_equiv) (and_equiv (on_equiv (λ x. x.critical) bool_eq_equiv) (on_equiv (λ x. x.content) nat_list_eq_equiv))
+same_extension = eq_of_both (on (λ x. x.identifier) (pointwise nat_eq))
+    (eq_of_both (on (λ x. x.critical) beq) (on (λ x. x.content) (pointwise nat_eq)))

@@ -47,10 +47,10 @@ pub record CanBeWritten (x : ExtensionParts) : Type 0 where
 unfoldable pub parts_in : List ℕ → ExtensionParts
 parts_in c =
     let rest = after_front c in
-    let behind = after_front rest in
-    if nat_eq (length behind) 0
+    let following = after_front rest in
+    if nat_eq (length following) 0
     then extension_parts (front_contents c) false (front_contents rest)
-    else extension_parts (front_contents c) (bytes_eq (front_contents rest) (255 ∷ [])) (front_contents behind)
+    else extension_parts (front_contents c) (bytes_eq (front_contents rest) (255 ∷ [])) (front_contents following)
 
 unfoldable pub parts_of_extension : List ℕ → ExtensionParts
 parts_of_extension octets = parts_in (front_contents octets)

@@ -9,13 +9,14 @@ use Rattle.rpki.specs.declared.crypto.keys.PublicKeyFormat.TheVariants.{Rsa, Ecd
 use Rattle.rpki.specs.Oids.{rsa_encryption, ec_public_key, secp256r1}
 use Rattle.rpki.specs.Algorithm.{IsIdentified}
 use Rattle.rpki.specs.AlgorithmOctets.{identified_octets}
-use Rattle.rpki.specs.InOrder.{SpellsBoth}
+use Rattle.rpki.specs.TwoParts.{SpellsBoth}
 
 -- rsaEncryption, with a NULL or without (RFC 3279 2.3.1, RFC 7935 3.1); id-ecPublicKey and the curve P-256
 -- (RFC 5480 2.1.1, RFC 8608 3.1)
 abbrev pub IsFormatContents : PublicKeyFormat → List ℕ → Type 0
 IsFormatContents Rsa c = (present : Bool) × IsIdentified rsa_encryption present c
-IsFormatContents EcdsaP256 c = SpellsBoth (SpellsLeaf oid false (IsOnly ec_public_key)) (SpellsLeaf oid false (IsOnly secp256r1)) tt tt c
+IsFormatContents EcdsaP256 c = SpellsBoth (SpellsLeaf oid false (IsOnly ec_public_key))
+    (SpellsLeaf oid false (IsOnly secp256r1)) tt tt c
 
 -- the algorithm identifier of a format of keys
 abbrev pub SpellsFormat : PublicKeyFormat → List ℕ → Type 0

@@ -18,10 +18,6 @@ pub record IsKeyIdentifier (k c : List ℕ) : Type 0 where
 abbrev pub SpellsKeyIdentifier : List ℕ → List ℕ → Type 0
 SpellsKeyIdentifier = SpellsLeaf octet_string false IsKeyIdentifier
 
--- the same, for any identifier
-abbrev pub IsAnyKeyIdentifier : Unit {0} → List ℕ → Type 0
-IsAnyKeyIdentifier v c = length c ≡ 20
-
 abbrev pub identifier_error : List ℕ
 identifier_error = codes "invalid key identifier"
 

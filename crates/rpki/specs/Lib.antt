@@ -1,8 +1,9 @@
 -- Definitions: what the contracts say. They are trusted, and read against the standards.
 pub mod Oids
-pub mod InOrder
+pub mod TwoParts
+pub mod AnyValue
 pub mod Algorithm
-pub mod Unknown
+pub mod UnknownAlgorithm
 pub mod Format
 pub mod KeyFormat
 pub mod PublicKey
@@ -22,11 +23,13 @@ pub mod ExtensionEqual
 pub mod Name
 pub mod NameValue
 pub mod StrictName
-pub mod InspectName
+pub mod StrictNameWithoutOrganization
+pub mod Findings
 pub mod ErrorContent
-pub mod InspectedName
+pub mod InspectionView
 pub mod UpdateFirst
 -- Lemmas, which the prover checks: ghost items of impls cite them.
 pub mod AlgorithmOctetsLaws
 pub mod BareOctetsLaws
 pub mod SignedEqualLaws
+pub mod ExtensionEqualLaws

@@ -32,7 +32,7 @@ SpellsAttribute = SpellsLeaf sequence true IsAttribute
 -- the spellings of these values, one after another
 abbrev pub SpellsEach : {V : Type 0} → (V → List ℕ → Type 0) → List V → List ℕ → Type 0
 SpellsEach G [] p = p ≡ []
-SpellsEach G (v ∷ vs) p = (behind : List ℕ) × Spells G p v behind × SpellsEach G vs behind
+SpellsEach G (v ∷ vs) p = (following : List ℕ) × Spells G p v following × SpellsEach G vs following
 
 -- the same of one value at least
 pub record SpellsSome {V : Type 0} (G : V → List ℕ → Type 0) (vs : List V) (p : List ℕ) : Type 0 where
@@ -55,7 +55,3 @@ IsName octets = (parts : List (List Attribute)) × SpellsName parts octets
 pub record SpellsNameOctets (v p : List ℕ) : Type 0 where
   pub same : p ≡ v
   pub named : IsName v
-
--- some value is spelled
-abbrev pub SpellsAny : {V : Type 0} → (V → List ℕ → Type 0) → Unit {0} → List ℕ → Type 0
-SpellsAny {V} G x p = (v : V) × G v p

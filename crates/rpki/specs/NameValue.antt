@@ -7,7 +7,8 @@ use Rattle.rpki.specs.Name.{Attribute, IsIdentifierThen, SpellsAttribute, Spells
 
 -- spellings of values, one after another, and then a list that has P
 abbrev pub HasAfter : {V : Type 0} → (V → List ℕ → Type 0) → (List ℕ → Type 0) → List ℕ → Type 0
-HasAfter {V} G P s = (vs : List V) × (front : List ℕ) × (rest : List ℕ) × SpellsEach G vs front × (s ≡ front ++ rest) × P rest
+HasAfter {V} G P s = (vs : List V) × (front : List ℕ) × (rest : List ℕ) × SpellsEach G vs front × (s ≡ front ++ rest)
+    × P rest
 
 -- an OBJECT IDENTIFIER, and a value after it, with any contents
 abbrev pub IdentifiesValue : List ℕ → Type 0

@@ -32,3 +32,7 @@ common_name = 85 ∷ 4 ∷ 3 ∷ []
 -- 2.5.4.5
 abbrev pub serial_number : List ℕ
 serial_number = 85 ∷ 4 ∷ 5 ∷ []
+
+-- 2.5.4.10
+abbrev pub organization_name : List ℕ
+organization_name = 85 ∷ 4 ∷ 10 ∷ []

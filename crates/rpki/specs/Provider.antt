@@ -14,4 +14,5 @@ check_of rsa ecdsa EcdsaP256 = ecdsa
 
 -- The key's format is the required one, and that format's check says so.
 abbrev pub Verifies : Check → Check → PublicKeyFormat → PublicKeyFormat → List ℕ → List ℕ → List ℕ → Type 0
-Verifies rsa ecdsa asked format bits message value = (format ≡ asked) × IsTrue (check_of rsa ecdsa format bits message value)
+Verifies rsa ecdsa asked format bits message value =
+    (format ≡ asked) × IsTrue (check_of rsa ecdsa format bits message value)

@@ -8,7 +8,8 @@ use Rattle.rpki_der.specs.Contents.{bits_contents}
 use Rattle.rpki_der.specs.Integer.{IsUnsigned}
 use Rattle.rpki.specs.declared.crypto.keys.PublicKeyFormat.{PublicKeyFormat}
 use Rattle.rpki.specs.declared.crypto.keys.PublicKeyFormat.TheVariants.{Rsa}
-use Rattle.rpki.specs.InOrder.{SpellsBoth}
+use Rattle.rpki.specs.AnyValue.{SpellsAny}
+use Rattle.rpki.specs.TwoParts.{SpellsBoth}
 use Rattle.rpki.specs.KeyFormat.{SpellsFormat, format_octets}
 
 -- the format, and the bits of the key
@@ -33,16 +34,17 @@ key_contents k = format_octets k.format ++ tlv bit_string false (bits_contents k
 abbrev pub key_octets : KeyParts → List ℕ
 key_octets k = tlv sequence true (key_contents k)
 
--- the bits of an RSA key: modulus and exponent, two non-negative INTEGERs (RFC 8017 A.1.1, RFC 3279 2.3.1)
-abbrev pub SpellsRsaNumbers : ℕ → ℕ → List ℕ → Type 0
-SpellsRsaNumbers modulus exponent = SpellsLeaf sequence true (λ (v : Unit {0}) c. SpellsBoth (SpellsLeaf integer false IsUnsigned) (SpellsLeaf integer false IsUnsigned) modulus exponent c) tt
+-- modulus and exponent, two non-negative INTEGERs (RFC 8017 A.1.1, RFC 3279 2.3.1)
+abbrev pub AreRsaNumbers : ℕ × ℕ → List ℕ → Type 0
+AreRsaNumbers n c = SpellsBoth (SpellsLeaf integer false IsUnsigned) (SpellsLeaf integer false IsUnsigned) n.0 n.1 c
 
--- the same of some numbers
-abbrev pub AreTwoNumbers : Unit {0} → List ℕ → Type 0
-AreTwoNumbers v c = (modulus : ℕ) × (exponent : ℕ) × SpellsBoth (SpellsLeaf integer false IsUnsigned) (SpellsLeaf integer false IsUnsigned) modulus exponent c
+-- the bits of an RSA key: a SEQUENCE of the two
+abbrev pub SpellsRsaNumbers : ℕ × ℕ → List ℕ → Type 0
+SpellsRsaNumbers = SpellsLeaf sequence true AreRsaNumbers
 
+-- the same of any numbers
 abbrev pub SpellsRsaBits : Unit {0} → List ℕ → Type 0
-SpellsRsaBits = SpellsLeaf sequence true AreTwoNumbers
+SpellsRsaBits = SpellsLeaf sequence true (SpellsAny AreRsaNumbers)
 
 -- the key with these bits
 pub record IsRsaKey (k : KeyParts) (p : List ℕ) : Type 0 where

@@ -7,4 +7,5 @@ use Rattle.rpki.specs.SignedData.{SignedParts}
 
 -- the same slice, parameters in both or in neither, and the same signature
 abbrev pub same_signed : SignedParts Bool → SignedParts Bool → Bool
-same_signed = eq_of_both (on (λ x. x.signed) (pointwise nat_eq)) (eq_of_both (on (λ x. x.algorithm) beq) (on (λ x. x.value) (pointwise nat_eq)))
+same_signed = eq_of_both (on (λ x. x.signed) (pointwise nat_eq))
+    (eq_of_both (on (λ x. x.algorithm) beq) (on (λ x. x.value) (pointwise nat_eq)))

@@ -12,5 +12,6 @@ KeepsFirst old new (Ok given) answer = (new ≡ first_of old given) × (answer �
 KeepsFirst old new (Err e) answer = (new ≡ old) × (answer ≡ Err e)
 
 -- the operation returned a result, and the option kept the first value
-abbrev pub UpdatesFirst : {T E : Type 0} → (Result (Option T) E → Type 0) → Option T → Option T → Result (Unit {0}) E → Type 0
+abbrev pub UpdatesFirst : {T E : Type 0} → (Result (Option T) E → Type 0) → Option T → Option T → Result (Unit {0}) E
+    → Type 0
 UpdatesFirst {T} {E} answers old new answer = (x : Result (Option T) E) × answers x × KeepsFirst old new x answer

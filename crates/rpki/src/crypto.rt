@@ -3,10 +3,9 @@
 ghost use Rattle.std.specs.Prelude.{◌≡◌, ℕ, List, Bool};
 ghost use Rattle.rpki.specs.Format.{format_of};
 
+mod algorithm_identifier;
 pub mod digest;
-mod identifier;
 pub mod keys;
-pub(crate) mod parameters;
 pub mod signature;
 
 pub use digest::{DigestAlgorithm, sha1_digest};

@@ -1,4 +1,4 @@
-//! Laws of algorithms, of signed data, of keys and of errors: each function does nothing, and its contract is the law.
+//! Laws of algorithms, signed data, keys, names and errors: each function does nothing, and its contract is the law.
 
 ghost use Rattle.std.specs.Prelude.{◌≡◌, ◌↔◌, ℕ, Bool, true, false, List, length, IsTrue};
 ghost use Rattle.std.specs.Ordering.{nat_cmp};
@@ -10,6 +10,8 @@ ghost use Rattle.rpki_der.specs.declared.error.DecodeError.{DecodeError};
 ghost use Rattle.rpki.specs.SignedData.{SignedParts, SpellsSigned, DifferInCount};
 ghost use Rattle.rpki.specs.KeyIdentifier.{SpellsKeyIdentifier};
 ghost use Rattle.rpki.specs.PublicKey.{KeyParts};
+ghost use Rattle.rpki.specs.StrictName.{IsRpkiName, IsRouterName};
+ghost use Rattle.rpki.specs.StrictNameWithoutOrganization.{IsRpkiNameWithoutOrganization, IsRouterNameWithoutOrganization};
 ghost use Rattle.rpki.specs.ExtensionValue.{ExtensionParts, SpellsExtension};
 ghost use Rattle.rpki.specs.Signature.{SignatureParts};
 ghost use Rattle.rpki.specs.ErrorContent.{content_of, verification_content, HaveSameContent};
@@ -66,7 +68,8 @@ pub fn equal_signed_data_have_equal_parts()
 /// A key identifier is read back from its encoding, and two have the same encoding only where they are equal.
 pub fn key_identifiers_are_read_back(identifier: &KeyIdentifier)
     ensures read_back { SpellsKeyIdentifier identifier.now (tlv octet_string false identifier.now) }
-    ensures same { (other : List ℕ) → length other ≡ 20 → (tlv octet_string false identifier.now ≡ tlv octet_string false other) ↔ (identifier.now ≡ other) }
+    ensures same { (other : List ℕ) → length other ≡ 20
+        → (tlv octet_string false identifier.now ≡ tlv octet_string false other) ↔ (identifier.now ≡ other) }
 {
     let _ = identifier.as_slice();
 }
@@ -88,12 +91,19 @@ pub fn equal_public_keys_have_equal_parts()
 /// Signatures are equal where their algorithms are, as the algorithms' own equality says, and their octets are the
 /// same.
 pub fn equal_signatures_have_equal_parts<Alg: PartialEq>()
-    ensures { (s t : SignatureParts Alg) → IsTrue (⟦<Signature<Alg> as PartialEq>⟧.eq s t) ↔ (IsTrue (Alg.eq s.algorithm t.algorithm) × (s.value ≡ t.value)) }
+    ensures { (s t : SignatureParts Alg) → IsTrue (⟦<Signature<Alg> as PartialEq>⟧.eq s t)
+        ↔ (IsTrue (Alg.eq s.algorithm t.algorithm) × (s.value ≡ t.value)) }
 {}
 
 /// Names are equal where their octets are.
 pub fn equal_names_have_equal_octets()
     ensures { (m n : List ℕ) → IsTrue (⟦<Name as PartialEq>⟧.eq m n) ↔ (m ≡ n) }
+{}
+
+/// A name that is strict without an organization name is strict.
+pub fn names_without_organization_are_strict()
+    ensures rpki { (octets : List ℕ) → IsRpkiNameWithoutOrganization octets → IsRpkiName octets }
+    ensures router { (octets : List ℕ) → IsRouterNameWithoutOrganization octets → IsRouterName octets }
 {}
 
 /// Extensions are equal where their identifiers and their octets are, and both are critical or neither is; and octets
@@ -111,7 +121,8 @@ pub fn algorithms_are_compared_by_their_values()
     ensures format { (a b : PublicKeyFormat) → IsTrue (⟦<PublicKeyFormat as PartialEq>⟧.eq a b) ↔ (a ≡ b) }
     ensures rpki { (a b : Bool) → IsTrue (⟦<RpkiSignatureAlgorithm as PartialEq>⟧.eq a b) ↔ (a ≡ b) }
     ensures rpki_hash { (a b : Bool)
-        → (⟦<RpkiSignatureAlgorithm as Hash>⟧.hash_input a ≡ ⟦<RpkiSignatureAlgorithm as Hash>⟧.hash_input b) ↔ (a ≡ b) }
+        → (⟦<RpkiSignatureAlgorithm as Hash>⟧.hash_input a ≡ ⟦<RpkiSignatureAlgorithm as Hash>⟧.hash_input b)
+        ↔ (a ≡ b) }
     ensures bgpsec { IsTrue (⟦<BgpsecSignatureAlgorithm as PartialEq>⟧.eq tt tt) }
     ensures digest { (a b : DigestAlgorithm) → IsTrue (⟦<DigestAlgorithm as PartialEq>⟧.eq a b) }
 {}
@@ -125,5 +136,6 @@ pub fn equal_errors_have_equal_texts()
         ↔ (text_of (verification_content d) ≡ text_of (verification_content e)) }
     ensures validation { (d e : ValidationError)
         → IsTrue (⟦<ValidationError as PartialEq>⟧.eq d e) ↔ HaveSameContent (⟦<DecodeError as PartialEq>⟧.eq) d e }
-    ensures signature { (d e : SignatureVerificationError) → IsTrue (⟦<SignatureVerificationError as PartialEq>⟧.eq d e) }
+    ensures signature { (d e : SignatureVerificationError)
+        → IsTrue (⟦<SignatureVerificationError as PartialEq>⟧.eq d e) }
 {}

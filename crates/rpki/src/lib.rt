@@ -1,8 +1,8 @@
 //! The basics of the resource public key infrastructure: algorithms, keys, signed data and names of X.509.
 //!
 //! `SignedData::decode` reads signed data, and `verify_signature` asks a [crypto::Provider], which the caller brings,
-//! whether a key has signed it. `crates/rpki_examples` verifies signed data with a provider and an algorithm type of its
-//! own; docs/CALLING.md explains it.
+//! whether a key has signed it. `crates/rpki_examples` verifies signed data with a provider and an algorithm type of
+//! its own; docs/CALLING.md explains it.
 #![tactic(auto)]
 
 pub mod crypto;

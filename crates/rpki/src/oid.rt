@@ -60,6 +60,9 @@ pub const AT_COMMON_NAME: ConstOid = Oid(&[85, 4, 3]);
 /// The attribute type serial number: `id-at-serialNumber`, 2.5.4.5 (RFC 5280 A.1).
 pub const AT_SERIAL_NUMBER: ConstOid = Oid(&[85, 4, 5]);
 
+/// The attribute type organization name: `id-at-organizationName`, 2.5.4.10 (RFC 5280 A.1).
+pub const AT_ORGANIZATION_NAME: ConstOid = Oid(&[85, 4, 10]);
+
 /// The extension authority key identifier: `id-ce-authorityKeyIdentifier`, 2.5.29.35 (RFC 5280 4.2.1.1).
 pub const CE_AUTHORITY_KEY_IDENTIFIER: ConstOid = Oid(&[85, 29, 35]);
 

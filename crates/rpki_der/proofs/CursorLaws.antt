@@ -11,8 +11,8 @@ pub whole-cut : (s : List ℕ) (n : ℕ) → n ≡ length s → slice_range s 0 
 whole-cut s n e = rw e (take_rest s 0)
 
 -- what follows a front of a cut
-pub behind-cut : (s : List ℕ) (i j : ℕ) (front rest : List ℕ) → i ≤ j → j ≤ length s → slice_range s i j ≡ front ++ rest → slice_range s (j - length rest) j ≡ rest
-behind-cut s i j front rest le in_s e =
+pub following-cut : (s : List ℕ) (i j : ℕ) (front rest : List ℕ) → i ≤ j → j ≤ length s → slice_range s i j ≡ front ++ rest → slice_range s (j - length rest) j ≡ rest
+following-cut s i j front rest le in_s e =
     let size = length-cut s i j le in_s in
     let parts = ap length e ∙ length-append front rest in
     let start : j - length rest ≡ i + length front = omega arith in

@@ -10,9 +10,9 @@ use Rattle.rpki_der.specs.Members.{Members, spell, count, AreValues}
 use Rattle.rpki_der.specs.Members.Members.{Empty, Primitive, Constructed}
 use Rattle.rpki_der.specs.Leaves.{Bits, AreBits, IsBits, IsNull, bits_of}
 use Rattle.rpki_der.specs.Contents.{null_contents, bits_contents}
-use Rattle.rpki_der.proofs.HeaderWriting.{identifier_few, identifier_short, length_few}
-use Rattle.rpki_der.proofs.InSteps.{pair-is}
-use Rattle.rpki_der.proofs.Length.{length-again, len-short, len-long}
+use Rattle.rpki_der.proofs.HeaderWritingLaws.{identifier_few, identifier_short, length_few}
+use Rattle.rpki_der.proofs.StepLaws.{pair-is}
+use Rattle.rpki_der.proofs.LengthLaws.{length-again, len-short, len-long}
 
 -- ---- how many octets
 

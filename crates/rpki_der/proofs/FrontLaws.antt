@@ -10,8 +10,8 @@ use Rattle.rpki_der.specs.Reading.{Spells}
 use Rattle.rpki_der.specs.Values.{SpellsContents, HasTag}
 use Rattle.rpki_der.specs.Front.{front_contents, after_front}
 use Rattle.rpki_der.proofs.HeaderLaws.{header-again}
-use Rattle.rpki_der.proofs.HeaderReads.{identifier-from}
-use Rattle.rpki_der.proofs.InSteps.{pair-is}
+use Rattle.rpki_der.proofs.HeaderReadingLaws.{identifier-from}
+use Rattle.rpki_der.proofs.StepLaws.{pair-is}
 use Rattle.rpki_der.proofs.LeavesLaws.{leaf-tag}
 
 header_found : (t : TagName) (f : Bool) (c p r : List ℕ) → SpellsContents t f c p → (h : Header) × (h.length ≡ length c) × (header_at (p ++ r) ≡ Ok (h, c ++ r))

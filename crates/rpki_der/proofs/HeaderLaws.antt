@@ -6,9 +6,9 @@ use Rattle.rpki_der.specs.declared.tag.Header.{Header}
 use Rattle.rpki_der.specs.TagName.{TagName}
 use Rattle.rpki_der.specs.Header.{identifier_octets, length_octets, header_octets, IsHeader}
 use Rattle.rpki_der.specs.HeaderReading.{◌>>=◌, identifier_at, length_at, header_at}
-use Rattle.rpki_der.proofs.InSteps.{IsBytes, IsBytes-append, IsBytes-cons, pair-is, bind-ok, bind-err}
-use Rattle.rpki_der.proofs.Identifier.{IsIdentifier, identifier-takes, identifier-again, identifier-completes}
-use Rattle.rpki_der.proofs.Length.{IsLength, length-takes, length-again, length-completes}
+use Rattle.rpki_der.proofs.StepLaws.{IsBytes, IsBytes-append, IsBytes-cons, pair-is, bind-ok, bind-err}
+use Rattle.rpki_der.proofs.IdentifierLaws.{IsIdentifier, identifier-takes, identifier-again, identifier-completes}
+use Rattle.rpki_der.proofs.LengthLaws.{IsLength, length-takes, length-again, length-completes}
 
 -- the header of its parts
 abbrev made : (TagName × Bool) → ℕ → Header
@@ -17,10 +17,10 @@ made i n = record { tag = i.0; constructed = i.1; length = n }
 abbrev after : TagName × Bool → ℕ × List ℕ → Result (Header × List ℕ) DecodeError
 after i l = Ok (made i l.0, l.1)
 
-abbrev behind : (TagName × Bool) × List ℕ → Result (Header × List ℕ) DecodeError
-behind i = length_at i.1 >>= λ l. after i.0 l
+abbrev following : (TagName × Bool) × List ℕ → Result (Header × List ℕ) DecodeError
+following i = length_at i.1 >>= λ l. after i.0 l
 
-header-is : (s : List ℕ) → header_at s ≡ (identifier_at s >>= behind)
+header-is : (s : List ℕ) → header_at s ≡ (identifier_at s >>= following)
 unfolding header_at
 header-is s = refl
 
@@ -46,16 +46,16 @@ takes-so s q i n h r r' a b e =
     rw (← is.0, ← is.1) (record { legal = record { tag = a.legal; length = b.high }; octets = octets })
 
 -- bytes stay bytes after a front
-pub IsBytes-behind : (p q : List ℕ) → IsBytes (p ++ q) → IsBytes q
-IsBytes-behind [] q h = h
-IsBytes-behind (b ∷ p) q h = IsBytes-behind p q (λ i. h (suc i))
+pub IsBytes-following : (p q : List ℕ) → IsBytes (p ++ q) → IsBytes q
+IsBytes-following [] q h = h
+IsBytes-following (b ∷ p) q h = IsBytes-following p q (λ i. h (suc i))
 
 pub header-takes : (s : List ℕ) (h : Header) (r : List ℕ) → IsBytes s → header_at s ≡ Ok (h, r) → IsRead h s r
 header-takes s h r bytes e =
-    let a = bind-ok (identifier_at s) behind (h, r) (sym (header-is s) ∙ e) in
+    let a = bind-ok (identifier_at s) following (h, r) (sym (header-is s) ∙ e) in
     let b = bind-ok (length_at a.0.1) (λ l. after a.0.0 l) (h, r) a.2 in
     let i = identifier-takes s a.0.0 a.0.1 bytes a.1 in
-    let rest : IsBytes a.0.1 = IsBytes-behind (identifier_octets a.0.0.0 a.0.0.1) a.0.1 (rw i.octets at bytes) in
+    let rest : IsBytes a.0.1 = IsBytes-following (identifier_octets a.0.0.0 a.0.0.1) a.0.1 (rw i.octets at bytes) in
     takes-so s a.0.1 a.0.0 b.0.0 h r b.0.1 i (length-takes a.0.1 b.0.0 b.0.1 rest b.1) b.2
 
 -- ---- faults
@@ -69,7 +69,7 @@ identifier-grows s t i q bytes e =
 -- where a fault comes from: the identifier octets, or the length octets after them
 pub header-cases : (s : List ℕ) (e : DecodeError) → header_at s ≡ Err e → (identifier_at s ≡ Err e) ⊎ ((i : TagName × Bool) × (q : List ℕ) × (identifier_at s ≡ Ok (i, q)) × (length_at q ≡ Err e))
 header-cases s e h =
-    elim (bind-err (identifier_at s) behind e (sym (header-is s) ∙ h)) [
+    elim (bind-err (identifier_at s) following e (sym (header-is s) ∙ h)) [
       | inl g ↦ inl g
       | inr g ↦
           elim (bind-err (length_at g.0.1) (λ l. after g.0.0 l) e g.2) [

@@ -8,11 +8,11 @@ use Rattle.std.proofs.lemmas.List.Sums.{sum_by-append}
 use Rattle.rpki_der.specs.TagName.{TagName}
 use Rattle.rpki_der.specs.Header.{tlv}
 use Rattle.rpki_der.specs.Members.{Members, Empty, Primitive, Constructed, spell, HaveHeaders, count, header_count, AreValues}
-use Rattle.rpki_der.specs.Joined.{joined, spell_joined, headers_joined}
+use Rattle.rpki_der.specs.ValueListLaws.{joined, spell_joined, headers_joined}
 use Rattle.rpki_der.specs.Index.{Entry, entry, entries, IsIndex, StandsAt}
 use Rattle.rpki_der.specs.IndexParts.{IsListed}
 use Rattle.rpki_der.proofs.MembersLaws.{header, HasHeader, one_reading}
-use Rattle.rpki_der.proofs.Indexing.{length_entries}
+use Rattle.rpki_der.proofs.IndexingLaws.{length_entries}
 
 -- ---- one index
 

@@ -1,38 +1,38 @@
-pub mod InSteps
-pub mod Digits
-pub mod TagNumber
-pub mod Length
-pub mod Identifier
-pub mod PartReading
+pub mod StepLaws
+pub mod DigitLaws
+pub mod TagNumberLaws
+pub mod LengthLaws
+pub mod IdentifierLaws
+pub mod PartReadingLaws
 pub mod HeaderLaws
 pub mod ReadingLaws
-pub mod HeaderReads
+pub mod HeaderReadingLaws
 pub mod CursorLaws
 pub mod ValuesLaws
 pub mod LeavesLaws
-pub mod FlatLaws
-pub mod FaultsApart
+pub mod WantedLaws
+pub mod HeaderFaultLaws
 pub mod ComposedLaws
 pub mod InsideLaws
 pub mod TriedLaws
-pub mod Integers
+pub mod IntegerLaws
 pub mod OidLaws
 pub mod TextLaws
 pub mod MembersLaws
 pub mod NestedFaultLaws
-pub mod Walking
-pub mod Indexing
+pub mod WalkingLaws
+pub mod IndexingLaws
 pub mod IndexLaws
 pub mod WalkLaws
-pub mod Writing
-pub mod HeaderWriting
+pub mod WritingLaws
+pub mod HeaderWritingLaws
 pub mod EncodeLaws
 pub mod UnsignedLaws
-pub mod LeafValues
-pub mod LeavesWritten
-pub mod KindsApart
+pub mod LeafValueLaws
+pub mod LeafWritingLaws
+pub mod FaultKindLaws
 pub mod MemberLaws
 pub mod FrontLaws
-mod SomeFault
+mod SomeFaultLaws
 mod ShortestLaws
-mod IndexReading
+mod IndexReadingLaws

@@ -9,9 +9,9 @@ use Rattle.rpki_der.specs.Header.{digits, lead, identifier_octets, length_octets
 use Rattle.rpki_der.specs.Reading.{Spells, Accepts}
 use Rattle.rpki_der.specs.Values.{SpellsHeader, IsHeaderFault}
 use Rattle.rpki_der.specs.Members.{Members, Empty, Primitive, Constructed, spell, HaveHeaders, count, header_count, AreValues, IsValue, IsValueOf, SpellsValue}
-use Rattle.rpki_der.proofs.Digits.{length-digits}
-use Rattle.rpki_der.proofs.HeaderReads.{one-header}
-use Rattle.rpki_der.proofs.FaultsApart.{no-fault-at-header}
+use Rattle.rpki_der.proofs.DigitLaws.{length-digits}
+use Rattle.rpki_der.proofs.HeaderReadingLaws.{one-header}
+use Rattle.rpki_der.proofs.HeaderFaultLaws.{no-fault-at-header}
 
 -- the header of a tag, a form and a length of contents
 abbrev pub header : TagName → Bool → ℕ → List ℕ

@@ -10,8 +10,8 @@ use Rattle.rpki_der.specs.Reading.{Spells}
 use Rattle.rpki_der.specs.Values.{SpellsHeader, IsHeaderFault}
 use Rattle.rpki_der.specs.Members.{Members, Empty, Primitive, Constructed, spell, HaveHeaders, count, IsValue}
 use Rattle.rpki_der.specs.NestedFault.{IsNestedFault, AtHeader, AtContents, Inside}
-use Rattle.rpki_der.proofs.HeaderReads.{one-header}
-use Rattle.rpki_der.proofs.FaultsApart.{no-fault-at-header, one-fault-of-lists, beginnings}
+use Rattle.rpki_der.proofs.HeaderReadingLaws.{one-header}
+use Rattle.rpki_der.proofs.HeaderFaultLaws.{no-fault-at-header, one-fault-of-lists, beginnings}
 use Rattle.rpki_der.proofs.MembersLaws.{header, header_of, HasHeader, spells_header, two_octets, same_value, not_nothing, no_fault_at_header, none_left}
 
 -- no value begins these octets

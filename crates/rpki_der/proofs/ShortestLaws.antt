@@ -6,8 +6,8 @@ use Rattle.std.proofs.lemmas.Nat.{div-mul-add, div_below, div-add-mod'}
 use Rattle.rpki_der.specs.TagName.{TagName, IsTag}
 use Rattle.rpki_der.specs.Header.{digits, lead, identifier_octets, length_octets}
 use Rattle.rpki_der.specs.ShortestForm.{number_in, AreDigits, IsShortest, IsLengthForm, continued, IsIdentifierForm}
-use Rattle.rpki_der.proofs.Digits.{digits-zero, digits-last}
-use Rattle.rpki_der.proofs.HeaderWriting.{identifier_low, identifier_high, length_short, length_long}
+use Rattle.rpki_der.proofs.DigitLaws.{digits-zero, digits-last}
+use Rattle.rpki_der.proofs.HeaderWritingLaws.{identifier_low, identifier_high, length_short, length_long}
 
 -- ---- numbers
 

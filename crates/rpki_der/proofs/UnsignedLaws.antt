@@ -6,7 +6,7 @@ use borrow.Author.Tests.{ltb-true}
 use Rattle.rpki_der.specs.Number.{number_of, AreOctets}
 use Rattle.rpki_der.specs.NumberLaws.{number-lt}
 use Rattle.rpki_der.specs.Integer.{IsUnsigned, IsMagnitude, unsigned_contents}
-use Rattle.rpki_der.proofs.Integers.{without-zero, behind-zero}
+use Rattle.rpki_der.proofs.IntegerLaws.{without-zero, following-zero}
 
 -- what is written is the INTEGER of the number
 pub unsigned_spelled : (octets : List ℕ) → IsMagnitude octets → IsUnsigned (number_of octets) (unsigned_contents octets)
@@ -15,7 +15,7 @@ unsigned_spelled octets m = by_first (nat_lt (get_or octets 0 0) 128) refl where
   by_first true e = (without-zero octets m.each m.nonempty (ltb-true (get_or octets 0 0) 128 e) m.no_zero_in_front).0
   by_first false e =
       let some = m.nonempty in
-      (behind-zero (0 ∷ octets) (omega arith, m.each) (omega arith) refl (ltb-false (get_or octets 0 0) 128 e)).0
+      (following-zero (0 ∷ octets) (omega arith, m.each) (omega arith) refl (ltb-false (get_or octets 0 0) 128 e)).0
 
 -- without a zero in front, and with one
 pub unsigned_bare : (octets : List ℕ) → get_or octets 0 0 < 128 → unsigned_contents octets ≡ octets

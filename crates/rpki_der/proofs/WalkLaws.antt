@@ -123,9 +123,9 @@ capture_refused {s} {r} {e} h = Refusal-weaker (λ none. none) (kind e) h
     kind Trailing k = inr k
     kind OutOfMemory k = k
 
--- nothing is left
-pub capture_nothing : (s : List ℕ) → s ≡ [] → Refusal SpellsValue (OrMemoryWhere HasEither IsCaptureFault) s s Truncated
-capture_nothing s z = record {
+-- nothing is left, wherever allocation may fail
+pub capture_nothing : (P : List ℕ → Type 0) (s : List ℕ) → s ≡ [] → Refusal SpellsValue (OrMemoryWhere P IsCaptureFault) s s Truncated
+capture_nothing P s z = record {
   unchanged = refl;
   refuses = λ v r sp. omega (arith, value_some sp.spelled.value, ap length (sym z ∙ value_parts sp), length-append v r);
   kind = inl (z, refl);

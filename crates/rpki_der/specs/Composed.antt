@@ -21,18 +21,23 @@ pub record Inside {X E : Type 0} (t : TagName) (f : Bool) (reads : Constructed �
 -- Errors of this reader's own are turned into those of the reader of the contents.
 pub data NotInside {X E : Type 0} (t : TagName) (f : Bool) (turned : DecodeError → E → Type 0)
     (reads : Constructed → Result X E → Constructed → Type 0) (s : List ℕ) (e : E) : Type 0 where
-  Outside : (c : DecodeError) (q : List ℕ) → Refusal (SpellsContents t f) (IsContentsFault t f) s q c → turned c e → NotInside t f turned reads s e
+  Outside : (c : DecodeError) (q : List ℕ) → Refusal (SpellsContents t f) (IsContentsFault t f) s q c → turned c e
+      → NotInside t f turned reads s e
   Refused : (q d : List ℕ) → Inside t f reads s q (Err e) d → NotInside t f turned reads s e
-  More : (x : X) (q d : List ℕ) → Inside t f reads s q (Ok x) d → d ≢ [] → turned Trailing e → NotInside t f turned reads s e
+  More : (x : X) (q d : List ℕ) → Inside t f reads s q (Ok x) d → d ≢ [] → turned Trailing e
+      → NotInside t f turned reads s e
 
 -- The reader of one value found s and left r.
-abbrev pub ReadsInside : {X E : Type 0} → TagName → Bool → (DecodeError → E → Type 0) → (Constructed → Result X E → Constructed → Type 0) →
+abbrev pub ReadsInside : {X E : Type 0} → TagName → Bool → (DecodeError → E → Type 0)
+    → (Constructed → Result X E → Constructed → Type 0) →
     List ℕ → List ℕ → Result X E → Type 0
 ReadsInside t f turned reads s r (Ok x) = Inside t f reads s r (Ok x) []
 ReadsInside t f turned reads s r (Err e) = (r ≡ s) × NotInside t f turned reads s e
 
 -- A reader of the whole of s left r. Where r is empty s spells the result and nothing else; where it isn't, or where s
 -- is rejected, s spells nothing.
-abbrev pub ReadsAll : {X V : Type 0} → (X → V) → (V → List ℕ → Type 0) → (List ℕ → DecodeError → Type 0) → List ℕ → List ℕ → Result X DecodeError → Type 0
-ReadsAll {X} {V} view G K s r (Ok x) = (r ≡ [] → G (view x) s × ((w : V) → G w s → w ≡ view x)) × (r ≢ [] → SpellsNothing G s)
+abbrev pub ReadsAll : {X V : Type 0} → (X → V) → (V → List ℕ → Type 0) → (List ℕ → DecodeError → Type 0) → List ℕ
+    → List ℕ → Result X DecodeError → Type 0
+ReadsAll {X} {V} view G K s r (Ok x) =
+    (r ≡ [] → G (view x) s × ((w : V) → G w s → w ≡ view x)) × (r ≢ [] → SpellsNothing G s)
 ReadsAll view G K s r (Err e) = UnlessMemory e (SpellsNothing G s) × K s e

@@ -1,6 +1,6 @@
--- The header at the front of octets, as a function: it reads them from the left. By it a type that keeps octets says what
--- they stand for (Front.antt), and the loops of the readers say what they keep. The proofs show that it finds the headers of
--- Header.antt and their faults.
+-- The header at the front of octets, as a function: it reads them from the left. By it a type that keeps octets says
+-- what they stand for (Front.antt), and the loops of the readers say what they keep. The proofs show that it finds the
+-- headers of Header.antt and their faults.
 use Rattle.std.specs.Prelude.{ℕ, zero, suc, Bool, ◌+◌, ◌-◌, ◌*◌, ◌/◌, ◌%◌, ◌==◌, ◌&&◌, ◌||◌, nat_lt, if◌then◌else◌, List, [], ◌∷◌, Result, Ok, Err}
 use Rattle.rpki_der.specs.declared.error.DecodeError.{DecodeError}
 use Rattle.rpki_der.specs.declared.error.DecodeError.TheVariants.{Truncated, BadTag, BadLength}
@@ -33,7 +33,8 @@ unfoldable pub identifier_at : List ℕ → Result ((TagName × Bool) × List �
 identifier_at [] = Err Truncated
 identifier_at (b ∷ s) =
     if nat_lt (b % 32) 31
-    then (if (b / 64 == 0) && (b % 32 == 0) then Err BadTag else Ok ((tag_of (class_at (b / 64)) (b % 32), b / 32 % 2 == 1), s))
+    then (if (b / 64 == 0) && (b % 32 == 0) then Err BadTag
+    else Ok ((tag_of (class_at (b / 64)) (b % 32), b / 32 % 2 == 1), s))
     else (number_at 4 0 s >>= λ n. Ok ((tag_of (class_at (b / 64)) n.0, b / 32 % 2 == 1), n.1))
 
 -- a length from n on, in k further octets

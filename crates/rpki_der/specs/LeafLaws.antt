@@ -17,30 +17,39 @@ abbrev pub BooleansReadBack : Type 0
 BooleansReadBack = (b : Bool) → SpellsLeaf boolean false IsBoolean b (tlv boolean false (boolean_contents b))
 
 abbrev pub NumbersReadBack : Type 0
-NumbersReadBack = (octets : List ℕ) → IsMagnitude octets → length octets + 1 < 2 ^ 32 → SpellsLeaf integer false IsUnsigned (number_of octets) (tlv integer false (unsigned_contents octets))
+NumbersReadBack = (octets : List ℕ) → IsMagnitude octets → length octets + 1 < 2 ^ 32
+    → SpellsLeaf integer false IsUnsigned (number_of octets) (tlv integer false (unsigned_contents octets))
 
 abbrev pub IdentifiersReadBack : Type 0
-IdentifiersReadBack = (octets : List ℕ) → IsOid octets → length octets < 2 ^ 32 → SpellsLeaf oid false IsOidOf octets (tlv oid false (oid_contents octets))
+IdentifiersReadBack = (octets : List ℕ) → IsOid octets → length octets < 2 ^ 32
+    → SpellsLeaf oid false IsOidOf octets (tlv oid false (oid_contents octets))
 
 abbrev pub OctetsReadBack : Type 0
-OctetsReadBack = (octets : List ℕ) → length octets < 2 ^ 32 → SpellsContents octet_string false octets (tlv octet_string false (octet_string_contents octets))
+OctetsReadBack = (octets : List ℕ) → length octets < 2 ^ 32
+    → SpellsContents octet_string false octets (tlv octet_string false (octet_string_contents octets))
 
 abbrev pub BitsReadBack : Type 0
-BitsReadBack = (b : Bits) → AreBits b → length b.octets + 1 < 2 ^ 32 → SpellsLeaf bit_string false IsBits b (tlv bit_string false (bits_contents b))
+BitsReadBack = (b : Bits) → AreBits b → length b.octets + 1 < 2 ^ 32
+    → SpellsLeaf bit_string false IsBits b (tlv bit_string false (bits_contents b))
 
 -- ---- equal octets are written of equal values
 
 abbrev pub BooleansApart : Type 0
-BooleansApart = (a b : Bool) → (tlv boolean false (boolean_contents a) ≡ tlv boolean false (boolean_contents b)) ↔ (a ≡ b)
+BooleansApart = (a b : Bool) → (tlv boolean false (boolean_contents a) ≡ tlv boolean false (boolean_contents b))
+    ↔ (a ≡ b)
 
 abbrev pub NumbersApart : Type 0
-NumbersApart = (a b : List ℕ) → IsMagnitude a → IsMagnitude b → length b + 1 < 2 ^ 32 → (tlv integer false (unsigned_contents a) ≡ tlv integer false (unsigned_contents b)) ↔ (a ≡ b)
+NumbersApart = (a b : List ℕ) → IsMagnitude a → IsMagnitude b → length b + 1 < 2 ^ 32
+    → (tlv integer false (unsigned_contents a) ≡ tlv integer false (unsigned_contents b)) ↔ (a ≡ b)
 
 abbrev pub IdentifiersApart : Type 0
-IdentifiersApart = (a b : List ℕ) → length b < 2 ^ 32 → (tlv oid false (oid_contents a) ≡ tlv oid false (oid_contents b)) ↔ (a ≡ b)
+IdentifiersApart = (a b : List ℕ) → length b < 2 ^ 32
+    → (tlv oid false (oid_contents a) ≡ tlv oid false (oid_contents b)) ↔ (a ≡ b)
 
 abbrev pub OctetsApart : Type 0
-OctetsApart = (a b : List ℕ) → length b < 2 ^ 32 → (tlv octet_string false (octet_string_contents a) ≡ tlv octet_string false (octet_string_contents b)) ↔ (a ≡ b)
+OctetsApart = (a b : List ℕ) → length b < 2 ^ 32
+    → (tlv octet_string false (octet_string_contents a) ≡ tlv octet_string false (octet_string_contents b)) ↔ (a ≡ b)
 
 abbrev pub BitsApart : Type 0
-BitsApart = (a b : Bits) → length b.octets + 1 < 2 ^ 32 → (tlv bit_string false (bits_contents a) ≡ tlv bit_string false (bits_contents b)) ↔ (a ≡ b)
+BitsApart = (a b : Bits) → length b.octets + 1 < 2 ^ 32
+    → (tlv bit_string false (bits_contents a) ≡ tlv bit_string false (bits_contents b)) ↔ (a ≡ b)

@@ -8,9 +8,10 @@ pub mod HeaderParts
 pub mod HeaderReading
 pub mod Reading
 pub mod Values
+pub mod Origin
 pub mod Cursor
 pub mod Leaves
-pub mod Flat
+pub mod WantedValue
 pub mod ContentView
 pub mod Members
 pub mod Index
@@ -24,6 +25,7 @@ pub mod Integer
 pub mod Text
 pub mod Equal
 pub mod Walk
+pub mod Wanted
 pub mod Written
 pub mod Contents
 pub mod PrimitiveParts
@@ -35,5 +37,5 @@ pub mod Composed
 -- Lemmas, which the prover checks: ghost items of impls cite them.
 pub mod NumberLaws
 pub mod EqualLaws
-pub mod Joined
+pub mod ValueListLaws
 pub mod TreeLaws

@@ -14,9 +14,11 @@ pub data IsNestedFault : List ℕ → DecodeError → Type 0 where
   -- no header begins them: the fault of the header
   AtHeader : {s : List ℕ} {e : DecodeError} → s ≢ [] → IsHeaderFault s e → IsNestedFault s e
   -- a header begins them, and the contents that it announces are not all there
-  AtContents : {s : List ℕ} (h : Header) (r : List ℕ) → Spells SpellsHeader s h r → length r < h.length → IsNestedFault s Truncated
+  AtContents : {s : List ℕ} (h : Header) (r : List ℕ) → Spells SpellsHeader s h r → length r < h.length
+      → IsNestedFault s Truncated
   -- the contents are members, and then octets that have this fault
-  Inside : {s : List ℕ} {e : DecodeError} (t : TagName) (ms : Members) (r after : List ℕ) → IsTag t → length (spell ms ++ r) < 2 ^ 32 → HaveHeaders ms
+  Inside : {s : List ℕ} {e : DecodeError} (t : TagName) (ms : Members) (r after : List ℕ) → IsTag t
+      → length (spell ms ++ r) < 2 ^ 32 → HaveHeaders ms
       → s ≡ tlv t true (spell ms ++ r) ++ after → IsNestedFault r e → IsNestedFault s e
 
 -- The fault where one value is required: Truncated where nothing is left.

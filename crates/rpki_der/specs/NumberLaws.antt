@@ -23,13 +23,20 @@ first_octet m p x r h k =
     let e : m * (256 * p) + (x * p + r) ≡ (m * 256 + x) * p + r = omega arith in
     rw (e, div-mul-add (m * 256 + x) p r k) (omega arith)
 
-pub low_octets-num : (xs : List ℕ) (m : ℕ) → AreOctets xs → low_octets (length xs) (m * 256 ^ length xs + number_of xs) ≡ xs
+pub low_octets-num : (xs : List ℕ) (m : ℕ) → AreOctets xs
+    → low_octets (length xs) (m * 256 ^ length xs + number_of xs) ≡ xs
 unfolding low_octets
 low_octets-num [] m o = refl
 low_octets-num (x ∷ xs) m o =
     let p = 256 ^ length xs in
     let e : m * (256 * p) + (x * p + number_of xs) ≡ (m * 256 + x) * p + number_of xs = omega arith in
-    rw (power (length xs), first_octet m p x (number_of xs) o.0 (number-lt xs o.1), e, low_octets-num xs (m * 256 + x) o.1)
+    rw (
+      power (length xs),
+      first_octet m p x (number_of xs) o.0 (number-lt xs o.1),
+      e,
+      low_octets-num xs
+          (m * 256 + x) o.1,
+    )
 
 pub low_octets-full : (xs : List ℕ) (k : ℕ) → length xs ≡ k → AreOctets xs → low_octets k (number_of xs) ≡ xs
 low_octets-full xs k e o =

@@ -39,24 +39,28 @@ UnlessMemory OutOfMemory P = Unit {0}
 
 -- An error of a reader of the grammar G on s that leaves r: nothing changed, no beginning of s is in G, and K says
 -- which error it is.
-pub record Refusal {V : Type 0} (G : V → List ℕ → Type 0) (K : List ℕ → DecodeError → Type 0) (s r : List ℕ) (e : DecodeError) : Type 0 where
+pub record Refusal {V : Type 0} (G : V → List ℕ → Type 0) (K : List ℕ → DecodeError → Type 0) (s r : List ℕ)
+    (e : DecodeError) : Type 0 where
   pub unchanged : r ≡ s
   pub refuses : UnlessMemory e (Refuses G s)
   pub kind : K s e
 
 -- A reader of the grammar G found s and left r. The result x stands for the value view x.
-abbrev pub Reads : {X V : Type 0} → (X → V) → (V → List ℕ → Type 0) → (List ℕ → DecodeError → Type 0) → List ℕ → List ℕ → Result X DecodeError → Type 0
+abbrev pub Reads : {X V : Type 0} → (X → V) → (V → List ℕ → Type 0) → (List ℕ → DecodeError → Type 0) → List ℕ
+    → List ℕ → Result X DecodeError → Type 0
 Reads view G K s r (Ok x) = Accepts G s (view x) r
 Reads view G K s r (Err e) = Refusal G K s r e
 
 -- The same for an optional reader, which returns None exactly where s does not begin as B says.
-abbrev pub ReadsWhere : {X V : Type 0} → (List ℕ → Type 0) → (X → V) → (V → List ℕ → Type 0) → (List ℕ → DecodeError → Type 0) → List ℕ → List ℕ → Result (Option X) DecodeError → Type 0
+abbrev pub ReadsWhere : {X V : Type 0} → (List ℕ → Type 0) → (X → V) → (V → List ℕ → Type 0)
+    → (List ℕ → DecodeError → Type 0) → List ℕ → List ℕ → Result (Option X) DecodeError → Type 0
 ReadsWhere B view G K s r (Ok None) = (B s → ⊥) × (r ≡ s)
 ReadsWhere B view G K s r (Ok (Some x)) = B s × Accepts G s (view x) r
 ReadsWhere B view G K s r (Err e) = B s × Refusal G K s r e
 
 -- A reader of the whole of s.
-abbrev pub Decodes : {X V : Type 0} → (X → V) → (V → List ℕ → Type 0) → (List ℕ → DecodeError → Type 0) → List ℕ → Result X DecodeError → Type 0
+abbrev pub Decodes : {X V : Type 0} → (X → V) → (V → List ℕ → Type 0) → (List ℕ → DecodeError → Type 0) → List ℕ
+    → Result X DecodeError → Type 0
 Decodes {X} {V} view G K s (Ok x) = G (view x) s × ((w : V) → G w s → w ≡ view x)
 Decodes view G K s (Err e) = UnlessMemory e (SpellsNothing G s) × K s e
 
@@ -85,6 +89,7 @@ AnyFault s e = Unit {0}
 
 -- The error of a reader of whole octets: Trailing where a proper beginning is in the grammar; where no beginning is,
 -- what the reader of a beginning says.
-pub record IsWholeFault {V : Type 0} (G : V → List ℕ → Type 0) (K : List ℕ → DecodeError → Type 0) (s : List ℕ) (e : DecodeError) : Type 0 where
+pub record IsWholeFault {V : Type 0} (G : V → List ℕ → Type 0) (K : List ℕ → DecodeError → Type 0) (s : List ℕ)
+    (e : DecodeError) : Type 0 where
   pub trailing : (v : V) (b : ℕ) (more : List ℕ) → Spells G s v (b ∷ more) → UnlessMemory e (e ≡ Trailing)
   pub kind : Refuses G s → K s e

@@ -23,7 +23,8 @@ pub record IsShortest (base n : ℕ) (ds : List ℕ) : Type 0 where
 -- Length octets in the definite form: the length itself where it is below 128; else an octet that counts those that
 -- follow, with bit 8 set, and the fewest octets that write the length (X.690 8.1.3.4, 8.1.3.5, 10.1).
 abbrev pub IsLengthForm : ℕ → List ℕ → Type 0
-IsLengthForm n p = ((n < 128) × (p ≡ n ∷ [])) ⊎ ((128 ≤ n) × (ds : List ℕ) × IsShortest 256 n ds × (p ≡ (128 + length ds) ∷ ds))
+IsLengthForm n p = ((n < 128) × (p ≡ n ∷ [])) ⊎ ((128 ≤ n) × (ds : List ℕ) × IsShortest 256 n ds
+    × (p ≡ (128 + length ds) ∷ ds))
 
 -- digits of base 128 as octets: bit 8 of each but the last is set
 abbrev pub continued : List ℕ → List ℕ

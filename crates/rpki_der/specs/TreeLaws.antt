@@ -7,7 +7,8 @@ use Rattle.rpki_der.specs.OptionalPart.{optional_octets, optional_tree, OfPart}
 use Rattle.rpki_der.specs.Tree.{Tree, tree_octets, IsShortTree}
 
 -- values and then values
-pub both_spelled : (a b : List ℕ) (s t : Tree) → a ≡ tree_octets s → b ≡ tree_octets t → a ++ b ≡ tree_octets s ++ tree_octets t
+pub both_spelled : (a b : List ℕ) (s t : Tree) → a ≡ tree_octets s → b ≡ tree_octets t
+    → a ++ b ≡ tree_octets s ++ tree_octets t
 both_spelled a b s t p q = ap (λ (w : List ℕ). w ++ b) p ∙ ap (λ (w : List ℕ). tree_octets s ++ w) q
 
 pub both_measured : {A B P Q : Type 0} → (A ↔ P) → (B ↔ Q) → (A × B) ↔ (P × Q)
@@ -17,7 +18,8 @@ pub three_measured : {A B C P Q R : Type 0} → (A ↔ P) → (B ↔ Q) → (C �
 three_measured p q r = (λ h. ((p.0 h.0, q.0 h.1), r.0 h.2), λ h. (p.1 h.0.0, q.1 h.0.1, r.1 h.1))
 
 -- a value around values
-pub around_spelled : (t : TagName) (f : Bool) (a : List ℕ) (s : Tree) → a ≡ tree_octets s → tlv t f a ≡ tlv t f (tree_octets s)
+pub around_spelled : (t : TagName) (f : Bool) (a : List ℕ) (s : Tree) → a ≡ tree_octets s
+    → tlv t f a ≡ tlv t f (tree_octets s)
 around_spelled t f a s p = ap (λ (w : List ℕ). tlv t f w) p
 
 pub around_measured : {A : Type 0} (a : List ℕ) (s : Tree) → a ≡ tree_octets s → (A ↔ IsShortTree s)
@@ -25,7 +27,8 @@ pub around_measured : {A : Type 0} (a : List ℕ) (s : Tree) → a ≡ tree_octe
 around_measured a s e p = (λ h. (p.0 h.0, rw (← e) h.1), λ h. (p.1 h.0, rw e h.1))
 
 -- values that may be left out
-pub optional_spelled : {V : Type 0} (octets : V → List ℕ) (tree : V → Tree) → ((v : V) → octets v ≡ tree_octets (tree v))
+pub optional_spelled : {V : Type 0} (octets : V → List ℕ) (tree : V → Tree)
+    → ((v : V) → octets v ≡ tree_octets (tree v))
     → (x : Option V) → optional_octets octets x ≡ tree_octets (optional_tree tree x)
 optional_spelled octets tree p None = refl
 optional_spelled octets tree p (Some v) = p v

@@ -24,7 +24,8 @@ pub record SpellsContents (t : TagName) (f : Bool) (contents p : List ℕ) : Typ
   pub octets : p ≡ tlv t f contents
 
 -- a value of this tag and form, whose contents spell v
-pub record SpellsLeaf {V : Type 0} (t : TagName) (f : Bool) (C : V → List ℕ → Type 0) (v : V) (p : List ℕ) : Type 0 where
+pub record SpellsLeaf {V : Type 0} (t : TagName) (f : Bool) (C : V → List ℕ → Type 0) (v : V)
+    (p : List ℕ) : Type 0 where
   pub contents : List ℕ
   pub value : SpellsContents t f contents p
   pub spelled : C v contents
@@ -69,7 +70,8 @@ IsLeafFault t f C s Truncated = IsContentsFault t f s Truncated
 IsLeafFault t f C s BadTag = IsContentsFault t f s BadTag
 IsLeafFault t f C s BadLength = IsContentsFault t f s BadLength
 IsLeafFault t f C s Unexpected = IsContentsFault t f s Unexpected
-IsLeafFault {V} t f C s (Content e) = (c : List ℕ) × (r : List ℕ) × Spells (SpellsContents t f) s c r × ((v : V) → C v c → ⊥)
+IsLeafFault {V} t f C s (Content e) =
+    (c : List ℕ) × (r : List ℕ) × Spells (SpellsContents t f) s c r × ((v : V) → C v c → ⊥)
 IsLeafFault t f C s Trailing = ⊥
 IsLeafFault t f C s OutOfMemory = ⊥
 

@@ -30,8 +30,8 @@ impl Model for BitString {
 }
 
 impl BitString {
-    /// Whether a bit string of these octets may have this many unused bits: at most 7, none where there is no octet, and
-    /// all of them zero (X.690 8.6.2, 11.2.1).
+    /// Whether a bit string of these octets may have this many unused bits: at most 7, none where there is no octet,
+    /// and all of them zero (X.690 8.6.2, 11.2.1).
     pub fn is_legal(unused: u8, octets: &[u8]) -> bool
         ensures { IsTrue result ↔ AreBits (bits_of unused octets.now) }
     {
@@ -121,7 +121,9 @@ impl<'a> Constructed<'a> {
     /// The errors are those of a header; then `Unexpected` for another tag or form; then `Truncated`; then `Content`
     /// for contents that are not those of a bit string; then `OutOfMemory` if allocation fails.
     pub fn take_bit_string(&mut self) -> Result<BitString, DecodeError>
-        ensures { Reads (λ b. b) (SpellsLeaf bit_string false IsBits) (OrMemoryWhere (Finds (SpellsLeaf bit_string false IsBits)) (IsLeafFault bit_string false IsBits)) (left self.old) (left self.new) result }
+        ensures { Reads (λ b. b) (SpellsLeaf bit_string false IsBits)
+            (OrMemoryWhere (Finds (SpellsLeaf bit_string false IsBits)) (IsLeafFault bit_string false IsBits))
+            (left self.old) (left self.new) result }
     {
         let mut after = *self;
         let contents = after.take_contents(Tag::BIT_STRING, false)?;

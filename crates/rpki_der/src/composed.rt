@@ -11,8 +11,8 @@ use crate::error::DecodeError;
 use crate::tag::Tag;
 
 impl<'a> Constructed<'a> {
-    /// Reads a value of this tag and form, whose contents `op` reads to their end. The cursor moves only where all of it
-    /// succeeds.
+    /// Reads a value of this tag and form, whose contents `op` reads to their end. The cursor moves only where all of
+    /// it succeeds.
     fn in_value<
         T: Drop,
         E: Drop + From<DecodeError>,

@@ -1,8 +1,9 @@
-//! A cursor over shared octets.
+//! A cursor over octets.
 
 ghost use Rattle.std.specs.Prelude.{◌≡◌, ◌≢◌, ◌≤◌, ◌<◌, ◌+◌, ◌-◌, ◌^◌, ℕ, List, [], length, take, drop, IsTrue, ◌↔◌, MatchResult, IfOk, IfErr, IfSome, slice_range};
 ghost use Rattle.std.specs.List.{AllByRecursion};
 ghost use Rattle.rpki_der.specs.Index.{StandsAt};
+ghost use Rattle.rpki_der.specs.Origin.{origin_octets};
 ghost use Rattle.std.proofs.Props.{props};
 
 use crate::error::DecodeError;
@@ -10,21 +11,32 @@ use crate::header::{begins_with, header};
 use crate::index::HeaderEntry;
 use crate::tag::{Header, Steps, Tag};
 use bytes::Bytes;
-use std::alloc::AllocError;
+use std::alloc::{AllocError, Global};
 
-/// What is left of shared octets, or of the contents of a value in them.
+/// Where the octets of a cursor are, for a reader that keeps some of them.
+#[derive(Clone, Copy)]
+enum Origin<'a> {
+    /// In shared octets, which are shared once more.
+    Shared(&'a Bytes),
+    /// In a slice, of which a copy is made.
+    Borrowed(Global),
+}
+
+/// What is left of octets, or of the contents of a value in them.
 ///
 /// A reader moves the cursor past what it reads. A reader that fails leaves it where it was. A cursor on captured
 /// values has their index, and takes from it each header that has an entry, instead of reading it again.
 #[derive(Clone, Copy)]
 pub struct Constructed<'a> {
-    source: &'a Bytes,
+    source: &'a [u8],
+    origin: Origin<'a>,
     start: usize,
     end: usize,
     /// The index of the source; empty if there is none.
     index: &'a [HeaderEntry],
     /// The number of the first entry that does not stand before the start.
     next: usize,
+    ghost same: { origin_octets origin source.now ≡ source.now },
     ghost ordered: { start ≤ end },
     ghost inside: { end ≤ length source.now },
     ghost stands: { AllByRecursion (StandsAt source.now) index.now } by { Prim.hlevel props },
@@ -35,11 +47,26 @@ impl<'a> Constructed<'a> {
     ghost use Rattle.rpki_der.specs.Reading.{Reads, Accepts, Refuses};
     ghost use Rattle.rpki_der.specs.Values.{SpellsHeader, HasTag, IsHeaderFault};
 
-    /// A cursor on all of the octets.
+    /// A cursor on all of the octets. What a reader keeps of them, it shares.
     pub fn new(source: &'a Bytes) -> Constructed<'a>
         ensures { left result ≡ source.now }
     {
         Constructed::indexed(source, &[])
+    }
+
+    /// A cursor on all of the octets, without a copy. What a reader keeps of them, it copies.
+    #[tactic(auto, using(crate::proofs::CursorLaws::cuts), unfolding(crate::specs::Cursor::left))]
+    pub fn from_slice(alloc: Global, octets: &'a [u8]) -> Constructed<'a>
+        ensures { left result ≡ octets.now }
+    {
+        Constructed {
+            source: octets,
+            origin: Origin::Borrowed(alloc),
+            start: 0,
+            end: octets.len(),
+            index: &[],
+            next: 0,
+        }
     }
 
     /// A cursor on all of the octets, whose entries stand where they say.
@@ -49,7 +76,8 @@ impl<'a> Constructed<'a> {
         ensures { left result ≡ source.now }
     {
         Constructed {
-            source,
+            source: source.as_slice(),
+            origin: Origin::Shared(source),
             start: 0,
             end: source.len(),
             index,
@@ -68,7 +96,8 @@ impl<'a> Constructed<'a> {
 
     /// The entry of the header at the front, where the index has one.
     fn entry(&self) -> Option<HeaderEntry>
-        ensures { IfSome result (λ e. StandsAt self.now.source.now e × (e.place ≡ self.now.start) × (e.past ≤ self.now.end)) }
+        ensures { IfSome result (λ e. StandsAt self.now.source.now e × (e.place ≡ self.now.start)
+            × (e.past ≤ self.now.end)) }
     {
         let found = self.index.get(self.next)?;
         if found.place() == self.start && found.past() <= self.end {
@@ -83,7 +112,7 @@ impl<'a> Constructed<'a> {
     pub fn rest(&self) -> &'a [u8]
         ensures { result.now ≡ left self.now }
     {
-        &self.source.as_slice()[self.start..self.end]
+        &self.source[self.start..self.end]
     }
 
     /// Whether nothing is left.
@@ -106,29 +135,32 @@ impl<'a> Constructed<'a> {
     pub(crate) fn split_at(&self, at: usize) -> (Constructed<'a>, Constructed<'a>)
         requires { at ≤ length (left self.now) }
         ensures front { left result.0 ≡ take at (left self.now) }
-        ensures behind { left result.1 ≡ drop at (left self.now) }
+        ensures following { left result.1 ≡ drop at (left self.now) }
     {
         let seam = self.start + at;
         let front = Constructed {
             source: self.source,
+            origin: self.origin,
             start: self.start,
             end: seam,
             index: self.index,
             next: self.next,
         };
-        let behind = Constructed {
+        let following = Constructed {
             source: self.source,
+            origin: self.origin,
             start: seam,
             end: self.end,
             index: self.index,
             next: self.entry_from(seam),
         };
-        (front, behind)
+        (front, following)
     }
 
     /// Returns Ok if nothing is left, else `Trailing`: the last step of a reader of whole octets, or of whole contents.
     pub fn finish(self) -> Result<(), DecodeError>
-        ensures { MatchResult result (λ _. left self.entry ≡ []) (λ e. (e ≡ DecodeError.Trailing) × (left self.entry ≢ [])) }
+        ensures { MatchResult result (λ _. left self.entry ≡ [])
+            (λ e. (e ≡ DecodeError.Trailing) × (left self.entry ≢ [])) }
     {
         if self.is_empty() {
             Ok(())
@@ -145,6 +177,7 @@ impl<'a> Constructed<'a> {
     {
         Constructed {
             source: self.source,
+            origin: self.origin,
             start: entry.contents(),
             end: self.end,
             index: self.index,
@@ -165,6 +198,7 @@ impl<'a> Constructed<'a> {
                 found,
                 Constructed {
                     source: self.source,
+                    origin: self.origin,
                     start: self.end - rest.len(),
                     end: self.end,
                     index: self.index,
@@ -187,8 +221,8 @@ impl<'a> Constructed<'a> {
     {
         steps.raise();
         match self.after_header() {
-            Ok((found, behind)) => {
-                *self = behind;
+            Ok((found, following)) => {
+                *self = following;
                 Ok(found)
             }
             Err(e) => Err(e),
@@ -203,17 +237,20 @@ impl<'a> Constructed<'a> {
     }
 
     /// Whether exactly these octets are left.
-    pub(crate) fn is_only(&self, expected: &[u8]) -> bool
+    pub(crate) fn rest_is(&self, expected: &[u8]) -> bool
         ensures { IsTrue result ↔ (left self.now ≡ expected.now) }
     {
         self.rest() == expected
     }
 
-    /// The octets that are left, shared.
+    /// The octets that are left, shared with the source, or copied where that is a slice.
     #[tactic(auto, using(crate::proofs::CursorLaws::cuts), unfolding(crate::specs::Cursor::left))]
     pub(crate) fn to_bytes(&self) -> Result<Bytes, AllocError>
         ensures { IfOk result (λ b. b ≡ left self.now) }
     {
-        self.source.slice(self.start..self.end)
+        match self.origin {
+            Origin::Shared(bytes) => bytes.slice(self.start..self.end),
+            Origin::Borrowed(alloc) => Bytes::copy_from_slice(alloc, self.rest()),
+        }
     }
 }

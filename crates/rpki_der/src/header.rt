@@ -14,6 +14,8 @@ use crate::tag::{Class, Header, Tag};
 /// rest. The number has at most four octets, and is the shortest form of a number of 31 or more.
 ///
 /// Returns `Truncated` if the octets end within the number; else `BadTag` if they have no such form.
+#[cold]
+#[inline(never)]
 fn tag_number(s: &[u8]) -> Result<(u32, &[u8]), DecodeError>
     ensures { ReadsPart (λ x. (x.0, x.1.now)) SpellsTagNumber BadTag s.now result }
 {
@@ -40,6 +42,7 @@ fn tag_number(s: &[u8]) -> Result<(u32, &[u8]), DecodeError>
 /// The identifier octets at the front (X.690 8.1.2): the tag, whether the value is constructed, and the rest.
 ///
 /// The errors are `Truncated` and `BadTag`.
+#[inline(always)]
 fn identifier(s: &[u8]) -> Result<(Tag, bool, &[u8]), DecodeError>
     ensures { ReadsPart (λ x. ((x.0, x.1), x.2.now)) SpellsIdentifier BadTag s.now result }
 {
@@ -94,6 +97,7 @@ fn length(s: &[u8]) -> Result<(u32, &[u8]), DecodeError>
 ///
 /// Returns `Truncated` if the octets end within the length; else `BadLength` if fewer octets, or one below 128, would
 /// do.
+#[inline(always)]
 fn long_length(count: usize, s: &[u8]) -> Result<(u32, &[u8]), DecodeError>
     requires { count ≤ 4 }
     ensures { ReadsPart (λ x. (x.0, x.1.now)) (SpellsLongLength count) BadLength s.now result }
@@ -118,6 +122,7 @@ fn long_length(count: usize, s: &[u8]) -> Result<(u32, &[u8]), DecodeError>
 ///
 /// The errors are `Truncated`, `BadTag` and `BadLength`: the first octet that cannot be continued to a legal encoding
 /// decides.
+#[inline(always)]
 pub(crate) fn header(s: &[u8]) -> Result<(Header, &[u8]), DecodeError>
     ensures ok { IfOk result (λ x. Accepts SpellsHeader s.now x.0 x.1.now) }
     ensures err { IfErr result (λ e. Refuses SpellsHeader s.now × IsHeaderFault s.now e) }

@@ -25,18 +25,41 @@ impl Model for HeaderEntry {
 
     ghost Value = { Entry };
 
-    ghost view = { λ e. record { place = e.place; contents = e.place + e.size; past = e.place + e.size + e.length; tag = e.tag; constructed = e.constructed; parent = parent_of e.is_inner e.holder } };
+    ghost view = { λ e. record {
+      place = e.place;
+      contents = e.place + e.size;
+      past = e.place + e.size + e.length;
+      tag = e.tag;
+      constructed = e.constructed;
+      parent = parent_of e.is_inner e.holder;
+    } };
 
-    ghost invariant = { λ e. (e.place + e.size + e.length < 2 ^ 64) × (e.holder ≡ holder_of (parent_of e.is_inner e.holder)) };
+    ghost invariant = { λ e. (e.place + e.size + e.length < 2 ^ 64)
+        × (e.holder ≡ holder_of (parent_of e.is_inner e.holder)) };
 
-    ghost inverse = { λ e. record { place = e.place; holder = holder_of e.parent; length = e.past - e.contents; tag = e.tag; size = e.contents - e.place; constructed = e.constructed; is_inner = is_held e.parent } };
+    ghost inverse = { λ e. record {
+      place = e.place;
+      holder = holder_of e.parent;
+      length = e.past - e.contents;
+      tag = e.tag;
+      size = e.contents - e.place;
+      constructed = e.constructed;
+      is_inner = is_held e.parent;
+    } };
 }
 
 impl HeaderEntry {
     /// The entry of a header of this size, at this place, in the value whose entry has this number.
     pub(crate) fn new(place: usize, size: u8, header: &Header, parent: Option<usize>) -> HeaderEntry
         requires { place + size + header.now.length < 2 ^ 64 }
-        ensures { result ≡ record { place = place; contents = place + size; past = place + size + header.now.length; tag = header.now.tag; constructed = header.now.constructed; parent = parent } }
+        ensures { result ≡ record {
+          place = place;
+          contents = place + size;
+          past = place + size + header.now.length;
+          tag = header.now.tag;
+          constructed = header.now.constructed;
+          parent = parent;
+        } }
     {
         HeaderEntry {
             place,
@@ -51,7 +74,11 @@ impl HeaderEntry {
 
     /// The header.
     pub(crate) fn header(&self) -> Header
-        ensures { result ≡ record { tag = self.now.tag; constructed = self.now.constructed; length = self.now.past - self.now.contents } }
+        ensures { result ≡ record {
+          tag = self.now.tag;
+          constructed = self.now.constructed;
+          length = self.now.past - self.now.contents;
+        } }
     {
         Header {
             tag: self.tag,

@@ -119,7 +119,8 @@ impl<'a> Constructed<'a> {
     /// The errors are those of a header; then `Unexpected` for another tag or form; then `Truncated`; then `Content`
     /// for contents that are empty, negative or begin with nine equal bits.
     pub fn take_unsigned(&mut self) -> Result<Unsigned<'a>, DecodeError>
-        ensures { Reads number_of (SpellsLeaf integer false IsUnsigned) (IsLeafFault integer false IsUnsigned) (left self.old) (left self.new) result }
+        ensures { Reads number_of (SpellsLeaf integer false IsUnsigned) (IsLeafFault integer false IsUnsigned)
+            (left self.old) (left self.new) result }
     {
         let mut after = *self;
         let contents = after.take_contents(Tag::INTEGER, false)?;

@@ -8,7 +8,7 @@ ghost use Rattle.rpki_der.specs.Header.{identifier_octets, length_octets, tlv};
 ghost use Rattle.rpki_der.specs.ShortestForm.{IsLengthForm, IsIdentifierForm};
 ghost use Rattle.rpki_der.specs.Contents.{null_contents};
 ghost use Rattle.rpki_der.specs.Values.{SpellsHeader, IsHeaderFault, IsContentsFault, IsLeafFault};
-ghost use Rattle.rpki_der.specs.Flat.{IsFlatFault, IsWanted};
+ghost use Rattle.rpki_der.specs.WantedValue.{IsWantedFault, IsAnyTag, IsTagged};
 ghost use Rattle.rpki_der.specs.Leaves.{IsNull, IsBoolean, IsOidOf, IsBits};
 ghost use Rattle.rpki_der.specs.Integer.{IsUnsigned};
 ghost use Rattle.rpki_der.specs.Text.{IsPrintableText, IsUtf8Text};
@@ -39,7 +39,8 @@ pub fn identifiers_in_shortest_form()
 
 /// A list of octets begins with at most one header.
 pub fn one_header()
-    ensures { (s : List ℕ) (h k : Header) (r q : List ℕ) → Spells SpellsHeader s h r → Spells SpellsHeader s k q → (h ≡ k) × (r ≡ q) }
+    ensures { (s : List ℕ) (h k : Header) (r q : List ℕ) → Spells SpellsHeader s h r → Spells SpellsHeader s k q
+        → (h ≡ k) × (r ≡ q) }
 {}
 
 /// Octets that no header begins have one fault at most.
@@ -50,15 +51,25 @@ pub fn one_fault()
 /// Errors are unique: each reader of values by their tag and form, and each reader of leaves, has at most one error for
 /// given octets. For a leaf whose contents are malformed the kind is unique; its text is the reader's.
 pub fn one_refusal()
-    ensures values { (t : TagName) (f : Bool) (s : List ℕ) (d e : DecodeError) → IsContentsFault t f s d → IsContentsFault t f s e → d ≡ e }
-    ensures flat { (wanted : Option TagName) (s : List ℕ) (d e : DecodeError) → IsFlatFault (IsWanted wanted) s d → IsFlatFault (IsWanted wanted) s e → d ≡ e }
-    ensures nulls { (s : List ℕ) (d e : DecodeError) → IsLeafFault null false IsNull s d → IsLeafFault null false IsNull s e → error_number d ≡ error_number e }
-    ensures booleans { (s : List ℕ) (d e : DecodeError) → IsLeafFault boolean false IsBoolean s d → IsLeafFault boolean false IsBoolean s e → error_number d ≡ error_number e }
-    ensures numbers { (s : List ℕ) (d e : DecodeError) → IsLeafFault integer false IsUnsigned s d → IsLeafFault integer false IsUnsigned s e → error_number d ≡ error_number e }
-    ensures identifiers { (s : List ℕ) (d e : DecodeError) → IsLeafFault oid false IsOidOf s d → IsLeafFault oid false IsOidOf s e → error_number d ≡ error_number e }
-    ensures bits { (s : List ℕ) (d e : DecodeError) → IsLeafFault bit_string false IsBits s d → IsLeafFault bit_string false IsBits s e → error_number d ≡ error_number e }
-    ensures printable { (s : List ℕ) (d e : DecodeError) → IsLeafFault printable_string false IsPrintableText s d → IsLeafFault printable_string false IsPrintableText s e → error_number d ≡ error_number e }
-    ensures utf8 { (s : List ℕ) (d e : DecodeError) → IsLeafFault utf8_string false IsUtf8Text s d → IsLeafFault utf8_string false IsUtf8Text s e → error_number d ≡ error_number e }
+    ensures values { (t : TagName) (f : Bool) (s : List ℕ) (d e : DecodeError) → IsContentsFault t f s d
+        → IsContentsFault t f s e → d ≡ e }
+    ensures flat { (s : List ℕ) (d e : DecodeError) → IsWantedFault IsAnyTag s d → IsWantedFault IsAnyTag s e → d ≡ e }
+    ensures tagged { (t : TagName) (s : List ℕ) (d e : DecodeError) → IsWantedFault (IsTagged t) s d
+        → IsWantedFault (IsTagged t) s e → d ≡ e }
+    ensures nulls { (s : List ℕ) (d e : DecodeError) → IsLeafFault null false IsNull s d
+        → IsLeafFault null false IsNull s e → error_number d ≡ error_number e }
+    ensures booleans { (s : List ℕ) (d e : DecodeError) → IsLeafFault boolean false IsBoolean s d
+        → IsLeafFault boolean false IsBoolean s e → error_number d ≡ error_number e }
+    ensures numbers { (s : List ℕ) (d e : DecodeError) → IsLeafFault integer false IsUnsigned s d
+        → IsLeafFault integer false IsUnsigned s e → error_number d ≡ error_number e }
+    ensures identifiers { (s : List ℕ) (d e : DecodeError) → IsLeafFault oid false IsOidOf s d
+        → IsLeafFault oid false IsOidOf s e → error_number d ≡ error_number e }
+    ensures bits { (s : List ℕ) (d e : DecodeError) → IsLeafFault bit_string false IsBits s d
+        → IsLeafFault bit_string false IsBits s e → error_number d ≡ error_number e }
+    ensures printable { (s : List ℕ) (d e : DecodeError) → IsLeafFault printable_string false IsPrintableText s d
+        → IsLeafFault printable_string false IsPrintableText s e → error_number d ≡ error_number e }
+    ensures utf8 { (s : List ℕ) (d e : DecodeError) → IsLeafFault utf8_string false IsUtf8Text s d
+        → IsLeafFault utf8_string false IsUtf8Text s e → error_number d ≡ error_number e }
 {}
 
 /// Octets are one list of members at most, at every depth.

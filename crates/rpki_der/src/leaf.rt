@@ -31,7 +31,8 @@ impl<'a> Constructed<'a> {
     /// The errors are those of a header; then `Unexpected` for another tag or form; then `Truncated`; then `Content`
     /// for contents that are not empty.
     pub fn take_null(&mut self) -> Result<(), DecodeError>
-        ensures { Reads (λ _. tt) (SpellsLeaf null false IsNull) (IsLeafFault null false IsNull) (left self.old) (left self.new) result }
+        ensures { Reads (λ _. tt) (SpellsLeaf null false IsNull) (IsLeafFault null false IsNull) (left self.old)
+            (left self.new) result }
     {
         let mut after = *self;
         let contents = after.take_contents(Tag::NULL, false)?;
@@ -45,7 +46,8 @@ impl<'a> Constructed<'a> {
     /// As [Constructed::take_null] where what is left begins with the identifier octets of a NULL, in either form; else
     /// None.
     pub fn take_opt_null(&mut self) -> Result<Option<()>, DecodeError>
-        ensures { ReadsWhere (HasTag null) (λ _. tt) (SpellsLeaf null false IsNull) (IsLeafFault null false IsNull) (left self.old) (left self.new) result }
+        ensures { ReadsWhere (HasTag null) (λ _. tt) (SpellsLeaf null false IsNull) (IsLeafFault null false IsNull)
+            (left self.old) (left self.new) result }
     {
         if !self.has_tag(Tag::NULL) {
             return Ok(None);
@@ -59,7 +61,8 @@ impl<'a> Constructed<'a> {
     /// The errors are those of a header; then `Unexpected` for another tag or form; then `Truncated`; then `Content`
     /// for other contents.
     pub fn take_bool(&mut self) -> Result<bool, DecodeError>
-        ensures { Reads (λ b. b) (SpellsLeaf boolean false IsBoolean) (IsLeafFault boolean false IsBoolean) (left self.old) (left self.new) result }
+        ensures { Reads (λ b. b) (SpellsLeaf boolean false IsBoolean) (IsLeafFault boolean false IsBoolean)
+            (left self.old) (left self.new) result }
     {
         let mut after = *self;
         let contents = after.take_contents(Tag::BOOLEAN, false)?;
@@ -75,7 +78,8 @@ impl<'a> Constructed<'a> {
     /// As [Constructed::take_bool] where what is left begins with the identifier octets of a BOOLEAN, in either form;
     /// else None.
     pub fn take_opt_bool(&mut self) -> Result<Option<bool>, DecodeError>
-        ensures { ReadsWhere (HasTag boolean) (λ b. b) (SpellsLeaf boolean false IsBoolean) (IsLeafFault boolean false IsBoolean) (left self.old) (left self.new) result }
+        ensures { ReadsWhere (HasTag boolean) (λ b. b) (SpellsLeaf boolean false IsBoolean)
+            (IsLeafFault boolean false IsBoolean) (left self.old) (left self.new) result }
     {
         if !self.has_tag(Tag::BOOLEAN) {
             return Ok(None);
@@ -88,7 +92,8 @@ impl<'a> Constructed<'a> {
     ///
     /// The errors are those of a header; then `Unexpected` for another tag or form; then `Truncated`.
     pub fn take_octets(&mut self) -> Result<&'a [u8], DecodeError>
-        ensures { Reads (λ x. x.now) (SpellsContents octet_string false) (IsContentsFault octet_string false) (left self.old) (left self.new) result }
+        ensures { Reads (λ x. x.now) (SpellsContents octet_string false) (IsContentsFault octet_string false)
+            (left self.old) (left self.new) result }
     {
         let contents = self.take_contents(Tag::OCTET_STRING, false)?;
         Ok(contents.rest())

@@ -65,7 +65,8 @@ impl Captured {
     /// Requires that the number of a parent is below `headers().len()`.
     pub fn members(&self, parent: Option<usize>) -> Members<'_>
         requires { IfSome parent (HasEntry self.now) }
-        ensures numbers { (index : List Entry) → IsIndex self.now index → numbers_left result ≡ member_numbers parent index }
+        ensures numbers { (index : List Entry) → IsIndex self.now index
+            → numbers_left result ≡ member_numbers parent index }
         // Each is below `headers().len()`.
         ensures entries { AllByRecursion (HasEntry self.now) (numbers_left result) }
     {

@@ -47,14 +47,16 @@ impl<'a> Oid<&'a [u8]> {
 
     /// An object identifier, as [Constructed::take_oid].
     pub fn take_from(cons: &mut Constructed<'a>) -> Result<Oid<&'a [u8]>, DecodeError>
-        ensures { Reads (λ o. o.0.now) (SpellsLeaf oid false IsOidOf) (IsLeafFault oid false IsOidOf) (left cons.old) (left cons.new) result }
+        ensures { Reads (λ o. o.0.now) (SpellsLeaf oid false IsOidOf) (IsLeafFault oid false IsOidOf) (left cons.old)
+            (left cons.new) result }
     {
         cons.take_oid()
     }
 
     /// Moves past any object identifier. The errors are those of [Constructed::take_oid].
     pub fn skip_in(cons: &mut Constructed<'_>) -> Result<(), DecodeError>
-        ensures { Reads (λ _. tt) (SpellsLeaf oid false IsAnyOid) (IsLeafFault oid false IsAnyOid) (left cons.old) (left cons.new) result }
+        ensures { Reads (λ _. tt) (SpellsLeaf oid false IsAnyOid) (IsLeafFault oid false IsAnyOid) (left cons.old)
+            (left cons.new) result }
     {
         cons.take_oid()?;
         Ok(())
@@ -62,7 +64,8 @@ impl<'a> Oid<&'a [u8]> {
 
     /// Moves past exactly this object identifier, as [Constructed::skip_oid_if].
     pub fn skip_if(&self, cons: &mut Constructed<'_>) -> Result<(), DecodeError>
-        ensures { Reads (λ _. tt) (SpellsLeaf oid false (IsOnly self.now.0.now)) (IsLeafFault oid false (IsOnly self.now.0.now)) (left cons.old) (left cons.new) result }
+        ensures { Reads (λ _. tt) (SpellsLeaf oid false (IsOnly self.now.0.now))
+            (IsLeafFault oid false (IsOnly self.now.0.now)) (left cons.old) (left cons.new) result }
     {
         cons.take_only_oid(self.0)
     }
@@ -81,7 +84,8 @@ impl<'a> Constructed<'a> {
     /// for contents that are not those of an object identifier: empty, cut within a subidentifier, or with a
     /// subidentifier that begins with 80.
     pub fn take_oid(&mut self) -> Result<Oid<&'a [u8]>, DecodeError>
-        ensures { Reads (λ o. o.0.now) (SpellsLeaf oid false IsOidOf) (IsLeafFault oid false IsOidOf) (left self.old) (left self.new) result }
+        ensures { Reads (λ o. o.0.now) (SpellsLeaf oid false IsOidOf) (IsLeafFault oid false IsOidOf) (left self.old)
+            (left self.new) result }
     {
         let mut after = *self;
         let contents = after.take_contents(Tag::OID, false)?;
@@ -99,18 +103,20 @@ impl<'a> Constructed<'a> {
     /// The errors are those of a header; then `Unexpected` for another tag or form; then `Truncated`; then `Content`
     /// for other contents.
     pub fn skip_oid_if(&mut self, expected: ConstOid) -> Result<(), DecodeError>
-        ensures { Reads (λ _. tt) (SpellsLeaf oid false (IsOnly expected.entry.0.now)) (IsLeafFault oid false (IsOnly expected.entry.0.now)) (left self.old) (left self.new) result }
+        ensures { Reads (λ _. tt) (SpellsLeaf oid false (IsOnly expected.entry.0.now))
+            (IsLeafFault oid false (IsOnly expected.entry.0.now)) (left self.old) (left self.new) result }
     {
         self.take_only_oid(expected.0)
     }
 
     /// Moves past an object identifier with these contents.
     fn take_only_oid(&mut self, expected: &[u8]) -> Result<(), DecodeError>
-        ensures { Reads (λ _. tt) (SpellsLeaf oid false (IsOnly expected.now)) (IsLeafFault oid false (IsOnly expected.now)) (left self.old) (left self.new) result }
+        ensures { Reads (λ _. tt) (SpellsLeaf oid false (IsOnly expected.now))
+            (IsLeafFault oid false (IsOnly expected.now)) (left self.old) (left self.new) result }
     {
         let mut after = *self;
         let contents = after.take_contents(Tag::OID, false)?;
-        if !contents.is_only(expected) {
+        if !contents.rest_is(expected) {
             return Err(DecodeError::Content(ContentError::from_static(
                 "unexpected object identifier",
             )));

@@ -112,7 +112,8 @@ impl<'a> Constructed<'a> {
     /// The errors are those of a header; then `Unexpected` for another tag or form; then `Truncated`; then `Content`
     /// for another character.
     pub fn take_printable(&mut self) -> Result<PrintableString<'a>, DecodeError>
-        ensures { Reads (λ p. p) (SpellsLeaf printable_string false IsPrintableText) (IsLeafFault printable_string false IsPrintableText) (left self.old) (left self.new) result }
+        ensures { Reads (λ p. p) (SpellsLeaf printable_string false IsPrintableText)
+            (IsLeafFault printable_string false IsPrintableText) (left self.old) (left self.new) result }
     {
         let mut after = *self;
         let contents = after.take_contents(Tag::PRINTABLE_STRING, false)?;
@@ -132,7 +133,8 @@ impl<'a> Constructed<'a> {
     /// The errors are those of a header; then `Unexpected` for another tag or form; then `Truncated`; then `Content`
     /// for contents that are not UTF-8.
     pub fn take_utf8(&mut self) -> Result<Utf8String<'a>, DecodeError>
-        ensures { Reads (λ u. u) (SpellsLeaf utf8_string false IsUtf8Text) (IsLeafFault utf8_string false IsUtf8Text) (left self.old) (left self.new) result }
+        ensures { Reads (λ u. u) (SpellsLeaf utf8_string false IsUtf8Text) (IsLeafFault utf8_string false IsUtf8Text)
+            (left self.old) (left self.new) result }
     {
         let mut after = *self;
         let contents = after.take_contents(Tag::UTF8_STRING, false)?;

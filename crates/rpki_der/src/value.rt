@@ -1,7 +1,7 @@
 //! Values of any type, by their tag and form.
 
 ghost use Rattle.std.specs.Prelude.{◌≡◌, ◌<◌, ◌≤◌, ◌↔◌, IsTrue, IfOk, IfErr, length, take, drop, true};
-ghost use Rattle.rpki_der.specs.Flat.{IsWanted};
+ghost use Rattle.rpki_der.specs.Wanted.{IsWanted};
 
 use crate::cursor::Constructed;
 use crate::error::DecodeError;
@@ -14,13 +14,25 @@ pub enum Content<'a> {
     Constructed(Constructed<'a>),
 }
 
-/// Whether a value with this header is wanted: of the tag, or of any tag.
-fn is_wanted(wanted: Option<Tag>, found: &Header) -> bool
+/// Which values a reader takes.
+#[derive(Clone, Copy)]
+enum Wanted {
+    /// Those of any tag and form.
+    Any,
+    /// Those of this tag, in either form.
+    Tagged(Tag),
+    /// Those of this tag in this form: whether they are constructed.
+    Formed(Tag, bool),
+}
+
+/// Whether a value with this header is wanted.
+fn is_wanted(wanted: Wanted, found: &Header) -> bool
     ensures { IsTrue result ↔ IsWanted wanted found.now.tag found.now.constructed }
 {
     match wanted {
-        None => true,
-        Some(tag) => found.tag.is_same(tag),
+        Wanted::Any => true,
+        Wanted::Tagged(tag) => found.tag.is_same(tag),
+        Wanted::Formed(tag, constructed) => found.names(tag, constructed),
     }
 }
 
@@ -30,40 +42,15 @@ impl<'a> Constructed<'a> {
     ghost use Rattle.rpki_der.specs.TagName.{sequence, set};
     ghost use Rattle.rpki_der.specs.Reading.{Reads, ReadsWhere};
     ghost use Rattle.rpki_der.specs.Values.{SpellsContents, HasTag, IsContentsFault};
-    ghost use Rattle.rpki_der.specs.Flat.{SpellsFlat, IsFlatFault, IsAnyTag, IsTagged};
+    ghost use Rattle.rpki_der.specs.WantedValue.{SpellsWanted, IsWantedFault, IsAnyTag, IsTagged};
 
-    /// The contents of a value of this tag and form; moves past the value. The contents are not validated.
-    pub(crate) fn take_contents(
-        &mut self,
-        tag: Tag,
-        constructed: bool,
-    ) -> Result<Constructed<'a>, DecodeError>
-        ensures { Reads left (SpellsContents tag constructed) (IsContentsFault tag constructed) (left self.old) (left self.new) result }
+    /// A value that is wanted: its tag, its form and a cursor on its contents, which are not validated. Moves past the
+    /// value.
+    fn take_wanted(&mut self, wanted: Wanted) -> Result<(Tag, bool, Constructed<'a>), DecodeError>
+        ensures { Reads (λ x. (x.0, x.1, left x.2)) (SpellsWanted (IsWanted wanted)) (IsWantedFault (IsWanted wanted))
+            (left self.old) (left self.new) result }
     {
-        let (found, behind) = match self.after_header() {
-            Ok(found) => found,
-            Err(e) => return Err(e),
-        };
-        if !found.names(tag, constructed) {
-            return Err(DecodeError::Unexpected);
-        }
-        let length = found.length as usize;
-        if behind.len() < length {
-            return Err(DecodeError::Truncated);
-        }
-        let (contents, after) = behind.split_at(length);
-        *self = after;
-        Ok(contents)
-    }
-
-    /// A value of the tag that is wanted, or of any tag: its tag, its form and a cursor on its contents.
-    fn take_flat(
-        &mut self,
-        wanted: Option<Tag>,
-    ) -> Result<(Tag, bool, Constructed<'a>), DecodeError>
-        ensures { Reads (λ x. (x.0, x.1, left x.2)) (SpellsFlat (IsWanted wanted)) (IsFlatFault (IsWanted wanted)) (left self.old) (left self.new) result }
-    {
-        let (found, behind) = match self.after_header() {
+        let (found, following) = match self.after_header() {
             Ok(found) => found,
             Err(e) => return Err(e),
         };
@@ -71,21 +58,37 @@ impl<'a> Constructed<'a> {
             return Err(DecodeError::Unexpected);
         }
         let length = found.length as usize;
-        if behind.len() < length {
+        if following.len() < length {
             return Err(DecodeError::Truncated);
         }
-        let (contents, after) = behind.split_at(length);
+        let (contents, after) = following.split_at(length);
         *self = after;
         Ok((found.tag, found.constructed, contents))
+    }
+
+    /// The contents of a value of this tag and form; moves past the value. The contents are not validated.
+    pub(crate) fn take_contents(
+        &mut self,
+        tag: Tag,
+        constructed: bool,
+    ) -> Result<Constructed<'a>, DecodeError>
+        ensures { Reads left (SpellsContents tag constructed) (IsContentsFault tag constructed) (left self.old)
+            (left self.new) result }
+    {
+        match self.take_wanted(Wanted::Formed(tag, constructed)) {
+            Ok((_, _, contents)) => Ok(contents),
+            Err(e) => Err(e),
+        }
     }
 
     /// The value at the front, of any tag and form: its tag and its contents, which are not walked.
     ///
     /// The errors are those of a header, and `Truncated` if the contents are not all there.
     pub fn take_value(&mut self) -> Result<(Tag, Content<'a>), DecodeError>
-        ensures { Reads (λ x. (x.0, is_constructed x.1, octets_of x.1)) (SpellsFlat IsAnyTag) (IsFlatFault IsAnyTag) (left self.old) (left self.new) result }
+        ensures { Reads (λ x. (x.0, is_constructed x.1, octets_of x.1)) (SpellsWanted IsAnyTag)
+            (IsWantedFault IsAnyTag) (left self.old) (left self.new) result }
     {
-        match self.take_flat(None) {
+        match self.take_wanted(Wanted::Any) {
             Ok(found) => {
                 if found.1 {
                     Ok((found.0, Content::Constructed(found.2)))
@@ -101,9 +104,10 @@ impl<'a> Constructed<'a> {
     ///
     /// The errors are those of a header; then `Unexpected` for another tag; then `Truncated`.
     pub fn take_value_if(&mut self, tag: Tag) -> Result<Content<'a>, DecodeError>
-        ensures { Reads (λ x. (tag, is_constructed x, octets_of x)) (SpellsFlat (IsTagged tag)) (IsFlatFault (IsTagged tag)) (left self.old) (left self.new) result }
+        ensures { Reads (λ x. (tag, is_constructed x, octets_of x)) (SpellsWanted (IsTagged tag))
+            (IsWantedFault (IsTagged tag)) (left self.old) (left self.new) result }
     {
-        match self.take_flat(Some(tag)) {
+        match self.take_wanted(Wanted::Tagged(tag)) {
             Ok(found) => {
                 if found.1 {
                     Ok(Content::Constructed(found.2))
@@ -118,7 +122,8 @@ impl<'a> Constructed<'a> {
     /// As [Constructed::take_value_if] where what is left begins with the identifier octets of this tag, in either
     /// form; else None.
     pub fn take_opt_value_if(&mut self, tag: Tag) -> Result<Option<Content<'a>>, DecodeError>
-        ensures { ReadsWhere (HasTag tag) (λ x. (tag, is_constructed x, octets_of x)) (SpellsFlat (IsTagged tag)) (IsFlatFault (IsTagged tag)) (left self.old) (left self.new) result }
+        ensures { ReadsWhere (HasTag tag) (λ x. (tag, is_constructed x, octets_of x)) (SpellsWanted (IsTagged tag))
+            (IsWantedFault (IsTagged tag)) (left self.old) (left self.new) result }
     {
         if !self.has_tag(tag) {
             return Ok(None);
@@ -131,7 +136,8 @@ impl<'a> Constructed<'a> {
     ///
     /// The errors are those of a header; then `Unexpected` for another tag or form; then `Truncated`.
     pub fn take_sequence(&mut self) -> Result<Constructed<'a>, DecodeError>
-        ensures { Reads left (SpellsContents sequence true) (IsContentsFault sequence true) (left self.old) (left self.new) result }
+        ensures { Reads left (SpellsContents sequence true) (IsContentsFault sequence true) (left self.old)
+            (left self.new) result }
     {
         self.take_contents(Tag::SEQUENCE, true)
     }
@@ -140,7 +146,8 @@ impl<'a> Constructed<'a> {
     ///
     /// The errors are those of a header; then `Unexpected` for another tag or form; then `Truncated`.
     pub fn take_set(&mut self) -> Result<Constructed<'a>, DecodeError>
-        ensures { Reads left (SpellsContents set true) (IsContentsFault set true) (left self.old) (left self.new) result }
+        ensures { Reads left (SpellsContents set true) (IsContentsFault set true) (left self.old)
+            (left self.new) result }
     {
         self.take_contents(Tag::SET, true)
     }
@@ -148,7 +155,8 @@ impl<'a> Constructed<'a> {
     /// As [Constructed::take_sequence] where what is left begins with the identifier octets of a SEQUENCE, in either
     /// form; else None.
     pub fn take_opt_sequence(&mut self) -> Result<Option<Constructed<'a>>, DecodeError>
-        ensures { ReadsWhere (HasTag sequence) left (SpellsContents sequence true) (IsContentsFault sequence true) (left self.old) (left self.new) result }
+        ensures { ReadsWhere (HasTag sequence) left (SpellsContents sequence true) (IsContentsFault sequence true)
+            (left self.old) (left self.new) result }
     {
         if !self.has_tag(Tag::SEQUENCE) {
             return Ok(None);
@@ -160,7 +168,8 @@ impl<'a> Constructed<'a> {
     /// As [Constructed::take_set] where what is left begins with the identifier octets of a SET, in either form; else
     /// None.
     pub fn take_opt_set(&mut self) -> Result<Option<Constructed<'a>>, DecodeError>
-        ensures { ReadsWhere (HasTag set) left (SpellsContents set true) (IsContentsFault set true) (left self.old) (left self.new) result }
+        ensures { ReadsWhere (HasTag set) left (SpellsContents set true) (IsContentsFault set true) (left self.old)
+            (left self.new) result }
     {
         if !self.has_tag(Tag::SET) {
             return Ok(None);

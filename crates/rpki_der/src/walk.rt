@@ -21,7 +21,8 @@ use crate::tag::{Header, Steps};
 use std::alloc::Global;
 
 /// The header at the front, whose contents are all there, and how many octets the header takes.
-fn enter(octets: &[u8], steps: &mut Steps) -> Result<(Header, usize), DecodeError>
+#[inline(always)]
+fn take_header_within(octets: &[u8], steps: &mut Steps) -> Result<(Header, usize), DecodeError>
     requires some { 0 < length octets.now }
     requires room { steps.old < 2 ^ 64 - 1 }
     ensures counted { steps.new ≡ steps.old + 1 }
@@ -31,14 +32,14 @@ fn enter(octets: &[u8], steps: &mut Steps) -> Result<(Header, usize), DecodeErro
     ensures refused { IfErr result (λ e. IsNestedFault octets.now e) }
 {
     steps.raise();
-    let (found, behind) = match header(octets) {
+    let (found, following) = match header(octets) {
         Ok(found) => found,
         Err(e) => return Err(e),
     };
-    if behind.len() < found.length as usize {
+    if following.len() < found.length as usize {
         return Err(DecodeError::Truncated);
     }
-    Ok((found, octets.len() - behind.len()))
+    Ok((found, octets.len() - following.len()))
 }
 
 /// Adds the entry of a value, where entries are kept. Returns what identifies the value while it is open: the number of
@@ -76,6 +77,7 @@ fn end_of(entries: &[HeaderEntry], keep: bool, before: usize, name: usize) -> us
 /// How many octets the value at the front takes. Where entries are kept, those of all its headers are added. The values
 /// that are still open are on a stack, innermost last, each by the number of its entry, or by its end where no entries
 /// are kept. Places are counted from `before` octets in front.
+#[inline(always)]
 pub(crate) fn walk_value(
     alloc: Global,
     octets: &[u8],
@@ -90,11 +92,13 @@ pub(crate) fn walk_value(
     ensures within { IfOk result (λ n. n ≤ length octets.now) }
     ensures raised { steps.old ≤ steps.new }
     ensures accepted { IfOk result (λ n. IsValueOf (steps.new - steps.old) (take n octets.now)) }
-    ensures refused { IfErr result (λ e. ((e ≡ DecodeError.OutOfMemory) × TakesMemory keep octets.now) ⊎ IsNestedFault octets.now e) }
+    ensures refused { IfErr result (λ e. ((e ≡ DecodeError.OutOfMemory) × TakesMemory keep octets.now)
+        ⊎ IsNestedFault octets.now e) }
     ensures bound { OnErr result (2 * (steps.new - steps.old) ≤ length octets.now + 2) }
-    ensures kept { keep ≡ true → IfOk result (λ n. IsListed before entries.old.items (take n octets.now) entries.new.items) }
+    ensures kept { keep ≡ true → IfOk result (λ n. IsListed before entries.old.items
+        (take n octets.now) entries.new.items) }
 {
-    let (first, size) = match enter(octets, steps) {
+    let (first, size) = match take_header_within(octets, steps) {
         Ok(entered) => entered,
         Err(e) => return Err(e),
     };
@@ -113,7 +117,7 @@ pub(crate) fn walk_value(
             open.pop();
             continue;
         }
-        let (found, size) = match enter(&octets[place..end], steps) {
+        let (found, size) = match take_header_within(&octets[place..end], steps) {
             Ok(entered) => entered,
             Err(e) => return Err(e),
         };
@@ -131,7 +135,8 @@ pub(crate) fn walk_value(
 }
 
 /// As [walk_value], with its contract in the terms of a reader.
-fn walk_front(
+#[inline(always)]
+pub(crate) fn walk_front(
     alloc: Global,
     octets: &[u8],
     keep: bool,
@@ -142,8 +147,10 @@ fn walk_front(
     requires room { steps.old + length octets.now < 2 ^ 64 }
     ensures within { IfOk result (λ n. n ≤ length octets.now) }
     ensures accepted { IfOk result (λ n. Accepts SpellsValue octets.now (take n octets.now) (drop n octets.now)) }
-    ensures refused { IfErr result (λ e. Refusal SpellsValue (OrMemoryWhere (TakesMemory keep) IsNestedFault) octets.now octets.now e) }
-    ensures fault { (e : DecodeError) → IsNestedFault octets.now e → (result ≡ Err DecodeError.OutOfMemory) ⊎ (result ≡ Err e) }
+    ensures refused { IfErr result (λ e. Refusal SpellsValue
+        (OrMemoryWhere (TakesMemory keep) IsNestedFault) octets.now octets.now e) }
+    ensures fault { (e : DecodeError) → IsNestedFault octets.now e
+        → (result ≡ Err DecodeError.OutOfMemory) ⊎ (result ≡ Err e) }
     ensures raised { steps.old ≤ steps.new }
     ensures counted { IfOk result (λ n. CountsHeaders octets.now (drop n octets.now) (steps.new - steps.old)) }
     ensures bound { OnErr result (2 * (steps.new - steps.old) ≤ length octets.now + 2) }
@@ -166,11 +173,14 @@ impl<'a> Constructed<'a> {
     /// allocates nothing.
     pub fn walk(&mut self, alloc: Global, steps: &mut Steps) -> Result<Option<()>, DecodeError>
         requires room { steps.old + length (left self.old) < 2 ^ 64 }
-        ensures reads { ReadsWhere IsNotEmpty (λ _. tt) SpellsAnyValue (OrMemoryWhere HasConstructed IsNestedFault) (left self.old) (left self.new) result }
-        ensures fault { (e : DecodeError) → IsNestedFault (left self.old) e → (result ≡ Err DecodeError.OutOfMemory) ⊎ (result ≡ Err e) }
+        ensures reads { ReadsWhere IsNotEmpty (λ _. tt) SpellsAnyValue (OrMemoryWhere HasConstructed IsNestedFault)
+            (left self.old) (left self.new) result }
+        ensures fault { (e : DecodeError) → IsNestedFault (left self.old) e
+            → (result ≡ Err DecodeError.OutOfMemory) ⊎ (result ≡ Err e) }
         ensures raised { steps.old ≤ steps.new }
         ensures nothing { left self.old ≡ [] → steps.new ≡ steps.old }
-        ensures counted { IfOk result (λ o. IfSome o (λ _. CountsHeaders (left self.old) (left self.new) (steps.new - steps.old))) }
+        ensures counted { IfOk result (λ o. IfSome o
+            (λ _. CountsHeaders (left self.old) (left self.new) (steps.new - steps.old))) }
         ensures bound { OnErr result (2 * (steps.new - steps.old) ≤ length (left self.old) + 2) }
     {
         let octets = self.rest();
@@ -178,15 +188,17 @@ impl<'a> Constructed<'a> {
             return Ok(None);
         }
         let size = walk_front(alloc, octets, false, &mut Vec::new(alloc), steps)?;
-        let (_, behind) = self.split_at(size);
-        *self = behind;
+        let (_, following) = self.split_at(size);
+        *self = following;
         Ok(Some(()))
     }
 
     /// Moves past one value, or returns None if nothing is left: as `walk`, with the same errors, and no count.
     pub fn skip_one(&mut self, alloc: Global) -> Result<Option<()>, DecodeError>
-        ensures reads { ReadsWhere IsNotEmpty (λ _. tt) SpellsAnyValue (OrMemoryWhere HasConstructed IsNestedFault) (left self.old) (left self.new) result }
-        ensures fault { (e : DecodeError) → IsNestedFault (left self.old) e → (result ≡ Err DecodeError.OutOfMemory) ⊎ (result ≡ Err e) }
+        ensures reads { ReadsWhere IsNotEmpty (λ _. tt) SpellsAnyValue (OrMemoryWhere HasConstructed IsNestedFault)
+            (left self.old) (left self.new) result }
+        ensures fault { (e : DecodeError) → IsNestedFault (left self.old) e
+            → (result ≡ Err DecodeError.OutOfMemory) ⊎ (result ≡ Err e) }
     {
         if self.rest().is_empty() {
             return Ok(None);
@@ -199,8 +211,10 @@ impl<'a> Constructed<'a> {
     /// The errors are those of `walk`, with the cursor where it was, and `Truncated` if nothing is left. Returns
     /// `OutOfMemory` also if the octets cannot be shared.
     pub fn capture_one(&mut self, alloc: Global) -> Result<Captured, DecodeError>
-        ensures reads { Reads (λ c. c) SpellsValue (OrMemoryWhere HasEither IsCaptureFault) (left self.old) (left self.new) result }
-        ensures fault { (e : DecodeError) → IsCaptureFault (left self.old) e → (result ≡ Err DecodeError.OutOfMemory) ⊎ (result ≡ Err e) }
+        ensures reads { Reads (λ c. c) SpellsValue (OrMemoryWhere HasEither IsCaptureFault) (left self.old)
+            (left self.new) result }
+        ensures fault { (e : DecodeError) → IsCaptureFault (left self.old) e
+            → (result ≡ Err DecodeError.OutOfMemory) ⊎ (result ≡ Err e) }
     {
         let octets = self.rest();
         if octets.is_empty() {
@@ -208,9 +222,9 @@ impl<'a> Constructed<'a> {
         }
         let mut index = Vec::new(alloc);
         let size = walk_front(alloc, octets, true, &mut index, &mut Steps::new())?;
-        let (value, behind) = self.split_at(size);
+        let (value, following) = self.split_at(size);
         let bytes = value.to_bytes()?;
-        *self = behind;
+        *self = following;
         Ok(Captured::of_index(bytes, index))
     }
 }

@@ -1,2 +1,2 @@
-pub mod Parts
+pub mod PartLaws
 pub mod BesideLaws

@@ -3,7 +3,7 @@ use Rattle.std.specs.Prelude.{ℕ, true, List}
 use Rattle.jiff.specs.Types.{DateTime}
 use Rattle.rpki_der.specs.TagName.{sequence}
 use Rattle.rpki_der.specs.Values.{SpellsLeaf}
-use Rattle.rpki.specs.InOrder.{SpellsBoth}
+use Rattle.rpki.specs.TwoParts.{SpellsBoth}
 use Rattle.rpki_time.specs.Serial.{SpellsSerial}
 use Rattle.rpki_time.specs.TimeValue.{SpellsTime}
 use Rattle.rpki_examples.specs.declared.revoked.RevokedCertificate.{RevokedCertificate}

@@ -18,16 +18,19 @@ abbrev pub HasSigned : {A : Type 0} → (A → PublicKeyFormat) → Check → Ch
 HasSigned format rsa ecdsa key d = Verifies rsa ecdsa (format d.algorithm) key.format key.bits.octets d.signed d.value
 
 -- the octets spell the signed data, and the key has signed it
-abbrev pub IsVerified : {A : Type 0} → (A → List ℕ → Type 0) → (A → PublicKeyFormat) → Check → Check → KeyParts → List ℕ → SignedParts A → Type 0
+abbrev pub IsVerified : {A : Type 0} → (A → List ℕ → Type 0) → (A → PublicKeyFormat) → Check → Check → KeyParts
+    → List ℕ → SignedParts A → Type 0
 IsVerified spells format rsa ecdsa key octets d = SpellsSigned spells d octets × HasSigned format rsa ecdsa key d
 
 -- The error of octets that are no signed data: `Trailing` where signed data is followed by something, the error of the
 -- SEQUENCE where there is none, and an allocation failure only where a value begins its contents.
 abbrev pub IsMalformed : {A : Type 0} → (A → List ℕ → Type 0) → List ℕ → DecodeError → Type 0
-IsMalformed spells = IsWholeFault (SpellsSigned spells) (OrMemoryWhere (HasInside sequence HasEither) (GivesOuterFault sequence true))
+IsMalformed spells = IsWholeFault (SpellsSigned spells)
+    (OrMemoryWhere (HasInside sequence HasEither) (GivesOuterFault sequence true))
 
 -- the octets spell none, or one that the key has not signed
-abbrev pub IsUnverified : {A : Type 0} → (A → List ℕ → Type 0) → (A → PublicKeyFormat) → Check → Check → KeyParts → List ℕ → Unverified → Type 0
+abbrev pub IsUnverified : {A : Type 0} → (A → List ℕ → Type 0) → (A → PublicKeyFormat) → Check → Check → KeyParts
+    → List ℕ → Unverified → Type 0
 IsUnverified spells format rsa ecdsa key octets (Malformed e) =
     UnlessMemory e (SpellsNothing (SpellsSigned spells) octets) × IsMalformed spells octets e
 IsUnverified {A} spells format rsa ecdsa key octets NotSigned =

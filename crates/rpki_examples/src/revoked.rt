@@ -32,7 +32,8 @@ impl RevokedCertificate {
     {
         cons.in_sequence(
             |contents|
-                ensures { ReadsAll entry_of IsRevoked (TakesNoMemory AnyFault) (left contents.old) (left contents.new) result }
+                ensures { ReadsAll entry_of IsRevoked (TakesNoMemory AnyFault) (left contents.old)
+                    (left contents.new) result }
             {
                 let serial = match Serial::take_from(contents) {
                     Ok(serial) => serial,

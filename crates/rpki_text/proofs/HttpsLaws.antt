@@ -8,9 +8,9 @@ use Rattle.rpki_text.specs.UriText.{lowercase}
 use Rattle.rpki_text.specs.Segments.{is_slash}
 use Rattle.rpki_text.specs.HttpsText.{https_authority, https_path, HttpsUri, https_uri_of, IsHttpsUri, SpellsHttps, same_https, https_parent_uri}
 use Rattle.rpki_text.specs.SameHttpsLaws.{same_https_equiv}
-use Rattle.rpki_text.proofs.HttpsLemmas.{AtSlash, https_read}
-use Rattle.rpki_text.proofs.PartLemmas.{slash-lowercase}
-use Rattle.rpki_text.proofs.TextLemmas.{length-lowercase}
+use Rattle.rpki_text.proofs.HttpsPartLaws.{AtSlash, https_read}
+use Rattle.rpki_text.proofs.PartLaws.{slash-lowercase}
+use Rattle.rpki_text.proofs.TextLaws.{length-lowercase}
 
 pub same_https_parts : (u v : HttpsUri) → same_https u v ≡ true → u ≡ v
 same_https_parts u v h =

@@ -1,4 +1,5 @@
--- The text of an https URI (RFC 9110 section 4.2.2): its parts, the first thing that is wrong with it, what it stands for.
+-- The text of an https URI (RFC 9110 section 4.2.2): its parts, the first thing that is wrong with it, what it stands
+-- for.
 use Rattle.std.specs.Prelude.{ℕ, ◌≡◌, ◌+◌, ◌-◌, ◌&&◌, not, Bool, false, List, [], ◌++◌, length, take, drop, codes, flat_map, if◌then◌else◌, nat_le, nat_lt, bytes_eq, Option, Some, None}
 use Rattle.std.specs.List.{list_all, list_any, before_first, suffix_len}
 use Rattle.std.specs.Option.{option_map}
@@ -57,7 +58,8 @@ same_https = eq_of_both (on (λ u. u.authority) bytes_eq) (on (λ u. u.path) byt
 
 -- what is hashed of a text: the scheme and the authority in lower case, octet by octet, and all the rest
 abbrev pub https_hashed : List ℕ → List (List ℕ)
-https_hashed text = flat_map fed.u8 (codes "https://" ++ lowercase (https_authority text)) ++ fed.slice fed.u8 (https_path text)
+https_hashed text = flat_map fed.u8 (codes "https://" ++ lowercase (https_authority text))
+    ++ fed.slice fed.u8 (https_path text)
 
 -- other octets are the text but for the case of its scheme and its authority
 unfoldable pub eq_https_bytes : List ℕ → List ℕ → Bool
@@ -104,4 +106,5 @@ unfoldable pub https_parent_uri : HttpsUri → Option HttpsUri
 https_parent_uri u = option_map (λ path. record { authority = u.authority; path = path }) (path_above u.path)
 
 unfoldable pub https_parent_of : List ℕ → Option (List ℕ)
-https_parent_of text = option_map (λ path. take (8 + length (https_authority text)) text ++ path) (path_above (https_path text))
+https_parent_of text = option_map (λ path. take (8 + length (https_authority text)) text ++ path)
+    (path_above (https_path text))

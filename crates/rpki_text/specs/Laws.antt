@@ -16,7 +16,8 @@ EqualParents = (u v : RsyncUri) → same_uri u v ≡ true → parent_uri u ≡ p
 
 abbrev pub EqualModuleAndPath : Type 0
 EqualModuleAndPath =
-    (a b : List ℕ) → same_uri (uri_of a) (uri_of b) ≡ (bytes_eq (canonical_module_of a) (canonical_module_of b) && bytes_eq (path_of a) (path_of b))
+    (a b : List ℕ) → same_uri (uri_of a) (uri_of b)
+    ≡ (bytes_eq (canonical_module_of a) (canonical_module_of b) && bytes_eq (path_of a) (path_of b))
 
 abbrev pub OneHttpsMeaning : Type 0
 OneHttpsMeaning = (text : List ℕ) (u : HttpsUri) → SpellsHttps text u → IsHttpsUri u → u ≡ https_uri_of text

@@ -3,6 +3,9 @@ pub mod Segments
 pub mod UriText
 pub mod RsyncText
 pub mod HttpsText
+pub mod Places
+pub mod Buffer
+pub mod Views
 pub mod SchemeText
 pub mod HexText
 pub mod ErrorText

@@ -89,13 +89,15 @@ uri_of text = record {
 abbrev pub is_part : List ℕ → Bool
 is_part part = nat_lt 0 (length part) && not (list_any is_slash part)
 
--- what is a URI: the authority in lower case, each part filled and without a slash, the mark set where there is no segment
+-- what is a URI: the authority in lower case, each part filled and without a slash, the mark set where there is no
+-- segment
 pub record IsRsyncUri (u : RsyncUri) : Type 0 where
   pub lower : lowercase u.authority ≡ u.authority
   pub parts : list_all is_part (u.authority ∷ u.module_name ∷ u.segments) ≡ true
   pub root : u.segments ≡ [] → u.is_dir ≡ true
 
--- a text stands for the URI: the scheme and the authority are spelled in any case (RFC 5781 section 2, RFC 3986 section 6.2.2.1)
+-- a text stands for the URI: the scheme and the authority are spelled in any case (RFC 5781 section 2, RFC 3986 section
+-- 6.2.2.1)
 pub record Spells (text : List ℕ) (u : RsyncUri) : Type 0 where
   pub scheme : List ℕ
   pub authority : List ℕ
@@ -133,7 +135,8 @@ unfoldable pub join_refusal : List ℕ → List ℕ → Option Error
 join_refusal base [] = None
 join_refusal base (b ∷ path) =
     if not (list_all is_uri_byte (b ∷ path)) then Some InvalidCharacters
-    else option_or (path_refusal (b ∷ path)) (if nat_le 3072 (length (joined base (b ∷ path))) then Some LongUri else None)
+    else option_or (path_refusal (b ∷ path)) (if nat_le 3072 (length (joined base (b ∷ path))) then Some LongUri
+    else None)
 
 -- two URIs are the same where their four parts are
 abbrev pub same_uri : RsyncUri → RsyncUri → Bool
@@ -143,7 +146,8 @@ same_uri =
 
 -- what is hashed of a text: the scheme and the authority in lower case, octet by octet, and all the rest
 abbrev pub hashed : List ℕ → List (List ℕ)
-hashed text = flat_map fed.u8 (codes "rsync://" ++ lowercase (authority_of text) ++ codes "/") ++ fed.slice fed.u8 (module_name_of text ++ codes "/" ++ path_of text)
+hashed text = flat_map fed.u8 (codes "rsync://" ++ lowercase (authority_of text) ++ codes "/")
+    ++ fed.slice fed.u8 (module_name_of text ++ codes "/" ++ path_of text)
 
 -- the list without its last element, if it has one
 abbrev pub without_last : List (List ℕ) → Option (List (List ℕ))
@@ -153,12 +157,18 @@ without_last (name ∷ more) = Some (take (length more) (name ∷ more))
 -- the text without its last segment, a slash last
 unfoldable pub parent_of : List ℕ → Option (List ℕ)
 parent_of text =
-    option_map (λ names. take (length text - length (path_of text)) text ++ path_text names true) (without_last (segments (path_of text)))
+    option_map (λ names. take (length text - length (path_of text)) text ++ path_text names true)
+    (without_last (segments (path_of text)))
 
 -- the URI without its last segment, marked as a directory, if it has a segment
 unfoldable pub parent_uri : RsyncUri → Option RsyncUri
 parent_uri u =
-    option_map (λ names. record { authority = u.authority; module_name = u.module_name; segments = names; is_dir = true }) (without_last u.segments)
+    option_map (λ names. record {
+      authority = u.authority;
+      module_name = u.module_name;
+      segments = names;
+      is_dir = true;
+    }) (without_last u.segments)
 
 -- the URI's segments are a strict beginning of the other's
 unfoldable pub is_parent : RsyncUri → RsyncUri → Bool
@@ -172,7 +182,12 @@ is_identical u v = same_module u v && pointwise bytes_eq u.segments v.segments
 unfoldable pub joined_uri : RsyncUri → List ℕ → RsyncUri
 joined_uri u [] = u
 joined_uri u (b ∷ path) =
-    record { authority = u.authority; module_name = u.module_name; segments = u.segments ++ segments (b ∷ path); is_dir = is_dir (b ∷ path) }
+    record {
+      authority = u.authority;
+      module_name = u.module_name;
+      segments = u.segments ++ segments (b ∷ path);
+      is_dir = is_dir (b ∷ path);
+    }
 
 -- the path that leads from v to u: joined to v it gives u, or is too long where u is
 pub record IsWayBack (u v path : List ℕ) : Type 0 where
@@ -191,7 +206,8 @@ module_of text = take (length text - length (path_of text)) text
 
 -- the module, its scheme and authority in lower case
 unfoldable pub canonical_module_of : List ℕ → List ℕ
-canonical_module_of text = codes "rsync://" ++ lowercase (authority_of text) ++ codes "/" ++ module_name_of text ++ codes "/"
+canonical_module_of text = codes "rsync://" ++ lowercase (authority_of text) ++ codes "/" ++ module_name_of text
+    ++ codes "/"
 
 -- other octets are the text but for the case of its scheme and its authority
 unfoldable pub eq_rsync_bytes : List ℕ → List ℕ → Bool

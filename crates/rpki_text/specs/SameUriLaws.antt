@@ -14,7 +14,8 @@ use Rattle.rpki_text.specs.RsyncText.{authority_of, module_name_of, path_of, Rsy
 use Rattle.rpki_text.specs.SegmentLaws.{path_text-segments}
 
 -- a path is the same exactly where its segments and its mark are
-pub same_path : (a b : List ℕ) → bytes_eq a b ≡ (pointwise bytes_eq (segments a) (segments b) && beq (is_dir a) (is_dir b))
+pub same_path : (a b : List ℕ) → bytes_eq a b ≡ (pointwise bytes_eq (segments a) (segments b) && beq (is_dir a)
+    (is_dir b))
 same_path a b = both_ways _ _ forth back where
   names : Decides (pointwise bytes_eq (segments a) (segments b)) (segments a ≡ segments b)
   names = pointwise_decides bytes_eq-Decides (segments a) (segments b)
@@ -33,12 +34,15 @@ same_path a b = both_ways _ _ forth back where
   back h =
       let s : segments a ≡ segments b = names.0 (first_so _ _ h) in
       let d : is_dir a ≡ is_dir b = marks.0 (second_so (pointwise bytes_eq (segments a) (segments b)) _ h) in
-      (bytes_eq-Decides a b).1 (sym (path_text-segments a) ∙ ap (λ n. path_text n (is_dir a)) s ∙ ap (path_text (segments b)) d ∙ path_text-segments b)
+      (bytes_eq-Decides a b).1 (sym (path_text-segments a) ∙ ap (λ n. path_text n (is_dir a)) s
+      ∙ ap (path_text (segments b)) d ∙ path_text-segments b)
 
 -- what the code compares
-pub same_uri-texts : (a b : List ℕ) → ((bytes_eq (lowercase (authority_of a)) (lowercase (authority_of b)) && bytes_eq (module_name_of a) (module_name_of b)) && bytes_eq (path_of a) (path_of b)) ≡ same_uri (uri_of a) (uri_of b)
+pub same_uri-texts : (a b : List ℕ) → ((bytes_eq (lowercase (authority_of a)) (lowercase (authority_of b)) && bytes_eq
+    (module_name_of a) (module_name_of b)) && bytes_eq (path_of a) (path_of b)) ≡ same_uri (uri_of a) (uri_of b)
 unfolding uri_of
-same_uri-texts a b = ap (λ v. (bytes_eq (lowercase (authority_of a)) (lowercase (authority_of b)) && bytes_eq (module_name_of a) (module_name_of b)) && v) (same_path (path_of a) (path_of b))
+same_uri-texts a b = ap (λ v. (bytes_eq (lowercase (authority_of a)) (lowercase (authority_of b)) && bytes_eq
+    (module_name_of a) (module_name_of b)) && v) (same_path (path_of a) (path_of b))
 
 -- the same URI is hashed alike
 pub same_uri-hashed : (a b : List ℕ) → same_uri (uri_of a) (uri_of b) ≡ true → hashed a ≡ hashed b
@@ -46,18 +50,26 @@ same_uri-hashed a b h =
     let all = same_uri-texts a b ∙ h in
     let front = first_so _ _ all in
     let e1 : lowercase (authority_of a) ≡ lowercase (authority_of b) = (bytes_eq-Decides _ _).0 (first_so _ _ front) in
-    let e2 : module_name_of a ≡ module_name_of b = (bytes_eq-Decides _ _).0 (second_so (bytes_eq (lowercase (authority_of a)) (lowercase (authority_of b))) _ front) in
-    let e3 : path_of a ≡ path_of b = (bytes_eq-Decides _ _).0 (second_so (bytes_eq (lowercase (authority_of a)) (lowercase (authority_of b)) && bytes_eq (module_name_of a) (module_name_of b)) _ all) in
-    ap (λ x. flat_map fed.u8 (codes "rsync://" ++ x ++ codes "/") ++ fed.slice fed.u8 (module_name_of a ++ codes "/" ++ path_of a)) e1
-    ∙ ap (λ x. flat_map fed.u8 (codes "rsync://" ++ lowercase (authority_of b) ++ codes "/") ++ fed.slice fed.u8 (x ++ codes "/" ++ path_of a)) e2
-    ∙ ap (λ x. flat_map fed.u8 (codes "rsync://" ++ lowercase (authority_of b) ++ codes "/") ++ fed.slice fed.u8 (module_name_of b ++ codes "/" ++ x)) e3
+    let e2 : module_name_of a ≡ module_name_of b = (bytes_eq-Decides _ _).0
+    (second_so (bytes_eq (lowercase (authority_of a)) (lowercase (authority_of b))) _ front) in
+    let e3 : path_of a ≡ path_of b = (bytes_eq-Decides _ _).0
+    (second_so (bytes_eq (lowercase (authority_of a)) (lowercase (authority_of b)) && bytes_eq (module_name_of a)
+    (module_name_of b)) _ all) in
+    ap (λ x. flat_map fed.u8 (codes "rsync://" ++ x ++ codes "/")
+    ++ fed.slice fed.u8 (module_name_of a ++ codes "/" ++ path_of a)) e1
+    ∙ ap (λ x. flat_map fed.u8 (codes "rsync://" ++ lowercase (authority_of b) ++ codes "/")
+    ++ fed.slice fed.u8 (x ++ codes "/" ++ path_of a)) e2
+    ∙ ap (λ x. flat_map fed.u8 (codes "rsync://" ++ lowercase (authority_of b) ++ codes "/")
+    ++ fed.slice fed.u8 (module_name_of b ++ codes "/" ++ x)) e3
 
 -- equality is an equivalence
 pub same_uri_equiv : IsEquivalence same_uri
 same_uri_equiv =
-    let text : (part : RsyncUri → List ℕ) → IsEquivalence (on part bytes_eq) = λ part. on_equiv part (lists_equiv nat_eq_equiv) in
+    let text : (part : RsyncUri → List ℕ) → IsEquivalence (on part bytes_eq) =
+    λ part. on_equiv part (lists_equiv nat_eq_equiv) in
     and_equiv (and_equiv (text (λ u. u.authority)) (text (λ u. u.module_name)))
-    (and_equiv (on_equiv (λ (u : RsyncUri). u.segments) (lists_equiv (lists_equiv nat_eq_equiv))) (on_equiv (λ (u : RsyncUri). u.is_dir) bool_eq_equiv))
+    (and_equiv (on_equiv (λ (u : RsyncUri). u.segments) (lists_equiv (lists_equiv nat_eq_equiv)))
+    (on_equiv (λ (u : RsyncUri). u.is_dir) bool_eq_equiv))
 
 pub texts_equiv : IsEquivalence (on uri_of same_uri)
 texts_equiv = on_equiv uri_of same_uri_equiv

@@ -28,9 +28,12 @@ names_of-whole : (ps : List (List ℕ)) → IsFilled ps → names_of ps ++ cond 
 names_of-whole [] f = cc
 names_of-whole ([] ∷ []) f = refl
 names_of-whole ((b ∷ bs) ∷ []) f = refl
-names_of-whole ([] ∷ q ∷ qs) f = ap (λ s. [] ∷ s) (names_of-whole (q ∷ qs) (record { first = q; others = qs; is = refl }))
-names_of-whole ((b ∷ bs) ∷ q ∷ qs) f = ap (λ s. (b ∷ bs) ∷ s) (names_of-whole (q ∷ qs) (record { first = q; others = qs; is = refl }))
+names_of-whole ([] ∷ q ∷ qs) f =
+    ap (λ s. [] ∷ s) (names_of-whole (q ∷ qs) (record { first = q; others = qs; is = refl }))
+names_of-whole ((b ∷ bs) ∷ q ∷ qs) f =
+    ap (λ s. (b ∷ bs) ∷ s) (names_of-whole (q ∷ qs) (record { first = q; others = qs; is = refl }))
 
 pub path_text-segments : (t : List ℕ) → path_text (segments t) (is_dir t) ≡ t
 unfolding path_text segments is_dir
-path_text-segments t = ap (join_with_byte 47) (names_of-whole (pieces t) (pieces-filled t)) ∙ join_with_byte-slice_split 47 t
+path_text-segments t = ap (join_with_byte 47) (names_of-whole (pieces t) (pieces-filled t))
+    ∙ join_with_byte-slice_split 47 t

@@ -10,7 +10,8 @@ lowercase text = map to_ascii_lowercase text
 -- `!`, `$` to `;`, `=`, `A` to `Z`, `_`, `a` to `z`, `~`
 unfoldable pub is_uri_byte : ℕ → Bool
 is_uri_byte b =
-    (b == 33) || is_in_range 36 59 b || (b == 61) || is_in_range 65 90 b || (b == 95) || is_in_range 97 122 b || (b == 126)
+    (b == 33) || is_in_range 36 59 b || (b == 61) || is_in_range 65 90 b || (b == 95) || is_in_range 97 122 b ||
+    (b == 126)
 
 -- the same length, the first n octets without regard to case, the rest exactly
 unfoldable pub same_text : ℕ → List ℕ → List ℕ → Bool

@@ -7,3 +7,4 @@ mod general_name;
 mod hex;
 mod https;
 mod rsync;
+mod views;

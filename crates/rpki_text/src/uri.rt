@@ -4,15 +4,19 @@
 //! equality and hash go by what the text stands for.
 
 mod characters;
-mod contents;
 mod error;
+mod general_name;
 mod https;
+mod https_view;
 mod path;
 mod rsync;
+mod rsync_view;
 mod scheme;
 
 pub use characters::{check_uri_ascii, starts_with_ignore_case};
 pub use error::Error;
 pub use https::Https;
+pub use https_view::HttpsView;
 pub use rsync::Rsync;
+pub use rsync_view::RsyncView;
 pub use scheme::Scheme;

@@ -7,7 +7,7 @@ use borrow.Rule.Slice.PartMut.{mid_of}
 use Rattle.rpki_der.specs.Number.{number_of, AreOctets}
 use Rattle.rpki_der.specs.NumberLaws.{number-lt}
 use Rattle.rpki_der.specs.Integer.{WritesNumber, IsUnsigned, IsMinimal, IsMagnitude}
-use Rattle.rpki_der.proofs.Integers.{IsUnsigned-minimal, AreOctets-drop, contents_short}
+use Rattle.rpki_der.proofs.IntegerLaws.{IsUnsigned-minimal, AreOctets-drop, contents_short}
 use Rattle.rpki_time.specs.Serial.{IsLong, IsSerialContents}
 
 power_grows : (i j : ℕ) → i ≤ j → 256 ^ i ≤ 256 ^ j

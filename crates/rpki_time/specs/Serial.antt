@@ -37,7 +37,8 @@ serial_octets n = tlv integer false (serial_contents n)
 
 -- an unsigned INTEGER of more octets has an error text of its own
 abbrev pub TellsLong : List ℕ → DecodeError → Type 0
-TellsLong s (Content e) = (n : ℕ) (r : List ℕ) → Spells (SpellsLeaf integer false IsUnsigned) s n r → text_of e ≡ codes "serial number longer than 20 bytes"
+TellsLong s (Content e) = (n : ℕ) (r : List ℕ) → Spells (SpellsLeaf integer false IsUnsigned) s n r
+    → text_of e ≡ codes "serial number longer than 20 bytes"
 TellsLong s Truncated = Unit {0}
 TellsLong s BadTag = Unit {0}
 TellsLong s BadLength = Unit {0}

@@ -8,7 +8,7 @@ use Rattle.rpki_der.specs.TagName.{TagName, utc_time, generalized_time}
 use Rattle.rpki_der.specs.Header.{tlv}
 use Rattle.rpki_der.specs.Reading.{Spells}
 use Rattle.rpki_der.specs.Values.{SpellsContents, HasTag}
-use Rattle.rpki_der.specs.Flat.{SpellsFlat, IsFlatFault}
+use Rattle.rpki_der.specs.WantedValue.{SpellsWanted, IsWantedFault}
 use Rattle.rpki_der.specs.Tree.{Tree}
 use Rattle.rpki_der.specs.Tree.Tree.{Primitive}
 use Rattle.rpki_time.specs.TimeText.{utc_text, generalized_text, is_utc_year, ReadsAsUtc, ReadsAsGeneralized}
@@ -30,15 +30,16 @@ IsPrimitive t f = f ≡ false
 
 -- s begins with a primitive value that reads as no time
 abbrev pub HasNoTime : List ℕ → Type 0
-HasNoTime s = (x : TagName × Bool × List ℕ) × (r : List ℕ) × Spells (SpellsFlat IsPrimitive) s x r × ((t : DateTime) → ReadsAs x.0 x.2 t → ⊥)
+HasNoTime s = (x : TagName × Bool × List ℕ) × (r : List ℕ) × Spells (SpellsWanted IsPrimitive) s x r
+    × ((t : DateTime) → ReadsAs x.0 x.2 t → ⊥)
 
 -- The first error: that of the header; then the constructed form, of any tag; then contents that are longer than what
 -- is left; then a primitive value, of any tag, that is no time.
 abbrev pub IsTimeFault : List ℕ → DecodeError → Type 0
-IsTimeFault s Truncated = IsFlatFault IsPrimitive s Truncated
-IsTimeFault s BadTag = IsFlatFault IsPrimitive s BadTag
-IsTimeFault s BadLength = IsFlatFault IsPrimitive s BadLength
-IsTimeFault s Unexpected = IsFlatFault IsPrimitive s Unexpected
+IsTimeFault s Truncated = IsWantedFault IsPrimitive s Truncated
+IsTimeFault s BadTag = IsWantedFault IsPrimitive s BadTag
+IsTimeFault s BadLength = IsWantedFault IsPrimitive s BadLength
+IsTimeFault s Unexpected = IsWantedFault IsPrimitive s Unexpected
 IsTimeFault s (Content e) = (text_of e ≡ codes "malformed time value") × HasNoTime s
 IsTimeFault s Trailing = ⊥
 IsTimeFault s OutOfMemory = ⊥

@@ -74,7 +74,8 @@ pub fn texts_read_back()
     ensures utc { (t : Civil) → ReadsAsUtc (utc_text t) (cut t) ↔ IsUtcYear t.date.year }
     ensures generalized { (t : Civil) → IsTimeYear t.date.year → ReadsAsGeneralized (generalized_text t) (cut t) }
     ensures one_utc { (text : List ℕ) (t u : Civil) → ReadsAsUtc text t → ReadsAsUtc text u → t ≡ u }
-    ensures one_generalized { (text : List ℕ) (t u : Civil) → ReadsAsGeneralized text t → ReadsAsGeneralized text u → t ≡ u }
+    ensures one_generalized { (text : List ℕ) (t u : Civil) → ReadsAsGeneralized text t → ReadsAsGeneralized text u
+        → t ≡ u }
     ensures window { (y : ℤ) → (is_utc_year y ≡ true) ↔ IsUtcYear y }
 {}
 
@@ -83,7 +84,8 @@ pub fn texts_read_back()
 pub fn times_read_back(cons: &mut Constructed<'_>) -> Result<Time, DecodeError>
     ensures varied { (t : Civil) (rest : List ℕ) → IsTimeYear t.date.year → left cons.old ≡ time_octets t ++ rest
         → (result ≡ Ok (cut t)) × (left cons.new ≡ rest) }
-    ensures generalized { (t : Civil) (rest : List ℕ) → IsTimeYear t.date.year → left cons.old ≡ generalized_octets t ++ rest
+    ensures generalized { (t : Civil) (rest : List ℕ) → IsTimeYear t.date.year
+        → left cons.old ≡ generalized_octets t ++ rest
         → (result ≡ Ok (cut t)) × (left cons.new ≡ rest) }
     ensures utc { (t : Civil) (rest : List ℕ) → left cons.old ≡ utc_octets t ++ rest
         → ((result ≡ Ok (cut t)) × (left cons.new ≡ rest)) ↔ IsUtcYear t.date.year }
@@ -93,7 +95,8 @@ pub fn times_read_back(cons: &mut Constructed<'_>) -> Result<Time, DecodeError>
 
 /// Two times are written the same exactly where they differ in parts of a second alone.
 pub fn times_written_the_same()
-    ensures { (t u : Civil) → IsTimeYear t.date.year → IsTimeYear u.date.year → (time_octets t ≡ time_octets u) ↔ (cut t ≡ cut u) }
+    ensures { (t u : Civil) → IsTimeYear t.date.year → IsTimeYear u.date.year
+        → (time_octets t ≡ time_octets u) ↔ (cut t ≡ cut u) }
 {}
 
 /// What is written of a period is read as the period without parts of a second, and what follows is left.
@@ -106,7 +109,8 @@ pub fn periods_read_back(cons: &mut Constructed<'_>) -> Result<Validity, DecodeE
 
 /// Two periods are written the same exactly where they differ in parts of a second alone.
 pub fn periods_written_the_same()
-    ensures { (p q : Period) → AreTimeYears p → AreTimeYears q → (period_octets p ≡ period_octets q) ↔ (cut_period p ≡ cut_period q) }
+    ensures { (p q : Period) → AreTimeYears p → AreTimeYears q
+        → (period_octets p ≡ period_octets q) ↔ (cut_period p ≡ cut_period q) }
 {}
 
 /// Trimming is commutative, associative and idempotent.

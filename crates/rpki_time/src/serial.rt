@@ -277,7 +277,7 @@ impl PrimitiveContent for Serial {
         self.contents().len() as u64
     }
 
-    #[tactic(auto, using(rpki_der::proofs::Writing::writes_of_cut))]
+    #[tactic(auto, using(rpki_der::proofs::WritingLaws::writes_of_cut))]
     fn write_encoded<W: Write>(&self, out: &mut W) -> Result<(), io::Error> {
         write_whole(out, self.contents())
     }

@@ -3,12 +3,12 @@
 mod failing;
 mod laws;
 mod periods;
+mod times;
 mod values;
 
 use super::*;
 use failing::FailsOnce;
 use jiff::SignedDuration;
-use jiff::civil::DateTime;
 use rpki_der::{Captured, Constructed, ContentError, DecodeError, PrimitiveContent, Tag, Values};
 use std::alloc::{AllocError, Global};
 use std::io;
@@ -27,7 +27,31 @@ enum Reader {
     Period,
 }
 
-/// What a reader returned: a value, None, or an error by its number, except for the two with a promised text.
+/// The kind of an error of decoding.
+#[derive(Clone, Copy, Debug, PartialEq)]
+enum Kind {
+    Truncated,
+    BadTag,
+    BadLength,
+    Unexpected,
+    Content,
+    Trailing,
+    OutOfMemory,
+}
+
+fn kind_of(error: &DecodeError) -> Kind {
+    match error {
+        DecodeError::Truncated => Kind::Truncated,
+        DecodeError::BadTag => Kind::BadTag,
+        DecodeError::BadLength => Kind::BadLength,
+        DecodeError::Unexpected => Kind::Unexpected,
+        DecodeError::Content(_) => Kind::Content,
+        DecodeError::Trailing => Kind::Trailing,
+        DecodeError::OutOfMemory => Kind::OutOfMemory,
+    }
+}
+
+/// What a reader returned: a value, None, or an error by its kind, except for the two with a promised text.
 #[derive(Clone, Copy, Debug, PartialEq)]
 enum Found {
     Serial([u8; 20]),
@@ -36,7 +60,7 @@ enum Found {
     Nothing,
     Malformed,
     TooLong,
-    Refused(u8),
+    Refused(Kind),
 }
 
 fn parts_of(time: Time) -> Parts {
@@ -74,7 +98,7 @@ fn refusal(e: DecodeError) -> Found {
     if e == DecodeError::Content(ContentError::from_static("serial number longer than 20 bytes")) {
         return Found::TooLong;
     }
-    Found::Refused(e.number())
+    Found::Refused(kind_of(&e))
 }
 
 fn answer(reader: Reader, cursor: &mut Constructed<'_>) -> Found {
@@ -121,8 +145,9 @@ fn read(
     Ok((found, cursor.rest().len()))
 }
 
-const READ: &[(Reader, &[u8], (Found, usize))] = &[
+const READ: &[(&str, Reader, &[u8], (Found, usize))] = &[
     (
+        "serial number 66051, and an octet",
         Reader::Serial,
         b"\x02\x03\x01\x02\x03\x05",
         (
@@ -131,6 +156,7 @@ const READ: &[(Reader, &[u8], (Found, usize))] = &[
         ),
     ),
     (
+        "greatest serial number",
         Reader::Serial,
         b"\x02\x14\x7f\xff\xff\xff\xff\xff\xff\xff\xff\xff\xff\xff\xff\xff\xff\xff\xff\xff\xff\xff",
         (
@@ -141,138 +167,266 @@ const READ: &[(Reader, &[u8], (Found, usize))] = &[
         ),
     ),
     (
+        "serial number of 21 octets",
         Reader::Serial,
         b"\x02\x15\0\x80\0\0\0\0\0\0\0\0\0\0\0\0\0\0\0\0\0\0\0",
         (Found::TooLong, 23),
     ),
     (
+        "21 octets of zeros",
         Reader::Serial,
         b"\x02\x15\0\0\0\0\0\0\0\0\0\0\0\0\0\0\0\0\0\0\0\0\0",
-        (Found::Refused(5), 23),
+        (Found::Refused(Kind::Content), 23),
     ),
-    (Reader::Serial, b"\x02\0", (Found::Refused(5), 2)),
-    (Reader::Serial, b"\x02\x01\x80", (Found::Refused(5), 3)),
-    (Reader::Serial, b"\x02\x03\x01", (Found::Refused(1), 3)),
-    (Reader::Serial, b"\x22\0", (Found::Refused(4), 2)),
-    (Reader::Serial, b"\x02\x81\x01\x05", (Found::Refused(3), 4)),
-    (Reader::Serial, b"\0\0", (Found::Refused(2), 2)),
     (
+        "serial number without contents",
+        Reader::Serial,
+        b"\x02\0",
+        (Found::Refused(Kind::Content), 2),
+    ),
+    (
+        "negative serial number",
+        Reader::Serial,
+        b"\x02\x01\x80",
+        (Found::Refused(Kind::Content), 3),
+    ),
+    (
+        "serial number cut short",
+        Reader::Serial,
+        b"\x02\x03\x01",
+        (Found::Refused(Kind::Truncated), 3),
+    ),
+    (
+        "constructed serial number",
+        Reader::Serial,
+        b"\x22\0",
+        (Found::Refused(Kind::Unexpected), 2),
+    ),
+    (
+        "serial number with a length in long form",
+        Reader::Serial,
+        b"\x02\x81\x01\x05",
+        (Found::Refused(Kind::BadLength), 4),
+    ),
+    (
+        "no tag",
+        Reader::Serial,
+        b"\0\0",
+        (Found::Refused(Kind::BadTag), 2),
+    ),
+    (
+        "UTC time 1950, and a NULL",
         Reader::Time,
         b"\x17\x0d500101000000Z\x05\0",
         (Found::Time((1950, 1, 1, 0, 0, 0)), 2),
     ),
     (
+        "last UTC time",
         Reader::Time,
         b"\x17\x0d491231235959Z",
         (Found::Time((2049, 12, 31, 23, 59, 59)), 0),
     ),
     (
+        "UTC time 1980",
         Reader::Time,
         b"\x17\x0d801001163015Z",
         (Found::Time((1980, 10, 1, 16, 30, 15)), 0),
     ),
     (
+        "UTC time 2030",
         Reader::Time,
         b"\x17\x0d301001163015Z",
         (Found::Time((2030, 10, 1, 16, 30, 15)), 0),
     ),
     (
+        "generalized time 2030",
         Reader::Time,
         b"\x18\x0f20301001163015Z",
         (Found::Time((2030, 10, 1, 16, 30, 15)), 0),
     ),
     (
+        "last generalized time",
         Reader::Time,
         b"\x18\x0f99991231235959Z",
         (Found::Time((9999, 12, 31, 23, 59, 59)), 0),
     ),
     (
+        "generalized time of year 0",
         Reader::Time,
         b"\x18\x0f00000101000000Z",
         (Found::Time((0, 1, 1, 0, 0, 0)), 0),
     ),
     (
+        "29 February 1900",
         Reader::Time,
         b"\x18\x0f19000229000000Z",
         (Found::Malformed, 17),
     ),
     (
+        "letter in a generalized day",
         Reader::Time,
         b"\x18\x0f2030a001163015Z",
         (Found::Malformed, 17),
     ),
     (
+        "sign in a generalized day",
         Reader::Time,
         b"\x18\x0f2030+001163015Z",
         (Found::Malformed, 17),
     ),
     (
+        "letter in a UTC day",
         Reader::Time,
         b"\x17\x0d30a001163015Z",
         (Found::Malformed, 15),
     ),
     (
+        "sign in a UTC day",
         Reader::Time,
         b"\x17\x0d30+001163015Z",
         (Found::Malformed, 15),
     ),
     (
+        "second 60",
         Reader::Time,
         b"\x17\x0d491231235960Z",
         (Found::Malformed, 15),
     ),
     (
+        "UTC time with a fraction",
         Reader::Time,
         b"\x17\x0e4912312359590Z",
         (Found::Malformed, 16),
     ),
     (
+        "generalized time of UTC length",
         Reader::Time,
         b"\x18\x0d500101000000Z",
         (Found::Malformed, 15),
     ),
     (
+        "tag 23 of class context",
         Reader::Time,
         b"\x97\x0d500101000000Z",
         (Found::Malformed, 15),
     ),
     (
+        "tag number 279",
         Reader::Time,
         b"\x1f\x82\x17\x0d500101000000Z",
         (Found::Malformed, 17),
     ),
-    (Reader::Time, b"\x05\0", (Found::Malformed, 2)),
-    (Reader::Time, b"\x05\x01", (Found::Refused(1), 2)),
-    (Reader::Time, b"\x17\x0d500101", (Found::Refused(1), 8)),
-    (Reader::Time, b"\x37\x05\0", (Found::Refused(4), 3)),
-    (Reader::Time, b"\x30\x7f", (Found::Refused(4), 2)),
     (
+        "NULL for a time",
+        Reader::Time,
+        b"\x05\0",
+        (Found::Malformed, 2),
+    ),
+    (
+        "NULL cut short",
+        Reader::Time,
+        b"\x05\x01",
+        (Found::Refused(Kind::Truncated), 2),
+    ),
+    (
+        "UTC time cut short",
+        Reader::Time,
+        b"\x17\x0d500101",
+        (Found::Refused(Kind::Truncated), 8),
+    ),
+    (
+        "constructed UTC time",
+        Reader::Time,
+        b"\x37\x05\0",
+        (Found::Refused(Kind::Unexpected), 3),
+    ),
+    (
+        "SEQUENCE for a time",
+        Reader::Time,
+        b"\x30\x7f",
+        (Found::Refused(Kind::Unexpected), 2),
+    ),
+    (
+        "constructed generalized time of the greatest length",
         Reader::Time,
         b"\x38\x84\xff\xff\xff\xff",
-        (Found::Refused(4), 6),
+        (Found::Refused(Kind::Unexpected), 6),
     ),
-    (Reader::Time, b"", (Found::Refused(1), 0)),
     (
+        "no time at the end",
+        Reader::Time,
+        b"",
+        (Found::Refused(Kind::Truncated), 0),
+    ),
+    (
+        "optional UTC time",
         Reader::OptionalTime,
         b"\x17\x0d500101000000Z",
         (Found::Time((1950, 1, 1, 0, 0, 0)), 0),
     ),
     (
+        "optional generalized time",
         Reader::OptionalTime,
         b"\x18\x0f00000101000000Z",
         (Found::Time((0, 1, 1, 0, 0, 0)), 0),
     ),
-    (Reader::OptionalTime, b"", (Found::Nothing, 0)),
-    (Reader::OptionalTime, b"\x1f", (Found::Nothing, 1)),
-    (Reader::OptionalTime, b"\0", (Found::Nothing, 1)),
-    (Reader::OptionalTime, b"\x97\0", (Found::Nothing, 2)),
-    (Reader::OptionalTime, b"\x30\0", (Found::Nothing, 2)),
-    (Reader::OptionalTime, b"\x17", (Found::Refused(1), 1)),
-    (Reader::OptionalTime, b"\x18\x0f", (Found::Refused(1), 2)),
-    (Reader::OptionalTime, b"\x37\0", (Found::Refused(4), 2)),
-    (Reader::OptionalTime, b"\x38\x05", (Found::Refused(4), 2)),
-    (Reader::OptionalTime, b"\x17\0", (Found::Malformed, 2)),
+    ("nothing", Reader::OptionalTime, b"", (Found::Nothing, 0)),
     (
+        "half a tag",
+        Reader::OptionalTime,
+        b"\x1f",
+        (Found::Nothing, 1),
+    ),
+    (
+        "no tag, optional",
+        Reader::OptionalTime,
+        b"\0",
+        (Found::Nothing, 1),
+    ),
+    (
+        "class context, optional",
+        Reader::OptionalTime,
+        b"\x97\0",
+        (Found::Nothing, 2),
+    ),
+    (
+        "SEQUENCE, optional",
+        Reader::OptionalTime,
+        b"\x30\0",
+        (Found::Nothing, 2),
+    ),
+    (
+        "UTC time of one octet",
+        Reader::OptionalTime,
+        b"\x17",
+        (Found::Refused(Kind::Truncated), 1),
+    ),
+    (
+        "generalized time cut short",
+        Reader::OptionalTime,
+        b"\x18\x0f",
+        (Found::Refused(Kind::Truncated), 2),
+    ),
+    (
+        "constructed UTC time, optional",
+        Reader::OptionalTime,
+        b"\x37\0",
+        (Found::Refused(Kind::Unexpected), 2),
+    ),
+    (
+        "constructed generalized time, optional",
+        Reader::OptionalTime,
+        b"\x38\x05",
+        (Found::Refused(Kind::Unexpected), 2),
+    ),
+    (
+        "UTC time without contents",
+        Reader::OptionalTime,
+        b"\x17\0",
+        (Found::Malformed, 2),
+    ),
+    (
+        "both kinds of time, and an octet",
         Reader::Period,
         b"\x30\x20\x17\x0d200101000000Z\x18\x0f20500101000000Z\x30",
         (
@@ -280,30 +434,43 @@ const READ: &[(Reader, &[u8], (Found, usize))] = &[
             1,
         ),
     ),
-    (Reader::Period, b"\x31\0", (Found::Refused(4), 2)),
-    (Reader::Period, b"\x30\x81\0", (Found::Refused(3), 3)),
     (
+        "SET for a validity period",
         Reader::Period,
-        b"\x30\x0f\x17\x0d200101000000Z",
-        (Found::Refused(1), 17),
+        b"\x31\0",
+        (Found::Refused(Kind::Unexpected), 2),
     ),
     (
+        "validity period with a length in long form",
+        Reader::Period,
+        b"\x30\x81\0",
+        (Found::Refused(Kind::BadLength), 3),
+    ),
+    (
+        "one time alone",
+        Reader::Period,
+        b"\x30\x0f\x17\x0d200101000000Z",
+        (Found::Refused(Kind::Truncated), 17),
+    ),
+    (
+        "second time malformed",
         Reader::Period,
         b"\x30\x1f\x17\x0d200101000000Z\x17\x0e2001010000000Z",
         (Found::Malformed, 33),
     ),
     (
+        "three times",
         Reader::Period,
         b"\x30\x2d\x17\x0d200101000000Z\x17\x0d200101000000Z\x17\x0d200101000000Z",
-        (Found::Refused(6), 47),
+        (Found::Refused(Kind::Trailing), 47),
     ),
 ];
 
 #[test]
 fn values_are_read(rt: HostRuntime) -> Result<(), Fail> {
-    for (reader, octets, expected) in READ {
+    for (name, reader, octets, expected) in READ {
         let found = read(rt.alloc(), *reader, octets)?;
-        assert!(rt; found == *expected, "{reader:?} of {octets:?}: {found:?}");
+        assert!(rt; found == *expected, "{name}: {found:?}");
     }
     Ok(())
 }
@@ -477,181 +644,5 @@ fn serials_of_arrays(rt: HostRuntime) {
             _ => false,
         };
         assert!(rt; same, "{octets:?}");
-    }
-}
-
-/// What is asked of a time.
-#[derive(Clone, Copy, Debug)]
-enum Asked {
-    FiveMinutesAgo,
-    FiveMinutesFromNow,
-    Tomorrow,
-    NextWeek,
-    NextYear,
-    YearsFromNow(i32),
-    Add(i64),
-    Subtract(i64),
-}
-
-fn ask(asked: Asked, now: Time) -> Option<Time> {
-    match asked {
-        Asked::FiveMinutesAgo => Time::five_minutes_ago(now),
-        Asked::FiveMinutesFromNow => Time::five_minutes_from_now(now),
-        Asked::Tomorrow => Time::tomorrow(now),
-        Asked::NextWeek => Time::next_week(now),
-        Asked::NextYear => Time::next_year(now),
-        Asked::YearsFromNow(years) => Time::years_from_now(years, now),
-        Asked::Add(seconds) => now.checked_add(SignedDuration::from_secs(seconds)),
-        Asked::Subtract(seconds) => now.checked_sub(SignedDuration::from_secs(seconds)),
-    }
-}
-
-const ASKED: &[(Asked, Parts, Option<Parts>)] = &[
-    (Asked::FiveMinutesAgo, (0, 1, 1, 0, 4, 59), None),
-    (
-        Asked::FiveMinutesAgo,
-        (0, 1, 1, 0, 5, 0),
-        Some((0, 1, 1, 0, 0, 0)),
-    ),
-    (
-        Asked::FiveMinutesFromNow,
-        (2019, 12, 31, 23, 55, 0),
-        Some((2020, 1, 1, 0, 0, 0)),
-    ),
-    (
-        Asked::Tomorrow,
-        (2020, 2, 28, 12, 0, 0),
-        Some((2020, 2, 29, 12, 0, 0)),
-    ),
-    (Asked::Tomorrow, (9999, 12, 31, 0, 0, 0), None),
-    (
-        Asked::NextWeek,
-        (2020, 2, 28, 12, 0, 0),
-        Some((2020, 3, 6, 12, 0, 0)),
-    ),
-    (
-        Asked::NextYear,
-        (2020, 2, 29, 12, 0, 0),
-        Some((2021, 2, 28, 12, 0, 0)),
-    ),
-    (
-        Asked::YearsFromNow(10),
-        (2020, 2, 29, 16, 39, 57),
-        Some((2030, 2, 28, 16, 39, 57)),
-    ),
-    (Asked::YearsFromNow(1), (9999, 1, 1, 0, 0, 0), None),
-    (
-        Asked::Add(-1),
-        (2020, 1, 1, 0, 0, 0),
-        Some((2019, 12, 31, 23, 59, 59)),
-    ),
-    (
-        Asked::Subtract(1),
-        (2020, 1, 1, 0, 0, 0),
-        Some((2019, 12, 31, 23, 59, 59)),
-    ),
-    (Asked::Subtract(1), (0, 1, 1, 0, 0, 0), None),
-];
-
-#[test]
-fn sums_of_times(rt: HostRuntime) {
-    for (asked, parts, expected) in ASKED {
-        let found = match time_of(*parts) {
-            Some(now) => Some(ask(*asked, now).map(parts_of)),
-            None => None,
-        };
-        assert!(rt;
-            found == Some(*expected),
-            "{asked:?} of {parts:?}: {found:?}"
-        );
-    }
-}
-
-/// Years, a date-time with its nanosecond, and the same day so many years on.
-const YEARS_ON: &[(i32, Parts, i64, Option<Parts>)] = &[
-    (
-        4,
-        (2020, 2, 29, 16, 39, 57),
-        0,
-        Some((2024, 2, 28, 16, 39, 57)),
-    ),
-    (
-        10,
-        (2020, 2, 29, 16, 39, 57),
-        0,
-        Some((2030, 2, 28, 16, 39, 57)),
-    ),
-    (1, (9999, 1, 1, 0, 0, 0), 0, None),
-    (-1, (0, 1, 1, 0, 0, 0), 0, None),
-    (
-        1,
-        (2014, 10, 21, 16, 39, 57),
-        500_000_000,
-        Some((2015, 10, 21, 16, 39, 57)),
-    ),
-];
-
-/// The date-time of these parts, and of this nanosecond.
-fn date_time_of(parts: Parts, nanosecond: i64) -> Option<DateTime> {
-    let time = moment_of(parts, nanosecond)?;
-    Some(time.date_time())
-}
-
-#[test]
-fn years_on(rt: HostRuntime) {
-    for (years, parts, nanosecond, expected) in YEARS_ON {
-        let found = match date_time_of(*parts, *nanosecond) {
-            Some(date) => Some(Time::years_from_date(*years, date)),
-            None => None,
-        };
-        let whole = found == Some(expected.and_then(time_of));
-        assert!(rt; whole, "{years} from {parts:?}: {found:?}");
-    }
-}
-
-/// A time with its nanosecond, its whole seconds, and whether a nanosecond later is a time too.
-const SECONDS: &[(Parts, i64, i64, bool)] = &[
-    ((2000, 1, 1, 0, 0, 0), 0, 946_684_800, true),
-    ((1970, 1, 1, 0, 0, 0), -500_000_000, -1, true),
-    (
-        (9999, 12, 31, 23, 59, 59),
-        999_999_999,
-        253_402_300_799,
-        false,
-    ),
-];
-
-#[test]
-fn seconds_of_times(rt: HostRuntime) {
-    for (parts, nanosecond, expected, more) in SECONDS {
-        let found = match date_time_of(*parts, *nanosecond) {
-            Some(date) if date.year() >= 0 => {
-                let time = Time::new(date);
-                let later = time.checked_add(SignedDuration::from_nanos(1));
-                Some((time.to_binary_time(), later.is_some()))
-            }
-            _ => None,
-        };
-        assert!(rt; found == Some((*expected, *more)), "{parts:?}: {found:?}");
-    }
-}
-
-/// A text, and the moment that it is read as.
-const TEXTS: &[(&str, Option<Parts>)] = &[
-    ("2030-10-01T18:30:15+02:00", Some((2030, 10, 1, 16, 30, 15))),
-    ("2030-10-01T16:30:15Z", Some((2030, 10, 1, 16, 30, 15))),
-    ("2030-10-01T16:30:15", None),
-    ("2030-10-01", None),
-    ("-000001-12-31T23:59:59Z", None),
-];
-
-#[test]
-fn texts_of_moments(rt: HostRuntime) {
-    for (text, expected) in TEXTS {
-        let found = match text.parse::<Time>() {
-            Ok(time) => Some(parts_of(time)),
-            Err(TimeParseError) => None,
-        };
-        assert!(rt; found == *expected, "{text}: {found:?}");
     }
 }

@@ -38,7 +38,7 @@ impl PrimitiveContent for UtcTime {
         13
     }
 
-    #[tactic(auto, using(rpki_der::proofs::Writing::writes_of_cut))]
+    #[tactic(auto, using(rpki_der::proofs::WritingLaws::writes_of_cut))]
     fn write_encoded<W: Write>(&self, out: &mut W) -> Result<(), io::Error> {
         write_whole(out, &self.time.utc_text())
     }
@@ -80,7 +80,7 @@ impl PrimitiveContent for GeneralizedTime {
         15
     }
 
-    #[tactic(auto, using(rpki_der::proofs::Writing::writes_of_cut))]
+    #[tactic(auto, using(rpki_der::proofs::WritingLaws::writes_of_cut))]
     fn write_encoded<W: Write>(&self, out: &mut W) -> Result<(), io::Error> {
         write_whole(out, &self.time.generalized_text())
     }
@@ -131,7 +131,7 @@ impl Values for VariedTime {
 
     ghost are_values = { λ t _. time_is_value_list t };
 
-    #[tactic(auto, using(crate::proofs::TimeValues::time_fits))]
+    #[tactic(auto, using(crate::proofs::TimeValueLaws::time_fits))]
     fn fits(&self) -> bool {
         true
     }
@@ -160,7 +160,7 @@ impl Values for VariedTime {
 
 impl Time {
     /// An encoder for the time as UTC time, in any year: the last two digits of the year are written. It always fits.
-    #[tactic(auto, using(crate::proofs::TimeValues::utc_fits))]
+    #[tactic(auto, using(crate::proofs::TimeValueLaws::utc_fits))]
     pub fn encode_utc_time(self) -> Primitive<UtcTime>
         ensures encoded { ⟦<Primitive<UtcTime> as Values>⟧.encoded result ≡ utc_octets self }
         ensures fits { ⟦<Primitive<UtcTime> as Values>⟧.is_short result × (length (utc_octets self) < 2 ^ 63) }
@@ -169,17 +169,18 @@ impl Time {
     }
 
     /// An encoder for the time as generalized time. It always fits.
-    #[tactic(auto, using(crate::proofs::TimeValues::generalized_fits))]
+    #[tactic(auto, using(crate::proofs::TimeValueLaws::generalized_fits))]
     pub fn encode_generalized_time(self) -> Primitive<GeneralizedTime>
         ensures encoded { ⟦<Primitive<GeneralizedTime> as Values>⟧.encoded result ≡ generalized_octets self }
-        ensures fits { ⟦<Primitive<GeneralizedTime> as Values>⟧.is_short result × (length (generalized_octets self) < 2 ^ 63) }
+        ensures fits { ⟦<Primitive<GeneralizedTime> as Values>⟧.is_short result
+            × (length (generalized_octets self) < 2 ^ 63) }
     {
         GeneralizedTime { time: self }.encode()
     }
 
     /// An encoder for the time as certificates have it: UTC time in the years 1950 to 2049, and generalized time in the
     /// others. It always fits.
-    #[tactic(auto, using(crate::proofs::TimeValues::time_fits))]
+    #[tactic(auto, using(crate::proofs::TimeValueLaws::time_fits))]
     pub fn encode_varied(self) -> VariedTime
         ensures time { result ≡ self }
         ensures encoded { ⟦<VariedTime as Values>⟧.encoded result ≡ time_octets self }

@@ -4,7 +4,7 @@ ghost use Rattle.std.specs.Prelude.{◌≡◌, ◌↔◌, codes, false, IsTrue, 
 ghost use Rattle.jiff.specs.Types.{DateTime as Civil};
 ghost use Rattle.rpki_der.specs.Cursor.{left};
 ghost use Rattle.rpki_der.specs.ErrorText.{text_of};
-ghost use Rattle.rpki_der.specs.Flat.{SpellsFlat, IsFlatFault};
+ghost use Rattle.rpki_der.specs.WantedValue.{SpellsWanted, IsWantedFault};
 ghost use Rattle.rpki_der.specs.Reading.{Reads, ReadsWhere};
 ghost use Rattle.rpki_time.specs.TimeValue.{ReadsAs, SpellsTime, IsPrimitive, IsTimeFault, HasTimeTag};
 
@@ -37,7 +37,8 @@ fn time_under(tag: Tag, text: &[u8]) -> Option<Time>
 ///
 /// The errors are those of a header; then `Unexpected` for the constructed form; then `Truncated`.
 fn take_primitive<'a>(cons: &mut Constructed<'a>) -> Result<(Tag, &'a [u8]), DecodeError>
-    ensures { Reads (λ x. (x.0, false, x.1.now)) (SpellsFlat IsPrimitive) (IsFlatFault IsPrimitive) (left cons.old) (left cons.new) result }
+    ensures { Reads (λ x. (x.0, false, x.1.now)) (SpellsWanted IsPrimitive) (IsWantedFault IsPrimitive)
+        (left cons.old) (left cons.new) result }
 {
     let mut ahead = *cons;
     let header = match ahead.take_header(&mut Steps::new()) {

@@ -181,7 +181,8 @@ impl Validity {
     {
         cons.in_sequence(
             |contents|
-                ensures { ReadsAll (λ p. p) IsPeriod (TakesNoMemory AnyFault) (left contents.old) (left contents.new) result }
+                ensures { ReadsAll (λ p. p) IsPeriod (TakesNoMemory AnyFault) (left contents.old)
+                    (left contents.new) result }
             {
                 let not_before = match Time::take_from(contents) {
                     Ok(time) => time,
@@ -200,7 +201,8 @@ impl Validity {
     /// writes it. It always fits.
     pub fn encode(self) -> Sequence<(VariedTime, VariedTime)>
         ensures encoded { ⟦<Sequence<(VariedTime, VariedTime)> as Values>⟧.encoded result ≡ period_octets self }
-        ensures fits { ⟦<Sequence<(VariedTime, VariedTime)> as Values>⟧.is_short result × (length (period_octets self) < 2 ^ 63) }
+        ensures fits { ⟦<Sequence<(VariedTime, VariedTime)> as Values>⟧.is_short result
+            × (length (period_octets self) < 2 ^ 63) }
     {
         Sequence::new((
             self.not_before.encode_varied(),

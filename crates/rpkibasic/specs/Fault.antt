@@ -13,7 +13,7 @@ use Rattle.rpkibasic.specs.declared.fault.Fault.{Fault}
 use Rattle.rpkibasic.specs.declared.fault.Fault.TheVariants.{Usage, Refused, RefusedUri, TooLong, OutOfMemory, Input, Output}
 
 abbrev pub usage_text : List ℕ
-usage_text = codes "usage: rpkibasic again|data|key|uri|ext\n"
+usage_text = codes "usage: rpkibasic again|data|key|uri|ext|name\n"
 
 -- the line of a fault, up to the number where the input is rejected
 abbrev pub text_of : Fault → List ℕ

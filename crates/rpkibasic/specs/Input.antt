@@ -3,9 +3,9 @@ use Rattle.std.specs.Prelude.{◌≢◌, ℕ, ◌*◌, ◌≤◌, List, [], leng
 use Rattle.rpkibasic.specs.declared.input.Unread.{Unread}
 use Rattle.rpkibasic.specs.declared.input.Unread.TheVariants.{Failed, Endless, OutOfMemory}
 
--- the reader is called at most 16,777,216 times, for 4,096 octets each time, and the last call finds the end
+-- the reader is called at most 16,777,216 times, for 65,536 octets each time, and the last call finds the end
 abbrev pub most_octets : ℕ
-most_octets = 16_777_215 * 4_096
+most_octets = 16_777_215 * 65_536
 
 -- Why the octets that a reader has were not read to their end: each of 16,777,216 calls gave one of them or more; or
 -- allocation failed, where there was an octet; or the reader failed.

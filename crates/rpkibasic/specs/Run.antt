@@ -13,18 +13,19 @@ use Rattle.rpki.specs.Algorithm.{SpellsAlgorithm}
 use Rattle.rpki.specs.AlgorithmOctets.{algorithm_octets}
 use Rattle.rpki.specs.SignedData.{SignedParts, SpellsSigned, written_contents, written_signed}
 use Rattle.rpki.specs.PublicKey.{KeyParts, SpellsKey}
-use Rattle.rpki.specs.Name.{SpellsEach}
+use Rattle.rpki.specs.Name.{SpellsEach, SpellsNameOctets}
 use Rattle.rpki.specs.ExtensionValue.{ExtensionParts, SpellsExtension, written_extension}
 use Rattle.rpki_text.specs.HexText.{hex_text}
 use Rattle.sha1.specs.Sha1.{sha1}
 use Rattle.rpki_text.specs.declared.uri.error.Error.{Error}
 use Rattle.rpkibasic.specs.UriLines.{without_last_line_feed, uri_refusal_of, uri_lines}
+use Rattle.rpkibasic.specs.NameLines.{AreNameLines}
 use Rattle.rpkibasic.specs.Input.{most_octets}
 use Rattle.rpkibasic.specs.Fault.{usage_text, line, status_of}
 use Rattle.rpkibasic.specs.declared.fault.Fault.{Fault}
 use Rattle.rpkibasic.specs.declared.fault.Fault.TheVariants.{Usage, Refused, RefusedUri, TooLong, OutOfMemory, Input, Output}
 use Rattle.rpkibasic.specs.declared.command.Command.{Command}
-use Rattle.rpkibasic.specs.declared.command.Command.TheVariants.{Again, Data, Key, Uri, Ext}
+use Rattle.rpkibasic.specs.declared.command.Command.TheVariants.{Again, Data, Key, Uri, Ext, Name}
 
 -- ---- what is returned: a text, or a fault
 
@@ -47,7 +48,8 @@ SpellsOnly {V} G v octets = G v octets × ((w : V) → G w octets → w ≡ v)
 
 -- Why an input gives no text: it is in the grammar of none, and the reader of whole octets rejects it so; or T.
 abbrev pub IsFaultOf : {V : Type 0} → (V → List ℕ → Type 0) → Type 0 → List ℕ → Fault → Type 0
-IsFaultOf G T input (Refused e) = (e ≢ der.OutOfMemory) × SpellsNothing G input × IsWholeFault G (GivesOuterFault sequence true) input e
+IsFaultOf G T input (Refused e) =
+    (e ≢ der.OutOfMemory) × SpellsNothing G input × IsWholeFault G (GivesOuterFault sequence true) input e
 IsFaultOf G T input (RefusedUri e) = ⊥
 IsFaultOf G T input TooLong = T
 IsFaultOf G T input OutOfMemory = ⊥
@@ -57,23 +59,27 @@ IsFaultOf G T input Output = ⊥
 
 -- The input is signed data, and the text is what is written of it.
 abbrev pub IsAgain : List ℕ → List ℕ → Type 0
-IsAgain input text = (x : Signed) × SpellsOnly SpellsRpki x input × (length (written_contents written_algorithm x) < 2 ^ 32) × (text ≡ written_signed written_algorithm x)
+IsAgain input text = (x : Signed) × SpellsOnly SpellsRpki x input
+    × (length (written_contents written_algorithm x) < 2 ^ 32) × (text ≡ written_signed written_algorithm x)
 
 -- The input is signed data, and no length can announce the contents that would be written.
 abbrev pub IsTooLong : List ℕ → Type 0
-IsTooLong input = (x : Signed) × SpellsOnly SpellsRpki x input × (2 ^ 32 ≤ length (written_contents written_algorithm x))
+IsTooLong input = (x : Signed) × SpellsOnly SpellsRpki x input
+    × (2 ^ 32 ≤ length (written_contents written_algorithm x))
 
 -- The input is signed data, and the text is the signed slice.
 abbrev pub IsSlice : List ℕ → List ℕ → Type 0
 IsSlice input text = (x : Signed) × SpellsOnly SpellsRpki x input × (text ≡ x.signed)
 
--- The input is a public key, and the text is a line: its identifier, the SHA-1 digest of its bits, in hexadecimal digits.
+-- The input is a public key, and the text is a line: its identifier, the SHA-1 digest of its bits, in hexadecimal
+-- digits.
 abbrev pub IsKeyLine : List ℕ → List ℕ → Type 0
 IsKeyLine input text = (k : KeyParts) × SpellsOnly SpellsKey k input × (text ≡ hex_text (sha1 k.bits.octets) ++ 10 ∷ [])
 
 -- The input is a text with which nothing is wrong as a URI, and these are its lines.
 abbrev pub IsLines : List ℕ → List ℕ → Type 0
-IsLines input text = (uri_refusal_of (without_last_line_feed input) ≡ None) × (text ≡ uri_lines (without_last_line_feed input))
+IsLines input text = (uri_refusal_of (without_last_line_feed input) ≡ None)
+    × (text ≡ uri_lines (without_last_line_feed input))
 
 -- Why a text has no lines: what is wrong with it first.
 abbrev pub IsRefusedText : Option Error → Fault → Type 0
@@ -95,7 +101,8 @@ written_extensions xs = flat_map written_extension xs
 
 -- The input is extensions, one after another, and the text is what is written of each.
 abbrev pub AreExtensions : List ℕ → List ℕ → Type 0
-AreExtensions input text = (xs : List ExtensionParts) × SpellsOnly SpellsExtensions xs input × (text ≡ written_extensions xs)
+AreExtensions input text = (xs : List ExtensionParts) × SpellsOnly SpellsExtensions xs input
+    × (text ≡ written_extensions xs)
 
 -- After extensions stand octets that no extension begins, and the reader of one rejects them so; and so the input isn't
 -- extensions.
@@ -119,6 +126,10 @@ IsExtensionFault input Input = ⊥
 IsExtensionFault input Usage = ⊥
 IsExtensionFault input Output = ⊥
 
+-- The input is a name, and the text is its lines.
+abbrev pub IsInspected : List ℕ → List ℕ → Type 0
+IsInspected input text = (n : List ℕ) × SpellsOnly SpellsNameOctets n input × AreNameLines n text
+
 -- the answer that is due to the input, which is one for each command
 abbrev pub IsDue : Command → List ℕ → Answer → Type 0
 IsDue Again input (Ok text) = IsAgain input text
@@ -131,6 +142,8 @@ IsDue Uri input (Ok text) = IsLines input text
 IsDue Uri input (Err fault) = IsRefusedText (uri_refusal_of (without_last_line_feed input)) fault
 IsDue Ext input (Ok text) = AreExtensions input text
 IsDue Ext input (Err fault) = IsExtensionFault input fault
+IsDue Name input (Ok text) = IsInspected input text
+IsDue Name input (Err fault) = IsFaultOf SpellsNameOctets ⊥ input fault
 
 -- a fact of each fault but an allocation failure
 abbrev pub UnlessMemory : Fault → Type 0 → Type 0

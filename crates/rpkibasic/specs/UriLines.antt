@@ -7,7 +7,8 @@ use Rattle.rpki_text.specs.RsyncText.{rsync_refusal, authority_of, module_name_o
 
 -- the text without one line feed at its end
 abbrev pub without_last_line_feed : List ℕ → List ℕ
-without_last_line_feed text = if bytes_eq (drop (length text - 1) text) (10 ∷ []) then take (length text - 1) text else text
+without_last_line_feed text = if bytes_eq (drop (length text - 1) text) (10 ∷ []) then take (length text - 1) text
+    else text
 
 -- the text is an https URI, if any
 abbrev pub is_https_text : List ℕ → Bool
@@ -23,10 +24,13 @@ line_of word value = word ++ value ++ 10 ∷ []
 
 -- the lines of an https URI, of an rsync URI, and of either
 abbrev pub https_lines : List ℕ → List ℕ
-https_lines text = line_of (codes "scheme ") (codes "https") ++ line_of (codes "authority ") (lowercase (https_authority text)) ++ line_of (codes "path ") (https_path text)
+https_lines text = line_of (codes "scheme ") (codes "https")
+    ++ line_of (codes "authority ") (lowercase (https_authority text)) ++ line_of (codes "path ") (https_path text)
 
 abbrev pub rsync_lines : List ℕ → List ℕ
-rsync_lines text = line_of (codes "scheme ") (codes "rsync") ++ line_of (codes "authority ") (lowercase (authority_of text)) ++ line_of (codes "module ") (module_name_of text) ++ line_of (codes "path ") (path_of text)
+rsync_lines text = line_of (codes "scheme ") (codes "rsync")
+    ++ line_of (codes "authority ") (lowercase (authority_of text)) ++ line_of (codes "module ") (module_name_of text)
+    ++ line_of (codes "path ") (path_of text)
 
 abbrev pub uri_lines : List ℕ → List ℕ
 uri_lines text = if is_https_text text then https_lines text else rsync_lines text

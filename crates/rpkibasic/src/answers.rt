@@ -29,8 +29,10 @@ fn decoded(alloc: Global, input: Vec<u8>) -> Result<RpkiSignedData, Fault>
 /// What is written of the signed data.
 fn written(alloc: Global, signed: &RpkiSignedData) -> Result<Vec<u8>, Fault>
     ensures { MatchResult result
-        (λ text. (length (written_contents written_algorithm signed.now) < 2 ^ 32) × (text.items ≡ written_signed written_algorithm signed.now))
-        (λ f. ((f ≡ Fault.TooLong) × (2 ^ 32 ≤ length (written_contents written_algorithm signed.now))) ⊎ (f ≡ Fault.OutOfMemory)) }
+        (λ text. (length (written_contents written_algorithm signed.now) < 2 ^ 32)
+        × (text.items ≡ written_signed written_algorithm signed.now))
+        (λ f. ((f ≡ Fault.TooLong) × (2 ^ 32 ≤ length (written_contents written_algorithm signed.now)))
+        ⊎ (f ≡ Fault.OutOfMemory)) }
 {
     let encoder = signed.encode_ref();
     if !encoder.fits() {

@@ -17,6 +17,8 @@ pub enum Command {
     Uri,
     /// Extensions, written again.
     Ext,
+    /// Whether a name is strict.
+    Name,
 }
 
 impl Command {
@@ -31,6 +33,7 @@ impl Command {
             [word] if word.as_str() == "key" => Some(Command::Key),
             [word] if word.as_str() == "uri" => Some(Command::Uri),
             [word] if word.as_str() == "ext" => Some(Command::Ext),
+            [word] if word.as_str() == "name" => Some(Command::Name),
             _ => None,
         }
     }

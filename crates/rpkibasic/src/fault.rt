@@ -32,7 +32,7 @@ pub enum Fault {
 }
 
 /// The line that says how the program is used.
-pub const USAGE: &[u8] = b"usage: rpkibasic again|data|key|uri|ext\n";
+pub const USAGE: &[u8] = b"usage: rpkibasic again|data|key|uri|ext|name\n";
 
 impl Fault {
     /// The exit status for it.

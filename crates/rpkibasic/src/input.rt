@@ -44,7 +44,7 @@ impl From<AllocError> for Unread {
 /// How often the reader is called at most.
 const CALLS: u32 = 16_777_216;
 
-/// All of the input. The reader is asked for 4,096 octets at a time.
+/// All of the input. The reader is asked for 65,536 octets at a time.
 ///
 /// Returns `Failed` if the reader fails; `Endless` if it has not come to its end after 16,777,216 calls; `OutOfMemory`
 /// if allocation fails.
@@ -55,7 +55,7 @@ pub fn read_all<R: Read>(alloc: Global, input: &mut R) -> Result<Vec<u8>, Unread
     ensures unread { IfErr result (λ why. IfSome (R.remaining input.old) (λ octets. IsUnread octets why)) }
 {
     let mut all = Vec::new(alloc);
-    let mut buffer = [0u8; 4096];
+    let mut buffer = [0u8; 65_536];
     for _ in 0..CALLS {
         match input.read(&mut buffer)? {
             0 => return Ok(all),

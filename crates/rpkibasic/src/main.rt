@@ -9,6 +9,8 @@ mod fault;
 mod input;
 mod keys;
 mod laws;
+mod lines;
+mod names;
 mod provider;
 mod runs;
 #[cfg(test)]

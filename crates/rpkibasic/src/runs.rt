@@ -13,6 +13,7 @@ use crate::extensions::ext;
 use crate::fault::{Fault, USAGE, refuse};
 use crate::input::read_all;
 use crate::keys::key;
+use crate::names::name;
 use crate::uris::uri;
 use rpki::der::write_whole;
 use std::alloc::Global;
@@ -29,12 +30,14 @@ fn answer<R: Read>(alloc: Global, command: Command, input: &mut R) -> Result<Vec
         Command::Key => key(alloc, octets),
         Command::Uri => uri(alloc, octets),
         Command::Ext => ext(alloc, octets),
+        Command::Name => name(alloc, octets),
     }
 }
 
 /// Writes a result: a text to the output, or the line of a fault to the faults. Returns the exit status.
 fn show<W: Write, F: Write>(answer: Result<&[u8], Fault>, output: &mut W, faults: &mut F) -> u8
-    ensures { Shows (W.contents output.old) (W.contents output.new) (F.contents faults.old) (F.contents faults.new) (lent_of answer.entry) result }
+    ensures { Shows (W.contents output.old) (W.contents output.new) (F.contents faults.old) (F.contents faults.new)
+        (lent_of answer.entry) result }
 {
     match answer {
         Ok(text) => match write_whole(output, text) {
@@ -63,10 +66,13 @@ pub fn run<R: Read, W: Write, F: Write>(
     // A command has its result from the whole input, or the program gives up.
     ensures replies { (command : AnyCommand) → map string_bytes words.now ≡ word_of command ∷ [] →
         IfSome (R.remaining input.old) (λ octets. (a : Answer) × Replies command octets a
-        × Shows (W.contents output.old) (W.contents output.new) (F.contents faults.old) (F.contents faults.new) a result) }
+        × Shows (W.contents output.old) (W.contents output.new) (F.contents faults.old)
+        (F.contents faults.new) a result) }
     // Other words get the usage line, and the input is unread.
-    ensures usage { ((command : AnyCommand) → map string_bytes words.now ≡ word_of command ∷ [] → ⊥) → (input.new ≡ input.old)
-        × Shows (W.contents output.old) (W.contents output.new) (F.contents faults.old) (F.contents faults.new) (usage_answer (map string_bytes words.now)) result }
+    ensures usage { ((command : AnyCommand) → map string_bytes words.now ≡ word_of command ∷ [] → ⊥)
+        → (input.new ≡ input.old)
+        × Shows (W.contents output.old) (W.contents output.new) (F.contents faults.old) (F.contents faults.new)
+        (usage_answer (map string_bytes words.now)) result }
 {
     match Command::of(words) {
         Some(command) => match answer(alloc, command, input) {

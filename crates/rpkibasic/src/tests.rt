@@ -1,16 +1,14 @@
 //! Runs over inputs and outputs in memory.
 
 mod failing;
+mod names;
+mod provider;
 
 use crate::arguments::words_of;
 use crate::fault::{Fault, refuse};
 use crate::input::Unread;
-use crate::provider::{BenchProvider, Row};
 use crate::runs::run;
-use bytes::Bytes;
-use rpki::crypto::{DigestAlgorithm, Provider, PublicKey, RpkiSignatureAlgorithm, sha1_digest};
 use rpki::der::DecodeError;
-use rpki::repository::x509::SignedData;
 use rpki::uri;
 use std::alloc::{AllocError, Global};
 use std::io;
@@ -56,7 +54,13 @@ const CRITICAL: &[u8] = &[
     0x30, 0x0c, 0x06, 0x03, 0x55, 0x1d, 0x13, 0x01, 0x01, 0xff, 0x04, 0x02, 0x30, 0x00,
 ];
 
-const USAGE_LINE: &[u8] = b"usage: rpkibasic again|data|key|uri|ext\n";
+/// A name that routers alone may have: an organization name, as a UTF8String, and a common name.
+const ROUTER_NAME: &[u8] = &[
+    0x30, 0x18, 0x31, 0x0a, 0x30, 0x08, 0x06, 0x03, 0x55, 0x04, 0x0a, 0x0c, 0x01, 0x42, 0x31, 0x0a,
+    0x30, 0x08, 0x06, 0x03, 0x55, 0x04, 0x03, 0x13, 0x01, 0x41,
+];
+
+const USAGE_LINE: &[u8] = b"usage: rpkibasic again|data|key|uri|ext|name\n";
 
 /// What is seen of a run: the status, the output and the faults.
 #[derive(Drop)]
@@ -688,115 +692,6 @@ fn faults_of_arguments(rt: HostRuntime) {
         let found = words_of(rt.alloc(), Err(io::Error::from(kind)));
         assert!(rt; found == Err(fault), "{kind:?}");
     }
-}
-
-/// The bits of a key, a message, and its signature.
-type RowOctets = (&'static [u8], &'static [u8], &'static [u8]);
-
-/// A table of these rows.
-fn table_of(alloc: Global, rows: &[RowOctets]) -> Result<Vec<Row>, AllocError> {
-    let mut table = Vec::new(alloc);
-    for (bits, message, signature) in rows {
-        let bits = Vec::from_slice(alloc, bits)?;
-        let message = Vec::from_slice(alloc, message)?;
-        let signature = Vec::from_slice(alloc, signature)?;
-        table.push((bits, message, signature))?;
-    }
-    Ok(table)
-}
-
-/// A table of two rows.
-const TWO_ROWS: [RowOctets; 2] = [
-    (b"bits", b"message", b"signature"),
-    (b"abc", &[0x30, 0x00], &[]),
-];
-
-/// What is looked up in it, and whether it is there.
-const LOOKED_UP: [(RowOctets, bool); 9] = [
-    ((b"bits", b"message", b"signature"), true),
-    ((b"abc", &[0x30, 0x00], &[]), true),
-    ((b"bit", b"message", b"signature"), false),
-    ((b"bits", b"messages", b"signature"), false),
-    ((b"bits", b"message", b""), false),
-    ((b"signature", b"message", b"bits"), false),
-    ((b"abc", b"message", b"signature"), false),
-    ((b"bits", &[0x30, 0x00], &[]), false),
-    ((b"", b"", b""), false),
-];
-
-#[test]
-fn signatures_of_a_table(rt: HostRuntime) -> Result<(), Fail> {
-    let provider = BenchProvider::new(table_of(rt.alloc(), &TWO_ROWS)?);
-    for ((bits, message, signature), there) in LOOKED_UP {
-        assert_eq!(rt;
-            provider.rsa_check(bits, message, signature),
-            there,
-            "RSA: {bits:?} {message:?} {signature:?}"
-        );
-        assert_eq!(rt;
-            provider.ecdsa_check(bits, message, signature),
-            there,
-            "ECDSA: {bits:?} {message:?} {signature:?}"
-        );
-    }
-    Ok(())
-}
-
-#[test]
-fn digests(rt: HostRuntime) -> Result<(), Fail> {
-    let provider = BenchProvider::new(Vec::new(rt.alloc()));
-    assert_eq!(rt;
-        sha1_digest(&provider, b""),
-        [
-            0xda, 0x39, 0xa3, 0xee, 0x5e, 0x6b, 0x4b, 0x0d, 0x32, 0x55, 0xbf, 0xef, 0x95, 0x60,
-            0x18, 0x90, 0xaf, 0xd8, 0x07, 0x09,
-        ]
-    );
-    assert_eq!(rt;
-        DigestAlgorithm::default().digest(&provider, b"abc"),
-        [
-            0xba, 0x78, 0x16, 0xbf, 0x8f, 0x01, 0xcf, 0xea, 0x41, 0x41, 0x40, 0xde, 0x5d, 0xae,
-            0x22, 0x23, 0xb0, 0x03, 0x61, 0xa3, 0x96, 0x17, 0x7a, 0x9c, 0xb4, 0x10, 0xff, 0x61,
-            0xf2, 0x00, 0x15, 0xad,
-        ]
-    );
-    Ok(())
-}
-
-/// Signed data, without unused bits of the signature and with one.
-const SIGNED: [&[u8]; 2] = [
-    FIRST,
-    b"\x30\x15\x30\x00\x30\x0d\x06\x09\x2a\x86\x48\x86\xf7\x0d\x01\x01\x0b\x05\x00\x03\x02\x01\xaa",
-];
-
-/// Whether the signed data is by the key, as the provider says; no where the one or the other is rejected.
-fn verifies(alloc: Global, provider: &BenchProvider, octets: &'static [u8]) -> bool {
-    let key = match PublicKey::decode(Bytes::from_static(ABC_KEY)) {
-        Ok(key) => key,
-        Err(_) => return false,
-    };
-    match SignedData::<RpkiSignatureAlgorithm>::decode(alloc, Bytes::from_static(octets)) {
-        Ok(signed) => signed.verify_signature(provider, &key).is_ok(),
-        Err(_) => false,
-    }
-}
-
-#[test]
-fn signed_data_verifies_by_the_table(rt: HostRuntime) -> Result<(), Fail> {
-    let empty = BenchProvider::new(Vec::new(rt.alloc()));
-    let table = table_of(rt.alloc(), &[(b"abc", &[0x30, 0x00], &[0xaa])])?;
-    let provider = BenchProvider::new(table);
-    for octets in SIGNED {
-        assert!(rt;
-            verifies(rt.alloc(), &provider, octets),
-            "in the table {octets:?}"
-        );
-        assert!(rt;
-            !verifies(rt.alloc(), &empty, octets),
-            "not in the table {octets:?}"
-        );
-    }
-    Ok(())
 }
 
 /// Puts the header of a SEQUENCE of so many octets before them, in octets that stand in reverse.

@@ -1,14 +1,15 @@
 //! The parts of a URI, a line each.
 
-ghost use Rattle.std.specs.Prelude.{◌≡◌, ◌++◌, ◌∷◌, [], OnOk, MatchResult, IfOk, IfErr, Some, None};
+ghost use Rattle.std.specs.Prelude.{◌≡◌, MatchResult, IfOk, None};
 ghost use Rattle.rpkibasic.specs.Run.{Answers, UnlessMemory, IsRefusedText};
 ghost use Rattle.rpkibasic.specs.View.{answer_of};
-ghost use Rattle.rpkibasic.specs.UriLines.{without_last_line_feed, line_of, https_lines, rsync_lines};
+ghost use Rattle.rpkibasic.specs.UriLines.{without_last_line_feed, https_lines, rsync_lines};
 ghost use Rattle.rpkibasic.specs.declared.command.Command.TheVariants.{Uri};
 ghost use Rattle.rpki_text.specs.HttpsText.{https_refusal};
 ghost use Rattle.rpki_text.specs.RsyncText.{rsync_refusal};
 
 use crate::fault::Fault;
+use crate::lines::push_line;
 use bytes::Bytes;
 use rpki::uri::{Https, Rsync, starts_with_ignore_case};
 use std::alloc::{AllocError, Global};
@@ -20,16 +21,6 @@ fn drop_last_line_feed(text: &mut Vec<u8>)
     if let [.., b'\n'] = text.as_slice() {
         text.pop();
     }
-}
-
-/// Adds a line: the word, which ends with a space, and the value.
-fn push_line(lines: &mut Vec<u8>, word: &str, value: &str) -> Result<(), AllocError>
-    ensures { OnOk result (lines.new.items ≡ lines.old.items ++ line_of word.now value.now) }
-{
-    lines.extend_from_slice(word.as_bytes())?;
-    lines.extend_from_slice(value.as_bytes())?;
-    lines.push(b'\n')?;
-    Ok(())
 }
 
 /// The lines of an https URI.
@@ -58,7 +49,7 @@ fn lines_of_rsync(alloc: Global, uri: &Rsync) -> Result<Vec<u8>, AllocError>
 }
 
 /// The lines of the https URI that the text is.
-fn https_text(alloc: Global, text: Bytes) -> Result<Vec<u8>, Fault>
+fn https_lines(alloc: Global, text: Bytes) -> Result<Vec<u8>, Fault>
     ensures { MatchResult result (λ lines. (https_refusal text ≡ None) × (lines.items ≡ https_lines text))
         (λ f. UnlessMemory f (IsRefusedText (https_refusal text) f)) }
 {
@@ -68,7 +59,7 @@ fn https_text(alloc: Global, text: Bytes) -> Result<Vec<u8>, Fault>
 }
 
 /// The lines of the rsync URI that the text is.
-fn rsync_text(alloc: Global, text: Bytes) -> Result<Vec<u8>, Fault>
+fn rsync_lines(alloc: Global, text: Bytes) -> Result<Vec<u8>, Fault>
     ensures { MatchResult result (λ lines. (rsync_refusal text ≡ None) × (lines.items ≡ rsync_lines text))
         (λ f. UnlessMemory f (IsRefusedText (rsync_refusal text) f)) }
 {
@@ -86,8 +77,8 @@ pub fn uri(alloc: Global, input: Vec<u8>) -> Result<Vec<u8>, Fault>
     drop_last_line_feed(&mut text);
     let octets = Bytes::from_vec(text)?;
     if starts_with_ignore_case(octets.as_slice(), b"https://") {
-        https_text(alloc, octets)
+        https_lines(alloc, octets)
     } else {
-        rsync_text(alloc, octets)
+        rsync_lines(alloc, octets)
     }
 }

@@ -10,7 +10,7 @@ ghost use Rattle.rpki.specs.Oids.{sha256};
 ghost use Rattle.rpki.specs.Digest.{SpellsDigest, SpellsDigestSet, SpellsDigestName, digest_octets, digest_set_octets, digest_name_octets};
 
 use crate::crypto::Provider;
-use crate::crypto::identifier::take_algorithm;
+use crate::crypto::algorithm_identifier::take_algorithm;
 use crate::oid;
 use rpki_der::{
     ConstOid, Constructed, DecodeError, Primitive, PrimitiveContent, Sequence, Set, Tag, Values,
@@ -65,7 +65,8 @@ impl DigestAlgorithm {
     /// As [DigestAlgorithm::take_from] where what is left begins with the identifier octets of a SEQUENCE, in either
     /// form; else None, and the cursor stays where it is.
     pub fn take_opt_from(cons: &mut Constructed<'_>) -> Result<Option<DigestAlgorithm>, DecodeError>
-        ensures { ReadsWhere (HasTag sequence) (λ _. tt) SpellsDigest (IsOuterFault sequence true) (left cons.old) (left cons.new) result }
+        ensures { ReadsWhere (HasTag sequence) (λ _. tt) SpellsDigest (IsOuterFault sequence true) (left cons.old)
+            (left cons.new) result }
     {
         if !cons.has_tag(Tag::SEQUENCE) {
             return Ok(None);
@@ -97,7 +98,8 @@ impl DigestAlgorithm {
     /// The errors are those of a header; then `Unexpected` for another tag or form; then `Truncated`; then `Content`
     /// for another identifier.
     pub fn take_oid_from(cons: &mut Constructed<'_>) -> Result<DigestAlgorithm, DecodeError>
-        ensures { Reads (λ _. tt) SpellsDigestName (IsLeafFault oid false (IsOnly sha256)) (left cons.old) (left cons.new) result }
+        ensures { Reads (λ _. tt) SpellsDigestName (IsLeafFault oid false (IsOnly sha256)) (left cons.old)
+            (left cons.new) result }
     {
         cons.skip_oid_if(oid::SHA256)?;
         Ok(DigestAlgorithm::sha256())

@@ -14,7 +14,7 @@ ghost use Rattle.rpki.specs.Oids.{sha256_with_rsa_encryption, ecdsa_with_sha256}
 ghost use Rattle.rpki.specs.Algorithm.{SpellsAlgorithm};
 ghost use Rattle.rpki.specs.Signature.{signature_of};
 
-use crate::crypto::identifier::take_algorithm;
+use crate::crypto::algorithm_identifier::take_algorithm;
 use crate::crypto::{PublicKeyFormat, SigningAlgorithm};
 use crate::oid;
 pub use bgpsec::BgpsecSignatureAlgorithm;
@@ -100,6 +100,15 @@ impl Model for RpkiSignatureAlgorithm {
     ghost inverse = { λ b. record { has_parameters = b } };
 }
 
+impl RpkiSignatureAlgorithm {
+    /// Whether the parameters, a NULL, are there.
+    pub fn has_parameters(&self) -> bool
+        ensures { result ≡ self.now }
+    {
+        self.has_parameters
+    }
+}
+
 /// With parameters, as it is written.
 impl Default for RpkiSignatureAlgorithm {
     ghost use Rattle.std.specs.Prelude.{◌≡◌, true};
@@ -152,7 +161,8 @@ impl SignatureAlgorithm for RpkiSignatureAlgorithm {
     ///
     /// The errors are those of a SEQUENCE; then `Content` for another identifier; then `Trailing` for other parameters.
     fn x509_take_from(cons: &mut Constructed<'_>) -> Result<Self, DecodeError>
-        ensures { Reads (λ a. a) (SpellsAlgorithm sha256_with_rsa_encryption) (IsOuterFault sequence true) (left cons.old) (left cons.new) result }
+        ensures { Reads (λ a. a) (SpellsAlgorithm sha256_with_rsa_encryption) (IsOuterFault sequence true)
+            (left cons.old) (left cons.new) result }
     {
         let has_parameters = take_algorithm(cons, oid::SHA256_WITH_RSA_ENCRYPTION)?;
         Ok(RpkiSignatureAlgorithm { has_parameters })

@@ -1,6 +1,6 @@
 //! Algorithm identifiers.
 
-use super::written;
+use super::{Outcome, outcome_of, refused, written};
 use crate::crypto::{
     BgpsecSignatureAlgorithm, DigestAlgorithm, PublicKeyFormat, RpkiSignatureAlgorithm,
     SignatureAlgorithm, SigningAlgorithm, sha1_digest,
@@ -24,38 +24,31 @@ enum Reader {
     Bgpsec,
 }
 
-fn refused<T: Drop>(answer: Result<T, DecodeError>) -> u8 {
-    match answer {
-        Ok(_) => 0,
-        Err(e) => e.number(),
-    }
-}
-
-/// The number of the error, or 0, and how many octets are left.
-fn read(reader: Reader, octets: &'static [u8]) -> (u8, usize) {
+/// How the reader ended, and how many octets are left.
+fn read(reader: Reader, octets: &'static [u8]) -> (Outcome, usize) {
     let source: Bytes = Bytes::from_static(octets);
     let mut cons = Constructed::new(&source);
-    let number = match reader {
-        Reader::Digest => refused(DigestAlgorithm::take_from(&mut cons)),
-        Reader::OptionalDigest => refused(DigestAlgorithm::take_opt_from(&mut cons)),
-        Reader::DigestSet => refused(DigestAlgorithm::take_set_from(&mut cons)),
-        Reader::SkippedSet => refused(DigestAlgorithm::skip_set(&mut cons)),
-        Reader::DigestName => refused(DigestAlgorithm::take_oid_from(&mut cons)),
-        Reader::Format => refused(PublicKeyFormat::take_from(&mut cons)),
+    let outcome = match reader {
+        Reader::Digest => outcome_of(DigestAlgorithm::take_from(&mut cons)),
+        Reader::OptionalDigest => outcome_of(DigestAlgorithm::take_opt_from(&mut cons)),
+        Reader::DigestSet => outcome_of(DigestAlgorithm::take_set_from(&mut cons)),
+        Reader::SkippedSet => outcome_of(DigestAlgorithm::skip_set(&mut cons)),
+        Reader::DigestName => outcome_of(DigestAlgorithm::take_oid_from(&mut cons)),
+        Reader::Format => outcome_of(PublicKeyFormat::take_from(&mut cons)),
         Reader::Rpki => match RpkiSignatureAlgorithm::x509_take_from(&mut cons) {
-            Ok(_) => 0,
-            Err(e) => e.number(),
+            Ok(_) => Outcome::Read,
+            Err(e) => refused(&e),
         },
         Reader::Cms => match RpkiSignatureAlgorithm::cms_take_from(&mut cons) {
-            Ok(_) => 0,
-            Err(e) => e.number(),
+            Ok(_) => Outcome::Read,
+            Err(e) => refused(&e),
         },
         Reader::Bgpsec => match BgpsecSignatureAlgorithm::x509_take_from(&mut cons) {
-            Ok(_) => 0,
-            Err(e) => e.number(),
+            Ok(_) => Outcome::Read,
+            Err(e) => refused(&e),
         },
     };
-    (number, cons.rest().len())
+    (outcome, cons.rest().len())
 }
 
 pub(super) const DIGEST: &[u8] = b"\x30\x0B\x06\x09\x60\x86\x48\x01\x65\x03\x04\x02\x01";
@@ -89,38 +82,42 @@ pub(super) const BGPSEC: &[u8] = b"\x30\x0A\x06\x08\x2A\x86\x48\xCE\x3D\x04\x03\
 
 const BGPSEC_WITH_NULL: &[u8] = b"\x30\x0C\x06\x08\x2A\x86\x48\xCE\x3D\x04\x03\x02\x05\x00";
 
-const READINGS: &[(Reader, &[u8], (u8, usize))] = &[
-    (Reader::Digest, DIGEST, (0, 0)),
-    (Reader::Digest, DIGEST_WITH_NULL, (0, 0)),
-    (Reader::Digest, RSA_KEY, (5, 15)),
-    (Reader::OptionalDigest, DIGEST, (0, 0)),
-    (Reader::OptionalDigest, DIGEST_NAME, (0, 11)),
-    (Reader::OptionalDigest, b"\x10\x00", (4, 2)),
-    (Reader::DigestSet, DIGEST_SET, (0, 0)),
-    (Reader::DigestSet, b"\x30\x00", (4, 2)),
-    (Reader::SkippedSet, DIGEST_SET, (0, 0)),
-    (Reader::SkippedSet, b"\x31\x00", (1, 2)),
-    (Reader::SkippedSet, DIGEST_TWICE, (6, 28)),
-    (Reader::DigestName, DIGEST_NAME, (0, 0)),
-    (Reader::DigestName, DIGEST, (4, 13)),
-    (Reader::Format, RSA_KEY, (0, 0)),
-    (Reader::Format, RSA_KEY_WITHOUT, (0, 0)),
-    (Reader::Format, P256_KEY, (0, 0)),
-    (Reader::Format, CURVE_MISSING, (1, 11)),
-    (Reader::Format, BGPSEC, (5, 12)),
-    (Reader::Format, b"\x31\x00", (4, 2)),
-    (Reader::Format, b"\x30\x81\x00", (3, 3)),
-    (Reader::Rpki, RSA_SIGNATURE, (0, 0)),
-    (Reader::Rpki, RSA_SIGNATURE_WITHOUT, (0, 0)),
-    (Reader::Rpki, RSA_KEY, (5, 15)),
-    (Reader::Cms, RSA_KEY, (0, 0)),
-    (Reader::Cms, RSA_KEY_WITHOUT, (0, 0)),
-    (Reader::Cms, RSA_SIGNATURE, (0, 0)),
-    (Reader::Cms, RSA_SIGNATURE_WITHOUT, (0, 0)),
-    (Reader::Cms, BGPSEC, (5, 12)),
-    (Reader::Bgpsec, BGPSEC, (0, 0)),
-    (Reader::Bgpsec, BGPSEC_WITH_NULL, (6, 14)),
-    (Reader::Bgpsec, RSA_SIGNATURE, (5, 15)),
+const READINGS: &[(Reader, &[u8], (Outcome, usize))] = &[
+    (Reader::Digest, DIGEST, (Outcome::Read, 0)),
+    (Reader::Digest, DIGEST_WITH_NULL, (Outcome::Read, 0)),
+    (Reader::Digest, RSA_KEY, (Outcome::Content, 15)),
+    (Reader::OptionalDigest, DIGEST, (Outcome::Read, 0)),
+    (Reader::OptionalDigest, DIGEST_NAME, (Outcome::Read, 11)),
+    (
+        Reader::OptionalDigest,
+        b"\x10\x00",
+        (Outcome::Unexpected, 2),
+    ),
+    (Reader::DigestSet, DIGEST_SET, (Outcome::Read, 0)),
+    (Reader::DigestSet, b"\x30\x00", (Outcome::Unexpected, 2)),
+    (Reader::SkippedSet, DIGEST_SET, (Outcome::Read, 0)),
+    (Reader::SkippedSet, b"\x31\x00", (Outcome::Truncated, 2)),
+    (Reader::SkippedSet, DIGEST_TWICE, (Outcome::Trailing, 28)),
+    (Reader::DigestName, DIGEST_NAME, (Outcome::Read, 0)),
+    (Reader::DigestName, DIGEST, (Outcome::Unexpected, 13)),
+    (Reader::Format, RSA_KEY, (Outcome::Read, 0)),
+    (Reader::Format, RSA_KEY_WITHOUT, (Outcome::Read, 0)),
+    (Reader::Format, P256_KEY, (Outcome::Read, 0)),
+    (Reader::Format, CURVE_MISSING, (Outcome::Truncated, 11)),
+    (Reader::Format, BGPSEC, (Outcome::Content, 12)),
+    (Reader::Format, b"\x31\x00", (Outcome::Unexpected, 2)),
+    (Reader::Format, b"\x30\x81\x00", (Outcome::BadLength, 3)),
+    (Reader::Rpki, RSA_SIGNATURE, (Outcome::Read, 0)),
+    (Reader::Rpki, RSA_SIGNATURE_WITHOUT, (Outcome::Read, 0)),
+    (Reader::Rpki, RSA_KEY, (Outcome::Content, 15)),
+    (Reader::Cms, RSA_KEY, (Outcome::Read, 0)),
+    (Reader::Cms, RSA_KEY_WITHOUT, (Outcome::Read, 0)),
+    (Reader::Cms, RSA_SIGNATURE, (Outcome::Read, 0)),
+    (Reader::Cms, RSA_SIGNATURE_WITHOUT, (Outcome::Read, 0)),
+    (Reader::Cms, BGPSEC, (Outcome::Content, 12)),
+    (Reader::Bgpsec, BGPSEC, (Outcome::Read, 0)),
+    (Reader::Bgpsec, BGPSEC_WITH_NULL, (Outcome::Trailing, 14)),
+    (Reader::Bgpsec, RSA_SIGNATURE, (Outcome::Content, 15)),
 ];
 
 #[test]
@@ -146,7 +143,7 @@ fn has_parameters(octets: &'static [u8]) -> Option<bool> {
     let source: Bytes = Bytes::from_static(octets);
     let mut cons = Constructed::new(&source);
     match RpkiSignatureAlgorithm::cms_take_from(&mut cons) {
-        Ok(found) => Some(found == RpkiSignatureAlgorithm::default()),
+        Ok(found) => Some(found.has_parameters()),
         Err(_) => None,
     }
 }

@@ -27,7 +27,7 @@ fn texts_are_passed_on(rt: HostRuntime) -> Result<(), Fail> {
 }
 
 #[test]
-fn texts_of_what_is_not_vouched_for(rt: HostRuntime) -> Result<(), Fail> {
+fn texts_of_objects_that_fail_verification(rt: HostRuntime) -> Result<(), Fail> {
     let texts = [
         format!(in rt.alloc(); "{}", VerificationError::from(SignatureVerificationError))?,
         format!(in rt.alloc(); "{}", VerificationError::from(ValidityPeriodError::TooNew))?,

@@ -1,5 +1,6 @@
 //! Extensions that are read.
 
+use super::{Outcome, optional_outcome_of, outcome_of};
 use crate::repository::x509::CertExtension;
 use bytes::Bytes;
 use rpki_der::{Captured, Constructed, DecodeError, Values};
@@ -61,66 +62,87 @@ const READ: [Read; 4] = [
 ];
 
 /// Octets that no extension begins, and the number of the error.
-const REFUSED: [(&[u8], u8); 13] = [
-    (&[], 1),
-    (&[0x31, 0x00], 4),
-    (&[0x10, 0x00], 4),
-    (&[0x30, 0x81, 0x00], 3),
-    (&[0x30, 0x00], 1),
-    // without an OCTET STRING
-    (&[0x30, 0x05, 0x06, 0x03, 0x55, 0x1d, 0x13], 1),
-    // an identifier that is none; what follows it is no header
-    (&[0x30, 0x05, 0x06, 0x01, 0x80, 0x1f, 0x80], 5),
-    // a BOOLEAN that is neither TRUE nor FALSE, in constructed form, without contents, and twice
+const REFUSED: [(&str, &[u8], Outcome); 13] = [
+    ("nothing", &[], Outcome::Truncated),
+    ("SET", &[0x31, 0x00], Outcome::Unexpected),
+    ("primitive SEQUENCE", &[0x10, 0x00], Outcome::Unexpected),
     (
+        "length in long form",
+        &[0x30, 0x81, 0x00],
+        Outcome::BadLength,
+    ),
+    ("no identifier", &[0x30, 0x00], Outcome::Truncated),
+    (
+        "no OCTET STRING",
+        &[0x30, 0x05, 0x06, 0x03, 0x55, 0x1d, 0x13],
+        Outcome::Truncated,
+    ),
+    (
+        "no identifier, and no header after it",
+        &[0x30, 0x05, 0x06, 0x01, 0x80, 0x1f, 0x80],
+        Outcome::Content,
+    ),
+    (
+        "BOOLEAN that is neither TRUE nor FALSE",
         &[
             0x30, 0x0c, 0x06, 0x03, 0x55, 0x1d, 0x13, 0x01, 0x01, 0x01, 0x04, 0x02, 0x30, 0x00,
         ],
-        5,
+        Outcome::Content,
     ),
     (
+        "constructed BOOLEAN",
         &[
             0x30, 0x0b, 0x06, 0x03, 0x55, 0x1d, 0x13, 0x21, 0x00, 0x04, 0x02, 0x30, 0x00,
         ],
-        4,
+        Outcome::Unexpected,
     ),
     (
+        "BOOLEAN without contents",
         &[
             0x30, 0x0b, 0x06, 0x03, 0x55, 0x1d, 0x13, 0x01, 0x00, 0x04, 0x02, 0x30, 0x00,
         ],
-        5,
+        Outcome::Content,
     ),
     (
+        "two BOOLEANs",
         &[
             0x30, 0x0f, 0x06, 0x03, 0x55, 0x1d, 0x13, 0x01, 0x01, 0xff, 0x01, 0x01, 0xff, 0x04,
             0x02, 0x30, 0x00,
         ],
-        4,
+        Outcome::Unexpected,
     ),
-    // an OCTET STRING that passes the end
     (
+        "OCTET STRING that passes the end",
         &[
             0x30, 0x09, 0x06, 0x03, 0x55, 0x1d, 0x13, 0x04, 0x03, 0x30, 0x00,
         ],
-        1,
+        Outcome::Truncated,
     ),
-    // something after it
     (
+        "NULL after the OCTET STRING",
         &[
             0x30, 0x0b, 0x06, 0x03, 0x55, 0x1d, 0x13, 0x04, 0x02, 0x30, 0x00, 0x05, 0x00,
         ],
-        6,
+        Outcome::Trailing,
     ),
 ];
 
-/// What the optional reader returns: the number of its error, 0 for an extension and 9 for None.
-const OPTIONAL: [(&[u8], u8); 6] = [
-    (&[], 9),
-    (&[0x31, 0x00], 9),
-    (&[0x10, 0x00], 4),
-    (&[0x30, 0x00], 1),
-    (&[0x30, 0x81, 0x00], 3),
-    (&[0x30, 0x06, 0x06, 0x01, 0x2a, 0x04, 0x01, 0xff], 0),
+/// How the optional reader ends.
+const OPTIONAL: [(&str, &[u8], Outcome); 6] = [
+    ("nothing", &[], Outcome::Absent),
+    ("SET", &[0x31, 0x00], Outcome::Absent),
+    ("primitive SEQUENCE", &[0x10, 0x00], Outcome::Unexpected),
+    ("no identifier", &[0x30, 0x00], Outcome::Truncated),
+    (
+        "length in long form",
+        &[0x30, 0x81, 0x00],
+        Outcome::BadLength,
+    ),
+    (
+        "extension",
+        &[0x30, 0x06, 0x06, 0x01, 0x2a, 0x04, 0x01, 0xff],
+        Outcome::Read,
+    ),
 ];
 
 /// The extension that these octets begin with.
@@ -164,47 +186,35 @@ fn extensions_are_read(rt: HostRuntime) -> Result<(), Fail> {
     Ok(())
 }
 
-/// The number of the error, 0 if there is none, and how many octets are left.
-fn outcome(alloc: Global, octets: &'static [u8]) -> (u8, usize) {
+/// How the reader ends, and how many octets are left.
+fn outcome(alloc: Global, octets: &'static [u8]) -> (Outcome, usize) {
     let source = Bytes::from_static(octets);
     let mut cons = Constructed::new(&source);
-    let number = match CertExtension::take_from(alloc, &mut cons) {
-        Ok(_) => 0,
-        Err(e) => e.number(),
-    };
-    (number, cons.rest().len())
+    let outcome = outcome_of(CertExtension::take_from(alloc, &mut cons));
+    (outcome, cons.rest().len())
 }
 
 #[test]
 fn other_octets_are_refused(rt: HostRuntime) {
-    for (octets, number) in REFUSED {
+    for (name, octets, expected) in REFUSED {
         assert_eq!(rt;
             outcome(rt.alloc(), octets),
-            (number, octets.len()),
-            "{octets:?}"
+            (expected, octets.len()),
+            "{name}"
         );
     }
 }
 
-/// The same of the optional reader: 9 for None.
-fn optional_outcome(alloc: Global, octets: &'static [u8]) -> u8 {
+fn optional_outcome(alloc: Global, octets: &'static [u8]) -> Outcome {
     let source = Bytes::from_static(octets);
     let mut cons = Constructed::new(&source);
-    match CertExtension::take_opt_from(alloc, &mut cons) {
-        Ok(Some(_)) => 0,
-        Ok(None) => 9,
-        Err(e) => e.number(),
-    }
+    optional_outcome_of(CertExtension::take_opt_from(alloc, &mut cons))
 }
 
 #[test]
 fn an_extension_may_be_absent(rt: HostRuntime) {
-    for (octets, expected) in OPTIONAL {
-        assert_eq!(rt;
-            optional_outcome(rt.alloc(), octets),
-            expected,
-            "{octets:?}"
-        );
+    for (name, octets, expected) in OPTIONAL {
+        assert_eq!(rt; optional_outcome(rt.alloc(), octets), expected, "{name}");
     }
 }
 

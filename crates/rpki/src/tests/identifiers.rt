@@ -1,6 +1,6 @@
 //! Key identifiers.
 
-use super::{Always, DIGEST_OF_ABC, written};
+use super::{Always, DIGEST_OF_ABC, Outcome, optional_outcome_of, refused, written};
 use crate::crypto::{
     KeyIdentifier, KeyIdentifierSliceError, ParseKeyIdentifierError, PublicKey,
     SignatureVerificationError,
@@ -59,28 +59,24 @@ pub(super) const SPELLED: &[u8] =
 const NINETEEN: &[u8] =
     b"\x04\x13\xA9\x99\x3E\x36\x47\x06\x81\x6A\xBA\x3E\x25\x71\x78\x50\xC2\x6C\x9C\xD0\xD8";
 
-/// What is read: 0 for an identifier, 8 for none, else the number of the error; and how many octets are left.
-fn optional(octets: &'static [u8]) -> (u8, usize) {
+/// How the optional reader ends, and how many octets are left.
+fn optional(octets: &'static [u8]) -> (Outcome, usize) {
     let source: Bytes = Bytes::from_static(octets);
     let mut cons = Constructed::new(&source);
-    let number = match KeyIdentifier::take_opt_from(&mut cons) {
-        Ok(Some(_)) => 0,
-        Ok(None) => 8,
-        Err(e) => e.number(),
+    let outcome = match KeyIdentifier::take_opt_from(&mut cons) {
+        Ok(Some(_)) => Outcome::Read,
+        Ok(None) => Outcome::Absent,
+        Err(e) => refused(&e),
     };
-    (number, cons.rest().len())
+    (outcome, cons.rest().len())
 }
 
 /// The same where the identifier is passed over.
-fn skipped(octets: &'static [u8]) -> (u8, usize) {
+fn skipped(octets: &'static [u8]) -> (Outcome, usize) {
     let source: Bytes = Bytes::from_static(octets);
     let mut cons = Constructed::new(&source);
-    let number = match KeyIdentifier::skip_opt_in(&mut cons) {
-        Ok(Some(())) => 0,
-        Ok(None) => 8,
-        Err(e) => e.number(),
-    };
-    (number, cons.rest().len())
+    let outcome = optional_outcome_of(KeyIdentifier::skip_opt_in(&mut cons));
+    (outcome, cons.rest().len())
 }
 
 /// The error of an identifier.
@@ -117,20 +113,20 @@ fn content_refusal(content: &Content<'_>) -> Option<DecodeError> {
     }
 }
 
-const OPTIONAL: &[(&[u8], (u8, usize))] = &[
-    (SPELLED, (0, 0)),
-    (NINETEEN, (5, 21)),
-    (b"\x05\x00", (8, 2)),
-    (b"", (8, 0)),
-    (b"\x04", (1, 1)),
-    (b"\x24\x7F", (4, 2)),
+const OPTIONAL: &[(&str, &[u8], (Outcome, usize))] = &[
+    ("key identifier", SPELLED, (Outcome::Read, 0)),
+    ("19 octets", NINETEEN, (Outcome::Content, 21)),
+    ("NULL", b"\x05\x00", (Outcome::Absent, 2)),
+    ("nothing", b"", (Outcome::Absent, 0)),
+    ("one octet", b"\x04", (Outcome::Truncated, 1)),
+    ("constructed", b"\x24\x7F", (Outcome::Unexpected, 2)),
 ];
 
 #[test]
 fn identifiers_are_read(rt: HostRuntime) {
-    for (octets, expected) in OPTIONAL {
-        assert_eq!(rt; optional(octets), *expected, "{octets:?}");
-        assert_eq!(rt; skipped(octets), *expected, "skipped: {octets:?}");
+    for (name, octets, expected) in OPTIONAL {
+        assert_eq!(rt; optional(octets), *expected, "{name}");
+        assert_eq!(rt; skipped(octets), *expected, "{name}, skipped");
     }
     let refusal = DecodeError::Content(ContentError::from_static("invalid key identifier"));
     assert_eq!(rt; refusal_of(NINETEEN), Some(refusal));

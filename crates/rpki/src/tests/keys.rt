@@ -1,6 +1,6 @@
 //! Public keys and names of subjects.
 
-use super::{Always, written};
+use super::{Always, Outcome, refused, written};
 use crate::crypto::{PublicKey, PublicKeyFormat};
 use crate::repository::x509::Name;
 use bytes::Bytes;
@@ -60,39 +60,51 @@ const KEY_WITHOUT_NULL: &[u8] =
 const P256_KEY: &[u8] =
     b"\x30\x1A\x30\x13\x06\x07\x2A\x86\x48\xCE\x3D\x02\x01\x06\x08\x2A\x86\x48\xCE\x3D\x03\x01\x07\x03\x03\x00\x04\x01";
 
-/// The octets of the bits; or the number of the error.
-fn bits_of(octets: &'static [u8]) -> Result<Bytes, u8> {
+/// The octets of the bits; or the kind of the error.
+fn bits_of(octets: &'static [u8]) -> Result<Bytes, Outcome> {
     match PublicKey::decode(Bytes::from_static(octets)) {
         Ok(key) => match key.bits_bytes() {
             Ok(bits) => Ok(bits),
-            Err(_) => Err(7),
+            Err(_) => Err(Outcome::OutOfMemory),
         },
-        Err(e) => Err(e.number()),
+        Err(e) => Err(refused(&e)),
     }
 }
 
-const KEYS: &[(&[u8], Result<&[u8], u8>)] = &[
-    (KEY_OF_ABC, Ok(b"abc")),
-    (KEY_AND_MORE, Err(6)),
-    (KEY_WITH_MORE_INSIDE, Err(6)),
-    (KEY_OF_NO_FORMAT, Err(5)),
-    (b"\x30\x00", Err(1)),
-    (KEY_WITHOUT_BITS, Ok(b"")),
-    (KEY_WITHOUT_NULL, Ok(b"")),
-    (P256_KEY, Ok(b"\x04\x01")),
-    (b"\x31\x00", Err(4)),
-    (b"\x30\x81\x00", Err(3)),
-    (b"", Err(1)),
+const KEYS: &[(&str, &[u8], Result<&[u8], Outcome>)] = &[
+    ("RSA key", KEY_OF_ABC, Ok(b"abc")),
+    ("octet after the key", KEY_AND_MORE, Err(Outcome::Trailing)),
+    (
+        "octet after the bits",
+        KEY_WITH_MORE_INSIDE,
+        Err(Outcome::Trailing),
+    ),
+    (
+        "signature algorithm for a format",
+        KEY_OF_NO_FORMAT,
+        Err(Outcome::Content),
+    ),
+    ("empty SEQUENCE", b"\x30\x00", Err(Outcome::Truncated)),
+    ("RSA key without bits", KEY_WITHOUT_BITS, Ok(b"")),
+    ("RSA key without NULL", KEY_WITHOUT_NULL, Ok(b"")),
+    ("P-256 key", P256_KEY, Ok(b"\x04\x01")),
+    ("SET", b"\x31\x00", Err(Outcome::Unexpected)),
+    (
+        "length in long form",
+        b"\x30\x81\x00",
+        Err(Outcome::BadLength),
+    ),
+    ("nothing", b"", Err(Outcome::Truncated)),
 ];
 
 #[test]
 fn public_keys_are_read(rt: HostRuntime) {
-    for (octets, expected) in KEYS {
+    for (name, octets, expected) in KEYS {
         match (bits_of(octets), expected) {
-            (Ok(bits), Ok(wanted)) => assert_eq!(rt; bits.as_slice(), *wanted, "{octets:?}"),
-            (Err(number), Err(wanted)) => assert_eq!(rt; number, *wanted, "{octets:?}"),
-            (Ok(_), Err(_)) => assert!(rt; false, "read: {octets:?}"),
-            (Err(_), Ok(_)) => assert!(rt; false, "refused: {octets:?}"),
+            (Ok(bits), Ok(wanted)) => assert_eq!(rt; bits.as_slice(), *wanted, "{name}"),
+            (Err(outcome), Err(wanted)) => assert_eq!(rt; outcome, *wanted, "{name}"),
+            (Ok(_), Err(_)) => assert!(rt; false, "read: {name}"),
+            (Err(_), Ok(_)) => assert!(rt; false, "rejected: {name}"),
         }
     }
 }

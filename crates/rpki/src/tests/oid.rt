@@ -49,6 +49,7 @@ const NAMES: &[(ConstOid, &[u64])] = &[
     (AD_SIGNED_OBJECT, &[1, 3, 6, 1, 5, 5, 7, 48, 11]),
     (AT_COMMON_NAME, &[2, 5, 4, 3]),
     (AT_SERIAL_NUMBER, &[2, 5, 4, 5]),
+    (AT_ORGANIZATION_NAME, &[2, 5, 4, 10]),
     (CE_AUTHORITY_KEY_IDENTIFIER, &[2, 5, 29, 35]),
     (CE_BASIC_CONSTRAINTS, &[2, 5, 29, 19]),
     (CE_CERTIFICATE_POLICIES, &[2, 5, 29, 32]),

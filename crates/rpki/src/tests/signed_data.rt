@@ -1,6 +1,6 @@
 //! Signatures, and signed data of the RPKI.
 
-use super::written;
+use super::{Outcome, outcome_of, written};
 use crate::crypto::{RpkiSignature, RpkiSignatureAlgorithm, Signature, SignatureAlgorithm};
 use crate::repository::x509::SignedData;
 use bytes::Bytes;
@@ -172,41 +172,42 @@ fn signed_data_has_parts(rt: HostRuntime) -> Result<(), Fail> {
     Ok(())
 }
 
-/// Octets that are no signed data, and the number of the error.
-const REFUSED: &[(&[u8], u8)] = &[
-    // two unused bits that are not zero
+/// Octets that are no signed data.
+const REFUSED: &[(&str, &[u8], Outcome)] = &[
     (
+        "two unused bits that are not zero",
         b"\x30\x15\x30\x00\x30\x0D\x06\x09\x2A\x86\x48\x86\xF7\x0D\x01\x01\x0B\x05\x00\x03\x02\x02\xAA",
-        5,
+        Outcome::Content,
     ),
-    // a value that passes the end of the one that holds it
     (
+        "value that passes the end of the one that contains it",
         b"\x30\x17\x30\x02\x04\x05\x30\x0D\x06\x09\x2A\x86\x48\x86\xF7\x0D\x01\x01\x0B\x05\x00\x03\x02\x00\xAA",
-        1,
+        Outcome::Truncated,
     ),
-    // an octet after the signature, and one after the SEQUENCE
     (
+        "octet after the signature",
         b"\x30\x16\x30\x00\x30\x0D\x06\x09\x2A\x86\x48\x86\xF7\x0D\x01\x01\x0B\x05\x00\x03\x02\x00\xAA\x00",
-        6,
+        Outcome::Trailing,
     ),
     (
+        "octet after the SEQUENCE",
         b"\x30\x15\x30\x00\x30\x0D\x06\x09\x2A\x86\x48\x86\xF7\x0D\x01\x01\x0B\x05\x00\x03\x02\x00\xAA\x00",
-        6,
+        Outcome::Trailing,
     ),
-    (b"\x30\x00", 1),
-    (b"\x31\x00", 4),
-    (b"\x30\x81\x00", 3),
-    (b"", 1),
+    ("empty SEQUENCE", b"\x30\x00", Outcome::Truncated),
+    ("SET", b"\x31\x00", Outcome::Unexpected),
+    ("length in long form", b"\x30\x81\x00", Outcome::BadLength),
+    ("nothing", b"", Outcome::Truncated),
 ];
 
 #[test]
 fn other_octets_are_no_signed_data(rt: HostRuntime) {
-    for (octets, expected) in REFUSED {
-        let number = match decoded(rt.alloc(), octets) {
-            Ok(_) => 0,
-            Err(e) => e.number(),
-        };
-        assert_eq!(rt; number, *expected, "{octets:?}");
+    for (name, octets, expected) in REFUSED {
+        assert_eq!(rt;
+            outcome_of(decoded(rt.alloc(), octets)),
+            *expected,
+            "{name}"
+        );
     }
 }
 
@@ -233,23 +234,23 @@ fn read_front(
     Ok((signed, cons.rest().len()))
 }
 
-/// Octets that begin with no parts of signed data, and the number of the error: nothing, a value that passes the end,
-/// nothing after a value, and another algorithm.
-const NO_PARTS: &[(&[u8], u8)] = &[
-    (b"", 1),
-    (b"\x04\x05", 1),
-    (b"\x30\x00", 1),
-    (b"\x30\x00\x30\x05\x06\x03\x55\x04\x03\x03\x02\x00\xAA", 5),
+/// Octets that begin with no parts of signed data.
+const NO_PARTS: &[(&str, &[u8], Outcome)] = &[
+    ("nothing", b"", Outcome::Truncated),
+    ("value that passes the end", b"\x04\x05", Outcome::Truncated),
+    ("nothing after a value", b"\x30\x00", Outcome::Truncated),
+    (
+        "another algorithm",
+        b"\x30\x00\x30\x05\x06\x03\x55\x04\x03\x03\x02\x00\xAA",
+        Outcome::Content,
+    ),
 ];
 
 #[test]
 fn parts_are_refused(rt: HostRuntime) {
-    for (octets, expected) in NO_PARTS {
-        let number = match read_front(rt.alloc(), false, octets) {
-            Ok(_) => 0,
-            Err(e) => e.number(),
-        };
-        assert_eq!(rt; number, *expected, "{octets:?}");
+    for (name, octets, expected) in NO_PARTS {
+        let outcome = outcome_of(read_front(rt.alloc(), false, octets));
+        assert_eq!(rt; outcome, *expected, "{name}");
     }
 }
 

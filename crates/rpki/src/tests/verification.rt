@@ -15,6 +15,7 @@ use crate::crypto::{
 use crate::repository::x509::SignedData;
 use bytes::Bytes;
 use rpki_der::{ConstOid, Constructed, DecodeError, Oid, Primitive, PrimitiveContent, Sequence};
+use std::alloc::Global;
 use std::marker::Model;
 use std::test::Fail;
 
@@ -82,7 +83,8 @@ impl SignatureAlgorithm for OwnAlgorithm {
     }
 
     fn x509_take_from(cons: &mut Constructed<'_>) -> Result<Self, DecodeError>
-        ensures { Reads (λ a. a) (SpellsBare (42 ∷ 3 ∷ [])) (IsOuterFault sequence true) (left cons.old) (left cons.new) result }
+        ensures { Reads (λ a. a) (SpellsBare (42 ∷ 3 ∷ [])) (IsOuterFault sequence true) (left cons.old)
+            (left cons.new) result }
     {
         cons.in_sequence(|contents| contents.skip_oid_if(OWN_NAME))?;
         Ok(OwnAlgorithm { only: () })
@@ -121,9 +123,13 @@ impl Provider for Table {
 
     ghost sha256_of = { λ _ _. replicate 32 0 };
 
-    ghost rsa_of = { λ p bits message signature. list_any (λ t. pointwise nat_eq t.0.now bits && pointwise nat_eq t.1.now message && pointwise nat_eq t.2.now signature) p.triples.now };
+    ghost rsa_of = { λ p bits message signature. list_any
+        (λ t. pointwise nat_eq t.0.now bits && pointwise nat_eq t.1.now message && pointwise nat_eq t.2.now signature)
+        p.triples.now };
 
-    ghost ecdsa_of = { λ p bits message signature. list_any (λ t. pointwise nat_eq t.0.now bits && pointwise nat_eq t.1.now message && pointwise nat_eq t.2.now signature) p.triples.now };
+    ghost ecdsa_of = { λ p bits message signature. list_any
+        (λ t. pointwise nat_eq t.0.now bits && pointwise nat_eq t.1.now message && pointwise nat_eq t.2.now signature)
+        p.triples.now };
 
     fn sha1(&self, _octets: &[u8]) -> [u8; 20] {
         [0; 20]
@@ -158,48 +164,74 @@ const SIGNED: &[u8] =
 const SIGNED_WITH_COUNT: &[u8] =
     b"\x30\x15\x30\x00\x30\x0D\x06\x09\x2A\x86\x48\x86\xF7\x0D\x01\x01\x0B\x05\x00\x03\x02\x01\xAA";
 
-const CASES: &[(&[u8], &[Triple], bool)] = &[
-    (SIGNED, &[(b"abc", b"\x30\x00", b"\xAA")], true),
-    (SIGNED_WITH_COUNT, &[(b"abc", b"\x30\x00", b"\xAA")], true),
-    (SIGNED, &[], false),
-    (SIGNED_WITH_COUNT, &[], false),
-    (SIGNED, &[(b"abc", SIGNED, b"\xAA")], false),
+const CASES: &[(&str, &[u8], &[Triple], bool)] = &[
+    (
+        "no unused bit",
+        SIGNED,
+        &[(b"abc", b"\x30\x00", b"\xAA")],
+        true,
+    ),
+    (
+        "an unused bit",
+        SIGNED_WITH_COUNT,
+        &[(b"abc", b"\x30\x00", b"\xAA")],
+        true,
+    ),
+    ("empty table", SIGNED, &[], false),
+    ("an unused bit, empty table", SIGNED_WITH_COUNT, &[], false),
+    (
+        "the whole input for the slice",
+        SIGNED,
+        &[(b"abc", SIGNED, b"\xAA")],
+        false,
+    ),
 ];
+
+/// Whether the signed data is verified with the RSA key of `abc`, by a provider with this table.
+fn is_verified(
+    alloc: Global,
+    octets: &'static [u8],
+    triples: &'static [Triple],
+) -> Result<bool, DecodeError> {
+    let key = PublicKey::decode(Bytes::from_static(KEY_OF_ABC))?;
+    let signed = SignedData::<RpkiSignatureAlgorithm>::decode(alloc, Bytes::from_static(octets))?;
+    Ok(signed.verify_signature(&Table { triples }, &key).is_ok())
+}
 
 #[test]
 fn signed_data_is_verified_over_its_slice(rt: HostRuntime) -> Result<(), Fail> {
-    let key = PublicKey::decode(Bytes::from_static(KEY_OF_ABC))?;
-    for (octets, triples, expected) in CASES {
-        let signed = SignedData::<RpkiSignatureAlgorithm>::decode(
-            rt.alloc(),
-            Bytes::from_static(octets),
-        )?;
-        let provider = Table { triples };
-        assert_eq!(rt;
-            signed.verify_signature(&provider, &key).is_ok(),
-            *expected,
-            "{octets:?} {triples:?}"
-        );
+    for (name, octets, triples, expected) in CASES {
+        let verified = is_verified(rt.alloc(), octets, triples)?;
+        assert_eq!(rt; verified, *expected, "{name}");
     }
     Ok(())
 }
 
-const ANSWERS: &[(&[u8], bool, bool)] = &[
-    (P256_KEY, true, false),
-    (KEY_OF_ABC, false, false),
-    (KEY_OF_ABC, true, true),
+/// A key, what the provider answers, and whether the signature is verified.
+const ANSWERS: &[(&str, &[u8], bool, bool)] = &[
+    ("P-256 key", P256_KEY, true, false),
+    ("RSA key, rejected", KEY_OF_ABC, false, false),
+    ("RSA key", KEY_OF_ABC, true, true),
 ];
+
+/// Whether an RSA signature is verified with the key, by a provider that answers the same to all.
+fn is_verified_by(answer: bool, octets: &'static [u8]) -> Result<bool, DecodeError> {
+    let key = PublicKey::decode(Bytes::from_static(octets))?;
+    let signature: RpkiSignature = Signature::new(
+        RpkiSignatureAlgorithm::default(),
+        Bytes::from_static(b"\xAA"),
+    );
+    Ok(
+        key.verify(&Always { answer }, b"message", &signature)
+            .is_ok(),
+    )
+}
 
 #[test]
 fn keys_of_another_format_verify_nothing(rt: HostRuntime) -> Result<(), Fail> {
-    for (octets, answer, expected) in ANSWERS {
-        let key = PublicKey::decode(Bytes::from_static(octets))?;
-        let signature: RpkiSignature = Signature::new(
-            RpkiSignatureAlgorithm::default(),
-            Bytes::from_static(b"\xAA"),
-        );
-        let verified = key.verify(&Always { answer: *answer }, b"message", &signature);
-        assert_eq!(rt; verified.is_ok(), *expected, "{octets:?} {answer}");
+    for (name, octets, answer, expected) in ANSWERS {
+        let verified = is_verified_by(*answer, octets)?;
+        assert_eq!(rt; verified, *expected, "{name}");
     }
     Ok(())
 }

@@ -16,7 +16,8 @@ use std::marker::Model;
 #[tactic(auto, using(crate::proofs::EncodeLaws::tlv_at_most))]
 fn fit_inside<V: Values>(values: &V) -> bool
     ensures { (t : TagName) (f : Bool) → IsTrue result
-        ↔ ((V.is_short values.now × (length (V.encoded values.now) < 2 ^ 32)) × (length (tlv t f (V.encoded values.now)) < 2 ^ 63)) }
+        ↔ ((V.is_short values.now × (length (V.encoded values.now) < 2 ^ 32))
+        × (length (tlv t f (V.encoded values.now)) < 2 ^ 63)) }
 {
     values.fits() && values.encoded_len() < 1 << 32
 }
@@ -32,7 +33,7 @@ fn len_around<V: Values>(tag: Tag, constructed: bool, values: &V) -> u64
 }
 
 /// Writes a value of this tag and form around the values.
-#[tactic(auto, using(crate::proofs::Writing::writes_then, crate::proofs::Writing::beginning_more))]
+#[tactic(auto, using(crate::proofs::WritingLaws::writes_then, crate::proofs::WritingLaws::beginning_more))]
 fn write_around<V: Values, W: Write>(
     out: &mut W,
     tag: Tag,
@@ -77,7 +78,7 @@ impl<V: Values> Values for Sequence<V> {
 
     ghost is_short = { λ x. V.is_short x × (length (V.encoded x) < 2 ^ 32) };
 
-    ghost use Rattle.rpki_der.specs.Joined.{constructed_value_list, sequence_legal};
+    ghost use Rattle.rpki_der.specs.ValueListLaws.{constructed_value_list, sequence_legal};
 
     ghost spelled = { λ x. around_spelled sequence true (V.encoded x) (V.tree x) (V.spelled x) };
 
@@ -89,7 +90,7 @@ impl<V: Values> Values for Sequence<V> {
         fit_inside(&self.values)
     }
 
-    #[tactic(auto, using(crate::specs::Joined::constructed_value, crate::specs::Joined::sequence_legal))]
+    #[tactic(auto, using(crate::specs::ValueListLaws::constructed_value, crate::specs::ValueListLaws::sequence_legal))]
     fn count(&self) -> u64 {
         1
     }
@@ -136,7 +137,7 @@ impl<V: Values> Values for Set<V> {
 
     ghost is_short = { λ x. V.is_short x × (length (V.encoded x) < 2 ^ 32) };
 
-    ghost use Rattle.rpki_der.specs.Joined.{constructed_value_list, set_legal};
+    ghost use Rattle.rpki_der.specs.ValueListLaws.{constructed_value_list, set_legal};
 
     ghost spelled = { λ x. around_spelled set true (V.encoded x) (V.tree x) (V.spelled x) };
 
@@ -148,7 +149,7 @@ impl<V: Values> Values for Set<V> {
         fit_inside(&self.values)
     }
 
-    #[tactic(auto, using(crate::specs::Joined::constructed_value, crate::specs::Joined::set_legal))]
+    #[tactic(auto, using(crate::specs::ValueListLaws::constructed_value, crate::specs::ValueListLaws::set_legal))]
     fn count(&self) -> u64 {
         1
     }
@@ -193,7 +194,7 @@ impl<V: Values> Values for Wrapped<V> {
 
     ghost is_short = { λ x. V.is_short x × (length (V.encoded x) < 2 ^ 32) };
 
-    ghost use Rattle.rpki_der.specs.Joined.{primitive_value_list, octet_string_legal};
+    ghost use Rattle.rpki_der.specs.ValueListLaws.{primitive_value_list, octet_string_legal};
 
     ghost spelled = { λ x. around_spelled octet_string false (V.encoded x) (V.tree x) (V.spelled x) };
 
@@ -205,7 +206,7 @@ impl<V: Values> Values for Wrapped<V> {
         fit_inside(&self.values)
     }
 
-    #[tactic(auto, using(crate::specs::Joined::primitive_value, crate::specs::Joined::octet_string_legal))]
+    #[tactic(auto, using(crate::specs::ValueListLaws::primitive_value, crate::specs::ValueListLaws::octet_string_legal))]
     fn count(&self) -> u64 {
         1
     }

@@ -49,7 +49,7 @@ impl PrimitiveContent for bool {
         1
     }
 
-    #[tactic(auto, using(crate::proofs::Writing::writes_of_cut))]
+    #[tactic(auto, using(crate::proofs::WritingLaws::writes_of_cut))]
     fn write_encoded<W: Write>(&self, out: &mut W) -> Result<(), io::Error> {
         write_whole(out, if *self { &[0xff] } else { &[0] })
     }
@@ -71,7 +71,7 @@ impl<'a> PrimitiveContent for Oid<&'a [u8]> {
         self.0.len() as u64
     }
 
-    #[tactic(auto, using(crate::proofs::Writing::writes_of_cut))]
+    #[tactic(auto, using(crate::proofs::WritingLaws::writes_of_cut))]
     fn write_encoded<W: Write>(&self, out: &mut W) -> Result<(), io::Error> {
         write_whole(out, self.0)
     }
@@ -93,7 +93,7 @@ impl<'a> PrimitiveContent for &'a [u8] {
         self.len() as u64
     }
 
-    #[tactic(auto, using(crate::proofs::Writing::writes_of_cut))]
+    #[tactic(auto, using(crate::proofs::WritingLaws::writes_of_cut))]
     fn write_encoded<W: Write>(&self, out: &mut W) -> Result<(), io::Error> {
         write_whole(out, self)
     }
@@ -146,7 +146,7 @@ impl<'a> PrimitiveContent for &'a BitString {
 }
 
 /// Writes the contents of a bit string.
-#[tactic(auto, using(crate::proofs::Writing::writes_of_cut, crate::proofs::Writing::beginning_of, crate::proofs::Writing::beginning_more))]
+#[tactic(auto, using(crate::proofs::WritingLaws::writes_of_cut, crate::proofs::WritingLaws::beginning_of, crate::proofs::WritingLaws::beginning_more))]
 fn write_bits<W: Write>(out: &mut W, bits: &BitString) -> Result<(), io::Error>
     ensures { Writes (W.contents out.old) (W.contents out.new) result (bits_contents bits.now) }
 {
@@ -157,8 +157,10 @@ fn write_bits<W: Write>(out: &mut W, bits: &BitString) -> Result<(), io::Error>
 impl BitString {
     /// An encoder for the bit string under the tag of a BIT STRING; it borrows the bits.
     pub fn encode_ref(&self) -> Primitive<&BitString>
-        ensures encoded { ⟦<Primitive<&'static BitString> as Values>⟧.encoded result ≡ tlv bit_string false (bits_contents self.now) }
-        ensures short { ⟦<Primitive<&'static BitString> as Values>⟧.is_short result ↔ (length (bits_contents self.now) < 2 ^ 32) }
+        ensures encoded { ⟦<Primitive<&'static BitString> as Values>⟧.encoded result
+            ≡ tlv bit_string false (bits_contents self.now) }
+        ensures short { ⟦<Primitive<&'static BitString> as Values>⟧.is_short result
+            ↔ (length (bits_contents self.now) < 2 ^ 32) }
     {
         self.encode()
     }

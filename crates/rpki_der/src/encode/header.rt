@@ -148,7 +148,8 @@ pub(super) fn write_header<W: Write>(
     contents_len: u64,
 ) -> io::Result<()>
     requires { contents_len < 2 ^ 32 }
-    ensures { Writes (W.contents out.old) (W.contents out.new) result (identifier_octets tag constructed ++ length_octets contents_len) }
+    ensures { Writes (W.contents out.old) (W.contents out.new) result
+        (identifier_octets tag constructed ++ length_octets contents_len) }
 {
     write_whole(
         out,

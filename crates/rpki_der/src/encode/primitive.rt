@@ -89,10 +89,10 @@ impl<P> Primitive<P> {
     }
 }
 
-#[tactic(auto, using(crate::proofs::Writing::writes_then, crate::proofs::Writing::beginning_more, crate::specs::Joined::primitive_value, crate::proofs::EncodeLaws::tlv_at_most))]
+#[tactic(auto, using(crate::proofs::WritingLaws::writes_then, crate::proofs::WritingLaws::beginning_more, crate::specs::ValueListLaws::primitive_value, crate::proofs::EncodeLaws::tlv_at_most))]
 impl<P: PrimitiveContent> Values for Primitive<P> {
     ghost use Rattle.rpki_der.specs.PrimitiveParts.{tag_in, content_in, has_tag};
-    ghost use Rattle.rpki_der.specs.Joined.{primitive_value_list};
+    ghost use Rattle.rpki_der.specs.ValueListLaws.{primitive_value_list};
     ghost use Rattle.rpki_der.specs.Tree.Tree.{Primitive as PrimitiveTree};
     ghost use Rattle.rpki_der.specs.TreeLaws.{as_it_is};
     ghost use Rattle.std.specs.Prelude.{refl};

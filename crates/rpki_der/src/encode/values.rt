@@ -13,8 +13,8 @@ use std::io::Write;
 /// `fits` is the precondition of the other three methods: a length announces fewer than 2^32 octets of contents, and
 /// what is written as a whole has fewer than 2^63 octets.
 pub trait Values {
-    /// What is written, as a tree of values. The laws at the end say that the octets are its octets, and that "short" is
-    /// said of each value in it.
+    /// What is written, as a tree of values. The laws at the end say that the octets are its octets, and that "short"
+    /// is said of each value in it.
     ghost tree: { Self → Tree };
 
     /// The octets that are written.

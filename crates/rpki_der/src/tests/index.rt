@@ -83,6 +83,17 @@ fn captured_values_have_their_index(rt: HostRuntime) {
 }
 
 #[test]
+fn the_index_of_a_slice_is_the_same(rt: HostRuntime) {
+    for row in &ROWS {
+        let same = match index_octets(rt.alloc(), row.octets) {
+            Ok((size, index)) => size == row.octets.len() && are_wanted(&index, row.index),
+            Err(_) => false,
+        };
+        assert!(rt; same, "{:?}", row.octets);
+    }
+}
+
+#[test]
 fn written_values_have_theirs(rt: HostRuntime) -> Result<(), Fail> {
     let nulls = (().encode(), ().encode());
     assert!(rt; nulls.fits());

@@ -117,6 +117,50 @@ fn walks(rt: HostRuntime) {
     }
 }
 
+/// The number of what a call on a slice returned: where nothing is there, a value is missing.
+fn wanted_of_slice(row: &Row) -> u8 {
+    if row.answer == 9 { 1 } else { row.answer }
+}
+
+#[test]
+fn walks_a_slice(rt: HostRuntime) {
+    for row in &ROWS {
+        let mut steps = Steps::new();
+        let (answer, left) = match walk_octets(rt.alloc(), row.octets, &mut steps) {
+            Ok(size) => (0, row.octets.len() - size),
+            Err(e) => (e.number(), row.octets.len()),
+        };
+        assert_eq!(rt; answer, wanted_of_slice(row), "{:?}", row.octets);
+        assert_eq!(rt; steps.count(), row.count, "{:?}", row.octets);
+        assert_eq!(rt; left, row.left, "{:?}", row.octets);
+    }
+}
+
+#[test]
+fn indexes_a_slice(rt: HostRuntime) {
+    for row in &ROWS {
+        let same = match index_octets(rt.alloc(), row.octets) {
+            Ok((size, index)) => row.answer == 0
+                && index.len() as u64 == row.count
+                && row.octets.len() - size == row.left,
+            Err(e) => e.number() == wanted_of_slice(row),
+        };
+        assert!(rt; same, "{:?}", row.octets);
+    }
+}
+
+#[test]
+fn a_cursor_on_a_slice_captures_the_same(rt: HostRuntime) {
+    for row in &ROWS {
+        let mut cursor = Constructed::from_slice(rt.alloc(), row.octets);
+        let same = match cursor.capture_one(rt.alloc()) {
+            Ok(found) => row.answer == 0 && row.octets.starts_with(found.as_slice()),
+            Err(e) => e.number() == wanted_of_slice(row),
+        };
+        assert!(rt; same && cursor.rest().len() == row.left, "{:?}", row.octets);
+    }
+}
+
 #[test]
 fn skips(rt: HostRuntime) {
     for row in &ROWS {
@@ -169,7 +213,7 @@ fn captures_stop_at_the_same_faults(rt: HostRuntime) {
                     && row.octets.starts_with(found.as_slice())
                     && size.checked_add(left) == Some(row.octets.len())
             }
-            Err(number) => number == if row.answer == 9 { 1 } else { row.answer },
+            Err(number) => number == wanted_of_slice(row),
         };
         assert!(rt; same && left == row.left, "{:?}", row.octets);
     }

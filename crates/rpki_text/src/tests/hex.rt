@@ -14,7 +14,7 @@ fn digits(rt: HostRuntime) {
         assert_eq!(rt; hex::encode(src, &mut dest), want, "{want}");
         assert!(rt;
             dest[2 * src.len()..].iter().all(|b| *b == 0x2E),
-            "behind {want}"
+            "following {want}"
         );
     }
     assert_eq!(rt; hex::encode_u8(0x4F), *b"4F");

@@ -1,6 +1,6 @@
 //! Rsync URIs.
 
-use crate::uri::{Error, Rsync, Scheme, check_uri_ascii, starts_with_ignore_case};
+use crate::uri::{Error, Rsync, RsyncView, Scheme, check_uri_ascii, starts_with_ignore_case};
 use bytes::Bytes;
 use std::alloc::Global;
 use std::fmt;
@@ -11,76 +11,86 @@ fn parsed(alloc: Global, text: &str) -> Result<Rsync, Error> {
     Rsync::from_bytes(Bytes::copy_from_slice(alloc, text.as_bytes())?)
 }
 
-fn refusal(alloc: Global, text: &str) -> u8 {
-    match parsed(alloc, text) {
-        Ok(_) => 0,
-        Err(e) => e.number(),
-    }
+/// The error of a text, if it has one.
+fn refusal(alloc: Global, text: &str) -> Option<Error> {
+    parsed(alloc, text).err()
 }
 
-const REFUSALS: [(&str, u8); 53] = [
-    ("rsync://host/module/", 0),
-    ("rsync://host/module/foo/", 0),
-    ("rsync://host/module/foo/bar", 0),
-    ("rsync://host/module/foo/bar/", 0),
-    ("rSync://hOst/module/foo/bar", 0),
+/// The same of borrowed octets.
+fn view_refusal(text: &str) -> Option<Error> {
+    RsyncView::from_slice(text.as_bytes()).err()
+}
+
+const REFUSALS: [(&str, Option<Error>); 53] = [
+    ("rsync://host/module/", None),
+    ("rsync://host/module/foo/", None),
+    ("rsync://host/module/foo/bar", None),
+    ("rsync://host/module/foo/bar/", None),
+    ("rSync://hOst/module/foo/bar", None),
     (
         "rsync://host/module/$%&'()*+,-./0123456789:;=ABCDEFGHIJKLMNOPQRSTUVWXYZ_abcdefghijklmnopqrstuvwxyz~",
-        0,
+        None,
     ),
-    ("", 4),
-    ("fsync://host/module/foo/bar", 4),
-    ("rsync://", 2),
-    ("rsync://a", 2),
-    ("rsync://a/", 2),
-    ("rsync://host/", 2),
-    ("rsync://host/module", 2),
-    ("rsync:////foo", 6),
-    ("rsync://host//foo", 6),
-    ("rsync:///module/foo", 6),
-    ("rsync://host/module//foo/bar/", 6),
-    ("rsync://host/module/foo//bar/", 6),
-    ("rsync://host/m/a//..", 6),
-    ("rsync://host/./a//b", 5),
-    ("rsync://../module/", 5),
-    ("rsync://./", 5),
-    ("rsync://host/..", 5),
-    ("rsync://host/./foo/bar", 5),
-    ("rsync://host/module/foo/../bar", 5),
-    ("rsync://host/module/foo/bar/..", 5),
-    ("rsync://host/module/f oo/bar", 1),
-    ("rsync:// host/module/foo/bar", 1),
-    ("xsync://a b", 1),
-    ("rsync://host/module/ ", 1),
-    ("rsync://host/module/\"", 1),
-    ("rsync://host/module/#", 1),
-    ("rsync://host/module/<", 1),
-    ("rsync://host/module/>", 1),
-    ("rsync://host/module/?", 1),
-    ("rsync://host/module/[", 1),
-    ("rsync://host/module/\\", 1),
-    ("rsync://host/module/]", 1),
-    ("rsync://host/module/^", 1),
-    ("rsync://host/module/`", 1),
-    ("rsync://host/module/{", 1),
-    ("rsync://host/module/|", 1),
-    ("rsync://host/module/}", 1),
-    ("rsync://host/module/!", 0),
-    ("rsync://host/module/a.b/..c/...", 0),
-    ("rsync://host/module/.", 5),
-    ("RSYNC://HOST/MODULE/", 0),
-    ("rsync:/host/module/", 4),
-    ("rsync://host/module/a//", 6),
-    ("rsync://host/module/.//", 5),
-    ("rsync:///", 6),
-    ("https://host/module/", 4),
-    ("rsync://host/module/\u{e4}", 1),
+    ("", Some(Error::BadScheme)),
+    ("fsync://host/module/foo/bar", Some(Error::BadScheme)),
+    ("rsync://", Some(Error::BadUri)),
+    ("rsync://a", Some(Error::BadUri)),
+    ("rsync://a/", Some(Error::BadUri)),
+    ("rsync://host/", Some(Error::BadUri)),
+    ("rsync://host/module", Some(Error::BadUri)),
+    ("rsync:////foo", Some(Error::EmptySegments)),
+    ("rsync://host//foo", Some(Error::EmptySegments)),
+    ("rsync:///module/foo", Some(Error::EmptySegments)),
+    ("rsync://host/module//foo/bar/", Some(Error::EmptySegments)),
+    ("rsync://host/module/foo//bar/", Some(Error::EmptySegments)),
+    ("rsync://host/m/a//..", Some(Error::EmptySegments)),
+    ("rsync://host/./a//b", Some(Error::DotSegments)),
+    ("rsync://../module/", Some(Error::DotSegments)),
+    ("rsync://./", Some(Error::DotSegments)),
+    ("rsync://host/..", Some(Error::DotSegments)),
+    ("rsync://host/./foo/bar", Some(Error::DotSegments)),
+    ("rsync://host/module/foo/../bar", Some(Error::DotSegments)),
+    ("rsync://host/module/foo/bar/..", Some(Error::DotSegments)),
+    (
+        "rsync://host/module/f oo/bar",
+        Some(Error::InvalidCharacters),
+    ),
+    (
+        "rsync:// host/module/foo/bar",
+        Some(Error::InvalidCharacters),
+    ),
+    ("xsync://a b", Some(Error::InvalidCharacters)),
+    ("rsync://host/module/ ", Some(Error::InvalidCharacters)),
+    ("rsync://host/module/\"", Some(Error::InvalidCharacters)),
+    ("rsync://host/module/#", Some(Error::InvalidCharacters)),
+    ("rsync://host/module/<", Some(Error::InvalidCharacters)),
+    ("rsync://host/module/>", Some(Error::InvalidCharacters)),
+    ("rsync://host/module/?", Some(Error::InvalidCharacters)),
+    ("rsync://host/module/[", Some(Error::InvalidCharacters)),
+    ("rsync://host/module/\\", Some(Error::InvalidCharacters)),
+    ("rsync://host/module/]", Some(Error::InvalidCharacters)),
+    ("rsync://host/module/^", Some(Error::InvalidCharacters)),
+    ("rsync://host/module/`", Some(Error::InvalidCharacters)),
+    ("rsync://host/module/{", Some(Error::InvalidCharacters)),
+    ("rsync://host/module/|", Some(Error::InvalidCharacters)),
+    ("rsync://host/module/}", Some(Error::InvalidCharacters)),
+    ("rsync://host/module/!", None),
+    ("rsync://host/module/a.b/..c/...", None),
+    ("rsync://host/module/.", Some(Error::DotSegments)),
+    ("RSYNC://HOST/MODULE/", None),
+    ("rsync:/host/module/", Some(Error::BadScheme)),
+    ("rsync://host/module/a//", Some(Error::EmptySegments)),
+    ("rsync://host/module/.//", Some(Error::DotSegments)),
+    ("rsync:///", Some(Error::EmptySegments)),
+    ("https://host/module/", Some(Error::BadScheme)),
+    ("rsync://host/module/\u{e4}", Some(Error::InvalidCharacters)),
 ];
 
 #[test]
 fn refusals(rt: HostRuntime) {
     for (text, want) in REFUSALS {
         assert_eq!(rt; refusal(rt.alloc(), text), want, "{text}");
+        assert_eq!(rt; view_refusal(text), want, "{text}");
     }
 }
 
@@ -95,22 +105,43 @@ fn repeated(alloc: Global, parts: &[(&str, usize)]) -> Result<String, Fail> {
     Ok(text)
 }
 
-fn repeated_refusal(alloc: Global, parts: &[(&str, usize)]) -> Result<u8, Fail> {
+fn repeated_refusal(alloc: Global, parts: &[(&str, usize)]) -> Result<Option<Error>, Fail> {
     let text = repeated(alloc, parts)?;
     Ok(refusal(alloc, text.as_str()))
 }
 
-const LIMITS: [(&[(&str, usize)], u8); 14] = [
-    (&[("rsync://", 1), ("a", 255), ("/m/", 1)], 0),
-    (&[("rsync://", 1), ("a", 256), ("/m/", 1)], 7),
-    (&[("rsync://host/", 1), ("a", 255), ("/", 1)], 0),
-    (&[("rsync://host/", 1), ("a", 256), ("/", 1)], 7),
-    (&[("rsync://host/module/", 1), ("a", 255)], 0),
-    (&[("rsync://host/module/", 1), ("a", 256)], 7),
-    (&[("rsync://host/module/", 1), ("a", 256), ("/..", 1)], 7),
-    (&[("rsync://host/module/../", 1), ("a", 256)], 5),
-    (&[("rsync://host/module/", 1), (SEGMENT, 11), ("a", 243)], 0),
-    (&[("rsync://host/module/", 1), (SEGMENT, 11), ("a", 244)], 3),
+const LIMITS: [(&[(&str, usize)], Option<Error>); 14] = [
+    (&[("rsync://", 1), ("a", 255), ("/m/", 1)], None),
+    (
+        &[("rsync://", 1), ("a", 256), ("/m/", 1)],
+        Some(Error::LongSegments),
+    ),
+    (&[("rsync://host/", 1), ("a", 255), ("/", 1)], None),
+    (
+        &[("rsync://host/", 1), ("a", 256), ("/", 1)],
+        Some(Error::LongSegments),
+    ),
+    (&[("rsync://host/module/", 1), ("a", 255)], None),
+    (
+        &[("rsync://host/module/", 1), ("a", 256)],
+        Some(Error::LongSegments),
+    ),
+    (
+        &[("rsync://host/module/", 1), ("a", 256), ("/..", 1)],
+        Some(Error::LongSegments),
+    ),
+    (
+        &[("rsync://host/module/../", 1), ("a", 256)],
+        Some(Error::DotSegments),
+    ),
+    (
+        &[("rsync://host/module/", 1), (SEGMENT, 11), ("a", 243)],
+        None,
+    ),
+    (
+        &[("rsync://host/module/", 1), (SEGMENT, 11), ("a", 244)],
+        Some(Error::LongUri),
+    ),
     (
         &[
             ("rsync://host/module/", 1),
@@ -118,11 +149,20 @@ const LIMITS: [(&[(&str, usize)], u8); 14] = [
             ("a", 243),
             ("/", 1),
         ],
-        3,
+        Some(Error::LongUri),
     ),
-    (&[("rsync://../module/", 1), (SEGMENT, 11), ("a", 246)], 3),
-    (&[("rsync://../module/", 1), (SEGMENT, 11), ("a", 245)], 5),
-    (&[("rsync://host/module/", 1), (SEGMENT, 12), (" ", 1)], 1),
+    (
+        &[("rsync://../module/", 1), (SEGMENT, 11), ("a", 246)],
+        Some(Error::LongUri),
+    ),
+    (
+        &[("rsync://../module/", 1), (SEGMENT, 11), ("a", 245)],
+        Some(Error::DotSegments),
+    ),
+    (
+        &[("rsync://host/module/", 1), (SEGMENT, 12), (" ", 1)],
+        Some(Error::InvalidCharacters),
+    ),
 ];
 
 #[test]
@@ -181,7 +221,7 @@ fn relatives(rt: HostRuntime) -> Result<(), Fail> {
 fn joined(alloc: Global, base: &str, path: &str) -> Result<String, Fail> {
     match parsed(alloc, base)?.join(alloc, path.as_bytes()) {
         Ok(joined) => Ok(String::from_str(alloc, joined.as_str())?),
-        Err(e) => Ok(format!(in alloc; "{}", e.number())?),
+        Err(e) => Ok(format!(in alloc; "{e:?}")?),
     }
 }
 
@@ -216,13 +256,13 @@ const JOINS: [(&str, &str, &str); 15] = [
         "foo/bar",
         "rsync://host/module/some/foo/bar",
     ),
-    ("rsync://host/module/", ".", "5"),
-    ("rsync://host/module/", "foo/.", "5"),
-    ("rsync://host/module/", "..", "5"),
-    ("rsync://host/module/", "foo/../bar", "5"),
-    ("rsync://host/module/", "../bar", "5"),
-    ("rsync://host/module/", "/bar", "6"),
-    ("rsync://host/module/", "b r", "1"),
+    ("rsync://host/module/", ".", "DotSegments"),
+    ("rsync://host/module/", "foo/.", "DotSegments"),
+    ("rsync://host/module/", "..", "DotSegments"),
+    ("rsync://host/module/", "foo/../bar", "DotSegments"),
+    ("rsync://host/module/", "../bar", "DotSegments"),
+    ("rsync://host/module/", "/bar", "EmptySegments"),
+    ("rsync://host/module/", "b r", "InvalidCharacters"),
     (
         "rSync://hOst/module/some",
         "foo/bar",
@@ -243,18 +283,22 @@ fn joins(rt: HostRuntime) -> Result<(), Fail> {
     Ok(())
 }
 
-/// The length of a long join, or the number of its error.
-fn long_join(alloc: Global, path: &[(&str, usize)]) -> Result<usize, Fail> {
+/// The length of a long join, or its error.
+fn long_join(alloc: Global, path: &[(&str, usize)]) -> Result<Result<usize, Error>, Fail> {
     let path = repeated(alloc, path)?;
     match parsed(alloc, "rsync://host/module/")?.join(alloc, path.as_bytes()) {
-        Ok(joined) => Ok(joined.as_slice().len()),
-        Err(e) => Ok(usize::from(e.number())),
+        Ok(joined) => Ok(Ok(joined.as_slice().len())),
+        Err(e) => Ok(Err(e)),
     }
 }
 
 #[test]
 fn long_joins(rt: HostRuntime) -> Result<(), Fail> {
-    let cases: [(usize, usize, usize); 3] = [(11, 235, 3071), (11, 236, 3), (12, 0, 3)];
+    let cases: [(usize, usize, Result<usize, Error>); 3] = [
+        (11, 235, Ok(3071)),
+        (11, 236, Err(Error::LongUri)),
+        (12, 0, Err(Error::LongUri)),
+    ];
     for (segments, more, want) in cases {
         let path = [(SEGMENT, segments), ("a", more)];
         assert_eq!(rt;
@@ -266,16 +310,17 @@ fn long_joins(rt: HostRuntime) -> Result<(), Fail> {
     Ok(())
 }
 
-/// The longest text that is read, what joining gives, and the length once it is a directory.
-fn longest(alloc: Global, path: &str) -> Result<(u8, usize, u8), Fail> {
+/// Of the longest text that is read: whether joining gives the same, or its error; and the length and the error of the
+/// text once it is a directory.
+fn longest(alloc: Global, path: &str) -> Result<(Result<bool, Error>, usize, Option<Error>), Fail> {
     let text = repeated(
         alloc,
         &[("rsync://host/module/", 1), (SEGMENT, 11), ("a", 243)],
     )?;
     let mut uri = parsed(alloc, text.as_str())?;
     let joined = match uri.join(alloc, path.as_bytes()) {
-        Ok(same) => if same == uri { 0 } else { 9 },
-        Err(e) => e.number(),
+        Ok(same) => Ok(same == uri),
+        Err(e) => Err(e),
     };
     uri.path_into_dir(alloc)?;
     Ok((joined, uri.as_slice().len(), refusal(alloc, uri.as_str())))
@@ -283,7 +328,11 @@ fn longest(alloc: Global, path: &str) -> Result<(u8, usize, u8), Fail> {
 
 #[test]
 fn longest_texts(rt: HostRuntime) -> Result<(), Fail> {
-    for (path, want) in [("a", (3, 3080, 3)), ("", (0, 3080, 3))] {
+    let long = Error::LongUri;
+    for (path, want) in [
+        ("a", (Err(long), 3080, Some(long))),
+        ("", (Ok(true), 3080, Some(long))),
+    ] {
         assert_eq!(rt; longest(rt.alloc(), path)?, want, "{path}");
     }
     Ok(())
@@ -535,15 +584,12 @@ fn copies(rt: HostRuntime) -> Result<(), Fail> {
 
 /// Whether each way to read a text gives the same error, or none.
 fn refused_alike(alloc: Global, text: &str) -> Result<bool, Fail> {
-    let number = refusal(alloc, text);
-    let of = |read: Result<Rsync, Error>| match read {
-        Ok(_) => 0,
-        Err(e) => e.number(),
-    };
+    let error = refusal(alloc, text);
+    let of = |read: Result<Rsync, Error>| read.err();
     Ok(
-        of(Rsync::from_str(alloc, text)) == number
-            && of(Rsync::from_slice(alloc, text.as_bytes())) == number
-            && of(Rsync::from_string(String::from_str(alloc, text)?)) == number,
+        of(Rsync::from_str(alloc, text)) == error
+            && of(Rsync::from_slice(alloc, text.as_bytes())) == error
+            && of(Rsync::from_string(String::from_str(alloc, text)?)) == error,
     )
 }
 

@@ -8,13 +8,14 @@ ghost use Rattle.std.specs.Ordering.{on};
 ghost use Rattle.rpki_text.specs.SameHttpsLaws.{same_https-hashed, https_equiv, https_per};
 ghost use Rattle.rpki_text.specs.Segments.{is_dir, with_slash};
 ghost use Rattle.rpki_text.specs.UriText.{lowercase, is_uri_byte};
+ghost use Rattle.rpki_text.specs.Views.{https_text};
 ghost use Rattle.rpki_text.specs.HttpsText.{https_refusal, IsHttpsCut, https_authority, https_path, https_uri_of, IsHttpsUri, SpellsHttps, same_https, https_hashed, eq_https_bytes, ends_in_slash, https_joined, https_joined_uri, https_join_refusal, https_into_dir, https_parent_of, https_parent_uri};
 
 use super::characters::{
-    check_uri_ascii, hash_in_lower_case, in_lower_case, same_but_case, slash_at,
-    starts_with_ignore_case, uri_text,
+    check_uri_ascii, hash_in_lower_case, in_lower_case, same_but_case, uri_text,
 };
 use super::error::Error;
+use super::https_view::{HttpsView, check_https};
 use super::path::{joined_bytes, len_above};
 use super::scheme::Scheme;
 use bytes::Bytes;
@@ -23,12 +24,6 @@ use std::borrow::CowStr;
 use std::fmt;
 use std::hash::{Hash, Hasher};
 use std::marker::Model;
-
-/// The length of the scheme and the slashes after it.
-const SCHEME_LEN: usize = 8;
-
-/// An authority has fewer octets than this.
-const AUTHORITY_LIMIT: usize = 256;
 
 /// An https URI: an authority, which may be empty, and a path, which is empty or begins with a slash (RFC 9110
 /// section 4.2.2, RFC 3986 section 3).
@@ -147,6 +142,13 @@ impl Https {
         uri_text(self.as_slice())
     }
 
+    /// This URI over the octets of its text, as it is read by `HttpsView::from_slice`.
+    pub fn view(&self) -> HttpsView<'_>
+        ensures { https_text result ≡ self.now }
+    {
+        HttpsView::at(self.bytes.as_slice(), self.path_start)
+    }
+
     /// The text as it was spelled, in the memory that this URI shares.
     pub fn as_bytes(&self) -> &Bytes
         ensures { result.now ≡ self.now }
@@ -165,7 +167,7 @@ impl Https {
     pub fn authority(&self) -> &str
         ensures { result.now ≡ https_authority self.now }
     {
-        uri_text(self.authority_bytes())
+        self.view().authority()
     }
 
     /// The authority in lower case.
@@ -182,34 +184,17 @@ impl Https {
     pub fn path(&self) -> &str
         ensures { result.now ≡ https_path self.now }
     {
-        uri_text(self.path_bytes())
+        self.view().path()
     }
 
     /// Whether the path is empty or ends with a slash.
     pub fn path_is_dir(&self) -> bool
         ensures { result ≡ is_dir (https_path self.now) }
     {
-        match self.path_bytes().last() {
+        match self.path().as_bytes().last() {
             None => true,
             Some(last) => *last == b'/',
         }
-    }
-
-    fn path_bytes(&self) -> &[u8]
-        ensures text { result.now ≡ https_path self.now }
-        ensures characters { list_all is_uri_byte result.now ≡ true }
-    {
-        let (_, path) = self.bytes.as_slice().split_at(self.path_start);
-        path
-    }
-
-    fn authority_bytes(&self) -> &[u8]
-        ensures text { result.now ≡ https_authority self.now }
-        ensures characters { list_all is_uri_byte result.now ≡ true }
-    {
-        let (front, _) = self.bytes.as_slice().split_at(self.path_start);
-        let (_, authority) = front.split_at(SCHEME_LEN);
-        authority
     }
 
     /// The scheme and the authority.
@@ -223,7 +208,7 @@ impl Https {
     fn path_ends_in_slash(&self) -> bool
         ensures { result ≡ ends_in_slash (https_path self.now) }
     {
-        match self.path_bytes().last() {
+        match self.path().as_bytes().last() {
             None => false,
             Some(last) => *last == b'/',
         }
@@ -263,7 +248,7 @@ impl Https {
         ensures none { https_parent_of self.now ≡ None → result ≡ Ok None }
     {
         let path_start = self.path_start;
-        let path = self.path_bytes();
+        let path = self.path().as_bytes();
         let Some(len) = len_above(path) else {
             return Ok(None);
         };
@@ -301,15 +286,15 @@ impl Https {
     pub fn eq_authority(&self, other: &Https) -> bool
         ensures { result ≡ bytes_eq (lowercase (https_authority self.now)) (lowercase (https_authority other.now)) }
     {
-        self.authority_bytes()
-            .eq_ignore_ascii_case(other.authority_bytes())
+        self.authority().eq_ignore_ascii_case(other.authority())
     }
 
     /// Whether these octets are the text but for the case of its scheme and its authority. For octets that are read as
     /// a URI this is equality with that URI.
     pub fn eq_bytes(&self, other: &[u8]) -> bool
         ensures text { result ≡ eq_https_bytes self.now other.now }
-        ensures uri { https_refusal other.now ≡ None → result ≡ same_https (https_uri_of self.now) (https_uri_of other.now) }
+        ensures uri { https_refusal other.now ≡ None
+            → result ≡ same_https (https_uri_of self.now) (https_uri_of other.now) }
     {
         same_but_case(self.bytes.as_slice(), self.path_start, other)
     }
@@ -321,7 +306,7 @@ impl PartialEq for Https {
     ghost laws = { https_per };
 
     fn eq(&self, other: &Https) -> bool {
-        self.eq_authority(other) && self.path_bytes() == other.path_bytes()
+        self.eq_authority(other) && self.path() == other.path()
     }
 }
 
@@ -336,7 +321,7 @@ impl Hash for Https {
 
     fn hash<H: Hasher>(&self, state: &mut H) {
         hash_in_lower_case(self.site(), state);
-        self.path_bytes().hash(state);
+        self.path().as_bytes().hash(state);
     }
 }
 
@@ -346,22 +331,4 @@ impl fmt::Display for Https {
     fn fmt<W: fmt::Write>(&self, f: &mut fmt::Formatter<W>) -> fmt::Result {
         f.write_str(self.as_str())
     }
-}
-
-/// Tests a text, and finds where its path begins.
-fn check_https(text: &[u8]) -> Result<usize, Error>
-    ensures ok { OnOk result (https_refusal text.now ≡ None) }
-    ensures cut { IfOk result (λ n. IsHttpsCut text.now n) }
-    ensures err { IfErr result (λ e. https_refusal text.now ≡ Some e) }
-{
-    check_uri_ascii(text)?;
-    if !starts_with_ignore_case(text, b"https://") {
-        return Err(Error::BadScheme);
-    }
-    let (_, rest) = text.split_at(SCHEME_LEN);
-    let authority = slash_at(rest);
-    if authority >= AUTHORITY_LIMIT {
-        return Err(Error::BadUri);
-    }
-    Ok(SCHEME_LEN + authority)
 }

@@ -37,7 +37,7 @@ fn check_piece(piece: &[u8]) -> Result<(), Error>
 }
 
 /// The first segment of a path, and the path after it.
-#[tactic(auto, using(crate::proofs::SegmentLemmas::segment_steps))]
+#[tactic(auto, using(crate::proofs::SegmentLaws::segment_steps))]
 fn first_segment(path: &[u8]) -> Option<(&[u8], &[u8])>
     ensures { MatchOption result (segments path.now ≡ [])
         (λ p. segments path.now ≡ p.0.now ∷ segments p.1.now) }

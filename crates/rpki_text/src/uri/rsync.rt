@@ -8,23 +8,21 @@ ghost use Rattle.std.specs.Ordering.{on};
 ghost use Rattle.rpki_text.specs.SameUriLaws.{same_uri-hashed, texts_equiv, texts_per};
 ghost use Rattle.rpki_text.specs.Segments.{is_slash, is_dir, with_slash};
 ghost use Rattle.rpki_text.specs.UriText.{lowercase, is_uri_byte};
+ghost use Rattle.rpki_text.specs.Views.{rsync_text};
 ghost use Rattle.rpki_text.specs.RsyncText.{rsync_refusal, has_module, RsyncUri, IsRsyncUri, uri_of, Spells, relative, is_parent, is_identical, IsWayBack, IsParentText, IsRsync, parent_uri, parent_of, joined, joined_uri, join_refusal, same_uri, hashed, IsCut, authority_of, module_name_of, module_of, canonical_module_of, path_of, eq_rsync_bytes};
 
 use super::characters::{
-    check_uri_ascii, has_no_capital, hash_in_lower_case, in_lower_case, same_but_case, slash_at,
-    starts_with_ignore_case, uri_text,
+    has_no_capital, hash_in_lower_case, in_lower_case, same_but_case, uri_text,
 };
 use super::error::Error;
-use super::path::{LEN_LIMIT, check_path, joined_bytes, parent_len, path_below};
+use super::path::{joined_bytes, parent_len};
+use super::rsync_view::{Places, RsyncView, check_rsync};
 use bytes::Bytes;
 use std::alloc::{AllocError, Global};
 use std::borrow::CowStr;
 use std::fmt;
 use std::hash::{Hash, Hasher};
 use std::marker::Model;
-
-/// The length of the scheme and the slashes after it.
-const SCHEME_LEN: usize = 8;
 
 /// An rsync URI: an authority, a module and a path (RFC 5781 section 2).
 ///
@@ -34,13 +32,6 @@ const SCHEME_LEN: usize = 8;
 pub struct Rsync {
     bytes: Bytes,
     places: Places,
-}
-
-/// Where the name of the module and the path begin in the text.
-#[derive(Clone, Copy, Debug)]
-struct Places {
-    module_start: usize,
-    path_start: usize,
 }
 
 impl Model for Rsync {
@@ -153,6 +144,13 @@ impl Rsync {
         uri_text(self.as_slice())
     }
 
+    /// This URI over the octets of its text, as it is read by `RsyncView::from_slice`.
+    pub fn view(&self) -> RsyncView<'_>
+        ensures { rsync_text result ≡ self.now }
+    {
+        RsyncView::at(self.bytes.as_slice(), self.places)
+    }
+
     /// The text as it was spelled, in the memory that this URI shares.
     ///
     /// Returns `AllocError` if allocation fails.
@@ -167,7 +165,7 @@ impl Rsync {
     pub fn authority(&self) -> &str
         ensures { result.now ≡ authority_of self.now }
     {
-        uri_text(self.authority_bytes())
+        self.view().authority()
     }
 
     /// The authority in lower case.
@@ -184,14 +182,14 @@ impl Rsync {
     pub fn module_name(&self) -> &str
         ensures { result.now ≡ module_name_of self.now }
     {
-        uri_text(self.module_name_bytes())
+        self.view().module_name()
     }
 
     /// Everything up to the path as it was spelled: the scheme, the authority and the module, with the slash after it.
     pub fn module(&self) -> &str
         ensures { result.now ≡ module_of self.now }
     {
-        uri_text(self.module_bytes())
+        self.view().module()
     }
 
     /// Everything up to the path, with the scheme and the authority in lower case.
@@ -216,25 +214,21 @@ impl Rsync {
     pub fn path(&self) -> &str
         ensures { result.now ≡ path_of self.now }
     {
-        uri_text(self.path_part())
+        self.view().path()
     }
 
     /// The path in octets.
     pub fn path_bytes(&self) -> &[u8]
         ensures { result.now ≡ path_of self.now }
     {
-        self.path_part()
+        self.view().path().as_bytes()
     }
 
     /// Whether the path is empty or ends with a slash.
     pub fn path_is_dir(&self) -> bool
         ensures { result ≡ is_dir (path_of self.now) }
     {
-        let path = self.path_bytes();
-        match path.last() {
-            None => true,
-            Some(last) => *last == b'/',
-        }
+        self.view().path_is_dir()
     }
 
     /// Whether the path, in octets, ends with `end`.
@@ -260,51 +254,6 @@ impl Rsync {
     {
         let (_, rest) = self.bytes.as_slice().split_at(self.places.module_start);
         rest
-    }
-
-    fn authority_bytes(&self) -> &[u8]
-        ensures text { result.now ≡ authority_of self.now }
-        ensures characters { list_all is_uri_byte result.now ≡ true }
-    {
-        let (_, rest) = self.bytes.as_slice().split_at(SCHEME_LEN);
-        let (authority, _) = rest.split_at(self.places.module_start - (SCHEME_LEN + 1));
-        authority
-    }
-
-    fn module_name_bytes(&self) -> &[u8]
-        ensures text { result.now ≡ module_name_of self.now }
-        ensures characters { list_all is_uri_byte result.now ≡ true }
-    {
-        let places = self.places;
-        let (_, rest) = self.bytes.as_slice().split_at(places.module_start);
-        let (name, _) = rest.split_at(places.path_start - places.module_start - 1);
-        name
-    }
-
-    fn module_bytes(&self) -> &[u8]
-        ensures text { result.now ≡ module_of self.now }
-        ensures characters { list_all is_uri_byte result.now ≡ true }
-    {
-        let (front, _) = self.bytes.as_slice().split_at(self.places.path_start);
-        front
-    }
-
-    /// The path in octets, and what holds of the whole text.
-    fn path_part(&self) -> &[u8]
-        ensures path { result.now ≡ path_of self.now }
-        ensures form { IsRsync self.now }
-    {
-        let (_, path) = self.bytes.as_slice().split_at(self.places.path_start);
-        path
-    }
-
-    fn has_module_of(&self, other: &Rsync) -> bool
-        ensures { result ≡ (bytes_eq (lowercase (authority_of self.now)) (lowercase (authority_of other.now))
-            && bytes_eq (module_name_of self.now) (module_name_of other.now)) }
-    {
-        self.authority_bytes()
-            .eq_ignore_ascii_case(other.authority_bytes())
-            && self.module_name_bytes() == other.module_name_bytes()
     }
 }
 
@@ -379,8 +328,7 @@ impl Rsync {
         ensures back { IfSome result (λ p. 0 < length p.now → IsWayBack self.now other.now p.now) }
         ensures same { IfSome result (λ p. p.now ≡ [] → is_identical (uri_of self.now) (uri_of other.now) ≡ true) }
     {
-        let path = self.path_from(other)?;
-        Some(uri_text(path))
+        self.view().relative_to(&other.view())
     }
 
     /// Whether `other` lies below this URI: the same authority and module, and this one's segments are a proper prefix
@@ -392,7 +340,7 @@ impl Rsync {
         ensures transitive { (w : RsyncUri) → is_parent (uri_of self.now) (uri_of other.now) ≡ true
             → is_parent (uri_of other.now) w ≡ true → is_parent (uri_of self.now) w ≡ true }
     {
-        match other.path_from(self) {
+        match other.view().path_from(&self.view()) {
             Some(path) => !path.is_empty(),
             None => false,
         }
@@ -402,22 +350,10 @@ impl Rsync {
     pub fn is_identical_to(&self, other: &Rsync) -> bool
         ensures { result ≡ is_identical (uri_of self.now) (uri_of other.now) }
     {
-        match self.path_from(other) {
+        match self.view().path_from(&other.view()) {
             Some(path) => path.is_empty(),
             None => false,
         }
-    }
-
-    /// The path from the base to this URI in octets, which is empty if the segments are the same.
-    fn path_from(&self, base: &Rsync) -> Option<&[u8]>
-        ensures path { option_copied result ≡ relative (uri_of self.now) (uri_of base.now) }
-        ensures characters { IfSome result (λ p. list_all is_uri_byte p.now ≡ true) }
-        ensures forms { IfSome result (λ _. IsRsync self.now × IsRsync base.now) }
-    {
-        if !self.has_module_of(base) {
-            return None;
-        }
-        path_below(self.path_part(), base.path_part())
     }
 
     /// The text with a slash last, where the path has none.
@@ -428,37 +364,15 @@ impl Rsync {
         joined_bytes(alloc, self.bytes.as_slice(), true, b"")
     }
 
-    /// The length of the text with the path joined, which is at most the sum of the parts' lengths and one slash.
-    fn joined_len(&self, path: &[u8]) -> usize
-        requires { 0 < length path.now }
-        ensures value { result ≡ length (joined self.now path.now) }
-        ensures bound { length self.now + length path.now + 1 < 2 ^ 64 }
-    {
-        self.as_slice().len() + usize::from(!self.path_is_dir()) + path.len()
-    }
-
-    fn check_join(&self, path: &[u8]) -> Result<(), Error>
-        requires { 0 < length path.now }
-        ensures ok { OnOk result (join_refusal self.now path.now ≡ None) }
-        ensures err { IfErr result (λ e. join_refusal self.now path.now ≡ Some e) }
-    {
-        check_uri_ascii(path)?;
-        check_path(path)?;
-        if self.joined_len(path) >= LEN_LIMIT {
-            return Err(Error::LongUri);
-        }
-        Ok(())
-    }
-
     fn joined_text(&self, alloc: Global, path: &[u8]) -> Result<Bytes, Error>
         ensures text { IfOk result (λ b. b ≡ joined self.now path.now) }
         ensures ok { OnOk result (join_refusal self.now path.now ≡ None) }
         ensures err { IfErr result (λ e. e ≡ unwrap_or (join_refusal self.now path.now) Error.OutOfMemory) }
     {
+        self.view().joined_len(path)?;
         if path.is_empty() {
             return Ok(self.bytes.clone()?);
         }
-        self.check_join(path)?;
         Ok(joined_bytes(alloc, self.bytes.as_slice(), !self.path_is_dir(), path)?)
     }
 }
@@ -481,7 +395,7 @@ impl PartialEq for Rsync {
     ghost laws = { texts_per };
 
     fn eq(&self, other: &Rsync) -> bool {
-        self.has_module_of(other) && self.path_bytes() == other.path_bytes()
+        self.view().has_module_of(&other.view()) && self.path_bytes() == other.path_bytes()
     }
 }
 
@@ -505,53 +419,5 @@ impl fmt::Display for Rsync {
 
     fn fmt<W: fmt::Write>(&self, f: &mut fmt::Formatter<W>) -> fmt::Result {
         f.write_str(self.as_str())
-    }
-}
-
-/// Where the module name and the path begin.
-#[tactic(auto, using(crate::proofs::UriLemmas::places))]
-fn module_and_path(text: &[u8]) -> Option<Places>
-    requires { 8 ≤ length text.now }
-    ensures full { has_module text.now ≡ is_some result }
-    ensures starts { IfSome result (λ p. (p.module_start ≡ 9 + position_or_len is_slash (drop 8 text.now))
-        × (p.path_start ≡ p.module_start + position_or_len is_slash (drop p.module_start text.now) + 1)) }
-{
-    let (_, rest) = text.split_at(SCHEME_LEN);
-    let authority = slash_at(rest);
-    if authority == 0 {
-        return None;
-    }
-    if authority == rest.len() {
-        return None;
-    }
-    let (_, tail) = rest.split_at(authority + 1);
-    let module = slash_at(tail);
-    if module == 0 {
-        return None;
-    }
-    if module == tail.len() {
-        return None;
-    }
-    Some(Places {
-        module_start: SCHEME_LEN + authority + 1,
-        path_start: SCHEME_LEN + authority + module + 2,
-    })
-}
-
-/// Tests a text, and finds where its module name and its path begin.
-#[tactic(auto, using(crate::proofs::UriLemmas::refusals))]
-fn check_rsync(text: &[u8]) -> Result<Places, Error>
-    ensures ok { OnOk result (rsync_refusal text.now ≡ None) }
-    ensures cut { IfOk result (λ p. IsCut text.now p.module_start p.path_start) }
-    ensures err { IfErr result (λ e. rsync_refusal text.now ≡ Some e) }
-{
-    check_uri_ascii(text)?;
-    if !starts_with_ignore_case(text, b"rsync://") {
-        return Err(Error::BadScheme);
-    }
-    check_path(&text[SCHEME_LEN..])?;
-    match module_and_path(text) {
-        Some(places) => Ok(places),
-        None => Err(Error::BadUri),
     }
 }

@@ -163,7 +163,8 @@ impl Slurm {
     /// `DecodeSliceError::OutputSliceTooSmall` if there is no room. What `output` then holds is unspecified.
     pub fn decode_slice(self, text: &str, output: &mut [u8]) -> Result<usize, DecodeSliceError>
         ensures value { result ≡ decode_slice_of url_safe_no_pad_indifferent text.now (length output.old) }
-        ensures written { OnOk result (IsWrittenOver (decoded_bytes_of url_safe_no_pad_indifferent text.now) output.old output.new) }
+        ensures written { OnOk result (IsWrittenOver
+            (decoded_bytes_of url_safe_no_pad_indifferent text.now) output.old output.new) }
     {
         URL_SAFE_NO_PAD_INDIFFERENT.decode_slice(text.as_bytes(), output)
     }
@@ -182,7 +183,8 @@ impl Slurm {
     /// The first error of the target, of any kind, ends the call and is returned; how much has been written by then is
     /// unspecified.
     pub fn write_encoded_slice<W: io::Write>(self, bytes: &[u8], target: &mut W) -> io::Result<()>
-        ensures { OnOk result (Appends (W.contents target.old) (W.contents target.new) (encode_of url_safe_no_pad_indifferent bytes.now)) }
+        ensures { OnOk result (Appends (W.contents target.old) (W.contents target.new)
+            (encode_of url_safe_no_pad_indifferent bytes.now)) }
     {
         // A chunk of a multiple of three octets needs no padding.
         let mut text = [0u8; 1024];

@@ -35,7 +35,8 @@ fn digit(n: u8) -> u8
 /// Writes the digits to the front of `dest`, leaves the rest of it as it is, and returns `dest`.
 fn written<'a>(src: &[u8], dest: &'a mut [u8]) -> &'a mut [u8]
     requires { 2 * length src.now ≤ length dest.old }
-    ensures { (result.ghost_name ≡ dest.entry.ghost_name) × (result.now ≡ hex_text src.now ++ drop (2 * length src.now) dest.old) }
+    ensures { (result.ghost_name ≡ dest.entry.ghost_name)
+        × (result.now ≡ hex_text src.now ++ drop (2 * length src.now) dest.old) }
 {
     for i in 0..src.len() {
         let digits = encode_u8(src[i]);

@@ -1,6 +1,8 @@
 //! Runs over readers and writers that fail, and over a reader that comes to its end late or never.
 
-use super::{ABC_KEY, FALSE_LEFT_OUT, FALSE_SPELLED, FAULTS, FIRST, Seen, USAGE_LINE, owned};
+use super::{
+    ABC_KEY, FALSE_LEFT_OUT, FALSE_SPELLED, FAULTS, FIRST, ROUTER_NAME, Seen, USAGE_LINE, owned,
+};
 use crate::fault::refuse;
 use crate::runs::run;
 use std::alloc::{AllocError, Global};
@@ -199,7 +201,7 @@ impl Failure {
 }
 
 /// Words, an input and the output: one row for each word, and one without words.
-const ANSWERED: [(&[&str], &[u8], &[u8]); 6] = [
+const ANSWERED: [(&[&str], &[u8], &[u8]); 7] = [
     (&["again"], FIRST, FIRST),
     (&["data"], FIRST, &[0x30, 0x00]),
     (
@@ -213,6 +215,7 @@ const ANSWERED: [(&[&str], &[u8], &[u8]); 6] = [
         b"scheme rsync\nauthority host\nmodule module\npath foo/bar\n",
     ),
     (&["ext"], FALSE_SPELLED, FALSE_LEFT_OUT),
+    (&["name"], ROUTER_NAME, b"rpki no\nrouter yes\n"),
     (&[], b"", USAGE_LINE),
 ];
 
@@ -299,10 +302,11 @@ fn failed_outputs(rt: HostRuntime) -> Result<(), Fail> {
 }
 
 /// Words, an input that is read or that fails at once, how the output fails, the status and the line of the fault.
-const REFUSED: [(&[&str], &[u8], Failure, Failure, u8, &[u8]); 6] = [
+const REFUSED: [(&[&str], &[u8], Failure, Failure, u8, &[u8]); 7] = [
     (&["x"], b"", NEVER, NEVER, 2, USAGE_LINE),
     (&["again"], b"", NEVER, NEVER, 1, b"refused 1\n"),
     (&["key"], &[0x31, 0x00], NEVER, NEVER, 1, b"refused 4\n"),
+    (&["name"], &[0x30, 0x00], NEVER, NEVER, 1, b"refused 5\n"),
     (
         &["uri"],
         b"rsync:///module/foo",

@@ -8,9 +8,9 @@ ghost use Rattle.rpki_der.specs.Composed.{ReadsAll};
 ghost use Rattle.rpki_der.specs.Values.{IsOuterFault};
 ghost use Rattle.rpki.specs.declared.crypto.keys.PublicKeyFormat.{PublicKeyFormat};
 ghost use Rattle.rpki.specs.KeyFormat.{IsFormatContents, SpellsFormat, IsFormatName, format_octets};
-ghost use Rattle.rpki.specs.Unknown.{BeginsUnknown, NamesUnknown, IsRefusedWith};
+ghost use Rattle.rpki.specs.UnknownAlgorithm.{BeginsUnknown, NamesUnknown, IsRefusedWith};
 
-use crate::crypto::parameters::{is_named, take_parameters};
+use crate::crypto::algorithm_identifier::{is_named, take_null_or_nothing};
 use crate::crypto::{PublicKeyFormat, RpkiSignatureAlgorithm};
 use crate::oid;
 use rpki_der::{
@@ -47,17 +47,21 @@ impl PublicKeyFormat {
     /// The errors are those of a SEQUENCE; then `Content` with the text `invalid public key format` for another object
     /// identifier; then that of the part that is malformed, and `Trailing` for octets that follow the parts.
     pub fn take_from(cons: &mut Constructed<'_>) -> Result<PublicKeyFormat, DecodeError>
-        ensures reads { Reads (λ f. f) SpellsFormat (IsOuterFault sequence true) (left cons.old) (left cons.new) result }
-        ensures unknown { NamesUnknown IsFormatName (left cons.old) → IsRefusedWith (codes "invalid public key format") result }
+        ensures reads { Reads (λ f. f) SpellsFormat (IsOuterFault sequence true) (left cons.old)
+            (left cons.new) result }
+        ensures unknown { NamesUnknown IsFormatName (left cons.old)
+            → IsRefusedWith (codes "invalid public key format") result }
     {
         cons.in_sequence(
             |contents|
-                ensures reads { ReadsAll (λ f. f) IsFormatContents (TakesNoMemory AnyFault) (left contents.old) (left contents.new) result }
-                ensures unknown { BeginsUnknown IsFormatName (left contents.old) → IsRefusedWith (codes "invalid public key format") result }
+                ensures reads { ReadsAll (λ f. f) IsFormatContents (TakesNoMemory AnyFault) (left contents.old)
+                    (left contents.new) result }
+                ensures unknown { BeginsUnknown IsFormatName (left contents.old)
+                    → IsRefusedWith (codes "invalid public key format") result }
             {
                 let identifier = contents.take_oid()?;
                 if is_named(&identifier, oid::RSA_ENCRYPTION) {
-                    take_parameters(contents)?;
+                    take_null_or_nothing(contents)?;
                     Ok(PublicKeyFormat::Rsa)
                 } else if is_named(&identifier, oid::EC_PUBLIC_KEY) {
                     contents.skip_oid_if(oid::SECP256R1)?;
@@ -73,8 +77,10 @@ impl PublicKeyFormat {
 
     /// An encoder for the algorithm identifier, with a NULL for RSA.
     pub fn encode(self) -> PublicKeyFormatEncoder
-        ensures octets { ⟦<Sequence<(Primitive<ConstOid>, Option<Primitive<()>>, Option<Primitive<ConstOid>>)> as Values>⟧.encoded result ≡ format_octets self }
-        ensures short { ⟦<Sequence<(Primitive<ConstOid>, Option<Primitive<()>>, Option<Primitive<ConstOid>>)> as Values>⟧.is_short result }
+        ensures octets { ⟦<Sequence<(Primitive<ConstOid>, Option<Primitive<()>>, Option<Primitive<ConstOid>>)> as
+            Values>⟧.encoded result ≡ format_octets self }
+        ensures short { ⟦<Sequence<(Primitive<ConstOid>, Option<Primitive<()>>, Option<Primitive<ConstOid>>)> as
+            Values>⟧.is_short result }
         // What is written is read as the format.
         ensures read_back { SpellsFormat self (format_octets self) }
         // Formats have the same encoding exactly where they are equal.

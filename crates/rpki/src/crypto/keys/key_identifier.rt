@@ -11,8 +11,9 @@ ghost use Rattle.rpki_der.specs.Reading.{Reads, ReadsWhere};
 ghost use Rattle.rpki_der.specs.Values.{SpellsLeaf, HasTag};
 ghost use Rattle.rpki_der.specs.declared.error.DecodeError.TheVariants.{Unexpected};
 ghost use Rattle.rpki_text.specs.HexText.{hex_digit, hex_text};
-ghost use Rattle.rpki.specs.Unknown.{IsContentWith};
-ghost use Rattle.rpki.specs.KeyIdentifier.{IsKeyIdentifier, SpellsKeyIdentifier, IsAnyKeyIdentifier, IsIdentifierFault, identifier_error};
+ghost use Rattle.rpki.specs.UnknownAlgorithm.{IsContentWith};
+ghost use Rattle.rpki.specs.AnyValue.{SpellsAny};
+ghost use Rattle.rpki.specs.KeyIdentifier.{IsKeyIdentifier, SpellsKeyIdentifier, IsIdentifierFault, identifier_error};
 
 use rpki_der::{
     Constructed, Content, ContentError, DecodeError, PrimitiveContent, Tag, write_whole,
@@ -69,7 +70,8 @@ impl KeyIdentifier {
     /// The errors are those of a header; then `Unexpected` for another tag or form; then `Truncated`; then `Content`
     /// with the text `invalid key identifier` for another number of octets.
     pub fn take_from(cons: &mut Constructed<'_>) -> Result<KeyIdentifier, DecodeError>
-        ensures { Reads (λ k. k) SpellsKeyIdentifier (IsIdentifierFault IsKeyIdentifier) (left cons.old) (left cons.new) result }
+        ensures { Reads (λ k. k) SpellsKeyIdentifier (IsIdentifierFault IsKeyIdentifier) (left cons.old)
+            (left cons.new) result }
     {
         let mut after = *cons;
         let octets = after.take_octets()?;
@@ -85,7 +87,8 @@ impl KeyIdentifier {
     /// As [KeyIdentifier::take_from] where what is left begins with the identifier octets of an OCTET STRING, in either
     /// form; else None, and the cursor stays where it is.
     pub fn take_opt_from(cons: &mut Constructed<'_>) -> Result<Option<KeyIdentifier>, DecodeError>
-        ensures { ReadsWhere (HasTag octet_string) (λ k. k) SpellsKeyIdentifier (IsIdentifierFault IsKeyIdentifier) (left cons.old) (left cons.new) result }
+        ensures { ReadsWhere (HasTag octet_string) (λ k. k) SpellsKeyIdentifier (IsIdentifierFault IsKeyIdentifier)
+            (left cons.old) (left cons.new) result }
     {
         if !cons.has_tag(Tag::OCTET_STRING) {
             return Ok(None);
@@ -98,7 +101,9 @@ impl KeyIdentifier {
 
     /// Moves past a key identifier where [KeyIdentifier::take_opt_from] reads one; else None. The errors are the same.
     pub fn skip_opt_in(cons: &mut Constructed<'_>) -> Result<Option<()>, DecodeError>
-        ensures { ReadsWhere (HasTag octet_string) (λ _. tt) (SpellsLeaf octet_string false IsAnyKeyIdentifier) (IsIdentifierFault IsAnyKeyIdentifier) (left cons.old) (left cons.new) result }
+        ensures { ReadsWhere (HasTag octet_string) (λ _. tt)
+            (SpellsLeaf octet_string false (SpellsAny IsKeyIdentifier))
+            (IsIdentifierFault (SpellsAny IsKeyIdentifier)) (left cons.old) (left cons.new) result }
     {
         match KeyIdentifier::take_opt_from(cons) {
             Ok(None) => Ok(None),
@@ -112,9 +117,11 @@ impl KeyIdentifier {
     /// Returns `Unexpected` for values as contents; `Content` with the text `invalid key identifier` if there are not
     /// twenty octets.
     pub fn from_content(content: &Content<'_>) -> Result<KeyIdentifier, DecodeError>
-        ensures value { IfOk result (λ k. (is_constructed content.now ≡ false) × IsKeyIdentifier k (octets_of content.now)) }
+        ensures value { IfOk result (λ k. (is_constructed content.now ≡ false)
+            × IsKeyIdentifier k (octets_of content.now)) }
         ensures form { is_constructed content.now ≡ true → MatchResult result (λ _. ⊥) (λ e. e ≡ Unexpected) }
-        ensures size { is_constructed content.now ≡ false → IfErr result (λ e. (length (octets_of content.now) ≢ 20) × IsContentWith identifier_error e) }
+        ensures size { is_constructed content.now ≡ false
+            → IfErr result (λ e. (length (octets_of content.now) ≢ 20) × IsContentWith identifier_error e) }
     {
         match content {
             Content::Primitive(octets) => key_identifier_of(octets),
@@ -125,7 +132,8 @@ impl KeyIdentifier {
 
 /// The key identifier of twenty octets.
 fn key_identifier_of(octets: &[u8]) -> Result<KeyIdentifier, DecodeError>
-    ensures { MatchResult result (λ k. IsKeyIdentifier k octets.now) (λ e. (length octets.now ≢ 20) × IsContentWith identifier_error e) }
+    ensures { MatchResult result (λ k. IsKeyIdentifier k octets.now)
+        (λ e. (length octets.now ≢ 20) × IsContentWith identifier_error e) }
 {
     match KeyIdentifier::try_from(octets) {
         Ok(identifier) => Ok(identifier),
@@ -158,9 +166,11 @@ impl TryFrom<&[u8]> for KeyIdentifier {
     type Error = KeyIdentifierSliceError;
 
     ghost use Rattle.std.specs.Prelude.{◌≢◌, MatchResult, length};
+    ghost use Rattle.rpki.specs.AnyValue.{SpellsAny};
     ghost use Rattle.rpki.specs.KeyIdentifier.{IsKeyIdentifier};
 
-    ghost try_from_gives = { λ octets r. MatchResult r (λ k. IsKeyIdentifier k octets.now) (λ _. length octets.now ≢ 20) };
+    ghost try_from_gives = { λ octets r. MatchResult r (λ k. IsKeyIdentifier k octets.now)
+        (λ _. length octets.now ≢ 20) };
 
     fn try_from(octets: &[u8]) -> Result<KeyIdentifier, KeyIdentifierSliceError> {
         match <[u8; 20]>::try_from(octets) {
@@ -175,6 +185,7 @@ impl FromStr for KeyIdentifier {
     type Err = ParseKeyIdentifierError;
 
     ghost use Rattle.std.specs.Prelude.{ℕ, List, MatchResult};
+    ghost use Rattle.rpki.specs.AnyValue.{SpellsAny};
     ghost use Rattle.rpki.specs.KeyIdentifier.{IsHexOf};
 
     ghost from_str_gives = { λ text r. MatchResult r (λ k. IsHexOf k text) (λ _. (k : List ℕ) → IsHexOf k text → ⊥) };
@@ -199,7 +210,8 @@ impl FromStr for KeyIdentifier {
 fn octet_of(high: u8, low: u8) -> Option<u8>
     ensures octet { IfSome result (λ b. b < 256) }
     ensures some { IfSome result (λ b. hex_text (b ∷ []) ≡ to_ascii_uppercase high ∷ to_ascii_uppercase low ∷ []) }
-    ensures none { IfNone result ((b : ℕ) → b < 256 → hex_text (b ∷ []) ≡ to_ascii_uppercase high ∷ to_ascii_uppercase low ∷ [] → ⊥) }
+    ensures none { IfNone result ((b : ℕ) → b < 256
+        → hex_text (b ∷ []) ≡ to_ascii_uppercase high ∷ to_ascii_uppercase low ∷ [] → ⊥) }
 {
     match (number_of_digit(high), number_of_digit(low)) {
         (Some(high), Some(low)) => Some(16 * high + low),
@@ -259,7 +271,7 @@ impl PrimitiveContent for KeyIdentifier {
         self.as_slice().len() as u64
     }
 
-    #[tactic(auto, using(rpki_der::proofs::Writing::writes_of_cut))]
+    #[tactic(auto, using(rpki_der::proofs::WritingLaws::writes_of_cut))]
     fn write_encoded<W: Write>(&self, out: &mut W) -> Result<(), io::Error> {
         write_whole(out, self.as_slice())
     }

@@ -116,7 +116,8 @@ impl PublicKey {
     /// The errors are those of [PublicKey::take_from]; then `Trailing` if something follows the key.
     pub fn decode(bytes: Bytes) -> Result<PublicKey, DecodeError>
         ensures { Decodes (λ k. k) SpellsKey
-            (IsWholeFault SpellsKey (OrMemoryWhere (HasInside sequence (Finds IsKeyContents)) (GivesOuterFault sequence true))) bytes result }
+            (IsWholeFault SpellsKey (OrMemoryWhere (HasInside sequence (Finds IsKeyContents))
+            (GivesOuterFault sequence true))) bytes result }
     {
         let mut cons = Constructed::new(&bytes);
         let key = PublicKey::take_from(&mut cons)?;
@@ -130,12 +131,14 @@ impl PublicKey {
     /// The errors are those of a SEQUENCE; then those of the parts, `Trailing` for octets that follow them, and
     /// `OutOfMemory` if allocation fails, only where both parts are there.
     pub fn take_from(cons: &mut Constructed<'_>) -> Result<PublicKey, DecodeError>
-        ensures { Reads (λ k. k) SpellsKey (OrMemoryWhere (HasInside sequence (Finds IsKeyContents)) (GivesOuterFault sequence true))
+        ensures { Reads (λ k. k) SpellsKey (OrMemoryWhere (HasInside sequence (Finds IsKeyContents))
+            (GivesOuterFault sequence true))
             (left cons.old) (left cons.new) result }
     {
         cons.in_sequence(
             |contents|
-                ensures { ReadsAll (λ k. k) IsKeyContents (OrMemoryWhere (Finds IsKeyContents) AnyFault) (left contents.old) (left contents.new) result }
+                ensures { ReadsAll (λ k. k) IsKeyContents (OrMemoryWhere (Finds IsKeyContents) AnyFault)
+                    (left contents.old) (left contents.new) result }
             {
                 let algorithm = PublicKeyFormat::take_from(contents)?;
                 let bits = contents.take_bit_string()?;
@@ -146,9 +149,12 @@ impl PublicKey {
 
     /// An encoder for the key (SubjectPublicKeyInfo, RFC 5280 4.1), which it owns.
     pub fn encode(self) -> Sequence<(PublicKeyFormatEncoder, Primitive<BitString>)>
-        ensures octets { ⟦<Sequence<(Sequence<(Primitive<ConstOid>, Option<Primitive<()>>, Option<Primitive<ConstOid>>)>, Primitive<BitString>)> as Values>⟧.encoded result ≡ key_octets self }
+        ensures octets { ⟦<Sequence<(Sequence<(Primitive<ConstOid>, Option<Primitive<()>>,
+            Option<Primitive<ConstOid>>)>, Primitive<BitString>)> as Values>⟧.encoded result ≡ key_octets self }
         // It fits exactly where its contents have fewer than 2^32 octets.
-        ensures short { ⟦<Sequence<(Sequence<(Primitive<ConstOid>, Option<Primitive<()>>, Option<Primitive<ConstOid>>)>, Primitive<BitString>)> as Values>⟧.is_short result ↔ (length (key_contents self) < 2 ^ 32) }
+        ensures short { ⟦<Sequence<(Sequence<(Primitive<ConstOid>, Option<Primitive<()>>,
+            Option<Primitive<ConstOid>>)>, Primitive<BitString>)> as Values>⟧.is_short result
+            ↔ (length (key_contents self) < 2 ^ 32) }
     {
         let PublicKey { algorithm, bits } = self;
         Sequence::new((algorithm.encode(), bits.encode()))
@@ -156,13 +162,18 @@ impl PublicKey {
 
     /// An encoder for the key (SubjectPublicKeyInfo, RFC 5280 4.1), which it borrows.
     pub fn encode_ref(&self) -> Sequence<(PublicKeyFormatEncoder, Primitive<&BitString>)>
-        ensures octets { ⟦<Sequence<(Sequence<(Primitive<ConstOid>, Option<Primitive<()>>, Option<Primitive<ConstOid>>)>, Primitive<&'static BitString>)> as Values>⟧.encoded result ≡ key_octets self.now }
+        ensures octets { ⟦<Sequence<(Sequence<(Primitive<ConstOid>, Option<Primitive<()>>,
+            Option<Primitive<ConstOid>>)>, Primitive<&'static BitString>)> as Values>⟧.encoded result
+            ≡ key_octets self.now }
         // It fits exactly where its contents have fewer than 2^32 octets.
-        ensures short { ⟦<Sequence<(Sequence<(Primitive<ConstOid>, Option<Primitive<()>>, Option<Primitive<ConstOid>>)>, Primitive<&'static BitString>)> as Values>⟧.is_short result ↔ (length (key_contents self.now) < 2 ^ 32) }
+        ensures short { ⟦<Sequence<(Sequence<(Primitive<ConstOid>, Option<Primitive<()>>,
+            Option<Primitive<ConstOid>>)>, Primitive<&'static BitString>)> as Values>⟧.is_short result
+            ↔ (length (key_contents self.now) < 2 ^ 32) }
         // What is written is read as the key.
         ensures read_back { length (key_contents self.now) < 2 ^ 32 → SpellsKey self.now (key_octets self.now) }
         // Keys have the same encoding exactly where they are equal.
-        ensures same { (other : KeyParts) → length (key_contents self.now) < 2 ^ 32 → length (key_contents other) < 2 ^ 32 → (key_octets self.now ≡ key_octets other) ↔ (self.now ≡ other) }
+        ensures same { (other : KeyParts) → length (key_contents self.now) < 2 ^ 32
+            → length (key_contents other) < 2 ^ 32 → (key_octets self.now ≡ key_octets other) ↔ (self.now ≡ other) }
     {
         Sequence::new((self.algorithm.encode(), self.bits.encode_ref()))
     }

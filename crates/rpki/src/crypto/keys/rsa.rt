@@ -8,7 +8,8 @@ ghost use Rattle.rpki_der.specs.Composed.{ReadsAll};
 ghost use Rattle.rpki_der.specs.Values.{GivesOuterFault, IsOuterFault};
 ghost use Rattle.rpki_der.specs.Number.{number_of};
 ghost use Rattle.rpki.specs.declared.crypto.keys.PublicKeyFormat.TheVariants.{Rsa};
-ghost use Rattle.rpki.specs.PublicKey.{SpellsRsaNumbers, SpellsRsaBits, AreTwoNumbers, IsRsaKey};
+ghost use Rattle.rpki.specs.AnyValue.{SpellsAny};
+ghost use Rattle.rpki.specs.PublicKey.{SpellsRsaNumbers, SpellsRsaBits, AreRsaNumbers, IsRsaKey};
 
 use super::PublicKey;
 use bytes::Bytes;
@@ -30,7 +31,8 @@ impl PublicKey {
         requires { length modulus.now + length exponent.now ≤ 2 ^ 31 }
         ensures format { IfOk result (λ k. (k.format ≡ Rsa) × (k.bits.unused ≡ 0)) }
         // Its bits are the SEQUENCE of the two numbers.
-        ensures bits { IfOk result (λ k. SpellsRsaNumbers (number_of modulus.now) (number_of exponent.now) k.bits.octets) }
+        ensures bits { IfOk result (λ k. SpellsRsaNumbers
+            (number_of modulus.now, number_of exponent.now) k.bits.octets) }
         // They are the bits of an equal key.
         ensures again { IfOk result (λ k. IsRsaKey k k.bits.octets) }
         ensures empty { IsErrOf result InvalidInteger.Empty ↔ ((modulus.now ≡ []) ⊎ (exponent.now ≡ [])) }
@@ -49,7 +51,8 @@ impl PublicKey {
     /// The errors are those of a SEQUENCE; then those of the INTEGERs, and `Trailing` for octets that follow them or
     /// the SEQUENCE.
     pub fn rsa_from_bits_bytes(bytes: Bytes) -> Result<PublicKey, DecodeError>
-        ensures { Decodes (λ k. k) IsRsaKey (TakesNoMemory (IsWholeFault IsRsaKey (GivesOuterFault sequence true))) bytes result }
+        ensures { Decodes (λ k. k) IsRsaKey (TakesNoMemory (IsWholeFault IsRsaKey (GivesOuterFault sequence true)))
+            bytes result }
     {
         check_rsa_bits(&bytes)?;
         Ok(PublicKey::of_bits(bytes))
@@ -58,7 +61,8 @@ impl PublicKey {
 
 /// Tests that all of the octets are the bits of an RSA key.
 fn check_rsa_bits(octets: &Bytes) -> Result<(), DecodeError>
-    ensures { Decodes (λ _. tt) SpellsRsaBits (TakesNoMemory (IsWholeFault SpellsRsaBits (GivesOuterFault sequence true))) octets.now result }
+    ensures { Decodes (λ _. tt) SpellsRsaBits (TakesNoMemory
+        (IsWholeFault SpellsRsaBits (GivesOuterFault sequence true))) octets.now result }
 {
     let mut cons = Constructed::new(octets);
     take_rsa_bits(&mut cons)?;
@@ -72,7 +76,8 @@ fn take_rsa_bits(cons: &mut Constructed<'_>) -> Result<(), DecodeError>
 {
     cons.in_sequence(
         |contents|
-            ensures { ReadsAll (λ _. tt) AreTwoNumbers (TakesNoMemory AnyFault) (left contents.old) (left contents.new) result }
+            ensures { ReadsAll (λ _. tt) (SpellsAny AreRsaNumbers) (TakesNoMemory AnyFault) (left contents.old)
+                (left contents.new) result }
         {
             contents.take_unsigned()?;
             contents.take_unsigned()?;

@@ -19,7 +19,8 @@ impl PublicKey {
         message: &[u8],
         signature: &Signature<Alg>,
     ) -> Result<(), SignatureVerificationError>
-        ensures { IsOk result ↔ Verifies (P.rsa_of provider.now) (P.ecdsa_of provider.now) (Alg.format signature.now.algorithm) self.now.format self.now.bits.octets message.now signature.now.value }
+        ensures { IsOk result ↔ Verifies (P.rsa_of provider.now) (P.ecdsa_of provider.now)
+            (Alg.format signature.now.algorithm) self.now.format self.now.bits.octets message.now signature.now.value }
     {
         let format = self.algorithm();
         if signature.algorithm().public_key_format() != format {

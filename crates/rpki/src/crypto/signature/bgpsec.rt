@@ -67,7 +67,8 @@ impl SignatureAlgorithm for BgpsecSignatureAlgorithm {
     /// The errors are those of a SEQUENCE; then `Content` for another identifier; then `Trailing` for parameters, also
     /// a NULL.
     fn x509_take_from(cons: &mut Constructed<'_>) -> Result<Self, DecodeError>
-        ensures { Reads (λ a. a) (SpellsBare ecdsa_with_sha256) (IsOuterFault sequence true) (left cons.old) (left cons.new) result }
+        ensures { Reads (λ a. a) (SpellsBare ecdsa_with_sha256) (IsOuterFault sequence true) (left cons.old)
+            (left cons.new) result }
     {
         cons.in_sequence(|contents| contents.skip_oid_if(oid::ECDSA_WITH_SHA256))?;
         Ok(BgpsecSignatureAlgorithm { only: () })

@@ -9,10 +9,10 @@ ghost use Rattle.rpki_der.specs.Values.{IsOuterFault};
 ghost use Rattle.rpki.specs.Oids.{rsa_encryption};
 ghost use Rattle.rpki.specs.AlgorithmOctets.{algorithm_octets};
 ghost use Rattle.rpki.specs.SignatureNames.{IsCmsName, IsCmsContents, SpellsCms};
-ghost use Rattle.rpki.specs.Unknown.{BeginsUnknown, NamesUnknown, IsRefusedWith};
+ghost use Rattle.rpki.specs.UnknownAlgorithm.{BeginsUnknown, NamesUnknown, IsRefusedWith};
 
 use super::RpkiSignatureAlgorithm;
-use crate::crypto::parameters::{is_named, take_parameters};
+use crate::crypto::algorithm_identifier::{is_named, take_null_or_nothing};
 use crate::oid;
 use rpki_der::{
     ConstOid, Constructed, ContentError, DecodeError, Oid, Primitive, PrimitiveContent, Sequence,
@@ -27,16 +27,19 @@ impl RpkiSignatureAlgorithm {
     /// object identifier; then that of the part that is malformed, and `Trailing` for other parameters.
     pub fn cms_take_from(cons: &mut Constructed<'_>) -> Result<RpkiSignatureAlgorithm, DecodeError>
         ensures reads { Reads (λ a. a) SpellsCms (IsOuterFault sequence true) (left cons.old) (left cons.new) result }
-        ensures unknown { NamesUnknown IsCmsName (left cons.old) → IsRefusedWith (codes "invalid signature algorithm") result }
+        ensures unknown { NamesUnknown IsCmsName (left cons.old)
+            → IsRefusedWith (codes "invalid signature algorithm") result }
     {
         let has_parameters = cons.in_sequence(
             |contents|
-                ensures reads { ReadsAll (λ b. b) IsCmsContents (TakesNoMemory AnyFault) (left contents.old) (left contents.new) result }
-                ensures unknown { BeginsUnknown IsCmsName (left contents.old) → IsRefusedWith (codes "invalid signature algorithm") result }
+                ensures reads { ReadsAll (λ b. b) IsCmsContents (TakesNoMemory AnyFault) (left contents.old)
+                    (left contents.new) result }
+                ensures unknown { BeginsUnknown IsCmsName (left contents.old)
+                    → IsRefusedWith (codes "invalid signature algorithm") result }
             {
                 let identifier = contents.take_oid()?;
                 if is_cms_name(&identifier) {
-                    take_parameters(contents)
+                    take_null_or_nothing(contents)
                 } else {
                     Err(DecodeError::Content(ContentError::from_static(
                         "invalid signature algorithm",
@@ -49,7 +52,8 @@ impl RpkiSignatureAlgorithm {
 
     /// An encoder for the algorithm identifier in a signed object: rsaEncryption with a NULL (RFC 7935 2).
     pub fn cms_encode(&self) -> Sequence<(Primitive<ConstOid>, Primitive<()>)>
-        ensures octets { ⟦<Sequence<(Primitive<ConstOid>, Primitive<()>)> as Values>⟧.encoded result ≡ algorithm_octets rsa_encryption true }
+        ensures octets { ⟦<Sequence<(Primitive<ConstOid>, Primitive<()>)> as Values>⟧.encoded result
+            ≡ algorithm_octets rsa_encryption true }
         ensures short { ⟦<Sequence<(Primitive<ConstOid>, Primitive<()>)> as Values>⟧.is_short result }
         // What is written is read as the algorithm with parameters.
         ensures read_back { SpellsCms true (algorithm_octets rsa_encryption true) }

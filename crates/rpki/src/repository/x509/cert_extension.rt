@@ -167,7 +167,8 @@ impl CertExtension {
 /// Two extensions are equal where their three parts are; one may spell FALSE that the other leaves out.
 impl PartialEq for CertExtension {
     ghost use Rattle.std.specs.Cmp.{partial_equiv_from_equiv};
-    ghost use Rattle.rpki.specs.ExtensionEqual.{same_extension, same_extension_equivalence};
+    ghost use Rattle.rpki.specs.ExtensionEqual.{same_extension};
+    ghost use Rattle.rpki.specs.ExtensionEqualLaws.{same_extension_equivalence};
 
     ghost eq = { same_extension };
 
@@ -181,7 +182,7 @@ impl PartialEq for CertExtension {
 }
 
 impl Eq for CertExtension {
-    ghost use Rattle.rpki.specs.ExtensionEqual.{same_extension_equivalence};
+    ghost use Rattle.rpki.specs.ExtensionEqualLaws.{same_extension_equivalence};
 
     ghost laws = { same_extension_equivalence };
 }

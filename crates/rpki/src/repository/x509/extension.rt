@@ -12,7 +12,8 @@ pub type Extension<V> = Sequence<(Primitive<ConstOid>, Option<Primitive<bool>>, 
 /// An encoder for the extension with this identifier around the content (RFC 5280 4.1). Where it is not critical the
 /// BOOLEAN is left out, since FALSE is its default (X.690 11.5).
 pub fn encode_extension<V: Values>(oid: ConstOid, critical: bool, content: V) -> Extension<V>
-    ensures octets { ⟦<Extension<V> as Values>⟧.encoded result ≡ extension_octets oid.entry.0.now critical (V.encoded content) }
+    ensures octets { ⟦<Extension<V> as Values>⟧.encoded result
+        ≡ extension_octets oid.entry.0.now critical (V.encoded content) }
     // It fits exactly where the content does and the contents have fewer than 2^32 octets.
     ensures short { ⟦<Extension<V> as Values>⟧.is_short result
         ↔ (V.is_short content × (length (extension_contents oid.entry.0.now critical (V.encoded content)) < 2 ^ 32)) }

@@ -1,6 +1,6 @@
 //! Names (RFC 5280 4.1.2.4, RFC 6487 4.4).
 
-ghost use Rattle.std.specs.Prelude.{◌≡◌, true, List, IsTrue, IfOk, IfErr};
+ghost use Rattle.std.specs.Prelude.{◌≡◌, true, List, IsTrue, IsOk, IfOk, IfErr};
 ghost use Rattle.rpki_der.specs.Cursor.{left};
 ghost use Rattle.rpki_der.specs.TagName.{sequence};
 ghost use Rattle.rpki_der.specs.Reading.{Reads, OrMemoryWhere};
@@ -9,6 +9,7 @@ ghost use Rattle.rpki_der.specs.Members.{IsValue};
 ghost use Rattle.rpki.specs.Name.{Attribute, IsName, SpellsName, SpellsNameOctets};
 ghost use Rattle.rpki.specs.NameValue.{HasNameValue};
 ghost use Rattle.rpki.specs.StrictName.{IsRpkiName, IsRouterName};
+ghost use Rattle.rpki.specs.StrictNameWithoutOrganization.{IsRpkiNameWithoutOrganization, IsRouterNameWithoutOrganization};
 
 mod grammar;
 mod inspection;
@@ -63,14 +64,17 @@ impl Name {
         Ok(Name { captured })
     }
 
-    /// Tests that the name is one of a certificate of the RPKI, unless `strict` is false: one common name and at most
-    /// one serial number, each a PrintableString, and no other attribute (RFC 6487 4.4).
+    /// Tests that the name is one of a certificate of the RPKI, unless `strict` is false: one common name, at most one
+    /// serial number and at most one organization name, each a PrintableString, and no other attribute (RFC 6487 4.4,
+    /// which names no organization).
     ///
-    /// The texts of the errors are `missing common name`, `multiple common names` and `multiple serial numbers`, and
-    /// `invalid name` for another attribute and for another string.
+    /// The texts of the errors are `missing common name`, `multiple common names`, `multiple serial numbers` and
+    /// `multiple organization names`, and `invalid name` for another attribute and for another string.
     pub fn inspect_rpki(&self, strict: bool) -> Result<(), InspectionError>
         ensures ok { IfOk result (λ _. IsTrue strict → IsRpkiName self.now) }
         ensures err { IfErr result (λ _. IsTrue strict × (IsRpkiName self.now → ⊥)) }
+        // A name that is strict without an organization name passes.
+        ensures without_organization { IsRpkiNameWithoutOrganization self.now → IsOk result }
     {
         if !strict {
             return Ok(());
@@ -86,6 +90,8 @@ impl Name {
     pub fn inspect_router(&self, strict: bool) -> Result<(), InspectionError>
         ensures ok { IfOk result (λ _. IsTrue strict → IsRouterName self.now) }
         ensures err { IfErr result (λ _. IsTrue strict × (IsRouterName self.now → ⊥)) }
+        // A name that is strict without an organization name passes.
+        ensures without_organization { IsRouterNameWithoutOrganization self.now → IsOk result }
     {
         if !strict {
             return Ok(());
@@ -101,7 +107,8 @@ impl Name {
         // The encoding is read as the same name.
         ensures read_back { SpellsNameOctets self.now result.now }
         // They have one reading.
-        ensures one_reading { (x y : List (List Attribute)) → SpellsName x result.now → SpellsName y result.now → x ≡ y }
+        ensures one_reading { (x y : List (List Attribute)) → SpellsName x result.now → SpellsName y result.now
+            → x ≡ y }
     {
         &self.captured
     }

@@ -81,7 +81,8 @@ impl<Alg: SignatureAlgorithm + Drop> SignedData<Alg> {
         alloc: Global,
         cons: &mut Constructed<'_>,
     ) -> Result<SignedData<Alg>, DecodeError>
-        ensures { Reads (λ x. x) (IsSignedContents Alg.spells) (OrMemoryWhere HasEither AnyFault) (left cons.old) (left cons.new) result }
+        ensures { Reads (λ x. x) (IsSignedContents Alg.spells) (OrMemoryWhere HasEither AnyFault) (left cons.old)
+            (left cons.new) result }
     {
         let mut after = *cons;
         let signed = after.capture_one(alloc)?;
@@ -99,7 +100,8 @@ impl<Alg: SignatureAlgorithm + Drop> SignedData<Alg> {
         alloc: Global,
         cons: &mut Constructed<'_>,
     ) -> Result<SignedData<Alg>, DecodeError>
-        ensures { Reads (λ x. x) (SpellsSigned Alg.spells) (OrMemoryWhere (HasInside sequence HasEither) (GivesOuterFault sequence true))
+        ensures { Reads (λ x. x) (SpellsSigned Alg.spells)
+            (OrMemoryWhere (HasInside sequence HasEither) (GivesOuterFault sequence true))
             (left cons.old) (left cons.new) result }
     {
         cons.in_sequence(|contents| SignedData::from_constructed(alloc, contents))
@@ -110,13 +112,16 @@ impl<Alg: SignatureAlgorithm + Drop> SignedData<Alg> {
     /// The errors are those of [SignedData::take_from]; then `Trailing` if something follows signed data.
     pub fn decode(alloc: Global, bytes: Bytes) -> Result<SignedData<Alg>, DecodeError>
         ensures decodes { Decodes (λ x. x) (SpellsSigned Alg.spells)
-            (IsWholeFault (SpellsSigned Alg.spells) (OrMemoryWhere (HasInside sequence HasEither) (GivesOuterFault sequence true))) bytes result }
+            (IsWholeFault (SpellsSigned Alg.spells)
+            (OrMemoryWhere (HasInside sequence HasEither) (GivesOuterFault sequence true))) bytes result }
         // It is written as it was read exactly where its algorithm was spelled as it is written, and no bit was unused.
-        ensures again { IfOk result (λ v. (text : List ℕ) (unused : ℕ) → Alg.spells v.algorithm text → bytes ≡ signed_octets v.signed text unused v.value →
+        ensures again { IfOk result (λ v. (text : List ℕ) (unused : ℕ) → Alg.spells v.algorithm text
+            → bytes ≡ signed_octets v.signed text unused v.value →
             (written_signed Alg.written v ≡ bytes) ↔ ((text ≡ Alg.written v.algorithm) × (unused ≡ 0))) }
         // Where the algorithm has one spelling, all inputs of this value differ in the count of unused bits alone.
         ensures one_count { IfOk result (λ v. (other : List ℕ) → SpellsSigned Alg.spells v other →
-            ((s t : List ℕ) → Alg.spells v.algorithm s → Alg.spells v.algorithm t → s ≡ t) → DifferInCount v.value bytes other) }
+            ((s t : List ℕ) → Alg.spells v.algorithm s → Alg.spells v.algorithm t → s ≡ t)
+            → DifferInCount v.value bytes other) }
     {
         let mut cons = Constructed::new(&bytes);
         let found = SignedData::take_from(alloc, &mut cons)?;
@@ -137,15 +142,21 @@ impl<Alg: SignatureAlgorithm + 'static> SignedData<Alg> {
             Primitive<SignatureValueContent<'_, Alg>>,
         ),
     >
-        ensures octets { ⟦<Sequence<(&'static Captured, Alg::Encoder, Primitive<SignatureValueContent<'static, Alg>>)> as Values>⟧.encoded result ≡ written_signed Alg.written self.now }
+        ensures octets { ⟦<Sequence<(&'static Captured, Alg::Encoder, Primitive<SignatureValueContent<'static, Alg>>)>
+            as Values>⟧.encoded result ≡ written_signed Alg.written self.now }
         // It fits exactly where its contents have fewer than 2^32 octets.
-        ensures short { ⟦<Sequence<(&'static Captured, Alg::Encoder, Primitive<SignatureValueContent<'static, Alg>>)> as Values>⟧.is_short result
+        ensures short { ⟦<Sequence<(&'static Captured, Alg::Encoder, Primitive<SignatureValueContent<'static, Alg>>)>
+            as Values>⟧.is_short result
             ↔ (length (written_contents Alg.written self.now) < 2 ^ 32) }
         // The encoding is read as the normal form.
-        ensures read_back { length (written_contents Alg.written self.now) < 2 ^ 32 → SpellsSigned Alg.spells (normal_parts Alg.norm self.now) (written_signed Alg.written self.now) }
+        ensures read_back { length (written_contents Alg.written self.now) < 2 ^ 32
+            → SpellsSigned Alg.spells (normal_parts Alg.norm self.now) (written_signed Alg.written self.now) }
         // Two values have the same encoding exactly where their normal forms are equal.
-        ensures same { (other : SignedParts Alg) → IsValue other.signed → length (written_contents Alg.written self.now) < 2 ^ 32 → length (written_contents Alg.written other) < 2 ^ 32 →
-            (written_signed Alg.written self.now ≡ written_signed Alg.written other) ↔ (normal_parts Alg.norm self.now ≡ normal_parts Alg.norm other) }
+        ensures same { (other : SignedParts Alg) → IsValue other.signed
+            → length (written_contents Alg.written self.now) < 2 ^ 32
+            → length (written_contents Alg.written other) < 2 ^ 32 →
+            (written_signed Alg.written self.now ≡ written_signed Alg.written other)
+            ↔ (normal_parts Alg.norm self.now ≡ normal_parts Alg.norm other) }
     {
         let signature = SignatureValueContent {
             signature: &self.signature,
@@ -167,7 +178,8 @@ impl<Alg: SignatureAlgorithm> SignedData<Alg> {
         provider: &P,
         key: &PublicKey,
     ) -> Result<(), SignatureVerificationError>
-        ensures { IsOk result ↔ Verifies (P.rsa_of provider.now) (P.ecdsa_of provider.now) (Alg.format self.now.algorithm) key.now.format key.now.bits.octets self.now.signed self.now.value }
+        ensures { IsOk result ↔ Verifies (P.rsa_of provider.now) (P.ecdsa_of provider.now)
+            (Alg.format self.now.algorithm) key.now.format key.now.bits.octets self.now.signed self.now.value }
     {
         key.verify(provider, self.signed.as_slice(), &self.signature)
     }
@@ -243,7 +255,8 @@ impl<'a, Alg> PrimitiveContent for SignatureValueContent<'a, Alg> {
 
 /// The octets of a signature, with any count of unused bits.
 fn signature_value(cons: &mut Constructed<'_>) -> Result<Bytes, DecodeError>
-    ensures { Reads (λ v. v) SpellsSignature (OrMemoryWhere (Finds SpellsSignature) AnyFault) (left cons.old) (left cons.new) result }
+    ensures { Reads (λ v. v) SpellsSignature (OrMemoryWhere (Finds SpellsSignature) AnyFault) (left cons.old)
+        (left cons.new) result }
 {
     let mut after = *cons;
     let bits = after.take_bit_string()?;

@@ -21,11 +21,14 @@ impl PublicKey {
     /// An encoder for the name of the subject with this key: one common name, the key identifier in hexadecimal digits
     /// (RFC 6487 4.5). The provider computes the digest.
     pub fn encode_subject_name<P: Provider>(&self, provider: &P) -> SubjectName
-        ensures octets { ⟦<Sequence<Set<Sequence<(Primitive<ConstOid>, Primitive<PublicKeyCn>)>>> as Values>⟧.encoded result ≡ subject_octets (P.sha1_of provider.now self.now.bits.octets) }
-        ensures short { ⟦<Sequence<Set<Sequence<(Primitive<ConstOid>, Primitive<PublicKeyCn>)>>> as Values>⟧.is_short result }
+        ensures octets { ⟦<Sequence<Set<Sequence<(Primitive<ConstOid>, Primitive<PublicKeyCn>)>>> as Values>⟧.encoded
+            result ≡ subject_octets (P.sha1_of provider.now self.now.bits.octets) }
+        ensures short { ⟦<Sequence<Set<Sequence<(Primitive<ConstOid>, Primitive<PublicKeyCn>)>>> as Values>⟧.is_short
+            result }
         ensures size { length (subject_octets (P.sha1_of provider.now self.now.bits.octets)) < 2 ^ 63 }
         // The encoding is a name that passes both strict inspections.
-        ensures strict { IsRpkiName (subject_octets (P.sha1_of provider.now self.now.bits.octets)) × IsRouterName (subject_octets (P.sha1_of provider.now self.now.bits.octets)) }
+        ensures strict { IsRpkiName (subject_octets (P.sha1_of provider.now self.now.bits.octets))
+            × IsRouterName (subject_octets (P.sha1_of provider.now self.now.bits.octets)) }
     {
         let name = common_name(self.key_identifier(provider));
         Sequence::new(Set::new(name))
@@ -35,7 +38,8 @@ impl PublicKey {
 /// An encoder for a common name: the attribute of this key identifier (RFC 5280 4.1.2.4).
 fn common_name(identifier: KeyIdentifier) -> Sequence<(Primitive<ConstOid>, Primitive<PublicKeyCn>)>
     requires { length identifier ≡ 20 }
-    ensures octets { ⟦<Sequence<(Primitive<ConstOid>, Primitive<PublicKeyCn>)> as Values>⟧.encoded result ≡ tlv sequence true (attribute_contents identifier) }
+    ensures octets { ⟦<Sequence<(Primitive<ConstOid>, Primitive<PublicKeyCn>)> as Values>⟧.encoded result
+        ≡ tlv sequence true (attribute_contents identifier) }
     ensures short { ⟦<Sequence<(Primitive<ConstOid>, Primitive<PublicKeyCn>)> as Values>⟧.is_short result }
     ensures size { length (subject_octets identifier) < 2 ^ 63 }
     ensures strict { IsRpkiName (subject_octets identifier) × IsRouterName (subject_octets identifier) }

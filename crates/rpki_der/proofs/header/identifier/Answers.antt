@@ -1,6 +1,6 @@
 use Rattle.std.proofs.Common.{◌∙◌, arith}
 use Rattle.std.proofs.lemmas.Result.{err_from_is_err_and}
-use Rattle.rpki_der.proofs.PartReading.{part-accepts, part-refuses, identifier-part, identifier-nothing, identifier-zero, identifier-first, number-follows, number-refused}
+use Rattle.rpki_der.proofs.PartReadingLaws.{part-accepts, part-refuses, identifier-part, identifier-nothing, identifier-zero, identifier-first, number-follows, number-refused}
 use Rattle.rpki_der.proofs.header.identifier.Goals.{else-first-eq0-via-then-first-eq0+else-low-eq0, else-first-eq0-via-else-first-eq0}
 use Rattle.rpki_der.proofs.header.identifier.Goals as goal
 

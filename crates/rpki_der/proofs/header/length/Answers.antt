@@ -1,5 +1,5 @@
 use Rattle.std.proofs.Common.{arith, inl, inr}
-use Rattle.rpki_der.proofs.PartReading.{part-accepts, part-refuses, length-part, length-none, length-first, length-bad, length-follows}
+use Rattle.rpki_der.proofs.PartReadingLaws.{part-accepts, part-refuses, length-part, length-none, length-first, length-bad, length-follows}
 use Rattle.rpki_der.proofs.header.length.Goals.{then-first-via-then-first, then-first-via-else-first+then-first-gt132}
 use Rattle.rpki_der.proofs.header.length.Goals as goal
 

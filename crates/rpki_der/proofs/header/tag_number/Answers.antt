@@ -1,7 +1,7 @@
 use Rattle.std.proofs.Common.{sym, ◌+◌, ◌∙◌, arith, drop}
 use Rattle.std.proofs.lemmas.List.{take_rest}
-use Rattle.rpki_der.proofs.TagNumber.{turn-empty, turn-small, turn-end, turn-long, turn-more, turn-done, turn-room}
-use Rattle.rpki_der.proofs.PartReading.{part-accepts, part-refuses, number-part}
+use Rattle.rpki_der.proofs.TagNumberLaws.{turn-empty, turn-small, turn-end, turn-long, turn-more, turn-done, turn-room}
+use Rattle.rpki_der.proofs.PartReadingLaws.{part-accepts, part-refuses, number-part}
 use Rattle.rpki_der.proofs.header.tag_number.Goals as goal
 
 pub returns : goal.returns

@@ -1,5 +1,5 @@
 use Rattle.std.proofs.Common.{arith}
-use Rattle.rpki_der.proofs.Integers.{octets_fit, magnitude-left}
+use Rattle.rpki_der.proofs.IntegerLaws.{octets_fit, magnitude-left}
 use Rattle.rpki_der.proofs.integer.leading_zeros.Goals as goal
 
 pub returns-else-octets-start-eq0-clause-magnitude : goal.returns-else-octets-start-eq0-clause-magnitude

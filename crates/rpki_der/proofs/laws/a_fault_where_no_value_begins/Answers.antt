@@ -1,4 +1,4 @@
-use Rattle.rpki_der.proofs.SomeFault.{some_fault}
+use Rattle.rpki_der.proofs.SomeFaultLaws.{some_fault}
 use Rattle.rpki_der.proofs.laws.a_fault_where_no_value_begins.Goals as goal
 
 pub returns : goal.returns

@@ -1,4 +1,4 @@
-use Rattle.rpki_der.proofs.LeavesWritten.{booleans-apart, numbers-apart, identifiers-apart, octets-apart, bits-apart}
+use Rattle.rpki_der.proofs.LeafWritingLaws.{booleans-apart, numbers-apart, identifiers-apart, octets-apart, bits-apart}
 use Rattle.rpki_der.proofs.laws.leaves_written_the_same.Goals as goal
 
 pub returns-clause-booleans : goal.returns-clause-booleans

@@ -3,15 +3,18 @@ use Rattle.rpki_der.specs.TagName.{null, boolean, integer, oid, bit_string, prin
 use Rattle.rpki_der.specs.Leaves.{IsNull, IsBoolean, IsOidOf, IsBits}
 use Rattle.rpki_der.specs.Integer.{IsUnsigned}
 use Rattle.rpki_der.specs.Text.{IsPrintableText, IsUtf8Text}
-use Rattle.rpki_der.specs.Flat.{IsWanted}
-use Rattle.rpki_der.proofs.KindsApart.{one-contents-fault, one-flat-fault, one-leaf-fault}
+use Rattle.rpki_der.specs.WantedValue.{IsAnyTag, IsTagged}
+use Rattle.rpki_der.proofs.FaultKindLaws.{one-contents-fault, one-flat-fault, one-leaf-fault}
 use Rattle.rpki_der.proofs.laws.one_refusal.Goals as goal
 
 pub returns-clause-values : goal.returns-clause-values
 returns-clause-values c = one-contents-fault
 
 pub returns-clause-flat : goal.returns-clause-flat
-returns-clause-flat c = λ w. one-flat-fault (IsWanted w)
+returns-clause-flat c = one-flat-fault IsAnyTag
+
+pub returns-clause-tagged : goal.returns-clause-tagged
+returns-clause-tagged c = λ t. one-flat-fault (IsTagged t)
 
 pub returns-clause-nulls : goal.returns-clause-nulls
 returns-clause-nulls c = one-leaf-fault null false IsNull

@@ -5,8 +5,8 @@ use Rattle.std.proofs.lemmas.Slice.{pushed}
 use Rattle.rpki_der.specs.Index.{Entry}
 use Rattle.rpki_der.specs.IndexParts.{IsEnd, noted}
 use Rattle.rpki_der.proofs.MembersLaws.{two_octets}
-use Rattle.rpki_der.proofs.Walking.{Innermost, begins_with, length_part, start_primitive}
-use Rattle.rpki_der.proofs.Indexing.{made, ReadEnd, end_known, inside, inside_part, inside_fault, inside_fits, inside_end, inside_primitive, inside_constructed, start_listed, start_walking, walking_done, takes_memory, takes_memory_open}
+use Rattle.rpki_der.proofs.WalkingLaws.{Innermost, begins_with, length_part, start_primitive}
+use Rattle.rpki_der.proofs.IndexingLaws.{made, ReadEnd, end_known, inside, inside_part, inside_fault, inside_fits, inside_end, inside_primitive, inside_constructed, start_listed, start_walking, walking_done, takes_memory, takes_memory_open}
 use Rattle.rpki_der.proofs.walk.walk_value.Goals as goal
 
 pub returns-in_err-name-clause-refused : goal.returns-in_err-name-clause-refused
@@ -70,39 +70,39 @@ values-preserved-then-place-end c =
       within = inside_end _ i c.if-place-end.true (c.pop.ensures.rest ∙ ap (λ (x : ℕ). take (x - 1) c.values.open.items) (sym size));
     }
 
-pub slice_bounds-enter-count : goal.slice_bounds-enter-count
-slice_bounds-enter-count c =
+pub slice_bounds-take_header_within-count : goal.slice_bounds-take_header_within-count
+slice_bounds-take_header_within-count c =
     let is : slice_get c.values.open.items (length c.values.open.items - 1) ≡ Some c.in-Some.name = cc in
     let end : ReadEnd c.args.keep c.args.before c.values.entries.items c.in-Some.name c.end_of-end.result = record { is = subst (λ (x : List Entry). IsEnd c.args.keep c.args.before x c.in-Some.name c.end_of-end.result) c.as_slice.ensures.value c.end_of-end.ensures } in
     (inside_part (inside (record { last = is }) end c.values.invariant.within)).0
 
-pub slice_bounds-enter-start : goal.slice_bounds-enter-start
-slice_bounds-enter-start c =
+pub slice_bounds-take_header_within-start : goal.slice_bounds-take_header_within-start
+slice_bounds-take_header_within-start c =
     let is : slice_get c.values.open.items (length c.values.open.items - 1) ≡ Some c.in-Some.name = cc in
     let end : ReadEnd c.args.keep c.args.before c.values.entries.items c.in-Some.name c.end_of-end.result = record { is = subst (λ (x : List Entry). IsEnd c.args.keep c.args.before x c.in-Some.name c.end_of-end.result) c.as_slice.ensures.value c.end_of-end.ensures } in
     let part = inside_part (inside (record { last = is }) end c.values.invariant.within) in
     omega (arith, part.0, part.1)
 
-pub slice_bounds-enter-end : goal.slice_bounds-enter-end
-slice_bounds-enter-end c =
+pub slice_bounds-take_header_within-end : goal.slice_bounds-take_header_within-end
+slice_bounds-take_header_within-end c =
     let is : slice_get c.values.open.items (length c.values.open.items - 1) ≡ Some c.in-Some.name = cc in
     let end : ReadEnd c.args.keep c.args.before c.values.entries.items c.in-Some.name c.end_of-end.result = record { is = subst (λ (x : List Entry). IsEnd c.args.keep c.args.before x c.in-Some.name c.end_of-end.result) c.as_slice.ensures.value c.end_of-end.ensures } in
     let part = inside_part (inside (record { last = is }) end c.values.invariant.within) in
     omega (arith, part.0, part.1)
 
-pub enter-requires-in-Some-clause-some : goal.enter-requires-in-Some-clause-some
-enter-requires-in-Some-clause-some c =
+pub take_header_within-requires-in-Some-clause-some : goal.take_header_within-requires-in-Some-clause-some
+take_header_within-requires-in-Some-clause-some c =
     let is : slice_get c.values.open.items (length c.values.open.items - 1) ≡ Some c.in-Some.name = cc in
     let end : ReadEnd c.args.keep c.args.before c.values.entries.items c.in-Some.name c.end_of-end.result = record { is = subst (λ (x : List Entry). IsEnd c.args.keep c.args.before x c.in-Some.name c.end_of-end.result) c.as_slice.ensures.value c.end_of-end.ensures } in
     let part = inside_part (inside (record { last = is }) end c.values.invariant.within) in
     omega (arith, part.0, c.if-place-end.false, length_part c.args.octets.now c.values.place c.end_of-end.result part.0 part.1)
 
-pub returns-in-Err-enter-clause-refused : goal.returns-in-Err-enter-clause-refused
-returns-in-Err-enter-clause-refused c =
+pub returns-in-Err-take_header_within-clause-refused : goal.returns-in-Err-take_header_within-clause-refused
+returns-in-Err-take_header_within-clause-refused c =
     let is : slice_get c.values.open.items (length c.values.open.items - 1) ≡ Some c.in-Some.name = cc in
     let end : ReadEnd c.args.keep c.args.before c.values.entries.items c.in-Some.name c.end_of-end.result = record { is = subst (λ (x : List Entry). IsEnd c.args.keep c.args.before x c.in-Some.name c.end_of-end.result) c.as_slice.ensures.value c.end_of-end.ensures } in
     let i = inside (record { last = is }) end c.values.invariant.within in
-    inr (inside_fault i c.in-Err-enter.ensures.refused)
+    inr (inside_fault i c.in-Err-take_header_within.ensures.refused)
 
 pub returns-in_err-inner-clause-refused : goal.returns-in_err-inner-clause-refused
 returns-in_err-inner-clause-refused c =
@@ -115,8 +115,8 @@ values-smaller-then-not-found c =
     let is : slice_get c.values.open.items (length c.values.open.items - 1) ≡ Some c.in-Some.name = cc in
     let end : ReadEnd c.args.keep c.args.before c.values.entries.items c.in-Some.name c.end_of-end.result = record { is = subst (λ (x : List Entry). IsEnd c.args.keep c.args.before x c.in-Some.name c.end_of-end.result) c.as_slice.ensures.value c.end_of-end.ensures } in
     let i = inside (record { last = is }) end c.values.invariant.within in
-    let h = c.in-Ok-enter.ensures in
-    let fits = inside_fits i (begins_with c.in-Ok-enter.entered.1 h.found h.within) h.within in
+    let h = c.in-Ok-take_header_within.ensures in
+    let fits = inside_fits i (begins_with c.in-Ok-take_header_within.entered.1 h.found h.within) h.within in
     omega (arith, fits.0, fits.1)
 
 pub values-preserved-then-not-found : goal.values-preserved-then-not-found
@@ -124,9 +124,9 @@ values-preserved-then-not-found c =
     let is : slice_get c.values.open.items (length c.values.open.items - 1) ≡ Some c.in-Some.name = cc in
     let end : ReadEnd c.args.keep c.args.before c.values.entries.items c.in-Some.name c.end_of-end.result = record { is = subst (λ (x : List Entry). IsEnd c.args.keep c.args.before x c.in-Some.name c.end_of-end.result) c.as_slice.ensures.value c.end_of-end.ensures } in
     let i = inside (record { last = is }) end c.values.invariant.within in
-    let h = c.in-Ok-enter.ensures in
-    let front = begins_with c.in-Ok-enter.entered.1 h.found h.within in
-    let x = c.in-Ok-enter.entered in
+    let h = c.in-Ok-take_header_within.ensures in
+    let front = begins_with c.in-Ok-take_header_within.entered.1 h.found h.within in
+    let x = c.in-Ok-take_header_within.entered in
     let noted_more : c.note-in-Some.new.entries.items ≡ c.values.entries.items ++ noted c.args.keep (made (c.args.before + c.values.place) x.1 x.0.length x.0.tag x.0.constructed (Some c.in-Some.name)) =
     c.in_ok-inner.ensures.noted ∙ ap (λ (y : Entry). c.values.entries.items ++ noted c.args.keep y) c.new-entry-in-Some.ensures in
     let fits = inside_fits i front h.within in
@@ -142,8 +142,8 @@ values-smaller c =
     let is : slice_get c.values.open.items (length c.values.open.items - 1) ≡ Some c.in-Some.name = cc in
     let end : ReadEnd c.args.keep c.args.before c.values.entries.items c.in-Some.name c.end_of-end.result = record { is = subst (λ (x : List Entry). IsEnd c.args.keep c.args.before x c.in-Some.name c.end_of-end.result) c.as_slice.ensures.value c.end_of-end.ensures } in
     let i = inside (record { last = is }) end c.values.invariant.within in
-    let h = c.in-Ok-enter.ensures in
-    let fits = inside_fits i (begins_with c.in-Ok-enter.entered.1 h.found h.within) h.within in
+    let h = c.in-Ok-take_header_within.ensures in
+    let fits = inside_fits i (begins_with c.in-Ok-take_header_within.entered.1 h.found h.within) h.within in
     let more = pushed (c.in_ok-inner.inner ∷ []) refl c.in_ok-push-2.was c.push-in-Some.ensures.items in
     omega (arith, fits.0, fits.1, ap length more, length-append {A = ℕ})
 
@@ -152,9 +152,9 @@ values-preserved c =
     let is : slice_get c.values.open.items (length c.values.open.items - 1) ≡ Some c.in-Some.name = cc in
     let end : ReadEnd c.args.keep c.args.before c.values.entries.items c.in-Some.name c.end_of-end.result = record { is = subst (λ (x : List Entry). IsEnd c.args.keep c.args.before x c.in-Some.name c.end_of-end.result) c.as_slice.ensures.value c.end_of-end.ensures } in
     let i = inside (record { last = is }) end c.values.invariant.within in
-    let h = c.in-Ok-enter.ensures in
-    let front = begins_with c.in-Ok-enter.entered.1 h.found h.within in
-    let x = c.in-Ok-enter.entered in
+    let h = c.in-Ok-take_header_within.ensures in
+    let front = begins_with c.in-Ok-take_header_within.entered.1 h.found h.within in
+    let x = c.in-Ok-take_header_within.entered in
     let noted_more : c.note-in-Some.new.entries.items ≡ c.values.entries.items ++ noted c.args.keep (made (c.args.before + c.values.place) x.1 x.0.length x.0.tag x.0.constructed (Some c.in-Some.name)) =
     c.in_ok-inner.ensures.noted ∙ ap (λ (y : Entry). c.values.entries.items ++ noted c.args.keep y) c.new-entry-in-Some.ensures in
     let fits = inside_fits i front h.within in

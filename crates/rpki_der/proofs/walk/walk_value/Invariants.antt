@@ -1,5 +1,5 @@
 use Rattle.std.proofs.Common.{◌+◌, ◌-◌, ◌*◌, ◌≤◌, length}
-use Rattle.rpki_der.proofs.Indexing.{IsWalking}
+use Rattle.rpki_der.proofs.IndexingLaws.{IsWalking}
 use Rattle.rpki_der.proofs.walk.walk_value.Given as goal
 
 abbrev pub invariant-values : goal.invariant-values

@@ -1,4 +1,4 @@
-use Rattle.rpki_text.proofs.EqualLemmas.{equal_parents}
+use Rattle.rpki_text.proofs.EqualLaws.{equal_parents}
 use Rattle.rpki_text.proofs.laws.equal_rsync_uris_have_equal_parents.Goals as goal
 
 pub returns : goal.returns

@@ -1,4 +1,4 @@
-use Rattle.rpki_text.proofs.EqualLemmas.{same_parts, same_from_parts}
+use Rattle.rpki_text.proofs.EqualLaws.{same_parts, same_from_parts}
 use Rattle.rpki_text.proofs.laws.equal_rsync_uris_have_equal_parts.Goals as goal
 
 pub returns : goal.returns

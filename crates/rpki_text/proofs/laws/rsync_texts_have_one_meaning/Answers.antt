@@ -1,4 +1,4 @@
-use Rattle.rpki_text.proofs.PartLemmas.{one_meaning}
+use Rattle.rpki_text.proofs.PartLaws.{one_meaning}
 use Rattle.rpki_text.proofs.laws.rsync_texts_have_one_meaning.Goals as goal
 
 pub returns : goal.returns

@@ -1,6 +1,6 @@
-use Rattle.rpki_time.proofs.SerialReading.{serial_few}
-use Rattle.rpki_time.proofs.TimeValues.{time_few}
-use Rattle.rpki_time.proofs.PeriodReading.{period_few}
+use Rattle.rpki_time.proofs.SerialReadingLaws.{serial_few}
+use Rattle.rpki_time.proofs.TimeValueLaws.{time_few}
+use Rattle.rpki_time.proofs.PeriodReadingLaws.{period_few}
 use Rattle.rpki_time.proofs.laws.few_octets_are_written.Goals as goal
 
 pub returns-clause-serial : goal.returns-clause-serial

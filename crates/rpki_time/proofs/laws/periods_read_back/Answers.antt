@@ -3,8 +3,8 @@ use Rattle.rpki_der.specs.TagName.{sequence}
 use Rattle.rpki_der.specs.Values.{IsOuterFault}
 use Rattle.rpki_time.specs.PeriodValue.{SpellsPeriod}
 use Rattle.rpki_time.specs.Validity.{cut_period}
-use Rattle.rpki_time.proofs.ReadBack.{reads_back}
-use Rattle.rpki_time.proofs.PeriodReading.{period_there, period_no_memory}
+use Rattle.rpki_time.proofs.ReadBackLaws.{reads_back}
+use Rattle.rpki_time.proofs.PeriodReadingLaws.{period_there, period_no_memory}
 use Rattle.rpki_time.proofs.laws.periods_read_back.Goals as goal
 
 pub returns : goal.returns

@@ -1,4 +1,4 @@
-use Rattle.rpki_time.proofs.PeriodReading.{period_same}
+use Rattle.rpki_time.proofs.PeriodReadingLaws.{period_same}
 use Rattle.rpki_time.proofs.laws.periods_written_the_same.Goals as goal
 
 pub returns : goal.returns

@@ -1,6 +1,6 @@
-use Rattle.rpki_der.proofs.Integers.{contents_short}
+use Rattle.rpki_der.proofs.IntegerLaws.{contents_short}
 use Rattle.rpki_time.proofs.SerialLaws.{serial_short, short_below}
-use Rattle.rpki_time.proofs.Written.{serial_contents-are}
+use Rattle.rpki_time.proofs.WritingLaws.{serial_contents-are}
 use Rattle.rpki_time.proofs.laws.serial_contents_are_shortest.Goals as goal
 
 pub returns-clause-written : goal.returns-clause-written

@@ -1,4 +1,4 @@
-use Rattle.rpki_time.proofs.SerialReading.{serial_read_back, serial_same_octets}
+use Rattle.rpki_time.proofs.SerialReadingLaws.{serial_read_back, serial_same_octets}
 use Rattle.rpki_time.proofs.laws.serials_read_back.Goals as goal
 
 pub returns-clause-read : goal.returns-clause-read

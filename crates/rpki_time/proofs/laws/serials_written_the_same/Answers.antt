@@ -1,4 +1,4 @@
-use Rattle.rpki_time.proofs.SerialReading.{serial_same}
+use Rattle.rpki_time.proofs.SerialReadingLaws.{serial_same}
 use Rattle.rpki_time.proofs.laws.serials_written_the_same.Goals as goal
 
 pub returns : goal.returns

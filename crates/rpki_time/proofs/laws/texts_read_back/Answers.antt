@@ -1,4 +1,4 @@
-use Rattle.rpki_time.proofs.Texts.{utc_reads_cut, generalized_reads_cut, utc_unique, generalized_unique, in_window, is_in_window}
+use Rattle.rpki_time.proofs.TextLaws.{utc_reads_cut, generalized_reads_cut, utc_unique, generalized_unique, in_window, is_in_window}
 use Rattle.rpki_time.proofs.laws.texts_read_back.Goals as goal
 
 pub returns-clause-utc : goal.returns-clause-utc

@@ -1,7 +1,7 @@
 use Rattle.rpki_time.specs.Time.{cut}
 use Rattle.rpki_time.specs.TimeValue.{SpellsTime, IsTimeFault, time_octets, utc_octets, generalized_octets}
-use Rattle.rpki_time.proofs.ReadBack.{was_read}
-use Rattle.rpki_time.proofs.TimeValues.{in_front, time_spelled, utc_spelled, generalized_spelled, utc_only_in_window, time_read_back}
+use Rattle.rpki_time.proofs.ReadBackLaws.{was_read}
+use Rattle.rpki_time.proofs.TimeValueLaws.{in_front, time_spelled, utc_spelled, generalized_spelled, utc_only_in_window, time_read_back}
 use Rattle.rpki_time.proofs.laws.times_read_back.Goals as goal
 
 pub returns-clause-varied : goal.returns-clause-varied

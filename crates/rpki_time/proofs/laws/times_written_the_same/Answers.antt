@@ -1,4 +1,4 @@
-use Rattle.rpki_time.proofs.TimeValues.{time_same}
+use Rattle.rpki_time.proofs.TimeValueLaws.{time_same}
 use Rattle.rpki_time.proofs.laws.times_written_the_same.Goals as goal
 
 pub returns : goal.returns

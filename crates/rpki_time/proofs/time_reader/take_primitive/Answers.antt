@@ -3,11 +3,11 @@ use Rattle.rpki_der.specs.declared.value.Content.{Content}
 use Rattle.rpki_der.specs.Cursor.{left}
 use Rattle.rpki_der.specs.ContentView.{is_constructed, octets_of}
 use Rattle.rpki_der.specs.Reading.{Accepts}
-use Rattle.rpki_der.specs.Flat.{SpellsFlat, IsAnyTag}
+use Rattle.rpki_der.specs.WantedValue.{SpellsWanted, IsAnyTag}
 use Rattle.rpki_der.proofs.ReadingLaws.{UnlessMemory-weaker}
-use Rattle.rpki_der.proofs.FlatLaws.{flat-none, flat-kind, flat-unwanted, flat-too-long, flat-cut, is-flat}
+use Rattle.rpki_der.proofs.WantedLaws.{flat-none, flat-kind, flat-unwanted, flat-too-long, flat-cut, is-flat}
 use Rattle.rpki_time.specs.TimeValue.{IsPrimitive}
-use Rattle.rpki_time.proofs.TimeReading.{primitive_accepted, taken, not_both}
+use Rattle.rpki_time.proofs.TimeReadingLaws.{primitive_accepted, taken, not_both}
 use Rattle.rpki_time.proofs.time_reader.take_primitive.Goals as goal
 
 pub returns-in-Err : goal.returns-in-Err
@@ -47,7 +47,7 @@ returns-in-Primitive c =
     let s = left c.args.cons.now in
     let found = c.in-Ok-take_value.found in
     let r = left c.take_value.new.self in
-    let P : Content → Type 0 = λ x. Accepts (SpellsFlat IsAnyTag) s (found.0, is_constructed x, octets_of x) r in
+    let P : Content → Type 0 = λ x. Accepts (SpellsWanted IsAnyTag) s (found.0, is_constructed x, octets_of x) r in
     primitive_accepted s found.0 c.in-Primitive.contents.now r (subst P c.in-Primitive.is c.in-Ok-take_value.ensures)
 
 pub returns-in-Err-take_value : goal.returns-in-Err-take_value

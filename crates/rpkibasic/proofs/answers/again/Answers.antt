@@ -1,4 +1,4 @@
-use Rattle.rpkibasic.proofs.Answering.{again-of}
+use Rattle.rpkibasic.proofs.AnswerLaws.{again-of}
 use Rattle.rpkibasic.proofs.answers.again.Goals as goal
 
 pub returns : goal.returns

@@ -3,7 +3,7 @@ use Rattle.rpki_der.specs.Inside.{HasInside}
 use Rattle.rpki_der.specs.TagName.{sequence}
 use Rattle.rpki_der.specs.Walk.{HasEither}
 use Rattle.std.proofs.lemmas.Result.{err_from_is_err_and}
-use Rattle.rpkibasic.proofs.Faults.{fault-of}
+use Rattle.rpkibasic.proofs.FaultLaws.{fault-of}
 use Rattle.rpkibasic.proofs.answers.decoded.Goals as goal
 
 pub returns : goal.returns

@@ -3,7 +3,7 @@ use Rattle.rpki_der.specs.TagName.{sequence}
 use Rattle.rpki_der.proofs.EncodeLaws.{tlv_at_most}
 use Rattle.rpki.specs.SignedData.{written_contents, written_signed}
 use Rattle.rpkibasic.specs.Run.{written_algorithm}
-use Rattle.rpkibasic.proofs.Faults.{too-long}
+use Rattle.rpkibasic.proofs.FaultLaws.{too-long}
 use Rattle.rpkibasic.proofs.answers.written.Goals as goal
 
 pub returns-then-not-fits : goal.returns-then-not-fits

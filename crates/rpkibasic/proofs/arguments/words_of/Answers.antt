@@ -2,7 +2,7 @@ use Rattle.std.proofs.Common.{sym, ◌∙◌, refl}
 use Rattle.std.specs.Prelude.{Ok}
 use Rattle.std.proofs.lemmas.Iterator.{items_from_collect}
 use Rattle.std.proofs.lemmas.Iterator.Adapters.{YieldsList-from_vec}
-use Rattle.rpkibasic.proofs.Dropped.{drop-next}
+use Rattle.rpkibasic.proofs.DroppedLaws.{drop-next}
 use Rattle.rpkibasic.proofs.arguments.words_of.Goals as goal
 
 pub returns-in-Ok-collect-clause-words : goal.returns-in-Ok-collect-clause-words

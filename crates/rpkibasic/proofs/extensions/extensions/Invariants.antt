@@ -1,6 +1,6 @@
 use Rattle.std.proofs.Common.{length}
 use Rattle.rpki_der.specs.Cursor.{left}
-use Rattle.rpkibasic.proofs.ReadingOn.{HaveRead}
+use Rattle.rpkibasic.proofs.ReadingLaws.{HaveRead}
 use Rattle.rpkibasic.proofs.extensions.extensions.Given as goal
 
 abbrev pub invariant-extensions : goal.invariant-extensions

@@ -1,5 +1,5 @@
 use Rattle.rpkibasic.specs.Fault.{text_of, number_text}
-use Rattle.rpkibasic.proofs.Cuts.{cut-then}
+use Rattle.rpkibasic.proofs.CutLaws.{cut-then}
 use Rattle.rpkibasic.proofs.fault.tell.Goals as goal
 
 pub returns-in-Refused : goal.returns-in-Refused

@@ -4,7 +4,7 @@ use Rattle.rpki_der.specs.Reading.{Finds}
 use Rattle.rpki_der.specs.TagName.{sequence}
 use Rattle.rpki.specs.PublicKey.{IsKeyContents}
 use Rattle.std.proofs.lemmas.Result.{err_from_is_err_and}
-use Rattle.rpkibasic.proofs.Faults.{fault-of}
+use Rattle.rpkibasic.proofs.FaultLaws.{fault-of}
 use Rattle.rpkibasic.proofs.keys.decoded.Goals as goal
 
 pub returns : goal.returns

@@ -1,4 +1,4 @@
-use Rattle.rpkibasic.proofs.OneAnswer.{one-text, text-or-fault, one-fault, one-uri-fault}
+use Rattle.rpkibasic.proofs.OneAnswerLaws.{one-text, text-or-fault, one-fault, one-uri-fault}
 use Rattle.rpkibasic.proofs.laws.one_answer_is_due.Goals as goal
 
 pub returns-clause-texts : goal.returns-clause-texts

@@ -1,5 +1,5 @@
-use Rattle.rpkibasic.specs.declared.command.Command.TheVariants.{Again, Data, Key, Uri, Ext}
-use Rattle.rpkibasic.proofs.Answering.{answered}
+use Rattle.rpkibasic.specs.declared.command.Command.TheVariants.{Again, Data, Key, Uri, Ext, Name}
+use Rattle.rpkibasic.proofs.AnswerLaws.{answered}
 use Rattle.rpkibasic.proofs.runs.answer.Goals as goal
 
 pub returns-in-Again : goal.returns-in-Again
@@ -16,3 +16,6 @@ returns-in-Uri g c = answered c.args.command Uri _ _ _ c.in-Uri.is c.in_ok-octet
 
 pub returns-in-Ext : goal.returns-in-Ext
 returns-in-Ext g c = answered c.args.command Ext _ _ _ c.in-Ext.is c.in_ok-octets.ensures.whole c.in_ok-octets.ensures.most c.ext.ensures
+
+pub returns-in-Name : goal.returns-in-Name
+returns-in-Name g c = answered c.args.command Name _ _ _ c.in-Name.is c.in_ok-octets.ensures.whole c.in_ok-octets.ensures.most c.name.ensures

@@ -13,7 +13,8 @@ use rpki_der::{Constructed, DecodeError, Oid};
 /// The parts that are all of these contents: the identifier, whether the extension is critical, and the octets. A
 /// BOOLEAN that is left out stands for FALSE, its default; FALSE is read where it is spelled.
 fn take_parts<'a>(contents: Constructed<'a>) -> Result<(Oid<&'a [u8]>, bool, &'a [u8]), DecodeError>
-    ensures { Decodes (λ x. extension_parts x.0.0.now x.1 x.2.now) IsExtensionContents (λ _ e. e ≢ DecodeError.OutOfMemory)
+    ensures { Decodes (λ x. extension_parts x.0.0.now x.1 x.2.now) IsExtensionContents
+        (λ _ e. e ≢ DecodeError.OutOfMemory)
         (left contents.entry) result }
 {
     let mut rest = contents;

@@ -6,17 +6,19 @@ ghost use Rattle.rpki_der.specs.TagName.{sequence, set};
 ghost use Rattle.rpki_der.specs.Reading.{Reads, AnyFault, OrMemoryWhere};
 ghost use Rattle.rpki_der.specs.Composed.{ReadsAll};
 ghost use Rattle.rpki_der.specs.Values.{SpellsLeaf, GivesOuterFault, IsOuterFault};
-ghost use Rattle.rpki.specs.Name.{attribute_of, IsIdentifierThen, IsAttribute, SpellsAttribute, SpellsSome, SpellsRelative, SpellsAny};
+ghost use Rattle.rpki.specs.Name.{attribute_of, IsIdentifierThen, IsAttribute, SpellsAttribute, SpellsSome, SpellsRelative};
+ghost use Rattle.rpki.specs.AnyValue.{SpellsAny};
 ghost use Rattle.rpki.specs.NameValue.{HasAfter, IdentifiesValue, HasAttributeValue, HasRelativeValue, HasNameValue};
 
 use rpki_der::{Constructed, ContentError, DecodeError, Oid};
 use std::alloc::Global;
 
 /// The identifier of an attribute, and a cursor on the rest of the SEQUENCE.
-pub(super) fn take_identifier<'a>(
+pub(super) fn take_attribute_type<'a>(
     cons: &mut Constructed<'a>,
 ) -> Result<(Oid<&'a [u8]>, Constructed<'a>), DecodeError>
-    ensures { Reads (λ x. attribute_of x.0.0.now (left x.1)) (SpellsLeaf sequence true IsIdentifierThen) (IsOuterFault sequence true) (left cons.old) (left cons.new) result }
+    ensures { Reads (λ x. attribute_of x.0.0.now (left x.1)) (SpellsLeaf sequence true IsIdentifierThen)
+        (IsOuterFault sequence true) (left cons.old) (left cons.new) result }
 {
     let mut after = *cons;
     let mut contents = after.take_sequence()?;
@@ -32,7 +34,8 @@ fn skip_attribute(alloc: Global, cons: &mut Constructed<'_>) -> Result<(), Decod
 {
     cons.in_sequence(
         |contents|
-            ensures { ReadsAll (λ _. tt) (SpellsAny IsAttribute) (OrMemoryWhere IdentifiesValue AnyFault) (left contents.old) (left contents.new) result }
+            ensures { ReadsAll (λ _. tt) (SpellsAny IsAttribute) (OrMemoryWhere IdentifiesValue AnyFault)
+                (left contents.old) (left contents.new) result }
         {
             contents.take_oid()?;
             match contents.skip_one(alloc)? {
@@ -46,7 +49,8 @@ fn skip_attribute(alloc: Global, cons: &mut Constructed<'_>) -> Result<(), Decod
 /// Moves past the attributes that these contents are, one at least.
 fn skip_attributes(alloc: Global, contents: &mut Constructed<'_>) -> Result<(), DecodeError>
     ensures { ReadsAll (λ _. tt) (SpellsAny (SpellsSome SpellsAttribute))
-        (OrMemoryWhere (HasAfter SpellsAttribute HasAttributeValue) AnyFault) (left contents.old) (left contents.new) result }
+        (OrMemoryWhere (HasAfter SpellsAttribute HasAttributeValue) AnyFault) (left contents.old)
+        (left contents.new) result }
 {
     if contents.is_empty() {
         return Err(DecodeError::Content(ContentError::from_static(
@@ -60,7 +64,7 @@ fn skip_attributes(alloc: Global, contents: &mut Constructed<'_>) -> Result<(), 
 }
 
 /// Moves past a relative distinguished name: a SET of attributes.
-fn skip_relative(alloc: Global, cons: &mut Constructed<'_>) -> Result<(), DecodeError>
+fn skip_rdn(alloc: Global, cons: &mut Constructed<'_>) -> Result<(), DecodeError>
     ensures { Reads (λ _. tt) (SpellsLeaf set true (SpellsAny (SpellsSome SpellsAttribute)))
         (OrMemoryWhere HasRelativeValue (GivesOuterFault set true)) (left cons.old) (left cons.new) result }
 {
@@ -68,15 +72,16 @@ fn skip_relative(alloc: Global, cons: &mut Constructed<'_>) -> Result<(), Decode
 }
 
 /// Moves past the relative distinguished names that these contents are, one at least.
-fn skip_relatives(alloc: Global, contents: &mut Constructed<'_>) -> Result<(), DecodeError>
+fn skip_rdns(alloc: Global, contents: &mut Constructed<'_>) -> Result<(), DecodeError>
     ensures { ReadsAll (λ _. tt) (SpellsAny (SpellsSome SpellsRelative))
-        (OrMemoryWhere (HasAfter SpellsRelative HasRelativeValue) AnyFault) (left contents.old) (left contents.new) result }
+        (OrMemoryWhere (HasAfter SpellsRelative HasRelativeValue) AnyFault) (left contents.old)
+        (left contents.new) result }
 {
     if contents.is_empty() {
         return Err(DecodeError::Content(ContentError::from_static("empty distinguished name")));
     }
     'relatives: while !contents.is_empty() {
-        skip_relative(alloc, contents)?;
+        skip_rdn(alloc, contents)?;
     }
     Ok(())
 }
@@ -86,5 +91,5 @@ pub(super) fn skip_name(alloc: Global, cons: &mut Constructed<'_>) -> Result<(),
     ensures { Reads (λ _. tt) (SpellsLeaf sequence true (SpellsAny (SpellsSome SpellsRelative)))
         (OrMemoryWhere HasNameValue (GivesOuterFault sequence true)) (left cons.old) (left cons.new) result }
 {
-    cons.in_sequence(|contents| skip_relatives(alloc, contents))
+    cons.in_sequence(|contents| skip_rdns(alloc, contents))
 }

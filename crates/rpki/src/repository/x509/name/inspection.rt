@@ -4,11 +4,11 @@ ghost use Rattle.std.specs.Prelude.{◌↔◌, IsTrue, List, [], ◌∷◌, Matc
 ghost use Rattle.rpki_der.specs.Cursor.{left};
 ghost use Rattle.rpki.specs.Name.{Attribute, attribute_of, SpellsAttribute, SpellsSome, SpellsRelative, SpellsName};
 ghost use Rattle.rpki.specs.StrictName.{attributes, IsPrintable, IsUtf8String, IsStrict};
-ghost use Rattle.rpki.specs.InspectName.{Finds};
-ghost use Rattle.rpki.specs.InspectedName.{found_of, permitted};
+ghost use Rattle.rpki.specs.Findings.{Finds};
+ghost use Rattle.rpki.specs.InspectionView.{found_of, permitted};
 
-use super::grammar::take_identifier;
-use crate::oid::{AT_COMMON_NAME, AT_SERIAL_NUMBER};
+use super::grammar::take_attribute_type;
+use crate::oid::{AT_COMMON_NAME, AT_ORGANIZATION_NAME, AT_SERIAL_NUMBER};
 use crate::repository::error::InspectionError;
 use rpki_der::{Constructed, ContentError, Oid};
 
@@ -26,6 +26,7 @@ pub(super) enum Profile {
 pub(super) struct Found {
     common_name: bool,
     serial_number: bool,
+    organization_name: bool,
 }
 
 /// The error of this text.
@@ -76,15 +77,16 @@ impl Profile {
 
     /// What is found once this attribute is there too.
     ///
-    /// Returns an error if a second common name or serial number, another attribute, or a string that is not permitted
-    /// is found.
+    /// Returns an error if a second common name, serial number or organization name, another attribute, or a string
+    /// that is not permitted is found.
     fn add(
         self,
         found: Found,
         identifier: Oid<&[u8]>,
         value: Constructed<'_>,
     ) -> Result<Found, InspectionError>
-        ensures { Finds (permitted self) found_of found (attribute_of identifier.entry.0.now (left value.entry) ∷ []) result }
+        ensures { Finds (permitted self) found_of found
+            (attribute_of identifier.entry.0.now (left value.entry) ∷ []) result }
     {
         let mut found = found;
         if identifier == AT_COMMON_NAME {
@@ -97,6 +99,11 @@ impl Profile {
                 return Err(refusal("multiple serial numbers"));
             }
             found.serial_number = true;
+        } else if identifier == AT_ORGANIZATION_NAME {
+            if found.organization_name {
+                return Err(refusal("multiple organization names"));
+            }
+            found.organization_name = true;
         } else {
             return Err(refusal("invalid name"));
         }
@@ -112,12 +119,13 @@ impl Profile {
         found: Found,
         contents: Constructed<'_>,
     ) -> Result<Found, InspectionError>
-        ensures { (xs : List Attribute) → SpellsSome SpellsAttribute xs (left contents.entry) → Finds (permitted self) found_of found xs result }
+        ensures { (xs : List Attribute) → SpellsSome SpellsAttribute xs (left contents.entry)
+            → Finds (permitted self) found_of found xs result }
     {
         let mut rest = contents;
         let mut all = found;
         'attributes: while !rest.is_empty() {
-            let (identifier, value) = match take_identifier(&mut rest) {
+            let (identifier, value) = match take_attribute_type(&mut rest) {
                 Ok(read) => read,
                 Err(_) => return Err(refusal("invalid name")),
             };
@@ -127,12 +135,9 @@ impl Profile {
     }
 
     /// The same for relative distinguished names.
-    fn add_relatives(
-        self,
-        found: Found,
-        contents: Constructed<'_>,
-    ) -> Result<Found, InspectionError>
-        ensures { (parts : List (List Attribute)) → SpellsSome SpellsRelative parts (left contents.entry) → Finds (permitted self) found_of found (attributes parts) result }
+    fn add_rdns(self, found: Found, contents: Constructed<'_>) -> Result<Found, InspectionError>
+        ensures { (parts : List (List Attribute)) → SpellsSome SpellsRelative parts (left contents.entry)
+            → Finds (permitted self) found_of found (attributes parts) result }
     {
         let mut rest = contents;
         let mut all = found;
@@ -148,7 +153,9 @@ impl Profile {
 
     /// Tests a name.
     pub(super) fn inspect(self, name: Constructed<'_>) -> Result<(), InspectionError>
-        ensures { (parts : List (List Attribute)) → SpellsName parts (left name.entry) → MatchResult result (λ _. IsStrict (permitted self) (attributes parts)) (λ _. IsStrict (permitted self) (attributes parts) → ⊥) }
+        ensures { (parts : List (List Attribute)) → SpellsName parts (left name.entry)
+            → MatchResult result (λ _. IsStrict (permitted self) (attributes parts))
+            (λ _. IsStrict (permitted self) (attributes parts) → ⊥) }
     {
         let mut name = name;
         let contents = match name.take_sequence() {
@@ -158,8 +165,9 @@ impl Profile {
         let nothing = Found {
             common_name: false,
             serial_number: false,
+            organization_name: false,
         };
-        let found = self.add_relatives(nothing, contents)?;
+        let found = self.add_rdns(nothing, contents)?;
         if !found.common_name {
             return Err(refusal("missing common name"));
         }

@@ -4,13 +4,14 @@ use Rattle.std.proofs.lemmas.Bool.{eqb-true}
 use Rattle.std.proofs.lemmas.Result.{err_from_is_err_and}
 use Rattle.rpki_der.specs.declared.error.DecodeError.{DecodeError}
 use Rattle.rpki_der.specs.Cursor.{left}
+use Rattle.rpki_der.specs.Walk.{HasEither}
 use Rattle.rpki_der.proofs.WalkLaws.{capture_memory, capture_refused, capture_nothing, nothing_fault}
 use Rattle.rpki_der.proofs.cursor.Constructed.capture_one.Goals as goal
 
 pub returns-then-is_empty-clause-reads : goal.returns-then-is_empty-clause-reads
 returns-then-is_empty-clause-reads c =
     let none : length c.rest-octets.result.now ≡ 0 = eqb-true _ _ (sym c.is_empty.ensures ∙ c.if-is_empty.true) in
-    capture_nothing (left c.args.self.now) (sym c.rest-octets.ensures ∙ nil_from_length c.rest-octets.result.now none)
+    capture_nothing HasEither (left c.args.self.now) (sym c.rest-octets.ensures ∙ nil_from_length c.rest-octets.result.now none)
 
 pub returns-then-is_empty-clause-fault : goal.returns-then-is_empty-clause-fault
 returns-then-is_empty-clause-fault c = λ e f.

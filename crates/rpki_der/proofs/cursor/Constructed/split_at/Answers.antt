@@ -16,15 +16,15 @@ invariant_of-front c =
     let self = c.args.self.now in
     let within = seam-within self.source.now self.start self.end c.args.at self.ordered self.inside c.requires in
     let inside = self.inside in
-    record { ordered = omega arith; inside = omega arith; stands = self.stands }
+    record { same = self.same; ordered = omega arith; inside = omega arith; stands = self.stands }
 
-pub invariant_of-behind : goal.invariant_of-behind
+pub invariant_of-following : goal.invariant_of-following
 unfolding left
-invariant_of-behind c =
+invariant_of-following c =
     let self = c.args.self.now in
     let within = seam-within self.source.now self.start self.end c.args.at self.ordered self.inside c.requires in
     let inside = self.inside in
-    record { ordered = omega arith; inside = omega arith; stands = self.stands }
+    record { same = self.same; ordered = omega arith; inside = omega arith; stands = self.stands }
 
 pub returns-clause-front : goal.returns-clause-front
 unfolding left
@@ -32,8 +32,8 @@ returns-clause-front c =
     let self = c.args.self.now in
     front-of-cut self.source.now self.start self.end c.args.at (seam-within self.source.now self.start self.end c.args.at self.ordered self.inside c.requires)
 
-pub returns-clause-behind : goal.returns-clause-behind
+pub returns-clause-following : goal.returns-clause-following
 unfolding left
-returns-clause-behind c =
+returns-clause-following c =
     let self = c.args.self.now in
     back-of-cut self.source.now self.start self.end c.args.at (seam-within self.source.now self.start self.end c.args.at self.ordered self.inside c.requires)

@@ -28,5 +28,5 @@ returns-then-not-is_legal c =
 pub returns : goal.returns
 returns c =
     let is = bits-read c.rest.result.now (left c.in_ok-contents.contents) c.in_ok-bytes.bytes c.new.result c.rest.ensures c.in-len1-up.len_at_least
-    (c.is_legal.ensures.0 c.if-not-is_legal.false) (c.in_ok-bytes.ensures ∙ c.split_at.ensures.behind) c.new.ensures in
+    (c.is_legal.ensures.0 c.if-not-is_legal.false) (c.in_ok-bytes.ensures ∙ c.split_at.ensures.following) c.new.ensures in
     leaf-accepted bit_string false IsBits _ (left c.in_ok-contents.contents) _ c.new.result c.in_ok-contents.ensures is (λ w p. bits-one c.new.result (left c.in_ok-contents.contents) w is p)

@@ -4,7 +4,7 @@ use Rattle.rpki_der.specs.Integer.{IsUnsigned}
 use Rattle.rpki_der.specs.TagName.{integer}
 use Rattle.rpki_der.proofs.LeavesLaws.{leaf-refused, leaf-accepted, leaf-bad}
 use Rattle.rpki_der.specs.Number.{number_of}
-use Rattle.rpki_der.proofs.Integers.{one-number}
+use Rattle.rpki_der.proofs.IntegerLaws.{one-number}
 use Rattle.rpki_der.proofs.TriedLaws.{tried-refused}
 use Rattle.rpki_der.proofs.cursor.Constructed.take_unsigned.Goals as goal
 

@@ -17,4 +17,4 @@ returns-in_err-size-clause-reads c =
     rw (p.1, p.2, ← c.rest-octets.ensures) (λ z. eqb-false _ _ (sym c.is_empty.ensures ∙ c.if-is_empty.false) (ap length z), any_refused c.in_err-size.ensures.refused)
 
 pub returns-clause-reads : goal.returns-clause-reads
-returns-clause-reads c = rw (c.split_at.ensures.behind, ← c.rest-octets.ensures) (some_left c.in_ok-size.ensures.accepted, any_accepted c.in_ok-size.ensures.accepted)
+returns-clause-reads c = rw (c.split_at.ensures.following, ← c.rest-octets.ensures) (some_left c.in_ok-size.ensures.accepted, any_accepted c.in_ok-size.ensures.accepted)

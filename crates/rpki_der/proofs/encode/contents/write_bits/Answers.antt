@@ -1,6 +1,6 @@
 use Rattle.std.proofs.Common.{[], ◌∷◌}
 use Rattle.std.proofs.lemmas.Result.{err_from_is_err_and}
-use Rattle.rpki_der.proofs.Writing.{beginning_of, beginning_more, writes_of_cut, writes_then}
+use Rattle.rpki_der.proofs.WritingLaws.{beginning_of, beginning_more, writes_of_cut, writes_then}
 use Rattle.rpki_der.proofs.encode.contents.write_bits.Goals as goal
 
 pub returns : goal.returns

@@ -1,6 +1,6 @@
 use Rattle.std.proofs.Common.{arith, length-append}
-use Rattle.rpki_der.proofs.Digits.{length-digits}
-use Rattle.rpki_der.proofs.HeaderWriting.{digits_none, digits_more}
+use Rattle.rpki_der.proofs.DigitLaws.{length-digits}
+use Rattle.rpki_der.proofs.HeaderWritingLaws.{digits_none, digits_more}
 use Rattle.rpki_der.proofs.encode.header.+digit_count.Goals as goal
 
 pub returns-then-room-eq0 : goal.returns-then-room-eq0

@@ -1,4 +1,4 @@
-use Rattle.rpki_der.proofs.Writing.{writes_of_cut}
+use Rattle.rpki_der.proofs.WritingLaws.{writes_of_cut}
 use Rattle.rpki_der.proofs.encode.header.write_header.Goals as goal
 
 pub returns : goal.returns

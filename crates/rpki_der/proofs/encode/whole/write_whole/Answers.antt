@@ -1,6 +1,6 @@
 use Rattle.std.proofs.Common.{◌≡◌, ℕ, Bool, false, eqb, List, [], length, take, arith, sym, ◌∙◌}
 use Rattle.std.proofs.lemmas.Result.{err_from_is_err_and}
-use Rattle.rpki_der.proofs.Writing.{all_but_then, cut_at, cut_before, keeps_take}
+use Rattle.rpki_der.proofs.WritingLaws.{all_but_then, cut_at, cut_before, keeps_take}
 use Rattle.rpki_der.proofs.encode.whole.write_whole.Goals as goal
 
 some-left : (xs : List ℕ) (b : Bool) → b ≡ false → b ≡ eqb (length xs) 0 → xs ≡ [] → ⊥

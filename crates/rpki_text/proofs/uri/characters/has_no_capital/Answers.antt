@@ -1,4 +1,4 @@
-use Rattle.rpki_text.proofs.CaseLemmas.{without_capital}
+use Rattle.rpki_text.proofs.CaseLaws.{without_capital}
 use Rattle.rpki_text.proofs.uri.characters.has_no_capital.Goals as goal
 
 pub returns : goal.returns

@@ -1,5 +1,5 @@
 use Rattle.std.proofs.Common.{◌≡◌, true, false, sym, refl, ◌∙◌}
-use Rattle.rpki_text.proofs.TextLemmas.{false_unless, same_text-length, same_text-front, same_text-other}
+use Rattle.rpki_text.proofs.TextLaws.{false_unless, same_text-length, same_text-front, same_text-other}
 use Rattle.rpki_text.proofs.uri.characters.same_but_case.Goals as goal
 
 pub returns-then-text-other : goal.returns-then-text-other

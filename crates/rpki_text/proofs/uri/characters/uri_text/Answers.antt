@@ -1,4 +1,4 @@
-use Rattle.rpki_text.proofs.CutLemmas.{IsUtf8-from_uri_bytes}
+use Rattle.rpki_text.proofs.CutLaws.{IsUtf8-from_uri_bytes}
 use Rattle.rpki_text.proofs.uri.characters.uri_text.Goals as goal
 
 pub from_utf8_unchecked-requires : goal.from_utf8_unchecked-requires

@@ -2,8 +2,8 @@ use Rattle.std.proofs.Common.{rules, ◌≡◌, ◌-◌, get_or, take, arith, fa
 use Rattle.std.specs.List.{suffix_len}
 use Rattle.std.proofs.lemmas.List.Sums.{suffix_len-take_no}
 use Rattle.rpki_text.specs.Segments.{is_slash}
-use Rattle.rpki_text.proofs.SegmentLemmas.{is_dir-empty}
-use Rattle.rpki_text.proofs.JoinLemmas.{closed_at}
+use Rattle.rpki_text.proofs.SegmentLaws.{is_dir-empty}
+use Rattle.rpki_text.proofs.JoinLaws.{closed_at}
 use Rattle.rpki_text.proofs.uri.path.after_last_slash.Goals as goal
 
 pub returns-else-text-end-ne47-clause-front : goal.returns-else-text-end-ne47-clause-front

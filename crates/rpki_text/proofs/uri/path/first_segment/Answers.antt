@@ -2,7 +2,7 @@ use Rattle.std.proofs.Common.{rules, ◌≡◌, ◌<◌, ◌+◌, length, [], ar
 use Rattle.std.proofs.lemmas.Grind.{common_steps}
 use Rattle.std.specs.List.{position_or_len}
 use Rattle.rpki_text.specs.Segments.{is_slash}
-use Rattle.rpki_text.proofs.SegmentLemmas.{segments_cut, segments_all, segments-empty, tail-slice}
+use Rattle.rpki_text.proofs.SegmentLaws.{segments_cut, segments_all, segments-empty, tail-slice}
 use Rattle.rpki_text.proofs.uri.path.first_segment.Goals as goal
 
 pub returns-then-is_empty : goal.returns-then-is_empty

@@ -1,6 +1,6 @@
 use Rattle.std.proofs.Common.{◌≡◌, ◌<◌, [], length, rules, arith}
 use Rattle.std.proofs.lemmas.Grind.{common_steps}
-use Rattle.rpki_text.proofs.HttpsLemmas.{path_above-none, path_above-some}
+use Rattle.rpki_text.proofs.HttpsPartLaws.{path_above-none, path_above-some}
 use Rattle.rpki_text.proofs.uri.path.len_above.Goals as goal
 
 pub returns-then-is_empty-clause-none : goal.returns-then-is_empty-clause-none

@@ -1,7 +1,7 @@
 use Rattle.std.proofs.Common.{◌≡◌, ◌-◌, ◌++◌, ◌∷◌, ℕ, List, length, take, arith, [], false, sym, ap, ◌∙◌, subst}
 use Rattle.rpki_text.specs.Segments.{is_dir, IsParentLen}
-use Rattle.rpki_text.proofs.SegmentLemmas.{last-some, is_dir-last_some}
-use Rattle.rpki_text.proofs.JoinLemmas.{parent_len-slash, parent_len-open}
+use Rattle.rpki_text.proofs.SegmentLaws.{last-some, is_dir-last_some}
+use Rattle.rpki_text.proofs.JoinLaws.{parent_len-slash, parent_len-open}
 use Rattle.std.proofs.lemmas.Bool.Decides.{nat_tests}
 use Rattle.rpki_text.proofs.uri.path.parent_len.Goals as goal
 

@@ -5,8 +5,8 @@ use Rattle.std.proofs.lemmas.List.{drop-drop}
 use Rattle.std.proofs.lemmas.Slice.Eq.{strip_prefix_is}
 use Rattle.rpki_text.specs.HttpsText.{without_slash}
 use Rattle.rpki_text.specs.RsyncText.{path_left}
-use Rattle.rpki_text.proofs.SegmentLemmas.{segments-empty}
-use Rattle.rpki_text.proofs.BelowLemmas.{path_left-root, below-none, below-same, below-slash, below-other}
+use Rattle.rpki_text.proofs.SegmentLaws.{segments-empty}
+use Rattle.rpki_text.proofs.BelowLaws.{path_left-root, below-none, below-same, below-slash, below-other}
 use Rattle.rpki_text.proofs.uri.path.path_below.Goals as goal
 
 pub returns-then-is_empty-clause-below : goal.returns-then-is_empty-clause-below
@@ -27,18 +27,18 @@ empty_list (b ∷ t) h = absurd (omega arith)
 pub returns-in_default-clause-below : goal.returns-in_default-clause-below
 returns-in_default-clause-below c =
     let some : 0 < length c.args.base.now = grind (arith, common_steps) in
-    let behind : c.args.path.now ≡ without_slash c.args.base.now ++ c.in_ok-rest.rest.now =
+    let following : c.args.path.now ≡ without_slash c.args.base.now ++ c.in_ok-rest.rest.now =
     rw (← c.without_last_slash.ensures) (strip_prefix_is Decides-eqb _ _ (Some c.in_ok-rest.rest) c.in_ok-rest.ensures.cases) in
     let none = empty_list _ c.in_default.ensures.cases in
-    rw none (sym (below-same c.args.path.now c.args.base.now some c.requires (behind ∙ ap (λ r. without_slash c.args.base.now ++ r) none)))
+    rw none (sym (below-same c.args.path.now c.args.base.now some c.requires (following ∙ ap (λ r. without_slash c.args.base.now ++ r) none)))
 
 pub returns-then-first-eq47-clause-below : goal.returns-then-first-eq47-clause-below
 returns-then-first-eq47-clause-below c =
     let some : 0 < length c.args.base.now = grind (arith, common_steps) in
-    let behind : c.args.path.now ≡ without_slash c.args.base.now ++ c.in_ok-rest.rest.now =
+    let following : c.args.path.now ≡ without_slash c.args.base.now ++ c.in_ok-rest.rest.now =
     rw (← c.without_last_slash.ensures) (strip_prefix_is Decides-eqb _ _ (Some c.in_ok-rest.rest) c.in_ok-rest.ensures.cases) in
     let rest = c.in-Some.ensures.cases.0 ∙ ap (λ b. b ∷ c.in-Some.below.now) c.if-first-eq47.true in
-    sym (below-slash c.args.path.now c.args.base.now c.in-Some.below.now some c.requires (behind ∙ ap (λ r. without_slash c.args.base.now ++ r) rest))
+    sym (below-slash c.args.path.now c.args.base.now c.in-Some.below.now some c.requires (following ∙ ap (λ r. without_slash c.args.base.now ++ r) rest))
 
 pub returns-then-first-eq47-clause-tail : goal.returns-then-first-eq47-clause-tail
 returns-then-first-eq47-clause-tail c =
@@ -49,6 +49,6 @@ returns-then-first-eq47-clause-tail c =
 pub returns-else-first-eq47-clause-below : goal.returns-else-first-eq47-clause-below
 returns-else-first-eq47-clause-below c =
     let some : 0 < length c.args.base.now = grind (arith, common_steps) in
-    let behind : c.args.path.now ≡ without_slash c.args.base.now ++ c.in_ok-rest.rest.now =
+    let following : c.args.path.now ≡ without_slash c.args.base.now ++ c.in_ok-rest.rest.now =
     rw (← c.without_last_slash.ensures) (strip_prefix_is Decides-eqb _ _ (Some c.in_ok-rest.rest) c.in_ok-rest.ensures.cases) in
-    sym (below-other c.args.path.now c.args.base.now _ _ some c.requires (behind ∙ ap (λ r. without_slash c.args.base.now ++ r) c.in-Some.ensures.cases.0) c.if-first-eq47.false)
+    sym (below-other c.args.path.now c.args.base.now _ _ some c.requires (following ∙ ap (λ r. without_slash c.args.base.now ++ r) c.in-Some.ensures.cases.0) c.if-first-eq47.false)

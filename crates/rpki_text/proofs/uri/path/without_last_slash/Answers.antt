@@ -1,6 +1,6 @@
 use Rattle.std.proofs.Common.{◌++◌, ◌∷◌, [], ap, ◌∙◌, arith}
 use Rattle.std.proofs.lemmas.Bool.Decides.{nat_tests}
-use Rattle.rpki_text.proofs.HttpsLemmas.{without_slash-stripped, without_slash-kept}
+use Rattle.rpki_text.proofs.HttpsPartLaws.{without_slash-stripped, without_slash-kept}
 use Rattle.rpki_text.proofs.uri.path.without_last_slash.Goals as goal
 
 pub returns-then-last-eq47 : goal.returns-then-last-eq47

@@ -8,7 +8,7 @@ use Rattle.rpki_text.specs.HexText.{hex_text, EndsAs}
 use Rattle.rpki_text.specs.contracts.util.hex.encode as f
 use Rattle.rpki_text.specs.contracts.util.hex.front_text as t
 use Rattle.rpki_text.specs.contracts.util.hex.written as w
-use Rattle.rpki_text.proofs.HexLemmas.{hex_front}
+use Rattle.rpki_text.proofs.HexLaws.{hex_front}
 use Rattle.rpki_text.proofs.util.hex.encode.Code as code
 use Rattle.rpki_text.proofs.util.hex.encode.Statement.{statement}
 use Rattle.rpki_text.proofs.util.hex.front_text.Met as front_text

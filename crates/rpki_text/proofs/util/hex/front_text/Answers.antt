@@ -1,6 +1,6 @@
 use Rattle.std.proofs.Common.{◌≡◌, sym, ◌∙◌, List, ℕ, IsUtf8, subst}
 use Rattle.rpki_text.specs.HexText.{hex_text}
-use Rattle.rpki_text.proofs.HexLemmas.{IsUtf8-hex_text}
+use Rattle.rpki_text.proofs.HexLaws.{IsUtf8-hex_text}
 use Rattle.rpki_text.proofs.util.hex.front_text.Goals as goal
 
 pub from_utf8_unchecked-requires : goal.from_utf8_unchecked-requires

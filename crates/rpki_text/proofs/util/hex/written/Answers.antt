@@ -1,4 +1,4 @@
-use Rattle.rpki_text.proofs.HexLemmas.{hex_step}
+use Rattle.rpki_text.proofs.HexLaws.{hex_step}
 use Rattle.rpki_text.proofs.util.hex.written.Goals as goal
 
 pub loop-i-preserved : goal.loop-i-preserved

@@ -1,7 +1,7 @@
 use Rattle.std.proofs.Common.{inl, inr, arith, ◌<◌, ◌≤◌, ◌⊎◌, ◌+◌, ◌^◌, get_or}
-use Rattle.rpki_der.proofs.Integers.{contents_unique}
+use Rattle.rpki_der.proofs.IntegerLaws.{contents_unique}
 use Rattle.rpki_time.proofs.SerialLaws.{kept-IsUnsigned, twenty_below}
-use Rattle.rpki_time.proofs.Written.{serial_contents-are}
+use Rattle.rpki_time.proofs.WritingLaws.{serial_contents-are}
 use Rattle.rpki_time.proofs.serial.Serial.contents.Goals as goal
 use Rattle.rpki_time.proofs.serial.Serial.contents.Goals.{then-loop-start-test+then-self-start-eq0+else-self-start-lt128, then-loop-start-test+else-self-start-eq0, else-loop-start-test}
 

@@ -1,6 +1,6 @@
 use Rattle.std.proofs.Common.{◌<◌, ◌⊎◌, inl, inr, arith, length, get_or}
-use Rattle.rpki_der.proofs.Integers.{octets_fit}
-use Rattle.rpki_time.proofs.Octets.{padded-AreTwenty, number-padded}
+use Rattle.rpki_der.proofs.IntegerLaws.{octets_fit}
+use Rattle.rpki_time.proofs.OctetLaws.{padded-AreTwenty, number-padded}
 use Rattle.rpki_time.proofs.serial.Serial.from_slice.Goals as goal
 use Rattle.rpki_time.proofs.serial.Serial.from_slice.Goals.{else-octets-eq20-via-then-octets-eq20+else-octets-ge128, else-octets-eq20-via-else-octets-eq20}
 

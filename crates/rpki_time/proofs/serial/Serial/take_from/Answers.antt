@@ -3,7 +3,7 @@ use Rattle.rpki_der.specs.Integer.{IsMagnitude}
 use Rattle.rpki_der.proofs.TriedLaws.{tried-refused}
 use Rattle.rpki_time.specs.Serial.{IsLong}
 use Rattle.rpki_time.specs.ErrorTexts.{serial_error_text}
-use Rattle.rpki_time.proofs.SerialReading.{unsigned_refused, serial_accepted, serial_too_long, refused_long}
+use Rattle.rpki_time.proofs.SerialReadingLaws.{unsigned_refused, serial_accepted, serial_too_long, refused_long}
 use Rattle.rpki_time.proofs.serial.Serial.take_from.Goals as goal
 
 pub returns-in_err-number : goal.returns-in_err-number

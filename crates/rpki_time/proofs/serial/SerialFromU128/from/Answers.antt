@@ -1,6 +1,6 @@
 use Rattle.std.proofs.Common.{◌≡◌, ◌++◌, [], arith}
 use Rattle.rpki_der.specs.Number.{number_of}
-use Rattle.rpki_time.proofs.Octets.{number-u128}
+use Rattle.rpki_time.proofs.OctetLaws.{number-u128}
 use Rattle.rpki_time.proofs.serial.SerialFromU128.from.Goals as goal
 
 pub returns : goal.returns

@@ -1,5 +1,5 @@
 use Rattle.std.proofs.Common.{sym, ◌∙◌}
-use Rattle.rpki_time.proofs.Octets.{slice_cmp-number}
+use Rattle.rpki_time.proofs.OctetLaws.{slice_cmp-number}
 use Rattle.rpki_time.proofs.serial.SerialOrd.cmp.Goals as goal
 
 pub returns : goal.returns

@@ -1,4 +1,4 @@
-use Rattle.rpki_time.proofs.TimeReading.{primitive_refused, time_accepted, time_malformed}
+use Rattle.rpki_time.proofs.TimeReadingLaws.{primitive_refused, time_accepted, time_malformed}
 use Rattle.rpki_time.proofs.time.Time.take_from.Goals as goal
 
 pub returns-in-Err : goal.returns-in-Err

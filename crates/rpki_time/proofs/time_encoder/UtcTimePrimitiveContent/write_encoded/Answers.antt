@@ -1,6 +1,6 @@
 use Rattle.std.proofs.Common.{List, ℕ, ap, subst, ◌∙◌}
 use Rattle.rpki_der.specs.Written.{WritesOrCuts}
-use Rattle.rpki_der.proofs.Writing.{writes_of_cut}
+use Rattle.rpki_der.proofs.WritingLaws.{writes_of_cut}
 use Rattle.rpki_time.specs.TimeText.{utc_text}
 use Rattle.rpki_time.proofs.time_encoder.UtcTimePrimitiveContent.write_encoded.Goals as goal
 

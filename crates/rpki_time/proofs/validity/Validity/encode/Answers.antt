@@ -1,5 +1,5 @@
-use Rattle.rpki_time.proofs.TimeValues.{times_fit}
-use Rattle.rpki_time.proofs.PeriodReading.{period_fits}
+use Rattle.rpki_time.proofs.TimeValueLaws.{times_fit}
+use Rattle.rpki_time.proofs.PeriodReadingLaws.{period_fits}
 use Rattle.rpki_time.proofs.validity.Validity.encode.Goals as goal
 
 pub returns-clause-fits : goal.returns-clause-fits

@@ -1,6 +1,6 @@
 use Rattle.std.proofs.Common.{ap, ◌∙◌}
 use Rattle.rpkibasic.specs.Table.{stands}
-use Rattle.rpkibasic.proofs.Rows.{stands-kept}
+use Rattle.rpkibasic.proofs.RowLaws.{stands-kept}
 use Rattle.rpkibasic.proofs.provider.BenchProvider.has.Goals as goal
 
 pub returns : goal.returns

@@ -1,6 +1,6 @@
 use Rattle.std.proofs.Common.{arith}
-use Rattle.rpki_der.proofs.Integers.{octets_fit}
-use Rattle.rpki_text.proofs.HexLemmas.{length-hex_text}
+use Rattle.rpki_der.proofs.IntegerLaws.{octets_fit}
+use Rattle.rpki_text.proofs.HexLaws.{length-hex_text}
 use Rattle.rpki.proofs.crypto.keys.key_identifier.hex_of.Goals as goal
 
 pub copy_from_slice-requires : goal.copy_from_slice-requires

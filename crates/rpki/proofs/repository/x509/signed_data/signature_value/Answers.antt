@@ -3,7 +3,7 @@ use Rattle.rpki_der.specs.TagName.{bit_string}
 use Rattle.rpki_der.specs.Values.{IsLeafFault}
 use Rattle.rpki_der.specs.Leaves.{IsBits}
 use Rattle.rpki_der.proofs.TriedLaws.{tried-refused}
-use Rattle.rpki.proofs.Signing.{signature-accepted, signature-refused, signature-found}
+use Rattle.rpki.proofs.SigningLaws.{signature-accepted, signature-refused, signature-found}
 use Rattle.rpki.proofs.repository.x509.signed_data.signature_value.Goals as goal
 
 pub returns-in_err-bits : goal.returns-in_err-bits

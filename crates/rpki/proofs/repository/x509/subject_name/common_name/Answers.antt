@@ -1,6 +1,6 @@
 use Rattle.std.proofs.Common.{lit<}
 use Rattle.rpki.proofs.SubjectLaws.{digits-short, attribute-short}
-use Rattle.rpki.proofs.StrictSubject.{hex-printable, subject-fits, subject-strict}
+use Rattle.rpki.proofs.StrictSubjectLaws.{hex-printable, subject-fits, subject-strict}
 use Rattle.rpki.proofs.repository.x509.subject_name.common_name.Goals as goal
 
 pub returns-clause-short : goal.returns-clause-short

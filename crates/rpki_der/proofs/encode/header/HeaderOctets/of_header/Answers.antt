@@ -1,4 +1,4 @@
-use Rattle.rpki_der.proofs.HeaderWriting.{identifier_few}
+use Rattle.rpki_der.proofs.HeaderWritingLaws.{identifier_few}
 use Rattle.rpki_der.proofs.encode.header.HeaderOctets.of_header.Goals as goal
 
 pub push_length-requires : goal.push_length-requires

@@ -1,6 +1,6 @@
 use Rattle.std.proofs.Common.{arith, length-append}
-use Rattle.rpki_der.proofs.Digits.{length-digits}
-use Rattle.rpki_der.proofs.HeaderWriting.{identifier_low, identifier_high, pushed_thrice}
+use Rattle.rpki_der.proofs.DigitLaws.{length-digits}
+use Rattle.rpki_der.proofs.HeaderWritingLaws.{identifier_low, identifier_high, pushed_thrice}
 use Rattle.rpki_der.proofs.encode.header.HeaderOctets.push_identifier.Goals as goal
 
 pub returns-then-number-lt31 : goal.returns-then-number-lt31

@@ -1,6 +1,6 @@
 use Rattle.std.proofs.Common.{arith}
-use Rattle.rpki_der.proofs.Digits.{length-digits}
-use Rattle.rpki_der.proofs.HeaderWriting.{length_short, length_long, pushed_twice}
+use Rattle.rpki_der.proofs.DigitLaws.{length-digits}
+use Rattle.rpki_der.proofs.HeaderWritingLaws.{length_short, length_long, pushed_twice}
 use Rattle.rpki_der.proofs.encode.header.HeaderOctets.push_length.Goals as goal
 
 pub returns-then-contents_len-lt128 : goal.returns-then-contents_len-lt128

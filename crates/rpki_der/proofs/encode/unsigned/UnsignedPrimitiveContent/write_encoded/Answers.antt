@@ -2,7 +2,7 @@ use Rattle.std.proofs.Common.{◌≡◌, ◌∷◌, []}
 use Rattle.std.proofs.lemmas.Result.{err_from_is_err_and}
 use Rattle.rpki_der.specs.Integer.{unsigned_contents}
 use Rattle.rpki_der.proofs.UnsignedLaws.{unsigned_behind}
-use Rattle.rpki_der.proofs.Writing.{writes_then, writes_of_cut, beginning_of, beginning_more}
+use Rattle.rpki_der.proofs.WritingLaws.{writes_then, writes_of_cut, beginning_of, beginning_more}
 use Rattle.rpki_der.proofs.encode.unsigned.UnsignedPrimitiveContent.write_encoded.Goals as goal
 
 pub returns-in_ok-write_whole : goal.returns-in_ok-write_whole

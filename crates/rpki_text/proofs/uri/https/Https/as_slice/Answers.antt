@@ -1,4 +1,4 @@
-use Rattle.rpki_text.proofs.HttpsLemmas.{https_spelled, https_uri-parts}
+use Rattle.rpki_text.proofs.HttpsPartLaws.{https_spelled, https_uri-parts}
 use Rattle.rpki_text.proofs.uri.https.Https.as_slice.Goals as goal
 
 pub returns-clause-spelled : goal.returns-clause-spelled

@@ -1,4 +1,4 @@
-use Rattle.rpki_text.proofs.HttpsLemmas.{https_form}
+use Rattle.rpki_text.proofs.HttpsPartLaws.{https_form}
 use Rattle.rpki_text.proofs.uri.https.Https.as_str.Goals as goal
 
 pub uri_text-requires : goal.uri_text-requires

@@ -1,4 +1,4 @@
-use Rattle.rpki_text.proofs.HttpsLemmas.{https_halves, https_at_path, eq_https_bytes-uri}
+use Rattle.rpki_text.proofs.HttpsPartLaws.{https_halves, https_at_path, eq_https_bytes-uri}
 use Rattle.rpki_text.proofs.uri.https.Https.eq_bytes.Goals as goal
 
 pub same_but_case-requires : goal.same_but_case-requires

@@ -1,7 +1,7 @@
 use Rattle.std.proofs.Common.{◌≡◌, refl}
 use Rattle.std.proofs.lemmas.Result.{err_from_is_err_and}
 use Rattle.rpki_text.specs.HttpsText.{https_joined}
-use Rattle.rpki_text.proofs.HttpsLemmas.{https_joined-cut, https_joined-meaning, https_joined-begins, https_join_ok, https_join_refuses, https_joined-flag}
+use Rattle.rpki_text.proofs.HttpsPartLaws.{https_joined-cut, https_joined-meaning, https_joined-begins, https_join_ok, https_join_refuses, https_joined-flag}
 use Rattle.rpki_text.proofs.uri.https.Https.join.Goals as goal
 
 pub returns-in_err-check_uri_ascii-clause-err : goal.returns-in_err-check_uri_ascii-clause-err

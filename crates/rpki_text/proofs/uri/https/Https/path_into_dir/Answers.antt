@@ -2,7 +2,7 @@ use Rattle.std.proofs.Common.{◌≡◌, ◌++◌, ◌∷◌, [], codes, sym, �
 use Rattle.std.proofs.lemmas.List.{append-nil}
 use Rattle.std.proofs.Math.Seq.{take-append_seam}
 use Rattle.rpki_text.specs.HttpsText.{IsHttpsCut}
-use Rattle.rpki_text.proofs.HttpsLemmas.{https_into_dir-dir, https_into_dir-open, into_dir-kept, into_dir-cut, https_into_dir-meaning}
+use Rattle.rpki_text.proofs.HttpsPartLaws.{https_into_dir-dir, https_into_dir-open, into_dir-kept, into_dir-cut, https_into_dir-meaning}
 use Rattle.rpki_text.proofs.uri.https.Https.path_into_dir.Goals as goal
 
 pub returns-then-path_is_dir-clause-ok : goal.returns-then-path_is_dir-clause-ok

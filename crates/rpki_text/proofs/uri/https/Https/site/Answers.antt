@@ -3,7 +3,7 @@ use Rattle.std.specs.Char.{to_ascii_lowercase}
 use Rattle.std.proofs.lemmas.List.{map-append}
 use Rattle.rpki_text.specs.UriText.{lowercase}
 use Rattle.rpki_text.specs.HttpsText.{https_authority}
-use Rattle.rpki_text.proofs.HttpsLemmas.{https_halves}
+use Rattle.rpki_text.proofs.HttpsPartLaws.{https_halves}
 use Rattle.rpki_text.proofs.uri.https.Https.site.Goals as goal
 
 pub split_at-requires : goal.split_at-requires

@@ -1,5 +1,5 @@
-use Rattle.rpki_text.proofs.LawLemmas.{spelled, parses_again}
-use Rattle.rpki_text.proofs.PartLemmas.{uri_of-parts}
+use Rattle.rpki_text.proofs.LawLaws.{spelled, parses_again}
+use Rattle.rpki_text.proofs.PartLaws.{uri_of-parts}
 use Rattle.rpki_text.proofs.uri.rsync.Rsync.as_slice.Goals as goal
 
 pub returns-clause-spelled : goal.returns-clause-spelled

@@ -1,7 +1,7 @@
 use Rattle.std.proofs.Common.{◌++◌, codes, sym, refl, ap, ◌∙◌}
 use Rattle.rpki_text.specs.UriText.{lowercase}
 use Rattle.rpki_text.specs.RsyncText.{module_name_of}
-use Rattle.rpki_text.proofs.ModuleLemmas.{canonical_by, lent}
+use Rattle.rpki_text.proofs.ModuleLaws.{canonical_by, lent}
 use Rattle.rpki_text.proofs.uri.rsync.Rsync.canonical_module.Goals as goal
 
 pub returns-then-has_no_capital-clause-ok : goal.returns-then-has_no_capital-clause-ok

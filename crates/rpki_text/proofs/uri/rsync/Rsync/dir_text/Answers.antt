@@ -2,7 +2,7 @@ use Rattle.std.proofs.Common.{◌≡◌, ◌++◌, ◌∷◌, [], false, sym, ap
 use Rattle.std.proofs.lemmas.List.{append-nil}
 use Rattle.rpki_text.specs.Segments.{is_dir, with_slash}
 use Rattle.rpki_text.specs.RsyncText.{path_of}
-use Rattle.rpki_text.proofs.JoinLemmas.{dir_text-open}
+use Rattle.rpki_text.proofs.JoinLaws.{dir_text-open}
 use Rattle.rpki_text.proofs.uri.rsync.Rsync.dir_text.Goals as goal
 
 pub returns : goal.returns

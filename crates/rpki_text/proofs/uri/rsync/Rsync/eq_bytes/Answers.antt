@@ -1,7 +1,7 @@
 use Rattle.std.proofs.Common.{◌≡◌, length, ap, ◌∙◌, arith}
-use Rattle.rpki_text.proofs.CutLemmas.{cut_facts}
-use Rattle.rpki_text.proofs.ModuleLemmas.{eq_bytes_at}
-use Rattle.rpki_text.proofs.EqBytesLemmas.{eq_bytes-uri}
+use Rattle.rpki_text.proofs.CutLaws.{cut_facts}
+use Rattle.rpki_text.proofs.ModuleLaws.{eq_bytes_at}
+use Rattle.rpki_text.proofs.EqBytesLaws.{eq_bytes-uri}
 use Rattle.rpki_text.proofs.uri.rsync.Rsync.eq_bytes.Goals as goal
 
 pub same_but_case-requires : goal.same_but_case-requires

@@ -1,18 +1,18 @@
 use Rattle.std.proofs.Common.{sym}
 use Rattle.rpki_text.specs.RsyncText.{uri_of}
-use Rattle.rpki_text.proofs.CutLemmas.{cut_of}
-use Rattle.rpki_text.proofs.ParentLemmas.{parent_test-none, parent_test-some}
-use Rattle.rpki_text.proofs.MeaningLemmas.{parent_irreflexive, parent_transitive}
+use Rattle.rpki_text.proofs.CutLaws.{cut_of}
+use Rattle.rpki_text.proofs.ParentLaws.{parent_test-none, parent_test-some}
+use Rattle.rpki_text.proofs.MeaningLaws.{parent_irreflexive, parent_transitive}
 use Rattle.rpki_text.proofs.uri.rsync.Rsync.is_parent_of.Goals as goal
 
 pub returns-in-None-clause-value : goal.returns-in-None-clause-value
-returns-in-None-clause-value c = sym (parent_test-none c.args.self.now c.args.other.now (sym c.in-None.ensures.path))
+returns-in-None-clause-value c = rw (← c.view.ensures, ← c.view-2.ensures) (sym (parent_test-none _ _ (sym c.in-None.ensures.path)))
 
 pub returns-in-Some-clause-value : goal.returns-in-Some-clause-value
 returns-in-Some-clause-value c =
-    let theirs = cut_of c.args.other.now c.in-Some.ensures.forms.0 in
-    let test = parent_test-some c.args.self.now c.args.other.now _ _ theirs _ (sym c.in-Some.ensures.path) in
-    rw c.is_empty.ensures (sym test)
+    let theirs = cut_of _ c.in-Some.ensures.forms.0 in
+    let test = parent_test-some _ _ _ _ theirs _ (sym c.in-Some.ensures.path) in
+    rw (c.is_empty.ensures, ← c.view.ensures, ← c.view-2.ensures) (sym test)
 
 pub returns-in-None-clause-irreflexive : goal.returns-in-None-clause-irreflexive
 returns-in-None-clause-irreflexive c = parent_irreflexive (uri_of c.args.self.now)

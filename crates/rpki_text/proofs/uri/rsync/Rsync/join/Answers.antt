@@ -1,5 +1,5 @@
-use Rattle.rpki_text.proofs.JoinLemmas.{cut_joined_any, relative-joined_any}
-use Rattle.rpki_text.proofs.MeaningLemmas.{joined-meaning, joined-begins}
+use Rattle.rpki_text.proofs.JoinLaws.{cut_joined_any, relative-joined_any}
+use Rattle.rpki_text.proofs.MeaningLaws.{joined-meaning, joined-begins}
 use Rattle.rpki_text.proofs.uri.rsync.Rsync.join.Goals as goal
 
 pub invariant_of-result : goal.invariant_of-result

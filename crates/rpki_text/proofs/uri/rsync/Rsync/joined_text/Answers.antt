@@ -1,18 +1,13 @@
 use Rattle.std.proofs.Common.{rules, ◌≡◌, ◌<◌, ◌++◌, length, [], arith, sym, refl, ap, ◌∙◌}
 use Rattle.std.proofs.lemmas.Result.{err_from_is_err_and}
 use Rattle.std.proofs.lemmas.Grind.{common_steps}
-use Rattle.rpki_text.proofs.JoinLemmas.{join_refuses_nothing_empty, joined-empty, with_slash-flag, joined-filled}
+use Rattle.rpki_text.proofs.JoinLaws.{join_refuses_nothing_empty, joined-empty, with_slash-flag, joined-filled}
 use Rattle.rpki_text.proofs.uri.rsync.Rsync.joined_text.Goals as goal
-
-pub returns-in_err-check_join-clause-err : goal.returns-in_err-check_join-clause-err
-returns-in_err-check_join-clause-err c =
-    let p = err_from_is_err_and c.from_residual-in_err-check_join.result c.from_residual-in_err-check_join.ensures.1 in
-    rw (p.1, p.2, c.in_err-check_join.ensures.err) refl
 
 pub returns-in_err-clone-clause-err : goal.returns-in_err-clone-clause-err
 returns-in_err-clone-clause-err c =
     let e : c.args.path.now ≡ [] = search (rules, common_steps) in
-    let p = err_from_is_err_and c.from_residual.result c.from_residual.ensures.1 in
+    let p = err_from_is_err_and c.from_residual-in_err-clone.result c.from_residual-in_err-clone.ensures.1 in
     rw (p.1, p.2, join_refuses_nothing_empty c.args.self.now c.args.path.now e) refl
 
 pub returns-then-is_empty-clause-text : goal.returns-then-is_empty-clause-text

@@ -3,9 +3,9 @@ use Rattle.std.proofs.lemmas.List.{length-drop}
 use Rattle.rpki_text.specs.Segments.{IsParentLen}
 use Rattle.std.specs.Option.{is_some}
 use Rattle.rpki_text.specs.RsyncText.{path_of, parent_uri, uri_of, IsCut}
-use Rattle.rpki_text.proofs.CutLemmas.{cut_facts}
-use Rattle.rpki_text.proofs.MeaningLemmas.{parent-there, parent_text}
-use Rattle.rpki_text.proofs.JoinLemmas.{parent_is, parent_none, parent_cut, parent_meaning, parent_uri-none}
+use Rattle.rpki_text.proofs.CutLaws.{cut_facts}
+use Rattle.rpki_text.proofs.MeaningLaws.{parent-there, parent_text}
+use Rattle.rpki_text.proofs.JoinLaws.{parent_is, parent_none, parent_cut, parent_meaning, parent_uri-none}
 use Rattle.rpki_text.proofs.uri.rsync.Rsync.parent.Goals as goal
 
 parts : (t path : List ℕ) (m p n : ℕ) → IsCut t m p → path ≡ path_of t → n ≤ length path → length t - (length path - n) ≡ p + n

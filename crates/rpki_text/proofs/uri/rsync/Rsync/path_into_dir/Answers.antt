@@ -1,8 +1,8 @@
 use Rattle.std.proofs.Common.{◌≡◌, List, ℕ, sym, ap, ◌∙◌, subst}
 use Rattle.rpki_text.specs.Segments.{is_dir, with_slash}
 use Rattle.rpki_text.specs.RsyncText.{IsCut, path_of}
-use Rattle.rpki_text.proofs.JoinLemmas.{cut_dir, is_dir-text, with_slash-dir}
-use Rattle.rpki_text.proofs.MeaningLemmas.{into_dir-begins, into_dir-meaning, into_dir-same}
+use Rattle.rpki_text.proofs.JoinLaws.{cut_dir, is_dir-text, with_slash-dir}
+use Rattle.rpki_text.proofs.MeaningLaws.{into_dir-begins, into_dir-meaning, into_dir-same}
 use Rattle.rpki_text.proofs.uri.rsync.Rsync.path_into_dir.Goals as goal
 
 pub invariant_of-self : goal.invariant_of-self

@@ -1,4 +1,4 @@
-use Rattle.rpki_text.proofs.LawLemmas.{halves}
+use Rattle.rpki_text.proofs.LawLaws.{halves}
 use Rattle.rpki_text.proofs.uri.rsync.Rsync.rest_bytes.Goals as goal
 
 pub split_at-requires : goal.split_at-requires

@@ -1,5 +1,5 @@
-use Rattle.rpki_text.proofs.LawLemmas.{halves}
-use Rattle.rpki_text.proofs.ModuleLemmas.{module_passes, module_halves}
+use Rattle.rpki_text.proofs.LawLaws.{halves}
+use Rattle.rpki_text.proofs.ModuleLaws.{module_passes, module_halves}
 use Rattle.rpki_text.proofs.uri.rsync.Rsync.site.Goals as goal
 
 pub split_at-requires : goal.split_at-requires

@@ -5,7 +5,7 @@ use Rattle.std.specs.Slice.Iter.{chunks_rest}
 use Rattle.base64.specs.Engines.{url_safe_no_pad_indifferent}
 use Rattle.base64.specs.GeneralPurpose.{encode_of}
 use Rattle.base64.proofs.EngineFacts.{encoded_prefix}
-use Rattle.rpki_text.proofs.Base64Lemmas.{chunk_first, appends_append, appends_taken, all_encoded}
+use Rattle.rpki_text.proofs.Base64Laws.{chunk_first, appends_append, appends_taken, all_encoded}
 use Rattle.rpki_text.proofs.util.base_64.Slurm.write_encoded_slice.Goals as goal
 
 pub loop-chunk-preserved : goal.loop-chunk-preserved

@@ -2,7 +2,7 @@ use Rattle.std.proofs.Common.{◌≡◌, true, sym, ap, ◌∙◌}
 use Rattle.std.specs.Str.{is_utf8}
 use Rattle.std.proofs.lemmas.Str.{is_utf8-from_IsUtf8}
 use Rattle.rpki_text.specs.Base64Text.{xml_decode_of}
-use Rattle.rpki_text.proofs.Base64Lemmas.{xml_bytes-text, xml_bytes-other}
+use Rattle.rpki_text.proofs.Base64Laws.{xml_bytes-text, xml_bytes-other}
 use Rattle.rpki_text.proofs.util.base_64.Xml.decode_bytes.Goals as goal
 
 pub returns-in-Ok-clause-ok : goal.returns-in-Ok-clause-ok

@@ -1,7 +1,7 @@
 use Rattle.std.proofs.Common.{inl, inr, sym, subst, ◌∙◌}
 use Rattle.rpki.specs.ExtensionValue.{ExtensionParts, SpellsExtension, CanBeWritten}
 use Rattle.rpki.proofs.ExtensionLaws.{can-be-written}
-use Rattle.rpki.proofs.ExtensionIndex.{has-first, named, first-number, second-number, others-of, is-some, lent}
+use Rattle.rpki.proofs.ExtensionIndexLaws.{has-first, named, first-number, second-number, others-of, is-some, lent}
 use Rattle.rpki.proofs.repository.x509.cert_extension.CertExtension.parts.Goals as goal
 
 pub members-members-requires : goal.members-members-requires

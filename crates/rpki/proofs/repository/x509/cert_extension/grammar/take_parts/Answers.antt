@@ -8,7 +8,7 @@ use Rattle.rpki_der.proofs.ReadingLaws.{UnlessMemory-weaker, UnlessMemory-from}
 use Rattle.rpki_der.proofs.LeavesLaws.{leaf-no-memory, contents-no-memory}
 use Rattle.rpki_der.proofs.TriedLaws.{tried-nothing}
 use Rattle.rpki.specs.ExtensionValue.{extension_parts, IsExtensionContents}
-use Rattle.rpki.proofs.ExtensionLaws.{no-identifier, bad-flag, no-octets, more-behind, parts-read, one-contents}
+use Rattle.rpki.proofs.ExtensionLaws.{no-identifier, bad-flag, no-octets, more-following, parts-read, one-contents}
 use Rattle.rpki.proofs.repository.x509.cert_extension.grammar.take_parts.Goals as goal
 
 -- an error that is not allocation failure
@@ -54,6 +54,6 @@ returns-in_err-finish c =
     let e = c.in_err-finish.field-0.0 in
     let h = c.in_err-finish.ensures in
     tried-nothing _ IsExtensionContents Another s e _ c.from_residual-in_err-finish.ensures (
-      UnlessMemory-from e (more-behind s _ _ _ _ _ c.in_ok-take_opt_bool.field-0 c.in_ok-identifier.ensures c.in_ok-take_opt_bool.ensures c.in_ok-octets.ensures h.1),
+      UnlessMemory-from e (more-following s _ _ _ _ _ c.in_ok-take_opt_bool.field-0 c.in_ok-identifier.ensures c.in_ok-take_opt_bool.ensures c.in_ok-octets.ensures h.1),
       λ z. let t = h.0 in cc,
     )

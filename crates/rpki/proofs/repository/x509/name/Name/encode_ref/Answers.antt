@@ -1,5 +1,5 @@
 use Rattle.rpki.proofs.NameLaws.{name-value}
-use Rattle.rpki.proofs.NameOne.{one-name}
+use Rattle.rpki.proofs.OneNameLaws.{one-name}
 use Rattle.rpki.proofs.repository.x509.name.Name.encode_ref.Goals as goal
 
 pub returns-clause-one : goal.returns-clause-one

@@ -6,7 +6,8 @@ use Rattle.rpki_der.specs.Values.{GivesOuterFault}
 use Rattle.rpki_der.proofs.ReadingLaws.{UnlessMemory-weaker}
 use Rattle.rpki_der.proofs.InsideLaws.{part-memory}
 use Rattle.rpki_der.proofs.TriedLaws.{tried-inside}
-use Rattle.rpki.specs.Name.{IsAttribute, SpellsAttribute, SpellsSome, SpellsAny}
+use Rattle.rpki.specs.Name.{IsAttribute, SpellsAttribute, SpellsSome}
+use Rattle.rpki.specs.AnyValue.{SpellsAny}
 use Rattle.rpki.specs.NameValue.{HasAfter, HasAttributeValue}
 use Rattle.rpki.proofs.NameLaws.{nothing-spelled, remains-then, remains-refused, remains-after, remains-nothing, at-end, not-at-end}
 use Rattle.rpki.proofs.repository.x509.name.grammar.skip_attributes.Goals as goal

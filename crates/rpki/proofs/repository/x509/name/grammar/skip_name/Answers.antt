@@ -2,7 +2,8 @@ use Rattle.std.proofs.Common.{rules}
 use Rattle.rpki_der.specs.Reading.{AnyFault}
 use Rattle.rpki_der.specs.TagName.{sequence}
 use Rattle.rpki_der.proofs.InsideLaws.{read-inside-where}
-use Rattle.rpki.specs.Name.{SpellsRelative, SpellsSome, SpellsAny}
+use Rattle.rpki.specs.Name.{SpellsRelative, SpellsSome}
+use Rattle.rpki.specs.AnyValue.{SpellsAny}
 use Rattle.rpki.specs.NameValue.{HasAfter, HasRelativeValue}
 use Rattle.rpki.proofs.repository.x509.name.grammar.skip_name.Goals as goal
 

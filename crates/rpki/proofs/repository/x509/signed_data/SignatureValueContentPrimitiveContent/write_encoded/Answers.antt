@@ -1,6 +1,6 @@
 use Rattle.std.proofs.Common.{◌∷◌, []}
 use Rattle.std.proofs.lemmas.Result.{err_from_is_err_and}
-use Rattle.rpki_der.proofs.Writing.{writes_then, writes_of_cut, beginning_of, beginning_more}
+use Rattle.rpki_der.proofs.WritingLaws.{writes_then, writes_of_cut, beginning_of, beginning_more}
 use Rattle.rpki.proofs.repository.x509.signed_data.SignatureValueContentPrimitiveContent.write_encoded.Goals as goal
 
 pub returns-in_err-write_whole : goal.returns-in_err-write_whole

@@ -5,7 +5,7 @@ use Rattle.rpki_der.proofs.InsideLaws.{no-memory, part-memory}
 use Rattle.rpki_der.proofs.TriedLaws.{tried-refused}
 use Rattle.rpki.specs.SignedData.{SpellsSignature}
 use Rattle.rpki.proofs.MemoryLaws.{has-either}
-use Rattle.rpki.proofs.Signing.{part-refused, no-value, no-algorithm, no-signature, contents-accepted}
+use Rattle.rpki.proofs.SigningLaws.{part-refused, no-value, no-algorithm, no-signature, contents-accepted}
 use Rattle.rpki.proofs.repository.x509.signed_data.SignedData.from_constructed.Goals as goal
 
 pub returns-in_err-signed : goal.returns-in_err-signed

@@ -4,10 +4,10 @@ use Rattle.rpki_der.specs.TagName.{integer}
 use Rattle.rpki_der.proofs.ReadingLaws.{UnlessMemory-weaker}
 use Rattle.rpki_der.proofs.ComposedLaws.{nothing-whole, nothing-after, all-read}
 use Rattle.rpki_der.proofs.LeavesLaws.{leaf-no-memory}
-use Rattle.rpki.proofs.InOrderLaws.{both-read, no-first, no-second}
+use Rattle.rpki.proofs.TwoPartsLaws.{both-read, no-first, no-second}
 use Rattle.rpki_time.specs.Serial.{IsSerialContents, SpellsSerial}
 use Rattle.rpki_time.specs.TimeValue.{SpellsTime}
-use Rattle.rpki_examples.proofs.Parts.{time_no_memory, both_same}
+use Rattle.rpki_examples.proofs.PartLaws.{time_no_memory, both_same}
 use Rattle.rpki_examples.proofs.revoked.fn.RevokedCertificate.take_from.in_sequence.Goals as goal
 
 pub returns-in-Err : goal.returns-in-Err

@@ -1,6 +1,6 @@
 use Rattle.std.proofs.Common.{refl}
 use Rattle.rpki_der.specs.declared.error.DecodeError.TheVariants.{Trailing}
-use Rattle.rpki_time.proofs.PeriodReading.{no_start, no_end, more_behind, both_read}
+use Rattle.rpki_time.proofs.PeriodReadingLaws.{no_start, no_end, more_behind, both_read}
 use Rattle.rpki_time.proofs.validity.fn.Validity.take_from.in_sequence.Goals as goal
 
 pub returns-in-Err : goal.returns-in-Err

@@ -24,23 +24,23 @@ returns-in_err-identifier c =
 
 -- ---- RSA
 
-pub returns-in_err-take_parameters : goal.returns-in_err-take_parameters
-returns-in_err-take_parameters c =
+pub returns-in_err-take_null_or_nothing : goal.returns-in_err-take_null_or_nothing
+returns-in_err-take_null_or_nothing c =
     let s = left c.args.contents.now in
     let a = c.in_ok-identifier.ensures in
     let is = c.is_named.ensures.0 c.if-is_named.true in
-    let h = c.in_err-take_parameters.ensures in
+    let h = c.in_err-take_null_or_nothing.ensures in
     record {
-      reads = tried-exactly (λ f. f) IsFormatContents s _ c.in_err-take_parameters.field-0.0 _ c.from_residual-in_err-take_parameters.ensures (rsa-not-read s _ _ a is) h.0 h.1.other;
+      reads = tried-exactly (λ f. f) IsFormatContents s _ c.in_err-take_null_or_nothing.field-0.0 _ c.from_residual-in_err-take_null_or_nothing.ensures (rsa-not-read s _ _ a is) h.0 h.1.other;
       unknown = λ u. absurd (known-named IsFormatName s _ _ a (inl is) u);
     }
 
-pub returns-in_ok-take_parameters : goal.returns-in_ok-take_parameters
-returns-in_ok-take_parameters c =
+pub returns-in_ok-take_null_or_nothing : goal.returns-in_ok-take_null_or_nothing
+returns-in_ok-take_null_or_nothing c =
     let s = left c.args.contents.now in
     let a = c.in_ok-identifier.ensures in
     let is = c.is_named.ensures.0 c.if-is_named.true in
-    let h = c.in_ok-take_parameters.ensures in
+    let h = c.in_ok-take_null_or_nothing.ensures in
     record {
       reads = (λ end. rsa-read s _ _ _ a is (h.0 end), λ some. rsa-not-read s _ _ a is (h.1 some));
       unknown = λ u. known-named IsFormatName s _ _ a (inl is) u;

@@ -6,8 +6,9 @@ use Rattle.rpki_der.specs.Integer.{IsUnsigned}
 use Rattle.rpki_der.proofs.ComposedLaws.{all-read, nothing-whole, nothing-after}
 use Rattle.rpki_der.proofs.LeavesLaws.{leaf-no-memory}
 use Rattle.rpki_der.proofs.TriedLaws.{tried-exactly}
-use Rattle.rpki.specs.PublicKey.{AreTwoNumbers}
-use Rattle.rpki.proofs.InOrderLaws.{both-read, no-first, no-second}
+use Rattle.rpki.specs.AnyValue.{SpellsAny}
+use Rattle.rpki.specs.PublicKey.{AreRsaNumbers}
+use Rattle.rpki.proofs.TwoPartsLaws.{both-read, no-first, no-second}
 use Rattle.rpki.proofs.crypto.keys.rsa.fn.take_rsa_bits.in_sequence.Goals as goal
 
 abbrev U : ℕ → List ℕ → Type 0
@@ -18,7 +19,7 @@ returns-in_err-take_unsigned c =
     let s = left c.args.contents.now in
     let e = c.in_err-take_unsigned.field-0.0 in
     let h = c.in_err-take_unsigned.ensures in
-    tried-exactly (λ u. tt) AreTwoNumbers s _ e _ c.from_residual.ensures (λ none v k. no-first U U s none k.0 k.1 k.2) h.refuses
+    tried-exactly (λ u. tt) (SpellsAny AreRsaNumbers) s _ e _ c.from_residual.ensures (λ none v k. no-first U U s none (k.0).0 (k.0).1 k.1) h.refuses
     (leaf-no-memory integer false IsUnsigned s e h.kind)
 
 pub returns-in_err-take_unsigned-2 : goal.returns-in_err-take_unsigned-2
@@ -27,14 +28,14 @@ returns-in_err-take_unsigned-2 c =
     let m = left c.take_unsigned.new.self in
     let e = c.in_err-take_unsigned-2.field-0.0 in
     let h = c.in_err-take_unsigned-2.ensures in
-    tried-exactly (λ u. tt) AreTwoNumbers s _ e _ c.from_residual-in_err-take_unsigned-2.ensures
-    (λ none v k. no-second U U s m _ c.in_ok-take_unsigned.ensures (nothing-whole U m none) k.0 k.1 k.2) h.refuses (leaf-no-memory integer false IsUnsigned m e h.kind)
+    tried-exactly (λ u. tt) (SpellsAny AreRsaNumbers) s _ e _ c.from_residual-in_err-take_unsigned-2.ensures
+    (λ none v k. no-second U U s m _ c.in_ok-take_unsigned.ensures (nothing-whole U m none) (k.0).0 (k.0).1 k.1) h.refuses (leaf-no-memory integer false IsUnsigned m e h.kind)
 
 pub returns : goal.returns
 returns c =
     let s = left c.args.contents.now in
     let a = c.in_ok-take_unsigned.ensures in
     let b = c.in_ok-take_unsigned-2.ensures in (
-      λ end. ((_, _, (both-read U U s _ _ _ a (all-read U _ _ _ b end)).0), λ w h. refl),
-      λ some v k. no-second U U s _ _ a (nothing-after U _ _ _ b some) k.0 k.1 k.2,
+      λ end. (((_, _), (both-read U U s _ _ _ a (all-read U _ _ _ b end)).0), λ w h. refl),
+      λ some v k. no-second U U s _ _ a (nothing-after U _ _ _ b some) (k.0).0 (k.0).1 k.1,
     )

@@ -24,7 +24,7 @@ returns-then-is_cms_name c =
     let s = left c.args.contents.now in
     let a = c.in_ok-identifier.ensures in
     let known = c.is_cms_name.ensures.0 c.if-is_cms_name.true in
-    record { reads = cms-all s _ _ _ _ a known c.take_parameters.ensures; unknown = λ u. absurd (known-named IsCmsName s _ _ a known u) }
+    record { reads = cms-all s _ _ _ _ a known c.take_null_or_nothing.ensures; unknown = λ u. absurd (known-named IsCmsName s _ _ a known u) }
 
 pub returns-else-is_cms_name : goal.returns-else-is_cms_name
 returns-else-is_cms_name c =

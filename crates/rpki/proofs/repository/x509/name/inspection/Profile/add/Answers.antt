@@ -1,9 +1,9 @@
 use Rattle.std.proofs.Common.{sym, ◌∙◌}
 use Rattle.rpki_der.specs.Cursor.{left}
 use Rattle.rpki.specs.Name.{attribute_of}
-use Rattle.rpki.specs.InspectedName.{permitted, found_of}
-use Rattle.rpki.proofs.InspectionLaws.{found-common, found-serial, second-common, second-serial, other-attribute, other-string}
-use Rattle.rpki.proofs.repository.x509.name.inspection.Profile.add.Goals.{then-eq+else-found, else-eq+then-eq-2+else-found-2}
+use Rattle.rpki.specs.InspectionView.{permitted, found_of}
+use Rattle.rpki.proofs.InspectionLaws.{found-common, found-serial, found-organization, second-common, second-serial, second-organization, other-attribute, other-string}
+use Rattle.rpki.proofs.repository.x509.name.inspection.Profile.add.Goals.{then-eq+else-found, else-eq+then-eq-2+else-found-2, else-eq+else-eq-2+then-eq-3+else-found-3}
 use Rattle.rpki.proofs.repository.x509.name.inspection.Profile.add.Goals as goal
 
 pub returns : goal.returns
@@ -14,6 +14,7 @@ returns c =
     elim c.if-eq.branch [
       | then-eq+else-found w ↦ rw w.found-is (found-common (permitted c.args.self) (found_of c.args.found) before a f w.if-found.false (sym c.eq.ensures ∙ w.if-eq.true) permitted')
       | else-eq+then-eq-2+else-found-2 w ↦ rw w.found-is (found-serial (permitted c.args.self) (found_of c.args.found) before a f w.if-found-2.false (sym w.eq-else-eq.ensures ∙ w.if-eq-2.true) permitted')
+      | else-eq+else-eq-2+then-eq-3+else-found-3 w ↦ rw w.found-is (found-organization (permitted c.args.self) (found_of c.args.found) before a f w.if-found-3.false (sym w.eq-else-eq-2.ensures ∙ w.if-eq-3.true) permitted')
     ]
 
 pub returns-then-found : goal.returns-then-found
@@ -24,9 +25,14 @@ pub returns-then-found-2 : goal.returns-then-found-2
 returns-then-found-2 c = λ before rest f.
     second-serial (permitted c.args.self) (found_of c.args.found) before rest (attribute_of c.args.identifier.0.now (left c.args.value)) f c.if-found-2.true (sym c.eq-else-eq.ensures ∙ c.if-eq-2.true)
 
-pub returns-else-eq-2 : goal.returns-else-eq-2
-returns-else-eq-2 c = λ before rest f.
+pub returns-then-found-3 : goal.returns-then-found-3
+returns-then-found-3 c = λ before rest f.
+    second-organization (permitted c.args.self) (found_of c.args.found) before rest (attribute_of c.args.identifier.0.now (left c.args.value)) f c.if-found-3.true (sym c.eq-else-eq-2.ensures ∙ c.if-eq-3.true)
+
+pub returns-else-eq-3 : goal.returns-else-eq-3
+returns-else-eq-3 c = λ before rest f.
     other-attribute (permitted c.args.self) before rest (attribute_of c.args.identifier.0.now (left c.args.value)) (sym c.eq.ensures ∙ c.if-eq.false) (sym c.eq-else-eq.ensures ∙ c.if-eq-2.false)
+    (sym c.eq-else-eq-2.ensures ∙ c.if-eq-3.false)
 
 pub returns-then-not-permits : goal.returns-then-not-permits
 returns-then-not-permits c = λ before rest f.

@@ -4,8 +4,8 @@ use Rattle.rpki_der.specs.Cursor.{left}
 use Rattle.rpki_der.specs.TagName.{sequence}
 use Rattle.rpki.specs.Name.{Attribute, IsAttribute, SpellsAttribute, IsIdentifierThen}
 use Rattle.rpki.specs.StrictName.{IsStrict}
-use Rattle.rpki.specs.InspectName.{IsFound}
-use Rattle.rpki.specs.InspectedName.{permitted, found_of}
+use Rattle.rpki.specs.Findings.{IsFound}
+use Rattle.rpki.specs.InspectionView.{permitted, found_of}
 use Rattle.rpki.proofs.NameLaws.{leaf-shorter, leaf-nowhere, at-end, not-at-end}
 use Rattle.rpki.proofs.InspectionLaws.{join-attributes, through-nothing, through-more, through-refused, through-all, no-attribute, this-attribute}
 use Rattle.rpki.proofs.repository.x509.name.inspection.Profile.add_attributes.Goals as goal
@@ -33,7 +33,7 @@ returns-in_err-all c =
     )
 
 pub attributes-smaller : goal.attributes-smaller
-attributes-smaller c = leaf-shorter sequence true IsIdentifierThen (left c.attributes.rest) _ (left c.take_identifier.new.cons) c.in-Ok.ensures.spells
+attributes-smaller c = leaf-shorter sequence true IsIdentifierThen (left c.attributes.rest) _ (left c.take_attribute_type.new.cons) c.in-Ok.ensures.spells
 
 pub attributes-preserved : goal.attributes-preserved
 attributes-preserved c =

@@ -1,7 +1,7 @@
 use Rattle.std.proofs.Common.{length}
 use Rattle.rpki_der.specs.Cursor.{left}
 use Rattle.rpki.specs.Name.{SpellsAttribute}
-use Rattle.rpki.specs.InspectedName.{permitted, found_of}
+use Rattle.rpki.specs.InspectionView.{permitted, found_of}
 use Rattle.rpki.proofs.InspectionLaws.{Through}
 use Rattle.rpki.proofs.repository.x509.name.inspection.Profile.add_attributes.Given as goal
 

@@ -5,7 +5,7 @@ use Rattle.rpki_der.specs.TagName.{sequence}
 use Rattle.rpki_der.proofs.ComposedLaws.{spelled-whole}
 use Rattle.rpki.specs.Name.{SpellsSome, SpellsRelative, SpellsName}
 use Rattle.rpki.specs.StrictName.{attributes}
-use Rattle.rpki.specs.InspectedName.{permitted, found_of}
+use Rattle.rpki.specs.InspectionView.{permitted, found_of}
 use Rattle.rpki.proofs.InspectionLaws.{no-contents, these-contents, never-strict, nothing-found, found-nameless, found-strict, is-not, is-so}
 use Rattle.rpki.proofs.repository.x509.name.inspection.Profile.inspect.Goals as goal
 

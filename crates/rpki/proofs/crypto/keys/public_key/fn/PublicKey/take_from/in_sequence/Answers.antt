@@ -10,7 +10,7 @@ use Rattle.rpki_der.proofs.InsideLaws.{no-memory, part-memory}
 use Rattle.rpki_der.proofs.TriedLaws.{tried-inside}
 use Rattle.rpki.specs.KeyFormat.{SpellsFormat}
 use Rattle.rpki.specs.PublicKey.{IsKeyContents}
-use Rattle.rpki.proofs.InOrderLaws.{both-read, no-first, no-second}
+use Rattle.rpki.proofs.TwoPartsLaws.{both-read, no-first, no-second}
 use Rattle.rpki.proofs.PublicKeyLaws.{only-key, key-found}
 use Rattle.rpki.proofs.crypto.keys.public_key.fn.PublicKey.take_from.in_sequence.Goals as goal
 

@@ -10,7 +10,8 @@ use Rattle.rpki_der.proofs.LeavesLaws.{leaf-no-memory}
 use Rattle.rpki_der.proofs.ComposedLaws.{all-read, nothing-whole, nothing-after}
 use Rattle.rpki_der.proofs.InsideLaws.{no-memory, part-memory}
 use Rattle.rpki_der.proofs.TriedLaws.{tried-inside}
-use Rattle.rpki.specs.Name.{IsAttribute, SpellsAny}
+use Rattle.rpki.specs.Name.{IsAttribute}
+use Rattle.rpki.specs.AnyValue.{SpellsAny}
 use Rattle.rpki.specs.NameValue.{IdentifiesValue}
 use Rattle.rpki.proofs.NameLaws.{identified, unidentified, identified-value, no-value-where-nothing}
 use Rattle.rpki.proofs.repository.x509.name.grammar.fn.skip_attribute.in_sequence.Goals as goal

@@ -1,0 +1,101 @@
+-- The name of a subject is a strict name.
+use Rattle.std.proofs.Common.{◌≡◌, ℕ, suc, zero, true, false, ◌<◌, ◌/◌, ◌%◌, List, [], ◌∷◌, length, refl, ap, sym, arith, ◌^◌, lit<, append-nil, inl}
+use Rattle.std.proofs.lemmas.List.Elements.{All-from_recursion}
+use Rattle.rpki_der.specs.TagName.{sequence, set, oid, printable_string, IsTag}
+use Rattle.rpki_der.specs.Header.{tlv}
+use Rattle.rpki_der.specs.Number.{AreOctets}
+use Rattle.rpki_der.specs.Leaves.{IsOid, IsOidOf}
+use Rattle.rpki_der.specs.Text.{is_printable, are_printable, IsPrintableText}
+use Rattle.rpki_der.specs.ValueListLaws.{sequence_legal, set_legal, primitive_value}
+use Rattle.rpki_der.proofs.EncodeLaws.{leaf_legal, tlv_at_most}
+use Rattle.rpki.specs.AlgorithmOctetsLaws.{oid-legal}
+use Rattle.rpki.specs.Oids.{common_name}
+use Rattle.rpki.specs.Name.{Attribute, attribute_of, IsAttribute, SpellsAttribute, SpellsSome, SpellsRelative, SpellsName}
+use Rattle.rpki.specs.StrictName.{IsPrintable, IsPrintableOrUtf8, IsKnown, IsStrict, attributes, IsRpkiName, IsRouterName}
+use Rattle.rpki.specs.SubjectName.{attribute_contents, subject_octets}
+use Rattle.rpki.proofs.NamedLaws.{plain-oid}
+use Rattle.rpki.proofs.SubjectLaws.{digits-short, attribute-short, name-short, set-short}
+use Rattle.rpki_text.specs.HexText.{hex_digit, hex_text}
+
+digit-printable : (n : ℕ) → n < 16 → is_printable (hex_digit n) ≡ true
+digit-printable zero h = refl
+digit-printable (suc zero) h = refl
+digit-printable (suc (suc zero)) h = refl
+digit-printable (suc (suc (suc zero))) h = refl
+digit-printable (suc (suc (suc (suc zero)))) h = refl
+digit-printable (suc (suc (suc (suc (suc zero))))) h = refl
+digit-printable (suc (suc (suc (suc (suc (suc zero)))))) h = refl
+digit-printable (suc (suc (suc (suc (suc (suc (suc zero))))))) h = refl
+digit-printable (suc (suc (suc (suc (suc (suc (suc (suc zero)))))))) h = refl
+digit-printable (suc (suc (suc (suc (suc (suc (suc (suc (suc zero))))))))) h = refl
+digit-printable (suc (suc (suc (suc (suc (suc (suc (suc (suc (suc zero)))))))))) h = refl
+digit-printable (suc (suc (suc (suc (suc (suc (suc (suc (suc (suc (suc zero))))))))))) h = refl
+digit-printable (suc (suc (suc (suc (suc (suc (suc (suc (suc (suc (suc (suc zero)))))))))))) h = refl
+digit-printable (suc (suc (suc (suc (suc (suc (suc (suc (suc (suc (suc (suc (suc zero))))))))))))) h = refl
+digit-printable (suc (suc (suc (suc (suc (suc (suc (suc (suc (suc (suc (suc (suc (suc zero)))))))))))))) h = refl
+digit-printable (suc (suc (suc (suc (suc (suc (suc (suc (suc (suc (suc (suc (suc (suc (suc zero))))))))))))))) h = refl
+digit-printable (suc (suc (suc (suc (suc (suc (suc (suc (suc (suc (suc (suc (suc (suc (suc (suc n)))))))))))))))) h = absurd (omega (arith, h))
+
+pub hex-printable : (t : List ℕ) → AreOctets t → are_printable (hex_text t) ≡ true
+hex-printable [] h = refl
+hex-printable (b ∷ t) h =
+    let small : b < 256 = h.0 in
+    rw (digit-printable (b / 16) (omega arith), digit-printable (b % 16) (omega arith)) (hex-printable t h.1)
+
+-- ---- the one attribute of the name
+
+abbrev pub digits_value : List ℕ → List ℕ
+digits_value k = tlv printable_string false (hex_text k)
+
+abbrev pub subject_parts : List ℕ → List (List Attribute)
+subject_parts k = (attribute_of common_name (digits_value k) ∷ []) ∷ []
+
+one-spelled : {V : Type 0} (G : V → List ℕ → Type 0) (v : V) (p : List ℕ) → G v p → SpellsSome G (v ∷ []) p
+one-spelled G v p h = record {
+  some = λ e. omega (arith, ap length e);
+  each = ([], record { front = p; parts = sym (append-nil p); spelled = h }, refl);
+}
+
+printable-legal : IsTag printable_string
+printable-legal = record { below = lit< tt; named = λ _. lit< tt }
+
+common-valid : IsOid common_name
+common-valid = plain-oid common_name refl (lit< tt) (lit< tt)
+
+attribute-spelled : (k : List ℕ) → length k ≡ 20 → IsAttribute (attribute_of common_name (digits_value k)) (attribute_contents k)
+attribute-spelled k size = record {
+  identified = record {
+    front = tlv oid false common_name;
+    parts = refl;
+    identifier = leaf_legal oid false IsOidOf common_name common_name oid-legal (lit< tt) (refl, common-valid);
+  };
+  one = primitive_value printable_string (hex_text k) printable-legal (digits-short k size);
+}
+
+pub subject-spelled : (k : List ℕ) → length k ≡ 20 → SpellsName (subject_parts k) (subject_octets k)
+subject-spelled k size =
+    let attribute = leaf_legal sequence true IsAttribute (attribute_of common_name (digits_value k)) (attribute_contents k) sequence_legal (attribute-short k size) (attribute-spelled k size) in
+    let relative = leaf_legal set true (SpellsSome SpellsAttribute) (attribute_of common_name (digits_value k) ∷ []) (tlv sequence true (attribute_contents k)) set_legal (name-short k size) (one-spelled SpellsAttribute _ _ attribute) in
+    leaf_legal sequence true (SpellsSome SpellsRelative) (subject_parts k) (tlv set true (tlv sequence true (attribute_contents k))) sequence_legal (set-short k size) (one-spelled SpellsRelative _ _ relative)
+
+digits-printable : (k : List ℕ) → length k ≡ 20 → are_printable (hex_text k) ≡ true → IsPrintable (digits_value k)
+digits-printable k size digits = (hex_text k, leaf_legal printable_string false IsPrintableText (hex_text k) (hex_text k) printable-legal (digits-short k size) (refl, digits))
+
+strict-subject : (P : List ℕ → Type 0) (k : List ℕ) → P (digits_value k) → IsStrict P (attributes (subject_parts k))
+strict-subject P k permitted = record {
+  common = refl;
+  serial = omega arith;
+  organization = omega arith;
+  known = All-from_recursion IsKnown (attribute_of common_name (digits_value k) ∷ []) (inl refl, tt);
+  strings = All-from_recursion (λ a. P a.value) (attribute_of common_name (digits_value k) ∷ []) (permitted, tt);
+}
+
+pub subject-strict : (k : List ℕ) → length k ≡ 20 → are_printable (hex_text k) ≡ true → IsRpkiName (subject_octets k) × IsRouterName (subject_octets k)
+subject-strict k size digits =
+    let permitted = digits-printable k size digits in (
+      (subject_parts k, subject-spelled k size, strict-subject IsPrintable k permitted),
+      (subject_parts k, subject-spelled k size, strict-subject IsPrintableOrUtf8 k (inl permitted)),
+    )
+
+pub subject-fits : (k : List ℕ) → length k ≡ 20 → length (subject_octets k) < 2 ^ 63
+subject-fits k size = omega (arith, set-short k size, tlv_at_most sequence true (tlv set true (tlv sequence true (attribute_contents k))))

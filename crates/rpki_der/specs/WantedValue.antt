@@ -1,0 +1,27 @@
+-- Values of any tag and form that is wanted: what take_value and its kin read.
+use Rattle.std.specs.Prelude.{ℕ, ◌≡◌, Bool, List}
+use Rattle.rpki_der.specs.declared.error.DecodeError.{DecodeError}
+use Rattle.rpki_der.specs.TagName.{TagName}
+use Rattle.rpki_der.specs.Reading.{IsCut}
+use Rattle.rpki_der.specs.Values.{SpellsContents, IsValueFault}
+
+-- a value whose tag and form are wanted: its tag, its form and its contents
+pub record SpellsWanted (W : TagName → Bool → Type 0) (x : TagName × Bool × List ℕ) (p : List ℕ) : Type 0 where
+  pub wanted : W x.0 x.1
+  pub value : SpellsContents x.0 x.1 x.2 p
+
+-- every tag and form
+abbrev pub IsAnyTag : TagName → Bool → Type 0
+IsAnyTag t f = Unit {0}
+
+-- the first error of a reader of such values
+abbrev pub IsWantedFault : (TagName → Bool → Type 0) → List ℕ → DecodeError → Type 0
+IsWantedFault W = IsValueFault (λ h. W h.tag h.constructed) (IsCut (SpellsWanted W))
+
+-- this tag, in either form
+abbrev pub IsTagged : TagName → TagName → Bool → Type 0
+IsTagged tag t f = t ≡ tag
+
+-- this tag in this form
+abbrev pub IsFormed : TagName → Bool → TagName → Bool → Type 0
+IsFormed tag form t f = (t ≡ tag) × (f ≡ form)

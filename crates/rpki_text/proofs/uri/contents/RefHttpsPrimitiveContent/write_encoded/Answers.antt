@@ -1,5 +1,0 @@
-use Rattle.rpki_der.proofs.Writing.{writes_of_cut}
-use Rattle.rpki_text.proofs.uri.contents.RefHttpsPrimitiveContent.write_encoded.Goals as goal
-
-pub returns : goal.returns
-returns g c = rw (← c.as_slice.ensures.text) (writes_of_cut _ _ c.write_whole.result _ c.write_whole.ensures)

@@ -1,0 +1,16 @@
+-- Where the parts of a text stand in it.
+use Rattle.std.specs.Prelude.{◌≡◌, ◌≤◌, ℕ, List, length, slice_range, Some}
+use Rattle.std.specs.declared.ops.Range.{Range}
+use Rattle.rpki_text.specs.RsyncText.{uri_of, relative}
+
+-- the part is the octets of the text in this range, which lies within the text
+pub record IsPartAt (text : List ℕ) (range : Range ℕ) (part : List ℕ) : Type 0 where
+  pub ordered : range.start ≤ range.end
+  pub within : range.end ≤ length text
+  pub octets : slice_range text range.start range.end ≡ part
+
+-- the path from v to u stands in the text of u, at this range
+pub record IsRelativeAt (u v : List ℕ) (range : Range ℕ) : Type 0 where
+  pub path : List ℕ
+  pub leads : relative (uri_of u) (uri_of v) ≡ Some path
+  pub stands : IsPartAt u range path

@@ -1,0 +1,321 @@
+//! Rsync URIs in borrowed octets (RFC 5781).
+
+ghost use Rattle.std.specs.Prelude.{◌≡◌, ◌≢◌, ◌≤◌, ◌<◌, ◌+◌, ◌++◌, ◌∷◌, [], ◌&&◌, ℕ, true, length, take, drop, bytes_eq, codes, Some, None, MatchResult, IfSome, IfNone, IfOk, OnOk, OnErr, IfErr, is_some, slice_range, if◌then◌else◌};
+ghost use Rattle.std.specs.List.{position_or_len, list_all};
+ghost use Rattle.std.specs.Option.{option_copied};
+ghost use Rattle.rpki_text.specs.Segments.{is_slash, is_dir};
+ghost use Rattle.rpki_text.specs.UriText.{lowercase, is_uri_byte};
+ghost use Rattle.rpki_text.specs.RsyncText.{rsync_refusal, has_module, uri_of, relative, is_identical, IsWayBack, IsRsync, IsCut, authority_of, module_name_of, module_of, path_of, parent_of, joined, join_refusal};
+ghost use Rattle.rpki_text.specs.Places.{IsPartAt, IsRelativeAt};
+ghost use Rattle.rpki_text.specs.Buffer.{IsWritten};
+
+use super::characters::{check_uri_ascii, slash_at, starts_with_ignore_case, uri_text};
+use super::error::Error;
+use super::path::{LEN_LIMIT, check_path, parent_len, path_below};
+use std::ops::Range;
+
+/// The length of the scheme and the slashes after it.
+const SCHEME_LEN: usize = 8;
+
+/// Where the name of the module and the path begin in the text.
+#[derive(Clone, Copy, Debug)]
+pub(super) struct Places {
+    pub(super) module_start: usize,
+    pub(super) path_start: usize,
+}
+
+/// An rsync URI in borrowed octets: what `Rsync` says of its text, without a copy and without an allocation.
+///
+/// Each part is a part of these octets, and has its range in them.
+#[derive(Clone, Copy)]
+pub struct RsyncView<'a> {
+    text: &'a [u8],
+    places: Places,
+    ghost cut: { IsCut text.now places.module_start places.path_start },
+}
+
+/// # The text and its parts
+impl<'a> RsyncView<'a> {
+    ghost use Rattle.rpki_text.specs.Views.{rsync_text};
+
+    /// Reads a URI, whose text is then exactly these octets. Allocates nothing.
+    ///
+    /// The errors are those of `Rsync::from_bytes`.
+    pub fn from_slice(slice: &'a [u8]) -> Result<RsyncView<'a>, Error>
+        ensures read { MatchResult result (λ u. (rsync_text u ≡ slice.now) × (rsync_refusal slice.now ≡ None))
+            (λ e. rsync_refusal slice.now ≡ Some e) }
+        ensures memory { IfErr result (λ e. e ≢ Error.OutOfMemory) }
+    {
+        let places = check_rsync(slice)?;
+        Ok(RsyncView {
+            text: slice,
+            places,
+        })
+    }
+
+    /// A view of a text that was read already.
+    pub(super) fn at(text: &'a [u8], places: Places) -> RsyncView<'a>
+        requires { IsCut text.now places.module_start places.path_start }
+        ensures { rsync_text result ≡ text.now }
+    {
+        RsyncView { text, places }
+    }
+
+    /// The text as it was spelled, in octets. Nothing is wrong with it except perhaps its length.
+    pub fn as_slice(&self) -> &'a [u8]
+        ensures text { result.now ≡ rsync_text self.now }
+        ensures form { IsRsync (rsync_text self.now) }
+    {
+        self.text
+    }
+
+    /// The text as it was spelled.
+    pub fn as_str(&self) -> &'a str
+        ensures { result.now ≡ rsync_text self.now }
+    {
+        uri_text(self.text)
+    }
+
+    /// The authority as it was spelled.
+    pub fn authority(&self) -> &'a str
+        ensures { result.now ≡ authority_of (rsync_text self.now) }
+    {
+        self.part(self.authority_range())
+    }
+
+    /// Where the authority stands in the text.
+    pub fn authority_range(&self) -> Range<usize>
+        ensures { IsPartAt (rsync_text self.now) result (authority_of (rsync_text self.now)) }
+    {
+        SCHEME_LEN..self.places.module_start - 1
+    }
+
+    /// The module's name, without slashes.
+    pub fn module_name(&self) -> &'a str
+        ensures { result.now ≡ module_name_of (rsync_text self.now) }
+    {
+        self.part(self.module_name_range())
+    }
+
+    /// Where the module's name stands in the text.
+    pub fn module_name_range(&self) -> Range<usize>
+        ensures { IsPartAt (rsync_text self.now) result (module_name_of (rsync_text self.now)) }
+    {
+        self.places.module_start..self.places.path_start - 1
+    }
+
+    /// Everything up to the path as it was spelled: the scheme, the authority and the module, with the slash after it.
+    pub fn module(&self) -> &'a str
+        ensures { result.now ≡ module_of (rsync_text self.now) }
+    {
+        self.part(0..self.places.path_start)
+    }
+
+    /// The path, without a slash before it.
+    pub fn path(&self) -> &'a str
+        ensures { result.now ≡ path_of (rsync_text self.now) }
+    {
+        self.part(self.path_range())
+    }
+
+    /// Where the path stands in the text: from its start to the end of the text.
+    pub fn path_range(&self) -> Range<usize>
+        ensures path { IsPartAt (rsync_text self.now) result (path_of (rsync_text self.now)) }
+        ensures last { result.end ≡ length (rsync_text self.now) }
+    {
+        self.places.path_start..self.text.len()
+    }
+
+    /// Whether the path is empty or ends with a slash.
+    pub fn path_is_dir(&self) -> bool
+        ensures { result ≡ is_dir (path_of (rsync_text self.now)) }
+    {
+        match self.path().as_bytes().last() {
+            None => true,
+            Some(last) => *last == b'/',
+        }
+    }
+
+    /// The octets of the text in this range, as text.
+    fn part(&self, range: Range<usize>) -> &'a str
+        requires ordered { range.start ≤ range.end }
+        requires within { range.end ≤ length (rsync_text self.now) }
+        ensures { result.now ≡ slice_range (rsync_text self.now) range.start range.end }
+    {
+        uri_text(&self.text[range.start..range.end])
+    }
+}
+
+/// # Paths
+impl<'a> RsyncView<'a> {
+    ghost use Rattle.rpki_text.specs.Views.{rsync_text};
+
+    /// The path from `base` to this URI, with this one's last slash, as a part of this text: the same as
+    /// `Rsync::relative_to`. Allocates nothing.
+    pub fn relative_to(&self, base: &RsyncView<'_>) -> Option<&'a str>
+        ensures path { option_copied result ≡ relative (uri_of (rsync_text self.now)) (uri_of (rsync_text base.now)) }
+        ensures back { IfSome result (λ p. 0 < length p.now
+            → IsWayBack (rsync_text self.now) (rsync_text base.now) p.now) }
+        ensures same { IfSome result (λ p. p.now ≡ []
+            → is_identical (uri_of (rsync_text self.now)) (uri_of (rsync_text base.now)) ≡ true) }
+    {
+        let path = self.path_from(base)?;
+        Some(uri_text(path))
+    }
+
+    /// Where the path from `base` to this URI stands in this text; `None` where there is none.
+    pub fn relative_range(&self, base: &RsyncView<'_>) -> Option<Range<usize>>
+        ensures some { IfSome result (λ r. IsRelativeAt (rsync_text self.now) (rsync_text base.now) r) }
+        ensures none { IfNone result (relative (uri_of (rsync_text self.now)) (uri_of (rsync_text base.now)) ≡ None) }
+    {
+        let path = self.path_from(base)?;
+        Some(self.text.len() - path.len()..self.text.len())
+    }
+
+    /// The length of the parent's text, which is the beginning of this one: this text up to its last segment. `None` if
+    /// there is no segment. Allocates nothing.
+    pub fn parent_len(&self) -> Option<usize>
+        ensures some { IfSome result (λ n. parent_of (rsync_text self.now) ≡ Some (take n (rsync_text self.now))) }
+        ensures within { IfSome result (λ n. n ≤ length (rsync_text self.now)) }
+        ensures none { IfNone result (parent_of (rsync_text self.now) ≡ None) }
+    {
+        let len = parent_len(self.path().as_bytes())?;
+        Some(self.places.path_start + len)
+    }
+
+    /// The length of the text that `Rsync::join` makes of this URI and the path. Allocates nothing.
+    ///
+    /// The errors are those of `Rsync::join`, but for `Error::OutOfMemory`.
+    pub fn joined_len(&self, path: &[u8]) -> Result<usize, Error>
+        ensures value { IfOk result (λ n. n ≡ length (joined (rsync_text self.now) path.now)) }
+        ensures ok { OnOk result (join_refusal (rsync_text self.now) path.now ≡ None) }
+        ensures err { IfErr result (λ e. join_refusal (rsync_text self.now) path.now ≡ Some e) }
+        ensures memory { IfErr result (λ e. e ≢ Error.OutOfMemory) }
+    {
+        if path.is_empty() {
+            return Ok(self.text.len());
+        }
+        check_uri_ascii(path)?;
+        check_path(path)?;
+        let len = self.text.len() + usize::from(self.needs_slash(path)) + path.len();
+        if len >= LEN_LIMIT {
+            return Err(Error::LongUri);
+        }
+        Ok(len)
+    }
+
+    /// Writes the text that `Rsync::join` makes of this URI and the path to the front of the buffer, and returns its
+    /// length; `None` if the buffer is shorter. Allocates nothing. Unless a length is returned, nothing is written.
+    ///
+    /// The errors are those of `joined_len`.
+    pub fn join_into(&self, path: &[u8], buffer: &mut [u8]) -> Result<Option<usize>, Error>
+        ensures written { IfOk result (λ o. IfSome o (λ n.
+            IsWritten (joined (rsync_text self.now) path.now) buffer.old buffer.new n)) }
+        ensures small { IfOk result (λ o. IfNone o
+            ((length buffer.old < length (joined (rsync_text self.now) path.now)) × (buffer.new ≡ buffer.old))) }
+        ensures ok { OnOk result (join_refusal (rsync_text self.now) path.now ≡ None) }
+        ensures err { IfErr result (λ e. join_refusal (rsync_text self.now) path.now ≡ Some e) }
+        ensures kept { OnErr result (buffer.new ≡ buffer.old) }
+        ensures memory { IfErr result (λ e. e ≢ Error.OutOfMemory) }
+    {
+        let len = self.joined_len(path)?;
+        if buffer.len() < len {
+            return Ok(None);
+        }
+        write_joined(self.text, self.needs_slash(path), path, buffer);
+        Ok(Some(len))
+    }
+
+    /// Whether a slash stands between this text and a path that is joined to it.
+    fn needs_slash(&self, path: &[u8]) -> bool
+        ensures { (if result then rsync_text self.now ++ 47 ∷ [] else rsync_text self.now) ++ path.now
+            ≡ joined (rsync_text self.now) path.now }
+    {
+        !path.is_empty() && !self.path_is_dir()
+    }
+
+    /// The path from the base to this URI in octets, which is empty if the segments are the same.
+    pub(super) fn path_from(&self, base: &RsyncView<'_>) -> Option<&'a [u8]>
+        ensures path { option_copied result ≡ relative (uri_of (rsync_text self.now)) (uri_of (rsync_text base.now)) }
+        ensures tail { IfSome result (λ p. (n : ℕ) × (p.now ≡ drop n (rsync_text self.now))) }
+        ensures forms { IfSome result (λ _. IsRsync (rsync_text self.now) × IsRsync (rsync_text base.now)) }
+    {
+        if !self.has_module_of(base) {
+            return None;
+        }
+        path_below(self.path().as_bytes(), base.path().as_bytes())
+    }
+
+    /// Whether both have the same authority, ignoring case, and the same module.
+    pub(super) fn has_module_of(&self, other: &RsyncView<'_>) -> bool
+        ensures { result ≡ (bytes_eq (lowercase (authority_of (rsync_text self.now)))
+            (lowercase (authority_of (rsync_text other.now)))
+            && bytes_eq (module_name_of (rsync_text self.now)) (module_name_of (rsync_text other.now))) }
+    {
+        self.authority().eq_ignore_ascii_case(other.authority())
+            && self.module_name() == other.module_name()
+    }
+}
+
+/// Writes the base, perhaps a slash, and the path to the front of a buffer that has room for them.
+fn write_joined(base: &[u8], slash: bool, path: &[u8], buffer: &mut [u8])
+    requires { length base.now + (if slash then 1 else 0) + length path.now ≤ length buffer.old }
+    ensures { buffer.new ≡ ((if slash then base.now ++ 47 ∷ [] else base.now) ++ path.now)
+        ++ drop (length base.now + (if slash then 1 else 0) + length path.now) buffer.old }
+{
+    let (front, rest) = buffer.split_at_mut(base.len());
+    front.copy_from_slice(base);
+    let path_start = usize::from(slash);
+    if slash {
+        rest[0] = b'/';
+    }
+    rest[path_start..path_start + path.len()].copy_from_slice(path);
+}
+
+/// Where the module name and the path begin.
+#[tactic(auto, using(crate::proofs::UriLaws::places))]
+fn module_and_path(text: &[u8]) -> Option<Places>
+    requires { 8 ≤ length text.now }
+    ensures full { has_module text.now ≡ is_some result }
+    ensures starts { IfSome result (λ p. (p.module_start ≡ 9 + position_or_len is_slash (drop 8 text.now))
+        × (p.path_start ≡ p.module_start + position_or_len is_slash (drop p.module_start text.now) + 1)) }
+{
+    let (_, rest) = text.split_at(SCHEME_LEN);
+    let authority = slash_at(rest);
+    if authority == 0 {
+        return None;
+    }
+    if authority == rest.len() {
+        return None;
+    }
+    let (_, tail) = rest.split_at(authority + 1);
+    let module = slash_at(tail);
+    if module == 0 {
+        return None;
+    }
+    if module == tail.len() {
+        return None;
+    }
+    Some(Places {
+        module_start: SCHEME_LEN + authority + 1,
+        path_start: SCHEME_LEN + authority + module + 2,
+    })
+}
+
+/// Tests a text, and finds where its module name and its path begin.
+#[tactic(auto, using(crate::proofs::UriLaws::refusals))]
+pub(super) fn check_rsync(text: &[u8]) -> Result<Places, Error>
+    ensures ok { OnOk result (rsync_refusal text.now ≡ None) }
+    ensures cut { IfOk result (λ p. IsCut text.now p.module_start p.path_start) }
+    ensures err { IfErr result (λ e. rsync_refusal text.now ≡ Some e) }
+{
+    check_uri_ascii(text)?;
+    if !starts_with_ignore_case(text, b"rsync://") {
+        return Err(Error::BadScheme);
+    }
+    check_path(&text[SCHEME_LEN..])?;
+    match module_and_path(text) {
+        Some(places) => Ok(places),
+        None => Err(Error::BadUri),
+    }
+}

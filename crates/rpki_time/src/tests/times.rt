@@ -1,0 +1,182 @@
+//! Sums of times, seconds since 1970, and texts of moments.
+
+use super::{Parts, moment_of, parts_of, time_of};
+use crate::*;
+use jiff::SignedDuration;
+use jiff::civil::DateTime;
+
+/// What is asked of a time.
+#[derive(Clone, Copy, Debug)]
+enum Asked {
+    FiveMinutesAgo,
+    FiveMinutesFromNow,
+    Tomorrow,
+    NextWeek,
+    NextYear,
+    YearsFromNow(i32),
+    Add(i64),
+    Subtract(i64),
+}
+
+fn ask(asked: Asked, now: Time) -> Option<Time> {
+    match asked {
+        Asked::FiveMinutesAgo => Time::five_minutes_ago(now),
+        Asked::FiveMinutesFromNow => Time::five_minutes_from_now(now),
+        Asked::Tomorrow => Time::tomorrow(now),
+        Asked::NextWeek => Time::next_week(now),
+        Asked::NextYear => Time::next_year(now),
+        Asked::YearsFromNow(years) => Time::years_from_now(years, now),
+        Asked::Add(seconds) => now.checked_add(SignedDuration::from_secs(seconds)),
+        Asked::Subtract(seconds) => now.checked_sub(SignedDuration::from_secs(seconds)),
+    }
+}
+
+const ASKED: &[(Asked, Parts, Option<Parts>)] = &[
+    (Asked::FiveMinutesAgo, (0, 1, 1, 0, 4, 59), None),
+    (
+        Asked::FiveMinutesAgo,
+        (0, 1, 1, 0, 5, 0),
+        Some((0, 1, 1, 0, 0, 0)),
+    ),
+    (
+        Asked::FiveMinutesFromNow,
+        (2019, 12, 31, 23, 55, 0),
+        Some((2020, 1, 1, 0, 0, 0)),
+    ),
+    (
+        Asked::Tomorrow,
+        (2020, 2, 28, 12, 0, 0),
+        Some((2020, 2, 29, 12, 0, 0)),
+    ),
+    (Asked::Tomorrow, (9999, 12, 31, 0, 0, 0), None),
+    (
+        Asked::NextWeek,
+        (2020, 2, 28, 12, 0, 0),
+        Some((2020, 3, 6, 12, 0, 0)),
+    ),
+    (
+        Asked::NextYear,
+        (2020, 2, 29, 12, 0, 0),
+        Some((2021, 2, 28, 12, 0, 0)),
+    ),
+    (
+        Asked::YearsFromNow(10),
+        (2020, 2, 29, 16, 39, 57),
+        Some((2030, 2, 28, 16, 39, 57)),
+    ),
+    (Asked::YearsFromNow(1), (9999, 1, 1, 0, 0, 0), None),
+    (
+        Asked::Add(-1),
+        (2020, 1, 1, 0, 0, 0),
+        Some((2019, 12, 31, 23, 59, 59)),
+    ),
+    (
+        Asked::Subtract(1),
+        (2020, 1, 1, 0, 0, 0),
+        Some((2019, 12, 31, 23, 59, 59)),
+    ),
+    (Asked::Subtract(1), (0, 1, 1, 0, 0, 0), None),
+];
+
+#[test]
+fn sums_of_times(rt: HostRuntime) {
+    for (asked, parts, expected) in ASKED {
+        let found = match time_of(*parts) {
+            Some(now) => Some(ask(*asked, now).map(parts_of)),
+            None => None,
+        };
+        assert!(rt;
+            found == Some(*expected),
+            "{asked:?} of {parts:?}: {found:?}"
+        );
+    }
+}
+
+/// Years, a date-time with its nanosecond, and the same day so many years on.
+const YEARS_ON: &[(i32, Parts, i64, Option<Parts>)] = &[
+    (
+        4,
+        (2020, 2, 29, 16, 39, 57),
+        0,
+        Some((2024, 2, 28, 16, 39, 57)),
+    ),
+    (
+        10,
+        (2020, 2, 29, 16, 39, 57),
+        0,
+        Some((2030, 2, 28, 16, 39, 57)),
+    ),
+    (1, (9999, 1, 1, 0, 0, 0), 0, None),
+    (-1, (0, 1, 1, 0, 0, 0), 0, None),
+    (
+        1,
+        (2014, 10, 21, 16, 39, 57),
+        500_000_000,
+        Some((2015, 10, 21, 16, 39, 57)),
+    ),
+];
+
+/// The date-time of these parts, and of this nanosecond.
+fn date_time_of(parts: Parts, nanosecond: i64) -> Option<DateTime> {
+    let time = moment_of(parts, nanosecond)?;
+    Some(time.date_time())
+}
+
+#[test]
+fn years_on(rt: HostRuntime) {
+    for (years, parts, nanosecond, expected) in YEARS_ON {
+        let found = match date_time_of(*parts, *nanosecond) {
+            Some(date) => Some(Time::years_from_date(*years, date)),
+            None => None,
+        };
+        let whole = found == Some(expected.and_then(time_of));
+        assert!(rt; whole, "{years} from {parts:?}: {found:?}");
+    }
+}
+
+/// A time with its nanosecond, its whole seconds, and whether a nanosecond later is a time too.
+const SECONDS: &[(Parts, i64, i64, bool)] = &[
+    ((2000, 1, 1, 0, 0, 0), 0, 946_684_800, true),
+    ((1970, 1, 1, 0, 0, 0), -500_000_000, -1, true),
+    (
+        (9999, 12, 31, 23, 59, 59),
+        999_999_999,
+        253_402_300_799,
+        false,
+    ),
+];
+
+#[test]
+fn seconds_of_times(rt: HostRuntime) {
+    for (parts, nanosecond, expected, more) in SECONDS {
+        let found = match date_time_of(*parts, *nanosecond) {
+            Some(date) if date.year() >= 0 => {
+                let time = Time::new(date);
+                let later = time.checked_add(SignedDuration::from_nanos(1));
+                Some((time.to_binary_time(), later.is_some()))
+            }
+            _ => None,
+        };
+        assert!(rt; found == Some((*expected, *more)), "{parts:?}: {found:?}");
+    }
+}
+
+/// A text, and the moment that it is read as.
+const TEXTS: &[(&str, Option<Parts>)] = &[
+    ("2030-10-01T18:30:15+02:00", Some((2030, 10, 1, 16, 30, 15))),
+    ("2030-10-01T16:30:15Z", Some((2030, 10, 1, 16, 30, 15))),
+    ("2030-10-01T16:30:15", None),
+    ("2030-10-01", None),
+    ("-000001-12-31T23:59:59Z", None),
+];
+
+#[test]
+fn texts_of_moments(rt: HostRuntime) {
+    for (text, expected) in TEXTS {
+        let found = match text.parse::<Time>() {
+            Ok(time) => Some(parts_of(time)),
+            Err(TimeParseError) => None,
+        };
+        assert!(rt; found == *expected, "{text}: {found:?}");
+    }
+}

@@ -1,0 +1,16 @@
+use Rattle.std.proofs.Common.{Ok, Err, map, refl, sym, ◌∙◌, string_bytes}
+use Rattle.rpkibasic.proofs.SeenLaws.{answer-seen, no-words}
+use Rattle.rpkibasic.proofs.runs.run.Goals as goal
+
+pub returns-in-Ok-clause-replies : goal.returns-in-Ok-clause-replies
+returns-in-Ok-clause-replies g c =
+    let seen = rw c.as_slice.ensures.value at c.show.ensures in
+    λ command named. answer-seen (map string_bytes c.args.words.now) c.in-Some.command command _ (Ok c.in-Ok.text.items) _ c.in-Some.ensures.named c.in-Ok.ensures seen named
+
+pub returns-in-Err-clause-replies : goal.returns-in-Err-clause-replies
+returns-in-Err-clause-replies g c =
+    λ command named. answer-seen (map string_bytes c.args.words.now) c.in-Some.command command _ (Err c.in-Err.fault) _ c.in-Some.ensures.named c.in-Err.ensures c.show-in-Err.ensures named
+
+pub returns-in-None-clause-usage : goal.returns-in-None-clause-usage
+returns-in-None-clause-usage g c =
+    λ other. rw (no-words string_bytes c.args.words.now (sym c.is_empty.ensures ∙ c.if-is_empty.true)) (refl, c.show-in-None.ensures)
