@@ -1,7 +1,9 @@
 //! A plain program that does what `rpkibasic again` does, as a measure: it reads signed data from standard input, walks
 //! the signed value with a stack of ends, reads the algorithm and the signature, and writes all of it again.
 
+use std::fs::File;
 use std::io::{Read, Write};
+use std::os::fd::AsFd;
 
 struct Header {
     first: u8,
@@ -132,5 +134,7 @@ fn main() {
     let mut input = Vec::new();
     std::io::stdin().read_to_end(&mut input).expect("input");
     let out = again(&input).expect("signed data");
-    std::io::stdout().write_all(&out).expect("output");
+    // As a file: std's `Stdout` looks for the ends of lines in what goes through it.
+    let output = std::io::stdout().as_fd().try_clone_to_owned().expect("output");
+    File::from(output).write_all(&out).expect("output");
 }

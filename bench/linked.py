@@ -1,0 +1,66 @@
+#!/usr/bin/env python3
+"""Times the calls of the C library in one process (bench/linked.c) beside a plain loop and, where its header is there,
+libcrypto; and walks and signed data from Rust (bench/peers) beside the crates bcder and asn1, where Debian's packages
+of them (librust-bcder-dev, librust-asn1-dev) are there.
+
+usage: bench/linked.py            (after bindings/archive)"""
+import os
+import shutil
+import subprocess
+import sys
+import tempfile
+import time
+
+TOP = os.path.dirname(os.path.dirname(os.path.abspath(__file__)))
+ARCHIVE = os.path.join(TOP, "bindings", "out", "librpki.a")
+COMPILER = [os.environ.get("CC", "cc"), "-std=c99", "-O2", "-Wall", "-Wextra", f"-I{TOP}/include"]
+CERTIFICATE = os.path.join(TOP, "examples", "certificate.der")
+REGISTRY = "/usr/share/cargo/registry"
+FROM_REGISTRY = ["--offline", "--config", 'source.crates-io.replace-with="debian"']
+FROM_REGISTRY += ["--config", f'source.debian.directory="{REGISTRY}"']
+
+
+def has_libcrypto(folder):
+    """Whether a program with libcrypto compiles and links here."""
+    path = os.path.join(folder, "libcrypto.c")
+    with open(path, "w") as source:
+        source.write("#include <openssl/x509.h>\nint main(void) { return X509_new() == 0; }\n")
+    return subprocess.run([*COMPILER, path, "-lcrypto", "-o", path + ".out"], capture_output=True).returncode == 0
+
+
+def cargo(words, folder, **options):
+    """Runs cargo in bench/peers, over the same archive and with the packages of Debian alone."""
+    variables = {"CARGO_TARGET_DIR": os.path.join(folder, "target"), "RPKI_ARCHIVE_DIR": os.path.dirname(ARCHIVE)}
+    place = os.path.join(TOP, "bench", "peers")
+    return subprocess.run(["cargo", *words, *FROM_REGISTRY], cwd=place, env={**os.environ, **variables}, **options)
+
+
+def has_peers(folder):
+    """Whether cargo finds bcder and asn1 here."""
+    if shutil.which("cargo") is None or not os.path.isdir(REGISTRY):
+        return False
+    return cargo(["generate-lockfile"], folder, capture_output=True).returncode == 0
+
+
+def main():
+    if not os.path.exists(ARCHIVE):
+        sys.exit("make the archive first: bindings/archive")
+    with tempfile.TemporaryDirectory() as folder:
+        program = os.path.join(folder, "linked")
+        libcrypto = has_libcrypto(folder)
+        words = ["-DWITH_LIBCRYPTO"] if libcrypto else []
+        words += [os.path.join(TOP, "bench", "linked.c"), ARCHIVE, *(["-lcrypto"] if libcrypto else []), "-o", program]
+        subprocess.run([*COMPILER, *words], check=True)
+        peers = has_peers(folder)
+        if peers:
+            cargo(["build", "--release", "--quiet"], folder, check=True)
+        beside = ["with" if there else "without" for there in [libcrypto, peers]]
+        print(f"{os.cpu_count()} cores, {time.strftime('%Y-%m-%d')}, {beside[0]} libcrypto, {beside[1]} bcder and asn1")
+        sys.stdout.flush()
+        subprocess.run([program, CERTIFICATE], check=True)
+        if peers:
+            subprocess.run([os.path.join(folder, "target", "release", "peers"), CERTIFICATE], check=True)
+
+
+if __name__ == "__main__":
+    main()

@@ -1,0 +1,175 @@
+//! Errors.
+
+use crate::ffi::Status;
+use std::error::Error;
+use std::fmt;
+
+/// Why octets are not the value that was asked for.
+#[derive(Clone, Copy, Debug, PartialEq, Eq, Hash)]
+pub enum DecodeError {
+    /// The octets end before the value does.
+    Truncated,
+    /// The identifier octets are not those of a tag (X.690 8.1.2): not in the shortest form, of a number of 2^28 or
+    /// more, or of the tag universal 0.
+    BadTag,
+    /// The length octets are not in the shortest definite form (X.690 8.1.3, 10.1), or announce 2^32 octets or more.
+    BadLength,
+    /// The value has another tag, or another form.
+    Unexpected,
+    /// The contents are not those of the type.
+    Content,
+    /// Octets follow the value.
+    Trailing,
+    /// Allocation failed.
+    OutOfMemory,
+}
+
+impl DecodeError {
+    pub(crate) fn from_status(status: Status) -> DecodeError {
+        match status {
+            1 => DecodeError::Truncated,
+            2 => DecodeError::BadTag,
+            3 => DecodeError::BadLength,
+            4 => DecodeError::Unexpected,
+            5 => DecodeError::Content,
+            6 => DecodeError::Trailing,
+            7 => DecodeError::OutOfMemory,
+            _ => unreachable!("{status} is the status of no call that reads DER"),
+        }
+    }
+}
+
+impl fmt::Display for DecodeError {
+    fn fmt(&self, f: &mut fmt::Formatter) -> fmt::Result {
+        f.write_str(match self {
+            DecodeError::Truncated => "truncated value",
+            DecodeError::BadTag => "malformed tag",
+            DecodeError::BadLength => "malformed length",
+            DecodeError::Unexpected => "unexpected value",
+            DecodeError::Content => "malformed contents",
+            DecodeError::Trailing => "octets after the value",
+            DecodeError::OutOfMemory => "out of memory",
+        })
+    }
+}
+
+impl Error for DecodeError {}
+
+/// Why a text is not a URI, or why a path cannot be joined to one.
+#[derive(Clone, Copy, Debug, PartialEq, Eq, Hash)]
+pub enum UriError {
+    /// There is a character that a URI may not have.
+    InvalidCharacters,
+    /// The authority, the module or the slash after the module of an rsync URI is missing, or the authority of an https
+    /// URI has 256 octets or more.
+    BadUri,
+    /// An rsync URI has 3,072 octets or more after its scheme and the slashes, or a path that is joined or the text
+    /// that joining gives has as many.
+    LongUri,
+    /// The text doesn't begin with the scheme that is read, a colon and two slashes.
+    BadScheme,
+    /// A segment is `.` or `..` (RFC 3986 section 3.3). Here and below, the authority and the module of an rsync URI
+    /// count as segments.
+    DotSegments,
+    /// A segment that is not the last is empty.
+    EmptySegments,
+    /// A segment has 256 octets or more.
+    LongSegments,
+}
+
+impl UriError {
+    pub(crate) fn from_status(status: Status) -> UriError {
+        match status {
+            1 => UriError::InvalidCharacters,
+            2 => UriError::BadUri,
+            3 => UriError::LongUri,
+            4 => UriError::BadScheme,
+            5 => UriError::DotSegments,
+            6 => UriError::EmptySegments,
+            7 => UriError::LongSegments,
+            _ => unreachable!("{status} is the status of no call that reads a URI"),
+        }
+    }
+}
+
+impl fmt::Display for UriError {
+    fn fmt(&self, f: &mut fmt::Formatter) -> fmt::Result {
+        f.write_str(match self {
+            UriError::InvalidCharacters => "invalid characters",
+            UriError::BadUri => "bad URI",
+            UriError::LongUri => "URI exceeds 3072 characters",
+            UriError::BadScheme => "bad URI scheme",
+            UriError::DotSegments => "URI with dot path segments",
+            UriError::EmptySegments => "URI with empty path segments",
+            UriError::LongSegments => "one or more segments are longer than 255 characters",
+        })
+    }
+}
+
+impl Error for UriError {}
+
+/// Why a name does not pass an inspection.
+#[derive(Clone, Copy, Debug, PartialEq, Eq, Hash)]
+pub enum InspectError {
+    /// The octets are no name.
+    Decode(DecodeError),
+    /// It is a name, but not of the profile.
+    NotOfProfile,
+}
+
+impl From<DecodeError> for InspectError {
+    fn from(error: DecodeError) -> InspectError {
+        InspectError::Decode(error)
+    }
+}
+
+impl fmt::Display for InspectError {
+    fn fmt(&self, f: &mut fmt::Formatter) -> fmt::Result {
+        match self {
+            InspectError::Decode(error) => error.fmt(f),
+            InspectError::NotOfProfile => f.write_str("name not of the profile"),
+        }
+    }
+}
+
+impl Error for InspectError {
+    fn source(&self) -> Option<&(dyn Error + 'static)> {
+        match self {
+            InspectError::Decode(error) => Some(error),
+            InspectError::NotOfProfile => None,
+        }
+    }
+}
+
+/// Why a path cannot be joined to a URI in a buffer.
+#[derive(Clone, Copy, Debug, PartialEq, Eq, Hash)]
+pub enum JoinError {
+    /// The path, or the text that joining gives, is not right.
+    Uri(UriError),
+    /// The text is longer than the buffer.
+    TooSmall,
+}
+
+impl From<UriError> for JoinError {
+    fn from(error: UriError) -> JoinError {
+        JoinError::Uri(error)
+    }
+}
+
+impl fmt::Display for JoinError {
+    fn fmt(&self, f: &mut fmt::Formatter) -> fmt::Result {
+        match self {
+            JoinError::Uri(error) => error.fmt(f),
+            JoinError::TooSmall => f.write_str("buffer too small"),
+        }
+    }
+}
+
+impl Error for JoinError {
+    fn source(&self) -> Option<&(dyn Error + 'static)> {
+        match self {
+            JoinError::Uri(error) => Some(error),
+            JoinError::TooSmall => None,
+        }
+    }
+}

@@ -1,0 +1,7 @@
+mod SuffixLaws
+mod PartLaws
+mod WholeLaws
+mod FrontLaws
+mod KeyPlaceLaws
+mod MomentLaws
+mod SignedReadingLaws

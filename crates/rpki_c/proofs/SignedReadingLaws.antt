@@ -1,0 +1,95 @@
+-- Reading the parts of signed data in place.
+use Rattle.std.proofs.Common.{◌≡◌, ℕ, Bool, true, false, List, refl, ap, subst}
+use Rattle.rpki_der.specs.declared.error.DecodeError.{DecodeError}
+use Rattle.rpki_der.specs.declared.error.DecodeError.TheVariants.{Truncated, BadTag, BadLength, Unexpected, Content, Trailing, OutOfMemory}
+use Rattle.rpki_der.specs.declared.tag.Header.{Header}
+use Rattle.rpki_der.specs.TagName.{TagName, sequence, bit_string}
+use Rattle.rpki_der.specs.Reading.{Spells, Accepts, Refuses, Refusal, UnlessMemory, SpellsNothing, AnyFault, OrMemoryWhere}
+use Rattle.rpki_der.specs.Values.{SpellsContents, IsContentsFault, GivesOuterFault, IsValueFault}
+use Rattle.rpki_der.specs.WantedValue.{SpellsWanted, IsTagged}
+use Rattle.rpki_der.specs.Leaves.{Bits, IsBits, bits_of}
+use Rattle.rpki_der.specs.Walk.{HasConstructed}
+use Rattle.rpki_der.specs.Inside.{HasInside}
+use Rattle.rpki_der.proofs.LeavesLaws.{contents-no-memory}
+use Rattle.rpki_der.proofs.ComposedLaws.{outer-refused, inner-refused}
+use Rattle.rpki_der.proofs.InsideLaws.{no-memory, part-memory}
+use Rattle.rpki.specs.Oids.{sha256_with_rsa_encryption}
+use Rattle.rpki.specs.Algorithm.{SpellsAlgorithm}
+use Rattle.rpki.specs.SignedData.{SignedParts, SpellsSignature, IsSignedContents}
+use Rattle.rpki_c.specs.Signed.{SpellsRpki, IsSignedFault}
+
+-- ---- errors that are not allocation failure
+
+pub value-no-memory : (W : Header → Type 0) (Cut : List ℕ → Type 0) (s : List ℕ) (e : DecodeError) → IsValueFault W Cut s e → e ≡ OutOfMemory → ⊥
+value-no-memory W Cut s Truncated h z = cc
+value-no-memory W Cut s BadTag h z = cc
+value-no-memory W Cut s BadLength h z = cc
+value-no-memory W Cut s Unexpected h z = cc
+value-no-memory W Cut s (Content x) h z = h
+value-no-memory W Cut s Trailing h z = h
+value-no-memory W Cut s OutOfMemory h z = h
+
+-- ---- a value of one form, of those of one tag
+
+tagged-of : (t : TagName) (f : Bool) (s c r : List ℕ) → Spells (SpellsContents t f) s c r → Spells (SpellsWanted (IsTagged t)) s (t, f, c) r
+tagged-of t f s c r v = record { front = v.front; parts = v.parts; spelled = record { wanted = refl; value = v.spelled } }
+
+pub tagged-found : (t : TagName) (f : Bool) (s c r : List ℕ) → Accepts (SpellsWanted (IsTagged t)) s (t, f, c) r → Accepts (SpellsContents t f) s c r
+tagged-found t f s c r a = record {
+  spells = record { front = a.spells.front; parts = a.spells.parts; spelled = a.spells.spelled.value };
+  only = λ d q v.
+      let e = a.only (t, f, d) q (tagged-of t f s d q v) in
+      (ap (λ (x : TagName × Bool × List ℕ). x.2) e.0, e.1);
+}
+
+pub tagged-none : (t : TagName) (f : Bool) (s : List ℕ) → Refuses (SpellsWanted (IsTagged t)) s → Refuses (SpellsContents t f) s
+tagged-none t f s none c r v = none (t, f, c) r (tagged-of t f s c r v)
+
+-- the value is constructed
+pub tagged-other : (t : TagName) (s c r : List ℕ) → Accepts (SpellsWanted (IsTagged t)) s (t, true, c) r → Refuses (SpellsContents t false) s
+tagged-other t s c r a d q v =
+    let e = a.only (t, false, d) q (tagged-of t false s d q v) in
+    let k : false ≡ true = ap (λ (x : TagName × Bool × List ℕ). x.1) e.0 in
+    cc
+
+-- ---- a signature, of the contents of a bit string
+
+contents-of : (s v r : List ℕ) → (h : Spells SpellsSignature s v r) → Spells (SpellsContents bit_string false) s h.spelled.string.contents r
+contents-of s v r h = record { front = h.front; parts = h.parts; spelled = h.spelled.string.value }
+
+pub no-bits : (s : List ℕ) → Refuses (SpellsContents bit_string false) s → Refuses SpellsSignature s
+no-bits s none v r h = none h.spelled.string.contents r (contents-of s v r h)
+
+-- the contents are none of a bit string
+pub bad-bits : (s c q : List ℕ) → Accepts (SpellsContents bit_string false) s c q → ((b : Bits) → IsBits b c → ⊥) → Refuses SpellsSignature s
+bad-bits s c q a none v r h =
+    let e = a.only h.spelled.string.contents r (contents-of s v r h) in
+    let b = bits_of h.spelled.unused v in
+    none b (subst (λ (d : List ℕ). IsBits b d) e.0 h.spelled.string.spelled)
+
+-- ---- signed data, over the reader of its contents
+
+-- the contents of signed data of the RPKI
+abbrev pub AreParts : SignedParts Bool → List ℕ → Type 0
+AreParts = IsSignedContents (SpellsAlgorithm sha256_with_rsa_encryption)
+
+-- there is no SEQUENCE
+pub sequence-refused : (s q : List ℕ) (e : DecodeError) → Refusal (SpellsContents sequence true) (IsContentsFault sequence true) s q e → Refusal SpellsRpki IsSignedFault s s e
+sequence-refused s q e h =
+    let k = outer-refused sequence true AreParts s q s e refl h in
+    record {
+      unchanged = refl;
+      refuses = k.refuses;
+      kind = no-memory (HasInside sequence HasConstructed) (GivesOuterFault sequence true) s e (contents-no-memory sequence true s e h.kind) k.kind;
+    }
+
+-- its contents are not the parts, or allocation failed
+pub parts-refused : (s c q : List ℕ) (e : DecodeError) → Accepts (SpellsContents sequence true) s c q
+    → UnlessMemory e (SpellsNothing AreParts c) × OrMemoryWhere HasConstructed AnyFault c e → Refusal SpellsRpki IsSignedFault s s e
+parts-refused s c q e a h =
+    let k = inner-refused sequence true AreParts s c q s e refl a h.0 in
+    record {
+      unchanged = refl;
+      refuses = k.refuses;
+      kind = part-memory HasConstructed (HasInside sequence HasConstructed) AnyFault (GivesOuterFault sequence true) c s e (λ p. (c, q, a.spells, p)) h.1 k.kind;
+    }

@@ -1,0 +1,11 @@
+use Rattle.rpki_c.proofs.MomentLaws.{moment}
+use Rattle.rpki_c.proofs.times.read_time.Goals as goal
+
+pub returns-in-Ok-clause-ok : goal.returns-in-Ok-clause-ok
+returns-in-Ok-clause-ok c =
+    let h = c.in-Ok.ensures in
+    record {
+      time = c.in-Ok.time;
+      spelled = h.0;
+      moment = moment c.args.octets.now c.in-Ok.time c.moment_of.result h.0 c.moment_of.ensures.since c.moment_of.ensures.date c.moment_of.ensures.clock;
+    }

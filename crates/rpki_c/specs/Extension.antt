@@ -1,0 +1,33 @@
+-- What a status says of the octets of an extension.
+use Rattle.std.specs.Prelude.{◌≡◌, ◌⊎◌, ◌+◌, ◌++◌, ℕ, true, List, drop, length}
+use Rattle.rpki_der.specs.declared.error.DecodeError.{DecodeError}
+use Rattle.rpki_der.specs.TagName.{sequence}
+use Rattle.rpki_der.specs.Reading.{Finds, OrMemoryWhere, IsWholeFault}
+use Rattle.rpki_der.specs.Values.{GivesOuterFault}
+use Rattle.rpki.specs.ExtensionValue.{ExtensionParts, SpellsExtension}
+use Rattle.rpki_c.specs.declared.extensions.ExtensionParts.{ExtensionParts as Parts}
+use Rattle.rpki_c.specs.Place.{IsPlace}
+use Rattle.rpki_c.specs.Whole.{IsRefused}
+
+-- the error of a reader of one extension, and of a reader of nothing else
+abbrev pub IsExtensionFault : List ℕ → DecodeError → Type 0
+IsExtensionFault = OrMemoryWhere (Finds SpellsExtension) (GivesOuterFault sequence true)
+
+abbrev pub IsWholeExtensionFault : List ℕ → DecodeError → Type 0
+IsWholeExtensionFault = IsWholeFault SpellsExtension IsExtensionFault
+
+-- the octets are an extension: the contents of its identifier and the octets of its OCTET STRING stand at these places,
+-- the one right before the two other parts, the other last
+pub record HasExtension (s : List ℕ) (p : Parts) : Type 0 where
+  pub parts : ExtensionParts
+  pub spelled : SpellsExtension parts s
+  pub id : IsPlace s p.id parts.identifier
+  pub octets : IsPlace s p.octets parts.content
+  pub first : drop (p.id.start + p.id.length) s ≡ spelled.spelled.second ++ spelled.spelled.third
+  pub last : p.octets.start + p.octets.length ≡ length s
+  pub critical : p.critical ≡ parts.critical
+
+-- Status 0: the octets are an extension of these parts. Else the number of the error, and nothing is written.
+abbrev pub IsExtensionRead : List ℕ → ℕ → Parts → Parts → Type 0
+IsExtensionRead s status old new =
+    ((status ≡ 0) × HasExtension s new) ⊎ (IsRefused SpellsExtension IsWholeExtensionFault s status × (new ≡ old))

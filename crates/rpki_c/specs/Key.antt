@@ -1,0 +1,53 @@
+-- What a status says of the octets of a public key.
+use Rattle.std.specs.Prelude.{◌≡◌, ◌⊎◌, ◌+◌, ℕ, true, List, length}
+use Rattle.sha1.specs.Sha1.{sha1}
+use Rattle.rpki_der.specs.TagName.{sequence}
+use Rattle.rpki_der.specs.declared.error.DecodeError.{DecodeError}
+use Rattle.rpki_der.specs.Reading.{Finds, OrMemoryWhere, IsWholeFault}
+use Rattle.rpki_der.specs.Inside.{HasInside}
+use Rattle.rpki_der.specs.Values.{GivesOuterFault}
+use Rattle.rpki.specs.PublicKey.{KeyParts, IsKeyContents, SpellsKey}
+use Rattle.rpki.specs.declared.crypto.keys.PublicKeyFormat.{PublicKeyFormat}
+use Rattle.rpki.specs.declared.crypto.keys.PublicKeyFormat.TheVariants.{Rsa, EcdsaP256}
+use Rattle.rpki_c.specs.declared.keys.KeyParts.{KeyParts as Parts}
+use Rattle.rpki_c.specs.Place.{IsPlace}
+use Rattle.rpki_c.specs.Whole.{IsRefused}
+
+-- the error of a reader of one public key
+abbrev pub IsKeyFault : List ℕ → DecodeError → Type 0
+IsKeyFault = OrMemoryWhere (HasInside sequence (Finds IsKeyContents)) (GivesOuterFault sequence true)
+
+-- the same of a reader of nothing else
+abbrev pub IsWholeKeyFault : List ℕ → DecodeError → Type 0
+IsWholeKeyFault = IsWholeFault SpellsKey IsKeyFault
+
+-- how a format is passed
+abbrev pub format_number : PublicKeyFormat → ℕ
+format_number Rsa = 0
+format_number EcdsaP256 = 1
+
+-- the octets are a public key: its format, how many bits are unused, and where its bits stand, the last octets
+pub record HasKey (s : List ℕ) (p : Parts) : Type 0 where
+  pub key : KeyParts
+  pub spelled : SpellsKey key s
+  pub format : p.format ≡ format_number key.format
+  pub unused : p.unused ≡ key.bits.unused
+  pub bits : IsPlace s p.bits key.bits.octets
+  pub last : p.bits.start + p.bits.length ≡ length s
+
+-- Status 0: the octets are a public key of these parts. Else the number of the error, and nothing is written.
+abbrev pub IsKeyRead : List ℕ → ℕ → Parts → Parts → Type 0
+IsKeyRead s status old new =
+    ((status ≡ 0) × HasKey s new) ⊎ (IsRefused SpellsKey IsWholeKeyFault s status × (new ≡ old))
+
+-- the octets are a public key, and the twenty octets are the SHA-1 digest of its bits
+pub record HasIdentifier (s twenty : List ℕ) : Type 0 where
+  pub key : KeyParts
+  pub spelled : SpellsKey key s
+  pub digest : twenty ≡ sha1 key.bits.octets
+
+-- Status 0: the octets are a public key, and its identifier was written. Else the number of the error, and nothing is
+-- written.
+abbrev pub IsIdentified : List ℕ → ℕ → List ℕ → List ℕ → Type 0
+IsIdentified s status old new =
+    ((status ≡ 0) × HasIdentifier s new) ⊎ (IsRefused SpellsKey IsWholeKeyFault s status × (new ≡ old))

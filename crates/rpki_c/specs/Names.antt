@@ -1,0 +1,33 @@
+-- What a status says of the octets of a name.
+use Rattle.std.specs.Prelude.{◌≡◌, ◌⊎◌, ◌<◌, ℕ, zero, suc, Bool, true, List, IsTrue}
+use Rattle.rpki_der.specs.TagName.{sequence}
+use Rattle.rpki_der.specs.declared.error.DecodeError.{DecodeError}
+use Rattle.rpki_der.specs.Reading.{OrMemoryWhere, IsWholeFault}
+use Rattle.rpki_der.specs.Values.{GivesOuterFault}
+use Rattle.rpki.specs.Name.{IsName, SpellsNameOctets}
+use Rattle.rpki.specs.NameValue.{HasNameValue}
+use Rattle.rpki.specs.StrictName.{IsRpkiName, IsRouterName}
+use Rattle.rpki_c.specs.Status.{not_of_profile, no_profile}
+use Rattle.rpki_c.specs.Whole.{IsRefused}
+
+-- the error of a reader of one name
+abbrev pub IsNameFault : List ℕ → DecodeError → Type 0
+IsNameFault = OrMemoryWhere HasNameValue (GivesOuterFault sequence true)
+
+-- the same of a reader of nothing else
+abbrev pub IsWholeNameFault : List ℕ → DecodeError → Type 0
+IsWholeNameFault = IsWholeFault SpellsNameOctets IsNameFault
+
+-- 0 is the profile of the RPKI, and any other number that of routers
+abbrev pub IsOfProfile : ℕ → List ℕ → Type 0
+IsOfProfile zero s = IsRpkiName s
+IsOfProfile (suc n) s = IsRouterName s
+
+-- Status 0: the octets are a name, and one of the profile unless strict is false. 11: they are a name, strict is true,
+-- and the name is not of the profile. 12: no profile has the number. Else the number of the error.
+abbrev pub IsInspected : List ℕ → ℕ → Bool → ℕ → Type 0
+IsInspected s profile strict status =
+    ((status ≡ 0) × (profile < 2) × IsName s × (IsTrue strict → IsOfProfile profile s))
+    ⊎ ((status ≡ not_of_profile) × (profile < 2) × IsName s × IsTrue strict × (IsOfProfile profile s → ⊥))
+    ⊎ ((status ≡ no_profile) × (1 < profile))
+    ⊎ ((profile < 2) × IsRefused SpellsNameOctets IsWholeNameFault s status)

@@ -1,0 +1,44 @@
+-- What a status says of the octets of signed data.
+use Rattle.std.specs.Prelude.{◌≡◌, ◌⊎◌, ◌+◌, ℕ, Bool, true, List, drop, length}
+use Rattle.rpki_der.specs.declared.error.DecodeError.{DecodeError}
+use Rattle.rpki_der.specs.TagName.{sequence}
+use Rattle.rpki_der.specs.Reading.{OrMemoryWhere, IsWholeFault}
+use Rattle.rpki_der.specs.Values.{GivesOuterFault}
+use Rattle.rpki_der.specs.Inside.{HasInside}
+use Rattle.rpki_der.specs.Walk.{HasConstructed}
+use Rattle.rpki.specs.Oids.{sha256_with_rsa_encryption}
+use Rattle.rpki.specs.Algorithm.{SpellsAlgorithm}
+use Rattle.rpki.specs.SignedData.{SignedParts, SpellsSigned}
+use Rattle.rpki_c.specs.declared.signed.SignedParts.{SignedParts as Parts}
+use Rattle.rpki_c.specs.Place.{IsPlace}
+use Rattle.rpki_c.specs.Whole.{IsRefused}
+
+-- signed data of the RPKI; of the algorithm it is said whether it has parameters
+abbrev pub SpellsRpki : SignedParts Bool → List ℕ → Type 0
+SpellsRpki = SpellsSigned (SpellsAlgorithm sha256_with_rsa_encryption)
+
+-- the error of a reader of signed data, and of a reader of nothing else
+abbrev pub IsSignedFault : List ℕ → DecodeError → Type 0
+IsSignedFault = OrMemoryWhere (HasInside sequence HasConstructed) (GivesOuterFault sequence true)
+
+abbrev pub IsWholeSignedFault : List ℕ → DecodeError → Type 0
+IsWholeSignedFault = IsWholeFault SpellsRpki IsSignedFault
+
+-- the octets are signed data: its parts stand at these places, one after another, the signature's octets last
+pub record HasSigned (s : List ℕ) (p : Parts) : Type 0 where
+  pub parts : SignedParts Bool
+  pub spelled : SpellsRpki parts s
+  pub signed : IsPlace s p.«data» parts.signed
+  pub algorithm : IsPlace s p.algorithm spelled.spelled.text
+  pub signature : IsPlace s p.signature parts.value
+  pub first : drop p.«data».start s ≡ spelled.contents
+  pub next : p.algorithm.start ≡ p.«data».start + p.«data».length
+  pub last : p.signature.start + p.signature.length ≡ length s
+  pub unused : p.unused ≡ spelled.spelled.signature.unused
+  pub parameters : p.has_parameters ≡ parts.algorithm
+
+-- Status 0: the octets are signed data with its parts at these places. Else the number of the error, and nothing is
+-- written.
+abbrev pub IsSignedRead : List ℕ → ℕ → Parts → Parts → Type 0
+IsSignedRead s status old new =
+    ((status ≡ 0) × HasSigned s new) ⊎ (IsRefused SpellsRpki IsWholeSignedFault s status × (new ≡ old))

@@ -1,0 +1,85 @@
+-- What a status says of the texts of rsync URIs. No call here allocates, so no status is that of an allocation failure.
+use Rattle.std.specs.Prelude.{◌≡◌, ◌≢◌, ◌⊎◌, ◌≤◌, ◌<◌, ◌+◌, ℕ, List, take, length, Option, Some, None}
+use Rattle.rpki_text.specs.ErrorText.{error_number}
+use Rattle.rpki_text.specs.Buffer.{IsWritten}
+use Rattle.rpki_text.specs.RsyncText.{rsync_refusal, join_refusal, joined, relative, uri_of, parent_of, authority_of, module_name_of, path_of}
+use Rattle.rpki_text.specs.declared.uri.error.Error.{Error}
+use Rattle.rpki_text.specs.declared.uri.error.Error.TheVariants.{OutOfMemory}
+use Rattle.rpki_c.specs.declared.rsync.RsyncParts.{RsyncParts}
+use Rattle.rpki_c.specs.declared.place.Place.{Place}
+use Rattle.rpki_c.specs.Place.{IsPlace}
+use Rattle.rpki_c.specs.Status.{too_small, no_answer, second}
+
+-- there is an error, none of an allocation, and the status is its number
+pub record IsTextFault (refusal : Option Error) (status : ℕ) : Type 0 where
+  pub error : Error
+  pub is : refusal ≡ Some error
+  pub number : status ≡ error_number error
+  pub memory : error ≢ OutOfMemory
+
+-- the same of the second of two texts: the status is that much more
+pub record IsSecondFault (refusal : Option Error) (status : ℕ) : Type 0 where
+  pub error : Error
+  pub is : refusal ≡ Some error
+  pub number : status ≡ error_number error + second
+  pub memory : error ≢ OutOfMemory
+
+-- of two texts the first has an error, or else the second
+abbrev pub IsFaultOfTwo : Option Error → Option Error → ℕ → Type 0
+IsFaultOfTwo first second status = IsTextFault first status ⊎ ((first ≡ None) × IsSecondFault second status)
+
+-- the parts of the text stand at these places
+pub record HasRsyncParts (text : List ℕ) (p : RsyncParts) : Type 0 where
+  pub authority : IsPlace text p.authority (authority_of text)
+  pub module_name : IsPlace text p.module_name (module_name_of text)
+  pub path : IsPlace text p.path (path_of text)
+
+-- Status 0: the text is an rsync URI of these parts. Else: its first error, and nothing was written.
+abbrev pub IsRsyncParsed : List ℕ → ℕ → RsyncParts → RsyncParts → Type 0
+IsRsyncParsed text status old new =
+    ((status ≡ 0) × (rsync_refusal text ≡ None) × HasRsyncParts text new)
+    ⊎ (IsTextFault (rsync_refusal text) status × (new ≡ old))
+
+-- both texts are rsync URIs
+abbrev pub AreRsync : List ℕ → List ℕ → Type 0
+AreRsync u v = (rsync_refusal u ≡ None) × (rsync_refusal v ≡ None)
+
+-- the path from v to u stands in the text of u at the place
+pub record IsRelativeAt (u v : List ℕ) (p : Place) : Type 0 where
+  pub path : List ℕ
+  pub leads : relative (uri_of u) (uri_of v) ≡ Some path
+  pub place : IsPlace u p path
+
+-- Status 0: both are rsync URIs, and the path from v to u stands at this place. 10: both are, and there is no such
+-- path. Else: the error of one of them. Unless the status is 0, nothing was written.
+abbrev pub IsRelative : List ℕ → List ℕ → ℕ → Place → Place → Type 0
+IsRelative u v status old new =
+    ((status ≡ 0) × AreRsync u v × IsRelativeAt u v new)
+    ⊎ ((status ≡ no_answer) × AreRsync u v × (relative (uri_of u) (uri_of v) ≡ None) × (new ≡ old))
+    ⊎ (IsFaultOfTwo (rsync_refusal u) (rsync_refusal v) status × (new ≡ old))
+
+-- the path can be joined to the base
+abbrev pub AreJoinable : List ℕ → List ℕ → Type 0
+AreJoinable base path = (rsync_refusal base ≡ None) × (join_refusal base path ≡ None)
+
+-- nothing was written
+pub record IsUnwritten (old new : List ℕ) (before after : ℕ) : Type 0 where
+  pub buffer : new ≡ old
+  pub size : after ≡ before
+
+-- Status 0: both can be joined, and this was written. 9: both can be joined, and the buffer is shorter. Else: the error
+-- of one of them. Unless the status is 0, nothing was written.
+abbrev pub IsJoined : List ℕ → List ℕ → ℕ → List ℕ → List ℕ → ℕ → ℕ → Type 0
+IsJoined base path status old new before after =
+    ((status ≡ 0) × AreJoinable base path × IsWritten (joined base path) old new after)
+    ⊎ ((status ≡ too_small) × AreJoinable base path × (length old < length (joined base path))
+    × IsUnwritten old new before after)
+    ⊎ (IsFaultOfTwo (rsync_refusal base) (join_refusal base path) status × IsUnwritten old new before after)
+
+-- Status 0: the parent of the URI is the first so many octets of its text. 10: the text is an rsync URI without a
+-- segment. Else: its first error. Unless the status is 0, nothing was written.
+abbrev pub IsParent : List ℕ → ℕ → ℕ → ℕ → Type 0
+IsParent text status old new =
+    ((status ≡ 0) × (rsync_refusal text ≡ None) × (new ≤ length text) × (parent_of text ≡ Some (take new text)))
+    ⊎ ((status ≡ no_answer) × (rsync_refusal text ≡ None) × (parent_of text ≡ None) × (new ≡ old))
+    ⊎ (IsTextFault (rsync_refusal text) status × (new ≡ old))

@@ -1,0 +1,165 @@
+//! Signed data.
+
+ghost use Rattle.std.specs.Prelude.{◌≡◌, ◌≢◌, false};
+ghost use Rattle.rpki_der.specs.declared.error.DecodeError.{DecodeError};
+ghost use Rattle.rpki_der.specs.Cursor.{left};
+ghost use Rattle.rpki_der.specs.TagName.{bit_string};
+ghost use Rattle.rpki_der.specs.Reading.{Reads, Decodes, AnyFault, OrMemoryWhere};
+ghost use Rattle.rpki_der.specs.Values.{SpellsContents};
+ghost use Rattle.rpki_der.specs.Walk.{HasConstructed};
+ghost use Rattle.rpki.specs.Oids.{sha256_with_rsa_encryption};
+ghost use Rattle.rpki.specs.Algorithm.{SpellsAlgorithm};
+ghost use Rattle.rpki.specs.SignedData.{parts_of, SpellsSignature, IsSignedContents};
+ghost use Rattle.rpki_c.specs.Signed.{SpellsRpki, IsWholeSignedFault, HasSigned, IsSignedRead};
+
+use crate::place::{Place, contents_of};
+use rpki::crypto::{RpkiSignatureAlgorithm, SignatureAlgorithm};
+use rpki_der::{
+    BitString, Constructed, Content, ContentError, DecodeError, Steps, Tag, read_header,
+    walk_octets,
+};
+use std::alloc::Global;
+
+/// The parts of signed data.
+#[repr(C)]
+#[derive(Clone, Copy)]
+pub struct SignedParts {
+    /// The value that is signed, with its header.
+    pub data: Place,
+    /// The algorithm identifier, a SEQUENCE, with its header.
+    pub algorithm: Place,
+    /// The octets of the signature.
+    pub signature: Place,
+    /// How many bits of the signature's last octet are unused.
+    pub unused: u8,
+    /// Whether the algorithm has parameters, a NULL.
+    pub has_parameters: bool,
+}
+
+/// The contents of a primitive BIT STRING, which are not validated; moves past it.
+///
+/// The errors are those of a header; then `Unexpected` for another tag or form; then `Truncated`.
+fn take_bit_contents<'a>(cons: &mut Constructed<'a>) -> Result<&'a [u8], DecodeError>
+    ensures { Reads (λ c. c.now) (SpellsContents bit_string false) (λ _ e. e ≢ DecodeError.OutOfMemory)
+        (left cons.old) (left cons.new) result }
+{
+    // Another form is an error before a cut value is one, as for every other reader of a leaf.
+    if let Ok((header, _)) = read_header(cons.rest()) {
+        if header.constructed {
+            return Err(DecodeError::Unexpected);
+        }
+    }
+    let mut after = *cons;
+    match after.take_value_if(Tag::BIT_STRING) {
+        Ok(Content::Primitive(contents)) => {
+            *cons = after;
+            Ok(contents)
+        }
+        Ok(Content::Constructed(_)) => Err(DecodeError::Unexpected),
+        Err(e) => Err(e),
+    }
+}
+
+/// The octets of a signature, with any count of unused bits; moves past it.
+///
+/// The errors are those of a BIT STRING.
+fn take_signature<'a>(cons: &mut Constructed<'a>) -> Result<&'a [u8], DecodeError>
+    ensures { Reads (λ v. v.now) SpellsSignature (λ _ e. e ≢ DecodeError.OutOfMemory)
+        (left cons.old) (left cons.new) result }
+{
+    let mut after = *cons;
+    let contents = take_bit_contents(&mut after)?;
+    let [unused, octets @ ..] = contents else {
+        return Err(DecodeError::Content(ContentError::from_static("malformed BIT STRING")));
+    };
+    if !BitString::is_legal(*unused, octets) {
+        return Err(DecodeError::Content(ContentError::from_static("malformed BIT STRING")));
+    }
+    *cons = after;
+    Ok(octets)
+}
+
+/// The parts that are all of these contents: the value that is signed, whether the algorithm has parameters, and the
+/// octets of the signature.
+///
+/// The errors are those of the parts; then `Trailing`. Allocation can fail only if a constructed value begins the
+/// contents.
+fn read_parts<'a>(
+    alloc: Global,
+    contents: &'a [u8],
+) -> Result<(&'a [u8], bool, &'a [u8]), DecodeError>
+    ensures { Decodes (λ x. parts_of x.0.now x.1 x.2.now)
+        (IsSignedContents (SpellsAlgorithm sha256_with_rsa_encryption)) (OrMemoryWhere HasConstructed AnyFault)
+        contents.now result }
+{
+    let size = walk_octets(alloc, contents, &mut Steps::new())?;
+    let (data, following) = contents.split_at(size);
+    let mut rest = Constructed::from_slice(alloc, following);
+    let algorithm = match RpkiSignatureAlgorithm::x509_take_from(&mut rest) {
+        Ok(algorithm) => algorithm,
+        Err(e) => return Err(e),
+    };
+    let value = take_signature(&mut rest)?;
+    rest.finish()?;
+    Ok((data, algorithm.has_parameters(), value))
+}
+
+/// The parts of signed data by an algorithm of the RPKI, and of nothing else, as they stand in the octets.
+fn read_signed<'a>(
+    alloc: Global,
+    octets: &'a [u8],
+) -> Result<(&'a [u8], bool, &'a [u8]), DecodeError>
+    ensures { Decodes (λ x. parts_of x.0.now x.1 x.2.now) SpellsRpki IsWholeSignedFault octets.now result }
+{
+    let mut cons = Constructed::from_slice(alloc, octets);
+    let contents = cons.take_sequence()?;
+    let found = read_parts(alloc, contents.rest())?;
+    cons.finish()?;
+    Ok(found)
+}
+
+/// Where the parts of the signed data stand that the octets are.
+fn places_of(octets: &[u8], signed: &[u8], has_parameters: bool, signature: &[u8]) -> SignedParts
+    requires { SpellsRpki (parts_of signed.now has_parameters signature.now) octets.now }
+    ensures { HasSigned octets.now result }
+{
+    let outer = contents_of(octets);
+    let data = signed.len();
+    let next = outer.start + data;
+    let inner = contents_of(&octets[next..]);
+    let value = signature.len();
+    let last = octets.len() - value;
+    SignedParts {
+        data: Place {
+            start: outer.start,
+            length: data,
+        },
+        algorithm: Place {
+            start: next,
+            length: inner.start + inner.length,
+        },
+        signature: Place {
+            start: last,
+            length: value,
+        },
+        unused: octets[last - 1],
+        has_parameters,
+    }
+}
+
+/// Reads signed data of the RPKI (RFC 5280 4.1, RFC 7935 2), and says where its parts stand.
+///
+/// The status is 0, or the number of the error; then `out` is unchanged. Allocation can fail only if a constructed
+/// value begins the contents of the SEQUENCE, or if octets follow signed data.
+#[unsafe(no_mangle)]
+pub extern "C" fn rpki_signed_data(alloc: Global, octets: &[u8], out: &mut SignedParts) -> u8
+    ensures { IsSignedRead octets.now result out.old out.new }
+{
+    match read_signed(alloc, octets) {
+        Ok((signed, has_parameters, signature)) => {
+            *out = places_of(octets, signed, has_parameters, signature);
+            0
+        }
+        Err(e) => e.number(),
+    }
+}

@@ -1,0 +1,390 @@
+/*
+ * rpki.h: the DER and X.509 layer of the RPKI, for C99 and C++.
+ *
+ * Each call below is proved: its contract stands in crates/rpki_c/src, and docs/PROVED.md lists it. A call reads octets
+ * of the caller's, returns a status, and where the status is 0 (RPKI_OK) writes what it found to `out`. Nothing is kept
+ * from call to call, nothing has to be freed, and no call writes to its input. Parts of the input are told as places
+ * (struct rpki_place): where they start, counted from the first octet that was passed, and how many octets they have.
+ *
+ * Where the status is not 0, `out` is left as it was; only `*count` of rpki_index is written with RPKI_TOO_SMALL too.
+ *
+ * What a call takes of memory it frees before it returns. Those that take none, and so never return RPKI_OUT_OF_MEMORY,
+ * are rpki_header, rpki_serial, rpki_time, rpki_validity and the calls on URIs.
+ *
+ * What the caller owes, which no call can check:
+ *  - A pointer and the size after it are octets that may be read, fewer than 2^63, and that nobody writes to during the
+ *    call. Only read-only data is needed: they may be in constant memory or in a mapped file.
+ *  - No pointer is NULL, with size 0 either: where there are no octets pass any other pointer, as that of an empty
+ *    string. (The proofs rest on this. The compiled calls look at no octet where the size is 0, and the tests pass NULL
+ *    with size 0 too; but no contract covers that.)
+ *  - `out`, and each other parameter that is written, is aligned for its type and is inside neither the octets that are
+ *    read nor another parameter. It need not be initialised.
+ *  - malloc, realloc and free are of one allocator, and align a block to each power of two up to 16 that divides its
+ *    size. Calls are not made from a signal handler, or between fork and exec of a process with threads.
+ *
+ * Calls may be made from several threads at once, on the same octets too. The stack that a call takes is small and does
+ * not grow with the input, however deeply values are nested.
+ *
+ * Link with librpki.a, which bindings/archive makes; it needs malloc, realloc, free, memcpy and memmove alone.
+ */
+#ifndef RPKI_H
+#define RPKI_H
+
+#include <stdbool.h>
+#include <stddef.h>
+#include <stdint.h>
+
+#ifdef __cplusplus
+extern "C" {
+#endif
+
+/* ---- Statuses ---- */
+
+/* What a call returns: RPKI_OK, or the number of what is wrong. */
+typedef uint8_t rpki_status;
+
+enum {
+    RPKI_OK = 0,
+
+    /* Of calls that read DER (X.690). */
+    RPKI_TRUNCATED = 1,     /* the octets end before the value does */
+    RPKI_BAD_TAG = 2,       /* the identifier octets are not in the shortest form, of a number of 2^28 or more, or of
+                               the tag universal 0 (X.690 8.1.2) */
+    RPKI_BAD_LENGTH = 3,    /* the length octets are not in the shortest definite form, or announce 2^32 octets or more
+                               (X.690 8.1.3, 10.1) */
+    RPKI_UNEXPECTED = 4,    /* the value has another tag, or another form */
+    RPKI_CONTENT = 5,       /* the contents are not those of the type that is read */
+    RPKI_TRAILING = 6,      /* octets follow the value */
+    RPKI_OUT_OF_MEMORY = 7, /* malloc or realloc returned NULL */
+
+    /* Of calls that read URIs: the first of these that is wrong, in the order 1, 4, 3, then 5 to 7 from the left, then
+       2. No call on URIs takes memory, so none returns 8. */
+    RPKI_URI_INVALID_CHARACTERS = 1, /* a character that a URI may not have */
+    RPKI_URI_BAD_URI = 2,            /* no authority, no module, or no slash after the module, in an rsync URI; an
+                                        authority of 256 octets or more in an https URI */
+    RPKI_URI_LONG_URI = 3,           /* 3,072 octets or more after the scheme and the slashes of an rsync URI; as many
+                                        in a path that is joined, or in the text that joining gives */
+    RPKI_URI_BAD_SCHEME = 4,         /* the text does not begin with the scheme that is read, a colon and two slashes */
+    RPKI_URI_DOT_SEGMENTS = 5,       /* a segment is `.` or `..` (here and below, the authority and the module of an
+                                        rsync URI count as segments) */
+    RPKI_URI_EMPTY_SEGMENTS = 6,     /* a segment that is not the last is empty */
+    RPKI_URI_LONG_SEGMENTS = 7,      /* a segment has 256 octets or more */
+    RPKI_URI_OUT_OF_MEMORY = 8,      /* the layer's number, which no call here returns */
+
+    /* Of single calls, which name them. */
+    RPKI_TOO_SMALL = 9,       /* the caller's array or buffer has no room */
+    RPKI_NO_ANSWER = 10,      /* there is nothing to answer: no path leads there, there is no parent */
+    RPKI_NOT_OF_PROFILE = 11, /* a name, but not of the profile */
+    RPKI_NO_PROFILE = 12,     /* no profile has this number */
+
+    /* Calls on two texts add this to the number of what is wrong with the second. */
+    RPKI_SECOND = 16
+};
+
+/* ---- Structs ---- */
+
+/* A part of the octets that were passed: octets[start] to octets[start + length - 1], all of them inside. */
+struct rpki_place {
+    size_t start;
+    size_t length;
+};
+
+/* Classes of tags (X.690 8.1.2.2). */
+enum {
+    RPKI_UNIVERSAL = 0,
+    RPKI_APPLICATION = 1,
+    RPKI_CONTEXT = 2,
+    RPKI_PRIVATE = 3
+};
+
+/* The header of a value (X.690 8.1.2, 8.1.3). */
+struct rpki_header_parts {
+    uint8_t tag_class; /* RPKI_UNIVERSAL to RPKI_PRIVATE */
+    bool constructed;  /* whether the contents are values themselves */
+    uint32_t number;   /* the number of the tag, below 2^28 */
+    uint32_t length;   /* how many contents octets the header announces */
+    size_t size;       /* how many octets the header itself has */
+};
+
+/* One value, at the front of the octets. */
+struct rpki_walked {
+    uint64_t headers; /* how many headers it has, its own among them */
+    size_t size;      /* how many octets it has */
+};
+
+/* The parent of an entry that is inside no other. */
+#define RPKI_NO_PARENT SIZE_MAX
+
+/* One header of a value, and where its value stands. */
+struct rpki_entry {
+    size_t start;      /* where the header begins */
+    size_t contents;   /* where the contents begin */
+    size_t end;        /* where the value ends: the place after its last octet */
+    size_t parent;     /* the number of the entry of the value around it, or RPKI_NO_PARENT */
+    uint32_t number;   /* the number of the tag */
+    uint8_t tag_class; /* RPKI_UNIVERSAL to RPKI_PRIVATE */
+    bool constructed;  /* whether the contents are values, which then have entries of their own */
+};
+
+/* The parts of signed data (RFC 5280 4.1), as of a certificate or a revocation list. */
+struct rpki_signed_parts {
+    struct rpki_place data;      /* what is signed: one value, its header included */
+    struct rpki_place algorithm; /* the algorithm identifier, its header included */
+    struct rpki_place signature; /* the octets of the signature's bits */
+    uint8_t unused;              /* how many bits of the last of them are unused: 0 to 7, and they are zero */
+    bool has_parameters;         /* whether the algorithm identifier has parameters, a NULL */
+};
+
+/* Formats of public keys. */
+enum {
+    RPKI_RSA = 0,       /* rsaEncryption (RFC 8017 A.1) */
+    RPKI_ECDSA_P256 = 1 /* id-ecPublicKey on the curve secp256r1 (RFC 5480 2.1.1) */
+};
+
+/* The parts of a public key (RFC 5280 4.1.2.7). */
+struct rpki_key_parts {
+    uint8_t format;         /* RPKI_RSA or RPKI_ECDSA_P256 */
+    uint8_t unused;         /* how many bits of the last octet are unused: 0 to 7, and they are zero */
+    struct rpki_place bits; /* the octets of the key's bits, without the count of unused bits before them */
+};
+
+/* Profiles of names. */
+enum {
+    RPKI_PROFILE_RPKI = 0,  /* of resource certificates (RFC 6487 4.4, 4.5) */
+    RPKI_PROFILE_ROUTER = 1 /* of router certificates (RFC 8209 3.1.1) */
+};
+
+/* A moment in UTC. */
+struct rpki_moment {
+    int64_t seconds; /* seconds since 1970-01-01 00:00:00, every day with 86,400; negative before */
+    int32_t year;    /* 0 to 9999 */
+    uint32_t month;  /* 1 to 12 */
+    uint32_t day;    /* 1 to 31 */
+    uint32_t hour;   /* 0 to 23 */
+    uint32_t minute; /* 0 to 59 */
+    uint32_t second; /* 0 to 59 */
+};
+
+/* A period of validity (RFC 5280 4.1.2.5). Nothing is said of which moment is earlier. */
+struct rpki_period {
+    struct rpki_moment not_before;
+    struct rpki_moment not_after;
+};
+
+/* The parts of an extension of a certificate (RFC 5280 4.1). */
+struct rpki_extension_parts {
+    struct rpki_place id;     /* the contents octets of its object identifier */
+    struct rpki_place octets; /* the contents octets of its OCTET STRING */
+    bool critical;            /* false where there is no BOOLEAN */
+};
+
+/* The parts of an rsync URI, rsync://AUTHORITY/MODULE/PATH (RFC 5781). */
+struct rpki_rsync_parts {
+    struct rpki_place authority;   /* not empty; a port stands in it */
+    struct rpki_place module_name; /* not empty, without slashes */
+    struct rpki_place path;        /* what follows the slash after the module; may be empty */
+};
+
+/* The parts of an https URI. */
+struct rpki_https_parts {
+    struct rpki_place authority; /* may be empty */
+    struct rpki_place path;      /* empty, or begins with its slash */
+};
+
+/* Sizes and offsets are those of the library, which is built for 64 bits: an array of size -1 is refused here. */
+#define RPKI_ASSERT(name, condition) typedef char rpki_assert_##name[(condition) ? 1 : -1]
+#define RPKI_ASSERT_AT(type, member, at) RPKI_ASSERT(type##_##member, offsetof(struct rpki_##type, member) == (at))
+RPKI_ASSERT(size_t, sizeof(size_t) == 8);
+RPKI_ASSERT(bool, sizeof(bool) == 1);
+RPKI_ASSERT(place, sizeof(struct rpki_place) == 16);
+RPKI_ASSERT_AT(place, start, 0);
+RPKI_ASSERT_AT(place, length, 8);
+RPKI_ASSERT(header_parts, sizeof(struct rpki_header_parts) == 24);
+RPKI_ASSERT_AT(header_parts, tag_class, 0);
+RPKI_ASSERT_AT(header_parts, constructed, 1);
+RPKI_ASSERT_AT(header_parts, number, 4);
+RPKI_ASSERT_AT(header_parts, length, 8);
+RPKI_ASSERT_AT(header_parts, size, 16);
+RPKI_ASSERT(walked, sizeof(struct rpki_walked) == 16);
+RPKI_ASSERT_AT(walked, headers, 0);
+RPKI_ASSERT_AT(walked, size, 8);
+RPKI_ASSERT(entry, sizeof(struct rpki_entry) == 40);
+RPKI_ASSERT_AT(entry, start, 0);
+RPKI_ASSERT_AT(entry, contents, 8);
+RPKI_ASSERT_AT(entry, end, 16);
+RPKI_ASSERT_AT(entry, parent, 24);
+RPKI_ASSERT_AT(entry, number, 32);
+RPKI_ASSERT_AT(entry, tag_class, 36);
+RPKI_ASSERT_AT(entry, constructed, 37);
+RPKI_ASSERT(signed_parts, sizeof(struct rpki_signed_parts) == 56);
+RPKI_ASSERT_AT(signed_parts, data, 0);
+RPKI_ASSERT_AT(signed_parts, algorithm, 16);
+RPKI_ASSERT_AT(signed_parts, signature, 32);
+RPKI_ASSERT_AT(signed_parts, unused, 48);
+RPKI_ASSERT_AT(signed_parts, has_parameters, 49);
+RPKI_ASSERT(key_parts, sizeof(struct rpki_key_parts) == 24);
+RPKI_ASSERT_AT(key_parts, format, 0);
+RPKI_ASSERT_AT(key_parts, unused, 1);
+RPKI_ASSERT_AT(key_parts, bits, 8);
+RPKI_ASSERT(moment, sizeof(struct rpki_moment) == 32);
+RPKI_ASSERT_AT(moment, seconds, 0);
+RPKI_ASSERT_AT(moment, year, 8);
+RPKI_ASSERT_AT(moment, month, 12);
+RPKI_ASSERT_AT(moment, day, 16);
+RPKI_ASSERT_AT(moment, hour, 20);
+RPKI_ASSERT_AT(moment, minute, 24);
+RPKI_ASSERT_AT(moment, second, 28);
+RPKI_ASSERT(period, sizeof(struct rpki_period) == 64);
+RPKI_ASSERT_AT(period, not_before, 0);
+RPKI_ASSERT_AT(period, not_after, 32);
+RPKI_ASSERT(extension_parts, sizeof(struct rpki_extension_parts) == 40);
+RPKI_ASSERT_AT(extension_parts, id, 0);
+RPKI_ASSERT_AT(extension_parts, octets, 16);
+RPKI_ASSERT_AT(extension_parts, critical, 32);
+RPKI_ASSERT(rsync_parts, sizeof(struct rpki_rsync_parts) == 48);
+RPKI_ASSERT_AT(rsync_parts, authority, 0);
+RPKI_ASSERT_AT(rsync_parts, module_name, 16);
+RPKI_ASSERT_AT(rsync_parts, path, 32);
+RPKI_ASSERT(https_parts, sizeof(struct rpki_https_parts) == 32);
+RPKI_ASSERT_AT(https_parts, authority, 0);
+RPKI_ASSERT_AT(https_parts, path, 16);
+#undef RPKI_ASSERT_AT
+#undef RPKI_ASSERT
+
+/* ---- Values at the front of the octets: more may follow them ---- */
+
+/*
+ * Reads the header at the front of the octets. Its contents need not be there. Takes no memory.
+ *
+ * RPKI_TRUNCATED: the octets end within a header; there may be none. RPKI_BAD_TAG, RPKI_BAD_LENGTH: there is no header,
+ * by the first octet from the left that no header goes on with.
+ */
+rpki_status rpki_header(const uint8_t *octets, size_t size, struct rpki_header_parts *out);
+
+/*
+ * Walks the value at the front of the octets, with all that is nested in it, to any depth. Structure alone counts: the
+ * contents of a primitive value are not looked at.
+ *
+ * RPKI_TRUNCATED, RPKI_BAD_TAG, RPKI_BAD_LENGTH: from the left, the first header that is none, or with RPKI_TRUNCATED
+ * the first value that passes the end of the value around it or of the octets. RPKI_OUT_OF_MEMORY: the walk keeps eight
+ * octets or more for each value that it is inside of, and could not; never where the value is primitive.
+ */
+rpki_status rpki_walk(const uint8_t *octets, size_t size, struct rpki_walked *out);
+
+/*
+ * Walks as rpki_walk does, and writes an entry for each header, in order of place: the first is that of the value
+ * itself, and the values in a value follow its entry. `entries` has room for `capacity` entries.
+ *
+ * RPKI_OK: `*count` entries were written, and the rest of the array is as it was. RPKI_TOO_SMALL: `*count` is how many
+ * entries there are, and none was written. The others are those of rpki_walk, and then neither is written; the call
+ * takes memory for each header, and so may return RPKI_OUT_OF_MEMORY for any value.
+ */
+rpki_status rpki_index(const uint8_t *octets, size_t size, struct rpki_entry *entries, size_t capacity, size_t *count);
+
+/* ---- Values that are all of the octets ---- */
+
+/*
+ * The calls below read one value of a type, and nothing may follow it. Which status where:
+ *
+ * RPKI_TRUNCATED, RPKI_BAD_TAG, RPKI_BAD_LENGTH, RPKI_UNEXPECTED or RPKI_CONTENT: no beginning of the octets is such a
+ * value. RPKI_TRAILING: a beginning is, and octets follow it; or octets follow the last part in the value's contents.
+ * RPKI_OUT_OF_MEMORY: malloc or realloc returned NULL.
+ */
+
+/*
+ * Signed data of the RPKI (RFC 5280 4.1): a SEQUENCE of one value, an algorithm identifier and a BIT STRING. The
+ * algorithm identifier is sha256WithRSAEncryption, with NULL for parameters or with none (RFC 7935 2).
+ *
+ * Nothing is verified. Verify that the signature's octets sign exactly the octets of `data`, by an RSA library.
+ */
+rpki_status rpki_signed_data(const uint8_t *octets, size_t size, struct rpki_signed_parts *out);
+
+/*
+ * A public key, a SubjectPublicKeyInfo (RFC 5280 4.1.2.7): an algorithm identifier of RSA (rsaEncryption with NULL or
+ * without parameters) or of P-256 (id-ecPublicKey with secp256r1), and a BIT STRING. The bits are not looked at.
+ */
+rpki_status rpki_public_key(const uint8_t *octets, size_t size, struct rpki_key_parts *out);
+
+/* The key identifier of a public key: the SHA-1 digest of its bits (RFC 5280 4.2.1.2). Statuses as rpki_public_key. */
+rpki_status rpki_key_identifier(const uint8_t *octets, size_t size, uint8_t out[20]);
+
+/*
+ * Inspects a name (RFC 5280 4.1.2.4). `profile` is RPKI_PROFILE_RPKI or RPKI_PROFILE_ROUTER. Where `strict` is false,
+ * any name will do; where it is true, it has to be of the profile: one common name, at most one serial number, of the
+ * strings that the profile permits, and what else docs/SPECIFICATION.md, "Names", permits.
+ *
+ * RPKI_NOT_OF_PROFILE: it is a name, `strict` is true, and it is not of the profile. RPKI_NO_PROFILE: `profile` is
+ * another number, whatever the octets are. Else as above.
+ */
+rpki_status rpki_name_inspect(const uint8_t *octets, size_t size, uint8_t profile, bool strict);
+
+/*
+ * A serial number (RFC 5280 4.1.2.2): an INTEGER that is not negative, of at most 20 contents octets. `out` becomes the
+ * number, most significant octet first, with zeros in front. RPKI_CONTENT: another INTEGER.
+ */
+rpki_status rpki_serial(const uint8_t *octets, size_t size, uint8_t out[20]);
+
+/*
+ * A time: UTC time YYMMDDHHMMSSZ, of the years 1950 to 2049, or generalized time YYYYMMDDHHMMSSZ (RFC 5280 4.1.2.5).
+ * RPKI_CONTENT: another primitive value, or a date or time of day that there is not.
+ */
+rpki_status rpki_time(const uint8_t *octets, size_t size, struct rpki_moment *out);
+
+/* A period of validity (RFC 5280 4.1.2.5): a SEQUENCE of two times. */
+rpki_status rpki_validity(const uint8_t *octets, size_t size, struct rpki_period *out);
+
+/*
+ * An extension of a certificate (RFC 5280 4.1): a SEQUENCE of an object identifier, perhaps a BOOLEAN, and an OCTET
+ * STRING. A BOOLEAN that is FALSE, which DER leaves out, is read. What is in the OCTET STRING is not looked at.
+ */
+rpki_status rpki_extension(const uint8_t *octets, size_t size, struct rpki_extension_parts *out);
+
+/* ---- URIs ---- */
+
+/*
+ * Reads an rsync URI (RFC 5781), and says where its parts stand. The scheme may be in upper case. No segment is `.`,
+ * `..` or, but for the last, empty: so the path stays in its module.
+ *
+ * Where a status is not 0, it is an RPKI_URI_ number: 1, 4, 3, 5 to 7 or 2, the first that is wrong in this order.
+ */
+rpki_status rpki_rsync_parse(const uint8_t *text, size_t size, struct rpki_rsync_parts *out);
+
+/*
+ * Says where in the text `uri` the path stands that leads from `base` to it: the segments after those of `base`, with
+ * the last slash. The place is empty, at the end of the text, where both have the same segments. Authorities are
+ * compared without regard to case, all else exactly.
+ *
+ * RPKI_NO_ANSWER: both are rsync URIs, in two modules, or the segments of `base` do not begin those of `uri`. An
+ * RPKI_URI_ number: what is wrong with `uri`; with RPKI_SECOND added, with `base`, where `uri` is right.
+ */
+rpki_status rpki_rsync_relative_to(const uint8_t *uri, size_t uri_size, const uint8_t *base, size_t base_size,
+                                   struct rpki_place *out);
+
+/*
+ * Writes `base` with `path` after it to `out`, which has room for `capacity` octets: `base` itself where the path is
+ * empty, else with a slash between them where `base` ends with none. `*written` becomes the count of the octets; what
+ * is after them in `out` stays. The text has at most base_size + 1 + path_size octets.
+ *
+ * RPKI_TOO_SMALL: the text is longer than `capacity`; nothing is written. An RPKI_URI_ number: what is wrong with
+ * `base`; with RPKI_SECOND added, what is wrong with `path` or with the text, where `base` is right.
+ */
+rpki_status rpki_rsync_join(const uint8_t *base, size_t base_size, const uint8_t *path, size_t path_size, uint8_t *out,
+                            size_t capacity, size_t *written);
+
+/*
+ * The parent of an rsync URI, without its last segment and with the slash before that, is the first `*out` octets of
+ * the text. RPKI_NO_ANSWER: its path is empty. Else as rpki_rsync_parse.
+ */
+rpki_status rpki_rsync_parent(const uint8_t *text, size_t size, size_t *out);
+
+/*
+ * Reads an https URI, and says where its parts stand. Its segments and its length are free, and the authority may be
+ * empty. RPKI_URI_INVALID_CHARACTERS, RPKI_URI_BAD_SCHEME or RPKI_URI_BAD_URI, the first in this order.
+ */
+rpki_status rpki_https_parse(const uint8_t *text, size_t size, struct rpki_https_parts *out);
+
+#ifdef __cplusplus
+}
+#endif
+
+#endif
