@@ -7,7 +7,7 @@ use Rattle.rpki_der.specs.Members.{spell, HaveHeaders}
 use Rattle.rpki_der.specs.Leaves.{boolean_contents}
 use Rattle.rpki_der.specs.Index.{Entry, IsIndex}
 use Rattle.rpki_der.specs.IndexMembers.{member_numbers, HasEntry}
-use Rattle.rpki_der.proofs.MemberLaws.{AreContents, primitives, contents_of, first_entry, member_entries, index_of_primitives, contents_of_primitives}
+use Rattle.rpki_der.proofs.MemberLaws.{AreContents, primitives, contents_of, first_entry, member_entries, index-of-primitives, contents_of-primitives}
 use Rattle.rpki.specs.ExtensionValue.{ExtensionParts, SpellsCritical, IsExtensionContents, SpellsExtension}
 
 abbrev pub Part : Type 0
@@ -32,8 +32,8 @@ indexed octets c xs is fits same legal =
     let p : octets ≡ tlv sequence true (spell (primitives xs)) = is ∙ ap (λ (y : List ℕ). tlv sequence true y) same in
     let few : length (spell (primitives xs)) < 2 ^ 32 = omega (arith, fits, ap length same) in
     record {
-      index = index_of_primitives sequence xs octets (record { below = omega arith; named = λ _. omega arith }) few legal p;
-      contents = contents_of_primitives sequence xs octets p;
+      index = index-of-primitives sequence xs octets (record { below = omega arith; named = λ _. omega arith }) few legal p;
+      contents = contents_of-primitives sequence xs octets p;
     }
 
 pub shape : (x : ExtensionParts) (octets : List ℕ) → SpellsExtension x octets → Shape x octets

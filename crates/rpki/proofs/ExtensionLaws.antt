@@ -13,12 +13,12 @@ use Rattle.rpki_der.specs.Members.{IsValue, IsValueList, SpellsValue}
 use Rattle.rpki_der.specs.Walk.{HasEither}
 use Rattle.rpki_der.specs.ValueListLaws.{primitive_value_list, value_lists_append, no_value_list}
 use Rattle.rpki_der.proofs.ReadingLaws.{UnlessMemory-weaker}
-use Rattle.rpki_der.proofs.EncodeLaws.{tlv_at_least, tlv_at_most}
-use Rattle.rpki_der.proofs.LeafValueLaws.{composed_value_alone}
+use Rattle.rpki_der.proofs.EncodeLaws.{tlv-at-least, tlv_at_most}
+use Rattle.rpki_der.proofs.LeafValueLaws.{composed-value-alone}
 use Rattle.rpki_der.proofs.LeavesLaws.{leaf-tag, leaf-value}
 use Rattle.rpki_der.proofs.ComposedLaws.{all-read}
 use Rattle.rpki_der.proofs.InsideLaws.{no-memory, part-memory}
-use Rattle.rpki_der.proofs.FrontLaws.{front_contents_of, after_front_of, contents_alone, nothing_after, one_tag, contents_tag}
+use Rattle.rpki_der.proofs.FrontLaws.{front_contents_of, after_front-of, contents-alone, nothing-after, one-tag, contents-tag}
 use Rattle.rpki.specs.Extension.{critical_octets, extension_contents}
 use Rattle.rpki.specs.ExtensionValue.{ExtensionParts, extension_parts, SpellsCritical, IsExtensionContents, SpellsExtension, written_extension, CanBeWritten, parts_in, parts_of_extension}
 
@@ -39,28 +39,28 @@ parts-are x c h = go h.critical
     first : (r : List ℕ) → c ≡ h.first ++ r → (front_contents c ≡ x.identifier) × (after_front c ≡ r)
     first r e = (
       ap front_contents e ∙ front_contents_of oid false h.identifier.contents h.first r h.identifier.value ∙ h.identifier.spelled.0,
-      ap after_front e ∙ after_front_of oid false h.identifier.contents h.first r h.identifier.value,
+      ap after_front e ∙ after_front-of oid false h.identifier.contents h.first r h.identifier.value,
     )
 
     go : SpellsCritical x.critical h.second → parts_in c ≡ x
     go (inr (absent, nothing)) =
         let e : c ≡ h.first ++ h.third = h.parts ∙ ap (λ (y : List ℕ). h.first ++ (y ++ h.third)) nothing in
         let f = first h.third e in
-        let end = nothing_after octet_string false x.content h.third h.content in
-        let last = contents_alone octet_string false x.content h.third h.content in
+        let end = nothing-after octet_string false x.content h.third h.content in
+        let last = contents-alone octet_string false x.content h.third h.content in
         rw (f.1, f.0, end, last, ← absent) refl
     go (inl b) =
         let f = first (h.second ++ h.third) h.parts in
-        let following = after_front_of boolean false b.contents h.second h.third b.value in
+        let following = after_front-of boolean false b.contents h.second h.third b.value in
         let flag = front_contents_of boolean false b.contents h.second h.third b.value ∙ b.spelled in
-        let last = contents_alone octet_string false x.content h.third h.content in
-        let size : 2 ≤ length h.third = omega (arith, tlv_at_least octet_string false x.content, ap length h.content.octets) in
+        let last = contents-alone octet_string false x.content h.third h.content in
+        let size : 2 ≤ length h.third = omega (arith, tlv-at-least octet_string false x.content, ap length h.content.octets) in
         rw (f.1, f.0, following, some-length h.third size, flag, last, is-true x.critical) refl
 
 -- octets that are an extension stand for its parts
 pub extension-is : (x : ExtensionParts) (p : List ℕ) → SpellsExtension x p → parts_of_extension p ≡ x
 unfolding parts_of_extension
-extension-is x p h = ap parts_in (contents_alone sequence true h.contents p h.value) ∙ parts-are x h.contents h.spelled
+extension-is x p h = ap parts_in (contents-alone sequence true h.contents p h.value) ∙ parts-are x h.contents h.spelled
 
 pub one-extension : (x y : ExtensionParts) (p : List ℕ) → SpellsExtension x p → SpellsExtension y p → x ≡ y
 one-extension x y p h k = sym (extension-is x p h) ∙ extension-is y p k
@@ -96,8 +96,8 @@ others x c i m a h = (a.only x.identifier (h.second ++ h.third) (first-part x c 
 -- an OCTET STRING is no BOOLEAN
 no-flag : (m third content : List ℕ) → m ≡ third → Octets content third → HasTag boolean m → ⊥
 no-flag m third content e o has =
-    let found = contents_tag octet_string false m content [] (record { front = third; parts = e ∙ sym (append-nil third); spelled = o }) in
-    let same = ap (λ (t : TagName). t.number) (one_tag m boolean octet_string has found) in
+    let found = contents-tag octet_string false m content [] (record { front = third; parts = e ∙ sym (append-nil third); spelled = o }) in
+    let same = ap (λ (t : TagName). t.number) (one-tag m boolean octet_string has found) in
     absurd (omega arith)
 
 pub bad-flag : (c i m : List ℕ) → Accepts Identifier c i m → HasTag boolean m → Refuses Flag m → SpellsNothing IsExtensionContents c
@@ -162,7 +162,7 @@ contents-values x c h =
     (value_lists_append h.first (h.second ++ h.third) one (value_lists_append h.second h.third (flag-values x.critical h.second h.critical) last))
 
 pub extension-value : (x : ExtensionParts) (p : List ℕ) → SpellsExtension x p → IsValue p
-extension-value x p h = composed_value_alone sequence IsExtensionContents x p (contents-values x) h
+extension-value x p h = composed-value-alone sequence IsExtensionContents x p (contents-values x) h
 
 -- ---- an extension, captured
 
@@ -213,7 +213,7 @@ written-read x h =
     let flag = critical_octets x.critical in
     let third = tlv octet_string false x.content in
     let sizes : length x.identifier + length x.content < 2 ^ 32 =
-    omega (arith, h.short, length-append (first ++ flag) third, length-append first flag, tlv_at_least oid false x.identifier, tlv_at_least octet_string false x.content) in
+    omega (arith, h.short, length-append (first ++ flag) third, length-append first flag, tlv-at-least oid false x.identifier, tlv-at-least octet_string false x.content) in
     record {
       contents = extension_contents x.identifier x.critical x.content;
       value = record { tag = record { below = lit< tt; named = λ _. lit< tt }; fits = h.short; octets = refl };

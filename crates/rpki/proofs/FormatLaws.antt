@@ -9,7 +9,7 @@ use Rattle.rpki_der.proofs.ReadingLaws.{UnlessMemory-weaker}
 use Rattle.rpki_der.specs.Values.{SpellsLeaf}
 use Rattle.rpki_der.specs.Leaves.{IsOid, IsOidOf, IsOnly, IsNull}
 use Rattle.rpki_der.specs.ValueListLaws.{sequence_legal}
-use Rattle.rpki_der.proofs.EncodeLaws.{leaf_legal, tlv_at_most}
+use Rattle.rpki_der.proofs.EncodeLaws.{leaf-legal, tlv_at_most}
 use Rattle.rpki.specs.declared.crypto.keys.PublicKeyFormat.{PublicKeyFormat}
 use Rattle.rpki.specs.declared.crypto.keys.PublicKeyFormat.TheVariants.{Rsa, EcdsaP256}
 use Rattle.rpki.specs.Oids.{rsa_encryption, sha256_with_rsa_encryption, ec_public_key, secp256r1}
@@ -81,7 +81,7 @@ format-short Rsa = identified-short rsa_encryption true (lit< tt)
 format-short EcdsaP256 = omega (arith, length-append (tlv oid false ec_public_key) (tlv oid false secp256r1), tlv_at_most oid false ec_public_key, tlv_at_most oid false secp256r1)
 
 parameters-spelled : (present : Bool) → IsParameters present (parameters_octets present)
-parameters-spelled true = leaf_legal null false IsNull tt [] null-legal (lit< tt) refl
+parameters-spelled true = leaf-legal null false IsNull tt [] null-legal (lit< tt) refl
 parameters-spelled false = refl
 
 pub identified-spelled : (o : List ℕ) (present : Bool) → length o < 2 ^ 31 → IsIdentified o present (identified_octets o present)
@@ -89,20 +89,20 @@ identified-spelled o present short = record {
   first = tlv oid false o;
   second = parameters_octets present;
   parts = refl;
-  identifier = leaf_legal oid false (IsOnly o) tt o oid-legal (omega arith) refl;
+  identifier = leaf-legal oid false (IsOnly o) tt o oid-legal (omega arith) refl;
   parameters = parameters-spelled present;
 }
 
 pub format-spelled : (f : PublicKeyFormat) → SpellsFormat f (format_octets f)
-format-spelled f = leaf_legal sequence true IsFormatContents f (format_contents f) sequence_legal (format-short f) (inside f) where
+format-spelled f = leaf-legal sequence true IsFormatContents f (format_contents f) sequence_legal (format-short f) (inside f) where
   inside : (f : PublicKeyFormat) → IsFormatContents f (format_contents f)
   inside Rsa = (true, identified-spelled rsa_encryption true (lit< tt))
   inside EcdsaP256 = record {
     first = tlv oid false ec_public_key;
     second = tlv oid false secp256r1;
     parts = refl;
-    one = leaf_legal oid false (IsOnly ec_public_key) tt ec_public_key oid-legal (lit< tt) refl;
-    two = leaf_legal oid false (IsOnly secp256r1) tt secp256r1 oid-legal (lit< tt) refl;
+    one = leaf-legal oid false (IsOnly ec_public_key) tt ec_public_key oid-legal (lit< tt) refl;
+    two = leaf-legal oid false (IsOnly secp256r1) tt secp256r1 oid-legal (lit< tt) refl;
   }
 
 -- ---- signatures of signed objects

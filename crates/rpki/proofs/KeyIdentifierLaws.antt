@@ -10,7 +10,7 @@ use Rattle.rpki_der.specs.Values.{SpellsContents, SpellsLeaf, IsContentsFault}
 use Rattle.rpki_der.proofs.LeavesLaws.{leaf-refused, leaf-accepted, leaf-bad, dropped-refused, dropped-accepted}
 use Rattle.rpki_der.specs.Header.{tlv}
 use Rattle.rpki_der.specs.ValueListLaws.{octet_string_legal}
-use Rattle.rpki_der.proofs.EncodeLaws.{leaf_legal, tlv_same}
+use Rattle.rpki_der.proofs.EncodeLaws.{leaf-legal, tlv-same}
 use Rattle.rpki_text.specs.HexText.{hex_digit, hex_text}
 use Rattle.std.proofs.Math.ListN.{set}
 use Rattle.std.proofs.lemmas.List.{length-map, get_or-map, take_more, take_more_set, take_all, map-append}
@@ -52,10 +52,10 @@ other-size s c q r (Content x) same a ne h =
 -- what is written
 
 pub identifier-spelled : (k : List ℕ) → length k ≡ 20 → SpellsKeyIdentifier k (tlv octet_string false k)
-identifier-spelled k size = leaf_legal octet_string false IsKeyIdentifier k k octet_string_legal (omega arith) (record { same = refl; size = size })
+identifier-spelled k size = leaf-legal octet_string false IsKeyIdentifier k k octet_string_legal (omega arith) (record { same = refl; size = size })
 
 pub identifier-same : (k l : List ℕ) → length k ≡ 20 → length l ≡ 20 → (tlv octet_string false k ≡ tlv octet_string false l) ↔ (k ≡ l)
-identifier-same k l size size' = (λ e. tlv_same octet_string false k l (omega arith) (omega arith) e, λ e. ap (λ (x : List ℕ). tlv octet_string false x) e)
+identifier-same k l size size' = (λ e. tlv-same octet_string false k l (omega arith) (omega arith) e, λ e. ap (λ (x : List ℕ). tlv octet_string false x) e)
 
 -- the identifier is dropped
 

@@ -4,7 +4,7 @@ use Rattle.std.proofs.lemmas.List.{append-nil}
 use Rattle.rpki_der.specs.Reading.{Spells, Accepts}
 use Rattle.rpki_der.specs.Members.{IsValue, SpellsValue}
 use Rattle.rpki_der.specs.Walk.{HasEither}
-use Rattle.rpki_der.proofs.WalkLaws.{capture_memory}
+use Rattle.rpki_der.proofs.WalkLaws.{capture-memory}
 use Rattle.rpki.specs.TwoParts.{SpellsBoth}
 use Rattle.rpki.proofs.SignedLaws.{value-first}
 
@@ -21,7 +21,7 @@ both-found G H s m a b r one two = (
 -- ---- one value is a value of some form
 
 pub has-either : (s v r : List ℕ) → Accepts SpellsValue s v r → HasEither s
-has-either s v r a = (capture_memory a).kind
+has-either s v r a = (capture-memory a).kind
 
 value-accepted : (v : List ℕ) → IsValue v → Accepts SpellsValue v v []
 value-accepted v one = record {

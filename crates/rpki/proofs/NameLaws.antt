@@ -7,12 +7,12 @@ use Rattle.rpki_der.specs.Reading.{Spells, Accepts, Refuses, Refusal, SpellsNoth
 use Rattle.rpki_der.specs.Values.{SpellsContents, SpellsLeaf, GivesOuterFault}
 use Rattle.rpki_der.specs.Leaves.{IsOidOf}
 use Rattle.rpki_der.specs.Members.{IsValue, IsValueList, SpellsValue}
-use Rattle.rpki_der.proofs.MembersLaws.{value_some}
+use Rattle.rpki_der.proofs.MembersLaws.{value-some}
 use Rattle.rpki_der.specs.Walk.{SpellsAnyValue, HasEither}
 use Rattle.rpki_der.specs.ValueListLaws.{values_append, no_values}
 use Rattle.rpki_der.proofs.ReadingLaws.{UnlessMemory-weaker}
-use Rattle.rpki_der.proofs.EncodeLaws.{tlv_at_least}
-use Rattle.rpki_der.proofs.LeafValueLaws.{leaf_value_alone, composed_value_alone}
+use Rattle.rpki_der.proofs.EncodeLaws.{tlv-at-least}
+use Rattle.rpki_der.proofs.LeafValueLaws.{leaf-value-alone, composed-value-alone}
 use Rattle.rpki_der.proofs.LeavesLaws.{leaf-value}
 use Rattle.rpki.specs.Name.{Attribute, attribute_of, IsIdentifierThen, IsAttribute, SpellsAttribute, SpellsEach, SpellsSome, SpellsRelative, SpellsName, IsName, SpellsNameOctets}
 use Rattle.rpki.specs.AnyValue.{SpellsAny}
@@ -34,13 +34,13 @@ any-at t f C s v r h = record { front = h.front; parts = h.parts; spelled = leaf
 -- ---- a value takes octets
 
 pub leaf-some : {V : Type 0} (t : TagName) (f : Bool) (C : V → List ℕ → Type 0) (v : V) (p : List ℕ) → SpellsLeaf t f C v p → 2 ≤ length p
-leaf-some t f C v p h = omega (arith, ap length h.value.octets, tlv_at_least t f h.contents)
+leaf-some t f C v p h = omega (arith, ap length h.value.octets, tlv-at-least t f h.contents)
 
 pub leaf-shorter : {V : Type 0} (t : TagName) (f : Bool) (C : V → List ℕ → Type 0) (s : List ℕ) (v : V) (r : List ℕ) → Spells (SpellsLeaf t f C) s v r → length r < length s
 leaf-shorter t f C s v r h = omega (arith, leaf-some t f C v h.front h.spelled, ap length h.parts, length-append h.front r)
 
 pub contents-shorter : (t : TagName) (f : Bool) (s c r : List ℕ) → Spells (SpellsContents t f) s c r → length r < length s
-contents-shorter t f s c r h = omega (arith, ap length h.spelled.octets, tlv_at_least t f c, ap length h.parts, length-append h.front r)
+contents-shorter t f s c r h = omega (arith, ap length h.spelled.octets, tlv-at-least t f c, ap length h.parts, length-append h.front r)
 
 pub leaf-nowhere : {V : Type 0} (t : TagName) (f : Bool) (C : V → List ℕ → Type 0) (s : List ℕ) (v : V) (r : List ℕ) → s ≡ [] → Spells (SpellsLeaf t f C) s v r → ⊥
 leaf-nowhere t f C s v r e h = omega (arith, leaf-shorter t f C s v r h, ap length e)
@@ -153,16 +153,16 @@ each-values G one (v ∷ vs) p h =
     (1 + others.0, rw h.1.parts (values_append 1 others.0 h.1.front h.0 first others.1))
 
 attribute-value : (a : Attribute) (p : List ℕ) → SpellsAttribute a p → IsValue p
-attribute-value a p h = composed_value_alone sequence IsAttribute a p inside h
+attribute-value a p h = composed-value-alone sequence IsAttribute a p inside h
   where
     inside : (c : List ℕ) → IsAttribute a c → IsValueList c
-    inside c g = (2, rw g.identified.parts (values_append 1 1 g.identified.front a.value (leaf_value_alone oid IsOidOf a.identifier g.identified.front g.identified.identifier) g.one))
+    inside c g = (2, rw g.identified.parts (values_append 1 1 g.identified.front a.value (leaf-value-alone oid IsOidOf a.identifier g.identified.front g.identified.identifier) g.one))
 
 relative-value : (xs : List Attribute) (p : List ℕ) → SpellsRelative xs p → IsValue p
-relative-value xs p h = composed_value_alone set (SpellsSome SpellsAttribute) xs p (λ c g. each-values SpellsAttribute attribute-value xs c g.each) h
+relative-value xs p h = composed-value-alone set (SpellsSome SpellsAttribute) xs p (λ c g. each-values SpellsAttribute attribute-value xs c g.each) h
 
 pub name-value : (parts : List (List Attribute)) (p : List ℕ) → SpellsName parts p → IsValue p
-name-value parts p h = composed_value_alone sequence (SpellsSome SpellsRelative) parts p (λ c g. each-values SpellsRelative relative-value parts c g.each) h
+name-value parts p h = composed-value-alone sequence (SpellsSome SpellsRelative) parts p (λ c g. each-values SpellsRelative relative-value parts c g.each) h
 
 -- ---- a name, captured
 
@@ -234,7 +234,7 @@ name-uncaptured K s r q e a h = record {
 -- ---- whether one value is left
 
 pub no-value-where-nothing : (s : List ℕ) → ((s ≡ [] → ⊥) → ⊥) → SpellsNothing SpellsAnyValue s
-no-value-where-nothing s h x v = h (λ e. omega (arith, value_some v, ap length e))
+no-value-where-nothing s h x v = h (λ e. omega (arith, value-some v, ap length e))
 
 -- ---- what the test for an end says
 

@@ -6,7 +6,7 @@ use Rattle.rpki_der.specs.Header.{tlv}
 use Rattle.rpki_der.specs.Reading.{Spells, Accepts, Refuses, SpellsNothing}
 use Rattle.rpki_der.specs.Values.{SpellsLeaf}
 use Rattle.rpki_der.specs.Leaves.{IsOid, IsOidOf, IsOnly}
-use Rattle.rpki_der.proofs.EncodeLaws.{tlv_same_then}
+use Rattle.rpki_der.proofs.EncodeLaws.{tlv-same-then}
 use Rattle.rpki.specs.Algorithm.{IsIdentified, IsParameters}
 use Rattle.rpki.specs.TwoParts.{SpellsBoth}
 use Rattle.rpki.proofs.TwoPartsLaws.{both-read, no-first, no-second}
@@ -64,7 +64,7 @@ one-name c x m o r a h =
     let p = a.spelled in let k = h.spelled in
     let both : tlv oid false p.contents ++ m ≡ tlv oid false k.contents ++ r =
     ap (λ (l : List ℕ). l ++ m) (sym p.value.octets) ∙ sym a.parts ∙ h.parts ∙ ap (λ (l : List ℕ). l ++ r) k.value.octets in
-    sym p.spelled.0 ∙ (tlv_same_then oid false p.contents k.contents m r p.value.fits k.value.fits both).0 ∙ k.spelled
+    sym p.spelled.0 ∙ (tlv-same-then oid false p.contents k.contents m r p.value.fits k.value.fits both).0 ∙ k.spelled
 
 pub other-name : (c x m o : List ℕ) → Spells (SpellsLeaf oid false IsOidOf) c x m → (x ≡ o → ⊥) → Refuses (SpellsLeaf oid false (IsOnly o)) c
 other-name c x m o a ne w r h = ne (one-name c x m o r a h)

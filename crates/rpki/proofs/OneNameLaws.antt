@@ -5,7 +5,7 @@ use Rattle.rpki_der.specs.Header.{tlv}
 use Rattle.rpki_der.specs.Reading.{Spells}
 use Rattle.rpki_der.specs.Values.{SpellsLeaf}
 use Rattle.rpki_der.specs.Leaves.{IsOidOf}
-use Rattle.rpki_der.proofs.EncodeLaws.{tlv_same_then}
+use Rattle.rpki_der.proofs.EncodeLaws.{tlv-same-then}
 use Rattle.rpki_der.proofs.ComposedLaws.{spelled-whole}
 use Rattle.rpki.specs.Name.{Attribute, attribute_of, IsAttribute, SpellsAttribute, SpellsEach, SpellsSome, SpellsRelative, SpellsName}
 use Rattle.rpki.proofs.NameLaws.{leaf-nowhere}
@@ -24,7 +24,7 @@ one-leaf {V} t f C one s v w q r g h =
     let b = h.spelled in
     let left : s ≡ tlv t f a.contents ++ q = g.parts ∙ ap (λ (l : List ℕ). l ++ q) a.value.octets in
     let right : s ≡ tlv t f b.contents ++ r = h.parts ∙ ap (λ (l : List ℕ). l ++ r) b.value.octets in
-    let same = tlv_same_then t f a.contents b.contents q r a.value.fits b.value.fits (sym left ∙ right) in
+    let same = tlv-same-then t f a.contents b.contents q r a.value.fits b.value.fits (sym left ∙ right) in
     (one b.contents v w (subst (C v) same.0 a.spelled) b.spelled, same.1)
 
 one-each : {V : Type 0} (G : V → List ℕ → Type 0) → BeginsOnce G → ((s : List ℕ) (v : V) (r : List ℕ) → s ≡ [] → Spells G s v r → ⊥) → (vs ws : List V) (p : List ℕ) → SpellsEach G vs p → SpellsEach G ws p → vs ≡ ws

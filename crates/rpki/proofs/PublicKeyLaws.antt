@@ -12,8 +12,8 @@ use Rattle.rpki_der.specs.Number.{number_of, AreOctets}
 use Rattle.rpki_der.specs.ValueListLaws.{sequence_legal}
 use Rattle.rpki_der.proofs.ReadingLaws.{UnlessMemory-weaker}
 use Rattle.rpki_der.proofs.ComposedLaws.{not-read}
-use Rattle.rpki_der.proofs.EncodeLaws.{leaf_legal, tlv_same, tlv_same_then, tlv_at_least, tlv_at_most, bits_same, bits_spelled}
-use Rattle.rpki_der.proofs.UnsignedLaws.{unsigned_spelled, unsigned_at_most, magnitude_at_most}
+use Rattle.rpki_der.proofs.EncodeLaws.{leaf-legal, tlv-same, tlv-same-then, tlv-at-least, tlv_at_most, bits-same, bits-spelled}
+use Rattle.rpki_der.proofs.UnsignedLaws.{unsigned-spelled, unsigned-at-most, magnitude-at-most}
 use Rattle.rpki.specs.declared.crypto.keys.PublicKeyFormat.{PublicKeyFormat}
 use Rattle.rpki.specs.declared.crypto.keys.PublicKeyFormat.TheVariants.{Rsa, EcdsaP256}
 use Rattle.rpki.specs.Oids.{rsa_encryption, ec_public_key, secp256r1}
@@ -27,21 +27,21 @@ use Rattle.rpki.proofs.MemoryLaws.{both-found}
 
 pub bits-short : (k : KeyParts) → length (key_contents k) < 2 ^ 32 → length (bits_contents k.bits) < 2 ^ 32
 bits-short k short =
-    omega (arith, length-append (format_octets k.format) (tlv bit_string false (bits_contents k.bits)), tlv_at_least bit_string false (bits_contents k.bits))
+    omega (arith, length-append (format_octets k.format) (tlv bit_string false (bits_contents k.bits)), tlv-at-least bit_string false (bits_contents k.bits))
 
 pub key-spelled : (k : KeyParts) → AreBits k.bits → length (key_contents k) < 2 ^ 32 → SpellsKey k (key_octets k)
 key-spelled k legal short =
     let tag : IsTag bit_string = record { below = lit< tt; named = λ u. lit< tt } in
-    leaf_legal sequence true IsKeyContents k (key_contents k) sequence_legal short (record {
+    leaf-legal sequence true IsKeyContents k (key_contents k) sequence_legal short (record {
       first = format_octets k.format;
       second = tlv bit_string false (bits_contents k.bits);
       parts = refl;
       one = format-spelled k.format;
-      two = leaf_legal bit_string false IsBits k.bits (bits_contents k.bits) tag (bits-short k short) (bits_spelled k.bits legal);
+      two = leaf-legal bit_string false IsBits k.bits (bits_contents k.bits) tag (bits-short k short) (bits-spelled k.bits legal);
     })
 
 rsa-is-not-ec : (x y : List ℕ) → tlv oid false rsa_encryption ++ x ≡ tlv oid false ec_public_key ++ y → ⊥
-rsa-is-not-ec x y e = let same = (tlv_same_then oid false rsa_encryption ec_public_key x y (lit< tt) (lit< tt) e).0 in cc
+rsa-is-not-ec x y e = let same = (tlv-same-then oid false rsa_encryption ec_public_key x y (lit< tt) (lit< tt) e).0 in cc
 
 format-one : (f g : PublicKeyFormat) → format_contents f ≡ format_contents g → f ≡ g
 format-one Rsa Rsa e = refl
@@ -51,7 +51,7 @@ format-one EcdsaP256 EcdsaP256 e = refl
 
 pub format-same : (f g : PublicKeyFormat) → (format_octets f ≡ format_octets g) ↔ (f ≡ g)
 format-same f g = (
-  λ e. format-one f g (tlv_same sequence true (format_contents f) (format_contents g) (format-short f) (format-short g) e),
+  λ e. format-one f g (tlv-same sequence true (format_contents f) (format_contents g) (format-short f) (format-short g) e),
   λ e. ap format_octets e,
 )
 
@@ -65,10 +65,10 @@ pub key-same : (k l : KeyParts) → length (key_contents k) < 2 ^ 32 → length 
 key-same k l short short' = (
   λ e.
       let c : format_octets k.format ++ tlv bit_string false (bits_contents k.bits) ≡ format_octets l.format ++ tlv bit_string false (bits_contents l.bits) =
-      tlv_same sequence true (key_contents k) (key_contents l) short short' e in
-      let p = tlv_same_then sequence true (format_contents k.format) (format_contents l.format) (tlv bit_string false (bits_contents k.bits)) (tlv bit_string false (bits_contents l.bits)) (format-short k.format) (format-short l.format) c in
-      let q = tlv_same bit_string false (bits_contents k.bits) (bits_contents l.bits) (bits-short k short) (bits-short l short') p.1 in
-      same-key k l (format-one k.format l.format p.0) (bits_same k.bits l.bits q),
+      tlv-same sequence true (key_contents k) (key_contents l) short short' e in
+      let p = tlv-same-then sequence true (format_contents k.format) (format_contents l.format) (tlv bit_string false (bits_contents k.bits)) (tlv bit_string false (bits_contents l.bits)) (format-short k.format) (format-short l.format) c in
+      let q = tlv-same bit_string false (bits_contents k.bits) (bits_contents l.bits) (bits-short k short) (bits-short l short') p.1 in
+      same-key k l (format-one k.format l.format p.0) (bits-same k.bits l.bits q),
   λ e. ap key_octets e,
 )
 
@@ -115,8 +115,8 @@ numbers-short m n short =
       length-append (tlv integer false (unsigned_contents m)) (tlv integer false (unsigned_contents n)),
       tlv_at_most integer false (unsigned_contents m),
       tlv_at_most integer false (unsigned_contents n),
-      unsigned_at_most m,
-      unsigned_at_most n,
+      unsigned-at-most m,
+      unsigned-at-most n,
     )
 
 -- the two numbers that are written
@@ -126,12 +126,12 @@ numbers-spelled m n p q short =
     let one = tlv integer false (unsigned_contents m) in
     let two = tlv integer false (unsigned_contents n) in
     let sizes : length (one ++ two) < 2 ^ 32 = numbers-short m n short in
-    leaf_legal sequence true AreRsaNumbers (number_of m, number_of n) (one ++ two) sequence_legal sizes (record {
+    leaf-legal sequence true AreRsaNumbers (number_of m, number_of n) (one ++ two) sequence_legal sizes (record {
       first = one;
       second = two;
       parts = refl;
-      one = leaf_legal integer false IsUnsigned (number_of m) (unsigned_contents m) integer-legal (omega (arith, unsigned_at_most m)) (unsigned_spelled m p);
-      two = leaf_legal integer false IsUnsigned (number_of n) (unsigned_contents n) integer-legal (omega (arith, unsigned_at_most n)) (unsigned_spelled n q);
+      one = leaf-legal integer false IsUnsigned (number_of m) (unsigned_contents m) integer-legal (omega (arith, unsigned-at-most m)) (unsigned-spelled m p);
+      two = leaf-legal integer false IsUnsigned (number_of n) (unsigned_contents n) integer-legal (omega (arith, unsigned-at-most n)) (unsigned-spelled n q);
     })
 
 -- they are the bits of a key
@@ -144,7 +144,7 @@ some-octets (x ∷ s) ne = omega arith
 
 -- the numbers of two slices
 pub shorter : (u s : List ℕ) → IsMagnitude u → AreOctets s → (s ≡ [] → ⊥) → number_of u ≡ number_of s → length u ≤ length s
-shorter u s m o ne e = magnitude_at_most u s m o (some-octets s ne) e
+shorter u s m o ne e = magnitude-at-most u s m o (some-octets s ne) e
 
 abbrev pub two_integers : List ℕ → List ℕ → List ℕ
 two_integers m n = tlv integer false (unsigned_contents m) ++ tlv integer false (unsigned_contents n)

@@ -7,20 +7,20 @@ use Rattle.rpki_der.specs.Leaves.{AreBits, IsBits, bits_of}
 use Rattle.rpki_der.specs.Contents.{bits_contents}
 use Rattle.rpki_der.specs.Members.{IsValue}
 use Rattle.rpki_der.specs.ValueListLaws.{sequence_legal}
-use Rattle.rpki_der.proofs.MembersLaws.{one_beginning}
-use Rattle.rpki_der.proofs.EncodeLaws.{leaf_legal, tlv_same, tlv_same_one, tlv_at_least, tlv_front, bits_spelled}
+use Rattle.rpki_der.proofs.MembersLaws.{one-beginning}
+use Rattle.rpki_der.proofs.EncodeLaws.{leaf-legal, tlv-same, tlv-same-one, tlv-at-least, tlv-front, bits-spelled}
 use Rattle.rpki.specs.SignedData.{SignedParts, parts_of, IsSignedContents, SpellsSigned, signature_octets, signed_octets, written_contents, written_signed, normal_parts, DifferInCount}
 
 -- values that two equal lists begin with are equal, and the same follows
 pub value-first : (a b x y : List ℕ) → IsValue a → IsValue b → a ++ x ≡ b ++ y → (a ≡ b) × (x ≡ y)
 value-first a b x y v w e =
-    let one = (one_beginning a b x y v w e).0 in
+    let one = (one-beginning a b x y v w e).0 in
     (one, append_cancel_left a x y (e ∙ ap (λ (p : List ℕ). p ++ y) (sym one)))
 
 -- a signature within contents whose length can be announced
 signature-short : (d text value : List ℕ) (unused : ℕ) → length (d ++ text ++ signature_octets unused value) < 2 ^ 32 → length (bits_contents (bits_of unused value)) < 2 ^ 32
 signature-short d text value unused short =
-    omega (arith, length-append (d ++ text) (signature_octets unused value), tlv_at_least bit_string false (bits_contents (bits_of unused value)))
+    omega (arith, length-append (d ++ text) (signature_octets unused value), tlv-at-least bit_string false (bits_contents (bits_of unused value)))
 
 count-same : (u w : ℕ) (v : List ℕ) → bits_contents (bits_of u v) ≡ bits_contents (bits_of w v) → u ≡ w
 count-same u w v e = cc
@@ -58,13 +58,13 @@ again-iff spells written x text octets unused hd ht hw h is =
     let d = x.signed in let w = written x.algorithm in let v = x.value in
     let zero : List ℕ = signature_octets 0 v in let bits : List ℕ = signature_octets unused v in
     let k = spelled-of spells x octets h in
-    let same : d ++ text ++ bits ≡ d ++ k.text ++ signature_octets k.unused v = tlv_same_one sequence true (d ++ text ++ bits) (d ++ k.text ++ signature_octets k.unused v) k.short (sym is ∙ k.is) in
+    let same : d ++ text ++ bits ≡ d ++ k.text ++ signature_octets k.unused v = tlv-same-one sequence true (d ++ text ++ bits) (d ++ k.text ++ signature_octets k.unused v) k.short (sym is ∙ k.is) in
     let short : length (d ++ text ++ bits) < 2 ^ 32 = subst (λ (c : List ℕ). length c < 2 ^ 32) (sym same) k.short in (
       λ e.
-          let c : (d ++ w) ++ zero ≡ (d ++ text) ++ bits = tlv_same_one sequence true (d ++ w ++ zero) (d ++ text ++ bits) short (e ∙ is) in
+          let c : (d ++ w) ++ zero ≡ (d ++ text) ++ bits = tlv-same-one sequence true (d ++ w ++ zero) (d ++ text ++ bits) short (e ∙ is) in
           let r = (value-first d d (w ++ zero) (text ++ bits) hd hd (sym (append_assoc d w zero) ∙ c ∙ append_assoc d text bits)).1 in
           let q = value-first w text zero bits hw ht r in
-          let counts = tlv_same_one bit_string false (bits_contents (bits_of 0 v)) (bits_contents (bits_of unused v)) (signature-short d text v unused short) q.1 in
+          let counts = tlv-same-one bit_string false (bits_contents (bits_of 0 v)) (bits_contents (bits_of unused v)) (signature-short d text v unused short) q.1 in
           (sym q.0, sym (count-same 0 unused v counts)),
       λ e. ap (λ (t : List ℕ). signed_octets d t 0 v) (sym e.0) ∙ ap (λ (u : ℕ). signed_octets d text u v) (sym e.1) ∙ sym is,
     )
@@ -76,7 +76,7 @@ reads-back spells written norm x hd hs short =
     let bits = bits_of 0 x.value in
     let legal : AreBits bits = record { few = omega arith; none = λ e. refl; zero = omega arith } in
     let tag : IsTag bit_string = record { below = omega arith; named = λ u. omega arith } in
-    leaf_legal sequence true (IsSignedContents spells) (normal_parts norm x) (written_contents written x) sequence_legal short (record {
+    leaf-legal sequence true (IsSignedContents spells) (normal_parts norm x) (written_contents written x) sequence_legal short (record {
       text = written x.algorithm;
       bits = signature_octets 0 x.value;
       parts = refl;
@@ -84,7 +84,7 @@ reads-back spells written norm x hd hs short =
       named = hs;
       signature = record {
         unused = 0;
-        string = leaf_legal bit_string false IsBits bits (bits_contents bits) tag (signature-short x.signed (written x.algorithm) x.value 0 short) (bits_spelled bits legal);
+        string = leaf-legal bit_string false IsBits bits (bits_contents bits) tag (signature-short x.signed (written x.algorithm) x.value 0 short) (bits-spelled bits legal);
       };
     })
 
@@ -103,12 +103,12 @@ same-iff {A} spells written norm x y spelled one value stays hx hy short short' 
     let wx = written x.algorithm in let wy = written y.algorithm in
     let zx : List ℕ = signature_octets 0 x.value in let zy : List ℕ = signature_octets 0 y.value in (
       λ e.
-          let c : (x.signed ++ wx) ++ zx ≡ (y.signed ++ wy) ++ zy = tlv_same sequence true (written_contents written x) (written_contents written y) short short' e in
+          let c : (x.signed ++ wx) ++ zx ≡ (y.signed ++ wy) ++ zy = tlv-same sequence true (written_contents written x) (written_contents written y) short short' e in
           let r = value-first x.signed y.signed (wx ++ zx) (wy ++ zy) hx hy (sym (append_assoc x.signed wx zx) ∙ c ∙ append_assoc y.signed wy zy) in
           let hw : IsValue wx = value (norm x.algorithm) wx (spelled x.algorithm) in
           let hw' : IsValue wy = value (norm y.algorithm) wy (spelled y.algorithm) in
           let q = value-first wx wy zx zy hw hw' r.1 in
-          let values = tlv_same bit_string false (bits_contents (bits_of 0 x.value)) (bits_contents (bits_of 0 y.value))
+          let values = tlv-same bit_string false (bits_contents (bits_of 0 x.value)) (bits_contents (bits_of 0 y.value))
           (signature-short x.signed wx x.value 0 short) (signature-short y.signed wy y.value 0 short') q.1 in
           let norms : norm x.algorithm ≡ norm y.algorithm = one (norm x.algorithm) (norm y.algorithm) wy (subst (λ (s : List ℕ). spells (norm x.algorithm) s) q.0 (spelled x.algorithm)) (spelled y.algorithm) in
           same-parts (norm x.algorithm) (norm y.algorithm) x.signed y.signed x.value y.value r.0 norms (value-same x.value y.value values),
@@ -130,9 +130,9 @@ pub differ-in-count : {A : Type 0} (spells : A → List ℕ → Type 0) (x : Sig
 differ-in-count spells x a b p q one =
     let f = spelled-of spells x a p in let g = spelled-of spells x b q in
     let d = x.signed in let v = x.value in let s = f.text in
-    let inner = tlv_front bit_string false (length v + 1) in
+    let inner = tlv-front bit_string false (length v + 1) in
     let bits : (u : ℕ) → signature_octets u v ≡ inner.0 ++ u ∷ v = λ u. inner.1 (u ∷ v) (omega arith) in
-    let outer = tlv_front sequence true (length (d ++ s) + (length (inner.0) + (length v + 1))) in
+    let outer = tlv-front sequence true (length (d ++ s) + (length (inner.0) + (length v + 1))) in
     let size : (u : ℕ) → length (d ++ s ++ signature_octets u v) ≡ length (d ++ s) + (length (inner.0) + (length v + 1)) = λ u.
     omega (arith, length-append (d ++ s) (signature_octets u v), ap length (bits u), length-append (inner.0) (u ∷ v)) in
     let spread : (u : ℕ) → signed_octets d s u v ≡ (outer.0 ++ ((d ++ s) ++ inner.0)) ++ u ∷ v = λ u.

@@ -7,7 +7,7 @@ use Rattle.rpki_der.specs.Number.{AreOctets}
 use Rattle.rpki_der.specs.Leaves.{IsOid, IsOidOf}
 use Rattle.rpki_der.specs.Text.{is_printable, are_printable, IsPrintableText}
 use Rattle.rpki_der.specs.ValueListLaws.{sequence_legal, set_legal, primitive_value}
-use Rattle.rpki_der.proofs.EncodeLaws.{leaf_legal, tlv_at_most}
+use Rattle.rpki_der.proofs.EncodeLaws.{leaf-legal, tlv_at_most}
 use Rattle.rpki.specs.AlgorithmOctetsLaws.{oid-legal}
 use Rattle.rpki.specs.Oids.{common_name}
 use Rattle.rpki.specs.Name.{Attribute, attribute_of, IsAttribute, SpellsAttribute, SpellsSome, SpellsRelative, SpellsName}
@@ -67,19 +67,19 @@ attribute-spelled k size = record {
   identified = record {
     front = tlv oid false common_name;
     parts = refl;
-    identifier = leaf_legal oid false IsOidOf common_name common_name oid-legal (lit< tt) (refl, common-valid);
+    identifier = leaf-legal oid false IsOidOf common_name common_name oid-legal (lit< tt) (refl, common-valid);
   };
   one = primitive_value printable_string (hex_text k) printable-legal (digits-short k size);
 }
 
 pub subject-spelled : (k : List ℕ) → length k ≡ 20 → SpellsName (subject_parts k) (subject_octets k)
 subject-spelled k size =
-    let attribute = leaf_legal sequence true IsAttribute (attribute_of common_name (digits_value k)) (attribute_contents k) sequence_legal (attribute-short k size) (attribute-spelled k size) in
-    let relative = leaf_legal set true (SpellsSome SpellsAttribute) (attribute_of common_name (digits_value k) ∷ []) (tlv sequence true (attribute_contents k)) set_legal (name-short k size) (one-spelled SpellsAttribute _ _ attribute) in
-    leaf_legal sequence true (SpellsSome SpellsRelative) (subject_parts k) (tlv set true (tlv sequence true (attribute_contents k))) sequence_legal (set-short k size) (one-spelled SpellsRelative _ _ relative)
+    let attribute = leaf-legal sequence true IsAttribute (attribute_of common_name (digits_value k)) (attribute_contents k) sequence_legal (attribute-short k size) (attribute-spelled k size) in
+    let relative = leaf-legal set true (SpellsSome SpellsAttribute) (attribute_of common_name (digits_value k) ∷ []) (tlv sequence true (attribute_contents k)) set_legal (name-short k size) (one-spelled SpellsAttribute _ _ attribute) in
+    leaf-legal sequence true (SpellsSome SpellsRelative) (subject_parts k) (tlv set true (tlv sequence true (attribute_contents k))) sequence_legal (set-short k size) (one-spelled SpellsRelative _ _ relative)
 
 digits-printable : (k : List ℕ) → length k ≡ 20 → are_printable (hex_text k) ≡ true → IsPrintable (digits_value k)
-digits-printable k size digits = (hex_text k, leaf_legal printable_string false IsPrintableText (hex_text k) (hex_text k) printable-legal (digits-short k size) (refl, digits))
+digits-printable k size digits = (hex_text k, leaf-legal printable_string false IsPrintableText (hex_text k) (hex_text k) printable-legal (digits-short k size) (refl, digits))
 
 strict-subject : (P : List ℕ → Type 0) (k : List ℕ) → P (digits_value k) → IsStrict P (attributes (subject_parts k))
 strict-subject P k permitted = record {

@@ -7,7 +7,7 @@ use Rattle.rpki_der.specs.Values.{SpellsLeaf}
 use Rattle.rpki_der.specs.Leaves.{IsNull, IsOnly}
 use Rattle.rpki_der.specs.Members.{IsValue, IsValueList}
 use Rattle.rpki_der.specs.ValueListLaws.{primitive_value_list, no_value_list, value_lists_append, constructed_value}
-use Rattle.rpki_der.proofs.EncodeLaws.{leaf_legal, tlv_at_most, tlv_some, tlv_same}
+use Rattle.rpki_der.proofs.EncodeLaws.{leaf-legal, tlv_at_most, tlv-some, tlv-same}
 use Rattle.rpki.specs.Algorithm.{IsParameters, IsIdentified, SpellsAlgorithm}
 use Rattle.rpki.specs.AlgorithmOctets.{parameters_octets, identified_octets, algorithm_octets}
 
@@ -44,7 +44,7 @@ pub sequence-legal : IsTag sequence
 sequence-legal = record { below = omega arith; named = λ u. omega arith }
 
 parameters-spelled : (present : Bool) → IsParameters present (parameters_octets present)
-parameters-spelled true = leaf_legal null false IsNull tt [] null-legal (omega arith) refl
+parameters-spelled true = leaf-legal null false IsNull tt [] null-legal (omega arith) refl
 parameters-spelled false = refl
 
 pub parameters-short : (present : Bool) → length (parameters_octets present) ≤ 10
@@ -63,12 +63,12 @@ identified-short o present short = omega (
 pub algorithm-spelled : (o : List ℕ) (present : Bool) → length o < 2 ^ 31
     → SpellsAlgorithm o present (algorithm_octets o present)
 algorithm-spelled o present short =
-    leaf_legal sequence true (IsIdentified o) present (identified_octets o present) sequence-legal
+    leaf-legal sequence true (IsIdentified o) present (identified_octets o present) sequence-legal
     (identified-short o present short) (record {
       first = tlv oid false o;
       second = parameters_octets present;
       parts = refl;
-      identifier = leaf_legal oid false (IsOnly o) tt o oid-legal (omega arith) refl;
+      identifier = leaf-legal oid false (IsOnly o) tt o oid-legal (omega arith) refl;
       parameters = parameters-spelled present;
     })
 
@@ -88,8 +88,8 @@ algorithm-value o present s short h =
 
 parameters-one : (p q : Bool) → parameters_octets p ≡ parameters_octets q → p ≡ q
 parameters-one true true e = refl
-parameters-one true false e = absurd (tlv_some null false [] e)
-parameters-one false true e = absurd (tlv_some null false [] (sym e))
+parameters-one true false e = absurd (tlv-some null false [] e)
+parameters-one false true e = absurd (tlv-some null false [] (sym e))
 parameters-one false false e = refl
 
 following : (a b c : List ℕ) → a ++ b ≡ a ++ c → b ≡ c
@@ -100,6 +100,6 @@ pub algorithm-one : (o : List ℕ) (p q : Bool) (s : List ℕ) → length o < 2 
     → SpellsAlgorithm o q s → p ≡ q
 algorithm-one o p q s short h k =
     let e : algorithm_octets o p ≡ algorithm_octets o q = sym (algorithm-is o p s h) ∙ algorithm-is o q s k in
-    let inside = tlv_same sequence true (identified_octets o p) (identified_octets o q) (identified-short o p short)
+    let inside = tlv-same sequence true (identified_octets o p) (identified_octets o q) (identified-short o p short)
     (identified-short o q short) e in
     parameters-one p q (following (tlv oid false o) (parameters_octets p) (parameters_octets q) inside)

@@ -7,8 +7,8 @@ use Rattle.rpki_der.specs.Leaves.{IsOnly}
 use Rattle.rpki_der.specs.Values.{SpellsLeaf}
 use Rattle.rpki_der.specs.Members.{IsValue}
 use Rattle.rpki_der.specs.ValueListLaws.{sequence_legal}
-use Rattle.rpki_der.proofs.EncodeLaws.{leaf_legal, tlv_at_most}
-use Rattle.rpki_der.proofs.LeafValueLaws.{leaf_value_alone, composed_value_alone}
+use Rattle.rpki_der.proofs.EncodeLaws.{leaf-legal, tlv_at_most}
+use Rattle.rpki_der.proofs.LeafValueLaws.{leaf-value-alone, composed-value-alone}
 use Rattle.rpki.specs.AlgorithmOctetsLaws.{oid-legal}
 use Rattle.rpki.specs.SignatureNames.{SpellsBare, bare_octets}
 
@@ -18,13 +18,13 @@ bare-short o short = omega (arith, tlv_at_most oid false o)
 -- what is written is the identifier
 pub bare-spelled : (o : List ℕ) (v : Unit {0}) → length o < 2 ^ 31 → SpellsBare o v (bare_octets o)
 bare-spelled o v short =
-    leaf_legal sequence true (SpellsLeaf oid false (IsOnly o)) v (tlv oid false o) sequence_legal (bare-short o short)
-    (leaf_legal oid false (IsOnly o) v o oid-legal (omega arith) refl)
+    leaf-legal sequence true (SpellsLeaf oid false (IsOnly o)) v (tlv oid false o) sequence_legal (bare-short o short)
+    (leaf-legal oid false (IsOnly o) v o oid-legal (omega arith) refl)
 
 -- the identifier is one value
 pub bare-value : (o : List ℕ) (v : Unit {0}) (s : List ℕ) → SpellsBare o v s → IsValue s
-bare-value o v s h = composed_value_alone sequence (SpellsLeaf oid false (IsOnly o)) v s
-    (λ c k. (1, leaf_value_alone oid (IsOnly o) v c k)) h
+bare-value o v s h = composed-value-alone sequence (SpellsLeaf oid false (IsOnly o)) v s
+    (λ c k. (1, leaf-value-alone oid (IsOnly o) v c k)) h
 
 -- and is spelled in one way
 pub bare-is : (o : List ℕ) (v : Unit {0}) (s : List ℕ) → SpellsBare o v s → s ≡ bare_octets o

@@ -32,9 +32,9 @@ ends k s h =
       parts = h.value.octets ∙ ap (λ (x : List ℕ). outer ++ x) both ∙ sym (append_assoc outer (h.spelled.first ++ inner) v);
     }
 
-pub has_key : (s : List ℕ) (k : KeyParts) (b : List ℕ) (f : ℕ) → SpellsKey k s → b ≡ k.bits.octets → f ≡ format_number k.format
+pub has-key : (s : List ℕ) (k : KeyParts) (b : List ℕ) (f : ℕ) → SpellsKey k s → b ≡ k.bits.octets → f ≡ format_number k.format
     → HasKey s (record { format = f; unused = slice_index_or s (length s - length b - 1) 0; bits = record { start = length s - length b; length = length b } })
-has_key s k b f h is named =
+has-key s k b f h is named =
     let e = ends k s h in
     let whole : s ≡ (e.front ++ k.bits.unused ∷ []) ++ k.bits.octets = e.parts ∙ sym (append_assoc e.front (k.bits.unused ∷ []) k.bits.octets) in
     rw is (record {

@@ -15,18 +15,18 @@ pub exactly : {V : Type 0} (G : V → List ℕ → Type 0) (K : List ℕ → Dec
 exactly G K s e ne h = (h.0, record { other = ne; kind = h.1 })
 
 -- and no more is Trailing
-pub trailing_exactly : {V : Type 0} (G : V → List ℕ → Type 0) (K : List ℕ → DecodeError → Type 0) (s : List ℕ)
+pub trailing-exactly : {V : Type 0} (G : V → List ℕ → Type 0) (K : List ℕ → DecodeError → Type 0) (s : List ℕ)
     → SpellsNothing G s × IsWholeFault G K s Trailing → SpellsNothing G s × NeverMemory G K s Trailing
-trailing_exactly G K s h = (h.0, record { other = λ z. cc; kind = h.1 })
+trailing-exactly G K s h = (h.0, record { other = λ z. cc; kind = h.1 })
 
-pub serial_exactly : (s : List ℕ) (e : DecodeError) → IsSerialFault s e → e ≢ OutOfMemory
-serial_exactly s e h z = leaf-no-memory integer false IsSerialContents s e h.0 z
+pub serial-exactly : (s : List ℕ) (e : DecodeError) → IsSerialFault s e → e ≢ OutOfMemory
+serial-exactly s e h z = leaf-no-memory integer false IsSerialContents s e h.0 z
 
-pub time_exactly : (s : List ℕ) (e : DecodeError) → IsTimeFault s e → e ≢ OutOfMemory
-time_exactly s Truncated h z = cc
-time_exactly s BadTag h z = cc
-time_exactly s BadLength h z = cc
-time_exactly s Unexpected h z = cc
-time_exactly s (Content x) h z = cc
-time_exactly s Trailing h z = h
-time_exactly s OutOfMemory h z = h
+pub time-exactly : (s : List ℕ) (e : DecodeError) → IsTimeFault s e → e ≢ OutOfMemory
+time-exactly s Truncated h z = cc
+time-exactly s BadTag h z = cc
+time-exactly s BadLength h z = cc
+time-exactly s Unexpected h z = cc
+time-exactly s (Content x) h z = cc
+time-exactly s Trailing h z = h
+time-exactly s OutOfMemory h z = h

@@ -14,8 +14,8 @@ use Rattle.rpki_der.proofs.HeaderReadingLaws.{identifier-from}
 use Rattle.rpki_der.proofs.StepLaws.{pair-is}
 use Rattle.rpki_der.proofs.LeavesLaws.{leaf-tag}
 
-header_found : (t : TagName) (f : Bool) (c p r : List ℕ) → SpellsContents t f c p → (h : Header) × (h.length ≡ length c) × (header_at (p ++ r) ≡ Ok (h, c ++ r))
-header_found t f c p r s =
+header-found : (t : TagName) (f : Bool) (c p r : List ℕ) → SpellsContents t f c p → (h : Header) × (h.length ≡ length c) × (header_at (p ++ r) ≡ Ok (h, c ++ r))
+header-found t f c p r s =
     let h : Header = record { tag = t; constructed = f; length = length c } in
     let legal : IsHeader h = record { tag = s.tag; length = s.fits } in
     let split : p ++ r ≡ header_octets h ++ (c ++ r) = ap (λ (x : List ℕ). x ++ r) s.octets ∙ append_assoc (header_octets h) c r in
@@ -24,26 +24,26 @@ header_found t f c p r s =
 -- the contents of the value, and what follows it
 pub front_contents_of : (t : TagName) (f : Bool) (c p r : List ℕ) → SpellsContents t f c p → front_contents (p ++ r) ≡ c
 unfolding front_contents
-front_contents_of t f c p r s = let k = header_found t f c p r s in rw (k.2, k.1) (take_at c r (length c) refl)
+front_contents_of t f c p r s = let k = header-found t f c p r s in rw (k.2, k.1) (take_at c r (length c) refl)
 
-pub after_front_of : (t : TagName) (f : Bool) (c p r : List ℕ) → SpellsContents t f c p → after_front (p ++ r) ≡ r
+pub after_front-of : (t : TagName) (f : Bool) (c p r : List ℕ) → SpellsContents t f c p → after_front (p ++ r) ≡ r
 unfolding after_front
-after_front_of t f c p r s = let k = header_found t f c p r s in rw (k.2, k.1) (drop_at c r (length c) refl)
+after_front-of t f c p r s = let k = header-found t f c p r s in rw (k.2, k.1) (drop_at c r (length c) refl)
 
 -- the same of the value alone
-pub contents_alone : (t : TagName) (f : Bool) (c p : List ℕ) → SpellsContents t f c p → front_contents p ≡ c
-contents_alone t f c p s = ap front_contents (sym (append-nil p)) ∙ front_contents_of t f c p [] s
+pub contents-alone : (t : TagName) (f : Bool) (c p : List ℕ) → SpellsContents t f c p → front_contents p ≡ c
+contents-alone t f c p s = ap front_contents (sym (append-nil p)) ∙ front_contents_of t f c p [] s
 
-pub nothing_after : (t : TagName) (f : Bool) (c p : List ℕ) → SpellsContents t f c p → after_front p ≡ []
-nothing_after t f c p s = ap after_front (sym (append-nil p)) ∙ after_front_of t f c p [] s
+pub nothing-after : (t : TagName) (f : Bool) (c p : List ℕ) → SpellsContents t f c p → after_front p ≡ []
+nothing-after t f c p s = ap after_front (sym (append-nil p)) ∙ after_front-of t f c p [] s
 
 -- a list begins with one tag
-pub one_tag : (s : List ℕ) (t u : TagName) → HasTag t s → HasTag u s → t ≡ u
-one_tag s t u (f, r, h) (g, q, k) =
+pub one-tag : (s : List ℕ) (t u : TagName) → HasTag t s → HasTag u s → t ≡ u
+one-tag s t u (f, r, h) (g, q, k) =
     ap (λ (i : TagName × Bool). i.0) (pair-is (t, f) (u, g) r q (sym (identifier-from s (t, f) r h) ∙ identifier-from s (u, g) q k)).0
 
 -- a value begins with its tag
-pub contents_tag : (t : TagName) (f : Bool) (s c r : List ℕ) → Spells (SpellsContents t f) s c r → HasTag t s
-contents_tag t f s c r h =
+pub contents-tag : (t : TagName) (f : Bool) (s c r : List ℕ) → Spells (SpellsContents t f) s c r → HasTag t s
+contents-tag t f s c r h =
     leaf-tag t f (λ (v : List ℕ) (w : List ℕ). w ≡ v) s c r
     (record { front = h.front; parts = h.parts; spelled = record { contents = c; value = h.spelled; spelled = refl } })

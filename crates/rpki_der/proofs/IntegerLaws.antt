@@ -45,8 +45,8 @@ IsUnsigned-minimal n c w m = record {
   ];
 }
 
-pub contents_unique : (n : ℕ) (c d : List ℕ) → IsUnsigned n c → IsUnsigned n d → c ≡ d
-contents_unique n c d a b =
+pub contents-unique : (n : ℕ) (c d : List ℕ) → IsUnsigned n c → IsUnsigned n d → c ≡ d
+contents-unique n c d a b =
     let same : length c ≡ length d = omega (arith, a.shortest d b.writes, b.shortest c a.writes) in
     sym (low_octets-full c (length d) same a.writes.octets) ∙ ap (low_octets (length d)) (a.writes.value ∙ sym b.writes.value) ∙ low_octets-full d (length d) refl b.writes.octets
 
@@ -69,8 +69,8 @@ pub number-rest : (c : List ℕ) → get_or c 0 0 ≡ 0 → number_of (mid_of 1 
 number-rest c e = ap number_of (take_rest c 1) ∙ number-tail c e
 
 -- the shortest contents are minimal: else the first octet could be left out
-pub minimal_contents : (n : ℕ) (c : List ℕ) → IsUnsigned n c → IsMinimal c
-minimal_contents n c h = record {
+pub minimal-contents : (n : ℕ) (c : List ℕ) → IsUnsigned n c → IsMinimal c
+minimal-contents n c h = record {
   nonempty = h.writes.nonempty;
   first_bit = h.writes.first_bit;
   nine_bits = λ long. elim (cases_order (get_or c 0 0) 0) [
@@ -89,25 +89,25 @@ minimal_contents n c h = record {
       let w : WritesNumber n (drop 1 c) = record { octets = AreOctets-drop 1 c h.writes.octets; value = number-tail c none ∙ h.writes.value; nonempty = omega (arith, length-drop 1 c); first_bit = omega arith } in
       omega (arith, h.shortest (drop 1 c) w, length-drop 1 c)
 
-power_grows : (i j : ℕ) → i ≤ j → 256 ^ i ≤ 256 ^ j
-power_grows i j h = pow-le-pow_right (omega arith) h
+power-grows : (i j : ℕ) → i ≤ j → 256 ^ i ≤ 256 ^ j
+power-grows i j h = pow-le-pow_right (omega arith) h
 
 -- a number below 2 ^ 159 has at most twenty octets of contents
-pub contents_short : (n : ℕ) (c : List ℕ) → IsUnsigned n c → n < 2 ^ 159 → length c ≤ 20
-contents_short n c h small =
+pub contents-short : (n : ℕ) (c : List ℕ) → IsUnsigned n c → n < 2 ^ 159 → length c ≤ 20
+contents-short n c h small =
     elim (cases_order (length c) 20) [
       | inl same ↦ omega arith
       | inr (inl fewer) ↦ omega arith
       | inr (inr more) ↦
-          let low = number-low c (minimal_contents n c h) (omega arith) in
-          let grow = power_grows 19 (length c - 2) (omega arith) in
+          let low = number-low c (minimal-contents n c h) (omega arith) in
+          let grow = power-grows 19 (length c - 2) (omega arith) in
           absurd (omega (arith, h.writes.value))
     ]
 
 -- octets read from a slice of octets
-pub octets_fit : (xs : List ℕ) → ((k : ℕ) → Fits w8 (get_or xs k 0)) → AreOctets xs
-octets_fit [] h = tt
-octets_fit (x ∷ xs) h = ((h 0).fits, octets_fit xs (λ k. h (suc k)))
+pub octets-fit : (xs : List ℕ) → ((k : ℕ) → Fits w8 (get_or xs k 0)) → AreOctets xs
+octets-fit [] h = tt
+octets-fit (x ∷ xs) h = ((h 0).fits, octets-fit xs (λ k. h (suc k)))
 
 -- what is left where zeros in front were left out, as many as can be
 pub magnitude-left : (xs : List ℕ) (i : ℕ) → AreOctets xs → i < length xs → (i + 1 < length xs → 0 < get_or xs i 0) → IsMagnitude (drop i xs)
@@ -145,7 +145,7 @@ negative n xs high h = omega (arith, h.writes.first_bit)
 
 pub zero-too-many : (n : ℕ) (xs : List ℕ) → 1 < length xs → get_or xs 0 0 ≡ 0 → get_or xs 1 0 < 128 → IsUnsigned n xs → ⊥
 zero-too-many n xs long none low h =
-    elim ((minimal_contents n xs h).nine_bits long) [
+    elim ((minimal-contents n xs h).nine_bits long) [
       | inl some ↦ omega arith
       | inr high ↦ omega arith
     ]

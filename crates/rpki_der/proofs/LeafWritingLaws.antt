@@ -7,8 +7,8 @@ use Rattle.rpki_der.specs.Number.{number_of}
 use Rattle.rpki_der.specs.Integer.{IsUnsigned, IsMagnitude, unsigned_contents}
 use Rattle.rpki_der.specs.Contents.{bits_contents}
 use Rattle.rpki_der.specs.LeafLaws.{NullReadBack, BooleansReadBack, NumbersReadBack, IdentifiersReadBack, OctetsReadBack, BitsReadBack, BooleansApart, NumbersApart, IdentifiersApart, OctetsApart, BitsApart}
-use Rattle.rpki_der.proofs.EncodeLaws.{leaf_legal, tlv_legal, tlv_same_one}
-use Rattle.rpki_der.proofs.UnsignedLaws.{unsigned_spelled, unsigned_at_most}
+use Rattle.rpki_der.proofs.EncodeLaws.{leaf-legal, tlv-legal, tlv-same-one}
+use Rattle.rpki_der.proofs.UnsignedLaws.{unsigned-spelled, unsigned-at-most}
 
 null-tag : IsTag null
 null-tag = record { below = lit< tt; named = λ _. lit< tt }
@@ -29,27 +29,27 @@ bits-tag : IsTag bit_string
 bits-tag = record { below = lit< tt; named = λ _. lit< tt }
 
 pub null-back : NullReadBack
-null-back = leaf_legal null false IsNull tt [] null-tag (lit< tt) refl
+null-back = leaf-legal null false IsNull tt [] null-tag (lit< tt) refl
 
 boolean-short : (b : Bool) → length (boolean_contents b) < 2 ^ 32
 boolean-short true = lit< tt
 boolean-short false = lit< tt
 
 pub booleans-back : BooleansReadBack
-booleans-back b = leaf_legal boolean false IsBoolean b (boolean_contents b) boolean-tag (boolean-short b) refl
+booleans-back b = leaf-legal boolean false IsBoolean b (boolean_contents b) boolean-tag (boolean-short b) refl
 
 pub numbers-back : NumbersReadBack
 numbers-back octets m small =
-    leaf_legal integer false IsUnsigned (number_of octets) (unsigned_contents octets) integer-tag (omega (arith, unsigned_at_most octets)) (unsigned_spelled octets m)
+    leaf-legal integer false IsUnsigned (number_of octets) (unsigned_contents octets) integer-tag (omega (arith, unsigned-at-most octets)) (unsigned-spelled octets m)
 
 pub identifiers-back : IdentifiersReadBack
-identifiers-back octets valid small = leaf_legal oid false IsOidOf octets octets oid-tag small (refl, valid)
+identifiers-back octets valid small = leaf-legal oid false IsOidOf octets octets oid-tag small (refl, valid)
 
 pub octets-back : OctetsReadBack
-octets-back octets small = tlv_legal octet_string false octets octets-tag small
+octets-back octets small = tlv-legal octet_string false octets octets-tag small
 
 pub bits-back : BitsReadBack
-bits-back b legal small = leaf_legal bit_string false IsBits b (bits_contents b) bits-tag (omega arith) (record { legal = legal; contents = refl })
+bits-back b legal small = leaf-legal bit_string false IsBits b (bits_contents b) bits-tag (omega arith) (record { legal = legal; contents = refl })
 
 -- ---- equal octets
 
@@ -60,13 +60,13 @@ boolean-same false true e = absurd (cc)
 boolean-same false false e = refl
 
 pub booleans-apart : BooleansApart
-booleans-apart a b = (λ e. boolean-same a b (tlv_same_one boolean false _ (boolean_contents b) (boolean-short b) e), λ e. ap (λ (x : Bool). tlv boolean false (boolean_contents x)) e)
+booleans-apart a b = (λ e. boolean-same a b (tlv-same-one boolean false _ (boolean_contents b) (boolean-short b) e), λ e. ap (λ (x : Bool). tlv boolean false (boolean_contents x)) e)
 
 pub identifiers-apart : IdentifiersApart
-identifiers-apart a b small = (λ e. tlv_same_one oid false a b small e, λ e. ap (λ (x : List ℕ). tlv oid false x) e)
+identifiers-apart a b small = (λ e. tlv-same-one oid false a b small e, λ e. ap (λ (x : List ℕ). tlv oid false x) e)
 
 pub octets-apart : OctetsApart
-octets-apart a b small = (λ e. tlv_same_one octet_string false a b small e, λ e. ap (λ (x : List ℕ). tlv octet_string false x) e)
+octets-apart a b small = (λ e. tlv-same-one octet_string false a b small e, λ e. ap (λ (x : List ℕ). tlv octet_string false x) e)
 
 bits-same : (a b : Bits) → bits_contents a ≡ bits_contents b → a ≡ b
 bits-same a b e =
@@ -75,7 +75,7 @@ bits-same a b e =
     ap (λ (n : ℕ). bits_of n a.octets) count ∙ ap (λ (x : List ℕ). bits_of b.unused x) octets
 
 pub bits-apart : BitsApart
-bits-apart a b small = (λ e. bits-same a b (tlv_same_one bit_string false _ (bits_contents b) (omega arith) e), λ e. ap (λ (x : Bits). tlv bit_string false (bits_contents x)) e)
+bits-apart a b small = (λ e. bits-same a b (tlv-same-one bit_string false _ (bits_contents b) (omega arith) e), λ e. ap (λ (x : Bits). tlv bit_string false (bits_contents x)) e)
 
 -- a zero octet stands in front of one of them alone: then the other begins with zero, and has more than one octet
 one-following : (a b : List ℕ) → IsMagnitude a → IsMagnitude b → a ≡ 0 ∷ b → ⊥
@@ -94,6 +94,6 @@ numbers-same a b m k e = by_first (nat_lt (slice_index a 0) 128) (nat_lt (slice_
 
 pub numbers-apart : NumbersApart
 numbers-apart a b m k small = (
-  λ e. numbers-same a b m k (tlv_same_one integer false _ (unsigned_contents b) (omega (arith, unsigned_at_most b)) e),
+  λ e. numbers-same a b m k (tlv-same-one integer false _ (unsigned_contents b) (omega (arith, unsigned-at-most b)) e),
   λ e. ap (λ (x : List ℕ). tlv integer false (unsigned_contents x)) e,
 )

@@ -11,38 +11,38 @@ use Rattle.rpki_der.specs.Members.{Members, Empty, Primitive, Constructed, spell
 use Rattle.rpki_der.specs.Index.{Entry, entry, entries, IsIndex, StandsAt}
 use Rattle.rpki_der.specs.IndexMembers.{numbers_from, member_numbers, HasEntry}
 use Rattle.rpki_der.proofs.MembersLaws.{header}
-use Rattle.rpki_der.proofs.IndexLaws.{part_at}
+use Rattle.rpki_der.proofs.IndexLaws.{part-at}
 
 -- an entry of an index stands where it says
-pub stands_of : (octets : List ℕ) (index : List Entry) (n : ℕ) (e : Entry) → AllByRecursion (StandsAt octets) index → slice_get index n ≡ Some e → StandsAt octets e
-stands_of octets [] n e h is = absurd (cc)
-stands_of octets (x ∷ xs) zero e h is = let same : x ≡ e = cc in subst (λ (y : Entry). StandsAt octets y) same h.0
-stands_of octets (x ∷ xs) (suc n) e h is = stands_of octets xs n e h.1 is
+pub stands-of : (octets : List ℕ) (index : List Entry) (n : ℕ) (e : Entry) → AllByRecursion (StandsAt octets) index → slice_get index n ≡ Some e → StandsAt octets e
+stands-of octets [] n e h is = absurd (cc)
+stands-of octets (x ∷ xs) zero e h is = let same : x ≡ e = cc in subst (λ (y : Entry). StandsAt octets y) same h.0
+stands-of octets (x ∷ xs) (suc n) e h is = stands-of octets xs n e h.1 is
 
 -- the next entry has the parent, or it has not
-pub next_member : (n : ℕ) (parent : Option ℕ) (index : List Entry) (e : Entry) → n < length index → option_eq nat_eq (get_or index n e).parent parent ≡ true
+pub next-member : (n : ℕ) (parent : Option ℕ) (index : List Entry) (e : Entry) → n < length index → option_eq nat_eq (get_or index n e).parent parent ≡ true
     → numbers_from n parent (drop n index) ≡ n ∷ numbers_from (n + 1) parent (drop (n + 1) index)
-next_member n parent index e within has = ap (numbers_from n parent) (drop_more index n e within) ∙ rw has refl
+next-member n parent index e within has = ap (numbers_from n parent) (drop_more index n e within) ∙ rw has refl
 
-pub no_member : (n : ℕ) (parent : Option ℕ) (index : List Entry) (e : Entry) → n < length index → option_eq nat_eq (get_or index n e).parent parent ≡ false
+pub no-member : (n : ℕ) (parent : Option ℕ) (index : List Entry) (e : Entry) → n < length index → option_eq nat_eq (get_or index n e).parent parent ≡ false
     → numbers_from n parent (drop n index) ≡ numbers_from (n + 1) parent (drop (n + 1) index)
-no_member n parent index e within has = ap (numbers_from n parent) (drop_more index n e within) ∙ rw has refl
+no-member n parent index e within has = ap (numbers_from n parent) (drop_more index n e within) ∙ rw has refl
 
-pub members_end : (n : ℕ) (parent : Option ℕ) (index : List Entry) → length index ≤ n → numbers_from n parent (drop n index) ≡ []
-members_end n parent index end = ap (numbers_from n parent) (drop_all n index end)
+pub members-end : (n : ℕ) (parent : Option ℕ) (index : List Entry) → length index ≤ n → numbers_from n parent (drop n index) ≡ []
+members-end n parent index end = ap (numbers_from n parent) (drop_all n index end)
 
 -- each number is that of an entry
-numbers_within : (octets : List ℕ) (index : List Entry) → IsIndex octets index → (n : ℕ) (parent : Option ℕ) (es : List Entry) → n + length es ≤ length index → AllByRecursion (HasEntry octets) (numbers_from n parent es)
-numbers_within octets index i n parent [] few = tt
-numbers_within octets index i n parent (e ∷ es) few =
-    let others : AllByRecursion (HasEntry octets) (numbers_from (n + 1) parent es) = numbers_within octets index i (n + 1) parent es (omega arith) in
+numbers-within : (octets : List ℕ) (index : List Entry) → IsIndex octets index → (n : ℕ) (parent : Option ℕ) (es : List Entry) → n + length es ≤ length index → AllByRecursion (HasEntry octets) (numbers_from n parent es)
+numbers-within octets index i n parent [] few = tt
+numbers-within octets index i n parent (e ∷ es) few =
+    let others : AllByRecursion (HasEntry octets) (numbers_from (n + 1) parent es) = numbers-within octets index i (n + 1) parent es (omega arith) in
     elim (cases_Bool (option_eq nat_eq e.parent parent)) [
       | inl has ↦ rw has (record { index = index; is = i; within = omega arith }, others)
       | inr has ↦ rw has others
     ]
 
-pub members_within : (octets : List ℕ) (parent : Option ℕ) (index : List Entry) → IsIndex octets index → AllByRecursion (HasEntry octets) (member_numbers parent index)
-members_within octets parent index i = numbers_within octets index i 0 parent index (omega arith)
+pub members-within : (octets : List ℕ) (parent : Option ℕ) (index : List Entry) → IsIndex octets index → AllByRecursion (HasEntry octets) (member_numbers parent index)
+members-within octets parent index i = numbers-within octets index i 0 parent index (omega arith)
 
 -- ---- a value whose members are primitive values
 
@@ -62,10 +62,10 @@ abbrev pub contents_of : List (TagName × List ℕ) → List (List ℕ)
 contents_of [] = []
 contents_of (x ∷ xs) = x.1 ∷ contents_of xs
 
-contents_stand : (xs : List (TagName × List ℕ)) (pre post octets : List ℕ) (at n : ℕ) (parent : Option ℕ) → at ≡ length pre → octets ≡ pre ++ (spell (primitives xs) ++ post)
+contents-stand : (xs : List (TagName × List ℕ)) (pre post octets : List ℕ) (at n : ℕ) (parent : Option ℕ) → at ≡ length pre → octets ≡ pre ++ (spell (primitives xs) ++ post)
     → AreContents octets (entries (primitives xs) at parent n) (contents_of xs)
-contents_stand [] pre post octets at n parent h is = tt
-contents_stand (x ∷ xs) pre post octets at n parent h is =
+contents-stand [] pre post octets at n parent h is = tt
+contents-stand (x ∷ xs) pre post octets at n parent h is =
     let t = x.0 in
     let c = x.1 in
     let head : List ℕ = header t false (length c) in
@@ -74,8 +74,8 @@ contents_stand (x ∷ xs) pre post octets at n parent h is =
     let after : octets ≡ (pre ++ tlv t false c) ++ rest = split ∙ sym (append_assoc pre (tlv t false c) rest) in
     let regrouped : octets ≡ (pre ++ head) ++ (c ++ rest) = split ∙ ap (λ (y : List ℕ). pre ++ y) (append_assoc head c rest) ∙ sym (append_assoc pre head (c ++ rest)) in
     let contents : ℕ = at + length head in (
-      ap (λ (y : List ℕ). slice_range y contents (contents + length c)) regrouped ∙ part_at (pre ++ head) c rest contents (contents + length c) (omega (arith, h, length-append pre head)) refl,
-      contents_stand xs (pre ++ tlv t false c) post octets (at + length head + length c) (n + 1) parent (omega (arith, h, length-append pre (tlv t false c), length-append head c)) after,
+      ap (λ (y : List ℕ). slice_range y contents (contents + length c)) regrouped ∙ part-at (pre ++ head) c rest contents (contents + length c) (omega (arith, h, length-append pre head)) refl,
+      contents-stand xs (pre ++ tlv t false c) post octets (at + length head + length c) (n + 1) parent (omega (arith, h, length-append pre (tlv t false c), length-append head c)) after,
     )
 
 -- the entry of such a value, and those of its members
@@ -85,18 +85,18 @@ first_entry t xs = entry 0 None t true (spell (primitives xs))
 abbrev pub member_entries : TagName → List (TagName × List ℕ) → List Entry
 member_entries t xs = entries (primitives xs) (first_entry t xs).contents (Some 0) 1
 
-pub index_of_primitives : (t : TagName) (xs : List (TagName × List ℕ)) (octets : List ℕ) → IsTag t → length (spell (primitives xs)) < 2 ^ 32 → HaveHeaders (primitives xs)
+pub index-of-primitives : (t : TagName) (xs : List (TagName × List ℕ)) (octets : List ℕ) → IsTag t → length (spell (primitives xs)) < 2 ^ 32 → HaveHeaders (primitives xs)
     → octets ≡ tlv t true (spell (primitives xs)) → IsIndex octets (first_entry t xs ∷ member_entries t xs)
-index_of_primitives t xs octets tag fits legal is = record {
+index-of-primitives t xs octets tag fits legal is = record {
   members = Constructed t (primitives xs) Empty;
   legal = ((tag, fits), legal, tt);
   spelled = is ∙ sym (append-nil (tlv t true (spell (primitives xs))));
   is = ap (λ (y : List Entry). first_entry t xs ∷ y) (sym (append-nil (member_entries t xs)));
 }
 
-pub contents_of_primitives : (t : TagName) (xs : List (TagName × List ℕ)) (octets : List ℕ) → octets ≡ tlv t true (spell (primitives xs)) → AreContents octets (member_entries t xs) (contents_of xs)
-contents_of_primitives t xs octets is =
+pub contents_of-primitives : (t : TagName) (xs : List (TagName × List ℕ)) (octets : List ℕ) → octets ≡ tlv t true (spell (primitives xs)) → AreContents octets (member_entries t xs) (contents_of xs)
+contents_of-primitives t xs octets is =
     let c = spell (primitives xs) in
     let head : List ℕ = header t true (length c) in
     let split : octets ≡ head ++ (c ++ []) = is ∙ ap (λ (y : List ℕ). head ++ y) (sym (append-nil c)) in
-    contents_stand xs head [] octets (first_entry t xs).contents 1 (Some 0) (omega arith) split
+    contents-stand xs head [] octets (first_entry t xs).contents 1 (Some 0) (omega arith) split

@@ -7,7 +7,7 @@ use Rattle.rpki_der.specs.TagName.{TagName, IsTag}
 use Rattle.rpki_der.specs.Header.{digits, lead, identifier_octets, length_octets}
 use Rattle.rpki_der.specs.ShortestForm.{number_in, AreDigits, IsShortest, IsLengthForm, continued, IsIdentifierForm}
 use Rattle.rpki_der.proofs.DigitLaws.{digits-zero, digits-last}
-use Rattle.rpki_der.proofs.HeaderWritingLaws.{identifier_low, identifier_high, length_short, length_long}
+use Rattle.rpki_der.proofs.HeaderWritingLaws.{identifier-low, identifier-high, length-short, length-long}
 
 -- ---- numbers
 
@@ -112,20 +112,20 @@ one-shortest b n xs ys h k =
 
 -- ---- lengths
 
-pub length_forms : (n : ℕ) (p : List ℕ) → n < 2 ^ 32 → (p ≡ length_octets n) ↔ IsLengthForm n p
-length_forms n p lt =
+pub length-forms : (n : ℕ) (p : List ℕ) → n < 2 ^ 32 → (p ≡ length_octets n) ↔ IsLengthForm n p
+length-forms n p lt =
     elim (cases_lt n 128) [
       | inl short ↦ (
-        λ e. inl (short, e ∙ length_short n short),
-        λ h. elim h [ inl (l, e) ↦ e ∙ sym (length_short n short) | inr m ↦ absurd (let ge = m.0 in omega arith) ],
+        λ e. inl (short, e ∙ length-short n short),
+        λ h. elim h [ inl (l, e) ↦ e ∙ sym (length-short n short) | inr m ↦ absurd (let ge = m.0 in omega arith) ],
       )
       | inr ge ↦
           let ds = digits 256 0 4 n in
           let best : IsShortest 256 n ds = digits-shortest 256 4 n (omega arith) (omega arith) (omega arith) in (
-            λ e. inr (ge, ds, best, e ∙ length_long n ge),
+            λ e. inr (ge, ds, best, e ∙ length-long n ge),
             λ h. elim h [
               | inl (l, e) ↦ absurd (omega arith)
-              | inr (g, es, k, e) ↦ e ∙ ap (λ (xs : List ℕ). (128 + length xs) ∷ xs) (one-shortest 256 n es ds k best) ∙ sym (length_long n ge)
+              | inr (g, es, k, e) ↦ e ∙ ap (λ (xs : List ℕ). (128 + length xs) ∷ xs) (one-shortest 256 n es ds k best) ∙ sym (length-long n ge)
             ],
           )
     ]
@@ -147,12 +147,12 @@ marked b (suc k) n d rest =
           (marked b k (n / b) (0 + n % b) (d ∷ rest) ∙ ap (λ (x : ℕ). digits b 128 k (n / b) ++ (128 + x) ∷ continued (d ∷ rest)) (zero-add (n % b)))
     ]
 
-pub identifier_forms : (t : TagName) (f : Bool) (p : List ℕ) → IsTag t → (p ≡ identifier_octets t f) ↔ IsIdentifierForm t f p
-identifier_forms t f p legal =
+pub identifier-forms : (t : TagName) (f : Bool) (p : List ℕ) → IsTag t → (p ≡ identifier_octets t f) ↔ IsIdentifierForm t f p
+identifier-forms t f p legal =
     elim (cases_lt t.number 31) [
       | inl low ↦ (
-        λ e. inl (low, e ∙ identifier_low t f low),
-        λ h. elim h [ inl (l, e) ↦ e ∙ sym (identifier_low t f low) | inr m ↦ absurd (let ge = m.0 in omega arith) ],
+        λ e. inl (low, e ∙ identifier-low t f low),
+        λ h. elim h [ inl (l, e) ↦ e ∙ sym (identifier-low t f low) | inr m ↦ absurd (let ge = m.0 in omega arith) ],
       )
       | inr ge ↦
           let n = t.number in
@@ -161,7 +161,7 @@ identifier_forms t f p legal =
           let best : IsShortest 128 n ds = digits-shortest 128 4 n (omega arith) (omega arith) (omega arith) in
           let parts : ds ≡ digits 128 0 3 (n / 128) ++ (0 + n % 128) ∷ [] = digits-last 128 0 3 n (λ z. omega arith) in
           let octets : continued ds ≡ digits 128 128 3 (n / 128) ++ (n % 128) ∷ [] = ap continued parts ∙ marked 128 3 (n / 128) (0 + n % 128) [] ∙ ap (λ (x : ℕ). digits 128 128 3 (n / 128) ++ x ∷ []) (zero-add (n % 128)) in
-          let is : lead t f 31 ∷ continued ds ≡ identifier_octets t f = ap (λ (xs : List ℕ). lead t f 31 ∷ xs) octets ∙ sym (identifier_high t f ge) in (
+          let is : lead t f 31 ∷ continued ds ≡ identifier_octets t f = ap (λ (xs : List ℕ). lead t f 31 ∷ xs) octets ∙ sym (identifier-high t f ge) in (
             λ e. inr (ge, ds, best, e ∙ sym is),
             λ h. elim h [
               | inl (l, e) ↦ absurd (omega arith)

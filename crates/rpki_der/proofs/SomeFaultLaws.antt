@@ -17,7 +17,7 @@ use Rattle.rpki_der.specs.ValueListLaws.{primitive_value, constructed_value}
 use Rattle.rpki_der.proofs.StepLaws.{IsBytes, IsBytes-rest}
 use Rattle.rpki_der.proofs.HeaderLaws.{IsBytes-following}
 use Rattle.rpki_der.proofs.HeaderReadingLaws.{spelled-from, header-fault}
-use Rattle.rpki_der.proofs.MembersLaws.{header, HasHeader, two_octets}
+use Rattle.rpki_der.proofs.MembersLaws.{header, HasHeader, two-octets}
 
 bytes-of : (s : List ℕ) → AreOctets s → IsBytes s
 bytes-of [] o i = omega arith
@@ -77,7 +77,7 @@ first s bytes some inside = go (header_at s) refl
         bytes-inside = bytes-before c after (subst IsBytes (sym (take-append-drop h.length r)) bytes-after)
 
         smaller : length c < length s
-        smaller = omega (arith, two_octets h.tag h.constructed h.length, ap length sp.spelled.octets, ap length sp.parts, length-append sp.front r, (with-contents s h r sp le).0)
+        smaller = omega (arith, two-octets h.tag h.constructed h.length, ap length sp.spelled.octets, ap length sp.parts, length-append sp.front r, (with-contents s h r sp le).0)
 
         formed : (f : Bool) → h.constructed ≡ f → BeginsOrFails s
         formed false is = inl (h.tag, c, after, legal, (with-contents s h r sp le).1 ∙ ap (λ (f : Bool). tlv h.tag f c ++ after) is)
@@ -95,7 +95,7 @@ first s bytes some inside = go (header_at s) refl
 
 -- what follows a value is shorter
 following : (t : TagName) (f : Bool) (c r s : List ℕ) → s ≡ tlv t f c ++ r → length r < length s
-following t f c r s is = omega (arith, ap length is, two_octets t f (length c), length-append (tlv t f c) r, length-append (header t f (length c)) c)
+following t f c r s is = omega (arith, ap length is, two-octets t f (length c), length-append (tlv t f c) r, length-append (header t f (length c)) c)
 
 bytes-following : (p r s : List ℕ) → s ≡ p ++ r → IsBytes s → IsBytes r
 bytes-following p r s is bytes = IsBytes-following p r (subst IsBytes is bytes)
@@ -125,8 +125,8 @@ scan (suc k) (b ∷ s) le bytes =
     ]
 
 -- octets that no value begins have a fault
-pub some_fault : (s : List ℕ) → AreOctets s → s ≢ [] → ((value rest : List ℕ) → IsValue value → s ≡ value ++ rest → ⊥) → (e : DecodeError) × IsNestedFault s e
-some_fault s octets some none =
+pub some-fault : (s : List ℕ) → AreOctets s → s ≢ [] → ((value rest : List ℕ) → IsValue value → s ≡ value ++ rest → ⊥) → (e : DecodeError) × IsNestedFault s e
+some-fault s octets some none =
     elim (first s (bytes-of s octets) some (λ c lt by. scan (length c) c (omega arith) by)) [
       | inl (t, c, r, h, is) ↦ absurd (none (tlv t false c) r (primitive_value t c h.0 h.1) is)
       | inr (inl (t, ms, r, h, hm, is)) ↦

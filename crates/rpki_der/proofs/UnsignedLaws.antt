@@ -9,8 +9,8 @@ use Rattle.rpki_der.specs.Integer.{IsUnsigned, IsMagnitude, unsigned_contents}
 use Rattle.rpki_der.proofs.IntegerLaws.{without-zero, following-zero}
 
 -- what is written is the INTEGER of the number
-pub unsigned_spelled : (octets : List ℕ) → IsMagnitude octets → IsUnsigned (number_of octets) (unsigned_contents octets)
-unsigned_spelled octets m = by_first (nat_lt (get_or octets 0 0) 128) refl where
+pub unsigned-spelled : (octets : List ℕ) → IsMagnitude octets → IsUnsigned (number_of octets) (unsigned_contents octets)
+unsigned-spelled octets m = by_first (nat_lt (get_or octets 0 0) 128) refl where
   by_first : (b : Bool) → nat_lt (get_or octets 0 0) 128 ≡ b → IsUnsigned (number_of octets) (cond b octets (0 ∷ octets))
   by_first true e = (without-zero octets m.each m.nonempty (ltb-true (get_or octets 0 0) 128 e) m.no_zero_in_front).0
   by_first false e =
@@ -25,8 +25,8 @@ pub unsigned_behind : (octets : List ℕ) → 128 ≤ get_or octets 0 0 → unsi
 unsigned_behind octets high = ap (λ (b : Bool). cond b octets (0 ∷ octets)) (le-ltb (get_or octets 0 0) 128 high)
 
 -- with at most one octet more
-pub unsigned_at_most : (octets : List ℕ) → length (unsigned_contents octets) ≤ length octets + 1
-unsigned_at_most octets = by_first (nat_lt (get_or octets 0 0) 128) where
+pub unsigned-at-most : (octets : List ℕ) → length (unsigned_contents octets) ≤ length octets + 1
+unsigned-at-most octets = by_first (nat_lt (get_or octets 0 0) 128) where
   by_first : (b : Bool) → length (cond b octets (0 ∷ octets)) ≤ length octets + 1
   by_first true = omega arith
   by_first false = omega arith
@@ -38,10 +38,10 @@ number-least x xs some = let le : 1 * 256 ^ length xs ≤ x * 256 ^ length xs = 
 power-grows : (i j : ℕ) → i ≤ j → 256 ^ i ≤ 256 ^ j
 power-grows i j h = pow-le-pow_right (omega arith) h
 
-pub magnitude_at_most : (u s : List ℕ) → IsMagnitude u → AreOctets s → 0 < length s → number_of u ≡ number_of s → length u ≤ length s
-magnitude_at_most [] s m o some e = omega arith
-magnitude_at_most (x ∷ []) s m o some e = omega arith
-magnitude_at_most (x ∷ y ∷ zs) s m o some e =
+pub magnitude-at-most : (u s : List ℕ) → IsMagnitude u → AreOctets s → 0 < length s → number_of u ≡ number_of s → length u ≤ length s
+magnitude-at-most [] s m o some e = omega arith
+magnitude-at-most (x ∷ []) s m o some e = omega arith
+magnitude-at-most (x ∷ y ∷ zs) s m o some e =
     elim (cases_order (length s) (suc (suc (length zs)))) [
       | inl same ↦ omega arith
       | inr (inr more) ↦ omega arith

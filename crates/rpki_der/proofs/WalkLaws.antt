@@ -9,19 +9,19 @@ use Rattle.rpki_der.specs.Members.{Members, Empty, Primitive, Constructed, spell
 use Rattle.rpki_der.specs.NestedFault.{IsNestedFault, IsCaptureFault}
 use Rattle.rpki_der.specs.Walk.{HasEither, SpellsAnyValue, CountsHeaders}
 use Rattle.rpki_der.proofs.ReadingLaws.{UnlessMemory-from, Refusal-weaker, Refusal-or-memory-where}
-use Rattle.rpki_der.proofs.MembersLaws.{one_beginning, half_of, value_some}
-use Rattle.rpki_der.proofs.NestedFaultLaws.{fault_or_value, fault_not_empty, fault_kinds, one_fault}
+use Rattle.rpki_der.proofs.MembersLaws.{one-beginning, half-of, value-some}
+use Rattle.rpki_der.proofs.NestedFaultLaws.{fault-or-value, fault-not-empty, fault-kinds, one-fault}
 
 -- what a spelling of a value begins with is the value
-value_parts : {s v r : List ℕ} → Spells SpellsValue s v r → s ≡ v ++ r
-value_parts {s} {v} {r} sp = sp.parts ∙ ap (λ (x : List ℕ). x ++ r) sp.spelled.same
+value-parts : {s v r : List ℕ} → Spells SpellsValue s v r → s ≡ v ++ r
+value-parts {s} {v} {r} sp = sp.parts ∙ ap (λ (x : List ℕ). x ++ r) sp.spelled.same
 
-no_value : {s : List ℕ} {e : DecodeError} → IsNestedFault s e → Refuses SpellsValue s
-no_value fault v r sp = fault_or_value r fault sp.spelled.value (value_parts sp)
+no-value : {s : List ℕ} {e : DecodeError} → IsNestedFault s e → Refuses SpellsValue s
+no-value fault v r sp = fault-or-value r fault sp.spelled.value (value-parts sp)
 
 -- no fault is an allocation failure
-no_memory : {s : List ℕ} → IsNestedFault s OutOfMemory → ⊥
-no_memory fault = kinds (fault_kinds fault)
+no-memory : {s : List ℕ} → IsNestedFault s OutOfMemory → ⊥
+no-memory fault = kinds (fault-kinds fault)
   where
     kinds : (OutOfMemory ≡ Truncated) ⊎ (OutOfMemory ≡ BadTag) ⊎ (OutOfMemory ≡ BadLength) → ⊥
     kinds (inl e) = cc e
@@ -29,9 +29,9 @@ no_memory fault = kinds (fault_kinds fault)
     kinds (inr (inr e)) = cc e
 
 -- a fault, or allocation failure where P holds
-refusal_of : (P : List ℕ → Type 0) (s : List ℕ) (e : DecodeError) → ((e ≡ OutOfMemory) × P s) ⊎ IsNestedFault s e → Refusal SpellsValue (OrMemoryWhere P IsNestedFault) s s e
-refusal_of P s e (inl z) = subst (λ (x : DecodeError). Refusal SpellsValue (OrMemoryWhere P IsNestedFault) s s x) (sym z.0) (record { unchanged = refl; refuses = tt; kind = z.1 })
-refusal_of P s e (inr f) = Refusal-or-memory-where P IsNestedFault s s e (λ k. absurd (no_memory k)) (record { unchanged = refl; refuses = UnlessMemory-from e (no_value f); kind = f })
+refusal-of : (P : List ℕ → Type 0) (s : List ℕ) (e : DecodeError) → ((e ≡ OutOfMemory) × P s) ⊎ IsNestedFault s e → Refusal SpellsValue (OrMemoryWhere P IsNestedFault) s s e
+refusal-of P s e (inl z) = subst (λ (x : DecodeError). Refusal SpellsValue (OrMemoryWhere P IsNestedFault) s s x) (sym z.0) (record { unchanged = refl; refuses = tt; kind = z.1 })
+refusal-of P s e (inr f) = Refusal-or-memory-where P IsNestedFault s s e (λ k. absurd (no-memory k)) (record { unchanged = refl; refuses = UnlessMemory-from e (no-value f); kind = f })
 
 module _ (P : List ℕ → Type 0) (r : Result ℕ DecodeError) (s : List ℕ) (m : ℕ) (within : IfOk r (λ k. k ≤ length s)) (accepted : IfOk r (λ k. IsValueOf m (take k s))) (refused : IfErr r (λ e. ((e ≡ OutOfMemory) × P s) ⊎ IsNestedFault s e)) where
   pub front_accepted : IfOk r (λ k. Accepts SpellsValue s (take k s) (drop k s))
@@ -41,8 +41,8 @@ module _ (P : List ℕ → Type 0) (r : Result ℕ DecodeError) (s : List ℕ) (
       go (Ok k) w a = record {
         spells = record { front = take k s; parts = sym (take-append-drop k s); spelled = record { same = refl; value = a.0 } };
         only = λ v q sp.
-            let parts : s ≡ v ++ q = value_parts sp in
-            let same = one_beginning (take k s) v (drop k s) q a.0 sp.spelled.value (take-append-drop k s ∙ parts) in
+            let parts : s ≡ v ++ q = value-parts sp in
+            let same = one-beginning (take k s) v (drop k s) q a.0 sp.spelled.value (take-append-drop k s ∙ parts) in
             let size : length v ≡ k = ap length (sym same.0) ∙ length-take-le k s w in
             (sym same.0, sym (ap (λ (x : List ℕ). drop k x) parts ∙ drop_at v q k size));
       }
@@ -52,7 +52,7 @@ module _ (P : List ℕ → Type 0) (r : Result ℕ DecodeError) (s : List ℕ) (
   front_counted = go r accepted
     where
       go : (r : Result ℕ DecodeError) → IfOk r (λ k. IsValueOf m (take k s)) → IfOk r (λ k. CountsHeaders s (drop k s) m)
-      go (Ok k) a = record { value = take k s; parts = sym (take-append-drop k s); headers = a; half = half_of (take k s) m a }
+      go (Ok k) a = record { value = take k s; parts = sym (take-append-drop k s); headers = a; half = half-of (take k s) m a }
       go (Err e) a = tt
 
   pub front_refused : IfErr r (λ e. Refusal SpellsValue (OrMemoryWhere P IsNestedFault) s s e)
@@ -60,47 +60,47 @@ module _ (P : List ℕ → Type 0) (r : Result ℕ DecodeError) (s : List ℕ) (
     where
       go : (r : Result ℕ DecodeError) → IfErr r (λ e. ((e ≡ OutOfMemory) × P s) ⊎ IsNestedFault s e) → IfErr r (λ e. Refusal SpellsValue (OrMemoryWhere P IsNestedFault) s s e)
       go (Ok k) f = tt
-      go (Err e) f = refusal_of P s e f
+      go (Err e) f = refusal-of P s e f
 
   pub fault_named : (e : DecodeError) → IsNestedFault s e → (r ≡ Err OutOfMemory) ⊎ (r ≡ Err e)
   fault_named e f = go r accepted refused
     where
       go : (r : Result ℕ DecodeError) → IfOk r (λ k. IsValueOf m (take k s)) → IfErr r (λ d. ((d ≡ OutOfMemory) × P s) ⊎ IsNestedFault s d) → (r ≡ Err OutOfMemory) ⊎ (r ≡ Err e)
-      go (Ok k) a g = absurd (fault_or_value (drop k s) f a.0 (sym (take-append-drop k s)))
+      go (Ok k) a g = absurd (fault-or-value (drop k s) f a.0 (sym (take-append-drop k s)))
       go (Err d) a (inl h) = inl (ap (λ (x : DecodeError). Err x) h.0)
-      go (Err d) a (inr h) = inr (ap (λ (x : DecodeError). Err x) (one_fault h f refl))
+      go (Err d) a (inr h) = inr (ap (λ (x : DecodeError). Err x) (one-fault h f refl))
 
 -- ---- one value, whichever
 
-value_of_any : {s r : List ℕ} {v : Unit {0}} (sp : Spells SpellsAnyValue s v r) → Spells SpellsValue s sp.front r
-value_of_any sp = record { front = sp.front; parts = sp.parts; spelled = record { same = refl; value = sp.spelled } }
+value-of-any : {s r : List ℕ} {v : Unit {0}} (sp : Spells SpellsAnyValue s v r) → Spells SpellsValue s sp.front r
+value-of-any sp = record { front = sp.front; parts = sp.parts; spelled = record { same = refl; value = sp.spelled } }
 
-pub any_accepted : {s v r : List ℕ} → Accepts SpellsValue s v r → Accepts SpellsAnyValue s tt r
-any_accepted {s} {v} {r} a = record {
-  spells = record { front = v; parts = value_parts a.spells; spelled = a.spells.spelled.value };
-  only = λ w q sp. (refl, (a.only sp.front q (value_of_any sp)).1);
+pub any-accepted : {s v r : List ℕ} → Accepts SpellsValue s v r → Accepts SpellsAnyValue s tt r
+any-accepted {s} {v} {r} a = record {
+  spells = record { front = v; parts = value-parts a.spells; spelled = a.spells.spelled.value };
+  only = λ w q sp. (refl, (a.only sp.front q (value-of-any sp)).1);
 }
 
-pub any_refused : {K : List ℕ → DecodeError → Type 0} {s r : List ℕ} {e : DecodeError} → Refusal SpellsValue K s r e → Refusal SpellsAnyValue K s r e
-any_refused = Refusal-weaker (λ none v q sp. none sp.front q (value_of_any sp)) (λ k. k)
+pub any-refused : {K : List ℕ → DecodeError → Type 0} {s r : List ℕ} {e : DecodeError} → Refusal SpellsValue K s r e → Refusal SpellsAnyValue K s r e
+any-refused = Refusal-weaker (λ none v q sp. none sp.front q (value-of-any sp)) (λ k. k)
 
 -- what a value begins is something
-pub some_left : {s v r : List ℕ} → Accepts SpellsValue s v r → s ≢ []
-some_left {s} {v} {r} a z =
-    let parts = value_parts a.spells in
-    omega (arith, value_some a.spells.spelled.value, ap length (sym z ∙ parts), length-append v r)
+pub some-left : {s v r : List ℕ} → Accepts SpellsValue s v r → s ≢ []
+some-left {s} {v} {r} a z =
+    let parts = value-parts a.spells in
+    omega (arith, value-some a.spells.spelled.value, ap length (sym z ∙ parts), length-append v r)
 
 -- ---- capturing
 
 -- one value is a value of some form
-has_either : {s v r : List ℕ} → Accepts SpellsValue s v r → HasEither s
-has_either {s} {v} {r} a = go value.members value.legal value.spelled (omega (arith, value_some value, ap length value.spelled))
+has-either : {s v r : List ℕ} → Accepts SpellsValue s v r → HasEither s
+has-either {s} {v} {r} a = go value.members value.legal value.spelled (omega (arith, value-some value, ap length value.spelled))
   where
     value : IsValue v
     value = a.spells.spelled.value
 
     parts : (front more : List ℕ) → v ≡ front ++ more → s ≡ front ++ (more ++ r)
-    parts front more is = value_parts a.spells ∙ ap (λ (x : List ℕ). x ++ r) is ∙ append_assoc front more r
+    parts front more is = value-parts a.spells ∙ ap (λ (x : List ℕ). x ++ r) is ∙ append_assoc front more r
 
     go : (vs : Members) → HaveHeaders vs → v ≡ spell vs → 0 < length (spell vs) → HasEither s
     go Empty h is some = absurd (omega arith)
@@ -108,11 +108,11 @@ has_either {s} {v} {r} a = go value.members value.legal value.spelled (omega (ar
     go (Constructed t ms rest) h is some = (true, (t, spell ms, spell rest ++ r, record { front = tlv t true (spell ms); parts = parts (tlv t true (spell ms)) (spell rest) is; spelled = record { tag = h.0.0; fits = h.0.1; octets = refl } }))
 
 -- a value is there, and could not be shared
-pub capture_memory : {s v r : List ℕ} → Accepts SpellsValue s v r → Refusal SpellsValue (OrMemoryWhere HasEither IsCaptureFault) s s OutOfMemory
-capture_memory a = record { unchanged = refl; refuses = tt; kind = has_either a }
+pub capture-memory : {s v r : List ℕ} → Accepts SpellsValue s v r → Refusal SpellsValue (OrMemoryWhere HasEither IsCaptureFault) s s OutOfMemory
+capture-memory a = record { unchanged = refl; refuses = tt; kind = has-either a }
 
-pub capture_refused : {s r : List ℕ} {e : DecodeError} → Refusal SpellsValue (OrMemoryWhere HasEither IsNestedFault) s r e → Refusal SpellsValue (OrMemoryWhere HasEither IsCaptureFault) s r e
-capture_refused {s} {r} {e} h = Refusal-weaker (λ none. none) (kind e) h
+pub capture-refused : {s r : List ℕ} {e : DecodeError} → Refusal SpellsValue (OrMemoryWhere HasEither IsNestedFault) s r e → Refusal SpellsValue (OrMemoryWhere HasEither IsCaptureFault) s r e
+capture-refused {s} {r} {e} h = Refusal-weaker (λ none. none) (kind e) h
   where
     kind : (e : DecodeError) → OrMemoryWhere HasEither IsNestedFault s e → OrMemoryWhere HasEither IsCaptureFault s e
     kind Truncated k = inr k
@@ -124,17 +124,17 @@ capture_refused {s} {r} {e} h = Refusal-weaker (λ none. none) (kind e) h
     kind OutOfMemory k = k
 
 -- nothing is left, wherever allocation may fail
-pub capture_nothing : (P : List ℕ → Type 0) (s : List ℕ) → s ≡ [] → Refusal SpellsValue (OrMemoryWhere P IsCaptureFault) s s Truncated
-capture_nothing P s z = record {
+pub capture-nothing : (P : List ℕ → Type 0) (s : List ℕ) → s ≡ [] → Refusal SpellsValue (OrMemoryWhere P IsCaptureFault) s s Truncated
+capture-nothing P s z = record {
   unchanged = refl;
-  refuses = λ v r sp. omega (arith, value_some sp.spelled.value, ap length (sym z ∙ value_parts sp), length-append v r);
+  refuses = λ v r sp. omega (arith, value-some sp.spelled.value, ap length (sym z ∙ value-parts sp), length-append v r);
   kind = inl (z, refl);
 }
 
-pub capture_fault : {s : List ℕ} {e : DecodeError} → s ≢ [] → IsCaptureFault s e → IsNestedFault s e
-capture_fault some (inl z) = absurd (some z.0)
-capture_fault some (inr f) = f
+pub capture-fault : {s : List ℕ} {e : DecodeError} → s ≢ [] → IsCaptureFault s e → IsNestedFault s e
+capture-fault some (inl z) = absurd (some z.0)
+capture-fault some (inr f) = f
 
-pub nothing_fault : {s : List ℕ} {e : DecodeError} → s ≡ [] → IsCaptureFault s e → e ≡ Truncated
-nothing_fault none (inl z) = z.1
-nothing_fault none (inr f) = absurd (fault_not_empty f none)
+pub nothing-fault : {s : List ℕ} {e : DecodeError} → s ≡ [] → IsCaptureFault s e → e ≡ Truncated
+nothing-fault none (inl z) = z.1
+nothing-fault none (inr f) = absurd (fault-not-empty f none)

@@ -13,7 +13,7 @@ use Rattle.rpki_der.specs.Values.{SpellsHeader}
 use Rattle.rpki_der.specs.Members.{Members, Empty, Primitive, Constructed, spell, HaveHeaders, header_count, IsValueOf}
 use Rattle.rpki_der.specs.NestedFault.{IsNestedFault, Inside}
 use Rattle.rpki_der.specs.Walk.{HasForm, HasConstructed}
-use Rattle.rpki_der.proofs.MembersLaws.{header, HasHeader, two_octets}
+use Rattle.rpki_der.proofs.MembersLaws.{header, HasHeader, two-octets}
 
 -- the first k octets are this header
 pub record BeginsWithHeader (s : List ℕ) (t : TagName) (f : Bool) (n k : ℕ) : Type 0 where
@@ -22,8 +22,8 @@ pub record BeginsWithHeader (s : List ℕ) (t : TagName) (f : Bool) (n k : ℕ) 
   pub size : k ≡ length (header t f n)
   pub within : k ≤ length s
 
-pub begins_with : {s : List ℕ} {h : Header} (k : ℕ) → Spells SpellsHeader s h (drop k s) → k + h.length ≤ length s → BeginsWithHeader s h.tag h.constructed h.length k
-begins_with {s} {h} k sp fits =
+pub begins-with : {s : List ℕ} {h : Header} (k : ℕ) → Spells SpellsHeader s h (drop k s) → k + h.length ≤ length s → BeginsWithHeader s h.tag h.constructed h.length k
+begins-with {s} {h} k sp fits =
     let size : length sp.front ≡ k = omega (arith, ap length sp.parts, length-append sp.front (drop k s), length-drop k s) in
     let octets = sp.spelled.octets in
     record {
@@ -76,9 +76,9 @@ front b t f n k h fits =
     }
 
 -- a header that is there with its contents is that of a value
-pub has_value : {s : List ℕ} {h : Header} (k : ℕ) → Spells SpellsHeader s h (drop k s) → k + h.length ≤ length s → HasForm h.constructed s
-has_value {s} {h} k sp fits =
-    let found = front s h.tag h.constructed h.length k (begins_with k sp fits) fits in (
+pub has-value : {s : List ℕ} {h : Header} (k : ℕ) → Spells SpellsHeader s h (drop k s) → k + h.length ≤ length s → HasForm h.constructed s
+has-value {s} {h} k sp fits =
+    let found = front s h.tag h.constructed h.length k (begins-with k sp fits) fits in (
       h.tag,
       take h.length (drop k s),
       drop (k + h.length) s,
@@ -89,27 +89,27 @@ has_value {s} {h} k sp fits =
       },
     )
 
-pub has_constructed : {s : List ℕ} {h : Header} (k : ℕ) → not h.constructed ≡ false → Spells SpellsHeader s h (drop k s) → k + h.length ≤ length s → HasConstructed s
-has_constructed {s} {h} k form sp fits = subst (λ (f : Bool). HasForm f s) (is_true h.constructed form) (has_value k sp fits)
+pub has-constructed : {s : List ℕ} {h : Header} (k : ℕ) → not h.constructed ≡ false → Spells SpellsHeader s h (drop k s) → k + h.length ≤ length s → HasConstructed s
+has-constructed {s} {h} k form sp fits = subst (λ (f : Bool). HasForm f s) (is_true h.constructed form) (has-value k sp fits)
   where
     is_true : (f : Bool) → not f ≡ false → f ≡ true
     is_true true e = refl
     is_true false e = sym e
 
 -- the parts of a part
-pub part_after : (s : List ℕ) (i e j : ℕ) → i + j ≤ e → drop j (between i e s) ≡ between (i + j) e s
-part_after s i e j h =
+pub part-after : (s : List ℕ) (i e j : ℕ) → i + j ≤ e → drop j (between i e s) ≡ between (i + j) e s
+part-after s i e j h =
     let m : e - i ≡ j + (e - (i + j)) = omega arith in
     ap (λ (x : ℕ). drop j (take x (drop i s))) m ∙ drop-take j (e - (i + j)) (drop i s) ∙ ap (λ (x : List ℕ). take (e - (i + j)) x) (drop-drop j i s)
 
-part_before : (s : List ℕ) (i e n : ℕ) → i + n ≤ e → take n (between i e s) ≡ between i (i + n) s
-part_before s i e n h =
+part-before : (s : List ℕ) (i e n : ℕ) → i + n ≤ e → take n (between i e s) ≡ between i (i + n) s
+part-before s i e n h =
     let small : n ≤ e - i = omega arith in
     let size : i + n - i ≡ n = omega arith in
     take-take n (e - i) (drop i s) small ∙ ap (λ (x : ℕ). take x (drop i s)) (sym size)
 
-pub length_part : (s : List ℕ) (i e : ℕ) → i ≤ e → e ≤ length s → length (between i e s) ≡ e - i
-length_part s i e l h = length-take-le (e - i) (drop i s) (omega (arith, length-drop i s))
+pub length-part : (s : List ℕ) (i e : ℕ) → i ≤ e → e ≤ length s → length (between i e s) ≡ e - i
+length-part s i e l h = length-take-le (e - i) (drop i s) (omega (arith, length-drop i s))
 
 -- the front of a part, with what follows it in that part
 pub record HasFrontAt (s : List ℕ) (i e : ℕ) (t : TagName) (f : Bool) (k n : ℕ) : Type 0 where
@@ -120,21 +120,21 @@ pub record HasFrontAt (s : List ℕ) (i e : ℕ) (t : TagName) (f : Bool) (k n :
   pub legal : HasHeader t (length (between (i + k) (i + k + n) s))
   pub is : between i e s ≡ tlv t f (between (i + k) (i + k + n) s) ++ between (i + k + n) e s
 
-pub front_at : (s : List ℕ) (i e : ℕ) (t : TagName) (f : Bool) (n k : ℕ) → i ≤ e → e ≤ length s → BeginsWithHeader (between i e s) t f n k → k + n ≤ length (between i e s)
+pub front-at : (s : List ℕ) (i e : ℕ) (t : TagName) (f : Bool) (n k : ℕ) → i ≤ e → e ≤ length s → BeginsWithHeader (between i e s) t f n k → k + n ≤ length (between i e s)
     → HasFrontAt s i e t f k n
-front_at s i e t f n k l high h fits =
-    let size = length_part s i e l high in
+front-at s i e t f n k l high h fits =
+    let size = length-part s i e l high in
     let small : i + k + n ≤ e = omega arith in
     let p = front (between i e s) t f n k h fits in
-    let back : drop (k + n) (between i e s) ≡ between (i + k + n) e s = let sum : i + (k + n) ≡ i + k + n = omega arith in part_after s i e (k + n) (omega arith) ∙ ap (λ (x : ℕ). between x e s) sum in
+    let back : drop (k + n) (between i e s) ≡ between (i + k + n) e s = let sum : i + (k + n) ≡ i + k + n = omega arith in part-after s i e (k + n) (omega arith) ∙ ap (λ (x : ℕ). between x e s) sum in
     let mid : take n (drop k (between i e s)) ≡ between (i + k) (i + k + n) s =
-    ap (λ (x : List ℕ). take n x) (part_after s i e k (omega arith)) ∙ part_before s (i + k) e n (omega arith) in
-    let width : n ≡ length (between (i + k) (i + k + n) s) = omega (arith, length_part s (i + k) (i + k + n) (omega arith) (omega (arith, high, small))) in
+    ap (λ (x : List ℕ). take n x) (part-after s i e k (omega arith)) ∙ part-before s (i + k) e n (omega arith) in
+    let width : n ≡ length (between (i + k) (i + k + n) s) = omega (arith, length-part s (i + k) (i + k + n) (omega arith) (omega (arith, high, small))) in
     record {
       fits = small;
       header_size = h.size ∙ ap (λ (x : ℕ). length (header t f x)) width;
       contents_size = width;
-      size = omega (arith, h.size, two_octets t f n);
+      size = omega (arith, h.size, two-octets t f n);
       legal = subst (λ (x : List ℕ). HasHeader t (length x)) mid p.legal;
       is = p.is ∙ ap (λ (x : List ℕ). tlv t f x ++ drop (k + n) (between i e s)) mid ∙ ap (λ (x : List ℕ). tlv t f (between (i + k) (i + k + n) s) ++ x) back;
     }
@@ -145,13 +145,13 @@ pub record HasFirst (s : List ℕ) (t : TagName) (f : Bool) (k n : ℕ) : Type 0
   pub is : s ≡ tlv t f (between k (k + n) s) ++ drop (k + n) s
   pub taken : take (k + n) s ≡ tlv t f (between k (k + n) s)
 
-pub first_value : (s : List ℕ) (t : TagName) (f : Bool) (n k : ℕ) → BeginsWithHeader s t f n k → k + n ≤ length s → HasFirst s t f k n
-first_value s t f n k h fits =
+pub first-value : (s : List ℕ) (t : TagName) (f : Bool) (n k : ℕ) → BeginsWithHeader s t f n k → k + n ≤ length s → HasFirst s t f k n
+first-value s t f n k h fits =
     let p = front s t f n k h fits in
     let c : List ℕ = between k (k + n) s in
     let width : n ≡ k + n - k = omega arith in
     let mid : take n (drop k s) ≡ c = ap (λ (x : ℕ). take x (drop k s)) width in
-    let size : length c ≡ n = length_part s k (k + n) (omega arith) fits ∙ sym width in
+    let size : length c ≡ n = length-part s k (k + n) (omega arith) fits ∙ sym width in
     let is : s ≡ tlv t f c ++ drop (k + n) s = p.is ∙ ap (λ (x : List ℕ). tlv t f x ++ drop (k + n) s) mid in
     let header_size : k ≡ length (header t f (length c)) = h.size ∙ ap (λ (x : ℕ). length (header t f x)) (sym size) in
     let all : length (tlv t f c) ≡ k + n = omega (arith, length-append (header t f (length c)) c, header_size, size) in
@@ -162,9 +162,9 @@ first_value s t f n k h fits =
     }
 
 -- a primitive value is read
-pub value_primitive : (s : List ℕ) (t : TagName) (n k : ℕ) → BeginsWithHeader s t false n k → k + n ≤ length s → IsValueOf 1 (take (k + n) s)
-value_primitive s t n k h fits =
-    let p = first_value s t false n k h fits in (
+pub value-primitive : (s : List ℕ) (t : TagName) (n k : ℕ) → BeginsWithHeader s t false n k → k + n ≤ length s → IsValueOf 1 (take (k + n) s)
+value-primitive s t n k h fits =
+    let p = first-value s t false n k h fits in (
       record {
         members = Primitive t (between k (k + n) s) Empty;
         legal = (p.legal, tt);
@@ -175,9 +175,9 @@ value_primitive s t n k h fits =
     )
 
 -- a constructed value is opened
-pub open_first : (s : List ℕ) (t : TagName) (n k : ℕ) → BeginsWithHeader s t true n k → k + n ≤ length s → Open s ((k + n) ∷ []) k 1
-open_first s t n k h fits =
-    let p = first_value s t true n k h fits in
+pub open-first : (s : List ℕ) (t : TagName) (n k : ℕ) → BeginsWithHeader s t true n k → k + n ≤ length s → Open s ((k + n) ∷ []) k 1
+open-first s t n k h fits =
+    let p = first-value s t true n k h fits in
     record {
       low = omega arith;
       high = fits;
@@ -196,18 +196,18 @@ open_first s t n k h fits =
     }
 
 -- the innermost value ends
-pub open_end : (s ends : List ℕ) (place n : ℕ) → Open s (place ∷ ends) place n → Open s ends place n
-open_end s ends place n o =
+pub open-end : (s ends : List ℕ) (place n : ℕ) → Open s (place ∷ ends) place n → Open s ends place n
+open-end s ends place n o =
     let empty : place - place ≡ 0 = omega arith in
     let none : between place place s ≡ [] = ap (λ (x : ℕ). take x (drop place s)) empty in
     let same : n + 0 ≡ n = omega arith in
     subst (λ (x : ℕ). Open s ends place x) same (o.whole Empty (record { legal = tt; is = none }))
 
 -- one more value has been read, of j header_count
-level_read : (s : List ℕ) (place place' e m j : ℕ) (Then : ℕ → Type 0) (x : List ℕ) (one : Members → Members) → place' ≤ e → between place e s ≡ x ++ between place' e s
+level-read : (s : List ℕ) (place place' e m j : ℕ) (Then : ℕ → Type 0) (x : List ℕ) (one : Members → Members) → place' ≤ e → between place e s ≡ x ++ between place' e s
     → ((ws : Members) → HaveHeaders ws → HaveHeaders (one ws)) → ((ws : Members) → spell (one ws) ≡ x ++ spell ws) → ((ws : Members) → header_count (one ws) ≡ j + header_count ws)
     → Level s place e m Then → Level s place' e (m + j) Then
-level_read s place place' e m j Then x one low parts legal spelled counted o = record {
+level-read s place place' e m j Then x one low parts legal spelled counted o = record {
   low = low;
   high = o.high;
   broken = λ f b. o.broken f (record {
@@ -226,18 +226,18 @@ level_read s place place' e m j Then x one low parts legal spelled counted o = r
 }
 
 -- a primitive value inside
-pub open_primitive : (s ends : List ℕ) (e place m : ℕ) (t : TagName) (n k : ℕ) → Open s (e ∷ ends) place m → BeginsWithHeader (between place e s) t false n k → k + n ≤ length (between place e s)
+pub open-primitive : (s ends : List ℕ) (e place m : ℕ) (t : TagName) (n k : ℕ) → Open s (e ∷ ends) place m → BeginsWithHeader (between place e s) t false n k → k + n ≤ length (between place e s)
     → Open s (e ∷ ends) (place + k + n) (m + 1)
-open_primitive s ends e place m t n k o h fits =
-    let p = front_at s place e t false n k o.low o.high h fits in
+open-primitive s ends e place m t n k o h fits =
+    let p = front-at s place e t false n k o.low o.high h fits in
     let c : List ℕ = between (place + k) (place + k + n) s in
-    level_read s place (place + k + n) e m 1 (λ j. Open s ends e j) (tlv t false c) (λ ws. Primitive t c ws) p.fits p.is (λ ws l. (p.legal, l)) (λ ws. refl) (λ ws. refl) o
+    level-read s place (place + k + n) e m 1 (λ j. Open s ends e j) (tlv t false c) (λ ws. Primitive t c ws) p.fits p.is (λ ws l. (p.legal, l)) (λ ws. refl) (λ ws. refl) o
 
 -- a constructed value inside is opened
-pub open_constructed : (s ends : List ℕ) (e place m : ℕ) (t : TagName) (n k : ℕ) → Open s (e ∷ ends) place m → BeginsWithHeader (between place e s) t true n k → k + n ≤ length (between place e s)
+pub open-constructed : (s ends : List ℕ) (e place m : ℕ) (t : TagName) (n k : ℕ) → Open s (e ∷ ends) place m → BeginsWithHeader (between place e s) t true n k → k + n ≤ length (between place e s)
     → Open s ((place + k + n) ∷ e ∷ ends) (place + k) (m + 1)
-open_constructed s ends e place m t n k o h fits =
-    let p = front_at s place e t true n k o.low o.high h fits in
+open-constructed s ends e place m t n k o h fits =
+    let p = front-at s place e t true n k o.low o.high h fits in
     let after : List ℕ = between (place + k + n) e s in
     record {
       low = omega arith;
@@ -256,12 +256,12 @@ open_constructed s ends e place m t n k o h fits =
           let legal : HasHeader t (length (spell vs)) = subst (λ (x : List ℕ). HasHeader t (length x)) st.is p.legal in
           let sum : m + (1 + header_count vs) ≡ m + 1 + header_count vs = omega arith in
           subst (λ (x : ℕ). Open s (e ∷ ends) (place + k + n) x) sum
-          (level_read s place (place + k + n) e m (1 + header_count vs) (λ j. Open s ends e j) (tlv t true (spell vs)) (λ ws. Constructed t vs ws) p.fits parts (λ ws l. (legal, st.legal, l)) (λ ws. refl) (λ ws. refl) o);
+          (level-read s place (place + k + n) e m (1 + header_count vs) (λ j. Open s ends e j) (tlv t true (spell vs)) (λ ws. Constructed t vs ws) p.fits parts (λ ws l. (legal, st.legal, l)) (λ ws. refl) (λ ws. refl) o);
     }
 
 -- a fault where a value has to begin
-pub open_fault : (s ends : List ℕ) (e place m : ℕ) (f : DecodeError) → Open s (e ∷ ends) place m → IsNestedFault (between place e s) f → IsNestedFault s f
-open_fault s ends e place m f o h = o.broken f (record { members = Empty; legal = tt; rest = between place e s; is = refl; fault = h })
+pub open-fault : (s ends : List ℕ) (e place m : ℕ) (f : DecodeError) → Open s (e ∷ ends) place m → IsNestedFault (between place e s) f → IsNestedFault s f
+open-fault s ends e place m f o h = o.broken f (record { members = Empty; legal = tt; rest = between place e s; is = refl; fault = h })
 
 -- the last of the ends is the innermost
 pub top : (ends : List ℕ) (e : ℕ) → slice_get ends (length ends - 1) ≡ Some e → reverse ends ≡ e ∷ reverse (take (length ends - 1) ends)
@@ -276,18 +276,18 @@ top (x ∷ xs) e h =
     let split : x ∷ xs ≡ take n (x ∷ xs) ++ get_or (x ∷ xs) n e ∷ [] = sym all ∙ take_more (x ∷ xs) n e within in
     ap reverse split ∙ reverse-append (take n (x ∷ xs)) (get_or (x ∷ xs) n e ∷ []) ∙ ap (λ (y : ℕ). y ∷ reverse (take n (x ∷ xs))) same
 
-pub at_false : (s : List ℕ) (t : TagName) (f : Bool) (n k : ℕ) → not f ≡ true → BeginsWithHeader s t f n k → BeginsWithHeader s t false n k
-at_false s t true n k form h = absurd (cc form)
-at_false s t false n k form h = h
+pub at-false : (s : List ℕ) (t : TagName) (f : Bool) (n k : ℕ) → not f ≡ true → BeginsWithHeader s t f n k → BeginsWithHeader s t false n k
+at-false s t true n k form h = absurd (cc form)
+at-false s t false n k form h = h
 
-pub at_true : (s : List ℕ) (t : TagName) (f : Bool) (n k : ℕ) → not f ≡ false → BeginsWithHeader s t f n k → BeginsWithHeader s t true n k
-at_true s t true n k form h = h
-at_true s t false n k form h = absurd (cc form)
+pub at-true : (s : List ℕ) (t : TagName) (f : Bool) (n k : ℕ) → not f ≡ false → BeginsWithHeader s t f n k → BeginsWithHeader s t true n k
+at-true s t true n k form h = h
+at-true s t false n k form h = absurd (cc form)
 
 -- the last of the ends
 pub record Innermost (ends : List ℕ) (e : ℕ) : Type 0 where
   pub last : slice_get ends (length ends - 1) ≡ Some e
 
 -- a value that is primitive is read at once
-pub start_primitive : {s : List ℕ} {t : TagName} {f : Bool} {n k : ℕ} (j : ℕ) → not f ≡ true → BeginsWithHeader s t f n k → k + n ≤ length s → j ≡ 1 → IsValueOf j (take (k + n) s)
-start_primitive {s} {t} {f} {n} {k} j form h fits one = subst (λ (x : ℕ). IsValueOf x (take (k + n) s)) (sym one) (value_primitive s t n k (at_false s t f n k form h) fits)
+pub start-primitive : {s : List ℕ} {t : TagName} {f : Bool} {n k : ℕ} (j : ℕ) → not f ≡ true → BeginsWithHeader s t f n k → k + n ≤ length s → j ≡ 1 → IsValueOf j (take (k + n) s)
+start-primitive {s} {t} {f} {n} {k} j form h fits one = subst (λ (x : ℕ). IsValueOf x (take (k + n) s)) (sym one) (value-primitive s t n k (at-false s t f n k form h) fits)

@@ -6,25 +6,25 @@ use Rattle.std.proofs.lemmas.List.{take-append-drop, take_all}
 use Rattle.rpki_der.specs.Written.{AppendsAllBut, AppendsBeginning, AppendsCut, Writes, WritesOrCuts}
 
 -- nothing was appended
-keeps_none : (a b : Option (List ℕ)) → Appends a b [] → Keeps a b
-keeps_none None b p = tt
-keeps_none (Some x) None p = absurd p
-keeps_none (Some x) (Some y) p = p ∙ append-nil x
+keeps-none : (a b : Option (List ℕ)) → Appends a b [] → Keeps a b
+keeps-none None b p = tt
+keeps-none (Some x) None p = absurd p
+keeps-none (Some x) (Some y) p = p ∙ append-nil x
 
-pub keeps_take : (a b : Option (List ℕ)) (n : ℕ) (xs : List ℕ) → n ≡ 0 → Appends a b (take n xs) → Keeps a b
-keeps_take a b n xs e p = keeps_none a b (let h : Appends a b (take 0 xs) = rw e at p in h)
+pub keeps-take : (a b : Option (List ℕ)) (n : ℕ) (xs : List ℕ) → n ≡ 0 → Appends a b (take n xs) → Keeps a b
+keeps-take a b n xs e p = keeps-none a b (let h : Appends a b (take 0 xs) = rw e at p in h)
 
-pub all_but_then : (a b c : Option (List ℕ)) (octets rest ys rest' : List ℕ) → AppendsAllBut a b octets rest → rest ≡ ys ++ rest' → Appends b c ys → AppendsAllBut a c octets rest'
-all_but_then a b c octets rest ys rest' p e q =
+pub all-but-then : (a b c : Option (List ℕ)) (octets rest ys rest' : List ℕ) → AppendsAllBut a b octets rest → rest ≡ ys ++ rest' → Appends b c ys → AppendsAllBut a c octets rest'
+all-but-then a b c octets rest ys rest' p e q =
     (p.0 ++ ys, p.1 ∙ ap (λ (w : List ℕ). p.0 ++ w) e ∙ sym (append_assoc p.0 ys rest'), Appends-trans a b c p.0 ys p.2 q)
 
-pub cut_at : (n : ℕ) (xs : List ℕ) → xs ≡ take n xs ++ take (length xs - n) (drop n xs)
-cut_at n xs = rw (take_all (length xs - n) (drop n xs) (omega (arith, length-drop n xs))) (sym (take-append-drop n xs))
+pub cut-at : (n : ℕ) (xs : List ℕ) → xs ≡ take n xs ++ take (length xs - n) (drop n xs)
+cut-at n xs = rw (take_all (length xs - n) (drop n xs) (omega (arith, length-drop n xs))) (sym (take-append-drop n xs))
 
 -- what isn't empty has a first octet
-pub cut_before : (a b c : Option (List ℕ)) (octets rest : List ℕ) → AppendsAllBut a b octets rest → (rest ≡ [] → ⊥) → Keeps b c → AppendsCut a c octets
-cut_before a b c octets [] p ne k = absurd (ne refl)
-cut_before a b c octets (x ∷ rest) p ne k = record { next = x; more = rest; front = (p.0, p.1, Appends-kept a b c p.0 p.2 k) }
+pub cut-before : (a b c : Option (List ℕ)) (octets rest : List ℕ) → AppendsAllBut a b octets rest → (rest ≡ [] → ⊥) → Keeps b c → AppendsCut a c octets
+cut-before a b c octets [] p ne k = absurd (ne refl)
+cut-before a b c octets (x ∷ rest) p ne k = record { next = x; more = rest; front = (p.0, p.1, Appends-kept a b c p.0 p.2 k) }
 
 pub beginning_of : (a b : Option (List ℕ)) (octets : List ℕ) → AppendsCut a b octets → AppendsBeginning a b octets
 unfolding AppendsBeginning
@@ -51,7 +51,7 @@ writes_then a b c (Ok u) xs ys p q = Appends-trans a b c xs ys p q
 writes_then a b c (Err e) xs ys p q = beginning_then a b c xs ys p q
 
 -- whatever a call returned, a beginning of the octets was written
-pub writes_beginning : {U E : Type 0} (a b : Option (List ℕ)) (r : Result U E) (octets : List ℕ) → Writes a b r octets → AppendsBeginning a b octets
+pub writes-beginning : {U E : Type 0} (a b : Option (List ℕ)) (r : Result U E) (octets : List ℕ) → Writes a b r octets → AppendsBeginning a b octets
 unfolding AppendsBeginning
-writes_beginning a b (Ok u) octets p = ([], (octets, sym (append-nil octets), p))
-writes_beginning a b (Err e) octets p = p
+writes-beginning a b (Ok u) octets p = ([], (octets, sym (append-nil octets), p))
+writes-beginning a b (Err e) octets p = p

@@ -8,18 +8,18 @@ use Rattle.rpki_der.specs.Number.{number_of, AreOctets, low_octets}
 pub power : (k : ℕ) → 256 ^ suc k ≡ 256 * 256 ^ k
 power k = omega (arith, pow-suc 256 k)
 
-head_below : (x p r : ℕ) → x < 256 → r < p → x * p + r < 256 * p
-head_below x p r h k =
+head-below : (x p r : ℕ) → x < 256 → r < p → x * p + r < 256 * p
+head-below x p r h k =
     let le : suc x * p ≤ 256 * p = mul-le-mul_right p h in
     omega arith
 
 pub number-lt : (xs : List ℕ) → AreOctets xs → number_of xs < 256 ^ length xs
 number-lt [] o = omega arith
 number-lt (x ∷ xs) o =
-    rw (power (length xs)) (head_below x (256 ^ length xs) (number_of xs) o.0 (number-lt xs o.1))
+    rw (power (length xs)) (head-below x (256 ^ length xs) (number_of xs) o.0 (number-lt xs o.1))
 
-first_octet : (m p x r : ℕ) → x < 256 → r < p → (m * (256 * p) + (x * p + r)) / p % 256 ≡ x
-first_octet m p x r h k =
+first-octet : (m p x r : ℕ) → x < 256 → r < p → (m * (256 * p) + (x * p + r)) / p % 256 ≡ x
+first-octet m p x r h k =
     let e : m * (256 * p) + (x * p + r) ≡ (m * 256 + x) * p + r = omega arith in
     rw (e, div-mul-add (m * 256 + x) p r k) (omega arith)
 
@@ -32,7 +32,7 @@ low_octets-num (x ∷ xs) m o =
     let e : m * (256 * p) + (x * p + number_of xs) ≡ (m * 256 + x) * p + number_of xs = omega arith in
     rw (
       power (length xs),
-      first_octet m p x (number_of xs) o.0 (number-lt xs o.1),
+      first-octet m p x (number_of xs) o.0 (number-lt xs o.1),
       e,
       low_octets-num xs
           (m * 256 + x) o.1,

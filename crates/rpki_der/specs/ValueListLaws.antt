@@ -12,32 +12,32 @@ joined Empty more = more
 joined (Primitive t c rest) more = Primitive t c (joined rest more)
 joined (Constructed t ms rest) more = Constructed t ms (joined rest more)
 
-pub spell_joined : (ms more : Members) → spell (joined ms more) ≡ spell ms ++ spell more
-spell_joined Empty more = refl
-spell_joined (Primitive t c rest) more = ap (λ (w : List ℕ). tlv t false c ++ w) (spell_joined rest more)
+pub spell-joined : (ms more : Members) → spell (joined ms more) ≡ spell ms ++ spell more
+spell-joined Empty more = refl
+spell-joined (Primitive t c rest) more = ap (λ (w : List ℕ). tlv t false c ++ w) (spell-joined rest more)
     ∙ sym (append_assoc (tlv t false c) (spell rest) (spell more))
-spell_joined (Constructed t ms rest) more =
-    ap (λ (w : List ℕ). tlv t true (spell ms) ++ w) (spell_joined rest more)
+spell-joined (Constructed t ms rest) more =
+    ap (λ (w : List ℕ). tlv t true (spell ms) ++ w) (spell-joined rest more)
     ∙ sym (append_assoc (tlv t true (spell ms)) (spell rest) (spell more))
 
-count_joined : (ms more : Members) → count (joined ms more) ≡ count ms + count more
-count_joined Empty more = omega arith
-count_joined (Primitive t c rest) more = omega (arith, count_joined rest more)
-count_joined (Constructed t ms rest) more = omega (arith, count_joined rest more)
+count-joined : (ms more : Members) → count (joined ms more) ≡ count ms + count more
+count-joined Empty more = omega arith
+count-joined (Primitive t c rest) more = omega (arith, count-joined rest more)
+count-joined (Constructed t ms rest) more = omega (arith, count-joined rest more)
 
-pub headers_joined : (ms more : Members) → HaveHeaders ms → HaveHeaders more → HaveHeaders (joined ms more)
-headers_joined Empty more p q = q
-headers_joined (Primitive t c rest) more p q = (p.0, headers_joined rest more p.1 q)
-headers_joined (Constructed t ms rest) more p q = (p.0, p.1, headers_joined rest more p.2 q)
+pub headers-joined : (ms more : Members) → HaveHeaders ms → HaveHeaders more → HaveHeaders (joined ms more)
+headers-joined Empty more p q = q
+headers-joined (Primitive t c rest) more p q = (p.0, headers-joined rest more p.1 q)
+headers-joined (Constructed t ms rest) more p q = (p.0, p.1, headers-joined rest more p.2 q)
 
 -- values after values
 pub values_append : (k n : ℕ) (a b : List ℕ) → AreValues k a → AreValues n b → AreValues (k + n) (a ++ b)
 values_append k n a b p q = record {
   members = joined p.members q.members;
-  legal = headers_joined p.members q.members p.legal q.legal;
+  legal = headers-joined p.members q.members p.legal q.legal;
   spelled = ap (λ (w : List ℕ). w ++ b) p.spelled ∙ ap (λ (w : List ℕ). spell p.members ++ w) q.spelled
-      ∙ sym (spell_joined p.members q.members);
-  counted = count_joined p.members q.members ∙ ap (λ (m : ℕ). m + count q.members) p.counted
+      ∙ sym (spell-joined p.members q.members);
+  counted = count-joined p.members q.members ∙ ap (λ (m : ℕ). m + count q.members) p.counted
       ∙ ap (λ (m : ℕ). k + m) q.counted;
 }
 

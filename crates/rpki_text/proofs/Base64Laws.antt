@@ -11,18 +11,18 @@ use Rattle.base64.specs.declared.engine.general_purpose.GeneralPurpose.{GeneralP
 use Rattle.base64.specs.GeneralPurpose.{encode_of}
 use Rattle.base64.proofs.EngineFacts.{encode_of-nil, encode_of-append}
 use Rattle.rpki_text.specs.Base64Text.{xml_decode_of, xml_bytes_decode_of}
-use Rattle.rpki_text.proofs.TextLaws.{false_unless}
+use Rattle.rpki_text.proofs.TextLaws.{false-unless}
 
-pub xml_bytes-text : (bytes : List ℕ) → IsUtf8 bytes → xml_bytes_decode_of bytes ≡ xml_decode_of bytes
-xml_bytes-text bytes h = rw (is_utf8-from_IsUtf8 bytes h) refl
+pub xml-bytes-text : (bytes : List ℕ) → IsUtf8 bytes → xml_bytes_decode_of bytes ≡ xml_decode_of bytes
+xml-bytes-text bytes h = rw (is_utf8-from_IsUtf8 bytes h) refl
 
-pub xml_bytes-other : (bytes : List ℕ) → (IsUtf8 bytes → ⊥) → (n : ℕ) → n ≡ utf8_valid_len bytes → xml_bytes_decode_of bytes ≡ Err (InvalidByte n (slice_index bytes n))
-xml_bytes-other bytes h n e = rw (false_unless (is_utf8 bytes) (λ k. h (IsUtf8-from_is_utf8 bytes k)), e) refl
+pub xml-bytes-other : (bytes : List ℕ) → (IsUtf8 bytes → ⊥) → (n : ℕ) → n ≡ utf8_valid_len bytes → xml_bytes_decode_of bytes ≡ Err (InvalidByte n (slice_index bytes n))
+xml-bytes-other bytes h n e = rw (false-unless (is_utf8 bytes) (λ k. h (IsUtf8-from_is_utf8 bytes k)), e) refl
 
 -- a chunk is 768 octets, or the last
-pub chunk_first : (e : GeneralPurpose) (all chunk rest : List ℕ) → all ≡ chunk ++ rest → length chunk ≡ min 768 (length all)
+pub chunk-first : (e : GeneralPurpose) (all chunk rest : List ℕ) → all ≡ chunk ++ rest → length chunk ≡ min 768 (length all)
     → encode_of e chunk ++ encode_of e rest ≡ encode_of e all
-chunk_first e all chunk rest parts size =
+chunk-first e all chunk rest parts size =
     let sum = ap length parts ∙ length-append chunk rest in
     elim (cases_lt (length all) 768) [
       | inl short ↦
@@ -32,20 +32,20 @@ chunk_first e all chunk rest parts size =
     ]
 
 -- what is written twice is written at once
-pub appends_append : (old mid new : Option (List ℕ)) (a b : List ℕ) → Appends old mid a → Appends mid new b → Appends old new (a ++ b)
-appends_append None mid new a b h k = tt
-appends_append (Some xs) None new a b h k = absurd h
-appends_append (Some xs) (Some ys) None a b h k = absurd k
-appends_append (Some xs) (Some ys) (Some zs) a b h k = k ∙ ap (λ s. s ++ b) h ∙ append_assoc xs a b
+pub appends-append : (old mid new : Option (List ℕ)) (a b : List ℕ) → Appends old mid a → Appends mid new b → Appends old new (a ++ b)
+appends-append None mid new a b h k = tt
+appends-append (Some xs) None new a b h k = absurd h
+appends-append (Some xs) (Some ys) None a b h k = absurd k
+appends-append (Some xs) (Some ys) (Some zs) a b h k = k ∙ ap (λ s. s ++ b) h ∙ append_assoc xs a b
 
-pub appends_nothing : (old : Option (List ℕ)) → Appends old old []
-appends_nothing None = tt
-appends_nothing (Some xs) = sym (append-nil xs)
+pub appends-nothing : (old : Option (List ℕ)) → Appends old old []
+appends-nothing None = tt
+appends-nothing (Some xs) = sym (append-nil xs)
 
 -- the part that is written, by how much of the buffer it is
-pub appends_taken : (old new : Option (List ℕ)) (out text : List ℕ) (n k : ℕ) → take n out ≡ text → k ≡ n → Appends old new (take k out) → Appends old new text
-appends_taken old new out text n k e s h = subst (λ (t : List ℕ). Appends old new t) (ap (λ j. take j out) s ∙ e) h
+pub appends-taken : (old new : Option (List ℕ)) (out text : List ℕ) (n k : ℕ) → take n out ≡ text → k ≡ n → Appends old new (take k out) → Appends old new text
+appends-taken old new out text n k e s h = subst (λ (t : List ℕ). Appends old new t) (ap (λ j. take j out) s ∙ e) h
 
 -- where nothing is left, all is encoded
-pub all_encoded : (e : GeneralPurpose) (written all rest : List ℕ) → rest ≡ [] → written ++ encode_of e rest ≡ encode_of e all → written ≡ encode_of e all
-all_encoded e written all rest none h = sym (append-nil written) ∙ ap (λ s. written ++ s) (sym (ap (encode_of e) none ∙ encode_of-nil e)) ∙ h
+pub all-encoded : (e : GeneralPurpose) (written all rest : List ℕ) → rest ≡ [] → written ++ encode_of e rest ≡ encode_of e all → written ≡ encode_of e all
+all-encoded e written all rest none h = sym (append-nil written) ∙ ap (λ s. written ++ s) (sym (ap (encode_of e) none ∙ encode_of-nil e)) ∙ h

@@ -8,8 +8,8 @@ use Rattle.std.proofs.lemmas.Str.Ascii.{lowercase_is}
 use Rattle.rpki_text.specs.UriText.{lowercase}
 
 -- a letter is a capital or it isn't, and which octets these are
-capital_tells : (c : ℕ) → ((is_ascii_uppercase c ≡ true) × (65 ≤ c) × (c ≤ 90)) ⊎ ((is_ascii_uppercase c ≡ false) × ((c < 65) ⊎ (90 < c)))
-capital_tells c =
+capital-tells : (c : ℕ) → ((is_ascii_uppercase c ≡ true) × (65 ≤ c) × (c ≤ 90)) ⊎ ((is_ascii_uppercase c ≡ false) × ((c < 65) ⊎ (90 < c)))
+capital-tells c =
     elim (leb_tells 65 c) [
       | inl a ↦
           elim (leb_tells c 90) [
@@ -20,42 +20,42 @@ capital_tells c =
     ]
 
 -- a capital is another octet in lower case, and any other octet is itself
-capital_changes : (c : ℕ) → is_ascii_uppercase c ≡ true → to_ascii_lowercase c ≡ c → ⊥
-capital_changes c h same =
-    elim (capital_tells c) [
+capital-changes : (c : ℕ) → is_ascii_uppercase c ≡ true → to_ascii_lowercase c ≡ c → ⊥
+capital-changes c h same =
+    elim (capital-tells c) [
       | inl y ↦ omega (arith, (lowercase_is c).0 (y.1, y.2), same)
       | inr n ↦ let no = n.0 in cc
     ]
 
-other_stays : (c : ℕ) → is_ascii_uppercase c ≡ false → to_ascii_lowercase c ≡ c
-other_stays c h =
-    elim (capital_tells c) [
+other-stays : (c : ℕ) → is_ascii_uppercase c ≡ false → to_ascii_lowercase c ≡ c
+other-stays c h =
+    elim (capital-tells c) [
       | inl y ↦ let yes = y.0 in cc
       | inr n ↦ elim (n.1) [ inl l ↦ (lowercase_is c).1 l | inr g ↦ (lowercase_is c).2 g ]
     ]
 
 -- a text is itself in lower case exactly where it has no capital
-same_in_lower_case : (t : List ℕ) → list_any is_ascii_uppercase t ≡ false → lowercase t ≡ t
-same_in_lower_case [] h = refl
-same_in_lower_case (c ∷ t) h = by_cases (is_ascii_uppercase c) refl h (same_in_lower_case t) where
+same-in_lower_case : (t : List ℕ) → list_any is_ascii_uppercase t ≡ false → lowercase t ≡ t
+same-in_lower_case [] h = refl
+same-in_lower_case (c ∷ t) h = by_cases (is_ascii_uppercase c) refl h (same-in_lower_case t) where
   by_cases : (v : Bool) → is_ascii_uppercase c ≡ v → (v || list_any is_ascii_uppercase t) ≡ false → (list_any is_ascii_uppercase t ≡ false → lowercase t ≡ t)
       → lowercase (c ∷ t) ≡ c ∷ t
   by_cases true e k more = cc
-  by_cases false e k more = rw (other_stays c e) (ap (λ s. c ∷ s) (more k))
+  by_cases false e k more = rw (other-stays c e) (ap (λ s. c ∷ s) (more k))
 
-same_head : (c d : ℕ) (t u : List ℕ) → c ∷ t ≡ d ∷ u → c ≡ d
-same_head c d t u h = cc
+same-head : (c d : ℕ) (t u : List ℕ) → c ∷ t ≡ d ∷ u → c ≡ d
+same-head c d t u h = cc
 
-same_tail : (c d : ℕ) (t u : List ℕ) → c ∷ t ≡ d ∷ u → t ≡ u
-same_tail c d t u h = cc
+same-tail : (c d : ℕ) (t u : List ℕ) → c ∷ t ≡ d ∷ u → t ≡ u
+same-tail c d t u h = cc
 
-no_capital_in : (t : List ℕ) → lowercase t ≡ t → list_any is_ascii_uppercase t ≡ false
-no_capital_in [] h = refl
-no_capital_in (c ∷ t) h = by_cases (is_ascii_uppercase c) refl (no_capital_in t (same_tail _ _ _ _ h)) where
+no-capital-in : (t : List ℕ) → lowercase t ≡ t → list_any is_ascii_uppercase t ≡ false
+no-capital-in [] h = refl
+no-capital-in (c ∷ t) h = by_cases (is_ascii_uppercase c) refl (no-capital-in t (same-tail _ _ _ _ h)) where
   by_cases : (v : Bool) → is_ascii_uppercase c ≡ v → list_any is_ascii_uppercase t ≡ false → (v || list_any is_ascii_uppercase t) ≡ false
-  by_cases true e more = absurd (capital_changes c e (same_head _ _ _ _ h))
+  by_cases true e more = absurd (capital-changes c e (same-head _ _ _ _ h))
   by_cases false e more = more
 
-pub without_capital : (t : List ℕ) (b : Bool) → b ≡ list_any is_ascii_uppercase t → IsTrue (not b) ↔ (lowercase t ≡ t)
-without_capital t true e = ((λ h. cc), λ h. let no = no_capital_in t h in cc)
-without_capital t false e = ((λ h. same_in_lower_case t (sym e)), λ h. refl)
+pub without-capital : (t : List ℕ) (b : Bool) → b ≡ list_any is_ascii_uppercase t → IsTrue (not b) ↔ (lowercase t ≡ t)
+without-capital t true e = ((λ h. cc), λ h. let no = no-capital-in t h in cc)
+without-capital t false e = ((λ h. same-in_lower_case t (sym e)), λ h. refl)

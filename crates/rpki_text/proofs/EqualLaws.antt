@@ -7,12 +7,12 @@ use Rattle.std.proofs.lemmas.Slice.Eq.{bytes_eq-Decides}
 use Rattle.rpki_text.specs.UriText.{lowercase}
 use Rattle.rpki_text.specs.Segments.{is_slash}
 use Rattle.rpki_text.specs.RsyncText.{authority_of, module_name_of, path_of, RsyncUri, uri_of, same_uri, parent_uri, canonical_module_of}
-use Rattle.rpki_text.specs.SameUriLaws.{same_uri_equiv, same_uri-texts}
-use Rattle.rpki_text.proofs.PartLaws.{read_parts, ReadParts, slash-lowercase, before_first-no_slash}
+use Rattle.rpki_text.specs.SameUriLaws.{same_uri-equiv, same_uri-texts}
+use Rattle.rpki_text.proofs.PartLaws.{read-parts, ReadParts, slash-lowercase, before-first-no_slash}
 
 -- the four parts of two equal URIs
-pub same_parts : (u v : RsyncUri) → same_uri u v ≡ true → u ≡ v
-same_parts u v h =
+pub same-parts : (u v : RsyncUri) → same_uri u v ≡ true → u ≡ v
+same-parts u v h =
     let front = first_so (bytes_eq u.authority v.authority && bytes_eq u.module_name v.module_name) _ h in
     let back = second_so (bytes_eq u.authority v.authority && bytes_eq u.module_name v.module_name) _ h in
     let e1 : u.authority ≡ v.authority = (bytes_eq-Decides _ _).0 (first_so (bytes_eq u.authority v.authority) _ front) in
@@ -23,18 +23,18 @@ same_parts u v h =
     ap (λ a. made a u.module_name u.segments u.is_dir) e1 ∙ ap (λ m. made v.authority m u.segments u.is_dir) e2
     ∙ ap (λ s. made v.authority v.module_name s u.is_dir) e3 ∙ ap (λ d. made v.authority v.module_name v.segments d) e4
 
-pub same_from_parts : (u v : RsyncUri) → u ≡ v → same_uri u v ≡ true
-same_from_parts u v e = ap (same_uri u) (sym e) ∙ same_uri_equiv.refl u
+pub same-from-parts : (u v : RsyncUri) → u ≡ v → same_uri u v ≡ true
+same-from-parts u v e = ap (same_uri u) (sym e) ∙ same_uri-equiv.refl u
 
-pub equal_parents : (u v : RsyncUri) → same_uri u v ≡ true → parent_uri u ≡ parent_uri v
-equal_parents u v h = ap parent_uri (same_parts u v h)
+pub equal-parents : (u v : RsyncUri) → same_uri u v ≡ true → parent_uri u ≡ parent_uri v
+equal-parents u v h = ap parent_uri (same-parts u v h)
 
 -- the parts of a canonical module
-canonical_parts : (t : List ℕ) → ReadParts (canonical_module_of t ++ []) (lowercase (authority_of t)) (module_name_of t) []
+canonical-parts : (t : List ℕ) → ReadParts (canonical_module_of t ++ []) (lowercase (authority_of t)) (module_name_of t) []
 unfolding canonical_module_of authority_of module_name_of
-canonical_parts t =
-    read_parts (codes "rsync://") (lowercase (authority_of t)) (module_name_of t) [] refl
-    (slash-lowercase (authority_of t) ∙ before_first-no_slash (drop 8 t)) (before_first-no_slash (after_first is_slash (drop 8 t)))
+canonical-parts t =
+    read-parts (codes "rsync://") (lowercase (authority_of t)) (module_name_of t) [] refl
+    (slash-lowercase (authority_of t) ∙ before-first-no_slash (drop 8 t)) (before-first-no_slash (after_first is_slash (drop 8 t)))
 
 pub same_module-canonical : (a b : List ℕ) → (bytes_eq (lowercase (authority_of a)) (lowercase (authority_of b)) && bytes_eq (module_name_of a) (module_name_of b)) ≡ bytes_eq (canonical_module_of a) (canonical_module_of b)
 unfolding canonical_module_of
@@ -52,10 +52,10 @@ same_module-canonical a b = both_ways _ _ forth back where
   back : bytes_eq (canonical_module_of a) (canonical_module_of b) ≡ true → (bytes_eq (lowercase (authority_of a)) (lowercase (authority_of b)) && bytes_eq (module_name_of a) (module_name_of b)) ≡ true
   back h =
       let e : canonical_module_of a ≡ canonical_module_of b = (bytes_eq-Decides _ _).0 h in
-      let pa = canonical_parts a in
-      let pb = canonical_parts b in
+      let pa = canonical-parts a in
+      let pb = canonical-parts b in
       and_true _ _ ((bytes_eq-Decides _ _).1 (sym pa.authority_is ∙ ap (λ t. authority_of (t ++ [])) e ∙ pb.authority_is))
       ((bytes_eq-Decides _ _).1 (sym pa.module_name_is ∙ ap (λ t. module_name_of (t ++ [])) e ∙ pb.module_name_is))
 
-pub equal_module_and_path : (a b : List ℕ) → same_uri (uri_of a) (uri_of b) ≡ (bytes_eq (canonical_module_of a) (canonical_module_of b) && bytes_eq (path_of a) (path_of b))
-equal_module_and_path a b = sym (same_uri-texts a b) ∙ ap (λ v. v && bytes_eq (path_of a) (path_of b)) (same_module-canonical a b)
+pub equal-module_and_path : (a b : List ℕ) → same_uri (uri_of a) (uri_of b) ≡ (bytes_eq (canonical_module_of a) (canonical_module_of b) && bytes_eq (path_of a) (path_of b))
+equal-module_and_path a b = sym (same_uri-texts a b) ∙ ap (λ v. v && bytes_eq (path_of a) (path_of b)) (same_module-canonical a b)

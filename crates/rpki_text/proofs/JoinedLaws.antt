@@ -20,6 +20,6 @@ pub length-marked : (slash : Bool) (t p j : List ℕ) → with_mark slash t p �
 length-marked true t p j e = omega (arith, ap length e, length-append (t ++ 47 ∷ []) p, length-append t (47 ∷ []))
 length-marked false t p j e = omega (arith, ap length e, length-append t p)
 
-pub bool_byte-cond : (b : Bool) → bool_byte b ≡ cond b 1 0
-bool_byte-cond true = refl
-bool_byte-cond false = refl
+pub bool-byte-cond : (b : Bool) → bool_byte b ≡ cond b 1 0
+bool-byte-cond true = refl
+bool-byte-cond false = refl

@@ -13,11 +13,11 @@ use Rattle.rpki_text.specs.SegmentLaws.{path_text-segments}
 use Rattle.rpki_text.specs.Segments.{is_slash, segments}
 use Rattle.rpki_text.specs.UriText.{lowercase}
 use Rattle.rpki_text.specs.RsyncText.{authority_of, module_name_of, path_of, IsRsync, IsCut, uri_of, Spells, rsync_refusal, path_refusal, names_refusal}
-use Rattle.rpki_text.proofs.UriLaws.{module_places, after_first-drop, refuses_nothing}
+use Rattle.rpki_text.proofs.UriLaws.{module-places, after-first-drop, refuses-nothing}
 
 -- a list with a slash is what stands before it, the slash, and what follows
-at_slash : (s : List ℕ) → position_or_len is_slash s < length s → s ≡ before_first is_slash s ++ codes "/" ++ after_first is_slash s
-at_slash s h =
+at-slash : (s : List ℕ) → position_or_len is_slash s < length s → s ≡ before_first is_slash s ++ codes "/" ++ after_first is_slash s
+at-slash s h =
     split_at_first is_slash s 0 h ∙ ap (λ b. before_first is_slash s ++ (b ∷ after_first is_slash s)) (eqb-true _ 47 (passes_at_first is_slash s 0 h)) ∙ sym (append_assoc (before_first is_slash s) (47 ∷ []) (after_first is_slash s))
 
 regroup : (s b m p : List ℕ) → s ++ ((b ++ codes "/") ++ ((m ++ codes "/") ++ p)) ≡ ((((s ++ b) ++ codes "/") ++ m) ++ codes "/") ++ p
@@ -29,13 +29,13 @@ spelled t m p c =
     let a = position_or_len is_slash (drop 8 t) in
     let n = position_or_len is_slash (drop m t) in
     let em : m ≡ 9 + a = c.module_starts in
-    let places = module_places t a n refl (ap (λ k. position_or_len is_slash (drop k t)) em) c.form.full in
-    let after : after_first is_slash (drop 8 t) ≡ drop m t = after_first-drop 8 t ∙ ap (λ k. drop k t) (omega arith) in
+    let places = module-places t a n refl (ap (λ k. position_or_len is_slash (drop k t)) em) c.form.full in
+    let after : after_first is_slash (drop 8 t) ≡ drop m t = after-first-drop 8 t ∙ ap (λ k. drop k t) (omega arith) in
     let one : drop 8 t ≡ before_first is_slash (drop 8 t) ++ codes "/" ++ after_first is_slash (drop 8 t) =
-    at_slash (drop 8 t) (omega (arith, length-drop 8 t, places.fits)) in
+    at-slash (drop 8 t) (omega (arith, length-drop 8 t, places.fits)) in
     let fits : position_or_len is_slash (after_first is_slash (drop 8 t)) < length (after_first is_slash (drop 8 t)) =
     rw after (omega (arith, length-drop m t, places.fits)) in
-    let two = at_slash (after_first is_slash (drop 8 t)) fits in
+    let two = at-slash (after_first is_slash (drop 8 t)) fits in
     record {
       scheme = take 8 t;
       authority = before_first is_slash (drop 8 t);
@@ -45,11 +45,11 @@ spelled t m p c =
           ∙ regroup (take 8 t) (before_first is_slash (drop 8 t)) (before_first is_slash (after_first is_slash (drop 8 t))) (after_first is_slash (after_first is_slash (drop 8 t))));
     }
 
-pub parses_again : (t : List ℕ) → IsRsync t → length t < 3080 → rsync_refusal t ≡ None
+pub parses-again : (t : List ℕ) → IsRsync t → length t < 3080 → rsync_refusal t ≡ None
 unfolding path_refusal
-parses_again t f h =
+parses-again t f h =
     let short : nat_le 3072 (length (drop 8 t)) ≡ false = let l = length-drop 8 t in grind (arith, nat_tests) in
-    refuses_nothing t f.characters f.scheme (ap (λ v. cond v (Some LongUri) (names_refusal (segments (drop 8 t)))) short ∙ f.names) f.full
+    refuses-nothing t f.characters f.scheme (ap (λ v. cond v (Some LongUri) (names_refusal (segments (drop 8 t)))) short ∙ f.names) f.full
 
 -- the two halves of a cut text
 pub record Halves (t : List ℕ) (m : ℕ) : Type 0 where
@@ -63,14 +63,14 @@ halves t m p c =
     let a = position_or_len is_slash (drop 8 t) in
     let n = position_or_len is_slash (drop m t) in
     let em : m ≡ 9 + a = c.module_starts in
-    let places = module_places t a n refl (ap (λ k. position_or_len is_slash (drop k t)) em) c.form.full in
-    let after : after_first is_slash (drop 8 t) ≡ drop m t = after_first-drop 8 t ∙ ap (λ k. drop k t) (omega arith) in
+    let places = module-places t a n refl (ap (λ k. position_or_len is_slash (drop k t)) em) c.form.full in
+    let after : after_first is_slash (drop 8 t) ≡ drop m t = after-first-drop 8 t ∙ ap (λ k. drop k t) (omega arith) in
     let l8 : length (drop 8 t) ≡ length t - 8 = length-drop 8 t in
     let one : drop 8 t ≡ before_first is_slash (drop 8 t) ++ codes "/" ++ after_first is_slash (drop 8 t) =
-    at_slash (drop 8 t) (omega (arith, l8, places.fits)) in
+    at-slash (drop 8 t) (omega (arith, l8, places.fits)) in
     let fits : position_or_len is_slash (after_first is_slash (drop 8 t)) < length (after_first is_slash (drop 8 t)) =
     rw after (omega (arith, length-drop m t, places.fits)) in
-    let two = at_slash (after_first is_slash (drop 8 t)) fits in
+    let two = at-slash (after_first is_slash (drop 8 t)) fits in
     let la : length (before_first is_slash (drop 8 t)) ≡ a = length-take-le a (drop 8 t) (omega (arith, l8, places.fits)) in
     let x : List ℕ = take 8 t ++ (before_first is_slash (drop 8 t) ++ codes "/") in
     let whole : t ≡ x ++ drop m t =

@@ -43,31 +43,31 @@ empty h = cc
 wide : NoMemory (Some LongSegments)
 wide h = cc
 
-of_piece : (piece : List ℕ) → NoMemory (piece_refusal piece)
-of_piece piece = either _ _ _ empty (either _ _ _ dots (either _ _ _ wide none))
+of-piece : (piece : List ℕ) → NoMemory (piece_refusal piece)
+of-piece piece = either _ _ _ empty (either _ _ _ dots (either _ _ _ wide none))
 
-of_names : (names : List (List ℕ)) → NoMemory (names_refusal names)
-of_names [] = none
-of_names (name ∷ more) = first _ _ (of_piece name) (of_names more)
+of-names : (names : List (List ℕ)) → NoMemory (names_refusal names)
+of-names [] = none
+of-names (name ∷ more) = first _ _ (of-piece name) (of-names more)
 
-of_path : (path : List ℕ) → NoMemory (path_refusal path)
+of-path : (path : List ℕ) → NoMemory (path_refusal path)
 unfolding path_refusal
-of_path path = either _ _ _ long (of_names (segments path))
+of-path path = either _ _ _ long (of-names (segments path))
 
-of_rsync : (t : List ℕ) → NoMemory (rsync_refusal t)
+of-rsync : (t : List ℕ) → NoMemory (rsync_refusal t)
 unfolding rsync_refusal
-of_rsync t = either _ _ _ characters (either _ _ _ scheme (first _ _ (of_path (drop 8 t)) (either _ _ _ none bad)))
+of-rsync t = either _ _ _ characters (either _ _ _ scheme (first _ _ (of-path (drop 8 t)) (either _ _ _ none bad)))
 
-of_https : (t : List ℕ) → NoMemory (https_refusal t)
+of-https : (t : List ℕ) → NoMemory (https_refusal t)
 unfolding https_refusal
-of_https t = either _ _ _ characters (either _ _ _ scheme (either _ _ _ bad none))
+of-https t = either _ _ _ characters (either _ _ _ scheme (either _ _ _ bad none))
 
 -- so the error of a text, or of a path, is another
-pub rsync_memory : (t : List ℕ) (e : Error) → rsync_refusal t ≡ Some e → e ≢ OutOfMemory
-rsync_memory t e h k = of_rsync t (rw (← k) h)
+pub rsync-memory : (t : List ℕ) (e : Error) → rsync_refusal t ≡ Some e → e ≢ OutOfMemory
+rsync-memory t e h k = of-rsync t (rw (← k) h)
 
-pub path_memory : (path : List ℕ) (e : Error) → path_refusal path ≡ Some e → e ≢ OutOfMemory
-path_memory path e h k = of_path path (rw (← k) h)
+pub path-memory : (path : List ℕ) (e : Error) → path_refusal path ≡ Some e → e ≢ OutOfMemory
+path-memory path e h k = of-path path (rw (← k) h)
 
-pub https_memory : (t : List ℕ) (e : Error) → https_refusal t ≡ Some e → e ≢ OutOfMemory
-https_memory t e h k = of_https t (rw (← k) h)
+pub https-memory : (t : List ℕ) (e : Error) → https_refusal t ≡ Some e → e ≢ OutOfMemory
+https-memory t e h k = of-https t (rw (← k) h)

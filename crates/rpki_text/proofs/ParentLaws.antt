@@ -8,8 +8,8 @@ use Rattle.rpki_text.specs.Segments.{segments, is_dir, path_text}
 use Rattle.rpki_text.specs.UriText.{lowercase}
 use Rattle.rpki_text.specs.RsyncText.{authority_of, module_name_of, path_of, uri_of, relative, path_left, strip_prefix, names_refusal, is_parent, IsCut}
 use Rattle.rpki_text.proofs.SegmentLaws.{path_text-none}
-use Rattle.rpki_text.proofs.JoinLaws.{names_refusal-back, path_names, head_of}
-use Rattle.rpki_text.proofs.RelativeLaws.{relative-other_module}
+use Rattle.rpki_text.proofs.JoinLaws.{names_refusal-back, path-names, head-of}
+use Rattle.rpki_text.proofs.RelativeLaws.{relative-other-module}
 use Rattle.rpki_text.proofs.BelowLaws.{relative-path_left, strip_prefix-is}
 
 join-some : (b : ℕ) (bs : List ℕ) (ns : List (List ℕ)) → 0 < length (join_with_byte 47 ((b ∷ bs) ∷ ns))
@@ -22,19 +22,19 @@ unfolding path_text
 path_text-some [] ns d h = cc
 path_text-some (b ∷ bs) ns d h = join-some b bs (ns ++ cond d ([] ∷ []) [])
 
-longer_test : (us left : List (List ℕ)) (d : Bool) (p : List ℕ) → names_refusal left ≡ None → p ≡ path_text left d → nat_lt (length us) (length (us ++ left)) ≡ not (length p == 0)
-longer_test us [] d p h e =
+longer-test : (us left : List (List ℕ)) (d : Bool) (p : List ℕ) → names_refusal left ≡ None → p ≡ path_text left d → nat_lt (length us) (length (us ++ left)) ≡ not (length p == 0)
+longer-test us [] d p h e =
     let none : length p ≡ 0 = ap length (e ∙ path_text-none d) in let l : length (us ++ []) ≡ length us + 0 = length-append us [] in grind (arith, nat_tests)
-longer_test us (n ∷ ns) d p h e =
+longer-test us (n ∷ ns) d p h e =
     let some : 0 < length p = rw e (path_text-some n ns d h) in let l : length (us ++ n ∷ ns) ≡ length us + length (n ∷ ns) = length-append us (n ∷ ns) in grind (arith, nat_tests)
 
-pub parent_test-none : (u v : List ℕ) → relative (uri_of v) (uri_of u) ≡ None → is_parent (uri_of u) (uri_of v) ≡ false
+pub parent-test-none : (u v : List ℕ) → relative (uri_of v) (uri_of u) ≡ None → is_parent (uri_of u) (uri_of v) ≡ false
 unfolding is_parent
-parent_test-none u v h = rw h refl
+parent-test-none u v h = rw h refl
 
-pub parent_test-some : (u v : List ℕ) (m n : ℕ) → IsCut v m n → (p : List ℕ) → relative (uri_of v) (uri_of u) ≡ Some p → is_parent (uri_of u) (uri_of v) ≡ not (length p == 0)
+pub parent-test-some : (u v : List ℕ) (m n : ℕ) → IsCut v m n → (p : List ℕ) → relative (uri_of v) (uri_of u) ≡ Some p → is_parent (uri_of u) (uri_of v) ≡ not (length p == 0)
 unfolding is_parent uri_of path_left
-parent_test-some u v m n c p h = rw h (by_module _ refl) where
+parent-test-some u v m n c p h = rw h (by_module _ refl) where
   test : Bool
   test = bytes_eq (lowercase (authority_of v)) (lowercase (authority_of u)) && bytes_eq (module_name_of v) (module_name_of u)
 
@@ -43,10 +43,10 @@ parent_test-some u v m n c p h = rw h (by_module _ refl) where
   by_left None e k = cc
   by_left (Some left) e k =
       let is : segments (path_of v) ≡ segments (path_of u) ++ left = strip_prefix-is (segments (path_of v)) (segments (path_of u)) left e in
-      let good : names_refusal left ≡ None = names_refusal-back (segments (path_of u)) left (sym (ap names_refusal is) ∙ path_names v m n c (head_of v m n c)) in
+      let good : names_refusal left ≡ None = names_refusal-back (segments (path_of u)) left (sym (ap names_refusal is) ∙ path-names v m n c (head-of v m n c)) in
       let text : p ≡ path_text left (is_dir (path_of v)) = cc in
-      ap (λ s. nat_lt (length (segments (path_of u))) (length s)) is ∙ longer_test (segments (path_of u)) left (is_dir (path_of v)) p good text
+      ap (λ s. nat_lt (length (segments (path_of u))) (length s)) is ∙ longer-test (segments (path_of u)) left (is_dir (path_of v)) p good text
 
   by_module : (b : Bool) → test ≡ b → nat_lt (length (segments (path_of u))) (length (segments (path_of v))) ≡ not (length p == 0)
-  by_module false e = let none : relative (uri_of v) (uri_of u) ≡ None = relative-other_module v u e in cc
+  by_module false e = let none : relative (uri_of v) (uri_of u) ≡ None = relative-other-module v u e in cc
   by_module true e = by_left _ refl (sym (relative-path_left v u e) ∙ h)

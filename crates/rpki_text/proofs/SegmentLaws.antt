@@ -10,8 +10,8 @@ use Rattle.std.proofs.lemmas.Grind.{common_steps}
 use Rattle.rpki_text.specs.SegmentLaws.{IsFilled, pieces-filled, path_text-segments}
 use Rattle.rpki_text.specs.Segments.{is_slash, pieces, names_of, has_empty_last, segments, is_dir, path_text}
 
-onto_first-append : (b : ℕ) (ps qs : List (List ℕ)) → IsFilled ps → onto_first b (ps ++ qs) ≡ onto_first b ps ++ qs
-onto_first-append b ps qs f = rw f.is refl
+onto-first-append : (b : ℕ) (ps qs : List (List ℕ)) → IsFilled ps → onto_first b (ps ++ qs) ≡ onto_first b ps ++ qs
+onto-first-append b ps qs f = rw f.is refl
 
 -- a text cut at a slash has the pieces of both sides
 pub pieces-append : (a b : List ℕ) → pieces (a ++ 47 ∷ b) ≡ pieces a ++ pieces b
@@ -19,7 +19,7 @@ pieces-append [] b = refl
 pieces-append (x ∷ a) b =
     elim (is_slash x) as (λ v. cond v ([] ∷ pieces (a ++ 47 ∷ b)) (onto_first x (pieces (a ++ 47 ∷ b))) ≡ cond v ([] ∷ pieces a) (onto_first x (pieces a)) ++ pieces b) [
       | true ↦ ap (λ ps. [] ∷ ps) (pieces-append a b)
-      | false ↦ ap (onto_first x) (pieces-append a b) ∙ onto_first-append x (pieces a) (pieces b) (pieces-filled a)
+      | false ↦ ap (onto_first x) (pieces-append a b) ∙ onto-first-append x (pieces a) (pieces b) (pieces-filled a)
     ]
 
 names_of-cons : (p : List ℕ) (qs : List (List ℕ)) → IsFilled qs → names_of (p ∷ qs) ≡ p ∷ names_of qs
@@ -47,50 +47,50 @@ has_empty_last-append [] qs f = refl
 has_empty_last-append (p ∷ ps) qs f = has_empty_last-cons p (ps ++ qs) (append-filled ps qs f) ∙ has_empty_last-append ps qs f
 
 -- what `next` does on a path with a slash
-pub segments_cut : (t : List ℕ) → position_or_len is_slash t < length t → segments t ≡ before_first is_slash t ∷ segments (after_first is_slash t)
+pub segments-cut : (t : List ℕ) → position_or_len is_slash t < length t → segments t ≡ before_first is_slash t ∷ segments (after_first is_slash t)
 unfolding segments
-segments_cut t h = ap names_of (slice_split_first is_slash t 0 h) ∙ names_of-cons _ _ (pieces-filled (after_first is_slash t))
+segments-cut t h = ap names_of (slice_split_first is_slash t 0 h) ∙ names_of-cons _ _ (pieces-filled (after_first is_slash t))
 
-pub is_dir_cut : (t : List ℕ) → position_or_len is_slash t < length t → is_dir t ≡ is_dir (after_first is_slash t)
+pub is_dir-cut : (t : List ℕ) → position_or_len is_slash t < length t → is_dir t ≡ is_dir (after_first is_slash t)
 unfolding is_dir
-is_dir_cut t h = ap has_empty_last (slice_split_first is_slash t 0 h) ∙ has_empty_last-cons _ _ (pieces-filled (after_first is_slash t))
+is_dir-cut t h = ap has_empty_last (slice_split_first is_slash t 0 h) ∙ has_empty_last-cons _ _ (pieces-filled (after_first is_slash t))
 
 pub segments-empty : segments [] ≡ []
 unfolding segments
 segments-empty = refl
 
-pub segments_all : (t : List ℕ) → 0 < length t → position_or_len is_slash t ≡ length t → segments t ≡ t ∷ segments (drop (length t) t)
+pub segments-all : (t : List ℕ) → 0 < length t → position_or_len is_slash t ≡ length t → segments t ≡ t ∷ segments (drop (length t) t)
 unfolding segments
-segments_all [] l h = absurd (omega arith)
-segments_all (b ∷ bs) l h =
+segments-all [] l h = absurd (omega arith)
+segments-all (b ∷ bs) l h =
     let none : pieces (b ∷ bs) ≡ (b ∷ bs) ∷ [] = slice_split_none is_slash (b ∷ bs) (λ k e m. let k' = fails_before_first is_slash (b ∷ bs) k e (rw h (grind (arith, common_steps))) in grind (arith, common_steps)) in
     ap names_of none ∙ ap (λ s. (b ∷ bs) ∷ names_of (pieces s)) (sym (drop_all (length (b ∷ bs)) (b ∷ bs) (omega arith)))
 
-pub ruleset segment_steps = (segments_cut, is_dir_cut, segments_all, segments-empty)
+pub ruleset segment_steps = (segments-cut, is_dir-cut, segments-all, segments-empty)
 
 -- `&s[n..]`
 pub tail-slice : (n : ℕ) (s : List ℕ) → take (length s - n) (drop n s) ≡ drop n s
 tail-slice n s = grind (arith, common_steps)
 
 -- a path by its last byte
-onto_first-not_empty : (b : ℕ) (ps : List (List ℕ)) → has_empty_last ps ≡ false → has_empty_last (onto_first b ps) ≡ false
-onto_first-not_empty b [] h = cc
-onto_first-not_empty b ([] ∷ []) h = cc
-onto_first-not_empty b ((x ∷ p) ∷ []) h = refl
-onto_first-not_empty b ([] ∷ q ∷ qs) h = h
-onto_first-not_empty b ((x ∷ p) ∷ q ∷ qs) h = h
+onto-first-not-empty : (b : ℕ) (ps : List (List ℕ)) → has_empty_last ps ≡ false → has_empty_last (onto_first b ps) ≡ false
+onto-first-not-empty b [] h = cc
+onto-first-not-empty b ([] ∷ []) h = cc
+onto-first-not-empty b ((x ∷ p) ∷ []) h = refl
+onto-first-not-empty b ([] ∷ q ∷ qs) h = h
+onto-first-not-empty b ((x ∷ p) ∷ q ∷ qs) h = h
 
-pub is_dir-push_slash : (t : List ℕ) → is_dir (t ++ 47 ∷ []) ≡ true
+pub is_dir-push-slash : (t : List ℕ) → is_dir (t ++ 47 ∷ []) ≡ true
 unfolding is_dir
-is_dir-push_slash t = ap has_empty_last (pieces-append t []) ∙ has_empty_last-append (pieces t) ([] ∷ []) (record { first = []; others = []; is = refl })
+is_dir-push-slash t = ap has_empty_last (pieces-append t []) ∙ has_empty_last-append (pieces t) ([] ∷ []) (record { first = []; others = []; is = refl })
 
-pub is_dir-push_other : (t : List ℕ) (b : ℕ) → is_slash b ≡ false → is_dir (t ++ b ∷ []) ≡ false
+pub is_dir-push-other : (t : List ℕ) (b : ℕ) → is_slash b ≡ false → is_dir (t ++ b ∷ []) ≡ false
 unfolding is_dir
-is_dir-push_other [] b h = rw h refl
-is_dir-push_other (x ∷ t) b h =
+is_dir-push-other [] b h = rw h refl
+is_dir-push-other (x ∷ t) b h =
     elim (is_slash x) as (λ v. has_empty_last (cond v ([] ∷ pieces (t ++ b ∷ [])) (onto_first x (pieces (t ++ b ∷ [])))) ≡ false) [
-      | true ↦ has_empty_last-cons [] (pieces (t ++ b ∷ [])) (pieces-filled (t ++ b ∷ [])) ∙ is_dir-push_other t b h
-      | false ↦ onto_first-not_empty x (pieces (t ++ b ∷ [])) (is_dir-push_other t b h)
+      | true ↦ has_empty_last-cons [] (pieces (t ++ b ∷ [])) (pieces-filled (t ++ b ∷ [])) ∙ is_dir-push-other t b h
+      | false ↦ onto-first-not-empty x (pieces (t ++ b ∷ [])) (is_dir-push-other t b h)
     ]
 
 pub is_dir-empty : is_dir [] ≡ true
@@ -120,11 +120,11 @@ last-some t b h =
     let n : length t ≡ length t - 1 + 1 = omega arith in
     sym (take_all (length t) t (omega arith)) ∙ ap (λ k. take k t) n ∙ take_more t (length t - 1) 0 within ∙ ap (λ x. take (length t - 1) t ++ x ∷ []) is
 
-pub is_dir-last_none : (t : List ℕ) → None ≡ slice_get t (length t - 1) → is_dir t ≡ true
-is_dir-last_none t h = ap is_dir (last-none t h) ∙ is_dir-empty
+pub is_dir-last-none : (t : List ℕ) → None ≡ slice_get t (length t - 1) → is_dir t ≡ true
+is_dir-last-none t h = ap is_dir (last-none t h) ∙ is_dir-empty
 
-pub is_dir-last_some : (t : List ℕ) (b : ℕ) → Some b ≡ slice_get t (length t - 1) → is_dir t ≡ eqb b 47
-is_dir-last_some t b h = ap is_dir (last-some t b h) ∙ by_cases (eqb b 47) refl where
+pub is_dir-last-some : (t : List ℕ) (b : ℕ) → Some b ≡ slice_get t (length t - 1) → is_dir t ≡ eqb b 47
+is_dir-last-some t b h = ap is_dir (last-some t b h) ∙ by_cases (eqb b 47) refl where
   by_cases : (v : Bool) → eqb b 47 ≡ v → is_dir (take (length t - 1) t ++ b ∷ []) ≡ eqb b 47
-  by_cases true e = let at : b ≡ 47 = eqb-true b 47 e in rw (e, at) (is_dir-push_slash (take (length t - 1) t))
-  by_cases false e = is_dir-push_other (take (length t - 1) t) b e ∙ sym e
+  by_cases true e = let at : b ≡ 47 = eqb-true b 47 e in rw (e, at) (is_dir-push-slash (take (length t - 1) t))
+  by_cases false e = is_dir-push-other (take (length t - 1) t) b e ∙ sym e

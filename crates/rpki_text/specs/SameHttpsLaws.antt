@@ -22,13 +22,13 @@ same_https-hashed a b h =
     ∙ ap (λ x. flat_map fed.u8 (codes "https://" ++ lowercase (https_authority b)) ++ fed.slice fed.u8 x) e2
 
 -- equality is an equivalence
-pub same_https_equiv : IsEquivalence same_https
-same_https_equiv =
+pub same_https-equiv : IsEquivalence same_https
+same_https-equiv =
     and_equiv (on_equiv (λ (u : HttpsUri). u.authority) (lists_equiv nat_eq_equiv))
     (on_equiv (λ (u : HttpsUri). u.path) (lists_equiv nat_eq_equiv))
 
 pub https_equiv : IsEquivalence (on https_uri_of same_https)
-https_equiv = on_equiv https_uri_of same_https_equiv
+https_equiv = on_equiv https_uri_of same_https-equiv
 
 pub https_per : IsPartialEquivalence (on https_uri_of same_https)
 https_per = partial_equiv_from_equiv https_equiv

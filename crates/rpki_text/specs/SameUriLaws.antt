@@ -14,9 +14,9 @@ use Rattle.rpki_text.specs.RsyncText.{authority_of, module_name_of, path_of, Rsy
 use Rattle.rpki_text.specs.SegmentLaws.{path_text-segments}
 
 -- a path is the same exactly where its segments and its mark are
-pub same_path : (a b : List ℕ) → bytes_eq a b ≡ (pointwise bytes_eq (segments a) (segments b) && beq (is_dir a)
+pub same-path : (a b : List ℕ) → bytes_eq a b ≡ (pointwise bytes_eq (segments a) (segments b) && beq (is_dir a)
     (is_dir b))
-same_path a b = both_ways _ _ forth back where
+same-path a b = both_ways _ _ forth back where
   names : Decides (pointwise bytes_eq (segments a) (segments b)) (segments a ≡ segments b)
   names = pointwise_decides bytes_eq-Decides (segments a) (segments b)
 
@@ -42,7 +42,7 @@ pub same_uri-texts : (a b : List ℕ) → ((bytes_eq (lowercase (authority_of a)
     (module_name_of a) (module_name_of b)) && bytes_eq (path_of a) (path_of b)) ≡ same_uri (uri_of a) (uri_of b)
 unfolding uri_of
 same_uri-texts a b = ap (λ v. (bytes_eq (lowercase (authority_of a)) (lowercase (authority_of b)) && bytes_eq
-    (module_name_of a) (module_name_of b)) && v) (same_path (path_of a) (path_of b))
+    (module_name_of a) (module_name_of b)) && v) (same-path (path_of a) (path_of b))
 
 -- the same URI is hashed alike
 pub same_uri-hashed : (a b : List ℕ) → same_uri (uri_of a) (uri_of b) ≡ true → hashed a ≡ hashed b
@@ -63,8 +63,8 @@ same_uri-hashed a b h =
     ++ fed.slice fed.u8 (module_name_of b ++ codes "/" ++ x)) e3
 
 -- equality is an equivalence
-pub same_uri_equiv : IsEquivalence same_uri
-same_uri_equiv =
+pub same_uri-equiv : IsEquivalence same_uri
+same_uri-equiv =
     let text : (part : RsyncUri → List ℕ) → IsEquivalence (on part bytes_eq) =
     λ part. on_equiv part (lists_equiv nat_eq_equiv) in
     and_equiv (and_equiv (text (λ u. u.authority)) (text (λ u. u.module_name)))
@@ -72,7 +72,7 @@ same_uri_equiv =
     (on_equiv (λ (u : RsyncUri). u.is_dir) bool_eq_equiv))
 
 pub texts_equiv : IsEquivalence (on uri_of same_uri)
-texts_equiv = on_equiv uri_of same_uri_equiv
+texts_equiv = on_equiv uri_of same_uri-equiv
 
 pub texts_per : IsPartialEquivalence (on uri_of same_uri)
 texts_per = partial_equiv_from_equiv texts_equiv

@@ -11,16 +11,16 @@ pub record IsFilled (ps : List (List ℕ)) : Type 0 where
   pub others : List (List ℕ)
   pub is : ps ≡ first ∷ others
 
-onto_first-filled : (b : ℕ) (ps : List (List ℕ)) → IsFilled (onto_first b ps)
-onto_first-filled b [] = record { first = b ∷ []; others = []; is = refl }
-onto_first-filled b (p ∷ ps) = record { first = b ∷ p; others = ps; is = refl }
+onto-first-filled : (b : ℕ) (ps : List (List ℕ)) → IsFilled (onto_first b ps)
+onto-first-filled b [] = record { first = b ∷ []; others = []; is = refl }
+onto-first-filled b (p ∷ ps) = record { first = b ∷ p; others = ps; is = refl }
 
 pub pieces-filled : (t : List ℕ) → IsFilled (pieces t)
 pieces-filled [] = record { first = []; others = []; is = refl }
 pieces-filled (b ∷ bs) =
     elim (is_slash b) as (λ v. IsFilled (cond v ([] ∷ pieces bs) (onto_first b (pieces bs)))) [
       | true ↦ record { first = []; others = pieces bs; is = refl }
-      | false ↦ onto_first-filled b (pieces bs)
+      | false ↦ onto-first-filled b (pieces bs)
     ]
 
 -- the pieces are the names, and an empty one where it was left out

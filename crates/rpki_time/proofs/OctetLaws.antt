@@ -16,36 +16,36 @@ use Rattle.std.proofs.lemmas.Nat.{mod-mul-add}
 abbrev pub Agrees : ℕ → ℕ → ℕ → ℕ → ℕ → ℕ → Type 0
 Agrees x y s t m n = (ordering_then (nat_cmp x y) (nat_cmp s t) ≡ nat_cmp m n) × ((nat_eq x y && nat_eq s t) ≡ nat_eq m n)
 
-first_below : (x y s t m n : ℕ) → x < y → m < n → Agrees x y s t m n
-first_below x y s t m n h k = grind (arith, nat_tests)
+first-below : (x y s t m n : ℕ) → x < y → m < n → Agrees x y s t m n
+first-below x y s t m n h k = grind (arith, nat_tests)
 
-first_above : (x y s t m n : ℕ) → y < x → n < m → Agrees x y s t m n
-first_above x y s t m n h k = grind (arith, nat_tests)
+first-above : (x y s t m n : ℕ) → y < x → n < m → Agrees x y s t m n
+first-above x y s t m n h k = grind (arith, nat_tests)
 
-first_same : (x s t m n p : ℕ) → m ≡ p + s → n ≡ p + t → Agrees x x s t m n
-first_same x s t m n p h k = grind (arith, nat_tests)
+first-same : (x s t m n p : ℕ) → m ≡ p + s → n ≡ p + t → Agrees x x s t m n
+first-same x s t m n p h k = grind (arith, nat_tests)
 
-place_below : (x y p s t : ℕ) → x < y → s < p → x * p + s < y * p + t
-place_below x y p s t h k =
+place-below : (x y p s t : ℕ) → x < y → s < p → x * p + s < y * p + t
+place-below x y p s t h k =
     let le : suc x * p ≤ y * p = mul-le-mul_right p h in
     omega arith
 
 place-cmp : (x y p s t : ℕ) → s < p → t < p → Agrees x y s t (x * p + s) (y * p + t)
 place-cmp x y p s t h k =
     elim (cases_order x y) [
-      | inl same ↦ rw same (first_same y s t _ _ (y * p) refl refl)
-      | inr (inl lt) ↦ first_below x y s t _ _ lt (place_below x y p s t lt h)
-      | inr (inr gt) ↦ first_above x y s t _ _ gt (place_below y x p t s gt k)
+      | inl same ↦ rw same (first-same y s t _ _ (y * p) refl refl)
+      | inr (inl lt) ↦ first-below x y s t _ _ lt (place-below x y p s t lt h)
+      | inr (inr gt) ↦ first-above x y s t _ _ gt (place-below y x p t s gt k)
     ]
 
-pub slice_cmp-number : (xs ys : List ℕ) → length xs ≡ length ys → AreOctets xs → AreOctets ys → (slice_cmp nat_cmp xs ys ≡ nat_cmp (number_of xs) (number_of ys)) × (pointwise nat_eq xs ys ≡ nat_eq (number_of xs) (number_of ys))
-slice_cmp-number [] [] e o p = (refl, refl)
-slice_cmp-number (x ∷ xs) (y ∷ ys) e o p =
+pub slice-cmp-number : (xs ys : List ℕ) → length xs ≡ length ys → AreOctets xs → AreOctets ys → (slice_cmp nat_cmp xs ys ≡ nat_cmp (number_of xs) (number_of ys)) × (pointwise nat_eq xs ys ≡ nat_eq (number_of xs) (number_of ys))
+slice-cmp-number [] [] e o p = (refl, refl)
+slice-cmp-number (x ∷ xs) (y ∷ ys) e o p =
     let same : length xs ≡ length ys = omega arith in
-    let rest = slice_cmp-number xs ys same o.1 p.1 in
+    let rest = slice-cmp-number xs ys same o.1 p.1 in
     let all = place-cmp x y (256 ^ length ys) (number_of xs) (number_of ys) (rw (← same) (number-lt xs o.1)) (number-lt ys p.1) in
     (rw (rest.0, same) all.0, rw (rest.1, same) all.1)
-slice_cmp-number _ _ e o p = absurd (omega arith)
+slice-cmp-number _ _ e o p = absurd (omega arith)
 
 -- leading zeros write nothing
 pub number-zeros : (k : ℕ) (s : List ℕ) → number_of (replicate k 0 ++ s) ≡ number_of s
@@ -62,8 +62,8 @@ first-zeros zero s (inr h) = h
 first-zeros (suc k) s h = omega arith
 
 -- what `copy_from_slice` leaves at the end of twenty zeros
-pub put_mid-zeros : (s : List ℕ) → length s ≤ 20 → put_mid (20 - length s) (20 - (20 - length s)) (replicate 20 0) s ≡ replicate (20 - length s) 0 ++ s
-put_mid-zeros s h =
+pub put-mid-zeros : (s : List ℕ) → length s ≤ 20 → put_mid (20 - length s) (20 - (20 - length s)) (replicate 20 0) s ≡ replicate (20 - length s) 0 ++ s
+put-mid-zeros s h =
     let k = 20 - length s in
     let zs : List ℕ = replicate 20 0 in
     let le : k ≤ 20 = omega arith in
@@ -79,15 +79,15 @@ padded-AreTwenty s t e h o first =
     let k = 20 - length s in
     let low : (0 < k) ⊎ (get_or s 0 0 < 128) = elim first [ inl short ↦ inl (omega arith) | inr bit ↦ inr bit ] in
     let made : AreTwenty (replicate k 0 ++ s) = (omega (arith, length-append (replicate k 0) s, length-replicate {A = ℕ} k 0), AreOctets-zeros k s o, first-zeros k s low) in
-    subst (λ x. AreTwenty (put_mid k (20 - k) (replicate 20 0) x)) (sym e) (subst AreTwenty (sym (put_mid-zeros s h)) made)
+    subst (λ x. AreTwenty (put_mid k (20 - k) (replicate 20 0) x)) (sym e) (subst AreTwenty (sym (put-mid-zeros s h)) made)
 
 pub number-padded : (s t : List ℕ) → t ≡ s → length s ≤ 20 → number_of (put_mid (20 - length s) (20 - (20 - length s)) (replicate 20 0) t) ≡ number_of s
 number-padded s t e h =
     let k = 20 - length s in
-    ap (λ x. number_of (put_mid k (20 - k) (replicate 20 0) x)) e ∙ ap number_of (put_mid-zeros s h) ∙ number-zeros k s
+    ap (λ x. number_of (put_mid k (20 - k) (replicate 20 0) x)) e ∙ ap number_of (put-mid-zeros s h) ∙ number-zeros k s
 
-mod_step : (n p : ℕ) → 0 < p → n % (256 * p) ≡ n / p % 256 * p + n % p
-mod_step n p h =
+mod-step : (n p : ℕ) → 0 < p → n % (256 * p) ≡ n / p % 256 * p + n % p
+mod-step n p h =
     let q = n / p in
     let lt : n % p < p = omega arith in
     let whole : p * q + n % p ≡ n = omega arith in
@@ -98,18 +98,18 @@ mod_step n p h =
     let split : n ≡ (q / 256) * (256 * p) + (q % 256 * p + n % p) = omega (arith, ap (λ x. p * x) parts) in
     ap (λ x. x % (256 * p)) split ∙ mod-mul-add (q / 256) (256 * p) (q % 256 * p + n % p) small
 
-pub length-bytes_high_first : (k n : ℕ) → length (bytes_high_first k n) ≡ k
-length-bytes_high_first zero n = refl
-length-bytes_high_first (suc k) n = omega (arith, length-bytes_high_first k n)
+pub length-bytes-high-first : (k n : ℕ) → length (bytes_high_first k n) ≡ k
+length-bytes-high-first zero n = refl
+length-bytes-high-first (suc k) n = omega (arith, length-bytes-high-first k n)
 
-pub number-bytes_high_first : (k n : ℕ) → number_of (bytes_high_first k n) ≡ n % 256 ^ k
-number-bytes_high_first zero n = omega arith
-number-bytes_high_first (suc zero) n = omega arith
-number-bytes_high_first (suc (suc k)) n =
+pub number-bytes-high-first : (k n : ℕ) → number_of (bytes_high_first k n) ≡ n % 256 ^ k
+number-bytes-high-first zero n = omega arith
+number-bytes-high-first (suc zero) n = omega arith
+number-bytes-high-first (suc (suc k)) n =
     let p : 0 < 256 ^ suc k = one-le-pow (suc k) 256 (omega arith) in
-    rw (length-bytes_high_first (suc k) n, number-bytes_high_first (suc k) n, power (suc k)) (sym (mod_step n (256 ^ suc k) p))
+    rw (length-bytes-high-first (suc k) n, number-bytes-high-first (suc k) n, power (suc k)) (sym (mod-step n (256 ^ suc k) p))
 
 pub number-u128 : (n : ℕ) (bs cs : List ℕ) → n < 2 ^ 128 → cs ≡ bytes_high_first 16 n → bs ≡ cs → number_of (bs ++ []) ≡ n
 number-u128 n bs cs h e f =
     let whole : n < 256 ^ 16 = omega arith in
-    rw (append-nil, f, e, number-bytes_high_first 16 n) (omega arith)
+    rw (append-nil, f, e, number-bytes-high-first 16 n) (omega arith)

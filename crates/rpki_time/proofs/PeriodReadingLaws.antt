@@ -10,19 +10,19 @@ use Rattle.rpki_der.specs.Values.{IsOuterFault}
 use Rattle.rpki_der.specs.Reading.{Spells, Accepts, Refusal, SpellsNothing, UnlessMemory, TakesNoMemory, AnyFault}
 use Rattle.rpki_der.proofs.ReadingLaws.{UnlessMemory-weaker, UnlessMemory-from}
 use Rattle.rpki_der.proofs.ComposedLaws.{spelled-whole}
-use Rattle.rpki_der.proofs.EncodeLaws.{tlv_legal, tlv_same}
+use Rattle.rpki_der.proofs.EncodeLaws.{tlv-legal, tlv-same}
 use Rattle.rpki_time.specs.TimeValue.{SpellsTime, IsTimeFault, time_octets}
 use Rattle.rpki_time.specs.Validity.{Period, AreTimeYears, cut_period}
 use Rattle.rpki_time.specs.PeriodValue.{IsPeriod, SpellsPeriod, period_octets}
-use Rattle.rpki_time.proofs.ReadBackLaws.{leaf_there, tlv_short}
-use Rattle.rpki_time.proofs.TimeValueLaws.{times_few, time_there, time_spelled, times_fit, time_octets-cut}
+use Rattle.rpki_time.proofs.ReadBackLaws.{leaf-there, tlv-short}
+use Rattle.rpki_time.proofs.TimeValueLaws.{times-few, time-there, time_spelled, times-fit, time_octets-cut}
 
 -- the start begins the contents, and the end is the rest
-start_of : (c : List ℕ) (p : Period) (h : IsPeriod p c) → Spells SpellsTime c p.not_before h.end
-start_of c p h = record { front = h.start; parts = h.parts; spelled = h.not_before }
+start-of : (c : List ℕ) (p : Period) (h : IsPeriod p c) → Spells SpellsTime c p.not_before h.end
+start-of c p h = record { front = h.start; parts = h.parts; spelled = h.not_before }
 
-end_of : (c : List ℕ) (p : Period) (h : IsPeriod p c) → Spells SpellsTime h.end p.not_after []
-end_of c p h = spelled-whole SpellsTime h.end p.not_after h.not_after
+end-of : (c : List ℕ) (p : Period) (h : IsPeriod p c) → Spells SpellsTime h.end p.not_after []
+end-of c p h = spelled-whole SpellsTime h.end p.not_after h.not_after
 
 -- what a period is whose start was read
 pub record Behind (t : DateTime) (r : List ℕ) (p : Period) : Type 0 where
@@ -31,42 +31,42 @@ pub record Behind (t : DateTime) (r : List ℕ) (p : Period) : Type 0 where
 
 following : (c r : List ℕ) (t : DateTime) → Accepts SpellsTime c t r → (p : Period) → IsPeriod p c → Behind t r p
 following c r t a p h =
-    let e = a.only p.not_before h.end (start_of c p h) in
-    record { start = e.0; end = subst (λ (x : List ℕ). Spells SpellsTime x p.not_after []) e.1 (end_of c p h) }
+    let e = a.only p.not_before h.end (start-of c p h) in
+    record { start = e.0; end = subst (λ (x : List ℕ). Spells SpellsTime x p.not_after []) e.1 (end-of c p h) }
 
-time_no_memory : (s : List ℕ) (e : DecodeError) → IsTimeFault s e → e ≡ OutOfMemory → ⊥
-time_no_memory s Truncated h z = cc
-time_no_memory s BadTag h z = cc
-time_no_memory s BadLength h z = cc
-time_no_memory s Unexpected h z = cc
-time_no_memory s (Content x) h z = cc
-time_no_memory s Trailing h z = h
-time_no_memory s OutOfMemory h z = h
+time-no-memory : (s : List ℕ) (e : DecodeError) → IsTimeFault s e → e ≡ OutOfMemory → ⊥
+time-no-memory s Truncated h z = cc
+time-no-memory s BadTag h z = cc
+time-no-memory s BadLength h z = cc
+time-no-memory s Unexpected h z = cc
+time-no-memory s (Content x) h z = cc
+time-no-memory s Trailing h z = h
+time-no-memory s OutOfMemory h z = h
 
 abbrev NotRead : List ℕ → DecodeError → Type 0
 NotRead c e = UnlessMemory e (SpellsNothing IsPeriod c) × TakesNoMemory AnyFault c e
 
 -- the start could not be read
-pub no_start : (c q : List ℕ) (e : DecodeError) → Refusal SpellsTime IsTimeFault c q e → NotRead c e
-no_start c q e h = (UnlessMemory-weaker e (λ none p k. none p.not_before k.end (start_of c p k)) h.refuses, record { other = time_no_memory c e h.kind; kind = tt })
+pub no-start : (c q : List ℕ) (e : DecodeError) → Refusal SpellsTime IsTimeFault c q e → NotRead c e
+no-start c q e h = (UnlessMemory-weaker e (λ none p k. none p.not_before k.end (start-of c p k)) h.refuses, record { other = time-no-memory c e h.kind; kind = tt })
 
 -- the end could not be read
-pub no_end : (c r q : List ℕ) (t : DateTime) (e : DecodeError) → Accepts SpellsTime c t r → Refusal SpellsTime IsTimeFault r q e → NotRead c e
-no_end c r q t e a h = (UnlessMemory-weaker e (λ none p k. none p.not_after [] (following c r t a p k).end) h.refuses, record { other = time_no_memory r e h.kind; kind = tt })
+pub no-end : (c r q : List ℕ) (t : DateTime) (e : DecodeError) → Accepts SpellsTime c t r → Refusal SpellsTime IsTimeFault r q e → NotRead c e
+no-end c r q t e a h = (UnlessMemory-weaker e (λ none p k. none p.not_after [] (following c r t a p k).end) h.refuses, record { other = time-no-memory r e h.kind; kind = tt })
 
 -- something follows
-pub more_behind : (c r q : List ℕ) (t u : DateTime) (e : DecodeError) → Accepts SpellsTime c t r → Accepts SpellsTime r u q → (e ≡ Trailing) × (q ≡ [] → ⊥) → NotRead c e
-more_behind c r q t u e a b h = (
+pub more-behind : (c r q : List ℕ) (t u : DateTime) (e : DecodeError) → Accepts SpellsTime c t r → Accepts SpellsTime r u q → (e ≡ Trailing) × (q ≡ [] → ⊥) → NotRead c e
+more-behind c r q t u e a b h = (
   UnlessMemory-from e (λ p k. h.1 (sym (b.only p.not_after [] (following c r t a p k).end).1)),
   record { other = λ z. let is = h.0 in cc; kind = tt },
 )
 
-same_ends : (p q : Period) → p.not_before ≡ q.not_before → p.not_after ≡ q.not_after → p ≡ q
-same_ends p q e f = λ i. record { not_before = e i; not_after = f i }
+same-ends : (p q : Period) → p.not_before ≡ q.not_before → p.not_after ≡ q.not_after → p ≡ q
+same-ends p q e f = λ i. record { not_before = e i; not_after = f i }
 
 -- both were read, and nothing is left
-pub both_read : (c r q : List ℕ) (t u : DateTime) (p : Period) → Accepts SpellsTime c t r → Accepts SpellsTime r u q → q ≡ [] → p.not_before ≡ t → p.not_after ≡ u → IsPeriod p c × ((w : Period) → IsPeriod w c → w ≡ p)
-both_read c r q t u p a b none e f =
+pub both-read : (c r q : List ℕ) (t u : DateTime) (p : Period) → Accepts SpellsTime c t r → Accepts SpellsTime r u q → q ≡ [] → p.not_before ≡ t → p.not_after ≡ u → IsPeriod p c × ((w : Period) → IsPeriod w c → w ≡ p)
+both-read c r q t u p a b none e f =
     let rest : r ≡ b.spells.front = b.spells.parts ∙ ap (λ (x : List ℕ). b.spells.front ++ x) none ∙ append-nil b.spells.front in
     let is : IsPeriod p c = record {
       start = a.spells.front;
@@ -79,7 +79,7 @@ both_read c r q t u p a b none e f =
       λ w k.
           let g = following c r t a w k in
           let l = b.only w.not_after [] g.end in
-          same_ends w p (g.start ∙ sym e) (l.0 ∙ sym f),
+          same-ends w p (g.start ∙ sym e) (l.0 ∙ sym f),
     )
 
 -- ---- what is written
@@ -94,24 +94,24 @@ written p y = record {
 }
 
 -- periods of the same contents are one
-pub one_period : (c : List ℕ) (p q : Period) → IsPeriod p c → IsPeriod q c → q ≡ p
-one_period c p q h k =
-    let a = time_there c p.not_before h.end (start_of c p h) in
+pub one-period : (c : List ℕ) (p q : Period) → IsPeriod p c → IsPeriod q c → q ≡ p
+one-period c p q h k =
+    let a = time-there c p.not_before h.end (start-of c p h) in
     let g = following c h.end p.not_before a q k in
-    let b = time_there h.end p.not_after [] (end_of c p h) in
-    same_ends q p g.start (b.only q.not_after [] g.end).0
+    let b = time-there h.end p.not_after [] (end-of c p h) in
+    same-ends q p g.start (b.only q.not_after [] g.end).0
 
-pub period_there : (s rest : List ℕ) (p : Period) → AreTimeYears p → s ≡ period_octets p ++ rest → Accepts SpellsPeriod s (cut_period p) rest
-period_there s rest p y e =
+pub period-there : (s rest : List ℕ) (p : Period) → AreTimeYears p → s ≡ period_octets p ++ rest → Accepts SpellsPeriod s (cut_period p) rest
+period-there s rest p y e =
     let c = time_octets p.not_before ++ time_octets p.not_after in
-    let k : Spells SpellsPeriod s (cut_period p) rest = record { front = period_octets p; parts = e; spelled = record { contents = c; value = tlv_legal sequence true c sequence_legal (times_fit p.not_before p.not_after); spelled = written p y } } in
-    leaf_there sequence true IsPeriod s (cut_period p) rest k (λ w h. one_period c (cut_period p) w (written p y) h)
+    let k : Spells SpellsPeriod s (cut_period p) rest = record { front = period_octets p; parts = e; spelled = record { contents = c; value = tlv-legal sequence true c sequence_legal (times-fit p.not_before p.not_after); spelled = written p y } } in
+    leaf-there sequence true IsPeriod s (cut_period p) rest k (λ w h. one-period c (cut_period p) w (written p y) h)
 
-pub period_same : (p q : Period) → AreTimeYears p → AreTimeYears q → (period_octets p ≡ period_octets q) ↔ (cut_period p ≡ cut_period q)
-period_same p q y z = (
+pub period-same : (p q : Period) → AreTimeYears p → AreTimeYears q → (period_octets p ≡ period_octets q) ↔ (cut_period p ≡ cut_period q)
+period-same p q y z = (
   λ e.
-      let inside = tlv_same sequence true _ _ (times_fit p.not_before p.not_after) (times_fit q.not_before q.not_after) e in
-      one_period (time_octets q.not_before ++ time_octets q.not_after) (cut_period q) (cut_period p) (written q z) (subst (IsPeriod (cut_period p)) inside (written p y)),
+      let inside = tlv-same sequence true _ _ (times-fit p.not_before p.not_after) (times-fit q.not_before q.not_after) e in
+      one-period (time_octets q.not_before ++ time_octets q.not_after) (cut_period q) (cut_period p) (written q z) (subst (IsPeriod (cut_period p)) inside (written p y)),
   λ e. sym (period_octets-cut p) ∙ ap period_octets e ∙ period_octets-cut q,
 ) where
   both : (a b c d : List ℕ) → a ≡ b → c ≡ d → a ++ c ≡ b ++ d
@@ -121,14 +121,14 @@ period_same p q y z = (
   period_octets-cut p = ap (tlv sequence true) (both _ _ _ _ (time_octets-cut p.not_before) (time_octets-cut p.not_after))
 
 -- the reader allocates nothing
-pub period_no_memory : (s : List ℕ) → IsOuterFault sequence true s OutOfMemory → ⊥
-period_no_memory s h = h.other refl
+pub period-no-memory : (s : List ℕ) → IsOuterFault sequence true s OutOfMemory → ⊥
+period-no-memory s h = h.other refl
 
-pub period_few : (p : Period) → length (period_octets p) ≤ 36
-period_few p =
-    let few = times_few p.not_before p.not_after in
-    let size : length (period_octets p) ≡ 2 + length (time_octets p.not_before ++ time_octets p.not_after) = tlv_short sequence true (time_octets p.not_before ++ time_octets p.not_after) (lit< tt) (omega arith) in
+pub period-few : (p : Period) → length (period_octets p) ≤ 36
+period-few p =
+    let few = times-few p.not_before p.not_after in
+    let size : length (period_octets p) ≡ 2 + length (time_octets p.not_before ++ time_octets p.not_after) = tlv-short sequence true (time_octets p.not_before ++ time_octets p.not_after) (lit< tt) (omega arith) in
     omega arith
 
-pub period_fits : (p : Period) → length (period_octets p) < 2 ^ 63
-period_fits p = let few = period_few p in omega arith
+pub period-fits : (p : Period) → length (period_octets p) < 2 ^ 63
+period-fits p = let few = period-few p in omega arith

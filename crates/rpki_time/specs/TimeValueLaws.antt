@@ -9,34 +9,34 @@ use Rattle.rpki_der.specs.Tree.{tree_octets, IsShortTree}
 use Rattle.rpki_time.specs.TimeText.{utc_text, generalized_text, is_utc_year}
 use Rattle.rpki_time.specs.TimeValue.{octets_where, time_octets, tree_where, time_tree}
 
-pub utc_legal : IsTag utc_time
-utc_legal = record { below = lit< tt; named = λ _. lit< tt }
+pub utc-legal : IsTag utc_time
+utc-legal = record { below = lit< tt; named = λ _. lit< tt }
 
-pub generalized_legal : IsTag generalized_time
-generalized_legal = record { below = lit< tt; named = λ _. lit< tt }
+pub generalized-legal : IsTag generalized_time
+generalized-legal = record { below = lit< tt; named = λ _. lit< tt }
 
-value_where : (utc : Bool) (t : DateTime) → IsValue (octets_where utc t)
-value_where true t = primitive_value utc_time (utc_text t) utc_legal (lit< tt)
-value_where false t = primitive_value generalized_time (generalized_text t) generalized_legal (lit< tt)
+value-where : (utc : Bool) (t : DateTime) → IsValue (octets_where utc t)
+value-where true t = primitive_value utc_time (utc_text t) utc-legal (lit< tt)
+value-where false t = primitive_value generalized_time (generalized_text t) generalized-legal (lit< tt)
 
 pub time_is_value : (t : DateTime) → IsValue (time_octets t)
-time_is_value t = value_where (is_utc_year t.date.year) t
+time_is_value t = value-where (is_utc_year t.date.year) t
 
 pub time_is_value_list : (t : DateTime) → IsValueList (time_octets t)
 time_is_value_list t = (1, time_is_value t)
 
 -- ---- the same as a tree
 
-spelled_where : (utc : Bool) (t : DateTime) → octets_where utc t ≡ tree_octets (tree_where utc t)
-spelled_where true t = refl
-spelled_where false t = refl
+spelled-where : (utc : Bool) (t : DateTime) → octets_where utc t ≡ tree_octets (tree_where utc t)
+spelled-where true t = refl
+spelled-where false t = refl
 
 pub time_spelled : (t : DateTime) → time_octets t ≡ tree_octets (time_tree t)
-time_spelled t = spelled_where (is_utc_year t.date.year) t
+time_spelled t = spelled-where (is_utc_year t.date.year) t
 
-short_where : (utc : Bool) (t : DateTime) → Unit {0} ↔ IsShortTree (tree_where utc t)
-short_where true t = (λ _. lit< tt, λ _. tt)
-short_where false t = (λ _. lit< tt, λ _. tt)
+short-where : (utc : Bool) (t : DateTime) → Unit {0} ↔ IsShortTree (tree_where utc t)
+short-where true t = (λ _. lit< tt, λ _. tt)
+short-where false t = (λ _. lit< tt, λ _. tt)
 
 pub time_measured : (t : DateTime) → Unit {0} ↔ IsShortTree (time_tree t)
-time_measured t = short_where (is_utc_year t.date.year) t
+time_measured t = short-where (is_utc_year t.date.year) t

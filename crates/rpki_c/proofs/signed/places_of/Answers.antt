@@ -1,7 +1,7 @@
 use Rattle.std.proofs.Common.{◌≡◌, ◌≤◌, ◌+◌, ◌-◌, ◌++◌, [], true, length, take, drop, ap, ◌∙◌, arith, refl, append-nil, length-drop, length-append}
 use Rattle.rpki_der.specs.TagName.{sequence}
 use Rattle.rpki.specs.SignedData.{parts_of}
-use Rattle.rpki_c.proofs.PartLaws.{all_signed, from_data, from_algorithm, algorithm_spelled, slice_from, place_at, signature_end, unused_at, value_last}
+use Rattle.rpki_c.proofs.PartLaws.{all-signed, from-data, from-algorithm, algorithm-spelled, slice-from, place-at, signature-end, unused-at, value-last}
 use Rattle.rpki_c.proofs.signed.places_of.Goals as goal
 
 pub overflow_add-next : goal.overflow_add-next
@@ -10,8 +10,8 @@ overflow_add-next c =
     let v = parts_of c.args.signed.now c.args.has_parameters c.args.signature.now in
     let h = c.requires in
     let outer = c.contents_of-outer.result in
-    let o = c.contents_of-outer.ensures sequence true h.contents [] (all_signed s v h) in
-    omega (arith, o.within, ap length (from_data s v h outer o), length-append v.signed (h.spelled.text ++ h.spelled.bits), length-drop outer.start s)
+    let o = c.contents_of-outer.ensures sequence true h.contents [] (all-signed s v h) in
+    omega (arith, o.within, ap length (from-data s v h outer o), length-append v.signed (h.spelled.text ++ h.spelled.bits), length-drop outer.start s)
 
 pub slice_bounds-contents_of-count : goal.slice_bounds-contents_of-count
 slice_bounds-contents_of-count c =
@@ -19,8 +19,8 @@ slice_bounds-contents_of-count c =
     let v = parts_of c.args.signed.now c.args.has_parameters c.args.signature.now in
     let h = c.requires in
     let outer = c.contents_of-outer.result in
-    let o = c.contents_of-outer.ensures sequence true h.contents [] (all_signed s v h) in
-    omega (arith, o.within, ap length (from_data s v h outer o), length-append v.signed (h.spelled.text ++ h.spelled.bits), length-drop outer.start s)
+    let o = c.contents_of-outer.ensures sequence true h.contents [] (all-signed s v h) in
+    omega (arith, o.within, ap length (from-data s v h outer o), length-append v.signed (h.spelled.text ++ h.spelled.bits), length-drop outer.start s)
 
 pub slice_bounds-contents_of-start : goal.slice_bounds-contents_of-start
 slice_bounds-contents_of-start c =
@@ -28,8 +28,8 @@ slice_bounds-contents_of-start c =
     let v = parts_of c.args.signed.now c.args.has_parameters c.args.signature.now in
     let h = c.requires in
     let outer = c.contents_of-outer.result in
-    let o = c.contents_of-outer.ensures sequence true h.contents [] (all_signed s v h) in
-    omega (arith, o.within, ap length (from_data s v h outer o), length-append v.signed (h.spelled.text ++ h.spelled.bits), length-drop outer.start s)
+    let o = c.contents_of-outer.ensures sequence true h.contents [] (all-signed s v h) in
+    omega (arith, o.within, ap length (from-data s v h outer o), length-append v.signed (h.spelled.text ++ h.spelled.bits), length-drop outer.start s)
 
 pub overflow_add-result : goal.overflow_add-result
 overflow_add-result c =
@@ -38,11 +38,11 @@ overflow_add-result c =
     let h = c.requires in
     let outer = c.contents_of-outer.result in
     let next = outer.start + length c.args.signed.now in
-    let o = c.contents_of-outer.ensures sequence true h.contents [] (all_signed s v h) in
-    let rest = from_algorithm s v h outer (length c.args.signed.now) refl o in
-    let sp = algorithm_spelled s (take (length s - next) (drop next s)) v h (slice_from s next ∙ rest) in
+    let o = c.contents_of-outer.ensures sequence true h.contents [] (all-signed s v h) in
+    let rest = from-algorithm s v h outer (length c.args.signed.now) refl o in
+    let sp = algorithm-spelled s (take (length s - next) (drop next s)) v h (slice-from s next ∙ rest) in
     let i = c.contents_of-inner.ensures sequence true h.spelled.named.contents h.spelled.bits sp in
-    omega (arith, o.within, i.within, ap length (slice_from s next), length-drop next s)
+    omega (arith, o.within, i.within, ap length (slice-from s next), length-drop next s)
 
 pub returns : goal.returns
 returns c =
@@ -52,24 +52,24 @@ returns c =
     let outer = c.contents_of-outer.result in
     let inner = c.contents_of-inner.result in
     let next = outer.start + length c.args.signed.now in
-    let o = c.contents_of-outer.ensures sequence true h.contents [] (all_signed s v h) in
-    let rest = from_algorithm s v h outer (length c.args.signed.now) refl o in
-    let sp = algorithm_spelled s (take (length s - next) (drop next s)) v h (slice_from s next ∙ rest) in
+    let o = c.contents_of-outer.ensures sequence true h.contents [] (all-signed s v h) in
+    let rest = from-algorithm s v h outer (length c.args.signed.now) refl o in
+    let sp = algorithm-spelled s (take (length s - next) (drop next s)) v h (slice-from s next ∙ rest) in
     let i = c.contents_of-inner.ensures sequence true h.spelled.named.contents h.spelled.bits sp in
     let text_size : inner.start + inner.length ≡ length h.spelled.text =
-    omega (arith, i.within, i.size, ap length i.octets, length-append h.spelled.named.contents h.spelled.bits, length-drop inner.start (take (length s - next) (drop next s)), ap length (slice_from s next ∙ rest), length-append h.spelled.text h.spelled.bits) in
-    let low : next ≤ length s = omega (arith, o.within, ap length (from_data s v h outer o), length-append v.signed (h.spelled.text ++ h.spelled.bits), length-drop outer.start s) in
-    let end = signature_end s v h in
-    let last = value_last s h.spelled.signature.unused v.value (length v.value) end refl in
+    omega (arith, i.within, i.size, ap length i.octets, length-append h.spelled.named.contents h.spelled.bits, length-drop inner.start (take (length s - next) (drop next s)), ap length (slice-from s next ∙ rest), length-append h.spelled.text h.spelled.bits) in
+    let low : next ≤ length s = omega (arith, o.within, ap length (from-data s v h outer o), length-append v.signed (h.spelled.text ++ h.spelled.bits), length-drop outer.start s) in
+    let end = signature-end s v h in
+    let last = value-last s h.spelled.signature.unused v.value (length v.value) end refl in
     record {
       parts = v;
       spelled = h;
-      signed = place_at s outer.start _ v.signed (h.spelled.text ++ h.spelled.bits) (omega (arith, o.within)) refl (from_data s v h outer o);
-      algorithm = place_at s next _ h.spelled.text h.spelled.bits low text_size rest;
+      signed = place-at s outer.start _ v.signed (h.spelled.text ++ h.spelled.bits) (omega (arith, o.within)) refl (from-data s v h outer o);
+      algorithm = place-at s next _ h.spelled.text h.spelled.bits low text_size rest;
       signature = last.0;
       first = o.octets ∙ append-nil h.contents;
       next = refl;
       last = last.1;
-      unused = unused_at s h.spelled.signature.unused v.value (length v.value) end refl;
+      unused = unused-at s h.spelled.signature.unused v.value (length v.value) end refl;
       parameters = refl;
     }

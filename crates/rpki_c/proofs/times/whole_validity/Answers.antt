@@ -3,7 +3,7 @@ use Rattle.rpki_der.specs.TagName.{sequence}
 use Rattle.rpki_der.specs.Values.{IsOuterFault}
 use Rattle.rpki_time.specs.PeriodValue.{SpellsPeriod}
 use Rattle.rpki_der.proofs.ComposedLaws.{all-read, more-left, not-read}
-use Rattle.rpki_c.proofs.WholeLaws.{exactly, trailing_exactly}
+use Rattle.rpki_c.proofs.WholeLaws.{exactly, trailing-exactly}
 use Rattle.rpki_c.proofs.times.whole_validity.Goals as goal
 
 pub returns-in-Err : goal.returns-in-Err
@@ -19,4 +19,4 @@ returns-in-Ok-finish c =
 pub returns-in-Err-finish : goal.returns-in-Err-finish
 returns-in-Err-finish c =
     let h = rw c.from_slice-cons.ensures at c.in-Ok.ensures in
-    rw c.in-Err-finish.ensures.0 (trailing_exactly SpellsPeriod (IsOuterFault sequence true) c.args.octets.now (more-left SpellsPeriod (IsOuterFault sequence true) c.args.octets.now c.in-Ok.period _ h c.in-Err-finish.ensures.1))
+    rw c.in-Err-finish.ensures.0 (trailing-exactly SpellsPeriod (IsOuterFault sequence true) c.args.octets.now (more-left SpellsPeriod (IsOuterFault sequence true) c.args.octets.now c.in-Ok.period _ h c.in-Err-finish.ensures.1))

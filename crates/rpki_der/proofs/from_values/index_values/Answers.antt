@@ -1,18 +1,18 @@
 use Rattle.std.proofs.Common.{◌≡◌, ◌-◌, ℕ, List, refl, arith, take, drop, length, length-drop}
 use Rattle.std.proofs.lemmas.List.{length-take-le, take_all}
-use Rattle.rpki_der.proofs.MembersLaws.{value_some}
-use Rattle.rpki_der.proofs.IndexLaws.{indexed_rest}
+use Rattle.rpki_der.proofs.MembersLaws.{value-some}
+use Rattle.rpki_der.proofs.IndexLaws.{indexed-rest}
 use Rattle.rpki_der.proofs.from_values.index_values.Goals as goal
 
 pub values-smaller : goal.values-smaller
 values-smaller c =
     let h = c.in-Ok.ensures in
     let rest : List ℕ = take (length c.args.octets.now - c.values.place) (drop c.values.place c.args.octets.now) in
-    omega (arith, c.values-test.true, value_some h.accepted.0, length-take-le c.in-Ok.size rest h.within)
+    omega (arith, c.values-test.true, value-some h.accepted.0, length-take-le c.in-Ok.size rest h.within)
 
 pub values-preserved : goal.values-preserved
 values-preserved c =
     let h = c.in-Ok.ensures in
     let rest : take (length c.args.octets.now - c.values.place) (drop c.values.place c.args.octets.now) ≡ drop c.values.place c.args.octets.now =
     take_all (length c.args.octets.now - c.values.place) (drop c.values.place c.args.octets.now) (omega (arith, length-drop c.values.place c.args.octets.now)) in
-    indexed_rest c.in-Ok.size _ rest c.values.invariant h.within (h.kept refl)
+    indexed-rest c.in-Ok.size _ rest c.values.invariant h.within (h.kept refl)

@@ -1,5 +1,5 @@
-use Rattle.rpki_der.proofs.ShortestLaws.{length_forms}
+use Rattle.rpki_der.proofs.ShortestLaws.{length-forms}
 use Rattle.rpki_der.proofs.laws.lengths_in_shortest_form.Goals as goal
 
 pub returns : goal.returns
-returns c = length_forms
+returns c = length-forms

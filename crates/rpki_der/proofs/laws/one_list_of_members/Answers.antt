@@ -1,5 +1,5 @@
-use Rattle.rpki_der.proofs.MembersLaws.{one_reading}
+use Rattle.rpki_der.proofs.MembersLaws.{one-reading}
 use Rattle.rpki_der.proofs.laws.one_list_of_members.Goals as goal
 
 pub returns : goal.returns
-returns c = one_reading
+returns c = one-reading

@@ -1,5 +1,5 @@
-use Rattle.rpki_der.proofs.MembersLaws.{value_accepted}
+use Rattle.rpki_der.proofs.MembersLaws.{value-accepted}
 use Rattle.rpki_der.proofs.laws.values_read_back.Goals as goal
 
 pub returns : goal.returns
-returns c = value_accepted
+returns c = value-accepted

@@ -1,5 +1,5 @@
-use Rattle.rpki_text.proofs.PartLaws.{one_meaning}
+use Rattle.rpki_text.proofs.PartLaws.{one-meaning}
 use Rattle.rpki_text.proofs.laws.rsync_texts_have_one_meaning.Goals as goal
 
 pub returns : goal.returns
-returns c = one_meaning
+returns c = one-meaning

@@ -3,10 +3,10 @@ use Rattle.rpki_der.specs.TagName.{sequence}
 use Rattle.rpki_der.specs.Values.{IsOuterFault}
 use Rattle.rpki_time.specs.PeriodValue.{SpellsPeriod}
 use Rattle.rpki_time.specs.Validity.{cut_period}
-use Rattle.rpki_time.proofs.ReadBackLaws.{reads_back}
-use Rattle.rpki_time.proofs.PeriodReadingLaws.{period_there, period_no_memory}
+use Rattle.rpki_time.proofs.ReadBackLaws.{reads-back}
+use Rattle.rpki_time.proofs.PeriodReadingLaws.{period-there, period-no-memory}
 use Rattle.rpki_time.proofs.laws.periods_read_back.Goals as goal
 
 pub returns : goal.returns
 returns c = λ p rest y e.
-    reads_back SpellsPeriod (IsOuterFault sequence true) _ _ c.take_from.result (cut_period p) rest (period_no_memory _) c.take_from.ensures (period_there _ rest p y e)
+    reads-back SpellsPeriod (IsOuterFault sequence true) _ _ c.take_from.result (cut_period p) rest (period-no-memory _) c.take_from.ensures (period-there _ rest p y e)

@@ -1,5 +1,5 @@
-use Rattle.rpki_time.proofs.PeriodReadingLaws.{period_same}
+use Rattle.rpki_time.proofs.PeriodReadingLaws.{period-same}
 use Rattle.rpki_time.proofs.laws.periods_written_the_same.Goals as goal
 
 pub returns : goal.returns
-returns c = period_same
+returns c = period-same

@@ -1,8 +1,8 @@
-use Rattle.rpki_time.proofs.SerialReadingLaws.{serial_read_back, serial_same_octets}
+use Rattle.rpki_time.proofs.SerialReadingLaws.{serial-read_back, serial-same-octets}
 use Rattle.rpki_time.proofs.laws.serials_read_back.Goals as goal
 
 pub returns-clause-read : goal.returns-clause-read
-returns-clause-read c = λ n rest small e. serial_read_back _ _ c.take_from.result n rest small e c.take_from.ensures
+returns-clause-read c = λ n rest small e. serial-read_back _ _ c.take_from.result n rest small e c.take_from.ensures
 
 pub returns-clause-written : goal.returns-clause-written
-returns-clause-written c = serial_same_octets _ _ c.take_from.result c.take_from.ensures
+returns-clause-written c = serial-same-octets _ _ c.take_from.result c.take_from.ensures

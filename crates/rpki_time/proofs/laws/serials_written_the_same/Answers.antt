@@ -1,5 +1,5 @@
-use Rattle.rpki_time.proofs.SerialReadingLaws.{serial_same}
+use Rattle.rpki_time.proofs.SerialReadingLaws.{serial-same}
 use Rattle.rpki_time.proofs.laws.serials_written_the_same.Goals as goal
 
 pub returns : goal.returns
-returns c = serial_same
+returns c = serial-same

@@ -1,5 +1,5 @@
-use Rattle.rpki_text.proofs.CaseLaws.{without_capital}
+use Rattle.rpki_text.proofs.CaseLaws.{without-capital}
 use Rattle.rpki_text.proofs.uri.characters.has_no_capital.Goals as goal
 
 pub returns : goal.returns
-returns c = without_capital c.args.text.now c.has_capital.result c.has_capital.ensures
+returns c = without-capital c.args.text.now c.has_capital.result c.has_capital.ensures

@@ -3,12 +3,12 @@ use Rattle.std.specs.List.{suffix_len}
 use Rattle.std.proofs.lemmas.List.Sums.{suffix_len-take_no}
 use Rattle.rpki_text.specs.Segments.{is_slash}
 use Rattle.rpki_text.proofs.SegmentLaws.{is_dir-empty}
-use Rattle.rpki_text.proofs.JoinLaws.{closed_at}
+use Rattle.rpki_text.proofs.JoinLaws.{closed-at}
 use Rattle.rpki_text.proofs.uri.path.after_last_slash.Goals as goal
 
 pub returns-else-text-end-ne47-clause-front : goal.returns-else-text-end-ne47-clause-front
 returns-else-text-end-ne47-clause-front c =
-    closed_at c.args.text.now c.loop-end.end (omega arith) c.loop-end.invariant.within (search rules)
+    closed-at c.args.text.now c.loop-end.end (omega arith) c.loop-end.invariant.within (search rules)
 
 pub returns-after-loop-end-clause-front : goal.returns-after-loop-end-clause-front
 returns-after-loop-end-clause-front c =

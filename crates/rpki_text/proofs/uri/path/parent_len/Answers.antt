@@ -1,6 +1,6 @@
 use Rattle.std.proofs.Common.{◌≡◌, ◌-◌, ◌++◌, ◌∷◌, ℕ, List, length, take, arith, [], false, sym, ap, ◌∙◌, subst}
 use Rattle.rpki_text.specs.Segments.{is_dir, IsParentLen}
-use Rattle.rpki_text.proofs.SegmentLaws.{last-some, is_dir-last_some}
+use Rattle.rpki_text.proofs.SegmentLaws.{last-some, is_dir-last-some}
 use Rattle.rpki_text.proofs.JoinLaws.{parent_len-slash, parent_len-open}
 use Rattle.std.proofs.lemmas.Bool.Decides.{nat_tests}
 use Rattle.rpki_text.proofs.uri.path.parent_len.Goals as goal
@@ -15,5 +15,5 @@ returns-then-last-eq47-clause-some c =
 
 pub returns-else-last-eq47-clause-some : goal.returns-else-last-eq47-clause-some
 returns-else-last-eq47-clause-some c =
-    let open_end : is_dir c.args.path.now ≡ false = is_dir-last_some c.args.path.now _ c.in_ok-last.ensures.value ∙ grind (arith, nat_tests) in
+    let open_end : is_dir c.args.path.now ≡ false = is_dir-last-some c.args.path.now _ c.in_ok-last.ensures.value ∙ grind (arith, nat_tests) in
     parent_len-open c.args.path.now _ c.after_last_slash-else-last-eq47.ensures.within open_end c.after_last_slash-else-last-eq47.ensures.front c.after_last_slash-else-last-eq47.ensures.back

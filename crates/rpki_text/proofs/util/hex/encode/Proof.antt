@@ -8,7 +8,7 @@ use Rattle.rpki_text.specs.HexText.{hex_text, EndsAs}
 use Rattle.rpki_text.specs.contracts.util.hex.encode as f
 use Rattle.rpki_text.specs.contracts.util.hex.front_text as t
 use Rattle.rpki_text.specs.contracts.util.hex.written as w
-use Rattle.rpki_text.proofs.HexLaws.{hex_front}
+use Rattle.rpki_text.proofs.HexLaws.{hex-front}
 use Rattle.rpki_text.proofs.util.hex.encode.Code as code
 use Rattle.rpki_text.proofs.util.hex.encode.Statement.{statement}
 use Rattle.rpki_text.proofs.util.hex.front_text.Met as front_text
@@ -58,10 +58,10 @@ abbrev stayed : Stays f.ended.signature.params f.ended.kept
 stayed = (stay_dropped octets_in yes, (stay_dropped octets_out no, tt))
 
 -- what a name is known to end as, in the words of the contract
-ends_as : {M : Type 1} {𝓤 : Ura M} (𝓛 : Logic 𝓤) (buffer : MutBor (List ℕ)) (octets : List ℕ) (γ : GName) (now : List ℕ) → (γ ≡ buffer.ghost_name) × (now ≡ octets)
+ends-as : {M : Type 1} {𝓤 : Ura M} (𝓛 : Logic 𝓤) (buffer : MutBor (List ℕ)) (octets : List ℕ) (γ : GName) (now : List ℕ) → (γ ≡ buffer.ghost_name) × (now ≡ octets)
     → ent 𝓤 (sem 𝓛 (finally u8 γ now)) (sem 𝓛 (EndsAs buffer octets))
 unfolding such_by follows_by
-ends_as 𝓛 buffer octets γ now said =
+ends-as 𝓛 buffer octets γ now said =
     qed 𝓛 (‵ (finally u8 γ now) ∷ []) ∵ use1 𝓛 (‵ (fres γ ((coded_list u8.coded).code now))) (finally-res 𝓛 u8 γ now) $
     rewrite ! 0 (λ (n : GName). ‵ (fres n ((coded_list u8.coded).code now))) said.0 refl $ rewrite ! 0 (λ (xs : List ℕ). ‵ (fres buffer.ghost_name ((coded_list u8.coded).code xs))) said.1 refl $
     let code : List ℕ → Gv = (coded_list u8.coded).code in
@@ -104,7 +104,7 @@ encode_spec 𝓤 𝓛 𝓜 𝓡 wired =
     -- [the octets, shared; what becomes of dest and the token of its lifetime; nothing; the token of src's lifetime; src]
     fsplit ! $ feq_i ! (List Val) (shr_slice_vals octets) (shr_slice_vals octets) refl $ fjoin ! $ fjoin ! $ nothing ! $ move ! (1 ∷ 0 ∷ []) $ join ! $ move ! (4 ∷ 0 ∷ []) $ join ! $
     move ! (1 ∷ []) $ split ! $ move ! (1 ∷ 3 ∷ []) $ join ! $ move ! (3 ∷ 0 ∷ []) $ join ! $ move ! (0 ∷ 2 ∷ []) $ join ! $
-    let there = hex_front src.now r.now (drop (2 * length src.now) dest.now) said.1 in
+    let there = hex-front src.now r.now (drop (2 * length src.now) dest.now) said.1 in
     use0 𝓛 (raw (fact 𝓤 ((2 * length src.now ≤ length r.now) × (take (2 * length src.now) r.now ≡ hex_text src.now)))) (fact_i 𝓤 _ _ there) $ move ! (1 ∷ 0 ∷ []) $ join ! $
     let G' = triple_of 𝓛 t.signature (t.spec 𝓛 𝓜.mem 𝓡.returns) in
     let z' : G'.Ghost = ((κs, qs, bounds, (src, (octets, tt)), (shr_slice_vals src, (shr_slice_vals octets, tt))), tt) in
@@ -119,6 +119,6 @@ encode_spec 𝓤 𝓛 𝓜 𝓡 wired =
     lands_as ! refl refl (((str-laws (record { mir = named 1; lft = κs.1.0 })).lawful 𝓛).typed text (v' ∷ []) is').0 $
     returns ! (look_at ! 0 refl) $ free_all ! refl $
     -- [the text; the tokens; what becomes of dest]
-    move ! (2 ∷ []) $ use1 𝓛 (‵ (EndsAs dest (hex_text src.now ++ drop (2 * length src.now) dest.now))) (ends_as 𝓛 dest _ r.ghost_name r.now said) $
+    move ! (2 ∷ []) $ use1 𝓛 (‵ (EndsAs dest (hex_text src.now ++ drop (2 * length src.now) dest.now))) (ends-as 𝓛 dest _ r.ghost_name r.now said) $
     suffices ! _ (ends_at 𝓛 f.ended stayed c y v' text (tt, (tt, tt)) (tt, (tt, tt))) $
     move ! (1 ∷ 0 ∷ []) $ nothing ! $ nothing ! $ join ! $ nothing ! $ join ! $ move ! (3 ∷ []) $ group ! 3 $ frame ! $ says ! reads $ done !))))))))))))

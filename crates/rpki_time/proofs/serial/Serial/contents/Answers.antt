@@ -1,6 +1,6 @@
 use Rattle.std.proofs.Common.{inl, inr, arith, ◌<◌, ◌≤◌, ◌⊎◌, ◌+◌, ◌^◌, get_or}
-use Rattle.rpki_der.proofs.IntegerLaws.{contents_unique}
-use Rattle.rpki_time.proofs.SerialLaws.{kept-IsUnsigned, twenty_below}
+use Rattle.rpki_der.proofs.IntegerLaws.{contents-unique}
+use Rattle.rpki_time.proofs.SerialLaws.{kept-IsUnsigned, twenty-below}
 use Rattle.rpki_time.proofs.WritingLaws.{serial_contents-are}
 use Rattle.rpki_time.proofs.serial.Serial.contents.Goals as goal
 use Rattle.rpki_time.proofs.serial.Serial.contents.Goals.{then-loop-start-test+then-self-start-eq0+else-self-start-lt128, then-loop-start-test+else-self-start-eq0, else-loop-start-test}
@@ -13,5 +13,5 @@ returns-clause-contents c =
       | else-loop-start-test w ↦ absurd (omega (arith, w.loop-start-test.false))
     ] in
     let kept = kept-IsUnsigned _ _ c.self.inside.octets c.self.invariant.0 c.self.invariant.1 c.self.view_is c.loop-start.invariant.0 c.loop-start.invariant.1 c.loop-start.invariant.2 more in
-    let below : c.args.self.now < 2 ^ 159 = rw (← c.self.view_is) (twenty_below c.self.inside.octets c.self.invariant.0 c.self.invariant.1 c.self.invariant.2) in
-    contents_unique _ _ _ kept (serial_contents-are _ below)
+    let below : c.args.self.now < 2 ^ 159 = rw (← c.self.view_is) (twenty-below c.self.inside.octets c.self.invariant.0 c.self.invariant.1 c.self.invariant.2) in
+    contents-unique _ _ _ kept (serial_contents-are _ below)

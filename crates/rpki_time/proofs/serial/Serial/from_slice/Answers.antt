@@ -1,5 +1,5 @@
 use Rattle.std.proofs.Common.{◌<◌, ◌⊎◌, inl, inr, arith, length, get_or}
-use Rattle.rpki_der.proofs.IntegerLaws.{octets_fit}
+use Rattle.rpki_der.proofs.IntegerLaws.{octets-fit}
 use Rattle.rpki_time.proofs.OctetLaws.{padded-AreTwenty, number-padded}
 use Rattle.rpki_time.proofs.serial.Serial.from_slice.Goals as goal
 use Rattle.rpki_time.proofs.serial.Serial.from_slice.Goals.{else-octets-eq20-via-then-octets-eq20+else-octets-ge128, else-octets-eq20-via-else-octets-eq20}
@@ -10,7 +10,7 @@ invariant_of-result c =
       | else-octets-eq20-via-then-octets-eq20+else-octets-ge128 w ↦ inr w.if-octets-ge128.false
       | else-octets-eq20-via-else-octets-eq20 w ↦ inl (omega arith)
     ] in
-    padded-AreTwenty _ _ c.copy_from_slice.ensures.after (omega arith) (octets_fit _ c.type_inv.octets) first
+    padded-AreTwenty _ _ c.copy_from_slice.ensures.after (omega arith) (octets-fit _ c.type_inv.octets) first
 
 pub returns-clause-value : goal.returns-clause-value
 returns-clause-value c = number-padded _ _ c.copy_from_slice.ensures.after (omega arith)

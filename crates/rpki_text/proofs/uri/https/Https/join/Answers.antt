@@ -1,18 +1,18 @@
 use Rattle.std.proofs.Common.{◌≡◌, refl}
 use Rattle.std.proofs.lemmas.Result.{err_from_is_err_and}
 use Rattle.rpki_text.specs.HttpsText.{https_joined}
-use Rattle.rpki_text.proofs.HttpsPartLaws.{https_joined-cut, https_joined-meaning, https_joined-begins, https_join_ok, https_join_refuses, https_joined-flag}
+use Rattle.rpki_text.proofs.HttpsPartLaws.{https_joined-cut, https_joined-meaning, https_joined-begins, https-join-ok, https-join-refuses, https_joined-flag}
 use Rattle.rpki_text.proofs.uri.https.Https.join.Goals as goal
 
 pub returns-in_err-check_uri_ascii-clause-err : goal.returns-in_err-check_uri_ascii-clause-err
 returns-in_err-check_uri_ascii-clause-err c =
     let p = err_from_is_err_and c.from_residual.result c.from_residual.ensures.1 in
-    rw (p.1, p.2, c.in_err-check_uri_ascii.ensures.0, https_join_refuses c.args.path.now c.in_err-check_uri_ascii.ensures.1) refl
+    rw (p.1, p.2, c.in_err-check_uri_ascii.ensures.0, https-join-refuses c.args.path.now c.in_err-check_uri_ascii.ensures.1) refl
 
 pub returns-in_err-bytes-clause-err : goal.returns-in_err-bytes-clause-err
 returns-in_err-bytes-clause-err c =
     let p = err_from_is_err_and c.from_residual-in_err-bytes.result c.from_residual-in_err-bytes.ensures.1 in
-    rw (p.1, p.2, https_join_ok c.args.path.now c.in_ok-check_uri_ascii.ensures) refl
+    rw (p.1, p.2, https-join-ok c.args.path.now c.in_ok-check_uri_ascii.ensures) refl
 
 text : (c : goal.In_ok-bytes) → c.in_ok-bytes.bytes ≡ https_joined c.self.inside.bytes c.args.path.now
 text c =
@@ -31,4 +31,4 @@ pub returns-clause-begins : goal.returns-clause-begins
 returns-clause-begins c = rw (text c, ← c.self.view_is) (https_joined-begins c.self.inside.bytes c.args.path.now)
 
 pub returns-clause-ok : goal.returns-clause-ok
-returns-clause-ok c = https_join_ok c.args.path.now c.in_ok-check_uri_ascii.ensures
+returns-clause-ok c = https-join-ok c.args.path.now c.in_ok-check_uri_ascii.ensures

@@ -1,10 +1,10 @@
-use Rattle.rpki_text.proofs.JoinLaws.{cut_joined_any, relative-joined_any}
+use Rattle.rpki_text.proofs.JoinLaws.{cut-joined-any, relative-joined-any}
 use Rattle.rpki_text.proofs.MeaningLaws.{joined-meaning, joined-begins}
 use Rattle.rpki_text.proofs.uri.rsync.Rsync.join.Goals as goal
 
 pub invariant_of-result : goal.invariant_of-result
 invariant_of-result c =
-    let d = cut_joined_any c.self.inside.bytes _ _ c.self.invariant c.args.path.now (rw (c.self.view_is) c.in_ok-bytes.ensures.ok) in
+    let d = cut-joined-any c.self.inside.bytes _ _ c.self.invariant c.args.path.now (rw (c.self.view_is) c.in_ok-bytes.ensures.ok) in
     rw (c.in_ok-bytes.ensures.text, ← c.self.view_is) d
 
 pub returns-clause-meaning : goal.returns-clause-meaning
@@ -16,4 +16,4 @@ returns-clause-begins c = rw c.in_ok-bytes.ensures.text (joined-begins c.args.se
 
 pub returns-clause-back : goal.returns-clause-back
 returns-clause-back c =
-    rw (c.in_ok-bytes.ensures.text, ← c.self.view_is) (relative-joined_any c.self.inside.bytes _ _ c.self.invariant c.args.path.now (rw (c.self.view_is) c.in_ok-bytes.ensures.ok))
+    rw (c.in_ok-bytes.ensures.text, ← c.self.view_is) (relative-joined-any c.self.inside.bytes _ _ c.self.invariant c.args.path.now (rw (c.self.view_is) c.in_ok-bytes.ensures.ok))

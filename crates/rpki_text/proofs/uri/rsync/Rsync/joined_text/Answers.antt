@@ -1,14 +1,14 @@
 use Rattle.std.proofs.Common.{rules, ◌≡◌, ◌<◌, ◌++◌, length, [], arith, sym, refl, ap, ◌∙◌}
 use Rattle.std.proofs.lemmas.Result.{err_from_is_err_and}
 use Rattle.std.proofs.lemmas.Grind.{common_steps}
-use Rattle.rpki_text.proofs.JoinLaws.{join_refuses_nothing_empty, joined-empty, with_slash-flag, joined-filled}
+use Rattle.rpki_text.proofs.JoinLaws.{join-refuses-nothing-empty, joined-empty, with_slash-flag, joined-filled}
 use Rattle.rpki_text.proofs.uri.rsync.Rsync.joined_text.Goals as goal
 
 pub returns-in_err-clone-clause-err : goal.returns-in_err-clone-clause-err
 returns-in_err-clone-clause-err c =
     let e : c.args.path.now ≡ [] = search (rules, common_steps) in
     let p = err_from_is_err_and c.from_residual-in_err-clone.result c.from_residual-in_err-clone.ensures.1 in
-    rw (p.1, p.2, join_refuses_nothing_empty c.args.self.now c.args.path.now e) refl
+    rw (p.1, p.2, join-refuses-nothing-empty c.args.self.now c.args.path.now e) refl
 
 pub returns-then-is_empty-clause-text : goal.returns-then-is_empty-clause-text
 returns-then-is_empty-clause-text c =
@@ -18,7 +18,7 @@ returns-then-is_empty-clause-text c =
 pub returns-then-is_empty-clause-ok : goal.returns-then-is_empty-clause-ok
 returns-then-is_empty-clause-ok c =
     let e : c.args.path.now ≡ [] = search (rules, common_steps) in
-    join_refuses_nothing_empty c.args.self.now c.args.path.now e
+    join-refuses-nothing-empty c.args.self.now c.args.path.now e
 
 pub returns-clause-text : goal.returns-clause-text
 returns-clause-text c =

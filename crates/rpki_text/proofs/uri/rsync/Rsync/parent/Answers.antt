@@ -3,25 +3,25 @@ use Rattle.std.proofs.lemmas.List.{length-drop}
 use Rattle.rpki_text.specs.Segments.{IsParentLen}
 use Rattle.std.specs.Option.{is_some}
 use Rattle.rpki_text.specs.RsyncText.{path_of, parent_uri, uri_of, IsCut}
-use Rattle.rpki_text.proofs.CutLaws.{cut_facts}
-use Rattle.rpki_text.proofs.MeaningLaws.{parent-there, parent_text}
-use Rattle.rpki_text.proofs.JoinLaws.{parent_is, parent_none, parent_cut, parent_meaning, parent_uri-none}
+use Rattle.rpki_text.proofs.CutLaws.{cut-facts}
+use Rattle.rpki_text.proofs.MeaningLaws.{parent-there, parent-text}
+use Rattle.rpki_text.proofs.JoinLaws.{parent-is, parent-none, parent-cut, parent-meaning, parent_uri-none}
 use Rattle.rpki_text.proofs.uri.rsync.Rsync.parent.Goals as goal
 
 parts : (t path : List ℕ) (m p n : ℕ) → IsCut t m p → path ≡ path_of t → n ≤ length path → length t - (length path - n) ≡ p + n
 parts t path m p n c e w =
-    let facts = cut_facts t m p c in
+    let facts = cut-facts t m p c in
     let l : length path ≡ length t - p = ap length (e ∙ facts.path_is) ∙ length-drop p t in
     omega (arith, facts.fits)
 
 pub returns-in_default-clause-text : goal.returns-in_default-clause-text
-returns-in_default-clause-text c = sym (parent_none c.args.self.now (sym c.path_bytes-path.ensures ∙ c.in_default.ensures.none))
+returns-in_default-clause-text c = sym (parent-none c.args.self.now (sym c.path_bytes-path.ensures ∙ c.in_default.ensures.none))
 
 pub invariant_of-result : goal.invariant_of-result
 invariant_of-result c =
     let k = c.in-Some.ensures.some in
     let e = c.path_bytes-path.ensures ∙ ap path_of (sym c.self.view_is) in
-    let d = parent_cut c.self.inside.bytes _ _ c.self.invariant c.in-Some.len (subst (λ (s : List ℕ). IsParentLen s c.in-Some.len) e k) in
+    let d = parent-cut c.self.inside.bytes _ _ c.self.invariant c.in-Some.len (subst (λ (s : List ℕ). IsParentLen s c.in-Some.len) e k) in
     let at = parts c.self.inside.bytes _ _ _ c.in-Some.len c.self.invariant e k.within in
     let sub : c.len.result - (length c.path_bytes-path.result.now - c.in-Some.len) - 0 ≡ c.self.inside.places.path_start + c.in-Some.len =
     omega (arith, at, c.len.ensures.value) in
@@ -33,7 +33,7 @@ pub returns-clause-text : goal.returns-clause-text
 returns-clause-text c =
     let k = c.in-Some.ensures.some in
     let e = c.path_bytes-path.ensures ∙ ap path_of (sym c.self.view_is) in
-    let d = parent_is c.self.inside.bytes _ _ c.self.invariant c.in-Some.len (subst (λ (s : List ℕ). IsParentLen s c.in-Some.len) e k) in
+    let d = parent-is c.self.inside.bytes _ _ c.self.invariant c.in-Some.len (subst (λ (s : List ℕ). IsParentLen s c.in-Some.len) e k) in
     let at = parts c.self.inside.bytes _ _ _ c.in-Some.len c.self.invariant e k.within in
     let sub : c.len.result - (length c.path_bytes-path.result.now - c.in-Some.len) - 0 ≡ c.self.inside.places.path_start + c.in-Some.len =
     omega (arith, at, c.len.ensures.value) in
@@ -43,7 +43,7 @@ returns-clause-text c =
 
 pub overflow_sub-len : goal.overflow_sub-len
 overflow_sub-len c =
-    let facts = cut_facts _ _ _ c.self.invariant in
+    let facts = cut-facts _ _ _ c.self.invariant in
     let e = c.path_bytes-path.ensures ∙ ap path_of (sym c.self.view_is) in
     let l = ap length (e ∙ facts.path_is) ∙ length-drop c.self.inside.places.path_start c.self.inside.bytes in
     omega (arith, c.len.ensures.value, l)
@@ -56,7 +56,7 @@ meaning : (c : goal.In_ok-bytes) → Some (uri_of c.in_ok-bytes.bytes) ≡ paren
 meaning c =
     let k = c.in-Some.ensures.some in
     let e = c.path_bytes-path.ensures ∙ ap path_of (sym c.self.view_is) in
-    let d = parent_meaning c.self.inside.bytes _ _ c.self.invariant c.in-Some.len (subst (λ (s : List ℕ). IsParentLen s c.in-Some.len) e k) in
+    let d = parent-meaning c.self.inside.bytes _ _ c.self.invariant c.in-Some.len (subst (λ (s : List ℕ). IsParentLen s c.in-Some.len) e k) in
     let at = parts c.self.inside.bytes _ _ _ c.in-Some.len c.self.invariant e k.within in
     let sub : c.len.result - (length c.path_bytes-path.result.now - c.in-Some.len) - 0 ≡ c.self.inside.places.path_start + c.in-Some.len =
     omega (arith, at, c.len.ensures.value) in
@@ -75,4 +75,4 @@ pub returns-clause-there : goal.returns-clause-there
 returns-clause-there c = ap is_some (meaning c) ∙ parent-there (uri_of c.args.self.now)
 
 pub returns-clause-above : goal.returns-clause-above
-returns-clause-above c = parent_text c.in_ok-bytes.bytes c.args.self.now _ (c.in_ok-bytes.ensures.ok ∙ ap (take _) c.self.view_is) (meaning c)
+returns-clause-above c = parent-text c.in_ok-bytes.bytes c.args.self.now _ (c.in_ok-bytes.ensures.ok ∙ ap (take _) c.self.view_is) (meaning c)

@@ -1,13 +1,13 @@
 use Rattle.std.proofs.Common.{◌≡◌, List, ℕ, sym, ap, ◌∙◌, subst}
 use Rattle.rpki_text.specs.Segments.{is_dir, with_slash}
 use Rattle.rpki_text.specs.RsyncText.{IsCut, path_of}
-use Rattle.rpki_text.proofs.JoinLaws.{cut_dir, is_dir-text, with_slash-dir}
+use Rattle.rpki_text.proofs.JoinLaws.{cut-dir, is_dir-text, with_slash-dir}
 use Rattle.rpki_text.proofs.MeaningLaws.{into_dir-begins, into_dir-meaning, into_dir-same}
 use Rattle.rpki_text.proofs.uri.rsync.Rsync.path_into_dir.Goals as goal
 
 pub invariant_of-self : goal.invariant_of-self
 invariant_of-self c =
-    let d = cut_dir c.self.inside.bytes _ _ c.self.invariant in
+    let d = cut-dir c.self.inside.bytes _ _ c.self.invariant in
     subst (λ (b : List ℕ). IsCut b c.self.inside.places.module_start c.self.inside.places.path_start) (sym (c.in_ok-bytes.ensures ∙ ap with_slash (sym c.self.view_is))) d
 
 pub returns-then-path_is_dir-clause-ok : goal.returns-then-path_is_dir-clause-ok

@@ -1,5 +1,5 @@
-use Rattle.rpki_text.proofs.PlaceLaws.{authority_at}
+use Rattle.rpki_text.proofs.PlaceLaws.{authority-at}
 use Rattle.rpki_text.proofs.uri.rsync_view.RsyncView.authority_range.Goals as goal
 
 pub returns : goal.returns
-returns c = authority_at _ _ _ c.args.self.now.cut
+returns c = authority-at _ _ _ c.args.self.now.cut

@@ -2,17 +2,17 @@ use Rattle.std.proofs.Common.{rules, ◌≡◌, ◌≤◌, ◌+◌, ◌-◌, ℕ
 use Rattle.std.proofs.lemmas.List.{length-drop}
 use Rattle.rpki_text.specs.Segments.{IsParentLen}
 use Rattle.rpki_text.specs.RsyncText.{IsCut, path_of}
-use Rattle.rpki_text.proofs.CutLaws.{cut_facts}
-use Rattle.rpki_text.proofs.JoinLaws.{parent_is, parent_none}
+use Rattle.rpki_text.proofs.CutLaws.{cut-facts}
+use Rattle.rpki_text.proofs.JoinLaws.{parent-is, parent-none}
 use Rattle.rpki_text.proofs.uri.rsync_view.RsyncView.parent_len.Goals as goal
 
 pub returns-in_err-len-clause-none : goal.returns-in_err-len-clause-none
-returns-in_err-len-clause-none c = rw c.from_residual.ensures (parent_none _ (sym c.path.ensures ∙ sym c.as_bytes.ensures.value ∙ c.in_err-len.ensures.none))
+returns-in_err-len-clause-none c = rw c.from_residual.ensures (parent-none _ (sym c.path.ensures ∙ sym c.as_bytes.ensures.value ∙ c.in_err-len.ensures.none))
 
 -- the parent ends within the text
 within : (t path : List ℕ) (m p n : ℕ) → IsCut t m p → path ≡ path_of t → n ≤ length path → p + n ≤ length t
 within t path m p n c e h =
-    let facts = cut_facts t m p c in
+    let facts = cut-facts t m p c in
     let size : length path ≡ length t - p = ap length (e ∙ facts.path_is) ∙ length-drop p t in
     omega (arith, facts.fits)
 
@@ -27,5 +27,5 @@ returns-clause-within c = within _ _ _ _ _ c.args.self.now.cut (c.as_bytes.ensur
 
 pub returns-clause-some : goal.returns-clause-some
 returns-clause-some c =
-    parent_is _ _ _ c.args.self.now.cut c.in_ok-len.len
+    parent-is _ _ _ c.args.self.now.cut c.in_ok-len.len
     (subst (λ (s : List ℕ). IsParentLen s c.in_ok-len.len) (c.as_bytes.ensures.value ∙ c.path.ensures) c.in_ok-len.ensures.some)

@@ -1,19 +1,19 @@
 use Rattle.std.proofs.Common.{◌≡◌, ℕ, ◌+◌, List, Option, Some, None, IfSome, drop, sym, ap, ◌∙◌}
 use Rattle.std.specs.Borrow.{Bor}
 use Rattle.std.proofs.lemmas.List.{drop-drop}
-use Rattle.rpki_text.proofs.CutLaws.{cut_facts}
-use Rattle.rpki_text.proofs.JoinLaws.{head_of, path_names}
-use Rattle.rpki_text.proofs.RelativeLaws.{relative-other_module}
+use Rattle.rpki_text.proofs.CutLaws.{cut-facts}
+use Rattle.rpki_text.proofs.JoinLaws.{head-of, path-names}
+use Rattle.rpki_text.proofs.RelativeLaws.{relative-other-module}
 use Rattle.rpki_text.proofs.BelowLaws.{relative-path_left}
 use Rattle.rpki_text.proofs.uri.rsync_view.RsyncView.path_from.Goals as goal
 
 pub returns-then-not-has_module_of-clause-path : goal.returns-then-not-has_module_of-clause-path
-returns-then-not-has_module_of-clause-path c = sym (relative-other_module _ _ (sym c.has_module_of.ensures ∙ c.if-not-has_module_of.true))
+returns-then-not-has_module_of-clause-path c = sym (relative-other-module _ _ (sym c.has_module_of.ensures ∙ c.if-not-has_module_of.true))
 
 pub path_below-requires : goal.path_below-requires
 path_below-requires c =
     let cut = c.args.base.now.cut in
-    rw (c.as_bytes-2.ensures.value, c.path-2.ensures) (path_names _ _ _ cut (head_of _ _ _ cut))
+    rw (c.as_bytes-2.ensures.value, c.path-2.ensures) (path-names _ _ _ cut (head-of _ _ _ cut))
 
 pub returns-clause-path : goal.returns-clause-path
 returns-clause-path c =
@@ -27,5 +27,5 @@ ends (Some p) path t k e (n, h) = (k + n, h ∙ ap (drop n) e ∙ drop-drop n k 
 
 pub returns-clause-tail : goal.returns-clause-tail
 returns-clause-tail c =
-    let facts = cut_facts _ _ _ c.args.self.now.cut in
+    let facts = cut-facts _ _ _ c.args.self.now.cut in
     ends c.path_below.result _ c.args.self.now.text.now _ (c.as_bytes.ensures.value ∙ c.path.ensures ∙ facts.path_is) c.path_below.ensures.tail

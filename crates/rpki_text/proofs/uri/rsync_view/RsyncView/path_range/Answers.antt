@@ -1,5 +1,5 @@
-use Rattle.rpki_text.proofs.PlaceLaws.{path_at}
+use Rattle.rpki_text.proofs.PlaceLaws.{path-at}
 use Rattle.rpki_text.proofs.uri.rsync_view.RsyncView.path_range.Goals as goal
 
 pub returns-clause-path : goal.returns-clause-path
-returns-clause-path c = path_at _ _ _ c.args.self.now.cut
+returns-clause-path c = path-at _ _ _ c.args.self.now.cut

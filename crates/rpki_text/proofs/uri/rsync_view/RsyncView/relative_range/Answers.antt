@@ -1,10 +1,10 @@
 use Rattle.std.proofs.Common.{sym}
-use Rattle.rpki_text.proofs.PlaceLaws.{end_at}
+use Rattle.rpki_text.proofs.PlaceLaws.{end-at}
 use Rattle.rpki_text.proofs.uri.rsync_view.RsyncView.relative_range.Goals as goal
 
 pub returns-clause-some : goal.returns-clause-some
 returns-clause-some c = record {
   path = c.in_ok-path.path.now;
   leads = sym c.in_ok-path.ensures.path;
-  stands = end_at c.args.self.now.text.now c.in_ok-path.path.now c.in_ok-path.ensures.tail.0 c.in_ok-path.ensures.tail.1;
+  stands = end-at c.args.self.now.text.now c.in_ok-path.path.now c.in_ok-path.ensures.tail.0 c.in_ok-path.ensures.tail.1;
 }

@@ -5,7 +5,7 @@ use Rattle.std.specs.Slice.Iter.{chunks_rest}
 use Rattle.base64.specs.Engines.{url_safe_no_pad_indifferent}
 use Rattle.base64.specs.GeneralPurpose.{encode_of}
 use Rattle.base64.proofs.EngineFacts.{encoded_prefix}
-use Rattle.rpki_text.proofs.Base64Laws.{chunk_first, appends_append, appends_taken, all_encoded}
+use Rattle.rpki_text.proofs.Base64Laws.{chunk-first, appends-append, appends-taken, all-encoded}
 use Rattle.rpki_text.proofs.util.base_64.Slurm.write_encoded_slice.Goals as goal
 
 pub loop-chunk-preserved : goal.loop-chunk-preserved
@@ -20,12 +20,12 @@ loop-chunk-preserved g c =
       search rules,
       tt,
       steps.0 ∙ size,
-      (so_far.0 ++ encode_of e chunk, appends_append _ _ _ so_far.0 (encode_of e chunk) so_far.1 (appends_taken _ _ c.encode_slice.new.output (encode_of e chunk) c.in-Ok.len _ text (omega arith) c.in_ok-write_whole.ensures), append_assoc so_far.0 _ _ ∙ ap (λ (t : List ℕ). so_far.0 ++ t) (chunk_first e _ chunk (chunks_rest c.next.new.self) steps.1.0 (rw size at steps.1.1)) ∙ so_far.2),
+      (so_far.0 ++ encode_of e chunk, appends-append _ _ _ so_far.0 (encode_of e chunk) so_far.1 (appends-taken _ _ c.encode_slice.new.output (encode_of e chunk) c.in-Ok.len _ text (omega arith) c.in_ok-write_whole.ensures), append_assoc so_far.0 _ _ ∙ ap (λ (t : List ℕ). so_far.0 ++ t) (chunk-first e _ chunk (chunks_rest c.next.new.self) steps.1.0 (rw size at steps.1.1)) ∙ so_far.2),
     )
 
 pub returns : goal.returns
 returns g c =
     let so_far = c.loop-chunk.invariant.3 in
     let none = nil_from_length _ c.in-None.ensures.steps.1.0 in
-    let all = all_encoded url_safe_no_pad_indifferent so_far.0 c.args.bytes.now _ none so_far.2 in
+    let all = all-encoded url_safe_no_pad_indifferent so_far.0 c.args.bytes.now _ none so_far.2 in
     subst (λ (t : List ℕ). Appends (g.W.Write.contents c.args.target.now) (g.W.Write.contents c.loop-chunk.target) t) all so_far.1

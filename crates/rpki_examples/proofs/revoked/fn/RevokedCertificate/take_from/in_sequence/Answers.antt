@@ -7,7 +7,7 @@ use Rattle.rpki_der.proofs.LeavesLaws.{leaf-no-memory}
 use Rattle.rpki.proofs.TwoPartsLaws.{both-read, no-first, no-second}
 use Rattle.rpki_time.specs.Serial.{IsSerialContents, SpellsSerial}
 use Rattle.rpki_time.specs.TimeValue.{SpellsTime}
-use Rattle.rpki_examples.proofs.PartLaws.{time_no_memory, both_same}
+use Rattle.rpki_examples.proofs.PartLaws.{time-no-memory, both-same}
 use Rattle.rpki_examples.proofs.revoked.fn.RevokedCertificate.take_from.in_sequence.Goals as goal
 
 pub returns-in-Err : goal.returns-in-Err
@@ -24,7 +24,7 @@ returns-in-Err-take_from c =
     let m = left c.take_from.new.cons in
     let e = c.in-Err-take_from.e in (
       UnlessMemory-weaker e (λ none v k. no-second SpellsSerial SpellsTime s m _ c.in-Ok.ensures (nothing-whole SpellsTime m none) v.0 v.1 k) c.in-Err-take_from.ensures.refuses,
-      record { other = time_no_memory m e c.in-Err-take_from.ensures.kind; kind = tt },
+      record { other = time-no-memory m e c.in-Err-take_from.ensures.kind; kind = tt },
     )
 
 pub returns : goal.returns
@@ -34,6 +34,6 @@ returns c =
     let b = c.in-Ok-take_from.ensures in (
       λ end.
           let k = both-read SpellsSerial SpellsTime s _ _ _ a (all-read SpellsTime _ _ _ b end) in
-          (k.0, λ w h. let q = k.1 w.0 w.1 h in both_same w.0 c.in-Ok.serial w.1 c.in-Ok-take_from.date q.0 q.1),
+          (k.0, λ w h. let q = k.1 w.0 w.1 h in both-same w.0 c.in-Ok.serial w.1 c.in-Ok-take_from.date q.0 q.1),
       λ some v k. no-second SpellsSerial SpellsTime s _ _ a (nothing-after SpellsTime _ _ _ b some) v.0 v.1 k,
     )
