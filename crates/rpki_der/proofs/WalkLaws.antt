@@ -28,14 +28,42 @@ no-memory fault = kinds (fault-kinds fault)
     kinds (inr (inl e)) = cc e
     kinds (inr (inr e)) = cc e
 
+pub capture-fault : {s : List ℕ} {e : DecodeError} → s ≢ [] → IsCaptureFault s e → IsNestedFault s e
+capture-fault some (inl z) = absurd (some z.0)
+capture-fault some (inr f) = f
+
 -- a fault, or allocation failure where P holds
-refusal-of : (P : List ℕ → Type 0) (s : List ℕ) (e : DecodeError) → ((e ≡ OutOfMemory) × P s) ⊎ IsNestedFault s e → Refusal SpellsValue (OrMemoryWhere P IsNestedFault) s s e
-refusal-of P s e (inl z) = subst (λ (x : DecodeError). Refusal SpellsValue (OrMemoryWhere P IsNestedFault) s s x) (sym z.0) (record { unchanged = refl; refuses = tt; kind = z.1 })
-refusal-of P s e (inr f) = Refusal-or-memory-where P IsNestedFault s s e (λ k. absurd (no-memory k)) (record { unchanged = refl; refuses = UnlessMemory-from e (no-value f); kind = f })
+pub refusal-of : (P : List ℕ → Type 0) (s : List ℕ) (e : DecodeError) → ((e ≡ OutOfMemory) × P s) ⊎ IsNestedFault s e → Refusal SpellsValue (OrMemoryWhere P IsCaptureFault) s s e
+refusal-of P s e (inl z) = subst (λ (x : DecodeError). Refusal SpellsValue (OrMemoryWhere P IsCaptureFault) s s x) (sym z.0) (record { unchanged = refl; refuses = tt; kind = z.1 })
+refusal-of P s e (inr f) = Refusal-or-memory-where P IsCaptureFault s s e (λ k. absurd (none k)) (record { unchanged = refl; refuses = UnlessMemory-from e (no-value f); kind = inr f })
+  where
+    none : IsCaptureFault s OutOfMemory → ⊥
+    none (inl z) = let x = z.1 in cc x
+    none (inr g) = no-memory g
+
+-- an error is the fault, or allocation failure
+pub error-named : {A : Type 0} (P : List ℕ → Type 0) (s : List ℕ) (d : DecodeError) → ((d ≡ OutOfMemory) × P s) ⊎ IsNestedFault s d → s ≢ [] → (e : DecodeError) → IsCaptureFault s e
+    → (◌≡◌ {A = Result A DecodeError} (Err d) (Err OutOfMemory)) ⊎ (◌≡◌ {A = Result A DecodeError} (Err d) (Err e))
+error-named P s d (inl h) some e f = inl (ap (λ (x : DecodeError). Err x) h.0)
+error-named P s d (inr h) some e f = inr (ap (λ (x : DecodeError). Err x) (one-fault h (capture-fault some f) refl))
+
+-- an error that is passed on
+pub error-passed : {A B : Type 0} {d e : DecodeError} → (◌≡◌ {A = Result A DecodeError} (Err d) (Err OutOfMemory)) ⊎ (◌≡◌ {A = Result A DecodeError} (Err d) (Err e))
+    → (◌≡◌ {A = Result B DecodeError} (Err d) (Err OutOfMemory)) ⊎ (◌≡◌ {A = Result B DecodeError} (Err d) (Err e))
+error-passed (inl z) = inl cc
+error-passed (inr z) = inr cc
+
+pub no-error : {A : Type 0} {x : A} {e : DecodeError} → (◌≡◌ {A = Result A DecodeError} (Ok x) (Err OutOfMemory)) ⊎ (◌≡◌ {A = Result A DecodeError} (Ok x) (Err e)) → ⊥
+no-error (inl z) = cc z
+no-error (inr z) = cc z
+
+-- where a value begins, nothing is wrong
+pub value-faultless : (s : List ℕ) (m k : ℕ) (e : DecodeError) → IsValueOf m (take k s) → s ≢ [] → IsCaptureFault s e → ⊥
+value-faultless s m k e a some f = fault-or-value (drop k s) (capture-fault some f) a.0 (sym (take-append-drop k s))
 
 module _ (P : List ℕ → Type 0) (r : Result ℕ DecodeError) (s : List ℕ) (m : ℕ) (within : IfOk r (λ k. k ≤ length s)) (accepted : IfOk r (λ k. IsValueOf m (take k s))) (refused : IfErr r (λ e. ((e ≡ OutOfMemory) × P s) ⊎ IsNestedFault s e)) where
-  pub front_accepted : IfOk r (λ k. Accepts SpellsValue s (take k s) (drop k s))
-  front_accepted = go r within accepted
+  pub front-accepted : IfOk r (λ k. Accepts SpellsValue s (take k s) (drop k s))
+  front-accepted = go r within accepted
     where
       go : (r : Result ℕ DecodeError) → IfOk r (λ k. k ≤ length s) → IfOk r (λ k. IsValueOf m (take k s)) → IfOk r (λ k. Accepts SpellsValue s (take k s) (drop k s))
       go (Ok k) w a = record {
@@ -48,27 +76,26 @@ module _ (P : List ℕ → Type 0) (r : Result ℕ DecodeError) (s : List ℕ) (
       }
       go (Err e) w a = tt
 
-  pub front_counted : IfOk r (λ k. CountsHeaders s (drop k s) m)
-  front_counted = go r accepted
+  pub front-counted : IfOk r (λ k. CountsHeaders s (drop k s) m)
+  front-counted = go r accepted
     where
       go : (r : Result ℕ DecodeError) → IfOk r (λ k. IsValueOf m (take k s)) → IfOk r (λ k. CountsHeaders s (drop k s) m)
       go (Ok k) a = record { value = take k s; parts = sym (take-append-drop k s); headers = a; half = half-of (take k s) m a }
       go (Err e) a = tt
 
-  pub front_refused : IfErr r (λ e. Refusal SpellsValue (OrMemoryWhere P IsNestedFault) s s e)
-  front_refused = go r refused
+  pub front-refused : IfErr r (λ e. Refusal SpellsValue (OrMemoryWhere P IsCaptureFault) s s e)
+  front-refused = go r refused
     where
-      go : (r : Result ℕ DecodeError) → IfErr r (λ e. ((e ≡ OutOfMemory) × P s) ⊎ IsNestedFault s e) → IfErr r (λ e. Refusal SpellsValue (OrMemoryWhere P IsNestedFault) s s e)
+      go : (r : Result ℕ DecodeError) → IfErr r (λ e. ((e ≡ OutOfMemory) × P s) ⊎ IsNestedFault s e) → IfErr r (λ e. Refusal SpellsValue (OrMemoryWhere P IsCaptureFault) s s e)
       go (Ok k) f = tt
       go (Err e) f = refusal-of P s e f
 
-  pub fault_named : (e : DecodeError) → IsNestedFault s e → (r ≡ Err OutOfMemory) ⊎ (r ≡ Err e)
-  fault_named e f = go r accepted refused
+  pub fault-named : s ≢ [] → (e : DecodeError) → IsCaptureFault s e → (r ≡ Err OutOfMemory) ⊎ (r ≡ Err e)
+  fault-named some e f = go r accepted refused
     where
       go : (r : Result ℕ DecodeError) → IfOk r (λ k. IsValueOf m (take k s)) → IfErr r (λ d. ((d ≡ OutOfMemory) × P s) ⊎ IsNestedFault s d) → (r ≡ Err OutOfMemory) ⊎ (r ≡ Err e)
-      go (Ok k) a g = absurd (fault-or-value (drop k s) f a.0 (sym (take-append-drop k s)))
-      go (Err d) a (inl h) = inl (ap (λ (x : DecodeError). Err x) h.0)
-      go (Err d) a (inr h) = inr (ap (λ (x : DecodeError). Err x) (one-fault h f refl))
+      go (Ok k) a g = absurd (value-faultless s m k e a some f)
+      go (Err d) a g = error-named P s d g some e f
 
 -- ---- one value, whichever
 
@@ -81,8 +108,17 @@ any-accepted {s} {v} {r} a = record {
   only = λ w q sp. (refl, (a.only sp.front q (value-of-any sp)).1);
 }
 
-pub any-refused : {K : List ℕ → DecodeError → Type 0} {s r : List ℕ} {e : DecodeError} → Refusal SpellsValue K s r e → Refusal SpellsAnyValue K s r e
-any-refused = Refusal-weaker (λ none v q sp. none sp.front q (value-of-any sp)) (λ k. k)
+pub any-refused : {P : List ℕ → Type 0} {s r : List ℕ} {e : DecodeError} → s ≢ [] → Refusal SpellsValue (OrMemoryWhere P IsCaptureFault) s r e → Refusal SpellsAnyValue (OrMemoryWhere P IsNestedFault) s r e
+any-refused {P} {s} {r} {e} some h = Refusal-weaker (λ none v q sp. none sp.front q (value-of-any sp)) (kind e) h
+  where
+    kind : (e : DecodeError) → OrMemoryWhere P IsCaptureFault s e → OrMemoryWhere P IsNestedFault s e
+    kind Truncated k = capture-fault some k
+    kind BadTag k = capture-fault some k
+    kind BadLength k = capture-fault some k
+    kind Unexpected k = capture-fault some k
+    kind (Content x) k = capture-fault some k
+    kind Trailing k = capture-fault some k
+    kind OutOfMemory k = k
 
 -- what a value begins is something
 pub some-left : {s v r : List ℕ} → Accepts SpellsValue s v r → s ≢ []
@@ -111,18 +147,6 @@ has-either {s} {v} {r} a = go value.members value.legal value.spelled (omega (ar
 pub capture-memory : {s v r : List ℕ} → Accepts SpellsValue s v r → Refusal SpellsValue (OrMemoryWhere HasEither IsCaptureFault) s s OutOfMemory
 capture-memory a = record { unchanged = refl; refuses = tt; kind = has-either a }
 
-pub capture-refused : {s r : List ℕ} {e : DecodeError} → Refusal SpellsValue (OrMemoryWhere HasEither IsNestedFault) s r e → Refusal SpellsValue (OrMemoryWhere HasEither IsCaptureFault) s r e
-capture-refused {s} {r} {e} h = Refusal-weaker (λ none. none) (kind e) h
-  where
-    kind : (e : DecodeError) → OrMemoryWhere HasEither IsNestedFault s e → OrMemoryWhere HasEither IsCaptureFault s e
-    kind Truncated k = inr k
-    kind BadTag k = inr k
-    kind BadLength k = inr k
-    kind Unexpected k = inr k
-    kind (Content x) k = inr k
-    kind Trailing k = inr k
-    kind OutOfMemory k = k
-
 -- nothing is left, wherever allocation may fail
 pub capture-nothing : (P : List ℕ → Type 0) (s : List ℕ) → s ≡ [] → Refusal SpellsValue (OrMemoryWhere P IsCaptureFault) s s Truncated
 capture-nothing P s z = record {
@@ -130,10 +154,6 @@ capture-nothing P s z = record {
   refuses = λ v r sp. omega (arith, value-some sp.spelled.value, ap length (sym z ∙ value-parts sp), length-append v r);
   kind = inl (z, refl);
 }
-
-pub capture-fault : {s : List ℕ} {e : DecodeError} → s ≢ [] → IsCaptureFault s e → IsNestedFault s e
-capture-fault some (inl z) = absurd (some z.0)
-capture-fault some (inr f) = f
 
 pub nothing-fault : {s : List ℕ} {e : DecodeError} → s ≡ [] → IsCaptureFault s e → e ≡ Truncated
 nothing-fault none (inl z) = z.1

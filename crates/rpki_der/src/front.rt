@@ -13,7 +13,7 @@ use crate::error::DecodeError;
 use crate::header::header;
 use crate::index::HeaderEntry;
 use crate::tag::{Header, Steps};
-use crate::walk::walk_front;
+use crate::walk::walk_value;
 use std::alloc::Global;
 
 /// The header at the front (X.690 8.1.2, 8.1.3), and how many octets it takes. Allocates nothing.
@@ -37,6 +37,7 @@ pub fn read_header(octets: &[u8]) -> Result<(Header, usize), DecodeError>
 ///
 /// The errors are those of [Constructed::walk](crate::Constructed::walk), and `Truncated` if there are no octets.
 /// Returns `OutOfMemory` only if a constructed value begins the octets.
+#[inline(always)]
 pub fn walk_octets(alloc: Global, octets: &[u8], steps: &mut Steps) -> Result<usize, DecodeError>
     requires room { steps.old + length octets.now < 2 ^ 64 }
     ensures within { IfOk result (λ n. n ≤ length octets.now) }
@@ -53,7 +54,7 @@ pub fn walk_octets(alloc: Global, octets: &[u8], steps: &mut Steps) -> Result<us
     if octets.is_empty() {
         return Err(DecodeError::Truncated);
     }
-    walk_front(alloc, octets, false, &mut Vec::new(alloc), steps)
+    walk_value(alloc, octets, 0, false, &mut Vec::new(alloc), steps)
 }
 
 /// How many octets the value at the front takes, and its index: an entry for each header, at every depth, in order of
@@ -74,8 +75,6 @@ pub fn index_octets(alloc: Global, octets: &[u8]) -> Result<(usize, Vec<HeaderEn
         return Err(DecodeError::Truncated);
     }
     let mut index = Vec::new(alloc);
-    match walk_front(alloc, octets, true, &mut index, &mut Steps::new()) {
-        Ok(size) => Ok((size, index)),
-        Err(e) => Err(e),
-    }
+    let size = walk_value(alloc, octets, 0, true, &mut index, &mut Steps::new())?;
+    Ok((size, index))
 }

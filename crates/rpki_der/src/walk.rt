@@ -15,6 +15,7 @@ ghost use Rattle.rpki_der.specs.IndexParts.{IsListed, IsEnd, noted, name_of};
 use crate::captured::Captured;
 use crate::cursor::Constructed;
 use crate::error::DecodeError;
+use crate::front::{index_octets, walk_octets};
 use crate::header::header;
 use crate::index::HeaderEntry;
 use crate::tag::{Header, Steps};
@@ -134,31 +135,6 @@ pub(crate) fn walk_value(
     Ok(place)
 }
 
-/// As [walk_value], with its contract in the terms of a reader.
-#[inline(always)]
-pub(crate) fn walk_front(
-    alloc: Global,
-    octets: &[u8],
-    keep: bool,
-    entries: &mut Vec<HeaderEntry>,
-    steps: &mut Steps,
-) -> Result<usize, DecodeError>
-    requires some { 0 < length octets.now }
-    requires room { steps.old + length octets.now < 2 ^ 64 }
-    ensures within { IfOk result (λ n. n ≤ length octets.now) }
-    ensures accepted { IfOk result (λ n. Accepts SpellsValue octets.now (take n octets.now) (drop n octets.now)) }
-    ensures refused { IfErr result (λ e. Refusal SpellsValue
-        (OrMemoryWhere (TakesMemory keep) IsNestedFault) octets.now octets.now e) }
-    ensures fault { (e : DecodeError) → IsNestedFault octets.now e
-        → (result ≡ Err DecodeError.OutOfMemory) ⊎ (result ≡ Err e) }
-    ensures raised { steps.old ≤ steps.new }
-    ensures counted { IfOk result (λ n. CountsHeaders octets.now (drop n octets.now) (steps.new - steps.old)) }
-    ensures bound { OnErr result (2 * (steps.new - steps.old) ≤ length octets.now + 2) }
-    ensures kept { keep ≡ true → IfOk result (λ n. IsListed 0 entries.old.items (take n octets.now) entries.new.items) }
-{
-    walk_value(alloc, octets, 0, keep, entries, steps)
-}
-
 impl<'a> Constructed<'a> {
     ghost use Rattle.rpki_der.specs.Cursor.{left};
 
@@ -187,7 +163,7 @@ impl<'a> Constructed<'a> {
         if octets.is_empty() {
             return Ok(None);
         }
-        let size = walk_front(alloc, octets, false, &mut Vec::new(alloc), steps)?;
+        let size = walk_octets(alloc, octets, steps)?;
         let (_, following) = self.split_at(size);
         *self = following;
         Ok(Some(()))
@@ -216,12 +192,7 @@ impl<'a> Constructed<'a> {
         ensures fault { (e : DecodeError) → IsCaptureFault (left self.old) e
             → (result ≡ Err DecodeError.OutOfMemory) ⊎ (result ≡ Err e) }
     {
-        let octets = self.rest();
-        if octets.is_empty() {
-            return Err(DecodeError::Truncated);
-        }
-        let mut index = Vec::new(alloc);
-        let size = walk_front(alloc, octets, true, &mut index, &mut Steps::new())?;
+        let (size, index) = index_octets(alloc, self.rest())?;
         let (value, following) = self.split_at(size);
         let bytes = value.to_bytes()?;
         *self = following;
