@@ -11,7 +11,7 @@ use rpki_der::{Constructed, ContentError, DecodeError};
 use std::alloc::{AllocError, Global};
 use std::test::Fail;
 
-#[derive(Clone, Copy, Debug)]
+#[derive(Clone, Copy)]
 enum Reader {
     Digest,
     OptionalDigest,
@@ -82,60 +82,187 @@ pub(super) const BGPSEC: &[u8] = b"\x30\x0A\x06\x08\x2A\x86\x48\xCE\x3D\x04\x03\
 
 const BGPSEC_WITH_NULL: &[u8] = b"\x30\x0C\x06\x08\x2A\x86\x48\xCE\x3D\x04\x03\x02\x05\x00";
 
-const READINGS: &[(Reader, &[u8], (Outcome, usize))] = &[
-    (Reader::Digest, DIGEST, (Outcome::Read, 0)),
-    (Reader::Digest, DIGEST_WITH_NULL, (Outcome::Read, 0)),
-    (Reader::Digest, RSA_KEY, (Outcome::Content, 15)),
-    (Reader::OptionalDigest, DIGEST, (Outcome::Read, 0)),
-    (Reader::OptionalDigest, DIGEST_NAME, (Outcome::Read, 11)),
+const READINGS: &[(&str, Reader, &[u8], (Outcome, usize))] = &[
+    ("digest", Reader::Digest, DIGEST, (Outcome::Read, 0)),
     (
+        "digest with NULL",
+        Reader::Digest,
+        DIGEST_WITH_NULL,
+        (Outcome::Read, 0),
+    ),
+    (
+        "RSA key for a digest",
+        Reader::Digest,
+        RSA_KEY,
+        (Outcome::Content, 15),
+    ),
+    (
+        "optional digest",
+        Reader::OptionalDigest,
+        DIGEST,
+        (Outcome::Read, 0),
+    ),
+    (
+        "no digest",
+        Reader::OptionalDigest,
+        DIGEST_NAME,
+        (Outcome::Read, 11),
+    ),
+    (
+        "primitive SEQUENCE for a digest",
         Reader::OptionalDigest,
         b"\x10\x00",
         (Outcome::Unexpected, 2),
     ),
-    (Reader::DigestSet, DIGEST_SET, (Outcome::Read, 0)),
-    (Reader::DigestSet, b"\x30\x00", (Outcome::Unexpected, 2)),
-    (Reader::SkippedSet, DIGEST_SET, (Outcome::Read, 0)),
-    (Reader::SkippedSet, b"\x31\x00", (Outcome::Truncated, 2)),
-    (Reader::SkippedSet, DIGEST_TWICE, (Outcome::Trailing, 28)),
-    (Reader::DigestName, DIGEST_NAME, (Outcome::Read, 0)),
-    (Reader::DigestName, DIGEST, (Outcome::Unexpected, 13)),
-    (Reader::Format, RSA_KEY, (Outcome::Read, 0)),
-    (Reader::Format, RSA_KEY_WITHOUT, (Outcome::Read, 0)),
-    (Reader::Format, P256_KEY, (Outcome::Read, 0)),
-    (Reader::Format, CURVE_MISSING, (Outcome::Truncated, 11)),
-    (Reader::Format, BGPSEC, (Outcome::Content, 12)),
-    (Reader::Format, b"\x31\x00", (Outcome::Unexpected, 2)),
-    (Reader::Format, b"\x30\x81\x00", (Outcome::BadLength, 3)),
-    (Reader::Rpki, RSA_SIGNATURE, (Outcome::Read, 0)),
-    (Reader::Rpki, RSA_SIGNATURE_WITHOUT, (Outcome::Read, 0)),
-    (Reader::Rpki, RSA_KEY, (Outcome::Content, 15)),
-    (Reader::Cms, RSA_KEY, (Outcome::Read, 0)),
-    (Reader::Cms, RSA_KEY_WITHOUT, (Outcome::Read, 0)),
-    (Reader::Cms, RSA_SIGNATURE, (Outcome::Read, 0)),
-    (Reader::Cms, RSA_SIGNATURE_WITHOUT, (Outcome::Read, 0)),
-    (Reader::Cms, BGPSEC, (Outcome::Content, 12)),
-    (Reader::Bgpsec, BGPSEC, (Outcome::Read, 0)),
-    (Reader::Bgpsec, BGPSEC_WITH_NULL, (Outcome::Trailing, 14)),
-    (Reader::Bgpsec, RSA_SIGNATURE, (Outcome::Content, 15)),
+    (
+        "set of digests",
+        Reader::DigestSet,
+        DIGEST_SET,
+        (Outcome::Read, 0),
+    ),
+    (
+        "SEQUENCE for a set of digests",
+        Reader::DigestSet,
+        b"\x30\x00",
+        (Outcome::Unexpected, 2),
+    ),
+    (
+        "skipped set of digests",
+        Reader::SkippedSet,
+        DIGEST_SET,
+        (Outcome::Read, 0),
+    ),
+    (
+        "empty skipped set",
+        Reader::SkippedSet,
+        b"\x31\x00",
+        (Outcome::Truncated, 2),
+    ),
+    (
+        "skipped set of two digests",
+        Reader::SkippedSet,
+        DIGEST_TWICE,
+        (Outcome::Trailing, 28),
+    ),
+    (
+        "name of a digest",
+        Reader::DigestName,
+        DIGEST_NAME,
+        (Outcome::Read, 0),
+    ),
+    (
+        "SEQUENCE for the name of a digest",
+        Reader::DigestName,
+        DIGEST,
+        (Outcome::Unexpected, 13),
+    ),
+    ("RSA key", Reader::Format, RSA_KEY, (Outcome::Read, 0)),
+    (
+        "RSA key without NULL",
+        Reader::Format,
+        RSA_KEY_WITHOUT,
+        (Outcome::Read, 0),
+    ),
+    ("P-256 key", Reader::Format, P256_KEY, (Outcome::Read, 0)),
+    (
+        "key without a curve",
+        Reader::Format,
+        CURVE_MISSING,
+        (Outcome::Truncated, 11),
+    ),
+    (
+        "signature for a key",
+        Reader::Format,
+        BGPSEC,
+        (Outcome::Content, 12),
+    ),
+    (
+        "SET for a key",
+        Reader::Format,
+        b"\x31\x00",
+        (Outcome::Unexpected, 2),
+    ),
+    (
+        "key with a length in long form",
+        Reader::Format,
+        b"\x30\x81\x00",
+        (Outcome::BadLength, 3),
+    ),
+    (
+        "RSA signature",
+        Reader::Rpki,
+        RSA_SIGNATURE,
+        (Outcome::Read, 0),
+    ),
+    (
+        "RSA signature without NULL",
+        Reader::Rpki,
+        RSA_SIGNATURE_WITHOUT,
+        (Outcome::Read, 0),
+    ),
+    (
+        "RSA key for a signature",
+        Reader::Rpki,
+        RSA_KEY,
+        (Outcome::Content, 15),
+    ),
+    ("RSA key in CMS", Reader::Cms, RSA_KEY, (Outcome::Read, 0)),
+    (
+        "RSA key in CMS without NULL",
+        Reader::Cms,
+        RSA_KEY_WITHOUT,
+        (Outcome::Read, 0),
+    ),
+    (
+        "RSA signature in CMS",
+        Reader::Cms,
+        RSA_SIGNATURE,
+        (Outcome::Read, 0),
+    ),
+    (
+        "RSA signature in CMS without NULL",
+        Reader::Cms,
+        RSA_SIGNATURE_WITHOUT,
+        (Outcome::Read, 0),
+    ),
+    (
+        "BGPsec signature in CMS",
+        Reader::Cms,
+        BGPSEC,
+        (Outcome::Content, 12),
+    ),
+    (
+        "BGPsec signature",
+        Reader::Bgpsec,
+        BGPSEC,
+        (Outcome::Read, 0),
+    ),
+    (
+        "BGPsec signature with NULL",
+        Reader::Bgpsec,
+        BGPSEC_WITH_NULL,
+        (Outcome::Trailing, 14),
+    ),
+    (
+        "RSA signature for BGPsec",
+        Reader::Bgpsec,
+        RSA_SIGNATURE,
+        (Outcome::Content, 15),
+    ),
 ];
 
 #[test]
 fn algorithm_identifiers_are_read(rt: HostRuntime) {
-    for (reader, octets, expected) in READINGS {
-        assert_eq!(rt;
-            read(*reader, octets),
-            *expected,
-            "{reader:?} of {octets:?}"
-        );
+    for (name, reader, octets, expected) in READINGS {
+        assert_eq!(rt; read(*reader, octets), *expected, "{name}");
     }
 }
 
-const WITH_PARAMETERS: &[(&[u8], bool)] = &[
-    (RSA_KEY, true),
-    (RSA_KEY_WITHOUT, false),
-    (RSA_SIGNATURE, true),
-    (RSA_SIGNATURE_WITHOUT, false),
+const WITH_PARAMETERS: &[(&str, &[u8], bool)] = &[
+    ("RSA key", RSA_KEY, true),
+    ("RSA key without NULL", RSA_KEY_WITHOUT, false),
+    ("RSA signature", RSA_SIGNATURE, true),
+    ("RSA signature without NULL", RSA_SIGNATURE_WITHOUT, false),
 ];
 
 /// Whether what is read has parameters.
@@ -150,8 +277,8 @@ fn has_parameters(octets: &'static [u8]) -> Option<bool> {
 
 #[test]
 fn parameters_are_remembered(rt: HostRuntime) {
-    for (octets, expected) in WITH_PARAMETERS {
-        assert_eq!(rt; has_parameters(octets), Some(*expected), "{octets:?}");
+    for (name, octets, expected) in WITH_PARAMETERS {
+        assert_eq!(rt; has_parameters(octets), Some(*expected), "{name}");
     }
 }
 
@@ -230,38 +357,43 @@ fn unknown_identifiers_are_named(rt: HostRuntime) {
     }
 }
 
+/// The signing algorithm of a signature algorithm, and whether the keys of both have the same format.
+fn signing_of<A: SignatureAlgorithm>(algorithm: &A) -> (SigningAlgorithm, bool) {
+    let signing = algorithm.signing_algorithm();
+    (
+        signing,
+        signing.public_key_format() == algorithm.public_key_format(),
+    )
+}
+
 #[test]
 fn algorithms_have_formats(rt: HostRuntime) {
     let rpki = RpkiSignatureAlgorithm::default();
+    assert_eq!(rt;
+        signing_of(&rpki),
+        (SigningAlgorithm::RsaSha256, true),
+        "RPKI"
+    );
     let bgpsec = BgpsecSignatureAlgorithm::default();
-    let cases = [
-        (
-            rpki.signing_algorithm(),
-            SigningAlgorithm::RsaSha256,
-            rpki.public_key_format(),
-            true,
-        ),
-        (
-            bgpsec.signing_algorithm(),
-            SigningAlgorithm::EcdsaP256Sha256,
-            bgpsec.public_key_format(),
-            false,
-        ),
-    ];
-    for (found, expected, format, rpki_key) in cases {
-        assert_eq!(rt; found, expected, "the algorithm");
-        assert_eq!(rt; found.public_key_format(), format, "{expected:?}");
-        assert_eq!(rt;
-            format.allow_rpki_cert(),
-            rpki_key,
-            "keys of certificates, {expected:?}"
-        );
-        assert_eq!(rt;
-            format.allow_router_cert(),
-            !rpki_key,
-            "keys of routers, {expected:?}"
-        );
-    }
+    assert_eq!(rt;
+        signing_of(&bgpsec),
+        (SigningAlgorithm::EcdsaP256Sha256, true),
+        "BGPsec"
+    );
+}
+
+/// Whether certificates of the RPKI and those of routers may have the keys of a signature algorithm.
+fn allowed_keys<A: SignatureAlgorithm>(algorithm: &A) -> (bool, bool) {
+    let format = algorithm.public_key_format();
+    (format.allow_rpki_cert(), format.allow_router_cert())
+}
+
+#[test]
+fn certificates_may_have_the_keys_of_an_algorithm(rt: HostRuntime) {
+    let rpki = RpkiSignatureAlgorithm::default();
+    assert_eq!(rt; allowed_keys(&rpki), (true, false), "RPKI");
+    let bgpsec = BgpsecSignatureAlgorithm::default();
+    assert_eq!(rt; allowed_keys(&bgpsec), (false, true), "BGPsec");
 }
 
 #[test]

@@ -9,6 +9,7 @@ use crate::crypto::{
 use crate::repository::x509::SignatureValueContent;
 use bytes::Bytes;
 use rpki_der::{Constructed, PrimitiveContent, Tag};
+use std::alloc::{AllocError, Global};
 use std::cmp::Ordering;
 use std::hash::{DefaultHasher, Hash, Hasher};
 use std::test::Fail;
@@ -24,29 +25,50 @@ const MIDDLE: [u8; 20] = [
 ];
 
 /// The same but for the first or the last octet, and how they stand to it: the first octet that differs decides.
-const OTHERS: &[(u8, u8, Ordering)] = &[
-    (0x80, 0x80, Ordering::Equal),
-    (0x7F, 0x80, Ordering::Less),
-    (0x81, 0x80, Ordering::Greater),
-    (0x80, 0x7F, Ordering::Less),
-    (0x80, 0x81, Ordering::Greater),
-    (0x7F, 0x81, Ordering::Less),
-    (0x81, 0x7F, Ordering::Greater),
+const OTHERS: &[(&str, u8, u8, Ordering)] = &[
+    ("the same octets", 0x80, 0x80, Ordering::Equal),
+    ("first octet less", 0x7F, 0x80, Ordering::Less),
+    ("first octet greater", 0x81, 0x80, Ordering::Greater),
+    ("last octet less", 0x80, 0x7F, Ordering::Less),
+    ("last octet greater", 0x80, 0x81, Ordering::Greater),
+    ("first less, last greater", 0x7F, 0x81, Ordering::Less),
+    ("first greater, last less", 0x81, 0x7F, Ordering::Greater),
 ];
+
+/// The identifier of the middle but for the first and the last octet.
+fn identifier_with(first: u8, last: u8) -> KeyIdentifier {
+    let mut octets = MIDDLE;
+    octets[0] = first;
+    octets[19] = last;
+    KeyIdentifier::from(octets)
+}
+
+/// Whether it is equal to the middle, and whether it has the same hash.
+fn is_middle(other: KeyIdentifier) -> (bool, bool) {
+    let middle = KeyIdentifier::from(MIDDLE);
+    (other == middle, hash_of(&other) == hash_of(&middle))
+}
 
 #[test]
 fn identifiers_are_compared(rt: HostRuntime) {
+    for (name, first, last, order) in OTHERS {
+        let same = *order == Ordering::Equal;
+        let found = is_middle(identifier_with(*first, *last));
+        assert_eq!(rt; found, (same, same), "{name}");
+    }
+}
+
+/// How it stands to the middle, in each of the two ways to ask.
+fn order_to_middle(other: KeyIdentifier) -> (Ordering, Option<Ordering>) {
     let middle = KeyIdentifier::from(MIDDLE);
-    for (first, last, expected) in OTHERS {
-        let mut octets = MIDDLE;
-        octets[0] = *first;
-        octets[19] = *last;
-        let other = KeyIdentifier::from(octets);
-        let same = *expected == Ordering::Equal;
-        assert_eq!(rt; other == middle, same, "{other}");
-        assert_eq!(rt; other.cmp(&middle), *expected, "{other}");
-        assert_eq!(rt; other.partial_cmp(&middle), Some(*expected), "{other}");
-        assert_eq!(rt; hash_of(&other) == hash_of(&middle), same, "{other}");
+    (other.cmp(&middle), other.partial_cmp(&middle))
+}
+
+#[test]
+fn identifiers_are_ordered(rt: HostRuntime) {
+    for (name, first, last, order) in OTHERS {
+        let found = order_to_middle(identifier_with(*first, *last));
+        assert_eq!(rt; found, (*order, Some(*order)), "{name}");
     }
 }
 
@@ -63,9 +85,12 @@ fn compared(octets: &'static [u8]) -> Option<(bool, bool)> {
 
 #[test]
 fn parameters_count(rt: HostRuntime) {
-    for (octets, same) in [(RSA_SIGNATURE, true), (RSA_SIGNATURE_WITHOUT, false)] {
-        assert_eq!(rt; compared(octets), Some((same, same)), "{octets:?}");
-    }
+    assert_eq!(rt; compared(RSA_SIGNATURE), Some((true, true)), "NULL");
+    assert_eq!(rt;
+        compared(RSA_SIGNATURE_WITHOUT),
+        Some((false, false)),
+        "none"
+    );
 }
 
 #[test]
@@ -83,19 +108,25 @@ fn formats_are_compared(rt: HostRuntime) {
     }
 }
 
+/// What is written of no contents with this tag.
+fn empty_with(alloc: Global, tag: Tag) -> Result<Option<Bytes>, AllocError> {
+    written(alloc, &().encode_as(tag))
+}
+
 #[test]
 fn contents_have_tags(rt: HostRuntime) -> Result<(), Fail> {
-    let cases: [(Tag, &[u8]); 3] = [
-        (KeyIdentifier::TAG, b"\x04\x00"),
-        (PublicKeyCn::TAG, b"\x13\x00"),
+    let cases: [(&str, Tag, &[u8]); 3] = [
+        ("key identifier", KeyIdentifier::TAG, b"\x04\x00"),
+        ("name of a key", PublicKeyCn::TAG, b"\x13\x00"),
         (
+            "signature",
             <SignatureValueContent<'static, RpkiSignatureAlgorithm>>::TAG,
             b"\x03\x00",
         ),
     ];
-    for (tag, expected) in cases {
-        let octets = written(rt.alloc(), &().encode_as(tag))?.ok_or("too long")?;
-        assert_eq!(rt; octets.as_slice(), expected);
+    for (name, tag, expected) in cases {
+        let octets = empty_with(rt.alloc(), tag)?.ok_or("too long")?;
+        assert_eq!(rt; octets.as_slice(), expected, "{name}");
     }
     Ok(())
 }

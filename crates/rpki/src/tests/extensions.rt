@@ -9,6 +9,7 @@ use std::test::Fail;
 
 /// Basic constraints, key usage and no known extension, as they are spelled; their parts, and what is written of them.
 struct Read {
+    name: &'static str,
     octets: &'static [u8],
     id: &'static [u8],
     critical: bool,
@@ -17,8 +18,8 @@ struct Read {
 }
 
 const READ: [Read; 4] = [
-    // FALSE is spelled
     Read {
+        name: "FALSE that is spelled",
         octets: &[
             0x30, 0x0c, 0x06, 0x03, 0x55, 0x1d, 0x13, 0x01, 0x01, 0x00, 0x04, 0x02, 0x30, 0x00,
         ],
@@ -30,6 +31,7 @@ const READ: [Read; 4] = [
         ],
     },
     Read {
+        name: "critical basic constraints",
         octets: &[
             0x30, 0x0c, 0x06, 0x03, 0x55, 0x1d, 0x13, 0x01, 0x01, 0xff, 0x04, 0x02, 0x30, 0x00,
         ],
@@ -41,6 +43,7 @@ const READ: [Read; 4] = [
         ],
     },
     Read {
+        name: "key usage",
         octets: &[
             0x30, 0x0b, 0x06, 0x03, 0x55, 0x1d, 0x0f, 0x04, 0x04, 0x03, 0x02, 0x01, 0x06,
         ],
@@ -51,8 +54,8 @@ const READ: [Read; 4] = [
             0x30, 0x0b, 0x06, 0x03, 0x55, 0x1d, 0x0f, 0x04, 0x04, 0x03, 0x02, 0x01, 0x06,
         ],
     },
-    // octets that are no value themselves
     Read {
+        name: "octets that are no value",
         octets: &[0x30, 0x06, 0x06, 0x01, 0x2a, 0x04, 0x01, 0xff],
         id: &[0x2a],
         critical: false,
@@ -62,7 +65,7 @@ const READ: [Read; 4] = [
 ];
 
 /// Octets that no extension begins, and the number of the error.
-const REFUSED: [(&str, &[u8], Outcome); 13] = [
+const REFUSED: &[(&str, &[u8], Outcome)] = &[
     ("nothing", &[], Outcome::Truncated),
     ("SET", &[0x31, 0x00], Outcome::Unexpected),
     ("primitive SEQUENCE", &[0x10, 0x00], Outcome::Unexpected),
@@ -128,7 +131,7 @@ const REFUSED: [(&str, &[u8], Outcome); 13] = [
 ];
 
 /// How the optional reader ends.
-const OPTIONAL: [(&str, &[u8], Outcome); 6] = [
+const OPTIONAL: &[(&str, &[u8], Outcome)] = &[
     ("nothing", &[], Outcome::Absent),
     ("SET", &[0x31, 0x00], Outcome::Absent),
     ("primitive SEQUENCE", &[0x10, 0x00], Outcome::Unexpected),
@@ -175,13 +178,22 @@ fn is_read(alloc: Global, extension: &CertExtension, row: &Read) -> bool {
 #[test]
 fn extensions_are_read(rt: HostRuntime) -> Result<(), Fail> {
     for row in &READ {
-        let extension = match extension_of(rt.alloc(), row.octets) {
-            Ok(extension) => extension,
-            Err(_) => return Err("refused".into()),
-        };
-        assert!(rt; is_read(rt.alloc(), &extension, row), "{:?}", row.octets);
-        let copy = extension.clone()?;
-        assert!(rt; is_read(rt.alloc(), &copy, row), "{:?}", row.octets);
+        let extension = extension_of(rt.alloc(), row.octets)?;
+        assert!(rt; is_read(rt.alloc(), &extension, row), "{}", row.name);
+    }
+    Ok(())
+}
+
+/// A copy of the extension that these octets begin with.
+fn copy_of(alloc: Global, octets: &'static [u8]) -> Result<CertExtension, DecodeError> {
+    Ok(extension_of(alloc, octets)?.clone()?)
+}
+
+#[test]
+fn extensions_are_copied(rt: HostRuntime) -> Result<(), Fail> {
+    for row in &READ {
+        let copy = copy_of(rt.alloc(), row.octets)?;
+        assert!(rt; is_read(rt.alloc(), &copy, row), "{}", row.name);
     }
     Ok(())
 }
@@ -199,7 +211,7 @@ fn other_octets_are_refused(rt: HostRuntime) {
     for (name, octets, expected) in REFUSED {
         assert_eq!(rt;
             outcome(rt.alloc(), octets),
-            (expected, octets.len()),
+            (*expected, octets.len()),
             "{name}"
         );
     }
@@ -214,31 +226,35 @@ fn optional_outcome(alloc: Global, octets: &'static [u8]) -> Outcome {
 #[test]
 fn an_extension_may_be_absent(rt: HostRuntime) {
     for (name, octets, expected) in OPTIONAL {
-        assert_eq!(rt; optional_outcome(rt.alloc(), octets), expected, "{name}");
+        assert_eq!(rt; optional_outcome(rt.alloc(), octets), *expected, "{name}");
     }
 }
 
 /// Other spellings, and whether they are equal to the first that is read.
-const COMPARED: [(&[u8], bool); 4] = [
+const COMPARED: &[(&str, &[u8], bool)] = &[
     (
+        "FALSE that is left out",
         &[
             0x30, 0x09, 0x06, 0x03, 0x55, 0x1d, 0x13, 0x04, 0x02, 0x30, 0x00,
         ],
         true,
     ),
     (
+        "critical",
         &[
             0x30, 0x0c, 0x06, 0x03, 0x55, 0x1d, 0x13, 0x01, 0x01, 0xff, 0x04, 0x02, 0x30, 0x00,
         ],
         false,
     ),
     (
+        "another identifier",
         &[
             0x30, 0x09, 0x06, 0x03, 0x55, 0x1d, 0x0f, 0x04, 0x02, 0x30, 0x00,
         ],
         false,
     ),
     (
+        "other contents",
         &[
             0x30, 0x09, 0x06, 0x03, 0x55, 0x1d, 0x13, 0x04, 0x02, 0x31, 0x00,
         ],
@@ -246,14 +262,21 @@ const COMPARED: [(&[u8], bool); 4] = [
     ),
 ];
 
+/// Whether the extensions are equal.
+fn are_equal(one: &CertExtension, other: &CertExtension) -> bool {
+    *one == *other
+}
+
+/// Whether the extension is equal to the first that is read.
+fn is_first(alloc: Global, octets: &'static [u8]) -> Result<bool, DecodeError> {
+    let first = extension_of(alloc, READ[0].octets)?;
+    Ok(are_equal(&first, &extension_of(alloc, octets)?))
+}
+
 #[test]
-fn extensions_are_equal_where_their_parts_are(rt: HostRuntime) {
-    for (octets, expected) in COMPARED {
-        let spelled = extension_of(rt.alloc(), READ[0].octets);
-        let same = match (spelled, extension_of(rt.alloc(), octets)) {
-            (Ok(spelled), Ok(other)) => (spelled == other) == expected,
-            _ => false,
-        };
-        assert!(rt; same, "{octets:?}");
+fn extensions_are_equal_where_their_parts_are(rt: HostRuntime) -> Result<(), Fail> {
+    for (name, octets, expected) in COMPARED {
+        assert_eq!(rt; is_first(rt.alloc(), octets)?, *expected, "{name}");
     }
+    Ok(())
 }

@@ -1,5 +1,6 @@
 //! Key identifiers.
 
+use super::keys::{KEY_OF_ABC, decoded};
 use super::{Always, DIGEST_OF_ABC, Outcome, optional_outcome_of, refused, written};
 use crate::crypto::{
     KeyIdentifier, KeyIdentifierSliceError, ParseKeyIdentifierError, PublicKey,
@@ -7,10 +8,12 @@ use crate::crypto::{
 };
 use bytes::Bytes;
 use rpki_der::{Constructed, Content, ContentError, DecodeError, PrimitiveContent};
+use std::alloc::{AllocError, Global};
 use std::test::Fail;
 
 const DIGITS: &str = "A9993E364706816ABA3E25717850C26C9CD0D89D";
 
+/// Texts, and whether they are the identifier of the digest.
 const TEXTS: &[(&str, bool)] = &[
     (DIGITS, true),
     ("a9993e364706816aba3e25717850c26c9cd0d89d", true),
@@ -22,29 +25,50 @@ const TEXTS: &[(&str, bool)] = &[
     ("", false),
 ];
 
-#[test]
-fn identifiers_are_parsed(rt: HostRuntime) {
-    for (text, accepted) in TEXTS {
-        match text.parse::<KeyIdentifier>() {
-            Ok(found) => {
-                assert!(rt; *accepted, "accepted: {text}");
-                assert_eq!(rt; found.as_slice(), DIGEST_OF_ABC.as_slice(), "{text}");
-            }
-            Err(_) => assert!(rt; !*accepted, "refused: {text}"),
-        }
+/// The identifier that the text is.
+fn parsed(text: &str) -> Option<[u8; 20]> {
+    match text.parse::<KeyIdentifier>() {
+        Ok(found) => Some(found.into()),
+        Err(_) => None,
     }
 }
 
 #[test]
-fn identifiers_are_shown(rt: HostRuntime) -> Result<(), Fail> {
-    let key = PublicKey::decode(Bytes::from_static(
-        b"\x30\x15\x30\x0D\x06\x09\x2A\x86\x48\x86\xF7\x0D\x01\x01\x01\x05\x00\x03\x04\x00\x61\x62\x63",
-    ))?;
-    let found = key.key_identifier(&Always { answer: true });
-    assert_eq!(rt; found.into_hex().as_slice(), DIGITS.as_bytes());
-    assert!(rt; found.eq_bytes(&DIGEST_OF_ABC));
-    let octets: [u8; 20] = found.into();
+fn identifiers_are_parsed(rt: HostRuntime) {
+    for (text, accepted) in TEXTS {
+        let expected = if *accepted { Some(DIGEST_OF_ABC) } else { None };
+        assert_eq!(rt; parsed(text), expected, "{text}");
+    }
+}
+
+/// The identifier of the key of `abc`, by a provider that knows its digest.
+fn identifier_of_key(key: &PublicKey) -> KeyIdentifier {
+    key.key_identifier(&Always { answer: true })
+}
+
+/// Its digits, its octets, and whether it is equal to the octets of the digest.
+fn parts_of(identifier: KeyIdentifier) -> ([u8; 40], [u8; 20], bool) {
+    (
+        identifier.into_hex(),
+        identifier.into(),
+        identifier.eq_bytes(&DIGEST_OF_ABC),
+    )
+}
+
+#[test]
+fn identifiers_are_those_of_keys(rt: HostRuntime) -> Result<(), Fail> {
+    let key = decoded(KEY_OF_ABC)?;
+    let (digits, octets, equal) = parts_of(identifier_of_key(&key));
+    assert_eq!(rt; digits.as_slice(), DIGITS.as_bytes());
+    assert!(rt; equal);
     assert_eq!(rt; octets, DIGEST_OF_ABC);
+    Ok(())
+}
+
+#[test]
+fn identifiers_are_shown(rt: HostRuntime) -> Result<(), Fail> {
+    let key = decoded(KEY_OF_ABC)?;
+    let found = identifier_of_key(&key);
     let shown = format!(in rt.alloc(); "{found} {found:?}")?;
     assert_eq!(rt;
         shown.as_str(),
@@ -132,23 +156,38 @@ fn identifiers_are_read(rt: HostRuntime) {
     assert_eq!(rt; refusal_of(NINETEEN), Some(refusal));
 }
 
+/// What is written of the identifier.
+fn identifier_written(
+    alloc: Global,
+    identifier: KeyIdentifier,
+) -> Result<Option<Bytes>, AllocError> {
+    written(alloc, &identifier.encode())
+}
+
 #[test]
-fn identifiers_are_contents(rt: HostRuntime) -> Result<(), Fail> {
+fn identifiers_are_written(rt: HostRuntime) -> Result<(), Fail> {
     let identifier = KeyIdentifier::from(DIGEST_OF_ABC);
-    let octets = written(rt.alloc(), &identifier.encode())?.ok_or("too long")?;
+    let octets = identifier_written(rt.alloc(), identifier)?.ok_or("too long")?;
     assert_eq!(rt; octets.as_slice(), SPELLED);
-    let cons = Constructed::new(&octets);
-    assert_eq!(rt;
-        content_refusal(&Content::Constructed(cons)),
-        Some(DecodeError::Unexpected)
-    );
+    Ok(())
+}
+
+/// The error of constructed contents.
+fn constructed_refusal(octets: &'static [u8]) -> Option<DecodeError> {
+    let source: Bytes = Bytes::from_static(octets);
+    content_refusal(&Content::Constructed(Constructed::new(&source)))
+}
+
+#[test]
+fn identifiers_are_contents(rt: HostRuntime) {
+    let identifier = Some(KeyIdentifier::from(DIGEST_OF_ABC));
+    assert_eq!(rt; constructed_refusal(SPELLED), Some(DecodeError::Unexpected));
     assert_eq!(rt;
         identifier_of(&Content::Primitive(&DIGEST_OF_ABC)),
-        Some(identifier)
+        identifier
     );
-    assert_eq!(rt; taken(SPELLED), Some(identifier));
+    assert_eq!(rt; taken(SPELLED), identifier);
     assert!(rt; KeyIdentifier::try_from(SPELLED).is_err());
-    Ok(())
 }
 
 #[test]

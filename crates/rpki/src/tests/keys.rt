@@ -1,10 +1,11 @@
 //! Public keys and names of subjects.
 
-use super::{Always, Outcome, refused, written};
+use super::{Always, Outcome, outcome_of, refused, written};
 use crate::crypto::{PublicKey, PublicKeyFormat};
 use crate::repository::x509::Name;
 use bytes::Bytes;
 use rpki_der::{Constructed, ContentError, DecodeError, InvalidInteger, Values};
+use std::alloc::{AllocError, Global};
 use std::test::Fail;
 
 const KEY_OF_COMPONENTS: &[u8] =
@@ -13,20 +14,40 @@ const KEY_OF_COMPONENTS: &[u8] =
 const KEY_OF_ZERO: &[u8] =
     b"\x30\x1C\x30\x0D\x06\x09\x2A\x86\x48\x86\xF7\x0D\x01\x01\x01\x05\x00\x03\x0B\x00\x30\x08\x02\x01\x00\x02\x03\x01\x00\x01";
 
-const COMPONENTS: &[(&[u8], &[u8])] = &[(&[0x00, 0x80], KEY_OF_COMPONENTS), (&[0x00], KEY_OF_ZERO)];
+const COMPONENTS: &[(&str, &[u8], &[u8])] = &[
+    ("128", &[0x00, 0x80], KEY_OF_COMPONENTS),
+    ("zero", &[0x00], KEY_OF_ZERO),
+];
+
+/// Whether the bits of the key are read as an equal key.
+fn is_read_again(key: &PublicKey) -> Result<bool, DecodeError> {
+    let again = PublicKey::rsa_from_bits_bytes(key.bits_bytes()?)?;
+    Ok(are_equal(&again, key))
+}
 
 #[test]
 fn rsa_keys_are_made_of_numbers(rt: HostRuntime) -> Result<(), Fail> {
-    for (modulus, expected) in COMPONENTS {
+    for (name, modulus, _) in COMPONENTS {
         let key = PublicKey::rsa_from_components(rt.alloc(), modulus, &[1, 0, 1])?;
-        let again = PublicKey::rsa_from_bits_bytes(key.bits_bytes()?)?;
-        assert!(rt; key == again, "the bits for {modulus:?}");
-        assert!(rt; key.encode_ref().fits(), "too long: {modulus:?}");
-        assert_eq!(rt;
-            key.to_info_bytes(rt.alloc())?.as_slice(),
-            *expected,
-            "{modulus:?}"
-        );
+        assert!(rt; is_read_again(&key)?, "{name}");
+    }
+    Ok(())
+}
+
+/// The encoding of the key, where it fits.
+fn info_of(alloc: Global, key: &PublicKey) -> Result<Option<Bytes>, AllocError> {
+    if !key.encode_ref().fits() {
+        return Ok(None);
+    }
+    Ok(Some(key.to_info_bytes(alloc)?))
+}
+
+#[test]
+fn rsa_keys_of_numbers_are_written(rt: HostRuntime) -> Result<(), Fail> {
+    for (name, modulus, expected) in COMPONENTS {
+        let key = PublicKey::rsa_from_components(rt.alloc(), modulus, &[1, 0, 1])?;
+        let octets = info_of(rt.alloc(), &key)?.ok_or("too long")?;
+        assert_eq!(rt; octets.as_slice(), *expected, "{name}");
     }
     Ok(())
 }
@@ -97,22 +118,21 @@ const KEYS: &[(&str, &[u8], Result<&[u8], Outcome>)] = &[
     ("nothing", b"", Err(Outcome::Truncated)),
 ];
 
-#[test]
-fn public_keys_are_read(rt: HostRuntime) {
-    for (name, octets, expected) in KEYS {
-        match (bits_of(octets), expected) {
-            (Ok(bits), Ok(wanted)) => assert_eq!(rt; bits.as_slice(), *wanted, "{name}"),
-            (Err(outcome), Err(wanted)) => assert_eq!(rt; outcome, *wanted, "{name}"),
-            (Ok(_), Err(_)) => assert!(rt; false, "read: {name}"),
-            (Err(_), Ok(_)) => assert!(rt; false, "rejected: {name}"),
-        }
+/// Whether the octets of the bits, or the kind of the error, are these.
+fn is_read(octets: &'static [u8], expected: &Result<&[u8], Outcome>) -> bool {
+    match (bits_of(octets), expected) {
+        (Ok(bits), Ok(wanted)) => bits.as_slice() == *wanted,
+        (Err(outcome), Err(wanted)) => outcome == *wanted,
+        _ => false,
     }
 }
 
-const AGAIN: &[(&[u8], PublicKeyFormat, &[u8])] = &[
-    (KEY_OF_ABC, PublicKeyFormat::Rsa, b"abc"),
-    (P256_KEY, PublicKeyFormat::EcdsaP256, b"\x04\x01"),
-];
+#[test]
+fn public_keys_are_read(rt: HostRuntime) {
+    for (name, octets, expected) in KEYS {
+        assert!(rt; is_read(octets, expected), "{name}");
+    }
+}
 
 #[test]
 fn unknown_formats_of_keys_are_named(rt: HostRuntime) {
@@ -121,26 +141,91 @@ fn unknown_formats_of_keys_are_named(rt: HostRuntime) {
     assert_eq!(rt; refused.err(), Some(unknown));
 }
 
+/// Keys, their octets, their formats and their bits.
+const AGAIN: &[(&str, &[u8], PublicKeyFormat, &[u8])] = &[
+    ("RSA key", KEY_OF_ABC, PublicKeyFormat::Rsa, b"abc"),
+    (
+        "P-256 key",
+        P256_KEY,
+        PublicKeyFormat::EcdsaP256,
+        b"\x04\x01",
+    ),
+];
+
+/// The key that these octets are.
+pub(super) fn decoded(octets: &'static [u8]) -> Result<PublicKey, DecodeError> {
+    PublicKey::decode(Bytes::from_static(octets))
+}
+
+/// The format of a key, and whether these are the octets of its bits.
+fn parts_of(octets: &'static [u8], bits: &[u8]) -> Result<(PublicKeyFormat, bool), DecodeError> {
+    let key = decoded(octets)?;
+    Ok((key.algorithm(), key.bits() == bits))
+}
+
+#[test]
+fn public_keys_have_parts(rt: HostRuntime) -> Result<(), Fail> {
+    for (name, octets, format, bits) in AGAIN {
+        assert_eq!(rt; parts_of(octets, bits)?, (*format, true), "{name}");
+    }
+    Ok(())
+}
+
+/// Whether certificates of the RPKI and those of routers may have the key.
+fn allowed(octets: &'static [u8]) -> Result<(bool, bool), DecodeError> {
+    let key = decoded(octets)?;
+    Ok((key.allow_rpki_cert(), key.allow_router_cert()))
+}
+
+/// The same of keys of this format.
+fn allowed_by(format: PublicKeyFormat) -> (bool, bool) {
+    (format.allow_rpki_cert(), format.allow_router_cert())
+}
+
+#[test]
+fn public_keys_are_allowed_by_their_formats(rt: HostRuntime) -> Result<(), Fail> {
+    for (name, octets, format, _) in AGAIN {
+        assert_eq!(rt; allowed(octets)?, allowed_by(*format), "{name}");
+    }
+    Ok(())
+}
+
+/// What the encoder that borrows a key writes.
+fn written_lent(alloc: Global, key: &PublicKey) -> Result<Option<Bytes>, AllocError> {
+    written(alloc, &key.encode_ref())
+}
+
+/// The same of the key that these octets are.
+fn lent(alloc: Global, octets: &'static [u8]) -> Result<Option<Bytes>, DecodeError> {
+    let key = decoded(octets)?;
+    Ok(written_lent(alloc, &key)?)
+}
+
 #[test]
 fn public_keys_are_written(rt: HostRuntime) -> Result<(), Fail> {
-    for (octets, format, bits) in AGAIN {
-        let key = PublicKey::decode(Bytes::from_static(octets))?;
-        assert_eq!(rt; key.algorithm(), *format, "{octets:?}");
-        assert_eq!(rt; key.bits(), *bits, "{octets:?}");
-        assert_eq!(rt;
-            key.allow_rpki_cert(),
-            format.allow_rpki_cert(),
-            "{octets:?}"
-        );
-        assert_eq!(rt;
-            key.allow_router_cert(),
-            format.allow_router_cert(),
-            "{octets:?}"
-        );
-        let lent = written(rt.alloc(), &key.encode_ref())?.ok_or("too long")?;
-        assert_eq!(rt; lent.as_slice(), *octets, "lent: {octets:?}");
-        let owned = written(rt.alloc(), &key.clone()?.encode())?.ok_or("too long")?;
-        assert_eq!(rt; owned.as_slice(), *octets, "owned: {octets:?}");
+    for (name, octets, _, _) in AGAIN {
+        let found = lent(rt.alloc(), octets)?.ok_or("too long")?;
+        assert_eq!(rt; found.as_slice(), *octets, "{name}");
+    }
+    Ok(())
+}
+
+/// What the encoder that owns a key writes.
+fn written_owned(alloc: Global, key: PublicKey) -> Result<Option<Bytes>, AllocError> {
+    written(alloc, &key.encode())
+}
+
+/// The same of a copy of the key that these octets are.
+fn owned(alloc: Global, octets: &'static [u8]) -> Result<Option<Bytes>, DecodeError> {
+    let copy = decoded(octets)?.clone()?;
+    Ok(written_owned(alloc, copy)?)
+}
+
+#[test]
+fn public_keys_are_written_by_their_owner(rt: HostRuntime) -> Result<(), Fail> {
+    for (name, octets, _, _) in AGAIN {
+        let found = owned(rt.alloc(), octets)?.ok_or("too long")?;
+        assert_eq!(rt; found.as_slice(), *octets, "{name}");
     }
     Ok(())
 }
@@ -150,7 +235,7 @@ fn public_keys_are_read_one_by_one(rt: HostRuntime) -> Result<(), Fail> {
     let source = Bytes::from_static(KEY_AND_MORE);
     let mut cons = Constructed::new(&source);
     let key = PublicKey::take_from(&mut cons)?;
-    assert!(rt; key == PublicKey::decode(Bytes::from_static(KEY_OF_ABC))?);
+    assert!(rt; are_equal(&key, &decoded(KEY_OF_ABC)?));
     assert_eq!(rt; cons.rest(), b"\x00".as_slice());
     Ok(())
 }
@@ -165,67 +250,104 @@ const SEVEN_BITS: &[u8] =
 const P256_BITS: &[u8] =
     b"\x30\x19\x30\x13\x06\x07\x2A\x86\x48\xCE\x3D\x02\x01\x06\x08\x2A\x86\x48\xCE\x3D\x03\x01\x07\x03\x02\x00\x80";
 
-const COMPARED: &[(&[u8], bool)] = &[
-    (EIGHT_BITS, true),
-    (SEVEN_BITS, false),
-    (P256_BITS, false),
-    (KEY_OF_ABC, false),
+const COMPARED: &[(&str, &[u8], bool)] = &[
+    ("the same bits", EIGHT_BITS, true),
+    ("an unused bit", SEVEN_BITS, false),
+    ("another format", P256_BITS, false),
+    ("other bits", KEY_OF_ABC, false),
 ];
+
+/// Whether the keys are equal.
+fn are_equal(one: &PublicKey, other: &PublicKey) -> bool {
+    *one == *other
+}
+
+/// Whether the key is equal to that of eight bits.
+fn is_first(octets: &'static [u8]) -> Result<bool, DecodeError> {
+    let key = decoded(octets)?;
+    Ok(are_equal(&key, &decoded(EIGHT_BITS)?))
+}
+
+/// Whether a copy of the key is equal to it.
+fn is_copied(octets: &'static [u8]) -> Result<bool, DecodeError> {
+    let key = decoded(octets)?;
+    Ok(are_equal(&key.clone()?, &key))
+}
 
 #[test]
 fn public_keys_are_compared(rt: HostRuntime) -> Result<(), Fail> {
-    let first = PublicKey::decode(Bytes::from_static(EIGHT_BITS))?;
-    for (octets, equal) in COMPARED {
-        let key = PublicKey::decode(Bytes::from_static(octets))?;
-        assert_eq!(rt; key == first, *equal, "{octets:?}");
-        assert!(rt; key.clone()? == key, "a copy: {octets:?}");
+    for (name, octets, equal) in COMPARED {
+        assert_eq!(rt; is_first(octets)?, *equal, "{name}");
+        assert!(rt; is_copied(octets)?, "a copy: {name}");
     }
     Ok(())
 }
 
+const RSA_BITS: &[(&str, &[u8], Outcome)] = &[
+    (
+        "two numbers",
+        b"\x30\x06\x02\x01\x03\x02\x01\x05",
+        Outcome::Read,
+    ),
+    (
+        "octet after the SEQUENCE",
+        b"\x30\x06\x02\x01\x03\x02\x01\x05\x00",
+        Outcome::Trailing,
+    ),
+    (
+        "three numbers",
+        b"\x30\x09\x02\x01\x03\x02\x01\x05\x02\x01\x07",
+        Outcome::Trailing,
+    ),
+];
+
 #[test]
 fn rsa_bits_are_read_whole(rt: HostRuntime) {
-    let cases: [(&[u8], Option<DecodeError>); 3] = [
-        (b"\x30\x06\x02\x01\x03\x02\x01\x05", None),
-        (
-            b"\x30\x06\x02\x01\x03\x02\x01\x05\x00",
-            Some(DecodeError::Trailing),
-        ),
-        (
-            b"\x30\x09\x02\x01\x03\x02\x01\x05\x02\x01\x07",
-            Some(DecodeError::Trailing),
-        ),
-    ];
-    for (octets, expected) in cases {
+    for (name, octets, expected) in RSA_BITS {
         let key = PublicKey::rsa_from_bits_bytes(Bytes::from_static(octets));
-        assert_eq!(rt; key.err(), expected, "{octets:?}");
+        assert_eq!(rt; outcome_of(key), *expected, "{name}");
     }
 }
 
 pub(super) const SUBJECT: &[u8] =
     b"\x30\x33\x31\x31\x30\x2F\x06\x03\x55\x04\x03\x13\x28A9993E364706816ABA3E25717850C26C9CD0D89D";
 
+/// What is written as the name of the key's subject.
+fn subject_written(alloc: Global, key: &PublicKey) -> Result<Option<Bytes>, AllocError> {
+    written(alloc, &key.encode_subject_name(&Always { answer: true }))
+}
+
 #[test]
 fn subjects_are_named_by_their_keys(rt: HostRuntime) -> Result<(), Fail> {
-    let key = PublicKey::decode(Bytes::from_static(KEY_OF_ABC))?;
-    let name = written(
-        rt.alloc(),
-        &key.encode_subject_name(&Always { answer: true }),
-    )?
-    .ok_or("too long")?;
+    let name = subject_written(rt.alloc(), &decoded(KEY_OF_ABC)?)?.ok_or("too long")?;
     assert_eq!(rt; name.as_slice(), SUBJECT);
     Ok(())
 }
 
+/// The name of the subject with the key of `abc`.
+fn subject(alloc: Global) -> Result<Name, Fail> {
+    let key = decoded(KEY_OF_ABC)?;
+    Ok(Name::from_pub_key(alloc, &Always { answer: true }, &key)?)
+}
+
 #[test]
 fn names_of_keys_are_strict(rt: HostRuntime) -> Result<(), Fail> {
-    let key = PublicKey::decode(Bytes::from_static(KEY_OF_ABC))?;
-    let provider = Always { answer: true };
-    let name = Name::from_pub_key(rt.alloc(), &provider, &key)?;
+    let name = subject(rt.alloc())?;
     assert_eq!(rt; name.encode_ref().as_slice(), SUBJECT);
     assert!(rt; name.inspect_rpki(true).is_ok(), "a name of the RPKI");
     assert!(rt; name.inspect_router(true).is_ok(), "a name of a router");
-    let subject = key.to_subject_name(rt.alloc(), &provider)?;
-    assert!(rt; subject == name, "the same name");
+    Ok(())
+}
+
+/// Whether the key makes the same name.
+fn is_named(alloc: Global, name: &Name) -> Result<bool, Fail> {
+    let key = decoded(KEY_OF_ABC)?;
+    Ok(key.to_subject_name(alloc, &Always { answer: true })? == *name)
+}
+
+#[test]
+fn names_of_keys_are_made_by_the_key(rt: HostRuntime) -> Result<(), Fail> {
+    let name = subject(rt.alloc())?;
+    assert!(rt; is_named(rt.alloc(), &name)?, "the same name");
     Ok(())
 }

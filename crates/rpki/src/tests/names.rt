@@ -1,10 +1,11 @@
 //! Names, and their inspections.
 
+use super::written;
 use crate::repository::error::InspectionError;
 use crate::repository::x509::*;
 use bytes::Bytes;
-use rpki_der::{Captured, Constructed, ContentError, DecodeError};
-use std::alloc::Global;
+use rpki_der::{Constructed, ContentError, DecodeError};
+use std::alloc::{AllocError, Global};
 use std::test::Fail;
 
 /// The name of one common name, A, as a PrintableString.
@@ -19,6 +20,7 @@ const UTF8_NAME: [u8; 14] = [
 
 /// Octets that are no name, and why: the number of the error, and its text where that is one of contents.
 struct Refused {
+    name: &'static str,
     octets: &'static [u8],
     number: u8,
     text: &'static str,
@@ -26,16 +28,19 @@ struct Refused {
 
 const REFUSED: [Refused; 8] = [
     Refused {
+        name: "empty SEQUENCE",
         octets: &[0x30, 0x00],
         number: 5,
         text: "empty distinguished name",
     },
     Refused {
+        name: "empty SET",
         octets: &[0x30, 0x02, 0x31, 0x00],
         number: 5,
         text: "empty relative distinguished name",
     },
     Refused {
+        name: "attribute without a value",
         octets: &[
             0x30, 0x09, 0x31, 0x07, 0x30, 0x05, 0x06, 0x03, 0x55, 0x04, 0x03,
         ],
@@ -43,6 +48,7 @@ const REFUSED: [Refused; 8] = [
         text: "invalid name",
     },
     Refused {
+        name: "NULL after the value",
         octets: &[
             0x30, 0x0d, 0x31, 0x0b, 0x30, 0x09, 0x06, 0x03, 0x55, 0x04, 0x03, 0x05, 0x00, 0x05,
             0x00,
@@ -51,21 +57,25 @@ const REFUSED: [Refused; 8] = [
         text: "",
     },
     Refused {
+        name: "SET",
         octets: &[0x31, 0x00],
         number: 4,
         text: "",
     },
     Refused {
+        name: "length in long form",
         octets: &[0x30, 0x81, 0x00],
         number: 3,
         text: "",
     },
     Refused {
+        name: "SEQUENCE for a SET",
         octets: &[0x30, 0x02, 0x30, 0x00],
         number: 4,
         text: "",
     },
     Refused {
+        name: "nothing",
         octets: &[],
         number: 1,
         text: "",
@@ -240,7 +250,7 @@ const INSPECTED: [Inspected; 18] = [
 ];
 
 /// The name that these octets begin with.
-fn name_of(alloc: Global, octets: &'static [u8]) -> Result<Name, DecodeError> {
+pub(super) fn name_of(alloc: Global, octets: &'static [u8]) -> Result<Name, DecodeError> {
     let source = Bytes::from_static(octets);
     let mut cons = Constructed::new(&source);
     Name::take_from(alloc, &mut cons)
@@ -264,44 +274,64 @@ fn names_are_refused(rt: HostRuntime) {
             }
             Err(e) => e.number() == row.number,
         };
-        assert!(rt; same, "{:?}", row.octets);
+        assert!(rt; same, "{}", row.name);
     }
+}
+
+/// Whether each of the two strict inspections ends as the row says.
+fn is_inspected(name: &Name, row: &Inspected) -> (bool, bool) {
+    (
+        is_text(name.inspect_rpki(true), row.rpki),
+        is_text(name.inspect_router(true), row.router),
+    )
 }
 
 #[test]
 fn names_are_inspected(rt: HostRuntime) -> Result<(), Fail> {
     for row in &INSPECTED {
-        let name = match name_of(rt.alloc(), row.octets) {
-            Ok(name) => name,
-            Err(_) => return Err("refused".into()),
-        };
-        assert!(rt;
-            is_text(name.inspect_rpki(true), row.rpki),
-            "RPKI: {}",
-            row.name
-        );
-        assert!(rt;
-            is_text(name.inspect_router(true), row.router),
-            "router: {}",
-            row.name
-        );
-        assert!(rt; name.inspect_rpki(false).is_ok(), "{}", row.name);
-        assert!(rt; name.inspect_router(false).is_ok(), "{}", row.name);
+        let (rpki, router) = is_inspected(&name_of(rt.alloc(), row.octets)?, row);
+        assert!(rt; rpki, "RPKI: {}", row.name);
+        assert!(rt; router, "router: {}", row.name);
     }
     Ok(())
 }
 
+/// Whether the two inspections that are not strict accept the name.
+fn is_accepted(name: &Name) -> (bool, bool) {
+    (
+        name.inspect_rpki(false).is_ok(),
+        name.inspect_router(false).is_ok(),
+    )
+}
+
+#[test]
+fn names_are_accepted_unless_strict(rt: HostRuntime) -> Result<(), Fail> {
+    for row in &INSPECTED {
+        let (rpki, router) = is_accepted(&name_of(rt.alloc(), row.octets)?);
+        assert!(rt; rpki, "RPKI: {}", row.name);
+        assert!(rt; router, "router: {}", row.name);
+    }
+    Ok(())
+}
+
+/// What is written of the name.
+fn name_written(alloc: Global, name: &Name) -> Result<Option<Bytes>, AllocError> {
+    written(alloc, &name.encode_ref())
+}
+
 #[test]
 fn names_are_written_as_read(rt: HostRuntime) -> Result<(), Fail> {
-    let (name, other) = match (name_of(rt.alloc(), &NAME), name_of(rt.alloc(), &UTF8_NAME)) {
-        (Ok(name), Ok(other)) => (name, other),
-        _ => return Err("refused".into()),
-    };
-    let written = Captured::from_values(rt.alloc(), &name.encode_ref())?;
-    assert_eq!(rt; written.as_slice(), NAME.as_slice());
-    let copy = name.clone()?;
-    assert!(rt; copy == name, "a copy");
-    assert!(rt; other != name, "another name");
+    let name = name_of(rt.alloc(), &NAME)?;
+    let octets = name_written(rt.alloc(), &name)?.ok_or("too long")?;
+    assert_eq!(rt; octets.as_slice(), NAME.as_slice());
+    Ok(())
+}
+
+#[test]
+fn names_are_compared(rt: HostRuntime) -> Result<(), Fail> {
+    let name = name_of(rt.alloc(), &NAME)?;
+    assert!(rt; name.clone()? == name, "a copy");
+    assert!(rt; name_of(rt.alloc(), &UTF8_NAME)? != name, "another name");
     Ok(())
 }
 

@@ -5,7 +5,7 @@ use crate::crypto::{RpkiSignature, RpkiSignatureAlgorithm, Signature, SignatureA
 use crate::repository::x509::SignedData;
 use bytes::Bytes;
 use rpki_der::{Constructed, DecodeError};
-use std::alloc::Global;
+use std::alloc::{AllocError, Global};
 use std::test::Fail;
 
 const RSA_SIGNATURE: &[u8] = b"\x30\x0D\x06\x09\x2A\x86\x48\x86\xF7\x0D\x01\x01\x0B\x05\x00";
@@ -26,12 +26,12 @@ fn signature_of(
 }
 
 /// Algorithm identifiers and octets of signatures, and whether they are those of an identifier with parameters and AA.
-const SIGNATURES: &[(&[u8], &[u8], bool)] = &[
-    (RSA_SIGNATURE, b"\xAA", true),
-    (RSA_SIGNATURE_WITHOUT, b"\xAA", false),
-    (RSA_SIGNATURE, b"\xAB", false),
-    (RSA_SIGNATURE, b"\xAA\xAA", false),
-    (RSA_SIGNATURE, b"", false),
+const SIGNATURES: &[(&str, &[u8], &[u8], bool)] = &[
+    ("the same", RSA_SIGNATURE, b"\xAA", true),
+    ("without NULL", RSA_SIGNATURE_WITHOUT, b"\xAA", false),
+    ("another octet", RSA_SIGNATURE, b"\xAB", false),
+    ("two octets", RSA_SIGNATURE, b"\xAA\xAA", false),
+    ("no octet", RSA_SIGNATURE, b"", false),
 ];
 
 /// Whether the signature is equal to AA by the algorithm with parameters.
@@ -42,9 +42,9 @@ fn is_first(signature: &RpkiSignature) -> bool {
 
 #[test]
 fn signatures_are_compared(rt: HostRuntime) -> Result<(), Fail> {
-    for (identifier, value, equal) in SIGNATURES {
+    for (name, identifier, value, equal) in SIGNATURES {
         let signature = signature_of(identifier, value)?;
-        assert_eq!(rt; is_first(&signature), *equal, "{identifier:?} {value:?}");
+        assert_eq!(rt; is_first(&signature), *equal, "{name}");
     }
     Ok(())
 }
@@ -62,10 +62,10 @@ fn parts_of(identifier: &'static [u8], value: &'static [u8]) -> Result<(bool, By
 
 #[test]
 fn signatures_are_their_parts(rt: HostRuntime) -> Result<(), Fail> {
-    for (identifier, value, _) in SIGNATURES {
+    for (name, identifier, value, _) in SIGNATURES {
         let (parameters, octets) = parts_of(identifier, value)?;
-        assert_eq!(rt; parameters, identifier.len() == 15, "{identifier:?}");
-        assert_eq!(rt; octets.as_slice(), *value, "{identifier:?} {value:?}");
+        assert_eq!(rt; parameters, identifier.len() == 15, "{name}");
+        assert_eq!(rt; octets.as_slice(), *value, "{name}");
     }
     Ok(())
 }
@@ -84,6 +84,7 @@ const EMPTY_INTEGER: &[u8] =
 
 /// Octets that are signed data, and what their value is.
 struct Row {
+    name: &'static str,
     octets: &'static [u8],
     data: &'static [u8],
     /// Whether it is equal to that of SIGNED.
@@ -93,24 +94,28 @@ struct Row {
 
 const ROWS: &[Row] = &[
     Row {
+        name: "signed data",
         octets: SIGNED,
         data: b"\x30\x00",
         equal: true,
         written: SIGNED,
     },
     Row {
+        name: "without NULL",
         octets: SIGNED_WITHOUT,
         data: b"\x30\x00",
         equal: false,
         written: SIGNED,
     },
     Row {
+        name: "an unused bit",
         octets: SIGNED_WITH_COUNT,
         data: b"\x30\x00",
         equal: true,
         written: SIGNED,
     },
     Row {
+        name: "an empty INTEGER",
         octets: EMPTY_INTEGER,
         data: b"\x30\x02\x02\x00",
         equal: false,
@@ -119,55 +124,67 @@ const ROWS: &[Row] = &[
 ];
 
 /// The signed data that these octets are.
-fn decoded(alloc: Global, octets: &'static [u8]) -> Result<SignedData, DecodeError> {
+pub(super) fn decoded(alloc: Global, octets: &'static [u8]) -> Result<SignedData, DecodeError> {
     SignedData::decode(alloc, Bytes::from_static(octets))
 }
 
 /// What signed data is written as.
-fn again(alloc: Global, octets: &'static [u8]) -> Result<Bytes, Fail> {
-    let signed = decoded(alloc, octets)?;
-    Ok(written(alloc, &signed.encode_ref())?.ok_or("too long")?)
+pub(super) fn signed_written<Alg: SignatureAlgorithm + 'static>(
+    alloc: Global,
+    signed: &SignedData<Alg>,
+) -> Result<Option<Bytes>, AllocError>
+where
+    Alg::Encoder: Drop,
+{
+    written(alloc, &signed.encode_ref())
 }
 
 #[test]
 fn signed_data_is_written_again(rt: HostRuntime) -> Result<(), Fail> {
     for row in ROWS {
-        let octets = again(rt.alloc(), row.octets)?;
-        assert_eq!(rt; octets.as_slice(), row.written, "{:?}", row.octets);
+        let signed = decoded(rt.alloc(), row.octets)?;
+        let octets = signed_written(rt.alloc(), &signed)?.ok_or("too long")?;
+        assert_eq!(rt; octets.as_slice(), row.written, "{}", row.name);
     }
     Ok(())
 }
 
-/// Whether the value is equal to that of SIGNED.
-fn is_equal(alloc: Global, octets: &'static [u8]) -> Result<bool, DecodeError> {
-    Ok(decoded(alloc, octets)? == decoded(alloc, SIGNED)?)
+/// Whether the values are equal.
+fn are_equal(one: &SignedData, other: &SignedData) -> bool {
+    *one == *other
 }
 
 #[test]
 fn signed_data_is_compared(rt: HostRuntime) -> Result<(), Fail> {
+    let first = decoded(rt.alloc(), SIGNED)?;
     for row in ROWS {
-        assert_eq!(rt;
-            is_equal(rt.alloc(), row.octets)?,
-            row.equal,
-            "{:?}",
-            row.octets
-        );
+        let signed = decoded(rt.alloc(), row.octets)?;
+        assert_eq!(rt; are_equal(&signed, &first), row.equal, "{}", row.name);
     }
     Ok(())
 }
 
-/// A copy of the signed data.
+/// A copy of the signed data that these octets are.
 fn copied(alloc: Global, octets: &'static [u8]) -> Result<SignedData, DecodeError> {
-    Ok(decoded(alloc, octets)?.clone()?)
+    let signed = decoded(alloc, octets)?;
+    Ok(signed.clone()?)
+}
+
+/// Whether these are the value and the octets of the signature.
+fn has_parts(signed: &SignedData, data: &[u8], value: &[u8]) -> (bool, bool) {
+    (
+        signed.data().as_slice() == data,
+        signed.signature().value().as_slice() == value,
+    )
 }
 
 #[test]
 fn signed_data_has_parts(rt: HostRuntime) -> Result<(), Fail> {
     for row in ROWS {
         let signed = copied(rt.alloc(), row.octets)?;
-        assert_eq!(rt; signed.data().as_slice(), row.data, "{:?}", row.octets);
-        let value = signed.signature().value().as_slice();
-        assert_eq!(rt; value, b"\xAA".as_slice(), "{:?}", row.octets);
+        let (data, value) = has_parts(&signed, row.data, b"\xAA");
+        assert!(rt; data, "value: {}", row.name);
+        assert!(rt; value, "signature: {}", row.name);
     }
     Ok(())
 }
@@ -254,13 +271,17 @@ fn parts_are_refused(rt: HostRuntime) {
     }
 }
 
+const FRONTS: &[(&str, bool, &[u8])] = &[
+    ("three parts", false, PARTS_AND_NULL),
+    ("SEQUENCE", true, SIGNED_AND_NULL),
+];
+
 #[test]
 fn signed_data_is_read_one_by_one(rt: HostRuntime) -> Result<(), Fail> {
     let expected = decoded(rt.alloc(), SIGNED)?;
-    for (in_sequence, octets) in [(false, PARTS_AND_NULL), (true, SIGNED_AND_NULL)] {
-        let (signed, left) = read_front(rt.alloc(), in_sequence, octets)?;
-        assert!(rt; signed == expected, "{octets:?}");
-        assert_eq!(rt; left, 2, "{octets:?}");
+    for (name, in_sequence, octets) in FRONTS {
+        let (signed, left) = read_front(rt.alloc(), *in_sequence, octets)?;
+        assert_eq!(rt; (are_equal(&signed, &expected), left), (true, 2), "{name}");
     }
     Ok(())
 }
@@ -272,9 +293,14 @@ fn made(alloc: Global, octets: &'static [u8]) -> Result<SignedData, DecodeError>
     Ok(SignedData::new(value, signature_of(RSA_SIGNATURE, b"\xAA")?))
 }
 
+/// Whether signed data that is made is equal to SIGNED.
+fn is_made(alloc: Global) -> Result<bool, DecodeError> {
+    let signed = made(alloc, PARTS_AND_NULL)?;
+    Ok(are_equal(&signed, &decoded(alloc, SIGNED)?))
+}
+
 #[test]
 fn signed_data_is_made_of_its_parts(rt: HostRuntime) -> Result<(), Fail> {
-    let signed = made(rt.alloc(), PARTS_AND_NULL)?;
-    assert!(rt; signed == decoded(rt.alloc(), SIGNED)?);
+    assert!(rt; is_made(rt.alloc())?);
     Ok(())
 }

@@ -7,7 +7,8 @@ ghost use Rattle.rpki_der.specs.Reading.{Reads};
 ghost use Rattle.rpki_der.specs.Values.{IsOuterFault};
 ghost use Rattle.rpki.specs.SignatureNames.{SpellsBare};
 
-use super::{Always, written};
+use super::Always;
+use super::signed_data::signed_written;
 use crate::crypto::{
     BgpsecSignatureAlgorithm, Provider, PublicKey, RpkiSignature, RpkiSignatureAlgorithm,
     Signature, SignatureAlgorithm, SigningAlgorithm,
@@ -22,13 +23,18 @@ use std::test::Fail;
 const BGPSEC: &[u8] =
     b"\x30\x12\x30\x00\x30\x0A\x06\x08\x2A\x86\x48\xCE\x3D\x04\x03\x02\x03\x02\x00\xAA";
 
+/// The signed data that these octets are.
+fn decoded<Alg: SignatureAlgorithm + Drop>(
+    alloc: Global,
+    octets: &'static [u8],
+) -> Result<SignedData<Alg>, DecodeError> {
+    SignedData::decode(alloc, Bytes::from_static(octets))
+}
+
 #[test]
 fn bgpsec_signed_data_is_written_again(rt: HostRuntime) -> Result<(), Fail> {
-    let signed = SignedData::<BgpsecSignatureAlgorithm>::decode(
-        rt.alloc(),
-        Bytes::from_static(BGPSEC),
-    )?;
-    let octets = written(rt.alloc(), &signed.encode_ref())?.ok_or("too long")?;
+    let signed = decoded::<BgpsecSignatureAlgorithm>(rt.alloc(), BGPSEC)?;
+    let octets = signed_written(rt.alloc(), &signed)?.ok_or("too long")?;
     assert_eq!(rt; octets.as_slice(), BGPSEC);
     Ok(())
 }
@@ -99,8 +105,8 @@ const OWN: &[u8] = b"\x30\x0C\x30\x00\x30\x04\x06\x02\x2A\x03\x03\x02\x00\xAA";
 
 #[test]
 fn signed_data_of_an_own_algorithm_is_written_again(rt: HostRuntime) -> Result<(), Fail> {
-    let signed = SignedData::<OwnAlgorithm>::decode(rt.alloc(), Bytes::from_static(OWN))?;
-    let octets = written(rt.alloc(), &signed.encode_ref())?.ok_or("too long")?;
+    let signed = decoded::<OwnAlgorithm>(rt.alloc(), OWN)?;
+    let octets = signed_written(rt.alloc(), &signed)?.ok_or("too long")?;
     assert_eq!(rt; octets.as_slice(), OWN);
     Ok(())
 }
@@ -187,15 +193,29 @@ const CASES: &[(&str, &[u8], &[Triple], bool)] = &[
     ),
 ];
 
+/// The key that these octets are.
+fn key_of(octets: &'static [u8]) -> Result<PublicKey, DecodeError> {
+    PublicKey::decode(Bytes::from_static(octets))
+}
+
+/// Whether signed data of any algorithm is verified with the key, as the provider says.
+fn is_accepted<Alg: SignatureAlgorithm, P: Provider>(
+    signed: &SignedData<Alg>,
+    provider: &P,
+    key: &PublicKey,
+) -> bool {
+    signed.verify_signature(provider, key).is_ok()
+}
+
 /// Whether the signed data is verified with the RSA key of `abc`, by a provider with this table.
 fn is_verified(
     alloc: Global,
     octets: &'static [u8],
     triples: &'static [Triple],
 ) -> Result<bool, DecodeError> {
-    let key = PublicKey::decode(Bytes::from_static(KEY_OF_ABC))?;
-    let signed = SignedData::<RpkiSignatureAlgorithm>::decode(alloc, Bytes::from_static(octets))?;
-    Ok(signed.verify_signature(&Table { triples }, &key).is_ok())
+    let key = key_of(KEY_OF_ABC)?;
+    let signed = decoded::<RpkiSignatureAlgorithm>(alloc, octets)?;
+    Ok(is_accepted(&signed, &Table { triples }, &key))
 }
 
 #[test]
@@ -216,7 +236,7 @@ const ANSWERS: &[(&str, &[u8], bool, bool)] = &[
 
 /// Whether an RSA signature is verified with the key, by a provider that answers the same to all.
 fn is_verified_by(answer: bool, octets: &'static [u8]) -> Result<bool, DecodeError> {
-    let key = PublicKey::decode(Bytes::from_static(octets))?;
+    let key = key_of(octets)?;
     let signature: RpkiSignature = Signature::new(
         RpkiSignatureAlgorithm::default(),
         Bytes::from_static(b"\xAA"),

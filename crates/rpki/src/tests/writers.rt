@@ -5,16 +5,17 @@ use super::algorithms::{
 };
 use super::identifiers::SPELLED;
 use super::keys::{KEY_OF_ABC, SUBJECT};
+use super::names::name_of;
 use super::signed_data::SIGNED;
-use super::{Always, DIGEST_OF_ABC};
+use super::{Always, DIGEST_OF_ABC, keys, signed_data};
 use crate::crypto::{
-    BgpsecSignatureAlgorithm, DigestAlgorithm, KeyIdentifier, PublicKey, PublicKeyFormat,
+    BgpsecSignatureAlgorithm, DigestAlgorithm, KeyIdentifier, PublicKeyFormat,
     RpkiSignatureAlgorithm, SignatureAlgorithm,
 };
 use crate::oid;
-use crate::repository::x509::{Name, SignedData, encode_extension};
+use crate::repository::x509::{SignedData, encode_extension};
 use bytes::Bytes;
-use rpki_der::{Constructed, Primitive, PrimitiveContent, Sequence, Values};
+use rpki_der::{DecodeError, Primitive, PrimitiveContent, Sequence, Values};
 use std::alloc::{AllocError, Global};
 use std::io;
 use std::io::{ErrorKind, Write};
@@ -181,39 +182,52 @@ enum Encoder {
     Signed,
 }
 
-fn key_written(alloc: Global, fault: Fault, encoder: Encoder) -> Result<Option<Outcome>, Fail> {
-    let key = PublicKey::decode(Bytes::from_static(KEY_OF_ABC))?;
-    Ok(match encoder {
-        Encoder::Key => written(alloc, fault, &key.encode())?,
-        Encoder::Subject => {
-            let provider = Always { answer: true };
-            written(alloc, fault, &key.encode_subject_name(&provider))?
-        }
-        _ => written(alloc, fault, &key.encode_ref())?,
-    })
+fn key_written(alloc: Global, fault: Fault) -> Result<Option<Outcome>, DecodeError> {
+    let encoder = keys::decoded(KEY_OF_ABC)?.encode();
+    Ok(written(alloc, fault, &encoder)?)
 }
 
-fn other_written(alloc: Global, fault: Fault, encoder: Encoder) -> Result<Option<Outcome>, Fail> {
-    Ok(match encoder {
-        Encoder::Identifier => written(alloc, fault, &KeyIdentifier::from(DIGEST_OF_ABC).encode())?,
-        Encoder::Name => {
-            let source = Bytes::from_static(SUBJECT);
-            let name = Name::take_from(alloc, &mut Constructed::new(&source))?;
-            written(alloc, fault, &name.encode_ref())?
-        }
-        Encoder::Extension => {
-            let constraints = Sequence::new(None::<Primitive<()>>);
-            let extension = encode_extension(oid::CE_BASIC_CONSTRAINTS, true, constraints);
-            written(alloc, fault, &extension)?
-        }
-        _ => {
-            let signed = SignedData::<RpkiSignatureAlgorithm>::decode(
-                alloc,
-                Bytes::from_static(SIGNED),
-            )?;
-            written(alloc, fault, &signed.encode_ref())?
-        }
-    })
+fn lent_key_written(alloc: Global, fault: Fault) -> Result<Option<Outcome>, DecodeError> {
+    let key = keys::decoded(KEY_OF_ABC)?;
+    Ok(written(alloc, fault, &key.encode_ref())?)
+}
+
+fn subject_written(alloc: Global, fault: Fault) -> Result<Option<Outcome>, DecodeError> {
+    let (key, provider) = (keys::decoded(KEY_OF_ABC)?, Always { answer: true });
+    Ok(written(alloc, fault, &key.encode_subject_name(&provider))?)
+}
+
+fn identifier_written(alloc: Global, fault: Fault) -> Result<Option<Outcome>, DecodeError> {
+    let identifier = KeyIdentifier::from(DIGEST_OF_ABC);
+    Ok(written(alloc, fault, &identifier.encode())?)
+}
+
+fn name_written(alloc: Global, fault: Fault) -> Result<Option<Outcome>, DecodeError> {
+    let name = name_of(alloc, SUBJECT)?;
+    Ok(written(alloc, fault, &name.encode_ref())?)
+}
+
+fn extension_written(alloc: Global, fault: Fault) -> Result<Option<Outcome>, DecodeError> {
+    let constraints = Sequence::new(None::<Primitive<()>>);
+    let extension = encode_extension(oid::CE_BASIC_CONSTRAINTS, true, constraints);
+    Ok(written(alloc, fault, &extension)?)
+}
+
+/// Writes signed data of any algorithm.
+fn signed_data_written<Alg: SignatureAlgorithm + 'static>(
+    alloc: Global,
+    fault: Fault,
+    signed: &SignedData<Alg>,
+) -> Result<Option<Outcome>, AllocError>
+where
+    Alg::Encoder: Drop,
+{
+    written(alloc, fault, &signed.encode_ref())
+}
+
+fn signed_written(alloc: Global, fault: Fault) -> Result<Option<Outcome>, DecodeError> {
+    let signed = signed_data::decoded(alloc, SIGNED)?;
+    Ok(signed_data_written(alloc, fault, &signed)?)
 }
 
 /// Basic constraints of no authority, as a critical extension.
@@ -230,10 +244,19 @@ const ENCODERS: &[(Encoder, &[u8])] = &[
 ];
 
 /// What the encoder writes.
-fn encoder_written(alloc: Global, fault: Fault, encoder: Encoder) -> Result<Option<Outcome>, Fail> {
+fn encoder_written(
+    alloc: Global,
+    fault: Fault,
+    encoder: Encoder,
+) -> Result<Option<Outcome>, DecodeError> {
     match encoder {
-        Encoder::Key | Encoder::LentKey | Encoder::Subject => key_written(alloc, fault, encoder),
-        _ => other_written(alloc, fault, encoder),
+        Encoder::Key => key_written(alloc, fault),
+        Encoder::LentKey => lent_key_written(alloc, fault),
+        Encoder::Subject => subject_written(alloc, fault),
+        Encoder::Identifier => identifier_written(alloc, fault),
+        Encoder::Name => name_written(alloc, fault),
+        Encoder::Extension => extension_written(alloc, fault),
+        Encoder::Signed => signed_written(alloc, fault),
     }
 }
 
