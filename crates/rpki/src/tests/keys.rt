@@ -230,13 +230,23 @@ fn public_keys_are_written_by_their_owner(rt: HostRuntime) -> Result<(), Fail> {
     Ok(())
 }
 
-#[test]
-fn public_keys_are_read_one_by_one(rt: HostRuntime) -> Result<(), Fail> {
-    let source = Bytes::from_static(KEY_AND_MORE);
+/// Whether the keys are equal.
+fn are_equal(one: &PublicKey, other: &PublicKey) -> bool {
+    *one == *other
+}
+
+/// Whether the key at the front is that of `abc`, and these octets follow it.
+fn is_front(octets: &'static [u8], rest: &[u8]) -> Result<(bool, bool), DecodeError> {
+    let source = Bytes::from_static(octets);
     let mut cons = Constructed::new(&source);
     let key = PublicKey::take_from(&mut cons)?;
-    assert!(rt; are_equal(&key, &decoded(KEY_OF_ABC)?));
-    assert_eq!(rt; cons.rest(), b"\x00".as_slice());
+    let same = are_equal(&key, &decoded(KEY_OF_ABC)?);
+    Ok((same, cons.rest() == rest))
+}
+
+#[test]
+fn public_keys_are_read_one_by_one(rt: HostRuntime) -> Result<(), Fail> {
+    assert_eq!(rt; is_front(KEY_AND_MORE, b"\x00")?, (true, true));
     Ok(())
 }
 
@@ -256,11 +266,6 @@ const COMPARED: &[(&str, &[u8], bool)] = &[
     ("another format", P256_BITS, false),
     ("other bits", KEY_OF_ABC, false),
 ];
-
-/// Whether the keys are equal.
-fn are_equal(one: &PublicKey, other: &PublicKey) -> bool {
-    *one == *other
-}
 
 /// Whether the key is equal to that of eight bits.
 fn is_first(octets: &'static [u8]) -> Result<bool, DecodeError> {

@@ -8,7 +8,7 @@ ghost use Rattle.rpki_der.specs.Values.{IsOuterFault};
 ghost use Rattle.rpki.specs.SignatureNames.{SpellsBare};
 
 use super::Always;
-use super::signed_data::signed_written;
+use super::signed_data::{decoded_by, is_written_as};
 use crate::crypto::{
     BgpsecSignatureAlgorithm, Provider, PublicKey, RpkiSignature, RpkiSignatureAlgorithm,
     Signature, SignatureAlgorithm, SigningAlgorithm,
@@ -23,19 +23,9 @@ use std::test::Fail;
 const BGPSEC: &[u8] =
     b"\x30\x12\x30\x00\x30\x0A\x06\x08\x2A\x86\x48\xCE\x3D\x04\x03\x02\x03\x02\x00\xAA";
 
-/// The signed data that these octets are.
-fn decoded<Alg: SignatureAlgorithm + Drop>(
-    alloc: Global,
-    octets: &'static [u8],
-) -> Result<SignedData<Alg>, DecodeError> {
-    SignedData::decode(alloc, Bytes::from_static(octets))
-}
-
 #[test]
 fn bgpsec_signed_data_is_written_again(rt: HostRuntime) -> Result<(), Fail> {
-    let signed = decoded::<BgpsecSignatureAlgorithm>(rt.alloc(), BGPSEC)?;
-    let octets = signed_written(rt.alloc(), &signed)?.ok_or("too long")?;
-    assert_eq!(rt; octets.as_slice(), BGPSEC);
+    assert!(rt; is_written_as::<BgpsecSignatureAlgorithm>(rt.alloc(), BGPSEC, BGPSEC)?);
     Ok(())
 }
 
@@ -105,9 +95,7 @@ const OWN: &[u8] = b"\x30\x0C\x30\x00\x30\x04\x06\x02\x2A\x03\x03\x02\x00\xAA";
 
 #[test]
 fn signed_data_of_an_own_algorithm_is_written_again(rt: HostRuntime) -> Result<(), Fail> {
-    let signed = decoded::<OwnAlgorithm>(rt.alloc(), OWN)?;
-    let octets = signed_written(rt.alloc(), &signed)?.ok_or("too long")?;
-    assert_eq!(rt; octets.as_slice(), OWN);
+    assert!(rt; is_written_as::<OwnAlgorithm>(rt.alloc(), OWN, OWN)?);
     Ok(())
 }
 
@@ -214,7 +202,7 @@ fn is_verified(
     triples: &'static [Triple],
 ) -> Result<bool, DecodeError> {
     let key = key_of(KEY_OF_ABC)?;
-    let signed = decoded::<RpkiSignatureAlgorithm>(alloc, octets)?;
+    let signed = decoded_by::<RpkiSignatureAlgorithm>(alloc, octets)?;
     Ok(is_accepted(&signed, &Table { triples }, &key))
 }
 
