@@ -177,10 +177,15 @@ fn are_equal(one: &SignedData, other: &SignedData) -> bool {
     *one == *other
 }
 
+/// Whether it is equal to SIGNED.
+fn is_signed(alloc: Global, signed: &SignedData) -> Result<bool, DecodeError> {
+    Ok(are_equal(signed, &decoded(alloc, SIGNED)?))
+}
+
 /// Whether the signed data that these octets are is equal to SIGNED.
 fn is_first_signed(alloc: Global, octets: &'static [u8]) -> Result<bool, DecodeError> {
     let signed = decoded(alloc, octets)?;
-    Ok(are_equal(&signed, &decoded(alloc, SIGNED)?))
+    is_signed(alloc, &signed)
 }
 
 #[test]
@@ -311,7 +316,7 @@ fn compared_front(
     octets: &'static [u8],
 ) -> Result<(bool, usize), DecodeError> {
     let (signed, left) = read_front(alloc, in_sequence, octets)?;
-    Ok((are_equal(&signed, &decoded(alloc, SIGNED)?), left))
+    Ok((is_signed(alloc, &signed)?, left))
 }
 
 #[test]
@@ -333,7 +338,7 @@ fn made(alloc: Global, octets: &'static [u8]) -> Result<SignedData, DecodeError>
 /// Whether signed data that is made is equal to SIGNED.
 fn is_made(alloc: Global) -> Result<bool, DecodeError> {
     let signed = made(alloc, PARTS_AND_NULL)?;
-    Ok(are_equal(&signed, &decoded(alloc, SIGNED)?))
+    is_signed(alloc, &signed)
 }
 
 #[test]
