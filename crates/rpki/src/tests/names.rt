@@ -327,11 +327,21 @@ fn names_are_written_as_read(rt: HostRuntime) -> Result<(), Fail> {
     Ok(())
 }
 
+/// Whether a copy of the name is equal to it.
+fn is_copied(name: &Name) -> Result<bool, AllocError> {
+    Ok(name.clone()? == *name)
+}
+
+/// Whether the name of UTF-8 is another.
+fn is_another(alloc: Global, name: &Name) -> Result<bool, DecodeError> {
+    Ok(name_of(alloc, &UTF8_NAME)? != *name)
+}
+
 #[test]
 fn names_are_compared(rt: HostRuntime) -> Result<(), Fail> {
     let name = name_of(rt.alloc(), &NAME)?;
-    assert!(rt; name.clone()? == name, "a copy");
-    assert!(rt; name_of(rt.alloc(), &UTF8_NAME)? != name, "another name");
+    assert!(rt; is_copied(&name)?, "a copy");
+    assert!(rt; is_another(rt.alloc(), &name)?, "another name");
     Ok(())
 }
 
