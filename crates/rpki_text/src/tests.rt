@@ -8,3 +8,13 @@ mod hex;
 mod https;
 mod rsync;
 mod views;
+mod words;
+
+use std::alloc::Global;
+use std::fmt;
+use std::test::Fail;
+
+/// The text that Display prints.
+fn shown<D: fmt::Display + Drop>(alloc: Global, value: D) -> Result<String, Fail> {
+    Ok(format!(in alloc; "{value}")?)
+}

@@ -49,50 +49,48 @@ const RSYNC: &str = "rSync://hOst/module/";
 
 const HTTPS: &str = "hTtps://h";
 
-/// What each encoder writes, and how many octets the writer takes at a call.
-const ENCODERS: [(Encoder, &[u8], usize); 5] = [
-    (Encoder::RsyncString, b"\x16\x14rSync://hOst/module/", 1),
-    (Encoder::RsyncName, b"\x86\x14rSync://hOst/module/", 1),
-    (Encoder::HttpsString, b"\x16\x09hTtps://h", 1),
-    (Encoder::HttpsName, b"\x86\x09hTtps://h", 1),
+/// What each encoder writes, how many octets the writer takes at a call, and how many calls that makes.
+const ENCODERS: [(Encoder, &[u8], usize, usize); 5] = [
+    (Encoder::RsyncString, b"\x16\x14rSync://hOst/module/", 1, 22),
+    (Encoder::RsyncName, b"\x86\x14rSync://hOst/module/", 1, 22),
+    (Encoder::HttpsString, b"\x16\x09hTtps://h", 1, 11),
+    (Encoder::HttpsName, b"\x86\x09hTtps://h", 1, 11),
     // The digits of 800 octets, written in two parts, of 1,024 and 43.
-    (Encoder::Slurm, &[b'A'; 1067], 512),
+    (Encoder::Slurm, &[b'A'; 1067], 512, 3),
 ];
+
+/// Writes values that fit.
+fn write<V: Values>(values: &V, out: &mut Failing) -> Result<io::Result<()>, Fail> {
+    if !values.fits() {
+        return Err(Fail::from("too long"));
+    }
+    Ok(values.write_encoded(out))
+}
+
+fn encode_rsync(alloc: Global, is_name: bool, out: &mut Failing) -> Result<io::Result<()>, Fail> {
+    let uri = Rsync::from_str(alloc, RSYNC)?;
+    if is_name {
+        write(&uri.encode_general_name(), out)
+    } else {
+        write(&(&uri).encode(), out)
+    }
+}
+
+fn encode_https(alloc: Global, is_name: bool, out: &mut Failing) -> Result<io::Result<()>, Fail> {
+    let uri = Https::from_str(alloc, HTTPS)?;
+    if is_name {
+        write(&uri.encode_general_name(), out)
+    } else {
+        write(&(&uri).encode(), out)
+    }
+}
 
 fn encode(alloc: Global, encoder: Encoder, out: &mut Failing) -> Result<io::Result<()>, Fail> {
     match encoder {
-        Encoder::RsyncString => {
-            let uri = Rsync::from_str(alloc, RSYNC)?;
-            let string = (&uri).encode();
-            if !string.fits() {
-                return Err(Fail::from("too long"));
-            }
-            Ok(string.write_encoded(out))
-        }
-        Encoder::RsyncName => {
-            let uri = Rsync::from_str(alloc, RSYNC)?;
-            let name = uri.encode_general_name();
-            if !name.fits() {
-                return Err(Fail::from("too long"));
-            }
-            Ok(name.write_encoded(out))
-        }
-        Encoder::HttpsString => {
-            let uri = Https::from_str(alloc, HTTPS)?;
-            let string = (&uri).encode();
-            if !string.fits() {
-                return Err(Fail::from("too long"));
-            }
-            Ok(string.write_encoded(out))
-        }
-        Encoder::HttpsName => {
-            let uri = Https::from_str(alloc, HTTPS)?;
-            let name = uri.encode_general_name();
-            if !name.fits() {
-                return Err(Fail::from("too long"));
-            }
-            Ok(name.write_encoded(out))
-        }
+        Encoder::RsyncString => encode_rsync(alloc, false, out),
+        Encoder::RsyncName => encode_rsync(alloc, true, out),
+        Encoder::HttpsString => encode_https(alloc, false, out),
+        Encoder::HttpsName => encode_https(alloc, true, out),
         Encoder::Slurm => Ok(Slurm.write_encoded_slice(&[0; 800], out)),
     }
 }
@@ -126,24 +124,35 @@ fn outcome(
     }
 }
 
+/// Whether the writer holds what it took before it failed and was not called again, and the encoder returned its error;
+/// or, where it would fail later only, whether it holds all.
+fn ends_there(
+    alloc: Global,
+    (encoder, octets, most, calls): (Encoder, &[u8], usize, usize),
+    failure: (ErrorKind, bool),
+    fails_at: usize,
+) -> Result<bool, Fail> {
+    let (out, error) = outcome(alloc, (encoder, most), failure, fails_at)?;
+    if fails_at >= calls {
+        return Ok(error.is_none() && out.held.as_slice() == octets);
+    }
+    let held = octets.len().min(most.saturating_mul(fails_at));
+    Ok(
+        error == Some(failure.0)
+            && out.calls == fails_at.saturating_add(1)
+            && out.held.as_slice() == &octets[..held],
+    )
+}
+
 /// The first error of the writer ends the call: the writer holds what it took before, and isn't called again.
 #[test]
 fn encoders_end_at_the_first_error(rt: HostRuntime) -> Result<(), Fail> {
-    for (encoder, octets, most) in ENCODERS {
+    for row in ENCODERS {
         for failure in FAILURES {
-            let writes = octets.len().div_ceil(most);
-            for fails_at in 0..writes {
-                let (out, error) = outcome(rt.alloc(), (encoder, most), failure, fails_at)?;
-                let seen = (out.held.as_slice(), out.calls, error);
-                let want = (&octets[..most * fails_at], fails_at + 1, Some(failure.0));
-                assert_eq!(rt; seen, want, "{encoder:?} {failure:?} {fails_at}");
+            for fails_at in 0..=row.3 {
+                let ends = ends_there(rt.alloc(), row, failure, fails_at)?;
+                assert!(rt; ends, "{:?} {failure:?} {fails_at}", row.0);
             }
-            let (out, error) = outcome(rt.alloc(), (encoder, most), failure, writes)?;
-            assert_eq!(rt;
-                (out.held.as_slice(), error),
-                (octets, None),
-                "{encoder:?} {failure:?}"
-            );
         }
     }
     Ok(())

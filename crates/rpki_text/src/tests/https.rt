@@ -1,8 +1,9 @@
 //! Https URIs.
 
-use crate::uri::{Error, Https, Scheme};
+use super::shown;
+use crate::uri::{Error, Https};
 use bytes::Bytes;
-use std::alloc::Global;
+use std::alloc::{AllocError, Global};
 use std::hash::{FoldHasher, Hash, Hasher};
 use std::test::Fail;
 
@@ -17,22 +18,23 @@ fn refusal(alloc: Global, text: &str) -> Option<Error> {
 
 const LOWER: &str = "https://aaaa/";
 
+const REFUSALS: [(&str, Option<Error>); 10] = [
+    ("https://example.com/some", None),
+    ("https://", None),
+    ("https:///", None),
+    ("HTTPS://example.com", None),
+    ("https://h/.././/a", None),
+    ("", Some(Error::BadScheme)),
+    ("rsync://host/module/", Some(Error::BadScheme)),
+    ("https:/host", Some(Error::BadScheme)),
+    ("https://a b", Some(Error::InvalidCharacters)),
+    ("xttps://a b", Some(Error::InvalidCharacters)),
+];
+
 #[test]
 fn refusals(rt: HostRuntime) {
-    let cases: [(&str, Option<Error>); 10] = [
-        ("https://example.com/some", None),
-        ("https://", None),
-        ("https:///", None),
-        ("HTTPS://example.com", None),
-        ("https://h/.././/a", None),
-        ("", Some(Error::BadScheme)),
-        ("rsync://host/module/", Some(Error::BadScheme)),
-        ("https:/host", Some(Error::BadScheme)),
-        ("https://a b", Some(Error::InvalidCharacters)),
-        ("xttps://a b", Some(Error::InvalidCharacters)),
-    ];
-    for (text, want) in cases {
-        assert_eq!(rt; refusal(rt.alloc(), text), want, "{text}");
+    for (text, want) in REFUSALS {
+        assert!(rt; refusal(rt.alloc(), text) == want, "{text}");
     }
 }
 
@@ -45,74 +47,98 @@ fn long_authority(alloc: Global, times: usize) -> Result<Option<Error>, Fail> {
     Ok(refusal(alloc, text.as_str()))
 }
 
+/// How long an authority is, and its error.
+const AUTHORITIES: [(usize, Option<Error>); 2] = [(255, None), (256, Some(Error::BadUri))];
+
 #[test]
 fn authorities(rt: HostRuntime) -> Result<(), Fail> {
-    for (times, want) in [(255, None), (256, Some(Error::BadUri))] {
-        assert_eq!(rt; long_authority(rt.alloc(), times)?, want, "{times}");
+    for (times, want) in AUTHORITIES {
+        let found = long_authority(rt.alloc(), times)?;
+        assert!(rt; found == want, "{times}");
     }
     Ok(())
 }
 
-fn joined(alloc: Global, base: &str, path: &str) -> Result<String, Fail> {
-    match parsed(alloc, base)?.join(alloc, path.as_bytes()) {
-        Ok(joined) => Ok(String::from_str(alloc, joined.as_str())?),
-        Err(e) => Ok(format!(in alloc; "{e:?}")?),
-    }
+fn join(alloc: Global, base: &Https, path: &str) -> Result<Https, Error> {
+    base.join(alloc, path.as_bytes())
 }
 
+/// Whether the path is joined to this text, or is refused with this error.
+fn is_joined(
+    alloc: Global,
+    base: &str,
+    path: &str,
+    want: Result<&str, Error>,
+) -> Result<bool, Error> {
+    let base = parsed(alloc, base)?;
+    Ok(match join(alloc, &base, path) {
+        Ok(joined) => want == Ok(joined.as_str()),
+        Err(e) => want == Err(e),
+    })
+}
+
+const JOINS: [(&str, &str, Result<&str, Error>); 7] = [
+    ("https://example.com", "a", Ok("https://example.com/a")),
+    ("https://", "a", Ok("https:///a")),
+    (
+        "https://example.com/some",
+        "sub/",
+        Ok("https://example.com/some/sub/"),
+    ),
+    (
+        "https://example.com/some/",
+        "sub/",
+        Ok("https://example.com/some/sub/"),
+    ),
+    (
+        "https://example.com/some",
+        "",
+        Ok("https://example.com/some/"),
+    ),
+    ("https://exAmple.com/", "/..", Ok("https://exAmple.com//..")),
+    ("https://example.com/", "a b", Err(Error::InvalidCharacters)),
+];
+
 #[test]
-fn joins(rt: HostRuntime) -> Result<(), Fail> {
-    let cases: [(&str, &str, &str); 7] = [
-        ("https://example.com", "a", "https://example.com/a"),
-        ("https://", "a", "https:///a"),
-        (
-            "https://example.com/some",
-            "sub/",
-            "https://example.com/some/sub/",
-        ),
-        (
-            "https://example.com/some/",
-            "sub/",
-            "https://example.com/some/sub/",
-        ),
-        ("https://example.com/some", "", "https://example.com/some/"),
-        ("https://exAmple.com/", "/..", "https://exAmple.com//.."),
-        ("https://example.com/", "a b", "InvalidCharacters"),
-    ];
-    for (base, path, want) in cases {
-        assert_eq!(rt;
-            joined(rt.alloc(), base, path)?.as_str(),
-            want,
+fn joins(rt: HostRuntime) {
+    for (base, path, want) in JOINS {
+        assert!(rt;
+            is_joined(rt.alloc(), base, path, want) == Ok(true),
             "{base} join {path}"
         );
     }
-    Ok(())
 }
 
-fn parent(alloc: Global, text: &str) -> Result<String, Fail> {
-    match parsed(alloc, text)?.parent()? {
-        Some(parent) => Ok(String::from_str(alloc, parent.as_str())?),
-        None => Ok(String::from_str(alloc, "None")?),
-    }
+fn parent(uri: &Https) -> Result<Option<Https>, AllocError> {
+    uri.parent()
 }
+
+/// Whether this is the parent, or "None".
+fn is_parent(alloc: Global, text: &str, want: &str) -> Result<bool, Error> {
+    let uri = parsed(alloc, text)?;
+    Ok(match parent(&uri)? {
+        Some(parent) => parent.as_str() == want,
+        None => want == "None",
+    })
+}
+
+const PARENTS: [(&str, &str); 9] = [
+    ("https://example.com/", "None"),
+    ("https://example.com", "None"),
+    ("https://example.com/1/", "https://example.com/"),
+    ("https://example.com/foo", "https://example.com/"),
+    ("https://example.com/1/foo", "https://example.com/1/"),
+    ("https://example.com/1/2/", "https://example.com/1/"),
+    ("https://e//", "https://e/"),
+    ("https:///foo", "https:///"),
+    ("https://e/1//", "https://e/1/"),
+];
 
 #[test]
-fn parents(rt: HostRuntime) -> Result<(), Fail> {
-    let cases: [(&str, &str); 9] = [
-        ("https://example.com/", "None"),
-        ("https://example.com", "None"),
-        ("https://example.com/1/", "https://example.com/"),
-        ("https://example.com/foo", "https://example.com/"),
-        ("https://example.com/1/foo", "https://example.com/1/"),
-        ("https://example.com/1/2/", "https://example.com/1/"),
-        ("https://e//", "https://e/"),
-        ("https:///foo", "https:///"),
-        ("https://e/1//", "https://e/1/"),
-    ];
-    for (text, want) in cases {
-        assert_eq!(rt; parent(rt.alloc(), text)?.as_str(), want, "{text}");
+fn parents(rt: HostRuntime) {
+    for (text, want) in PARENTS {
+        assert!(rt; is_parent(rt.alloc(), text, want) == Ok(true), "{text}");
     }
-    Ok(())
 }
 
 fn hash_of(u: &Https) -> u64 {
@@ -121,92 +147,138 @@ fn hash_of(u: &Https) -> u64 {
     state.finish()
 }
 
+/// Equal, equal by the octets of the second, and the same authority.
+fn equalities(u: &Https, v: &Https, octets: &[u8]) -> (bool, bool, bool) {
+    (u == v, u.eq_bytes(octets), u.eq_authority(v))
+}
+
 /// Equal, equal by octets, the same authority, and hashed alike.
-fn comparison(alloc: Global, a: &str, b: &str) -> Result<(bool, bool, bool, bool), Fail> {
+fn comparison(alloc: Global, a: &str, b: &str) -> Result<(bool, bool, bool, bool), Error> {
     let (u, v) = (parsed(alloc, a)?, parsed(alloc, b)?);
-    Ok((
-        u == v,
-        u.eq_bytes(b.as_bytes()),
-        u.eq_authority(&v),
-        hash_of(&u) == hash_of(&v),
-    ))
+    let (equal, octets, authority) = equalities(&u, &v, b.as_bytes());
+    Ok((equal, octets, authority, hash_of(&u) == hash_of(&v)))
+}
+
+const SOME: &str = "https://example.com/some/stuff";
+
+const COMPARISONS: [(&str, &str, (bool, bool, bool, bool)); 4] = [
+    (
+        "htTps://eXAMple.coM/some/stuff",
+        SOME,
+        (true, true, true, true),
+    ),
+    (
+        SOME,
+        "https://example.com/Some/stuff",
+        (false, false, true, false),
+    ),
+    (
+        SOME,
+        "https://example.net/some/stuff",
+        (false, false, false, false),
+    ),
+    (
+        "https://example.com",
+        "https://example.com/",
+        (false, false, true, false),
+    ),
+];
+
+#[test]
+fn comparisons(rt: HostRuntime) {
+    for (a, b, want) in COMPARISONS {
+        assert!(rt; comparison(rt.alloc(), a, b) == Ok(want), "{a} and {b}");
+    }
+}
+
+/// A text, which is what Display prints; the authority, the canonical authority, the path, whether it is a directory,
+/// and the text as a directory.
+const PARTS: [(&str, &str, &str, &str, bool, &str); 4] = [
+    (
+        "https://example.com/some",
+        "example.com",
+        "example.com",
+        "/some",
+        false,
+        "https://example.com/some/",
+    ),
+    ("https://HOST", "HOST", "host", "", true, "https://HOST"),
+    ("HTTPS://h/a/", "h", "h", "/a/", true, "HTTPS://h/a/"),
+    ("https://", "", "", "", true, "https://"),
+];
+
+fn authority_and_path(u: &Https) -> (&str, &str) {
+    (u.authority(), u.path())
+}
+
+/// The scheme, and whether the path is a directory.
+fn scheme_and_kind(u: &Https) -> (&'static str, bool) {
+    (u.scheme().as_str(), u.path_is_dir())
+}
+
+/// Which part of the text is not as wanted: none, if all are.
+fn wrong_part(alloc: Global, text: &str, authority: &str, path: &str, dir: bool) -> &'static str {
+    let Ok(uri) = parsed(alloc, text) else {
+        return "parsing";
+    };
+    if authority_and_path(&uri) != (authority, path) {
+        return "authority or path";
+    }
+    if scheme_and_kind(&uri) == ("https", dir) {
+        ""
+    } else {
+        "scheme or kind of path"
+    }
 }
 
 #[test]
-fn comparisons(rt: HostRuntime) -> Result<(), Fail> {
-    let some = "https://example.com/some/stuff";
-    let cases: [(&str, &str, (bool, bool, bool, bool)); 4] = [
-        (
-            "htTps://eXAMple.coM/some/stuff",
-            some,
-            (true, true, true, true),
-        ),
-        (
-            some,
-            "https://example.com/Some/stuff",
-            (false, false, true, false),
-        ),
-        (
-            some,
-            "https://example.net/some/stuff",
-            (false, false, false, false),
-        ),
-        (
-            "https://example.com",
-            "https://example.com/",
-            (false, false, true, false),
-        ),
-    ];
-    for (a, b, want) in cases {
-        assert_eq!(rt; comparison(rt.alloc(), a, b)?, want, "{a} and {b}");
+fn uri_parts(rt: HostRuntime) {
+    for (text, authority, _, path, dir, _) in PARTS {
+        let wrong = wrong_part(rt.alloc(), text, authority, path, dir);
+        assert!(rt; wrong.is_empty(), "{wrong} of {text}");
     }
-    Ok(())
 }
 
-fn put(line: &mut String, parts: &[&str]) -> Result<(), Fail> {
-    for part in parts {
-        line.push_str(" ")?;
-        line.push_str(part)?;
-    }
-    Ok(())
+fn canonical(alloc: Global, u: &Https) -> Result<String, AllocError> {
+    u.canonical_authority(alloc)?.into_owned(alloc)
 }
 
-/// The text that Display prints, then its parts, and the text as a directory.
-fn parts(alloc: Global, text: &str) -> Result<String, Fail> {
-    let mut u = parsed(alloc, text)?;
-    let mut line = format!(in alloc; "{u}")?;
-    let canonical = u.canonical_authority(alloc)?.into_owned(alloc)?;
-    let parts = [
-        u.scheme().as_str(),
-        u.authority(),
-        canonical.as_str(),
-        u.path(),
-    ];
-    put(&mut line, &parts)?;
-    let dir = u.path_is_dir();
-    u.path_into_dir(alloc)?;
-    Ok(format!(in alloc; "{line} {dir} {u}")?)
+/// Whether this is the canonical authority of the text.
+fn has_canonical(alloc: Global, text: &str, want: &str) -> Result<bool, Error> {
+    let uri = parsed(alloc, text)?;
+    Ok(canonical(alloc, &uri)?.as_str() == want)
 }
 
 #[test]
-fn uri_parts(rt: HostRuntime) -> Result<(), Fail> {
-    let cases: [(&str, &str); 4] = [
-        (
-            "https://example.com/some",
-            "https://example.com/some https example.com example.com /some false https://example.com/some/",
-        ),
-        (
-            "https://HOST",
-            "https://HOST https HOST host  true https://HOST",
-        ),
-        (
-            "HTTPS://h/a/",
-            "HTTPS://h/a/ https h h /a/ true HTTPS://h/a/",
-        ),
-        ("https://", "https:// https    true https://"),
-    ];
-    for (text, want) in cases {
-        assert_eq!(rt; parts(rt.alloc(), text)?.as_str(), want, "{text}");
+fn canonical_authorities(rt: HostRuntime) {
+    for (text, _, authority, _, _, _) in PARTS {
+        assert!(rt;
+            has_canonical(rt.alloc(), text, authority) == Ok(true),
+            "{text}"
+        );
+    }
+}
+
+fn into_dir(alloc: Global, uri: Https) -> Result<Https, AllocError> {
+    let mut uri = uri;
+    uri.path_into_dir(alloc)?;
+    Ok(uri)
+}
+
+/// Whether Display prints the text, and this once it is a directory.
+fn prints(alloc: Global, text: &str, dir: &str) -> Result<(bool, bool), Fail> {
+    let uri = parsed(alloc, text)?;
+    let same = shown(alloc, &uri)?.as_str() == text;
+    let uri = into_dir(alloc, uri)?;
+    Ok((same, shown(alloc, &uri)?.as_str() == dir))
+}
+
+#[test]
+fn printed_texts(rt: HostRuntime) -> Result<(), Fail> {
+    for (text, _, _, _, _, dir) in PARTS {
+        let (same, same_dir) = prints(rt.alloc(), text, dir)?;
+        assert!(rt; same, "{text}");
+        assert!(rt; same_dir, "{dir}");
     }
     Ok(())
 }
@@ -219,18 +291,30 @@ fn is_text<E: Drop>(read: Result<Https, E>, text: &str) -> bool {
     }
 }
 
-fn copies_agree(alloc: Global, text: &str) -> Result<bool, Fail> {
-    let owned = is_text(Https::from_string(String::from_str(alloc, text)?), text);
+/// A copy, and what is read from the octets, have the text.
+fn borrowed_copies_agree(alloc: Global, uri: &Https, text: &str) -> bool {
+    is_text(uri.clone(), text) && is_text(Https::from_slice(alloc, uri.as_slice()), text)
+}
+
+/// The URI of the text, after it was made to own its octets.
+fn unshared(alloc: Global, text: &str) -> Result<Https, Error> {
     let mut uri = Https::from_str(alloc, text)?;
     uri.unshare(alloc)?;
-    let copied = is_text(uri.clone(), text);
-    let again = is_text(Https::from_slice(alloc, uri.as_slice()), text);
-    Ok(owned && copied && again && uri.as_str() == text)
+    Ok(uri)
 }
+
+/// Each way of making a copy gives the same text.
+fn copies_agree(alloc: Global, text: &str) -> Result<bool, Fail> {
+    let owned = is_text(Https::from_string(String::from_str(alloc, text)?), text);
+    let uri = unshared(alloc, text)?;
+    Ok(owned && borrowed_copies_agree(alloc, &uri, text) && uri.as_str() == text)
+}
+
+const COPIED: [&str; 3] = ["htTps://eXAMple.coM/some/stuff", LOWER, "https://"];
 
 #[test]
 fn copies(rt: HostRuntime) -> Result<(), Fail> {
-    for text in ["htTps://eXAMple.coM/some/stuff", LOWER, "https://"] {
+    for text in COPIED {
         assert!(rt; copies_agree(rt.alloc(), text)?, "{text}");
     }
     Ok(())
