@@ -1,4 +1,7 @@
 //! Worked cases of serial numbers, times and validity periods.
+//!
+//! A test is proved too, so each is one loop with a helper that makes the calls. A function hands out the rows of each
+//! table, since a proof about a loop over rows that it is told one by one takes long.
 
 mod failing;
 mod laws;
@@ -91,38 +94,61 @@ fn period_of(years: (i32, i32)) -> Option<Validity> {
     Some(Validity::new(start, end))
 }
 
-fn refusal(e: DecodeError) -> Found {
-    if e == DecodeError::Content(ContentError::from_static("malformed time value")) {
+fn refusal(e: &DecodeError) -> Found {
+    if *e == DecodeError::Content(ContentError::from_static("malformed time value")) {
         return Found::Malformed;
     }
-    if e == DecodeError::Content(ContentError::from_static("serial number longer than 20 bytes")) {
+    if *e == DecodeError::Content(ContentError::from_static("serial number longer than 20 bytes")) {
         return Found::TooLong;
     }
-    Found::Refused(kind_of(&e))
+    Found::Refused(kind_of(e))
+}
+
+fn read_serial(cursor: &mut Constructed<'_>) -> Found {
+    match Serial::take_from(cursor) {
+        Ok(serial) => Found::Serial(serial.into_array()),
+        Err(e) => refusal(&e),
+    }
+}
+
+fn read_time(cursor: &mut Constructed<'_>) -> Found {
+    match Time::take_from(cursor) {
+        Ok(time) => Found::Time(parts_of(time)),
+        Err(e) => refusal(&e),
+    }
+}
+
+fn read_optional_time(cursor: &mut Constructed<'_>) -> Found {
+    match Time::take_opt_from(cursor) {
+        Ok(Some(time)) => Found::Time(parts_of(time)),
+        Ok(None) => Found::Nothing,
+        Err(e) => refusal(&e),
+    }
+}
+
+fn read_period(cursor: &mut Constructed<'_>) -> Found {
+    match Validity::take_from(cursor) {
+        Ok(period) => Found::Period(parts_of(period.not_before()), parts_of(period.not_after())),
+        Err(e) => refusal(&e),
+    }
 }
 
 fn answer(reader: Reader, cursor: &mut Constructed<'_>) -> Found {
     match reader {
-        Reader::Serial => match Serial::take_from(cursor) {
-            Ok(serial) => Found::Serial(serial.into_array()),
-            Err(e) => refusal(e),
-        },
-        Reader::Time => match Time::take_from(cursor) {
-            Ok(time) => Found::Time(parts_of(time)),
-            Err(e) => refusal(e),
-        },
-        Reader::OptionalTime => match Time::take_opt_from(cursor) {
-            Ok(Some(time)) => Found::Time(parts_of(time)),
-            Ok(None) => Found::Nothing,
-            Err(e) => refusal(e),
-        },
-        Reader::Period => match Validity::take_from(cursor) {
-            Ok(period) => {
-                Found::Period(parts_of(period.not_before()), parts_of(period.not_after()))
-            }
-            Err(e) => refusal(e),
-        },
+        Reader::Serial => read_serial(cursor),
+        Reader::Time => read_time(cursor),
+        Reader::OptionalTime => read_optional_time(cursor),
+        Reader::Period => read_period(cursor),
     }
+}
+
+/// An OCTET STRING of the octets.
+fn string_of(alloc: Global, octets: &'static [u8]) -> Result<Captured, AllocError> {
+    let string = octets.encode();
+    if !string.fits() {
+        return Err(AllocError);
+    }
+    Captured::from_values(alloc, &string)
 }
 
 /// What the reader returns on these octets, which follow the header of an OCTET STRING; and how many are left.
@@ -131,11 +157,7 @@ fn read(
     reader: Reader,
     octets: &'static [u8],
 ) -> Result<(Found, usize), AllocError> {
-    let string = octets.encode();
-    if !string.fits() {
-        return Err(AllocError);
-    }
-    let whole = Captured::from_values(alloc, &string)?.into_bytes();
+    let whole = string_of(alloc, octets)?.into_bytes();
     if whole.len() < octets.len() {
         return Err(AllocError);
     }
@@ -143,6 +165,11 @@ fn read(
     let mut cursor = Constructed::new(&source);
     let found = answer(reader, &mut cursor);
     Ok((found, cursor.rest().len()))
+}
+
+/// Whether this is what was found, with so many octets left.
+fn is_found(found: (Found, usize), expected: &(Found, usize)) -> bool {
+    found == *expected
 }
 
 const READ: &[(&str, Reader, &[u8], (Found, usize))] = &[
@@ -466,11 +493,15 @@ const READ: &[(&str, Reader, &[u8], (Found, usize))] = &[
     ),
 ];
 
+fn read_rows() -> &'static [(&'static str, Reader, &'static [u8], (Found, usize))] {
+    READ
+}
+
 #[test]
 fn values_are_read(rt: HostRuntime) -> Result<(), Fail> {
-    for (name, reader, octets, expected) in READ {
+    for (name, reader, octets, expected) in read_rows() {
         let found = read(rt.alloc(), *reader, octets)?;
-        assert!(rt; found == *expected, "{name}: {found:?}");
+        assert!(rt; is_found(found, expected), "{name}");
     }
     Ok(())
 }
@@ -542,47 +573,60 @@ fn write_to(alloc: Global, out: &mut FailsOnce, written: Written) -> io::Result<
     }
 }
 
-const WRITTEN: &[(Written, &[u8])] = &[
-    (Written::Zero, b"\x02\x01\0"),
+const WRITTEN: &[(&str, Written, &[u8])] = &[
+    ("zero", Written::Zero, b"\x02\x01\0"),
     (
+        "a serial number that begins with a bit",
         Written::Octets(b"\0\0\0\0\0\0\0\0\0\0\0\0\0\0\0\0\0\x81\x02\x03"),
         b"\x02\x04\0\x81\x02\x03",
     ),
     (
+        "the greatest number",
         Written::Number(u128::MAX),
         b"\x02\x11\0\xff\xff\xff\xff\xff\xff\xff\xff\xff\xff\xff\xff\xff\xff\xff\xff",
     ),
-    (Written::Small(128), b"\x02\x02\0\x80"),
-    (Written::Small(127), b"\x02\x01\x7f"),
+    ("128", Written::Small(128), b"\x02\x02\0\x80"),
+    ("127", Written::Small(127), b"\x02\x01\x7f"),
     (
+        "a UTC time of 2060",
         Written::Utc((2060, 1, 1, 0, 0, 0)),
         b"\x17\x0d600101000000Z",
     ),
     (
+        "a generalized time of 2020",
         Written::Generalized((2020, 1, 1, 0, 0, 0)),
         b"\x18\x0f20200101000000Z",
     ),
     (
+        "a time of 2060",
         Written::Varied((2060, 1, 1, 0, 0, 0)),
         b"\x18\x0f20600101000000Z",
     ),
     (
+        "the last moment of 1949",
         Written::Varied((1949, 12, 31, 23, 59, 59)),
         b"\x18\x0f19491231235959Z",
     ),
     (
+        "the first moment of 1950",
         Written::Varied((1950, 1, 1, 0, 0, 0)),
         b"\x17\x0d500101000000Z",
     ),
     (
+        "the last moment of 2049",
         Written::Varied((2049, 12, 31, 23, 59, 59)),
         b"\x17\x0d491231235959Z",
     ),
     (
+        "a period of both kinds of time",
         Written::Period((2020, 1, 1, 0, 0, 0), (2050, 1, 1, 0, 0, 0)),
         b"\x30\x20\x17\x0d200101000000Z\x18\x0f20500101000000Z",
     ),
 ];
+
+fn written_rows() -> &'static [(&'static str, Written, &'static [u8])] {
+    WRITTEN
+}
 
 #[test]
 fn contents_have_their_tags(rt: HostRuntime) {
@@ -591,58 +635,85 @@ fn contents_have_their_tags(rt: HostRuntime) {
     assert!(rt; <GeneralizedTime as PrimitiveContent>::TAG == Tag::GENERALIZED_TIME);
 }
 
+/// Whether the octets are captured, and are written to a writer too.
+fn is_written(alloc: Global, written: Written, expected: &[u8]) -> io::Result<(bool, bool)> {
+    let mut out = FailsOnce::never(alloc);
+    let found = write_to(alloc, &mut out, written)?;
+    Ok((found.as_slice() == expected, out.has_written(expected)))
+}
+
 #[test]
 fn values_are_written(rt: HostRuntime) -> Result<(), Fail> {
-    for (written, expected) in WRITTEN {
-        let mut out = FailsOnce::never(rt.alloc());
-        let found = write_to(rt.alloc(), &mut out, *written)?;
-        assert_eq!(rt; found.as_slice(), *expected, "{written:?}");
-        assert!(rt; out.has_written(expected), "{written:?}");
+    for (name, written, expected) in written_rows() {
+        let (captured, put) = is_written(rt.alloc(), *written, expected)?;
+        assert!(rt; captured, "{name}");
+        assert!(rt; put, "{name} to a writer");
     }
     Ok(())
 }
 
 /// Octets, and the number that they are, or why they are none.
-const SLICES: &[(&[u8], Result<u64, SerialSliceError>)] = &[
-    (&[1, 2, 3], Ok(0x10203)),
-    (&[0, 1], Ok(1)),
-    (&[0x80], Ok(128)),
-    (&[0; 20], Ok(0)),
-    (&[], Err(SerialSliceError::Empty)),
-    (&[0; 21], Err(SerialSliceError::Long)),
+const SLICES: &[(&str, &[u8], Result<u64, SerialSliceError>)] = &[
+    ("three octets", &[1, 2, 3], Ok(0x10203)),
+    ("a zero and an octet", &[0, 1], Ok(1)),
+    ("128", &[0x80], Ok(128)),
+    ("20 zeros", &[0; 20], Ok(0)),
+    ("nothing", &[], Err(SerialSliceError::Empty)),
+    ("21 zeros", &[0; 21], Err(SerialSliceError::Long)),
     (
+        "20 octets that begin with a bit",
         b"\x80\0\0\0\0\0\0\0\0\0\0\0\0\0\0\0\0\0\0\0",
         Err(SerialSliceError::Long),
     ),
 ];
 
+fn slice_rows() -> &'static [(&'static str, &'static [u8], Result<u64, SerialSliceError>)] {
+    SLICES
+}
+
+/// Whether the octets are this number, or are refused so.
+fn is_serial(octets: &[u8], expected: Result<u64, SerialSliceError>) -> bool {
+    match (Serial::from_slice(octets), expected) {
+        (Ok(serial), Ok(number)) => serial == Serial::from(number),
+        (Err(found), Err(wanted)) => {
+            found == wanted && ContentError::from(found) == ContentError::from(wanted)
+        }
+        _ => false,
+    }
+}
+
 #[test]
 fn serials_of_slices(rt: HostRuntime) {
-    for (octets, expected) in SLICES {
-        let same = match (Serial::from_slice(octets), *expected) {
-            (Ok(serial), Ok(number)) => serial == Serial::from(number),
-            (Err(found), Err(wanted)) => {
-                found == wanted && ContentError::from(found) == ContentError::from(wanted)
-            }
-            _ => false,
-        };
-        assert!(rt; same, "{octets:?}");
+    for (name, octets, expected) in slice_rows() {
+        assert!(rt; is_serial(octets, *expected), "{name}");
     }
 }
 
 /// The octets of a serial number, and whether their first bit is set.
-const ARRAYS: &[([u8; 20], bool)] = &[([0; 20], false), ([0x7f; 20], false), ([0x80; 20], true)];
+const ARRAYS: &[(&str, [u8; 20], bool)] = &[
+    ("20 times 0", [0; 20], false),
+    ("20 times 7F", [0x7f; 20], false),
+    ("20 times 80", [0x80; 20], true),
+];
+
+fn array_rows() -> &'static [(&'static str, [u8; 20], bool)] {
+    ARRAYS
+}
+
+/// Whether the octets are a serial number and are read back, or both ways to make one refuse them.
+fn is_array(octets: [u8; 20], refused: bool) -> bool {
+    match (Serial::from_array(octets), Serial::try_from(octets)) {
+        (Ok(serial), Ok(other)) => {
+            !refused && serial == other && <[u8; 20]>::from(serial) == octets
+        }
+        (Err(SerialSliceError::Long), Err(SerialSliceError::Long)) => refused,
+        _ => false,
+    }
+}
 
 #[test]
 fn serials_of_arrays(rt: HostRuntime) {
-    for (octets, refused) in ARRAYS {
-        let same = match (Serial::from_array(*octets), Serial::try_from(*octets)) {
-            (Ok(serial), Ok(other)) => {
-                !refused && serial == other && <[u8; 20]>::from(serial) == *octets
-            }
-            (Err(SerialSliceError::Long), Err(SerialSliceError::Long)) => *refused,
-            _ => false,
-        };
-        assert!(rt; same, "{octets:?}");
+    for (name, octets, refused) in array_rows() {
+        assert!(rt; is_array(*octets, *refused), "{name}");
     }
 }

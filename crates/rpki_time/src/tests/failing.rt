@@ -32,12 +32,12 @@ impl FailsOnce {
     }
 
     /// Whether a call failed, it holds a beginning of these octets and not all of them, and this is the error.
-    fn has_failed(&self, octets: &[u8], error: Option<io::Error>) -> bool {
+    fn has_failed(&self, octets: &[u8], error: io::Error) -> bool {
         let held = self.held.as_slice();
         self.has_failed
             && held.len() < octets.len()
             && octets.starts_with(held)
-            && error.is_some_and(|e| e.kind() == self.error.unwrap_or(ErrorKind::WriteZero))
+            && error.kind() == self.error.unwrap_or(ErrorKind::WriteZero)
     }
 }
 
@@ -70,28 +70,46 @@ const FAILURES: [(usize, Option<ErrorKind>); 5] = [
     (usize::MAX, None),
 ];
 
+/// Whether a writer that fails after so many calls ends the call and holds a beginning of the octets, or does not fail
+/// and holds all.
+fn ends_there(
+    alloc: Global,
+    (written, expected): (Written, &[u8]),
+    (most, error): (usize, Option<ErrorKind>),
+    calls: usize,
+) -> bool {
+    // A value of n octets takes n calls of one octet, or at least one call.
+    let least = if most == 1 { expected.len() } else { 1 };
+    let mut out = FailsOnce {
+        most,
+        calls,
+        error,
+        ..FailsOnce::never(alloc)
+    };
+    match write_to(alloc, &mut out, written) {
+        Ok(_) => calls >= least && out.has_written(expected),
+        Err(e) => {
+            let one_by_one = most > 1 || out.held.len() == calls;
+            calls < expected.len() && one_by_one && out.has_failed(expected, e)
+        }
+    }
+}
+
+/// The same after each number of calls: the first after which it is not so.
+fn first_fault(
+    alloc: Global,
+    row: (Written, &[u8]),
+    failure: (usize, Option<ErrorKind>),
+) -> Option<usize> {
+    (0..=row.1.len()).find(|calls| !ends_there(alloc, row, failure, *calls))
+}
+
 #[test]
 fn a_failed_writer_holds_a_beginning(rt: HostRuntime) {
-    for (written, expected) in WRITTEN {
-        for (most, error) in FAILURES {
-            // A value of n octets takes n calls of one octet, or at least one call.
-            let least = if most == 1 { expected.len() } else { 1 };
-            for calls in 0..=expected.len() {
-                let mut out = FailsOnce {
-                    most,
-                    calls,
-                    error,
-                    ..FailsOnce::never(rt.alloc())
-                };
-                let outcome = write_to(rt.alloc(), &mut out, *written).err();
-                let whole = outcome.is_none() && out.has_written(expected);
-                let cut = out.has_failed(expected, outcome);
-                let one_by_one = most > 1 || out.held.len() == calls;
-                assert!(rt;
-                    (whole && calls >= least) || (cut && calls < expected.len() && one_by_one),
-                    "{written:?}, {most} octets a call, {calls} calls, then {error:?}"
-                );
-            }
+    for (name, written, expected) in written_rows() {
+        for (case, failure) in FAILURES.iter().enumerate() {
+            let fault = first_fault(rt.alloc(), (*written, expected), *failure);
+            assert!(rt; fault.is_none(), "{name}, failure {case}, calls {fault:?}");
         }
     }
 }

@@ -2,39 +2,48 @@
 
 use super::*;
 
-/// A start, an end, a moment, and whether the period holds then; if not, whether it is too new.
-const PERIODS: &[(Parts, Parts, Parts, Option<bool>)] = &[
+/// A name, a start, an end, a moment, and whether the period holds then; if not, whether it is too new.
+const PERIODS: &[(&str, Parts, Parts, Parts, Option<bool>)] = &[
     (
+        "the start",
         (2020, 1, 1, 0, 0, 0),
         (2050, 1, 1, 0, 0, 0),
         (2020, 1, 1, 0, 0, 0),
         None,
     ),
     (
+        "the end",
         (2020, 1, 1, 0, 0, 0),
         (2050, 1, 1, 0, 0, 0),
         (2050, 1, 1, 0, 0, 0),
         None,
     ),
     (
+        "a second before the start",
         (2020, 1, 1, 0, 0, 0),
         (2050, 1, 1, 0, 0, 0),
         (2019, 12, 31, 23, 59, 59),
         Some(true),
     ),
     (
+        "a second after the end",
         (2020, 1, 1, 0, 0, 0),
         (2050, 1, 1, 0, 0, 0),
         (2050, 1, 1, 0, 0, 1),
         Some(false),
     ),
     (
+        "a period that ends before it starts",
         (2030, 1, 1, 0, 0, 0),
         (2020, 1, 1, 0, 0, 0),
         (2025, 1, 1, 0, 0, 0),
         Some(true),
     ),
 ];
+
+fn period_rows() -> &'static [(&'static str, Parts, Parts, Parts, Option<bool>)] {
+    PERIODS
+}
 
 /// None where the check passed; else whether the error is that the object is too new.
 fn too_new(outcome: Result<(), ValidityPeriodError>) -> Option<bool> {
@@ -51,12 +60,9 @@ fn verify(start: Parts, end: Parts, now: Parts) -> Option<Option<bool>> {
 
 #[test]
 fn periods_hold(rt: HostRuntime) {
-    for (start, end, now, expected) in PERIODS {
+    for (name, start, end, now, expected) in period_rows() {
         let found = verify(*start, *end, *now);
-        assert!(rt;
-            found == Some(*expected),
-            "{start:?} to {end:?} at {now:?}: {found:?}"
-        );
+        assert!(rt; found == Some(*expected), "{name}");
     }
 }
 
@@ -70,6 +76,10 @@ const ENDS: &[(i64, Option<bool>, Option<bool>)] = &[
     (86_400_000_000_000, None, Some(false)),
 ];
 
+fn end_rows() -> &'static [(i64, Option<bool>, Option<bool>)] {
+    ENDS
+}
+
 /// What the two checks of an end of a period return, that many nanoseconds after the end.
 fn verify_end(nanoseconds: i64) -> Option<(Option<bool>, Option<bool>)> {
     let parts = (2020, 2, 29, 23, 59, 59);
@@ -82,12 +92,9 @@ fn verify_end(nanoseconds: i64) -> Option<(Option<bool>, Option<bool>)> {
 
 #[test]
 fn ends_of_periods(rt: HostRuntime) {
-    for (nanoseconds, as_start, as_end) in ENDS {
+    for (nanoseconds, as_start, as_end) in end_rows() {
         let found = verify_end(*nanoseconds);
-        assert!(rt;
-            found == Some((*as_start, *as_end)),
-            "{nanoseconds}: {found:?}"
-        );
+        assert!(rt; found == Some((*as_start, *as_end)), "{nanoseconds}");
     }
 }
 
@@ -106,22 +113,30 @@ const SPANS: &[(Parts, i64, Option<(Parts, Parts)>)] = &[
     ((0, 1, 1, 0, 0, 0), -1, None),
 ];
 
+fn span_rows() -> &'static [(Parts, i64, Option<(Parts, Parts)>)] {
+    SPANS
+}
+
+/// Whether the period of so many seconds from the moment has these ends, and is itself where it is trimmed by itself.
+fn is_span(parts: Parts, seconds: i64, expected: Option<(Parts, Parts)>) -> bool {
+    let Some(now) = time_of(parts) else {
+        return false;
+    };
+    match (Validity::from_secs(now, seconds), expected) {
+        (Some(period), Some((start, end))) => {
+            period.trim(period) == period
+                && parts_of(period.not_before()) == start
+                && parts_of(period.not_after()) == end
+        }
+        (None, None) => true,
+        _ => false,
+    }
+}
+
 #[test]
 fn periods_from_seconds(rt: HostRuntime) {
-    for (parts, seconds, expected) in SPANS {
-        let found = match time_of(*parts) {
-            Some(now) => Validity::from_secs(now, *seconds),
-            None => None,
-        };
-        let ends = match found {
-            Some(period) => Some((parts_of(period.not_before()), parts_of(period.not_after()))),
-            None => None,
-        };
-        let whole = found.map(|period| period.trim(period)) == found;
-        assert!(rt;
-            whole && ends == *expected,
-            "{seconds} from {parts:?}: {ends:?}"
-        );
+    for (parts, seconds, expected) in span_rows() {
+        assert!(rt; is_span(*parts, *seconds, *expected), "{seconds} seconds");
     }
 }
 
@@ -160,44 +175,66 @@ const DURATIONS: &[(Parts, i64, Option<((Parts, i64), (Parts, i64))>)] = &[
     ),
 ];
 
+fn duration_rows() -> &'static [(Parts, i64, Option<((Parts, i64), (Parts, i64))>)] {
+    DURATIONS
+}
+
+/// Whether the period of so many nanoseconds from the moment has these ends.
+fn has_ends(
+    parts: Parts,
+    nanoseconds: i64,
+    expected: Option<((Parts, i64), (Parts, i64))>,
+) -> bool {
+    let Some(now) = time_of(parts) else {
+        return false;
+    };
+    let found = Validity::from_duration(now, SignedDuration::from_nanos(nanoseconds));
+    match (found, expected) {
+        (Some(period), Some((start, end))) => {
+            Some(period.not_before()) == moment_of(start.0, start.1)
+                && Some(period.not_after()) == moment_of(end.0, end.1)
+        }
+        (None, None) => true,
+        _ => false,
+    }
+}
+
 #[test]
 fn periods_from_durations(rt: HostRuntime) {
-    for (parts, nanoseconds, expected) in DURATIONS {
-        let found = match time_of(*parts) {
-            Some(now) => Validity::from_duration(now, SignedDuration::from_nanos(*nanoseconds)),
-            None => None,
-        };
-        let same = match (found, *expected) {
-            (Some(period), Some((start, end))) => {
-                Some(period.not_before()) == moment_of(start.0, start.1)
-                    && Some(period.not_after()) == moment_of(end.0, end.1)
-            }
-            (None, None) => true,
-            _ => false,
-        };
-        assert!(rt; same, "{nanoseconds} from {parts:?}: {found:?}");
+    for (parts, nanoseconds, expected) in duration_rows() {
+        let same = has_ends(*parts, *nanoseconds, *expected);
+        assert!(rt; same, "{nanoseconds} from {}", parts.0);
     }
 }
 
 /// The years in which two periods start and end, and those of the period that holds where both do.
-const TRIMMED: &[((i32, i32), (i32, i32), (i32, i32))] = &[
-    ((2020, 2050), (2030, 2040), (2030, 2040)),
-    ((2030, 2040), (2020, 2050), (2030, 2040)),
-    ((2020, 2040), (2030, 2050), (2030, 2040)),
-    ((2020, 2025), (2030, 2035), (2030, 2025)),
-    ((2020, 2050), (2020, 2050), (2020, 2050)),
+const TRIMMED: &[(&str, (i32, i32), (i32, i32), (i32, i32))] = &[
+    ("around", (2020, 2050), (2030, 2040), (2030, 2040)),
+    ("within", (2030, 2040), (2020, 2050), (2030, 2040)),
+    ("overlapping", (2020, 2040), (2030, 2050), (2030, 2040)),
+    ("apart", (2020, 2025), (2030, 2035), (2030, 2025)),
+    ("the same", (2020, 2050), (2020, 2050), (2020, 2050)),
 ];
+
+fn trimmed_rows() -> &'static [(&'static str, (i32, i32), (i32, i32), (i32, i32))] {
+    TRIMMED
+}
+
+/// The period that holds where both do.
+fn trimmed(first: (i32, i32), second: (i32, i32)) -> Option<Validity> {
+    let (a, b) = (period_of(first)?, period_of(second)?);
+    Some(a.trim(b))
+}
+
+/// Whether two periods are there and are one.
+fn are_one(found: Option<Validity>, expected: Option<Validity>) -> bool {
+    found.is_some() && found == expected
+}
 
 #[test]
 fn periods_are_trimmed(rt: HostRuntime) {
-    for (first, second, expected) in TRIMMED {
-        let found = match (period_of(*first), period_of(*second)) {
-            (Some(a), Some(b)) => Some(a.trim(b)),
-            _ => None,
-        };
-        assert!(rt;
-            found.is_some() && found == period_of(*expected),
-            "{first:?} and {second:?}: {found:?}"
-        );
+    for (name, first, second, expected) in trimmed_rows() {
+        let same = are_one(trimmed(*first, *second), period_of(*expected));
+        assert!(rt; same, "{name}");
     }
 }

@@ -78,16 +78,24 @@ const ASKED: &[(Asked, Parts, Option<Parts>)] = &[
     (Asked::Subtract(1), (0, 1, 1, 0, 0, 0), None),
 ];
 
+fn asked_rows() -> &'static [(Asked, Parts, Option<Parts>)] {
+    ASKED
+}
+
+/// Whether this is what comes of asking.
+fn is_asked(asked: Asked, parts: Parts, expected: Option<Parts>) -> bool {
+    match time_of(parts) {
+        Some(now) => ask(asked, now).map(parts_of) == expected,
+        None => false,
+    }
+}
+
 #[test]
 fn sums_of_times(rt: HostRuntime) {
-    for (asked, parts, expected) in ASKED {
-        let found = match time_of(*parts) {
-            Some(now) => Some(ask(*asked, now).map(parts_of)),
-            None => None,
-        };
+    for (case, (asked, parts, expected)) in asked_rows().iter().enumerate() {
         assert!(rt;
-            found == Some(*expected),
-            "{asked:?} of {parts:?}: {found:?}"
+            is_asked(*asked, *parts, *expected),
+            "row {case}, {asked:?}"
         );
     }
 }
@@ -116,21 +124,29 @@ const YEARS_ON: &[(i32, Parts, i64, Option<Parts>)] = &[
     ),
 ];
 
+fn years_on_rows() -> &'static [(i32, Parts, i64, Option<Parts>)] {
+    YEARS_ON
+}
+
 /// The date-time of these parts, and of this nanosecond.
 fn date_time_of(parts: Parts, nanosecond: i64) -> Option<DateTime> {
     let time = moment_of(parts, nanosecond)?;
     Some(time.date_time())
 }
 
+/// Whether the same day so many years on is this.
+fn is_years_on(years: i32, parts: Parts, nanosecond: i64, expected: Option<Parts>) -> bool {
+    match date_time_of(parts, nanosecond) {
+        Some(date) => Time::years_from_date(years, date) == expected.and_then(time_of),
+        None => false,
+    }
+}
+
 #[test]
 fn years_on(rt: HostRuntime) {
-    for (years, parts, nanosecond, expected) in YEARS_ON {
-        let found = match date_time_of(*parts, *nanosecond) {
-            Some(date) => Some(Time::years_from_date(*years, date)),
-            None => None,
-        };
-        let whole = found == Some(expected.and_then(time_of));
-        assert!(rt; whole, "{years} from {parts:?}: {found:?}");
+    for (years, parts, nanosecond, expected) in years_on_rows() {
+        let same = is_years_on(*years, *parts, *nanosecond, *expected);
+        assert!(rt; same, "{years} from {}", parts.0);
     }
 }
 
@@ -146,18 +162,26 @@ const SECONDS: &[(Parts, i64, i64, bool)] = &[
     ),
 ];
 
+fn second_rows() -> &'static [(Parts, i64, i64, bool)] {
+    SECONDS
+}
+
+/// The whole seconds of a time, and whether a nanosecond later is a time too.
+fn seconds_of(parts: Parts, nanosecond: i64) -> Option<(i64, bool)> {
+    let date = date_time_of(parts, nanosecond)?;
+    if date.year() < 0 {
+        return None;
+    }
+    let time = Time::new(date);
+    let later = time.checked_add(SignedDuration::from_nanos(1));
+    Some((time.to_binary_time(), later.is_some()))
+}
+
 #[test]
 fn seconds_of_times(rt: HostRuntime) {
-    for (parts, nanosecond, expected, more) in SECONDS {
-        let found = match date_time_of(*parts, *nanosecond) {
-            Some(date) if date.year() >= 0 => {
-                let time = Time::new(date);
-                let later = time.checked_add(SignedDuration::from_nanos(1));
-                Some((time.to_binary_time(), later.is_some()))
-            }
-            _ => None,
-        };
-        assert!(rt; found == Some((*expected, *more)), "{parts:?}: {found:?}");
+    for (parts, nanosecond, expected, more) in second_rows() {
+        let found = seconds_of(*parts, *nanosecond);
+        assert!(rt; found == Some((*expected, *more)), "{expected}");
     }
 }
 
@@ -170,13 +194,21 @@ const TEXTS: &[(&str, Option<Parts>)] = &[
     ("-000001-12-31T23:59:59Z", None),
 ];
 
+fn text_rows() -> &'static [(&'static str, Option<Parts>)] {
+    TEXTS
+}
+
+/// The moment that the text is read as.
+fn moment_of_text(text: &str) -> Option<Parts> {
+    match text.parse::<Time>() {
+        Ok(time) => Some(parts_of(time)),
+        Err(TimeParseError) => None,
+    }
+}
+
 #[test]
 fn texts_of_moments(rt: HostRuntime) {
-    for (text, expected) in TEXTS {
-        let found = match text.parse::<Time>() {
-            Ok(time) => Some(parts_of(time)),
-            Err(TimeParseError) => None,
-        };
-        assert!(rt; found == *expected, "{text}: {found:?}");
+    for (text, expected) in text_rows() {
+        assert!(rt; moment_of_text(text) == *expected, "{text}");
     }
 }
