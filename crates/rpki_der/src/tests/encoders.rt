@@ -264,6 +264,10 @@ const LEAVES: &[(Leaf, &[u8])] = &[
     (Leaf::Zero, &[0x02, 0x01, 0x00]),
 ];
 
+fn leaf_rows() -> &'static [(Leaf, &'static [u8])] {
+    LEAVES
+}
+
 const COMPOSED: &[(Composed, u64, &[u8])] = &[
     (
         Composed::Sequence,
@@ -284,13 +288,22 @@ const COMPOSED: &[(Composed, u64, &[u8])] = &[
     (Composed::Captured, 1, &[0x31, 0x04, 0x05, 0x00, 0x05, 0x00]),
 ];
 
+fn composed_rows() -> &'static [(Composed, u64, &'static [u8])] {
+    COMPOSED
+}
+
 #[test]
-fn values_are_captured(rt: HostRuntime) -> Result<(), Fail> {
-    for (leaf, expected) in LEAVES {
+fn leaves_are_captured(rt: HostRuntime) -> Result<(), Fail> {
+    for (leaf, expected) in leaf_rows() {
         let found = leaf_written(rt.alloc(), Sink::Captured, *leaf)?;
         assert!(rt; is_written(found, Sink::Captured, 1, expected), "{leaf:?}");
     }
-    for (composed, values, expected) in COMPOSED {
+    Ok(())
+}
+
+#[test]
+fn composed_values_are_captured(rt: HostRuntime) -> Result<(), Fail> {
+    for (composed, values, expected) in composed_rows() {
         let found = composed_written(rt.alloc(), Sink::Captured, *composed)?;
         assert!(rt;
             is_written(found, Sink::Captured, *values, expected),
@@ -300,166 +313,292 @@ fn values_are_captured(rt: HostRuntime) -> Result<(), Fail> {
     Ok(())
 }
 
-/// Whether a writer that fails holds what it took before, of each leaf and each composed value, whenever it fails.
-fn is_cut_there(alloc: Global, kind: ErrorKind, once: bool) -> Result<bool, AllocError> {
-    for (leaf, expected) in LEAVES {
-        for calls in 0..=expected.len() {
-            let sink = Sink::Writer(Failure { calls, kind, once });
-            let found = leaf_written(alloc, sink, *leaf)?;
-            if !is_written(found, sink, 1, expected) {
-                return Ok(false);
-            }
+/// Whether a writer that fails holds what it took before, whenever it fails.
+fn is_leaf_cut(
+    alloc: Global,
+    (kind, once): (ErrorKind, bool),
+    (leaf, expected): &(Leaf, &[u8]),
+) -> Result<bool, AllocError> {
+    for calls in 0..=expected.len() {
+        let sink = Sink::Writer(Failure { calls, kind, once });
+        if !is_written(leaf_written(alloc, sink, *leaf)?, sink, 1, expected) {
+            return Ok(false);
         }
     }
-    for (composed, values, expected) in COMPOSED {
-        for calls in 0..=expected.len() {
-            let sink = Sink::Writer(Failure { calls, kind, once });
-            let found = composed_written(alloc, sink, *composed)?;
-            if !is_written(found, sink, *values, expected) {
-                return Ok(false);
-            }
+    Ok(true)
+}
+
+/// The same of a composed value.
+fn is_composed_cut(
+    alloc: Global,
+    (kind, once): (ErrorKind, bool),
+    (composed, values, expected): &(Composed, u64, &[u8]),
+) -> Result<bool, AllocError> {
+    for calls in 0..=expected.len() {
+        let sink = Sink::Writer(Failure { calls, kind, once });
+        if !is_written(
+            composed_written(alloc, sink, *composed)?,
+            sink,
+            *values,
+            expected,
+        ) {
+            return Ok(false);
         }
     }
     Ok(true)
 }
 
 #[test]
-fn the_first_error_of_a_writer_ends_the_call(rt: HostRuntime) -> Result<(), Fail> {
-    for (kind, once) in FAILURES {
-        let cut = is_cut_there(rt.alloc(), kind, once)?;
-        assert!(rt; cut, "{kind:?}, once: {once}");
+fn the_first_error_of_a_writer_ends_a_leaf(rt: HostRuntime) -> Result<(), Fail> {
+    for row in leaf_rows() {
+        for failure in FAILURES {
+            let cut = is_leaf_cut(rt.alloc(), failure, row)?;
+            assert!(rt; cut, "{:?}, {failure:?}", row.0);
+        }
     }
     Ok(())
+}
+
+#[test]
+fn the_first_error_of_a_writer_ends_a_composed_value(rt: HostRuntime) -> Result<(), Fail> {
+    for row in composed_rows() {
+        for failure in FAILURES {
+            let cut = is_composed_cut(rt.alloc(), failure, row)?;
+            assert!(rt; cut, "{:?}, {failure:?}", row.0);
+        }
+    }
+    Ok(())
+}
+
+const LENGTHS: &[(usize, &[u8])] = &[
+    (0, &[0x04, 0x00]),
+    (127, &[0x04, 0x7f]),
+    (128, &[0x04, 0x81, 0x80]),
+    (200, &[0x04, 0x81, 0xc8]),
+    (256, &[0x04, 0x82, 0x01, 0x00]),
+    (65_535, &[0x04, 0x82, 0xff, 0xff]),
+    (65_536, &[0x04, 0x83, 0x01, 0x00, 0x00]),
+];
+
+fn length_rows() -> &'static [(usize, &'static [u8])] {
+    LENGTHS
+}
+
+/// Whether an OCTET STRING of so many octets has this header.
+fn has_header(alloc: Global, length: usize, header: &[u8]) -> Result<bool, AllocError> {
+    let mut octets = Vec::new(alloc);
+    octets.resize(length, 0x61u8)?;
+    let Some(found) = written(alloc, Sink::Captured, &octets.as_slice().encode())? else {
+        return Ok(false);
+    };
+    Ok(
+        found.octets.len().checked_sub(header.len()) == Some(length)
+            && found.octets.as_slice().starts_with(header),
+    )
 }
 
 #[test]
 fn lengths_take_the_shortest_form(rt: HostRuntime) -> Result<(), Fail> {
-    let cases: [(usize, &[u8]); 7] = [
-        (0, &[0x04, 0x00]),
-        (127, &[0x04, 0x7f]),
-        (128, &[0x04, 0x81, 0x80]),
-        (200, &[0x04, 0x81, 0xc8]),
-        (256, &[0x04, 0x82, 0x01, 0x00]),
-        (65_535, &[0x04, 0x82, 0xff, 0xff]),
-        (65_536, &[0x04, 0x83, 0x01, 0x00, 0x00]),
-    ];
-    for (length, header) in cases {
-        let mut octets = Vec::new(rt.alloc());
-        octets.resize(length, 0x61u8)?;
-        let found = written(rt.alloc(), Sink::Captured, &octets.as_slice().encode())?;
-        let same = found.is_some_and(|values| {
-            values.octets.len() == header.len() + length
-                && values.octets.as_slice().starts_with(header)
-        });
-        assert!(rt; same, "{length}");
+    for (length, header) in length_rows() {
+        assert!(rt; has_header(rt.alloc(), *length, header)?, "{length}");
     }
     Ok(())
+}
+
+/// A tag, and the octets of an empty value of it.
+fn tag_rows() -> [(&'static str, Tag, &'static [u8]); 14] {
+    [
+        ("BOOLEAN", Tag::BOOLEAN, &[0x01, 0x00]),
+        ("INTEGER", Tag::INTEGER, &[0x02, 0x00]),
+        ("BIT STRING", Tag::BIT_STRING, &[0x03, 0x00]),
+        ("OCTET STRING", Tag::OCTET_STRING, &[0x04, 0x00]),
+        ("NULL", Tag::NULL, &[0x05, 0x00]),
+        ("OBJECT IDENTIFIER", Tag::OID, &[0x06, 0x00]),
+        ("UTF8String", Tag::UTF8_STRING, &[0x0c, 0x00]),
+        ("SEQUENCE", Tag::SEQUENCE, &[0x10, 0x00]),
+        ("SET", Tag::SET, &[0x11, 0x00]),
+        ("PrintableString", Tag::PRINTABLE_STRING, &[0x13, 0x00]),
+        ("IA5String", Tag::IA5_STRING, &[0x16, 0x00]),
+        ("UTCTime", Tag::UTC_TIME, &[0x17, 0x00]),
+        ("GeneralizedTime", Tag::GENERALIZED_TIME, &[0x18, 0x00]),
+        ("context 6", Tag::CTX_6, &[0x86, 0x00]),
+    ]
+}
+
+/// Whether an empty value of the tag has these octets.
+fn is_tagged(alloc: Global, tag: Tag, expected: &[u8]) -> Result<bool, AllocError> {
+    match written(alloc, Sink::Captured, &().encode_as(tag))? {
+        Some(found) => Ok(found.octets.as_slice() == expected),
+        None => Ok(false),
+    }
 }
 
 #[test]
 fn tags_have_their_octets(rt: HostRuntime) -> Result<(), Fail> {
-    let cases: [(Tag, &[u8]); 25] = [
-        (Tag::BOOLEAN, &[0x01, 0x00]),
-        (Tag::INTEGER, &[0x02, 0x00]),
-        (Tag::BIT_STRING, &[0x03, 0x00]),
-        (Tag::OCTET_STRING, &[0x04, 0x00]),
-        (Tag::NULL, &[0x05, 0x00]),
-        (Tag::OID, &[0x06, 0x00]),
-        (Tag::UTF8_STRING, &[0x0c, 0x00]),
-        (Tag::SEQUENCE, &[0x10, 0x00]),
-        (Tag::SET, &[0x11, 0x00]),
-        (Tag::PRINTABLE_STRING, &[0x13, 0x00]),
-        (Tag::IA5_STRING, &[0x16, 0x00]),
-        (Tag::UTC_TIME, &[0x17, 0x00]),
-        (Tag::GENERALIZED_TIME, &[0x18, 0x00]),
-        (Tag::CTX_6, &[0x86, 0x00]),
-        (<()>::TAG, &[0x05, 0x00]),
-        (<bool>::TAG, &[0x01, 0x00]),
-        (<ConstOid>::TAG, &[0x06, 0x00]),
-        (<&'static [u8]>::TAG, &[0x04, 0x00]),
-        (<BitString>::TAG, &[0x03, 0x00]),
-        (<&'static BitString>::TAG, &[0x03, 0x00]),
-        (<Unsigned<'static>>::TAG, &[0x02, 0x00]),
-        (Tag::new(Class::Context, 31), &[0x9f, 0x1f, 0x00]),
-        (Tag::new(Class::Private, 127), &[0xdf, 0x7f, 0x00]),
-        (Tag::new(Class::Application, 128), &[0x5f, 0x81, 0x00, 0x00]),
-        (
-            Tag::new(Class::Universal, 268_435_455),
-            &[0x1f, 0xff, 0xff, 0xff, 0x7f, 0x00],
-        ),
-    ];
-    for (tag, expected) in cases {
-        let found = written(rt.alloc(), Sink::Captured, &().encode_as(tag))?;
-        let same = found.is_some_and(|values| values.octets.as_slice() == expected);
-        assert!(rt; same, "{tag:?}");
+    for (name, tag, expected) in tag_rows() {
+        assert!(rt; is_tagged(rt.alloc(), tag, expected)?, "{name}");
     }
     Ok(())
 }
 
+/// The tag of a type, and the octets of an empty value of it.
+fn tags_of_types() -> [(&'static str, Tag, &'static [u8]); 7] {
+    [
+        ("()", <()>::TAG, &[0x05, 0x00]),
+        ("bool", <bool>::TAG, &[0x01, 0x00]),
+        ("ConstOid", <ConstOid>::TAG, &[0x06, 0x00]),
+        ("&[u8]", <&'static [u8]>::TAG, &[0x04, 0x00]),
+        ("BitString", <BitString>::TAG, &[0x03, 0x00]),
+        ("&BitString", <&'static BitString>::TAG, &[0x03, 0x00]),
+        ("Unsigned", <Unsigned<'static>>::TAG, &[0x02, 0x00]),
+    ]
+}
+
 #[test]
-fn pieces_are_written(rt: HostRuntime) -> Result<(), Fail> {
-    let whole = [0x30, 0x07, 0x06, 0x03, 0x55, 0x04, 0x03, 0x05, 0x00];
-    // octets a call, calls, octets that are held, and the error: the pieces have 2, 2, 3 and 2 octets
-    let cases = [
-        (2, 2, 4, Some(ErrorKind::BrokenPipe)),
-        (2, 4, 7, Some(ErrorKind::BrokenPipe)),
-        (2, 5, 9, None),
-        (100, 2, 4, Some(ErrorKind::BrokenPipe)),
-        (100, 4, 9, None),
-        (0, 100, 0, Some(ErrorKind::WriteZero)),
-    ];
-    for (most, calls, held, error) in cases {
-        let mut out = Failing {
-            held: Vec::new(rt.alloc()),
-            most,
-            failure: Failure {
-                calls,
-                kind: ErrorKind::BrokenPipe,
-                once: true,
-            },
-        };
-        let values = Sequence::new((COMMON_NAME.encode(), ().encode()));
-        assert!(rt; values.fits());
-        let kind = match values.write_encoded(&mut out) {
-            Ok(()) => None,
-            Err(e) => Some(e.kind()),
-        };
-        assert!(rt; kind == error, "{most} octets a call, {calls} calls");
-        assert_eq!(rt; out.held.as_slice(), &whole[..held]);
+fn tags_of_types_have_theirs(rt: HostRuntime) -> Result<(), Fail> {
+    for (name, tag, expected) in tags_of_types() {
+        assert!(rt; is_tagged(rt.alloc(), tag, expected)?, "{name}");
     }
     Ok(())
+}
+
+/// A tag that is made, and the octets of an empty value of it.
+fn made_tags() -> [(&'static str, Tag, &'static [u8]); 4] {
+    [
+        (
+            "context 31",
+            Tag::new(Class::Context, 31),
+            &[0x9f, 0x1f, 0x00],
+        ),
+        (
+            "private 127",
+            Tag::new(Class::Private, 127),
+            &[0xdf, 0x7f, 0x00],
+        ),
+        (
+            "application 128",
+            Tag::new(Class::Application, 128),
+            &[0x5f, 0x81, 0x00, 0x00],
+        ),
+        (
+            "the greatest of class universal",
+            Tag::new(Class::Universal, 268_435_455),
+            &[0x1f, 0xff, 0xff, 0xff, 0x7f, 0x00],
+        ),
+    ]
+}
+
+#[test]
+fn tags_that_are_made_have_theirs(rt: HostRuntime) -> Result<(), Fail> {
+    for (name, tag, expected) in made_tags() {
+        assert!(rt; is_tagged(rt.alloc(), tag, expected)?, "{name}");
+    }
+    Ok(())
+}
+
+/// A writer of so many octets a call, of which so many work before the one that fails.
+fn failing_writer(alloc: Global, most: usize, calls: usize) -> Failing {
+    Failing {
+        held: Vec::new(alloc),
+        most,
+        failure: Failure {
+            calls,
+            kind: ErrorKind::BrokenPipe,
+            once: true,
+        },
+    }
+}
+
+fn kind_of_error(outcome: io::Result<()>) -> Option<ErrorKind> {
+    match outcome {
+        Ok(()) => None,
+        Err(e) => Some(e.kind()),
+    }
+}
+
+/// The octets of a sequence of an identifier and a NULL: the pieces have 2, 2, 3 and 2 octets.
+const PIECES: &[u8] = &[0x30, 0x07, 0x06, 0x03, 0x55, 0x04, 0x03, 0x05, 0x00];
+
+/// What the writer returned, where the sequence fits.
+fn write_pieces(out: &mut Failing) -> Option<io::Result<()>> {
+    let values = Sequence::new((COMMON_NAME.encode(), ().encode()));
+    if !values.fits() {
+        return None;
+    }
+    Some(values.write_encoded(out))
+}
+
+/// Octets a call, calls, octets that are held, and the error.
+const WRITTEN_PIECES: &[(usize, usize, &[u8], Option<ErrorKind>)] = &[
+    (2, 2, &[0x30, 0x07, 0x06, 0x03], Some(ErrorKind::BrokenPipe)),
+    (
+        2,
+        4,
+        &[0x30, 0x07, 0x06, 0x03, 0x55, 0x04, 0x03],
+        Some(ErrorKind::BrokenPipe),
+    ),
+    (2, 5, PIECES, None),
+    (
+        100,
+        2,
+        &[0x30, 0x07, 0x06, 0x03],
+        Some(ErrorKind::BrokenPipe),
+    ),
+    (100, 4, PIECES, None),
+    (0, 100, &[], Some(ErrorKind::WriteZero)),
+];
+
+fn written_piece_rows() -> &'static [(usize, usize, &'static [u8], Option<ErrorKind>)] {
+    WRITTEN_PIECES
+}
+
+#[test]
+fn pieces_are_written(rt: HostRuntime) {
+    for (most, calls, held, error) in written_piece_rows() {
+        let mut out = failing_writer(rt.alloc(), *most, *calls);
+        let kind = write_pieces(&mut out).map(kind_of_error);
+        assert!(rt; kind == Some(*error), "{most} octets a call, {calls} calls");
+        assert!(rt;
+            out.held.as_slice() == *held,
+            "{most} octets a call, {calls} calls: held"
+        );
+    }
+}
+
+/// Octets that are written after one that is held.
+const WHOLE: &[u8] = &[1, 2, 3, 4, 5, 6, 7, 8, 9];
+
+/// Octets a call, calls, all octets that are held, and the error.
+const WRITTEN_WHOLE: &[(usize, usize, &[u8], Option<ErrorKind>)] = &[
+    (1, 0, &[7], Some(ErrorKind::BrokenPipe)),
+    (1, 5, &[7, 1, 2, 3, 4, 5], Some(ErrorKind::BrokenPipe)),
+    (1, 9, &[7, 1, 2, 3, 4, 5, 6, 7, 8, 9], None),
+    (
+        4,
+        2,
+        &[7, 1, 2, 3, 4, 5, 6, 7, 8],
+        Some(ErrorKind::BrokenPipe),
+    ),
+    (4, 3, &[7, 1, 2, 3, 4, 5, 6, 7, 8, 9], None),
+    (100, 1, &[7, 1, 2, 3, 4, 5, 6, 7, 8, 9], None),
+    (0, 100, &[7], Some(ErrorKind::WriteZero)),
+];
+
+fn written_whole_rows() -> &'static [(usize, usize, &'static [u8], Option<ErrorKind>)] {
+    WRITTEN_WHOLE
 }
 
 #[test]
 fn octets_are_written_whole(rt: HostRuntime) -> Result<(), Fail> {
-    let whole = [7, 1, 2, 3, 4, 5, 6, 7, 8, 9];
-    // octets a call, calls, octets that are written after the first, and the error
-    let cases = [
-        (1, 0, 0, Some(ErrorKind::BrokenPipe)),
-        (1, 5, 5, Some(ErrorKind::BrokenPipe)),
-        (1, 9, 9, None),
-        (4, 2, 8, Some(ErrorKind::BrokenPipe)),
-        (4, 3, 9, None),
-        (100, 1, 9, None),
-        (0, 100, 0, Some(ErrorKind::WriteZero)),
-    ];
-    for (most, calls, held, error) in cases {
-        let mut out = Failing {
-            held: Vec::new(rt.alloc()),
-            most,
-            failure: Failure {
-                calls,
-                kind: ErrorKind::BrokenPipe,
-                once: true,
-            },
-        };
+    for (most, calls, held, error) in written_whole_rows() {
+        let mut out = failing_writer(rt.alloc(), *most, *calls);
         out.held.push(7)?;
-        let kind = match write_whole(&mut out, &whole[1..]) {
-            Ok(()) => None,
-            Err(e) => Some(e.kind()),
-        };
-        assert!(rt; kind == error, "{most} octets a call, {calls} calls");
-        assert_eq!(rt; out.held.as_slice(), &whole[..1 + held]);
+        let kind = kind_of_error(write_whole(&mut out, WHOLE));
+        assert!(rt; kind == *error, "{most} octets a call, {calls} calls");
+        assert!(rt;
+            out.held.as_slice() == *held,
+            "{most} octets a call, {calls} calls: held"
+        );
     }
     Ok(())
 }

@@ -7,12 +7,8 @@ use bytes::Bytes;
 /// The class, the number and the form of a tag, and a length; or the kind of the error.
 type FoundHeader = Result<(Class, u32, bool, u32), Kind>;
 
-/// The header in front, how many octets are left, and how many headers were counted.
-fn header_of(octets: &'static [u8]) -> (FoundHeader, usize, u64) {
-    let source: Bytes = Bytes::from_static(octets);
-    let mut cursor = Constructed::new(&source);
-    let mut steps = Steps::new();
-    let found = match cursor.take_header(&mut steps) {
+fn found_of(read: Result<Header, DecodeError>) -> FoundHeader {
+    match read {
         Ok(found) => Ok((
             found.tag.class(),
             found.tag.number(),
@@ -20,7 +16,15 @@ fn header_of(octets: &'static [u8]) -> (FoundHeader, usize, u64) {
             found.length,
         )),
         Err(e) => Err(kind_of(&e)),
-    };
+    }
+}
+
+/// The header in front, how many octets are left, and how many headers were counted.
+fn header_of(octets: &'static [u8]) -> (FoundHeader, usize, u64) {
+    let source: Bytes = Bytes::from_static(octets);
+    let mut cursor = Constructed::new(&source);
+    let mut steps = Steps::new();
+    let found = found_of(cursor.take_header(&mut steps));
     (found, cursor.rest().len(), steps.count())
 }
 
@@ -155,64 +159,75 @@ const HEADERS: &[(&str, &[u8], FoundHeader, usize)] = &[
     ),
 ];
 
+fn header_rows() -> &'static [(&'static str, &'static [u8], FoundHeader, usize)] {
+    HEADERS
+}
+
 #[test]
 fn headers(rt: HostRuntime) {
-    for (name, octets, expected, left) in HEADERS {
+    for (name, octets, expected, left) in header_rows() {
         let found = header_of(octets);
-        assert!(rt; found == (*expected, *left, 1), "{name}: {found:?}");
+        assert!(rt; found == (*expected, *left, 1), "{name}");
     }
 }
 
 /// The header at the front of a slice, and how many octets follow it.
 fn header_of_slice(octets: &'static [u8]) -> (FoundHeader, usize) {
     match read_header(octets) {
-        Ok((found, size)) => (
-            Ok((
-                found.tag.class(),
-                found.tag.number(),
-                found.constructed,
-                found.length,
-            )),
-            octets.len() - size,
-        ),
+        Ok((found, size)) => (found_of(Ok(found)), octets.len() - size),
         Err(e) => (Err(kind_of(&e)), octets.len()),
     }
 }
 
 #[test]
 fn headers_of_slices(rt: HostRuntime) {
-    for (name, octets, expected, left) in HEADERS {
+    for (name, octets, expected, left) in header_rows() {
         let found = header_of_slice(octets);
-        assert!(rt; found == (*expected, *left), "{name}: {found:?}");
+        assert!(rt; found == (*expected, *left), "{name}");
     }
+}
+
+/// A tag, its class and its number.
+fn tag_rows() -> [(&'static str, Tag, Class, u32); 14] {
+    [
+        ("BOOLEAN", Tag::BOOLEAN, Class::Universal, 1),
+        ("INTEGER", Tag::INTEGER, Class::Universal, 2),
+        ("BIT STRING", Tag::BIT_STRING, Class::Universal, 3),
+        ("OCTET STRING", Tag::OCTET_STRING, Class::Universal, 4),
+        ("NULL", Tag::NULL, Class::Universal, 5),
+        ("OBJECT IDENTIFIER", Tag::OID, Class::Universal, 6),
+        ("UTF8String", Tag::UTF8_STRING, Class::Universal, 12),
+        ("SEQUENCE", Tag::SEQUENCE, Class::Universal, 16),
+        ("SET", Tag::SET, Class::Universal, 17),
+        (
+            "PrintableString",
+            Tag::PRINTABLE_STRING,
+            Class::Universal,
+            19,
+        ),
+        ("IA5String", Tag::IA5_STRING, Class::Universal, 22),
+        ("UTCTime", Tag::UTC_TIME, Class::Universal, 23),
+        (
+            "GeneralizedTime",
+            Tag::GENERALIZED_TIME,
+            Class::Universal,
+            24,
+        ),
+        ("context 6", Tag::CTX_6, Class::Context, 6),
+    ]
 }
 
 #[test]
 fn tags(rt: HostRuntime) {
-    let cases = [
-        (Tag::BOOLEAN, Class::Universal, 1),
-        (Tag::INTEGER, Class::Universal, 2),
-        (Tag::BIT_STRING, Class::Universal, 3),
-        (Tag::OCTET_STRING, Class::Universal, 4),
-        (Tag::NULL, Class::Universal, 5),
-        (Tag::OID, Class::Universal, 6),
-        (Tag::UTF8_STRING, Class::Universal, 12),
-        (Tag::SEQUENCE, Class::Universal, 16),
-        (Tag::SET, Class::Universal, 17),
-        (Tag::PRINTABLE_STRING, Class::Universal, 19),
-        (Tag::IA5_STRING, Class::Universal, 22),
-        (Tag::UTC_TIME, Class::Universal, 23),
-        (Tag::GENERALIZED_TIME, Class::Universal, 24),
-        (Tag::CTX_6, Class::Context, 6),
-        (Tag::new(Class::Application, 31), Class::Application, 31),
-        (
-            Tag::new(Class::Private, 268_435_455),
-            Class::Private,
-            268_435_455,
-        ),
-    ];
-    for (tag, class, number) in cases {
-        let same = tag.class() == class && tag.number() == number;
-        assert!(rt; same, "{tag:?}");
+    for (name, tag, class, number) in tag_rows() {
+        assert!(rt; tag.class() == class && tag.number() == number, "{name}");
     }
+}
+
+#[test]
+fn tags_that_are_made(rt: HostRuntime) {
+    let application = Tag::new(Class::Application, 31);
+    assert!(rt; application.class() == Class::Application && application.number() == 31);
+    let private = Tag::new(Class::Private, 268_435_455);
+    assert!(rt; private.class() == Class::Private && private.number() == 268_435_455);
 }

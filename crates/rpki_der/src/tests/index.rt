@@ -2,6 +2,7 @@
 
 use crate::*;
 use bytes::Bytes;
+use std::alloc::Global;
 use std::test::Fail;
 
 /// What an entry has to be: place, contents, past, the number of its universal tag, whether constructed, and parent.
@@ -9,12 +10,14 @@ type Wanted = (usize, usize, usize, u32, bool, Option<usize>);
 
 /// A value, and its index.
 struct Row {
+    name: &'static str,
     octets: &'static [u8],
     index: &'static [Wanted],
 }
 
-const ROWS: [Row; 4] = [
+const ROWS: &[Row] = &[
     Row {
+        name: "four sequences",
         octets: &[0x30, 0x06, 0x30, 0x04, 0x30, 0x02, 0x30, 0x00],
         index: &[
             (0, 2, 8, 16, true, None),
@@ -24,6 +27,7 @@ const ROWS: [Row; 4] = [
         ],
     },
     Row {
+        name: "a name",
         octets: &[
             0x30, 0x0c, 0x31, 0x0a, 0x30, 0x08, 0x06, 0x03, 0x55, 0x04, 0x03, 0x13, 0x01, 0x41,
         ],
@@ -35,8 +39,8 @@ const ROWS: [Row; 4] = [
             (11, 13, 14, 19, false, Some(2)),
         ],
     },
-    // values after closed ones
     Row {
+        name: "values after closed ones",
         octets: &[
             0x30, 0x0a, 0x30, 0x02, 0x30, 0x00, 0x05, 0x00, 0x31, 0x00, 0x05, 0x00,
         ],
@@ -50,10 +54,15 @@ const ROWS: [Row; 4] = [
         ],
     },
     Row {
+        name: "NULL",
         octets: &[0x05, 0x00],
         index: &[(0, 2, 2, 5, false, None)],
     },
 ];
+
+fn rows() -> &'static [Row] {
+    ROWS
+}
 
 fn is_wanted(entry: &HeaderEntry, wanted: &Wanted) -> bool {
     entry.place() == wanted.0
@@ -69,28 +78,49 @@ fn are_wanted(index: &[HeaderEntry], wanted: &[Wanted]) -> bool {
     index.len() == wanted.len() && index.iter().zip(wanted).all(|(e, w)| is_wanted(e, w))
 }
 
+/// Whether the captured value is one, and has this index.
+fn is_indexed(alloc: Global, octets: &'static [u8], wanted: &[Wanted]) -> bool {
+    let source: Bytes = Bytes::from_static(octets);
+    match Constructed::new(&source).capture_one(alloc) {
+        Ok(found) => are_wanted(found.headers(), wanted) && found.values() == 1,
+        Err(_) => false,
+    }
+}
+
 #[test]
 fn captured_values_have_their_index(rt: HostRuntime) {
-    for row in &ROWS {
-        let source: Bytes = Bytes::from_static(row.octets);
-        let mut cursor = Constructed::new(&source);
-        let same = match cursor.capture_one(rt.alloc()) {
-            Ok(found) => are_wanted(found.headers(), row.index) && found.values() == 1,
-            Err(_) => false,
-        };
-        assert!(rt; same, "{:?}", row.octets);
+    for row in rows() {
+        assert!(rt;
+            is_indexed(rt.alloc(), row.octets, row.index),
+            "{}",
+            row.name
+        );
+    }
+}
+
+/// Whether the slice is one value, and has this index.
+fn is_indexed_slice(alloc: Global, octets: &[u8], wanted: &[Wanted]) -> bool {
+    match index_octets(alloc, octets) {
+        Ok((size, index)) => size == octets.len() && are_wanted(index.as_slice(), wanted),
+        Err(_) => false,
     }
 }
 
 #[test]
 fn the_index_of_a_slice_is_the_same(rt: HostRuntime) {
-    for row in &ROWS {
-        let same = match index_octets(rt.alloc(), row.octets) {
-            Ok((size, index)) => size == row.octets.len() && are_wanted(&index, row.index),
-            Err(_) => false,
-        };
-        assert!(rt; same, "{:?}", row.octets);
+    for row in rows() {
+        assert!(rt;
+            is_indexed_slice(rt.alloc(), row.octets, row.index),
+            "{}",
+            row.name
+        );
     }
+}
+
+const TWO_NULLS: [Wanted; 2] = [(0, 2, 2, 5, false, None), (2, 4, 4, 5, false, None)];
+
+fn are_two_nulls(found: &Captured) -> bool {
+    are_wanted(found.headers(), &TWO_NULLS) && found.values() == 2
 }
 
 #[test]
@@ -98,10 +128,9 @@ fn written_values_have_theirs(rt: HostRuntime) -> Result<(), Fail> {
     let nulls = (().encode(), ().encode());
     assert!(rt; nulls.fits());
     let found = Captured::from_values(rt.alloc(), &nulls)?;
-    let wanted = [(0, 2, 2, 5, false, None), (2, 4, 4, 5, false, None)];
-    assert!(rt; are_wanted(found.headers(), &wanted) && found.values() == 2);
+    assert!(rt; are_two_nulls(&found));
     let copy = found.clone()?;
-    assert!(rt; are_wanted(copy.headers(), &wanted) && copy.values() == 2);
+    assert!(rt; are_two_nulls(&copy), "copied");
     Ok(())
 }
 
@@ -120,25 +149,31 @@ fn attribute_of<'a>(
     Ok((identifier, text))
 }
 
+/// A name of one attribute, the common name A.
+const NAME: &[u8] = b"\x30\x0c\x31\x0a\x30\x08\x06\x03\x55\x04\x03\x13\x01\x41";
+
+/// Whether the attribute is the common name A.
+fn is_common_name(name: Constructed<'_>) -> bool {
+    match attribute_of(name) {
+        Ok((identifier, text)) => identifier.0 == [85, 4, 3].as_slice() && text.as_str() == "A",
+        Err(_) => false,
+    }
+}
+
 #[test]
 fn a_cursor_on_captured_values_reads_them(rt: HostRuntime) {
-    let source: Bytes = Bytes::from_static(
-        b"\x30\x0c\x31\x0a\x30\x08\x06\x03\x55\x04\x03\x13\x01\x41",
-    );
-    let plain = attribute_of(Constructed::new(&source)).is_ok_and(|found| found.0.0
-        == [85, 4, 3].as_slice()
-        && found.1.as_str() == "A");
-    assert!(rt; plain);
-    let captured = Constructed::new(&source).capture_one(rt.alloc());
-    let indexed = captured.is_ok_and(|name| {
-        attribute_of(name.cursor()).is_ok_and(|found| found.0.0 == [85, 4, 3].as_slice()
-            && found.1.as_str() == "A")
-    });
+    let source: Bytes = Bytes::from_static(NAME);
+    assert!(rt; is_common_name(Constructed::new(&source)));
+    let indexed = match Constructed::new(&source).capture_one(rt.alloc()) {
+        Ok(name) => is_common_name(name.cursor()),
+        Err(_) => false,
+    };
     assert!(rt; indexed);
 }
 
 /// A value, the number of a parent, the numbers of its members, and the contents of the last of these.
 struct Parent {
+    name: &'static str,
     octets: &'static [u8],
     number: Option<usize>,
     members: &'static [usize],
@@ -150,32 +185,37 @@ const NESTED: &[u8] = &[
     0x30, 0x0a, 0x30, 0x02, 0x30, 0x00, 0x05, 0x00, 0x31, 0x00, 0x05, 0x00,
 ];
 
-const PARENTS: [Parent; 5] = [
+const PARENTS: &[Parent] = &[
     Parent {
+        name: "all values",
         octets: NESTED,
         number: None,
         members: &[0],
         contents: &[0x30, 0x02, 0x30, 0x00, 0x05, 0x00, 0x31, 0x00, 0x05, 0x00],
     },
     Parent {
+        name: "a SEQUENCE",
         octets: NESTED,
         number: Some(0),
         members: &[1, 3, 4, 5],
         contents: &[],
     },
     Parent {
+        name: "a SEQUENCE inside",
         octets: NESTED,
         number: Some(1),
         members: &[2],
         contents: &[],
     },
     Parent {
+        name: "NULL",
         octets: NESTED,
         number: Some(5),
         members: &[],
         contents: &[],
     },
     Parent {
+        name: "an extension",
         octets: &[
             0x30, 0x09, 0x06, 0x03, 0x55, 0x1d, 0x13, 0x04, 0x02, 0x30, 0x00,
         ],
@@ -184,6 +224,10 @@ const PARENTS: [Parent; 5] = [
         contents: &[0x30, 0x00],
     },
 ];
+
+fn parent_rows() -> &'static [Parent] {
+    PARENTS
+}
 
 /// Whether these are the members of the value of this number, and the last of them has these contents.
 fn has_members(found: &Captured, row: &Parent) -> bool {
@@ -204,14 +248,18 @@ fn has_members(found: &Captured, row: &Parent) -> bool {
     members.next().is_none() && last == row.contents
 }
 
+/// Whether the value is captured, and has the members of the row.
+fn captures_members(alloc: Global, row: &Parent) -> bool {
+    let source: Bytes = Bytes::from_static(row.octets);
+    match Constructed::new(&source).capture_one(alloc) {
+        Ok(found) => has_members(&found, row),
+        Err(_) => false,
+    }
+}
+
 #[test]
 fn members_are_named_in_order(rt: HostRuntime) {
-    for row in &PARENTS {
-        let source: Bytes = Bytes::from_static(row.octets);
-        let same = match Constructed::new(&source).capture_one(rt.alloc()) {
-            Ok(found) => has_members(&found, row),
-            Err(_) => false,
-        };
-        assert!(rt; same, "{:?}", row.number);
+    for row in parent_rows() {
+        assert!(rt; captures_members(rt.alloc(), row), "{}", row.name);
     }
 }

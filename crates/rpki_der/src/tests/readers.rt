@@ -40,12 +40,17 @@ fn inside_of<'a>(outcome: Result<Constructed<'a>, DecodeError>) -> Result<&'a [u
     }
 }
 
-/// The same of an optional reader: `Nothing` for None.
-fn optional_inside<'a>(
-    outcome: Result<Option<Constructed<'a>>, DecodeError>,
-) -> Result<&'a [u8], Kind> {
+fn octets_of<'a>(outcome: Result<&'a [u8], DecodeError>) -> Result<&'a [u8], Kind> {
     match outcome {
-        Ok(Some(inside)) => Ok(inside.rest()),
+        Ok(octets) => Ok(octets),
+        Err(e) => Err(kind_of(&e)),
+    }
+}
+
+/// The value of an optional reader, or `Nothing` for None.
+fn there<T: Drop>(outcome: Result<Option<T>, DecodeError>) -> Result<T, Kind> {
+    match outcome {
+        Ok(Some(found)) => Ok(found),
         Ok(None) => Err(Kind::Nothing),
         Err(e) => Err(kind_of(&e)),
     }
@@ -56,57 +61,76 @@ fn word_of(value: bool) -> &'static [u8] {
     if value { b"true" } else { b"false" }
 }
 
+fn unsigned<'a>(cursor: &mut Constructed<'a>) -> Result<&'a [u8], DecodeError> {
+    Ok(cursor.take_unsigned()?.as_slice())
+}
+
+fn identifier<'a>(cursor: &mut Constructed<'a>) -> Result<&'a [u8], DecodeError> {
+    Ok(cursor.take_oid()?.0)
+}
+
+fn printable<'a>(cursor: &mut Constructed<'a>) -> Result<&'a [u8], DecodeError> {
+    Ok(cursor.take_printable()?.as_str().as_bytes())
+}
+
+fn utf8<'a>(cursor: &mut Constructed<'a>) -> Result<&'a [u8], DecodeError> {
+    Ok(cursor.take_utf8()?.as_str().as_bytes())
+}
+
+/// What a reader of a leaf returned.
+fn read_leaf<'a>(reader: Reader, cursor: &mut Constructed<'a>) -> Result<&'a [u8], DecodeError> {
+    match reader {
+        Reader::Null => match cursor.take_null() {
+            Ok(()) => Ok(b""),
+            Err(e) => Err(e),
+        },
+        Reader::Boolean => Ok(word_of(cursor.take_bool()?)),
+        Reader::Unsigned => unsigned(cursor),
+        Reader::Identifier => identifier(cursor),
+        Reader::Octets => cursor.take_octets(),
+        Reader::Printable => printable(cursor),
+        _ => utf8(cursor),
+    }
+}
+
+/// The octets of the value that the optional reader returned, or the kind of its error.
+fn read_optional<'a>(reader: Reader, cursor: &mut Constructed<'a>) -> Result<&'a [u8], Kind> {
+    match reader {
+        Reader::OptionalNull => there(cursor.take_opt_null()).map(|_| b"".as_slice()),
+        Reader::OptionalBoolean => there(cursor.take_opt_bool()).map(word_of),
+        Reader::OptionalTagged => match there(cursor.take_opt_value_if(Tag::CTX_6)) {
+            Ok(content) => contents_of(Ok(content)),
+            Err(kind) => Err(kind),
+        },
+        Reader::OptionalSequence => match there(cursor.take_opt_sequence()) {
+            Ok(inside) => Ok(inside.rest()),
+            Err(kind) => Err(kind),
+        },
+        _ => match there(cursor.take_opt_set()) {
+            Ok(inside) => Ok(inside.rest()),
+            Err(kind) => Err(kind),
+        },
+    }
+}
+
 /// The octets of the value that the reader returned, or the kind of its error.
 fn read<'a>(reader: Reader, cursor: &mut Constructed<'a>) -> Result<&'a [u8], Kind> {
     match reader {
-        Reader::Null => match cursor.take_null() {
-            Ok(()) => Ok(&[]),
-            Err(e) => Err(kind_of(&e)),
-        },
-        Reader::Boolean => match cursor.take_bool() {
-            Ok(value) => Ok(word_of(value)),
-            Err(e) => Err(kind_of(&e)),
-        },
-        Reader::Unsigned => match cursor.take_unsigned() {
-            Ok(number) => Ok(number.as_slice()),
-            Err(e) => Err(kind_of(&e)),
-        },
-        Reader::Identifier => match cursor.take_oid() {
-            Ok(identifier) => Ok(identifier.0),
-            Err(e) => Err(kind_of(&e)),
-        },
-        Reader::Octets => match cursor.take_octets() {
-            Ok(octets) => Ok(octets),
-            Err(e) => Err(kind_of(&e)),
-        },
-        Reader::Printable => match cursor.take_printable() {
-            Ok(text) => Ok(text.as_str().as_bytes()),
-            Err(e) => Err(kind_of(&e)),
-        },
-        Reader::Utf8 => match cursor.take_utf8() {
-            Ok(text) => Ok(text.as_str().as_bytes()),
-            Err(e) => Err(kind_of(&e)),
-        },
+        Reader::Null
+        | Reader::Boolean
+        | Reader::Unsigned
+        | Reader::Identifier
+        | Reader::Octets
+        | Reader::Printable
+        | Reader::Utf8 => octets_of(read_leaf(reader, cursor)),
         Reader::Tagged => contents_of(cursor.take_value_if(Tag::CTX_6)),
         Reader::Sequence => inside_of(cursor.take_sequence()),
         Reader::Set => inside_of(cursor.take_set()),
-        Reader::OptionalNull => match cursor.take_opt_null() {
-            Ok(Some(())) => Ok(&[]),
-            Ok(None) => Err(Kind::Nothing),
-            Err(e) => Err(kind_of(&e)),
-        },
-        Reader::OptionalBoolean => match cursor.take_opt_bool() {
-            Ok(Some(value)) => Ok(word_of(value)),
-            Ok(None) => Err(Kind::Nothing),
-            Err(e) => Err(kind_of(&e)),
-        },
-        Reader::OptionalTagged => match cursor.take_opt_value_if(Tag::CTX_6) {
-            Ok(Some(content)) => contents_of(Ok(content)),
-            Ok(None) => Err(Kind::Nothing),
-            Err(e) => Err(kind_of(&e)),
-        },
-        Reader::OptionalSequence => optional_inside(cursor.take_opt_sequence()),
-        Reader::OptionalSet => optional_inside(cursor.take_opt_set()),
+        Reader::OptionalNull
+        | Reader::OptionalBoolean
+        | Reader::OptionalTagged
+        | Reader::OptionalSequence
+        | Reader::OptionalSet => read_optional(reader, cursor),
     }
 }
 
@@ -507,14 +531,33 @@ const LEAVES: &[(&str, Reader, &[u8], Result<&[u8], Kind>, usize)] = &[
     ),
 ];
 
+fn leaf_rows() -> &'static [(
+    &'static str,
+    Reader,
+    &'static [u8],
+    Result<&'static [u8], Kind>,
+    usize,
+)] {
+    LEAVES
+}
+
+/// Whether the reader returns this, with so many octets left.
+fn is_read(
+    reader: Reader,
+    octets: &'static [u8],
+    expected: Result<&[u8], Kind>,
+    left: usize,
+) -> bool {
+    let source: Bytes = Bytes::from_static(octets);
+    let mut cursor = Constructed::new(&source);
+    let found = read(reader, &mut cursor);
+    found == expected && cursor.rest().len() == left
+}
+
 #[test]
 fn leaves(rt: HostRuntime) {
-    for (name, reader, octets, expected, left) in LEAVES {
-        let source: Bytes = Bytes::from_static(octets);
-        let mut cursor = Constructed::new(&source);
-        let found = read(*reader, &mut cursor);
-        let same = found == *expected && cursor.rest().len() == *left;
-        assert!(rt; same, "{name}: {found:?}");
+    for (name, reader, octets, expected, left) in leaf_rows() {
+        assert!(rt; is_read(*reader, octets, *expected, *left), "{name}");
     }
 }
 
@@ -543,29 +586,55 @@ fn any_value(octets: &'static [u8]) -> Result<(), Kind> {
     }
 }
 
-#[test]
-fn values_of_any_tag(rt: HostRuntime) {
-    let cases: [(&[u8], Tag, bool, &[u8]); 5] = [
+fn value_rows() -> [(&'static str, &'static [u8], Tag, bool, &'static [u8]); 5] {
+    [
         (
+            "a SEQUENCE",
             &[0x30, 0x02, 0x05, 0x01, 0x00],
             Tag::SEQUENCE,
             true,
             &[0x05, 0x01],
         ),
         (
+            "a primitive SEQUENCE",
             &[0x10, 0x02, 0x05, 0x01, 0x00],
             Tag::SEQUENCE,
             false,
             &[0x05, 0x01],
         ),
-        (&[0x86, 0x01, 0x61, 0x00], Tag::CTX_6, false, &[0x61]),
-        (&[0xa6, 0x00, 0x00], Tag::CTX_6, true, &[]),
-        (&[0x02, 0x00, 0x00], Tag::INTEGER, false, &[]),
-    ];
-    for (octets, tag, constructed, contents) in cases {
-        let same = is_value(octets, tag, constructed, contents);
-        assert!(rt; same, "{octets:?}");
+        (
+            "a primitive value of class context",
+            &[0x86, 0x01, 0x61, 0x00],
+            Tag::CTX_6,
+            false,
+            &[0x61],
+        ),
+        (
+            "a constructed value of class context",
+            &[0xa6, 0x00, 0x00],
+            Tag::CTX_6,
+            true,
+            &[],
+        ),
+        (
+            "an INTEGER without contents",
+            &[0x02, 0x00, 0x00],
+            Tag::INTEGER,
+            false,
+            &[],
+        ),
+    ]
+}
+
+#[test]
+fn values_of_any_tag(rt: HostRuntime) {
+    for (name, octets, tag, constructed, contents) in value_rows() {
+        assert!(rt; is_value(octets, tag, constructed, contents), "{name}");
     }
+}
+
+#[test]
+fn refusals_of_any_tag(rt: HostRuntime) {
     assert!(rt; any_value(&[0x30, 0x02, 0x05]) == Err(Kind::Truncated));
     assert!(rt; any_value(&[0x00, 0x00]) == Err(Kind::BadTag));
     assert!(rt; any_value(&[0x30, 0x80]) == Err(Kind::BadLength));
