@@ -12,6 +12,3 @@ pub mod repository;
 
 pub use rpki_der as der;
 pub use rpki_text::{uri, util};
-
-#[cfg(test)]
-mod tests;

@@ -39,6 +39,3 @@ pub use oid::{ConstOid, Oid};
 pub use tag::{Class, Header, Steps, Tag};
 pub use text::{PrintableString, Utf8String};
 pub use value::Content;
-
-#[cfg(test)]
-mod tests;

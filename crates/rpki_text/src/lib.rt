@@ -5,7 +5,5 @@
 #![tactic(auto)]
 
 pub mod laws;
-#[cfg(test)]
-mod tests;
 pub mod uri;
 pub mod util;

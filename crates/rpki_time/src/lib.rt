@@ -16,6 +16,3 @@ pub use serial::{Serial, SerialSliceError};
 pub use time::{Time, TimeParseError};
 pub use time_encoder::{GeneralizedTime, UtcTime, VariedTime};
 pub use validity::{Validity, ValidityPeriodError};
-
-#[cfg(test)]
-mod tests;

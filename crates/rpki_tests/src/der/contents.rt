@@ -1,0 +1,379 @@
+//! Bit strings, numbers, object identifiers, texts and errors.
+
+use super::{Kind, kind_of};
+use rpki_der::*;
+use bytes::Bytes;
+use std::alloc::{AllocError, Global};
+use std::test::Fail;
+
+/// The kind of the error that a call returned, if it did.
+fn answer<T: Drop>(outcome: Result<T, DecodeError>) -> Result<(), Kind> {
+    match outcome {
+        Ok(_) => Ok(()),
+        Err(e) => Err(kind_of(&e)),
+    }
+}
+
+/// The unused bits and the octets of a bit string, or the kind of the error.
+const BITS: &[(&str, &[u8], Result<(u8, &[u8]), Kind>)] = &[
+    ("no count of unused bits", &[0x03, 0x00], Err(Kind::Content)),
+    (
+        "unused bits without an octet",
+        &[0x03, 0x01, 0x01],
+        Err(Kind::Content),
+    ),
+    (
+        "8 unused bits",
+        &[0x03, 0x02, 0x08, 0x00],
+        Err(Kind::Content),
+    ),
+    (
+        "unused bits that are not zero",
+        &[0x03, 0x02, 0x02, 0xaa],
+        Err(Kind::Content),
+    ),
+    ("constructed", &[0x23, 0x00], Err(Kind::Unexpected)),
+    ("cut short", &[0x03, 0x02, 0x00], Err(Kind::Truncated)),
+    ("no bits", &[0x03, 0x01, 0x00], Ok((0, &[]))),
+    ("7 bits", &[0x03, 0x02, 0x01, 0xaa], Ok((1, &[0xaa]))),
+    (
+        "9 bits",
+        &[0x03, 0x03, 0x07, 0xff, 0x80],
+        Ok((7, &[0xff, 0x80])),
+    ),
+];
+
+fn bit_rows() -> &'static [(
+    &'static str,
+    &'static [u8],
+    Result<(u8, &'static [u8]), Kind>,
+)] {
+    BITS
+}
+
+fn is_bits(octets: &'static [u8], expected: Result<(u8, &[u8]), Kind>) -> bool {
+    let source: Bytes = Bytes::from_static(octets);
+    let mut cursor = Constructed::new(&source);
+    match (cursor.take_bit_string(), expected) {
+        (Ok(found), Ok((unused, octets))) => {
+            found.unused() == unused && found.octet_slice() == octets && cursor.is_empty()
+        }
+        (Err(e), Err(kind)) => kind_of(&e) == kind && cursor.rest() == octets,
+        _ => false,
+    }
+}
+
+#[test]
+fn bit_strings_are_read(rt: HostRuntime) {
+    for (name, octets, expected) in bit_rows() {
+        assert!(rt; is_bits(octets, *expected), "{name}");
+    }
+}
+
+/// The octets of the number without leading zeros.
+fn magnitude(octets: &'static [u8]) -> Result<&'static [u8], InvalidInteger> {
+    match Unsigned::from_slice(octets) {
+        Ok(number) => Ok(number.as_slice()),
+        Err(e) => Err(e),
+    }
+}
+
+const MAGNITUDES: &[(&str, &[u8], Result<&[u8], InvalidInteger>)] = &[
+    ("nothing", &[], Err(InvalidInteger::Empty)),
+    ("zero", &[0], Ok(&[0])),
+    ("three zeros", &[0, 0, 0], Ok(&[0])),
+    ("128 after a zero", &[0, 0x80], Ok(&[0x80])),
+    ("65537", &[1, 0, 1], Ok(&[1, 0, 1])),
+];
+
+fn magnitude_rows() -> &'static [(
+    &'static str,
+    &'static [u8],
+    Result<&'static [u8], InvalidInteger>,
+)] {
+    MAGNITUDES
+}
+
+#[test]
+fn magnitudes(rt: HostRuntime) {
+    for (name, octets, expected) in magnitude_rows() {
+        let found = magnitude(octets);
+        assert!(rt; found == *expected, "{name}");
+    }
+}
+
+/// Whether an identifier is valid and is 2.999.3, and what it gives to be read, skipped, and skipped if it is 2.999.3.
+type Identified = (
+    (bool, bool),
+    Result<(), Kind>,
+    Result<(), Kind>,
+    Result<(), Kind>,
+    Result<(), Kind>,
+);
+
+/// The identifier 2.999.3.
+const EXAMPLE: ConstOid = Oid(&[0x88, 0x37, 0x03]);
+
+fn identifier_taken(octets: &'static [u8]) -> ((bool, bool), Result<(), Kind>) {
+    let source: Bytes = Bytes::from_static(octets);
+    let mut cursor = Constructed::new(&source);
+    match Oid::take_from(&mut cursor) {
+        Ok(found) => ((found.is_valid(), found == EXAMPLE), Ok(())),
+        Err(e) => ((false, false), Err(kind_of(&e))),
+    }
+}
+
+fn identifier_skipped(octets: &'static [u8]) -> Result<(), Kind> {
+    let source: Bytes = Bytes::from_static(octets);
+    let mut cursor = Constructed::new(&source);
+    answer(Oid::skip_in(&mut cursor))
+}
+
+fn example_skipped(octets: &'static [u8]) -> Result<(), Kind> {
+    let source: Bytes = Bytes::from_static(octets);
+    let mut cursor = Constructed::new(&source);
+    answer(EXAMPLE.skip_if(&mut cursor))
+}
+
+fn example_skipped_by_cursor(octets: &'static [u8]) -> Result<(), Kind> {
+    let source: Bytes = Bytes::from_static(octets);
+    let mut cursor = Constructed::new(&source);
+    answer(cursor.skip_oid_if(EXAMPLE))
+}
+
+fn identifier_of(octets: &'static [u8]) -> Identified {
+    let (valid, taken) = identifier_taken(octets);
+    (
+        valid,
+        taken,
+        identifier_skipped(octets),
+        example_skipped(octets),
+        example_skipped_by_cursor(octets),
+    )
+}
+
+const IDENTIFIERS: &[(&str, &[u8], Identified)] = &[
+    (
+        "2.999.3",
+        &[0x06, 0x03, 0x88, 0x37, 0x03],
+        ((true, true), Ok(()), Ok(()), Ok(()), Ok(())),
+    ),
+    (
+        "2.5.4.3",
+        &[0x06, 0x03, 0x55, 0x04, 0x03],
+        (
+            (true, false),
+            Ok(()),
+            Ok(()),
+            Err(Kind::Content),
+            Err(Kind::Content),
+        ),
+    ),
+    (
+        "2.999 and half an arc",
+        &[0x06, 0x03, 0x88, 0x37, 0x83],
+        (
+            (false, false),
+            Err(Kind::Content),
+            Err(Kind::Content),
+            Err(Kind::Content),
+            Err(Kind::Content),
+        ),
+    ),
+    (
+        "NULL",
+        &[0x05, 0x00],
+        (
+            (false, false),
+            Err(Kind::Unexpected),
+            Err(Kind::Unexpected),
+            Err(Kind::Unexpected),
+            Err(Kind::Unexpected),
+        ),
+    ),
+    (
+        "cut short",
+        &[0x06, 0x03, 0x88],
+        (
+            (false, false),
+            Err(Kind::Truncated),
+            Err(Kind::Truncated),
+            Err(Kind::Truncated),
+            Err(Kind::Truncated),
+        ),
+    ),
+];
+
+fn identifier_rows() -> &'static [(&'static str, &'static [u8], Identified)] {
+    IDENTIFIERS
+}
+
+#[test]
+fn identifiers(rt: HostRuntime) {
+    let by_hand: ConstOid = Oid(&[0x80, 0x01]);
+    assert!(rt; !by_hand.is_valid(), "by hand");
+    for (name, octets, expected) in identifier_rows() {
+        assert!(rt; identifier_of(octets) == *expected, "{name}");
+    }
+}
+
+/// 7 bits.
+const SEVEN: &[u8] = &[0x03, 0x02, 0x01, 0xaa];
+
+const SEVEN_OCTETS: &[u8] = &[0xaa];
+
+#[test]
+fn bit_strings(rt: HostRuntime) -> Result<(), Fail> {
+    let source: Bytes = Bytes::from_static(SEVEN);
+    let bits = Constructed::new(&source).take_bit_string()?;
+    assert!(rt; bits.unused() == 1);
+    assert!(rt; bits.octet_slice() == SEVEN_OCTETS);
+    assert!(rt; bits.octet_bytes()?.as_slice() == SEVEN_OCTETS);
+    Ok(())
+}
+
+#[test]
+fn bit_strings_are_equal(rt: HostRuntime) -> Result<(), Fail> {
+    let source: Bytes = Bytes::from_static(SEVEN);
+    let bits = Constructed::new(&source).take_bit_string()?;
+    assert!(rt; bits.clone()? == bits);
+    let other = BitString::new(0, Bytes::from_static(SEVEN_OCTETS));
+    assert!(rt; !(other == bits));
+    Ok(())
+}
+
+const TEXTS: &[u8] = &[
+    0x13, 0x02, 0x41, 0x3f, 0x0c, 0x02, 0xc3, 0xa9, 0x04, 0x01, 0x07,
+];
+
+/// The contents of a PrintableString, a UTF8String and an OCTET STRING.
+fn texts_of<'a>(source: &'a Bytes) -> Result<(&'a str, &'a str, &'a [u8]), DecodeError> {
+    let mut cursor = Constructed::new(source);
+    let printable = cursor.take_printable()?.as_str();
+    let text = cursor.take_utf8()?.as_str();
+    let octets = cursor.take_octets()?;
+    cursor.finish()?;
+    Ok((printable, text, octets))
+}
+
+#[test]
+fn texts(rt: HostRuntime) -> Result<(), Fail> {
+    let source: Bytes = Bytes::from_static(TEXTS);
+    let (printable, text, octets) = texts_of(&source)?;
+    assert!(rt; printable == "A?");
+    assert!(rt; text == "é");
+    assert!(rt; octets == [7].as_slice());
+    Ok(())
+}
+
+/// Whether nothing is left after the third of the texts.
+fn ends_after_texts(source: &Bytes) -> Result<bool, DecodeError> {
+    let mut cursor = Constructed::new(source);
+    cursor.take_printable()?;
+    cursor.take_utf8()?;
+    cursor.take_octets()?;
+    Ok(cursor.is_empty())
+}
+
+#[test]
+fn nothing_is_left_after_texts(rt: HostRuntime) -> Result<(), Fail> {
+    let source: Bytes = Bytes::from_static(TEXTS);
+    assert!(rt; ends_after_texts(&source)?);
+    Ok(())
+}
+
+/// The characters of a PrintableString (X.680 41.4, table 10).
+const PRINTABLE: &[u8] =
+    b"ABCDEFGHIJKLMNOPQRSTUVWXYZabcdefghijklmnopqrstuvwxyz0123456789 '()+,-./:=?";
+
+/// Whether a PrintableString of this octet is read as it.
+fn is_printable(alloc: Global, octet: u8) -> Result<bool, AllocError> {
+    let mut octets = Vec::new(alloc);
+    octets.extend_from_slice(&[0x13, 0x01, octet])?;
+    let source = Bytes::from_vec(octets)?;
+    Ok(match Constructed::new(&source).take_printable() {
+        Ok(text) => text.as_str().as_bytes() == [octet].as_slice(),
+        Err(e) => kind_of(&e) != Kind::Content,
+    })
+}
+
+#[test]
+fn printable_characters(rt: HostRuntime) -> Result<(), Fail> {
+    assert!(rt; PRINTABLE.len() == 74);
+    for octet in 0..=255u8 {
+        let found = is_printable(rt.alloc(), octet)?;
+        assert!(rt; found == PRINTABLE.contains(&octet), "{octet}");
+    }
+    Ok(())
+}
+
+fn numbered() -> [(DecodeError, u8); 7] {
+    [
+        (DecodeError::Truncated, 1),
+        (DecodeError::BadTag, 2),
+        (DecodeError::BadLength, 3),
+        (DecodeError::Unexpected, 4),
+        (
+            DecodeError::Content(ContentError::from_static("malformed time value")),
+            5,
+        ),
+        (DecodeError::Trailing, 6),
+        (DecodeError::OutOfMemory, 7),
+    ]
+}
+
+#[test]
+fn refusals_have_numbers(rt: HostRuntime) {
+    for (refusal, number) in numbered() {
+        assert!(rt; refusal.number() == number, "{number}");
+    }
+}
+
+#[test]
+fn errors_are_kept(rt: HostRuntime) {
+    let inner = ContentError::from_static("malformed time value");
+    let kept = ContentError::from(DecodeError::Content(inner));
+    assert!(rt; kept == inner);
+    assert!(rt; inner != ContentError::from_static("malformed"));
+}
+
+fn shown(alloc: Global, error: ContentError) -> Result<String, Fail> {
+    Ok(format!(in alloc; "{error}")?)
+}
+
+#[test]
+fn errors_of_content_have_texts(rt: HostRuntime) -> Result<(), Fail> {
+    let inner = ContentError::from_static("malformed time value");
+    let text = shown(rt.alloc(), ContentError::from(DecodeError::Content(inner)))?;
+    assert!(rt; text.as_str() == "malformed time value");
+    Ok(())
+}
+
+#[test]
+fn errors_of_memory_are_kept(rt: HostRuntime) {
+    assert!(rt; DecodeError::from(AllocError) == DecodeError::OutOfMemory);
+    assert!(rt; InvalidInteger::from(AllocError) == InvalidInteger::OutOfMemory);
+}
+
+/// A count of unused bits, octets, and whether they make a bit string.
+const LEGAL: &[(&str, u8, &[u8], bool)] = &[
+    ("no bits", 0, &[], true),
+    ("an unused bit of none", 1, &[], false),
+    ("8 bits", 0, &[0xff], true),
+    ("9 bits", 7, &[0xff, 0x80], true),
+    ("unused bits that are set", 7, &[0x80, 0xff], false),
+    ("8 unused bits", 8, &[0x00], false),
+    ("7 bits", 1, &[0xaa], true),
+    ("an unused bit of two that is set", 2, &[0xaa], false),
+];
+
+fn legal_rows() -> &'static [(&'static str, u8, &'static [u8], bool)] {
+    LEGAL
+}
+
+#[test]
+fn bit_strings_are_legal(rt: HostRuntime) {
+    for (name, unused, octets, legal) in legal_rows() {
+        assert!(rt; BitString::is_legal(*unused, octets) == *legal, "{name}");
+    }
+}

@@ -1,0 +1,214 @@
+//! Sums of times, seconds since 1970, and texts of moments.
+
+use super::{Parts, moment_of, parts_of, time_of};
+use rpki_time::*;
+use jiff::SignedDuration;
+use jiff::civil::DateTime;
+
+/// What is asked of a time.
+#[derive(Clone, Copy, Debug)]
+enum Asked {
+    FiveMinutesAgo,
+    FiveMinutesFromNow,
+    Tomorrow,
+    NextWeek,
+    NextYear,
+    YearsFromNow(i32),
+    Add(i64),
+    Subtract(i64),
+}
+
+fn ask(asked: Asked, now: Time) -> Option<Time> {
+    match asked {
+        Asked::FiveMinutesAgo => Time::five_minutes_ago(now),
+        Asked::FiveMinutesFromNow => Time::five_minutes_from_now(now),
+        Asked::Tomorrow => Time::tomorrow(now),
+        Asked::NextWeek => Time::next_week(now),
+        Asked::NextYear => Time::next_year(now),
+        Asked::YearsFromNow(years) => Time::years_from_now(years, now),
+        Asked::Add(seconds) => now.checked_add(SignedDuration::from_secs(seconds)),
+        Asked::Subtract(seconds) => now.checked_sub(SignedDuration::from_secs(seconds)),
+    }
+}
+
+const ASKED: &[(Asked, Parts, Option<Parts>)] = &[
+    (Asked::FiveMinutesAgo, (0, 1, 1, 0, 4, 59), None),
+    (
+        Asked::FiveMinutesAgo,
+        (0, 1, 1, 0, 5, 0),
+        Some((0, 1, 1, 0, 0, 0)),
+    ),
+    (
+        Asked::FiveMinutesFromNow,
+        (2019, 12, 31, 23, 55, 0),
+        Some((2020, 1, 1, 0, 0, 0)),
+    ),
+    (
+        Asked::Tomorrow,
+        (2020, 2, 28, 12, 0, 0),
+        Some((2020, 2, 29, 12, 0, 0)),
+    ),
+    (Asked::Tomorrow, (9999, 12, 31, 0, 0, 0), None),
+    (
+        Asked::NextWeek,
+        (2020, 2, 28, 12, 0, 0),
+        Some((2020, 3, 6, 12, 0, 0)),
+    ),
+    (
+        Asked::NextYear,
+        (2020, 2, 29, 12, 0, 0),
+        Some((2021, 2, 28, 12, 0, 0)),
+    ),
+    (
+        Asked::YearsFromNow(10),
+        (2020, 2, 29, 16, 39, 57),
+        Some((2030, 2, 28, 16, 39, 57)),
+    ),
+    (Asked::YearsFromNow(1), (9999, 1, 1, 0, 0, 0), None),
+    (
+        Asked::Add(-1),
+        (2020, 1, 1, 0, 0, 0),
+        Some((2019, 12, 31, 23, 59, 59)),
+    ),
+    (
+        Asked::Subtract(1),
+        (2020, 1, 1, 0, 0, 0),
+        Some((2019, 12, 31, 23, 59, 59)),
+    ),
+    (Asked::Subtract(1), (0, 1, 1, 0, 0, 0), None),
+];
+
+fn asked_rows() -> &'static [(Asked, Parts, Option<Parts>)] {
+    ASKED
+}
+
+/// Whether this is what comes of asking.
+fn is_asked(asked: Asked, parts: Parts, expected: Option<Parts>) -> bool {
+    match time_of(parts) {
+        Some(now) => ask(asked, now).map(parts_of) == expected,
+        None => false,
+    }
+}
+
+#[test]
+fn sums_of_times(rt: HostRuntime) {
+    for (case, (asked, parts, expected)) in asked_rows().iter().enumerate() {
+        assert!(rt;
+            is_asked(*asked, *parts, *expected),
+            "row {case}, {asked:?}"
+        );
+    }
+}
+
+/// Years, a date-time with its nanosecond, and the same day so many years on.
+const YEARS_ON: &[(i32, Parts, i64, Option<Parts>)] = &[
+    (
+        4,
+        (2020, 2, 29, 16, 39, 57),
+        0,
+        Some((2024, 2, 28, 16, 39, 57)),
+    ),
+    (
+        10,
+        (2020, 2, 29, 16, 39, 57),
+        0,
+        Some((2030, 2, 28, 16, 39, 57)),
+    ),
+    (1, (9999, 1, 1, 0, 0, 0), 0, None),
+    (-1, (0, 1, 1, 0, 0, 0), 0, None),
+    (
+        1,
+        (2014, 10, 21, 16, 39, 57),
+        500_000_000,
+        Some((2015, 10, 21, 16, 39, 57)),
+    ),
+];
+
+fn years_on_rows() -> &'static [(i32, Parts, i64, Option<Parts>)] {
+    YEARS_ON
+}
+
+/// The date-time of these parts, and of this nanosecond.
+fn date_time_of(parts: Parts, nanosecond: i64) -> Option<DateTime> {
+    let time = moment_of(parts, nanosecond)?;
+    Some(time.date_time())
+}
+
+/// Whether the same day so many years on is this.
+fn is_years_on(years: i32, parts: Parts, nanosecond: i64, expected: Option<Parts>) -> bool {
+    match date_time_of(parts, nanosecond) {
+        Some(date) => Time::years_from_date(years, date) == expected.and_then(time_of),
+        None => false,
+    }
+}
+
+#[test]
+fn years_on(rt: HostRuntime) {
+    for (years, parts, nanosecond, expected) in years_on_rows() {
+        let same = is_years_on(*years, *parts, *nanosecond, *expected);
+        assert!(rt; same, "{years} from {}", parts.0);
+    }
+}
+
+/// A time with its nanosecond, its whole seconds, and whether a nanosecond later is a time too.
+const SECONDS: &[(Parts, i64, i64, bool)] = &[
+    ((2000, 1, 1, 0, 0, 0), 0, 946_684_800, true),
+    ((1970, 1, 1, 0, 0, 0), -500_000_000, -1, true),
+    (
+        (9999, 12, 31, 23, 59, 59),
+        999_999_999,
+        253_402_300_799,
+        false,
+    ),
+];
+
+fn second_rows() -> &'static [(Parts, i64, i64, bool)] {
+    SECONDS
+}
+
+/// The whole seconds of a time, and whether a nanosecond later is a time too.
+fn seconds_of(parts: Parts, nanosecond: i64) -> Option<(i64, bool)> {
+    let date = date_time_of(parts, nanosecond)?;
+    if date.year() < 0 {
+        return None;
+    }
+    let time = Time::new(date);
+    let later = time.checked_add(SignedDuration::from_nanos(1));
+    Some((time.to_binary_time(), later.is_some()))
+}
+
+#[test]
+fn seconds_of_times(rt: HostRuntime) {
+    for (parts, nanosecond, expected, more) in second_rows() {
+        let found = seconds_of(*parts, *nanosecond);
+        assert!(rt; found == Some((*expected, *more)), "{expected}");
+    }
+}
+
+/// A text, and the moment that it is read as.
+const TEXTS: &[(&str, Option<Parts>)] = &[
+    ("2030-10-01T18:30:15+02:00", Some((2030, 10, 1, 16, 30, 15))),
+    ("2030-10-01T16:30:15Z", Some((2030, 10, 1, 16, 30, 15))),
+    ("2030-10-01T16:30:15", None),
+    ("2030-10-01", None),
+    ("-000001-12-31T23:59:59Z", None),
+];
+
+fn text_rows() -> &'static [(&'static str, Option<Parts>)] {
+    TEXTS
+}
+
+/// The moment that the text is read as.
+fn moment_of_text(text: &str) -> Option<Parts> {
+    match text.parse::<Time>() {
+        Ok(time) => Some(parts_of(time)),
+        Err(TimeParseError) => None,
+    }
+}
+
+#[test]
+fn texts_of_moments(rt: HostRuntime) {
+    for (text, expected) in text_rows() {
+        assert!(rt; moment_of_text(text) == *expected, "{text}");
+    }
+}

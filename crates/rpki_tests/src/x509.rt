@@ -1,0 +1,113 @@
+//! Worked cases: expected octets, texts and errors come from the standards and their worked examples.
+
+mod algorithms;
+mod comparisons;
+mod errors;
+mod extension_encoders;
+mod extensions;
+mod identifiers;
+mod keys;
+mod names;
+mod oid;
+mod signed_data;
+mod updates;
+mod verification;
+mod writers;
+
+use rpki::crypto::Provider;
+use bytes::Bytes;
+use rpki_der::{Captured, DecodeError, Values};
+use std::alloc::{AllocError, Global};
+
+/// How a reader ended: with a value, with None, or with an error of this kind.
+#[derive(Clone, Copy, Debug, PartialEq)]
+enum Outcome {
+    Read,
+    Absent,
+    Truncated,
+    BadTag,
+    BadLength,
+    Unexpected,
+    Content,
+    Trailing,
+    OutOfMemory,
+}
+
+/// The outcome that is this error.
+fn refused(error: &DecodeError) -> Outcome {
+    match error {
+        DecodeError::Truncated => Outcome::Truncated,
+        DecodeError::BadTag => Outcome::BadTag,
+        DecodeError::BadLength => Outcome::BadLength,
+        DecodeError::Unexpected => Outcome::Unexpected,
+        DecodeError::Content(_) => Outcome::Content,
+        DecodeError::Trailing => Outcome::Trailing,
+        DecodeError::OutOfMemory => Outcome::OutOfMemory,
+    }
+}
+
+/// The outcome of a reader that is not optional.
+fn outcome_of<T: Drop>(answer: Result<T, DecodeError>) -> Outcome {
+    match answer {
+        Ok(_) => Outcome::Read,
+        Err(e) => refused(&e),
+    }
+}
+
+/// The outcome of an optional reader.
+fn optional_outcome_of<T: Drop>(answer: Result<Option<T>, DecodeError>) -> Outcome {
+    match answer {
+        Ok(Some(_)) => Outcome::Read,
+        Ok(None) => Outcome::Absent,
+        Err(e) => refused(&e),
+    }
+}
+
+/// The values that are written, where they fit.
+fn written<V: Values>(alloc: Global, values: &V) -> Result<Option<Bytes>, AllocError> {
+    if !values.fits() {
+        return Ok(None);
+    }
+    Ok(Some(Captured::from_values(alloc, values)?.into_bytes()))
+}
+
+/// The digest by SHA-1 of `abc` (FIPS 180-4).
+const DIGEST_OF_ABC: [u8; 20] = [
+    0xA9, 0x99, 0x3E, 0x36, 0x47, 0x06, 0x81, 0x6A, 0xBA, 0x3E, 0x25, 0x71, 0x78, 0x50, 0xC2, 0x6C,
+    0x9C, 0xD0, 0xD8, 0x9D,
+];
+
+/// A provider that knows the digests of `abc` alone, and returns the same result for every check.
+#[derive(Drop)]
+struct Always {
+    answer: bool,
+}
+
+impl Provider for Always {
+    ghost use Rattle.std.specs.Prelude.{ℕ, List, replicate};
+    ghost use Rattle.rpki_tests.specs.declared.x509.TheConstants.{DIGEST_OF_ABC};
+
+    ghost sha1_of = { λ _ _. DIGEST_OF_ABC };
+
+    ghost sha256_of = { λ _ _. replicate 32 171 };
+
+    ghost rsa_of = { λ p _ _ _. p.answer };
+
+    ghost ecdsa_of = { λ p _ _ _. p.answer };
+
+    fn sha1(&self, _octets: &[u8]) -> [u8; 20] {
+        DIGEST_OF_ABC
+    }
+
+    fn sha256(&self, _octets: &[u8]) -> [u8; 32] {
+        [0xAB; 32]
+    }
+
+    fn rsa_check(&self, _bits: &[u8], _message: &[u8], _signature: &[u8]) -> bool {
+        self.answer
+    }
+
+    fn ecdsa_check(&self, _bits: &[u8], _message: &[u8], _signature: &[u8]) -> bool {
+        self.answer
+    }
+}

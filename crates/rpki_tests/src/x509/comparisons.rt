@@ -1,0 +1,132 @@
+//! Equality, order and hashes of key identifiers, algorithms and formats; and the tags of contents.
+
+use super::algorithms::{RSA_SIGNATURE, RSA_SIGNATURE_WITHOUT};
+use super::written;
+use rpki::crypto::{
+    KeyIdentifier, PublicKeyCn, PublicKeyFormat, RpkiSignatureAlgorithm, SignatureAlgorithm,
+    SigningAlgorithm,
+};
+use rpki::repository::x509::SignatureValueContent;
+use bytes::Bytes;
+use rpki_der::{Constructed, PrimitiveContent, Tag};
+use std::alloc::{AllocError, Global};
+use std::cmp::Ordering;
+use std::hash::{DefaultHasher, Hash, Hasher};
+use std::test::Fail;
+
+fn hash_of<T: Hash>(value: &T) -> u64 {
+    let mut state = DefaultHasher::new();
+    value.hash(&mut state);
+    state.finish()
+}
+
+const MIDDLE: [u8; 20] = [
+    0x80, 1, 2, 3, 4, 5, 6, 7, 8, 9, 10, 11, 12, 13, 14, 15, 16, 17, 18, 0x80,
+];
+
+/// The same but for the first or the last octet, and how they stand to it: the first octet that differs decides.
+const OTHERS: &[(&str, u8, u8, Ordering)] = &[
+    ("the same octets", 0x80, 0x80, Ordering::Equal),
+    ("first octet less", 0x7F, 0x80, Ordering::Less),
+    ("first octet greater", 0x81, 0x80, Ordering::Greater),
+    ("last octet less", 0x80, 0x7F, Ordering::Less),
+    ("last octet greater", 0x80, 0x81, Ordering::Greater),
+    ("first less, last greater", 0x7F, 0x81, Ordering::Less),
+    ("first greater, last less", 0x81, 0x7F, Ordering::Greater),
+];
+
+/// The identifier of the middle but for the first and the last octet.
+fn identifier_with(first: u8, last: u8) -> KeyIdentifier {
+    let mut octets = MIDDLE;
+    octets[0] = first;
+    octets[19] = last;
+    KeyIdentifier::from(octets)
+}
+
+/// Whether it is equal to the middle, and whether it has the same hash.
+fn is_middle(other: KeyIdentifier) -> (bool, bool) {
+    let middle = KeyIdentifier::from(MIDDLE);
+    (other == middle, hash_of(&other) == hash_of(&middle))
+}
+
+#[test]
+fn identifiers_are_compared(rt: HostRuntime) {
+    for (name, first, last, order) in OTHERS {
+        let same = *order == Ordering::Equal;
+        let found = is_middle(identifier_with(*first, *last));
+        assert_eq!(rt; found, (same, same), "{name}");
+    }
+}
+
+/// How it stands to the middle, in each of the two ways to ask.
+fn order_to_middle(other: KeyIdentifier) -> (Ordering, Option<Ordering>) {
+    let middle = KeyIdentifier::from(MIDDLE);
+    (other.cmp(&middle), other.partial_cmp(&middle))
+}
+
+#[test]
+fn identifiers_are_ordered(rt: HostRuntime) {
+    for (name, first, last, order) in OTHERS {
+        let found = order_to_middle(identifier_with(*first, *last));
+        assert_eq!(rt; found, (*order, Some(*order)), "{name}");
+    }
+}
+
+/// Whether the algorithm that is read is equal to the one with parameters, and whether it has the same hash.
+fn compared(octets: &'static [u8]) -> Option<(bool, bool)> {
+    let source = Bytes::from_static(octets);
+    let mut cons = Constructed::new(&source);
+    let with = RpkiSignatureAlgorithm::default();
+    match RpkiSignatureAlgorithm::x509_take_from(&mut cons) {
+        Ok(found) => Some((found == with, hash_of(&found) == hash_of(&with))),
+        Err(_) => None,
+    }
+}
+
+#[test]
+fn parameters_count(rt: HostRuntime) {
+    assert_eq!(rt; compared(RSA_SIGNATURE), Some((true, true)), "NULL");
+    assert_eq!(rt;
+        compared(RSA_SIGNATURE_WITHOUT),
+        Some((false, false)),
+        "none"
+    );
+}
+
+#[test]
+fn formats_are_compared(rt: HostRuntime) {
+    let signing = [
+        SigningAlgorithm::RsaSha256,
+        SigningAlgorithm::EcdsaP256Sha256,
+    ];
+    let formats = [PublicKeyFormat::Rsa, PublicKeyFormat::EcdsaP256];
+    for i in 0..2 {
+        for j in 0..2 {
+            assert_eq!(rt; signing[i] == signing[j], i == j, "algorithms {i} and {j}");
+            assert_eq!(rt; formats[i] == formats[j], i == j, "formats {i} and {j}");
+        }
+    }
+}
+
+/// What is written of no contents with this tag.
+fn empty_with(alloc: Global, tag: Tag) -> Result<Option<Bytes>, AllocError> {
+    written(alloc, &().encode_as(tag))
+}
+
+#[test]
+fn contents_have_tags(rt: HostRuntime) -> Result<(), Fail> {
+    let cases: [(&str, Tag, &[u8]); 3] = [
+        ("key identifier", KeyIdentifier::TAG, b"\x04\x00"),
+        ("name of a key", PublicKeyCn::TAG, b"\x13\x00"),
+        (
+            "signature",
+            <SignatureValueContent<'static, RpkiSignatureAlgorithm>>::TAG,
+            b"\x03\x00",
+        ),
+    ];
+    for (name, tag, expected) in cases {
+        let octets = empty_with(rt.alloc(), tag)?.ok_or("too long")?;
+        assert_eq!(rt; octets.as_slice(), expected, "{name}");
+    }
+    Ok(())
+}

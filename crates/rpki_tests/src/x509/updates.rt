@@ -1,0 +1,40 @@
+//! The first value that is given.
+
+use rpki::repository::x509::*;
+
+/// An option, what an operation gives, and what the option is then.
+const CASES: &[(&str, Option<u8>, Option<u8>, Option<u8>)] = &[
+    ("none, and none", None, None, None),
+    ("none, and a value", None, Some(1), Some(1)),
+    ("a value, and none", Some(1), None, Some(1)),
+    ("two values", Some(1), Some(2), Some(1)),
+];
+
+/// What the option is after an operation that gives this.
+fn updated(before: Option<u8>, given: Option<u8>) -> Result<Option<u8>, u8> {
+    let mut option = before;
+    match update_first(&mut option, || Ok(given)) {
+        Ok(()) => Ok(option),
+        Err(e) => Err(e),
+    }
+}
+
+#[test]
+fn the_first_value_is_kept(rt: HostRuntime) {
+    for (name, before, given, expected) in CASES {
+        assert_eq!(rt; updated(*before, *given), Ok(*expected), "{name}");
+    }
+}
+
+/// What an operation that fails with 7 gives, and what the option is then.
+fn refused(before: Option<u8>) -> (Result<(), u8>, Option<u8>) {
+    let mut option = before;
+    let answer = update_first(&mut option, || Err(7));
+    (answer, option)
+}
+
+#[test]
+fn a_refusal_is_passed_on(rt: HostRuntime) {
+    assert_eq!(rt; refused(None), (Err(7), None), "none");
+    assert_eq!(rt; refused(Some(1)), (Err(7), Some(1)), "a value");
+}

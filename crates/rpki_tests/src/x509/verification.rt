@@ -1,0 +1,245 @@
+//! Signed data of several algorithms, and its verification.
+
+ghost use Rattle.std.specs.Prelude.{true, [], ◌∷◌};
+ghost use Rattle.rpki_der.specs.Cursor.{left};
+ghost use Rattle.rpki_der.specs.TagName.{sequence};
+ghost use Rattle.rpki_der.specs.Reading.{Reads};
+ghost use Rattle.rpki_der.specs.Values.{IsOuterFault};
+ghost use Rattle.rpki.specs.SignatureNames.{SpellsBare};
+
+use super::Always;
+use super::signed_data::{decoded_by, is_written_as};
+use rpki::crypto::{
+    BgpsecSignatureAlgorithm, Provider, PublicKey, RpkiSignature, RpkiSignatureAlgorithm,
+    Signature, SignatureAlgorithm, SigningAlgorithm,
+};
+use rpki::repository::x509::SignedData;
+use bytes::Bytes;
+use rpki_der::{ConstOid, Constructed, DecodeError, Oid, Primitive, PrimitiveContent, Sequence};
+use std::alloc::Global;
+use std::marker::Model;
+use std::test::Fail;
+
+const BGPSEC: &[u8] =
+    b"\x30\x12\x30\x00\x30\x0A\x06\x08\x2A\x86\x48\xCE\x3D\x04\x03\x02\x03\x02\x00\xAA";
+
+#[test]
+fn bgpsec_signed_data_is_written_again(rt: HostRuntime) -> Result<(), Fail> {
+    assert!(rt; is_written_as::<BgpsecSignatureAlgorithm>(rt.alloc(), BGPSEC, BGPSEC)?);
+    Ok(())
+}
+
+const OWN_NAME: ConstOid = Oid(&[0x2A, 0x03]);
+
+/// An algorithm whose one spelling is a SEQUENCE of the object identifier 1.2.3.
+#[derive(Clone, Copy, Debug, PartialEq, Eq)]
+struct OwnAlgorithm {
+    only: (),
+}
+
+impl Model for OwnAlgorithm {
+    ghost Value = { Unit {0} };
+
+    ghost view = { λ _. tt };
+
+    ghost inverse = { λ _. record { only = tt } };
+}
+
+impl SignatureAlgorithm for OwnAlgorithm {
+    type Encoder = Sequence<Primitive<ConstOid>>;
+
+    ghost use Rattle.std.specs.Prelude.{[], ◌∷◌, refl};
+    ghost use Rattle.std.proofs.Common.{lit<};
+    ghost use Rattle.rpki.specs.SignatureNames.{SpellsBare, bare_octets};
+    ghost use Rattle.rpki.specs.BareOctetsLaws.{bare-spelled, bare-value};
+    ghost use Rattle.rpki.specs.declared.crypto.keys.PublicKeyFormat.TheVariants.{Rsa};
+
+    ghost spells = { SpellsBare (42 ∷ 3 ∷ []) };
+
+    ghost written = { λ _. bare_octets (42 ∷ 3 ∷ []) };
+
+    ghost norm = { λ a. a };
+
+    ghost format = { λ _. Rsa };
+
+    ghost spelled_value = { λ a s h. bare-value (42 ∷ 3 ∷ []) a s h };
+
+    ghost spells_one = { λ a b s h k. refl };
+
+    ghost written_spells = { λ a. bare-spelled (42 ∷ 3 ∷ []) a (lit< tt) };
+
+    ghost norm_norm = { λ _. refl };
+
+    ghost written_norm = { λ _. refl };
+
+    ghost norm_format = { λ _. refl };
+
+    fn signing_algorithm(&self) -> SigningAlgorithm {
+        SigningAlgorithm::RsaSha256
+    }
+
+    fn x509_take_from(cons: &mut Constructed<'_>) -> Result<Self, DecodeError>
+        ensures { Reads (λ a. a) (SpellsBare (42 ∷ 3 ∷ [])) (IsOuterFault sequence true) (left cons.old)
+            (left cons.new) result }
+    {
+        cons.in_sequence(|contents| contents.skip_oid_if(OWN_NAME))?;
+        Ok(OwnAlgorithm { only: () })
+    }
+
+    fn x509_encode(&self) -> Self::Encoder {
+        Sequence::new(OWN_NAME.encode())
+    }
+}
+
+const OWN: &[u8] = b"\x30\x0C\x30\x00\x30\x04\x06\x02\x2A\x03\x03\x02\x00\xAA";
+
+#[test]
+fn signed_data_of_an_own_algorithm_is_written_again(rt: HostRuntime) -> Result<(), Fail> {
+    assert!(rt; is_written_as::<OwnAlgorithm>(rt.alloc(), OWN, OWN)?);
+    Ok(())
+}
+
+/// Bits, a message and a signature.
+type Triple = (&'static [u8], &'static [u8], &'static [u8]);
+
+/// A provider whose checks say true of the triples in its table alone.
+#[derive(Drop)]
+struct Table {
+    triples: &'static [Triple],
+}
+
+impl Provider for Table {
+    ghost use Rattle.std.specs.Prelude.{◌&&◌, nat_eq, ℕ, List, replicate};
+    ghost use Rattle.std.specs.List.{list_any};
+    ghost use Rattle.std.specs.Cmp.Lexicographic.{pointwise};
+
+    ghost sha1_of = { λ _ _. replicate 20 0 };
+
+    ghost sha256_of = { λ _ _. replicate 32 0 };
+
+    ghost rsa_of = { λ p bits message signature. list_any
+        (λ t. pointwise nat_eq t.0.now bits && pointwise nat_eq t.1.now message && pointwise nat_eq t.2.now signature)
+        p.triples.now };
+
+    ghost ecdsa_of = { λ p bits message signature. list_any
+        (λ t. pointwise nat_eq t.0.now bits && pointwise nat_eq t.1.now message && pointwise nat_eq t.2.now signature)
+        p.triples.now };
+
+    fn sha1(&self, _octets: &[u8]) -> [u8; 20] {
+        [0; 20]
+    }
+
+    fn sha256(&self, _octets: &[u8]) -> [u8; 32] {
+        [0; 32]
+    }
+
+    fn rsa_check(&self, bits: &[u8], message: &[u8], signature: &[u8]) -> bool {
+        self.triples
+            .iter()
+            .any(|t| t.0 == bits && t.1 == message && t.2 == signature)
+    }
+
+    fn ecdsa_check(&self, bits: &[u8], message: &[u8], signature: &[u8]) -> bool {
+        self.triples
+            .iter()
+            .any(|t| t.0 == bits && t.1 == message && t.2 == signature)
+    }
+}
+
+const KEY_OF_ABC: &[u8] =
+    b"\x30\x15\x30\x0D\x06\x09\x2A\x86\x48\x86\xF7\x0D\x01\x01\x01\x05\x00\x03\x04\x00\x61\x62\x63";
+
+const P256_KEY: &[u8] =
+    b"\x30\x1A\x30\x13\x06\x07\x2A\x86\x48\xCE\x3D\x02\x01\x06\x08\x2A\x86\x48\xCE\x3D\x03\x01\x07\x03\x03\x00\x04\x01";
+
+const SIGNED: &[u8] =
+    b"\x30\x15\x30\x00\x30\x0D\x06\x09\x2A\x86\x48\x86\xF7\x0D\x01\x01\x0B\x05\x00\x03\x02\x00\xAA";
+
+const SIGNED_WITH_COUNT: &[u8] =
+    b"\x30\x15\x30\x00\x30\x0D\x06\x09\x2A\x86\x48\x86\xF7\x0D\x01\x01\x0B\x05\x00\x03\x02\x01\xAA";
+
+const CASES: &[(&str, &[u8], &[Triple], bool)] = &[
+    (
+        "no unused bit",
+        SIGNED,
+        &[(b"abc", b"\x30\x00", b"\xAA")],
+        true,
+    ),
+    (
+        "an unused bit",
+        SIGNED_WITH_COUNT,
+        &[(b"abc", b"\x30\x00", b"\xAA")],
+        true,
+    ),
+    ("empty table", SIGNED, &[], false),
+    ("an unused bit, empty table", SIGNED_WITH_COUNT, &[], false),
+    (
+        "the whole input for the slice",
+        SIGNED,
+        &[(b"abc", SIGNED, b"\xAA")],
+        false,
+    ),
+];
+
+/// The key that these octets are.
+fn key_of(octets: &'static [u8]) -> Result<PublicKey, DecodeError> {
+    PublicKey::decode(Bytes::from_static(octets))
+}
+
+/// Whether signed data of any algorithm is verified with the key, as the provider says.
+fn is_accepted<Alg: SignatureAlgorithm, P: Provider>(
+    signed: &SignedData<Alg>,
+    provider: &P,
+    key: &PublicKey,
+) -> bool {
+    signed.verify_signature(provider, key).is_ok()
+}
+
+/// Whether the signed data is verified with the RSA key of `abc`, by a provider with this table.
+fn is_verified(
+    alloc: Global,
+    octets: &'static [u8],
+    triples: &'static [Triple],
+) -> Result<bool, DecodeError> {
+    let key = key_of(KEY_OF_ABC)?;
+    let signed = decoded_by::<RpkiSignatureAlgorithm>(alloc, octets)?;
+    Ok(is_accepted(&signed, &Table { triples }, &key))
+}
+
+#[test]
+fn signed_data_is_verified_over_its_slice(rt: HostRuntime) -> Result<(), Fail> {
+    for (name, octets, triples, expected) in CASES {
+        let verified = is_verified(rt.alloc(), octets, triples)?;
+        assert_eq!(rt; verified, *expected, "{name}");
+    }
+    Ok(())
+}
+
+/// A key, what the provider answers, and whether the signature is verified.
+const ANSWERS: &[(&str, &[u8], bool, bool)] = &[
+    ("P-256 key", P256_KEY, true, false),
+    ("RSA key, rejected", KEY_OF_ABC, false, false),
+    ("RSA key", KEY_OF_ABC, true, true),
+];
+
+/// Whether an RSA signature is verified with the key, by a provider that answers the same to all.
+fn is_verified_by(answer: bool, octets: &'static [u8]) -> Result<bool, DecodeError> {
+    let key = key_of(octets)?;
+    let signature: RpkiSignature = Signature::new(
+        RpkiSignatureAlgorithm::default(),
+        Bytes::from_static(b"\xAA"),
+    );
+    Ok(
+        key.verify(&Always { answer }, b"message", &signature)
+            .is_ok(),
+    )
+}
+
+#[test]
+fn keys_of_another_format_verify_nothing(rt: HostRuntime) -> Result<(), Fail> {
+    for (name, octets, answer, expected) in ANSWERS {
+        let verified = is_verified_by(*answer, octets)?;
+        assert_eq!(rt; verified, *expected, "{name}");
+    }
+    Ok(())
+}
