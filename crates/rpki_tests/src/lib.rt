@@ -5,6 +5,8 @@
 #[cfg(test)]
 mod der;
 #[cfg(test)]
+mod kinds;
+#[cfg(test)]
 mod text;
 #[cfg(test)]
 mod time;

@@ -9,10 +9,11 @@ mod periods;
 mod times;
 mod values;
 
-use rpki_time::*;
+use crate::kinds::{Kind, kind_of};
 use failing::FailsOnce;
 use jiff::SignedDuration;
 use rpki_der::{Captured, Constructed, ContentError, DecodeError, PrimitiveContent, Tag, Values};
+use rpki_time::*;
 use std::alloc::{AllocError, Global};
 use std::io;
 use std::io::ErrorKind;
@@ -28,30 +29,6 @@ enum Reader {
     Time,
     OptionalTime,
     Period,
-}
-
-/// The kind of an error of decoding.
-#[derive(Clone, Copy, Debug, PartialEq)]
-enum Kind {
-    Truncated,
-    BadTag,
-    BadLength,
-    Unexpected,
-    Content,
-    Trailing,
-    OutOfMemory,
-}
-
-fn kind_of(error: &DecodeError) -> Kind {
-    match error {
-        DecodeError::Truncated => Kind::Truncated,
-        DecodeError::BadTag => Kind::BadTag,
-        DecodeError::BadLength => Kind::BadLength,
-        DecodeError::Unexpected => Kind::Unexpected,
-        DecodeError::Content(_) => Kind::Content,
-        DecodeError::Trailing => Kind::Trailing,
-        DecodeError::OutOfMemory => Kind::OutOfMemory,
-    }
 }
 
 /// What a reader returned: a value, None, or an error by its kind, except for the two with a promised text.

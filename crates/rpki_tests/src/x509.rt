@@ -14,8 +14,8 @@ mod updates;
 mod verification;
 mod writers;
 
-use rpki::crypto::Provider;
 use bytes::Bytes;
+use rpki::crypto::Provider;
 use rpki_der::{Captured, DecodeError, Values};
 use std::alloc::{AllocError, Global};
 

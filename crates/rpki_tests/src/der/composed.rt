@@ -1,7 +1,7 @@
 //! Values whose contents a closure reads.
 
-use rpki_der::*;
 use bytes::Bytes;
+use rpki_der::*;
 
 /// A name, whether a SET is read, the octets, the result of a reader of one BOOLEAN inside, and how many octets are
 /// left.

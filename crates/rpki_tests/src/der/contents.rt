@@ -1,8 +1,8 @@
 //! Bit strings, numbers, object identifiers, texts and errors.
 
-use super::{Kind, kind_of};
-use rpki_der::*;
+use crate::kinds::{Kind, kind_of};
 use bytes::Bytes;
+use rpki_der::*;
 use std::alloc::{AllocError, Global};
 use std::test::Fail;
 
@@ -72,10 +72,7 @@ fn bit_strings_are_read(rt: HostRuntime) {
 
 /// The octets of the number without leading zeros.
 fn magnitude(octets: &'static [u8]) -> Result<&'static [u8], InvalidInteger> {
-    match Unsigned::from_slice(octets) {
-        Ok(number) => Ok(number.as_slice()),
-        Err(e) => Err(e),
-    }
+    Ok(Unsigned::from_slice(octets)?.as_slice())
 }
 
 const MAGNITUDES: &[(&str, &[u8], Result<&[u8], InvalidInteger>)] = &[

@@ -1,7 +1,7 @@
 //! Encoders, and writers that fail.
 
-use rpki_der::*;
 use bytes::Bytes;
+use rpki_der::*;
 use std::alloc::{AllocError, Global};
 use std::io;
 use std::io::{ErrorKind, Write};

@@ -1,22 +1,22 @@
 //! Headers and tags.
 
-use super::{Kind, kind_of};
-use rpki_der::*;
+use crate::kinds::{Kind, kind_of};
 use bytes::Bytes;
+use rpki_der::*;
 
-/// The class, the number and the form of a tag, and a length; or the kind of the error.
-type FoundHeader = Result<(Class, u32, bool, u32), Kind>;
+/// The class, the number and the form of a tag, and a length.
+type Parts = (Class, u32, bool, u32);
 
-fn found_of(read: Result<Header, DecodeError>) -> FoundHeader {
-    match read {
-        Ok(found) => Ok((
-            found.tag.class(),
-            found.tag.number(),
-            found.constructed,
-            found.length,
-        )),
-        Err(e) => Err(kind_of(&e)),
-    }
+/// The parts of a header, or the kind of the error.
+type FoundHeader = Result<Parts, Kind>;
+
+fn parts_of(header: Header) -> Parts {
+    (
+        header.tag.class(),
+        header.tag.number(),
+        header.constructed,
+        header.length,
+    )
 }
 
 /// The header in front, how many octets are left, and how many headers were counted.
@@ -24,7 +24,10 @@ fn header_of(octets: &'static [u8]) -> (FoundHeader, usize, u64) {
     let source: Bytes = Bytes::from_static(octets);
     let mut cursor = Constructed::new(&source);
     let mut steps = Steps::new();
-    let found = found_of(cursor.take_header(&mut steps));
+    let found = match cursor.take_header(&mut steps) {
+        Ok(header) => Ok(parts_of(header)),
+        Err(e) => Err(kind_of(&e)),
+    };
     (found, cursor.rest().len(), steps.count())
 }
 
@@ -174,7 +177,7 @@ fn headers(rt: HostRuntime) {
 /// The header at the front of a slice, and how many octets follow it.
 fn header_of_slice(octets: &'static [u8]) -> (FoundHeader, usize) {
     match read_header(octets) {
-        Ok((found, size)) => (found_of(Ok(found)), octets.len() - size),
+        Ok((header, size)) => (Ok(parts_of(header)), octets.len() - size),
         Err(e) => (Err(kind_of(&e)), octets.len()),
     }
 }

@@ -1,7 +1,7 @@
 //! The index of headers.
 
-use rpki_der::*;
 use bytes::Bytes;
+use rpki_der::*;
 use std::alloc::Global;
 use std::test::Fail;
 

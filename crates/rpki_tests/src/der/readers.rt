@@ -1,8 +1,8 @@
 //! Readers of one value.
 
-use super::{Kind, kind_of};
-use rpki_der::*;
+use crate::kinds::{Kind, kind_of};
 use bytes::Bytes;
+use rpki_der::*;
 
 /// The reader that a case calls.
 #[derive(Clone, Copy, Debug)]
@@ -80,10 +80,10 @@ fn utf8<'a>(cursor: &mut Constructed<'a>) -> Result<&'a [u8], DecodeError> {
 /// What a reader of a leaf returned.
 fn read_leaf<'a>(reader: Reader, cursor: &mut Constructed<'a>) -> Result<&'a [u8], DecodeError> {
     match reader {
-        Reader::Null => match cursor.take_null() {
-            Ok(()) => Ok(b""),
-            Err(e) => Err(e),
-        },
+        Reader::Null => {
+            cursor.take_null()?;
+            Ok(b"")
+        }
         Reader::Boolean => Ok(word_of(cursor.take_bool()?)),
         Reader::Unsigned => unsigned(cursor),
         Reader::Identifier => identifier(cursor),

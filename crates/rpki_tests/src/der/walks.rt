@@ -1,7 +1,7 @@
 //! Walks over nested values.
 
-use rpki_der::*;
 use bytes::Bytes;
+use rpki_der::*;
 use std::alloc::{AllocError, Global};
 use std::test::Fail;
 

@@ -1,8 +1,8 @@
 //! Encoders over writers that fail.
 
+use rpki_der::{PrimitiveContent, Values};
 use rpki_text::uri::{Https, Rsync};
 use rpki_text::util::base_64::Slurm;
-use rpki_der::{PrimitiveContent, Values};
 use std::alloc::Global;
 use std::io;
 use std::io::{ErrorKind, Write};

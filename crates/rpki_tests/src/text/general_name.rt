@@ -1,7 +1,7 @@
 //! URIs as general names and as IA5Strings.
 
-use rpki_text::uri::{Error, Https, Rsync};
 use rpki_der::{Captured, PrimitiveContent, Values};
+use rpki_text::uri::{Error, Https, Rsync};
 use std::alloc::Global;
 
 /// A URI, and what stands before its text in a general name.

@@ -1,8 +1,8 @@
 //! Https URIs.
 
 use super::shown;
-use rpki_text::uri::{Error, Https};
 use bytes::Bytes;
+use rpki_text::uri::{Error, Https};
 use std::alloc::{AllocError, Global};
 use std::hash::{FoldHasher, Hash, Hasher};
 use std::test::Fail;

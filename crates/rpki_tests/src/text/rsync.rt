@@ -1,8 +1,8 @@
 //! Rsync URIs.
 
 use super::shown;
-use rpki_text::uri::{Error, Rsync, RsyncView};
 use bytes::Bytes;
+use rpki_text::uri::{Error, Rsync, RsyncView};
 use std::alloc::{AllocError, Global};
 use std::borrow::CowStr;
 use std::hash::{FoldHasher, Hash, Hasher};
@@ -341,10 +341,7 @@ fn long_joins(rt: HostRuntime) -> Result<(), Fail> {
 
 /// Whether joining to the URI gives the same, or its error.
 fn joins_alike(alloc: Global, uri: &Rsync, path: &str) -> Result<bool, Error> {
-    match join(alloc, uri, path) {
-        Ok(joined) => Ok(joined == *uri),
-        Err(e) => Err(e),
-    }
+    Ok(join(alloc, uri, path)? == *uri)
 }
 
 /// The length and the error of the text of the URI once it is a directory.

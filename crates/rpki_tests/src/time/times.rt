@@ -1,9 +1,9 @@
 //! Sums of times, seconds since 1970, and texts of moments.
 
 use super::{Parts, moment_of, parts_of, time_of};
-use rpki_time::*;
 use jiff::SignedDuration;
 use jiff::civil::DateTime;
+use rpki_time::*;
 
 /// What is asked of a time.
 #[derive(Clone, Copy, Debug)]

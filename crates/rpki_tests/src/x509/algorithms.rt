@@ -1,12 +1,12 @@
 //! Algorithm identifiers.
 
 use super::{Outcome, outcome_of, refused, written};
+use crate::x509::{Always, DIGEST_OF_ABC};
+use bytes::Bytes;
 use rpki::crypto::{
     BgpsecSignatureAlgorithm, DigestAlgorithm, PublicKeyFormat, RpkiSignatureAlgorithm,
     SignatureAlgorithm, SigningAlgorithm, sha1_digest,
 };
-use crate::x509::{Always, DIGEST_OF_ABC};
-use bytes::Bytes;
 use rpki_der::{Constructed, ContentError, DecodeError};
 use std::alloc::{AllocError, Global};
 use std::test::Fail;

@@ -2,12 +2,12 @@
 
 use super::algorithms::{RSA_SIGNATURE, RSA_SIGNATURE_WITHOUT};
 use super::written;
+use bytes::Bytes;
 use rpki::crypto::{
     KeyIdentifier, PublicKeyCn, PublicKeyFormat, RpkiSignatureAlgorithm, SignatureAlgorithm,
     SigningAlgorithm,
 };
 use rpki::repository::x509::SignatureValueContent;
-use bytes::Bytes;
 use rpki_der::{Constructed, PrimitiveContent, Tag};
 use std::alloc::{AllocError, Global};
 use std::cmp::Ordering;

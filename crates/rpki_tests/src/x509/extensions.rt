@@ -1,8 +1,8 @@
 //! Extensions that are read.
 
 use super::{Outcome, optional_outcome_of, outcome_of};
-use rpki::repository::x509::CertExtension;
 use bytes::Bytes;
+use rpki::repository::x509::CertExtension;
 use rpki_der::{Captured, Constructed, DecodeError, Values};
 use std::alloc::{AllocError, Global};
 use std::test::Fail;

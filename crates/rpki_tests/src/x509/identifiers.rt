@@ -2,11 +2,11 @@
 
 use super::keys::{KEY_OF_ABC, decoded};
 use super::{Always, DIGEST_OF_ABC, Outcome, optional_outcome_of, refused, written};
+use bytes::Bytes;
 use rpki::crypto::{
     KeyIdentifier, KeyIdentifierSliceError, ParseKeyIdentifierError, PublicKey,
     SignatureVerificationError,
 };
-use bytes::Bytes;
 use rpki_der::{Constructed, Content, ContentError, DecodeError, PrimitiveContent};
 use std::alloc::{AllocError, Global};
 use std::test::Fail;

@@ -1,9 +1,9 @@
 //! Public keys and names of subjects.
 
 use super::{Always, Outcome, outcome_of, refused, written};
+use bytes::Bytes;
 use rpki::crypto::{PublicKey, PublicKeyFormat};
 use rpki::repository::x509::Name;
-use bytes::Bytes;
 use rpki_der::{Constructed, ContentError, DecodeError, InvalidInteger, Values};
 use std::alloc::{AllocError, Global};
 use std::test::Fail;

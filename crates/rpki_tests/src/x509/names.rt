@@ -1,9 +1,9 @@
 //! Names, and their inspections.
 
 use super::written;
+use bytes::Bytes;
 use rpki::repository::error::InspectionError;
 use rpki::repository::x509::*;
-use bytes::Bytes;
 use rpki_der::{Constructed, ContentError, DecodeError};
 use std::alloc::{AllocError, Global};
 use std::test::Fail;

@@ -1,9 +1,9 @@
 //! Signatures, and signed data of the RPKI.
 
 use super::{Outcome, outcome_of, written};
+use bytes::Bytes;
 use rpki::crypto::{RpkiSignature, RpkiSignatureAlgorithm, Signature, SignatureAlgorithm};
 use rpki::repository::x509::SignedData;
-use bytes::Bytes;
 use rpki_der::{Constructed, DecodeError};
 use std::alloc::{AllocError, Global};
 use std::test::Fail;

@@ -9,12 +9,12 @@ ghost use Rattle.rpki.specs.SignatureNames.{SpellsBare};
 
 use super::Always;
 use super::signed_data::{decoded_by, is_written_as};
+use bytes::Bytes;
 use rpki::crypto::{
     BgpsecSignatureAlgorithm, Provider, PublicKey, RpkiSignature, RpkiSignatureAlgorithm,
     Signature, SignatureAlgorithm, SigningAlgorithm,
 };
 use rpki::repository::x509::SignedData;
-use bytes::Bytes;
 use rpki_der::{ConstOid, Constructed, DecodeError, Oid, Primitive, PrimitiveContent, Sequence};
 use std::alloc::Global;
 use std::marker::Model;

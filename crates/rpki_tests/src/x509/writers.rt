@@ -8,13 +8,13 @@ use super::keys::{KEY_OF_ABC, SUBJECT};
 use super::names::name_of;
 use super::signed_data::SIGNED;
 use super::{Always, DIGEST_OF_ABC, keys, signed_data};
+use bytes::Bytes;
 use rpki::crypto::{
     BgpsecSignatureAlgorithm, DigestAlgorithm, KeyIdentifier, PublicKeyFormat,
     RpkiSignatureAlgorithm, SignatureAlgorithm,
 };
 use rpki::oid;
 use rpki::repository::x509::{SignedData, encode_extension};
-use bytes::Bytes;
 use rpki_der::{DecodeError, Primitive, PrimitiveContent, Sequence, Values};
 use std::alloc::{AllocError, Global};
 use std::io;
