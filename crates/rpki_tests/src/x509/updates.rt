@@ -10,31 +10,23 @@ const CASES: &[(&str, Option<u8>, Option<u8>, Option<u8>)] = &[
     ("two values", Some(1), Some(2), Some(1)),
 ];
 
-/// What the option is after an operation that gives this.
-fn updated(before: Option<u8>, given: Option<u8>) -> Result<Option<u8>, u8> {
+/// What an operation that gives this returns, and what the option is then.
+fn updated(before: Option<u8>, given: Result<Option<u8>, u8>) -> (Result<(), u8>, Option<u8>) {
     let mut option = before;
-    match update_first(&mut option, || Ok(given)) {
-        Ok(()) => Ok(option),
-        Err(e) => Err(e),
-    }
+    let answer = update_first(&mut option, || given);
+    (answer, option)
 }
 
 #[test]
 fn the_first_value_is_kept(rt: HostRuntime) {
     for (name, before, given, expected) in CASES {
-        assert_eq!(rt; updated(*before, *given), Ok(*expected), "{name}");
+        let found = updated(*before, Ok(*given));
+        assert_eq!(rt; found, (Ok(()), *expected), "{name}");
     }
-}
-
-/// What an operation that fails with 7 gives, and what the option is then.
-fn refused(before: Option<u8>) -> (Result<(), u8>, Option<u8>) {
-    let mut option = before;
-    let answer = update_first(&mut option, || Err(7));
-    (answer, option)
 }
 
 #[test]
 fn a_refusal_is_passed_on(rt: HostRuntime) {
-    assert_eq!(rt; refused(None), (Err(7), None), "none");
-    assert_eq!(rt; refused(Some(1)), (Err(7), Some(1)), "a value");
+    assert_eq!(rt; updated(None, Err(7)), (Err(7), None), "none");
+    assert_eq!(rt; updated(Some(1), Err(7)), (Err(7), Some(1)), "a value");
 }
