@@ -1,9 +1,9 @@
 //! Runs over readers and writers that fail, and over a reader that comes to its end late or never.
 
 use super::{
-    ABC_KEY, FALSE_LEFT_OUT, FALSE_SPELLED, FAULTS, FIRST, ROUTER_NAME, Seen, USAGE_LINE, owned,
+    ABC_KEY, FALSE_LEFT_OUT, FALSE_SPELLED, FIRST, ROUTER_NAME, Seen, USAGE_LINE, fault_rows, owned,
 };
-use crate::fault::refuse;
+use crate::fault::{Fault, refuse};
 use crate::runs::run;
 use std::alloc::{AllocError, Global};
 use std::io;
@@ -151,39 +151,58 @@ fn run_over_failing<R: Read>(
 }
 
 /// Ways to fail: once and for all, once, and by taking nothing; an octet at a call, or a piece as it comes.
-const FAILURES: [Failure; 6] = [
-    BROKEN,
-    Failure {
-        most: 1,
-        calls: 0,
-        failures: 1,
-        error: Some(ErrorKind::BrokenPipe),
-    },
-    Failure {
-        most: 1,
-        calls: 0,
-        failures: 1,
-        error: Some(ErrorKind::Interrupted),
-    },
-    Failure {
-        most: 1,
-        calls: 0,
-        failures: 1,
-        error: None,
-    },
-    Failure {
-        most: usize::MAX,
-        calls: 0,
-        failures: 1,
-        error: Some(ErrorKind::Interrupted),
-    },
-    Failure {
-        most: usize::MAX,
-        calls: 0,
-        failures: 1,
-        error: None,
-    },
+const FAILURES: &[(&str, Failure)] = &[
+    ("broken", BROKEN),
+    (
+        "an error",
+        Failure {
+            most: 1,
+            calls: 0,
+            failures: 1,
+            error: Some(ErrorKind::BrokenPipe),
+        },
+    ),
+    (
+        "an interruption",
+        Failure {
+            most: 1,
+            calls: 0,
+            failures: 1,
+            error: Some(ErrorKind::Interrupted),
+        },
+    ),
+    (
+        "nothing taken",
+        Failure {
+            most: 1,
+            calls: 0,
+            failures: 1,
+            error: None,
+        },
+    ),
+    (
+        "an interruption of a whole piece",
+        Failure {
+            most: usize::MAX,
+            calls: 0,
+            failures: 1,
+            error: Some(ErrorKind::Interrupted),
+        },
+    ),
+    (
+        "nothing taken of a whole piece",
+        Failure {
+            most: usize::MAX,
+            calls: 0,
+            failures: 1,
+            error: None,
+        },
+    ),
 ];
+
+fn failures() -> &'static [(&'static str, Failure)] {
+    FAILURES
+}
 
 impl Failure {
     /// Whether a writer that fails so may hold this of the text, and fail: a part of it, and with an octet at a call
@@ -200,50 +219,111 @@ impl Failure {
     }
 }
 
-/// Words, an input and the output: one row for each word, and one without words.
-const ANSWERED: [(&[&str], &[u8], &[u8]); 7] = [
-    (&["again"], FIRST, FIRST),
-    (&["data"], FIRST, &[0x30, 0x00]),
-    (
-        &["key"],
-        ABC_KEY,
-        b"A9993E364706816ABA3E25717850C26C9CD0D89D\n",
-    ),
-    (
-        &["uri"],
-        b"rSync://hOst/module/foo/bar\n",
-        b"scheme rsync\nauthority host\nmodule module\npath foo/bar\n",
-    ),
-    (&["ext"], FALSE_SPELLED, FALSE_LEFT_OUT),
-    (&["name"], ROUTER_NAME, b"rpki no\nrouter yes\n"),
-    (&[], b"", USAGE_LINE),
+/// Words, an input and the output.
+struct Answered {
+    name: &'static str,
+    words: &'static [&'static str],
+    input: &'static [u8],
+    output: &'static [u8],
+}
+
+/// One row for each word, and one without words.
+const ANSWERED: &[Answered] = &[
+    Answered {
+        name: "again",
+        words: &["again"],
+        input: FIRST,
+        output: FIRST,
+    },
+    Answered {
+        name: "data",
+        words: &["data"],
+        input: FIRST,
+        output: &[0x30, 0x00],
+    },
+    Answered {
+        name: "key",
+        words: &["key"],
+        input: ABC_KEY,
+        output: b"A9993E364706816ABA3E25717850C26C9CD0D89D\n",
+    },
+    Answered {
+        name: "uri",
+        words: &["uri"],
+        input: b"rSync://hOst/module/foo/bar\n",
+        output: b"scheme rsync\nauthority host\nmodule module\npath foo/bar\n",
+    },
+    Answered {
+        name: "ext",
+        words: &["ext"],
+        input: FALSE_SPELLED,
+        output: FALSE_LEFT_OUT,
+    },
+    Answered {
+        name: "name",
+        words: &["name"],
+        input: ROUTER_NAME,
+        output: b"rpki no\nrouter yes\n",
+    },
+    Answered {
+        name: "no words",
+        words: &[],
+        input: b"",
+        output: USAGE_LINE,
+    },
 ];
+
+fn answered_rows() -> &'static [Answered] {
+    ANSWERED
+}
+
+/// How many calls of an input that fails so find all of it and its end: one for each octet or one for all, and one more.
+fn calls_needed(row: &Answered, failure: Failure) -> usize {
+    if failure.most == 1 {
+        row.input.len().saturating_add(1)
+    } else {
+        2
+    }
+}
+
+/// Whether the run is answered, or gives up, as it should where the input fails so. Without words no call is made.
+fn is_answered_over(alloc: Global, row: &Answered, failure: Failure) -> Result<bool, AllocError> {
+    let needed = calls_needed(row, failure);
+    let mut reader = FailingReader {
+        text: row.input,
+        failure,
+    };
+    let seen = run_over_failing(alloc, row.words, &mut reader, NEVER, NEVER)?;
+    let left = reader.failure.calls;
+    if row.words.is_empty() {
+        return Ok(left == failure.calls && seen.is(0, row.output, b""));
+    }
+    if failure.calls == needed {
+        return Ok(left == 0 && seen.is(0, row.output, b""));
+    }
+    Ok(seen.is(1, b"", b"input could not be read\n"))
+}
+
+/// The first number of calls after which the run is not answered as it should be.
+fn wrong_input(
+    alloc: Global,
+    row: &Answered,
+    failure: Failure,
+) -> Result<Option<usize>, AllocError> {
+    for calls in 0..=calls_needed(row, failure) {
+        if !is_answered_over(alloc, row, failure.after(calls))? {
+            return Ok(Some(calls));
+        }
+    }
+    Ok(None)
+}
 
 #[test]
 fn failed_inputs(rt: HostRuntime) -> Result<(), Fail> {
-    for (words, input, output) in ANSWERED {
-        for failure in FAILURES {
-            // The input takes one call for each octet, or one for all, and one more that finds its end.
-            let needed = if failure.most == 1 {
-                input.len() + 1
-            } else {
-                2
-            };
-            for calls in 0..needed + 1 {
-                let mut reader = FailingReader {
-                    text: input,
-                    failure: failure.after(calls),
-                };
-                let seen = run_over_failing(rt.alloc(), words, &mut reader, NEVER, NEVER)?;
-                let answered = if words.is_empty() {
-                    reader.failure.calls == calls && seen.is(0, output, b"")
-                } else if calls == needed {
-                    reader.failure.calls == 0 && seen.is(0, output, b"")
-                } else {
-                    seen.is(1, b"", b"input could not be read\n")
-                };
-                assert!(rt; answered, "{words:?}, {failure:?}, {calls} calls");
-            }
+    for row in answered_rows() {
+        for (how, failure) in failures() {
+            let wrong = wrong_input(rt.alloc(), row, *failure)?;
+            assert!(rt; wrong.is_none(), "{}, {how}, {wrong:?} calls", row.name);
         }
     }
     Ok(())
@@ -279,104 +359,193 @@ fn no_read_is_left_to_find_the_end(rt: HostRuntime) -> Result<(), Fail> {
     Ok(())
 }
 
+/// Whether the run is answered, or gives up, as it should where the output fails so.
+fn is_answered_to(alloc: Global, row: &Answered, failing: Failure) -> Result<bool, AllocError> {
+    let mut reader = row.input;
+    let seen = run_over_failing(alloc, row.words, &mut reader, failing, NEVER)?;
+    if failing.passes(row.output) {
+        return Ok(seen.is(0, row.output, b""));
+    }
+    let cut = failing.cuts(seen.output.as_slice(), row.output);
+    let line = b"output could not be written\n".as_slice();
+    Ok(cut && seen.status == 1 && seen.faults.as_slice() == line)
+}
+
+/// The first number of calls after which the run is not answered as it should be.
+fn wrong_output(
+    alloc: Global,
+    row: &Answered,
+    failure: Failure,
+) -> Result<Option<usize>, AllocError> {
+    for calls in 0..=row.output.len() {
+        if !is_answered_to(alloc, row, failure.after(calls))? {
+            return Ok(Some(calls));
+        }
+    }
+    Ok(None)
+}
+
 #[test]
 fn failed_outputs(rt: HostRuntime) -> Result<(), Fail> {
-    for (words, input, output) in ANSWERED {
-        for failure in FAILURES {
-            for calls in 0..output.len() + 1 {
-                let failing = failure.after(calls);
-                let mut reader = input;
-                let seen = run_over_failing(rt.alloc(), words, &mut reader, failing, NEVER)?;
-                let answered = if failing.passes(output) {
-                    seen.is(0, output, b"")
-                } else {
-                    failing.cuts(seen.output.as_slice(), output)
-                        && seen.status == 1
-                        && seen.faults.as_slice() == b"output could not be written\n".as_slice()
-                };
-                assert!(rt; answered, "{words:?}, {failing:?}");
-            }
+    for row in answered_rows() {
+        for (how, failure) in failures() {
+            let wrong = wrong_output(rt.alloc(), row, *failure)?;
+            assert!(rt; wrong.is_none(), "{}, {how}, {wrong:?} calls", row.name);
         }
     }
     Ok(())
 }
 
-/// Words, an input that is read or that fails at once, how the output fails, the status and the line of the fault.
-const REFUSED: [(&[&str], &[u8], Failure, Failure, u8, &[u8]); 7] = [
-    (&["x"], b"", NEVER, NEVER, 2, USAGE_LINE),
-    (&["again"], b"", NEVER, NEVER, 1, b"refused 1\n"),
-    (&["key"], &[0x31, 0x00], NEVER, NEVER, 1, b"refused 4\n"),
-    (&["name"], &[0x30, 0x00], NEVER, NEVER, 1, b"refused 5\n"),
-    (
-        &["uri"],
-        b"rsync:///module/foo",
-        NEVER,
-        NEVER,
-        1,
-        b"refused 6\n",
-    ),
-    (
-        &["data"],
-        FIRST,
-        BROKEN,
-        NEVER,
-        1,
-        b"input could not be read\n",
-    ),
-    (
-        &["data"],
-        FIRST,
-        NEVER,
-        BROKEN,
-        1,
-        b"output could not be written\n",
-    ),
+/// A run that is refused: the words, the input, how the input and the output fail, the status and the line.
+struct Refused {
+    name: &'static str,
+    words: &'static [&'static str],
+    input: &'static [u8],
+    unread: Failure,
+    unwritten: Failure,
+    status: u8,
+    line: &'static [u8],
+}
+
+const REFUSED: &[Refused] = &[
+    Refused {
+        name: "another word",
+        words: &["x"],
+        input: b"",
+        unread: NEVER,
+        unwritten: NEVER,
+        status: 2,
+        line: USAGE_LINE,
+    },
+    Refused {
+        name: "again, of nothing",
+        words: &["again"],
+        input: b"",
+        unread: NEVER,
+        unwritten: NEVER,
+        status: 1,
+        line: b"refused 1\n",
+    },
+    Refused {
+        name: "key, of a SET",
+        words: &["key"],
+        input: &[0x31, 0x00],
+        unread: NEVER,
+        unwritten: NEVER,
+        status: 1,
+        line: b"refused 4\n",
+    },
+    Refused {
+        name: "name, of an empty name",
+        words: &["name"],
+        input: &[0x30, 0x00],
+        unread: NEVER,
+        unwritten: NEVER,
+        status: 1,
+        line: b"refused 5\n",
+    },
+    Refused {
+        name: "uri, without an authority",
+        words: &["uri"],
+        input: b"rsync:///module/foo",
+        unread: NEVER,
+        unwritten: NEVER,
+        status: 1,
+        line: b"refused 6\n",
+    },
+    Refused {
+        name: "data, of a broken input",
+        words: &["data"],
+        input: FIRST,
+        unread: BROKEN,
+        unwritten: NEVER,
+        status: 1,
+        line: b"input could not be read\n",
+    },
+    Refused {
+        name: "data, to a broken output",
+        words: &["data"],
+        input: FIRST,
+        unread: NEVER,
+        unwritten: BROKEN,
+        status: 1,
+        line: b"output could not be written\n",
+    },
 ];
+
+fn refused_rows() -> &'static [Refused] {
+    REFUSED
+}
+
+/// Whether a writer that fails so may hold this of a line, which may come in more than one piece.
+fn may_hold(failing: Failure, held: &[u8], line: &[u8]) -> bool {
+    let whole = failing.passes(line) && held == line;
+    let cut = failing.cuts(held, line) && (failing.most > 1 || !failing.passes(line));
+    whole || cut
+}
+
+/// Whether the run is refused as it should be where the line of the fault fails so.
+fn is_refused(alloc: Global, row: &Refused, failing: Failure) -> Result<bool, AllocError> {
+    let mut reader = FailingReader {
+        text: row.input,
+        failure: row.unread,
+    };
+    let seen = run_over_failing(alloc, row.words, &mut reader, row.unwritten, failing)?;
+    let held = may_hold(failing, seen.faults.as_slice(), row.line);
+    Ok(held && seen.status == row.status && seen.output.is_empty())
+}
+
+/// The first number of calls after which the run is not refused as it should be.
+fn wrong_refusal(
+    alloc: Global,
+    row: &Refused,
+    failure: Failure,
+) -> Result<Option<usize>, AllocError> {
+    for calls in 0..=row.line.len() {
+        if !is_refused(alloc, row, failure.after(calls))? {
+            return Ok(Some(calls));
+        }
+    }
+    Ok(None)
+}
 
 #[test]
 fn failed_faults(rt: HostRuntime) -> Result<(), Fail> {
-    for (words, text, unread, unwritten, status, line) in REFUSED {
-        for failure in FAILURES {
-            for calls in 0..line.len() + 1 {
-                let failing = failure.after(calls);
-                let mut reader = FailingReader {
-                    text,
-                    failure: unread,
-                };
-                let seen = run_over_failing(rt.alloc(), words, &mut reader, unwritten, failing)?;
-                let told = seen.faults.as_slice();
-                // A line may come in more than one piece.
-                let whole = failing.passes(line) && told == line;
-                let cut = failing.cuts(told, line) && (failing.most > 1 || !failing.passes(line));
-                assert!(rt;
-                    (whole || cut) && seen.status == status && seen.output.is_empty(),
-                    "{words:?}, {failing:?}"
-                );
-            }
+    for row in refused_rows() {
+        for (how, failure) in failures() {
+            let wrong = wrong_refusal(rt.alloc(), row, *failure)?;
+            assert!(rt; wrong.is_none(), "{}, {how}, {wrong:?} calls", row.name);
         }
     }
     Ok(())
+}
+
+/// Whether telling the fault to a writer that fails so returns the status, and leaves what it may of the line.
+fn is_told(alloc: Global, fault: Fault, (status, line): (u8, &[u8]), failing: Failure) -> bool {
+    let mut writer = FailingWriter {
+        held: Vec::new(alloc),
+        failure: failing,
+    };
+    let returned = refuse(&mut writer, fault);
+    returned == status && may_hold(failing, writer.held.as_slice(), line)
+}
+
+/// The first number of calls after which the fault is not told as it should be.
+fn wrong_fault(alloc: Global, fault: Fault, seen: (u8, &[u8]), failure: Failure) -> Option<usize> {
+    for calls in 0..=seen.1.len() {
+        if !is_told(alloc, fault, seen, failure.after(calls)) {
+            return Some(calls);
+        }
+    }
+    None
 }
 
 #[test]
 fn each_fault_over_failing_writers(rt: HostRuntime) {
-    for (fault, status, line) in FAULTS {
-        for failure in FAILURES {
-            for calls in 0..line.len() + 1 {
-                let failing = failure.after(calls);
-                let mut faults = FailingWriter {
-                    held: Vec::new(rt.alloc()),
-                    failure: failing,
-                };
-                let answered = refuse(&mut faults, fault);
-                let told = faults.held.as_slice();
-                let whole = failing.passes(line) && told == line;
-                let cut = failing.cuts(told, line) && (failing.most > 1 || !failing.passes(line));
-                assert!(rt;
-                    (whole || cut) && answered == status,
-                    "{fault:?}, {failing:?}"
-                );
-            }
+    for (name, fault, status, line) in fault_rows() {
+        for (how, failure) in failures() {
+            let wrong = wrong_fault(rt.alloc(), *fault, (*status, line), *failure);
+            assert!(rt; wrong.is_none(), "{name}, {how}, {wrong:?} calls");
         }
     }
 }

@@ -1,6 +1,7 @@
 //! Names, and whether they are strict.
 
 use super::{joined, run_over};
+use std::alloc::{AllocError, Global};
 use std::test::Fail;
 
 /// A common name and an organization name, as attributes.
@@ -31,7 +32,7 @@ struct Inspected {
     faults: &'static [u8],
 }
 
-const INSPECTED: [Inspected; 14] = [
+const INSPECTED: &[Inspected] = &[
     Inspected {
         name: "an organization name and a common name",
         input: &[&[0x30, 0x18], ORGANIZATION, COMMON_NAME],
@@ -136,12 +137,21 @@ const INSPECTED: [Inspected; 14] = [
     },
 ];
 
+fn inspected_rows() -> &'static [Inspected] {
+    INSPECTED
+}
+
+/// Whether the run over the input is seen as the row says.
+fn is_seen(alloc: Global, row: &Inspected) -> Result<bool, AllocError> {
+    let input = joined(alloc, row.input)?;
+    let seen = run_over(alloc, &["name"], input.as_slice())?;
+    Ok(seen.is(row.status, row.output, row.faults))
+}
+
 #[test]
 fn names_are_inspected(rt: HostRuntime) -> Result<(), Fail> {
-    for row in &INSPECTED {
-        let input = joined(rt.alloc(), row.input)?;
-        let seen = run_over(rt.alloc(), &["name"], input.as_slice())?;
-        assert!(rt; seen.is(row.status, row.output, row.faults), "{}", row.name);
+    for row in inspected_rows() {
+        assert!(rt; is_seen(rt.alloc(), row)?, "{}", row.name);
     }
     Ok(())
 }

@@ -30,32 +30,51 @@ const TWO_ROWS: [RowOctets; 2] = [
 ];
 
 /// What is looked up in it, and whether it is there.
-const LOOKED_UP: [(RowOctets, bool); 9] = [
-    ((b"bits", b"message", b"signature"), true),
-    ((b"abc", &[0x30, 0x00], &[]), true),
-    ((b"bit", b"message", b"signature"), false),
-    ((b"bits", b"messages", b"signature"), false),
-    ((b"bits", b"message", b""), false),
-    ((b"signature", b"message", b"bits"), false),
-    ((b"abc", b"message", b"signature"), false),
-    ((b"bits", &[0x30, 0x00], &[]), false),
-    ((b"", b"", b""), false),
+const LOOKED_UP: &[(&str, RowOctets, bool)] = &[
+    ("the first row", (b"bits", b"message", b"signature"), true),
+    ("the second row", (b"abc", &[0x30, 0x00], &[]), true),
+    ("shorter bits", (b"bit", b"message", b"signature"), false),
+    (
+        "a longer message",
+        (b"bits", b"messages", b"signature"),
+        false,
+    ),
+    ("no signature", (b"bits", b"message", b""), false),
+    (
+        "bits and signature exchanged",
+        (b"signature", b"message", b"bits"),
+        false,
+    ),
+    (
+        "bits of the second row",
+        (b"abc", b"message", b"signature"),
+        false,
+    ),
+    (
+        "bits of the first row",
+        (b"bits", &[0x30, 0x00], &[]),
+        false,
+    ),
+    ("nothing", (b"", b"", b""), false),
 ];
+
+fn looked_up_rows() -> &'static [(&'static str, RowOctets, bool)] {
+    LOOKED_UP
+}
+
+/// Whether the row is there, as the provider says of RSA and of ECDSA.
+fn is_there(provider: &BenchProvider, (bits, message, signature): RowOctets) -> (bool, bool) {
+    (
+        provider.rsa_check(bits, message, signature),
+        provider.ecdsa_check(bits, message, signature),
+    )
+}
 
 #[test]
 fn signatures_of_a_table(rt: HostRuntime) -> Result<(), Fail> {
     let provider = BenchProvider::new(table_of(rt.alloc(), &TWO_ROWS)?);
-    for ((bits, message, signature), there) in LOOKED_UP {
-        assert_eq!(rt;
-            provider.rsa_check(bits, message, signature),
-            there,
-            "RSA: {bits:?} {message:?} {signature:?}"
-        );
-        assert_eq!(rt;
-            provider.ecdsa_check(bits, message, signature),
-            there,
-            "ECDSA: {bits:?} {message:?} {signature:?}"
-        );
+    for (name, row, there) in looked_up_rows() {
+        assert!(rt; is_there(&provider, *row) == (*there, *there), "{name}");
     }
     Ok(())
 }
@@ -81,11 +100,9 @@ fn digests(rt: HostRuntime) -> Result<(), Fail> {
     Ok(())
 }
 
-/// Signed data, without unused bits of the signature and with one.
-const SIGNED: [&[u8]; 2] = [
-    FIRST,
-    b"\x30\x15\x30\x00\x30\x0d\x06\x09\x2a\x86\x48\x86\xf7\x0d\x01\x01\x0b\x05\x00\x03\x02\x01\xaa",
-];
+/// Signed data with an unused bit of the signature.
+const WITH_COUNT: &[u8] =
+    b"\x30\x15\x30\x00\x30\x0d\x06\x09\x2a\x86\x48\x86\xf7\x0d\x01\x01\x0b\x05\x00\x03\x02\x01\xaa";
 
 /// Whether the signed data is by the key, as the provider says; no where the one or the other is rejected.
 fn verifies(alloc: Global, provider: &BenchProvider, octets: &'static [u8]) -> bool {
@@ -99,20 +116,24 @@ fn verifies(alloc: Global, provider: &BenchProvider, octets: &'static [u8]) -> b
     }
 }
 
+/// Whether signed data verifies, without unused bits of the signature and with one.
+fn both_verify(alloc: Global, provider: &BenchProvider) -> (bool, bool) {
+    (
+        verifies(alloc, provider, FIRST),
+        verifies(alloc, provider, WITH_COUNT),
+    )
+}
+
 #[test]
 fn signed_data_verifies_by_the_table(rt: HostRuntime) -> Result<(), Fail> {
-    let empty = BenchProvider::new(Vec::new(rt.alloc()));
     let table = table_of(rt.alloc(), &[(b"abc", &[0x30, 0x00], &[0xaa])])?;
     let provider = BenchProvider::new(table);
-    for octets in SIGNED {
-        assert!(rt;
-            verifies(rt.alloc(), &provider, octets),
-            "in the table {octets:?}"
-        );
-        assert!(rt;
-            !verifies(rt.alloc(), &empty, octets),
-            "not in the table {octets:?}"
-        );
-    }
+    assert!(rt; both_verify(rt.alloc(), &provider) == (true, true));
     Ok(())
+}
+
+#[test]
+fn nothing_verifies_by_an_empty_table(rt: HostRuntime) {
+    let provider = BenchProvider::new(Vec::new(rt.alloc()));
+    assert!(rt; both_verify(rt.alloc(), &provider) == (false, false));
 }
