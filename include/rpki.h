@@ -14,8 +14,8 @@
  * What the caller owes, which no call can check:
  *  - A pointer and the size after it are octets that may be read, fewer than 2^63, and that nobody writes to during the
  *    call. Only read-only data is needed: they may be in constant memory or in a mapped file.
- *  - No pointer is NULL, with size 0 either: where there are no octets pass any other pointer, as that of an empty
- *    string. (The proofs rest on this. The compiled calls look at no octet where the size is 0, and the tests pass NULL
+ *  - No pointer may be NULL, even where its size is 0: where there are no octets pass any other pointer, as that of an
+ *    empty string. (The proofs rest on this. The compiled calls look at no octet where the size is 0, and the tests pass NULL
  *    with size 0 too; but no contract covers that.)
  *  - `out`, and each other parameter that is written, is aligned for its type and is inside neither the octets that are
  *    read nor another parameter. It need not be initialised.

@@ -1,7 +1,7 @@
 //! Safe Rust over a proved DER and X.509 layer for the resource public key infrastructure (RPKI).
 //!
 //! The library behind this crate is written in Rust with contracts, and each call is proved to meet its contract: it
-//! accepts exactly the octets that the standards allow, and does not panic, overflow, read out of bounds or run
+//! accepts exactly the grammars of docs/SPECIFICATION.md, and does not panic, overflow, read out of bounds or run
 //! forever. It is linked as a static library, `librpki.a` (`bindings/archive` of the repository makes it). What is in
 //! this crate is not proved: it is a thin layer that passes slices, and turns places in them into slices again.
 //!

@@ -1,7 +1,9 @@
-//! What C calls of the layer: a static library, whose header is include/rpki.h.
+//! The part of the layer that C can call: a static library, whose header is include/rpki.h.
 //!
 //! Each export calls the layer and states its clauses again. A status of 0 is success; another number says what is
-//! wrong. Nothing is kept, and nothing has to be freed: what is handed out are places in the caller's own octets.
+//! wrong. Nothing is kept, and nothing has to be freed: parts are places in the caller's own octets, and what has no
+//! place there, as a key identifier, is written to the caller's buffer. To C a slice is a pointer and a count, and an
+//! allocator is no parameter.
 #![tactic(auto)]
 
 mod digests;

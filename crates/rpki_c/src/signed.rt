@@ -43,7 +43,7 @@ fn take_bit_contents<'a>(cons: &mut Constructed<'a>) -> Result<&'a [u8], DecodeE
     ensures { Reads (λ c. c.now) (SpellsContents bit_string false) (λ _ e. e ≢ DecodeError.OutOfMemory)
         (left cons.old) (left cons.new) result }
 {
-    // Another form is an error before a cut value is one, as for every other reader of a leaf.
+    // A constructed form is reported before a truncated value, as by every other reader of a leaf.
     if let Ok((header, _)) = read_header(cons.rest()) {
         if header.constructed {
             return Err(DecodeError::Unexpected);

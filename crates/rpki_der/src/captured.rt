@@ -84,7 +84,7 @@ impl Captured {
         Constructed::indexed(&self.bytes, self.headers())
     }
 
-    /// Returns a copy of the values, octet for octet, that shares the octets.
+    /// Returns a copy of the values, octet for octet, that shares the octets and copies the index.
     ///
     /// Returns `AllocError` if allocation fails.
     pub fn clone(&self) -> Result<Captured, AllocError>

@@ -34,7 +34,7 @@ pub struct Constructed<'a> {
     end: usize,
     /// The index of the source; empty if there is none.
     index: &'a [HeaderEntry],
-    /// The number of the first entry that does not stand before the start.
+    /// A hint: the number of the first entry that does not stand before the start. Nothing rests on it.
     next: usize,
     ghost same: { origin_octets origin source.now ≡ source.now },
     ghost ordered: { start ≤ end },

@@ -19,7 +19,7 @@ pub(super) const LEN_LIMIT: usize = 3072;
 /// A segment has fewer octets than this.
 const SEGMENT_LIMIT: usize = 256;
 
-/// Tests one segment.
+/// Tests one piece between slashes.
 fn check_piece(piece: &[u8]) -> Result<(), Error>
     ensures { MatchResult result (λ _. piece_refusal piece.now ≡ None)
         (λ e. piece_refusal piece.now ≡ Some e) }

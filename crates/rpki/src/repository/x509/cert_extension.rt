@@ -153,7 +153,7 @@ impl CertExtension {
         encode_parts(self.id(), self.critical(), self.octets())
     }
 
-    /// Returns a copy of the extension that shares its octets.
+    /// Returns a copy of the extension that shares its octets and copies the index of their headers.
     ///
     /// Returns `AllocError` if allocation fails.
     pub fn clone(&self) -> Result<CertExtension, AllocError>

@@ -113,7 +113,7 @@ impl Name {
         &self.captured
     }
 
-    /// Returns a copy of the name that shares its octets.
+    /// Returns a copy of the name that shares its octets and copies the index of their headers.
     ///
     /// Returns `AllocError` if allocation fails.
     pub fn clone(&self) -> Result<Name, AllocError>

@@ -210,7 +210,7 @@ impl Eq for SignedData<RpkiSignatureAlgorithm> {
 }
 
 impl<Alg: Copy> SignedData<Alg> {
-    /// Returns a copy of the value that shares its octets.
+    /// Returns a copy of the value that shares its octets and copies the index of their headers.
     ///
     /// Returns `AllocError` if allocation fails.
     pub fn clone(&self) -> Result<SignedData<Alg>, AllocError>
