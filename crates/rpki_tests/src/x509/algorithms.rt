@@ -1,6 +1,6 @@
 //! Algorithm identifiers.
 
-use super::{Outcome, outcome_of, refused, written};
+use super::{Outcome, optional_outcome_of, outcome_of, refused, written};
 use crate::x509::{Always, DIGEST_OF_ABC};
 use bytes::Bytes;
 use rpki::crypto::{
@@ -30,7 +30,7 @@ fn read(reader: Reader, octets: &'static [u8]) -> (Outcome, usize) {
     let mut cons = Constructed::new(&source);
     let outcome = match reader {
         Reader::Digest => outcome_of(DigestAlgorithm::take_from(&mut cons)),
-        Reader::OptionalDigest => outcome_of(DigestAlgorithm::take_opt_from(&mut cons)),
+        Reader::OptionalDigest => optional_outcome_of(DigestAlgorithm::take_opt_from(&mut cons)),
         Reader::DigestSet => outcome_of(DigestAlgorithm::take_set_from(&mut cons)),
         Reader::SkippedSet => outcome_of(DigestAlgorithm::skip_set(&mut cons)),
         Reader::DigestName => outcome_of(DigestAlgorithm::take_oid_from(&mut cons)),
@@ -106,7 +106,7 @@ const READINGS: &[(&str, Reader, &[u8], (Outcome, usize))] = &[
         "no digest",
         Reader::OptionalDigest,
         DIGEST_NAME,
-        (Outcome::Read, 11),
+        (Outcome::Absent, 11),
     ),
     (
         "primitive SEQUENCE for a digest",
