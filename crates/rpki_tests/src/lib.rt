@@ -1,14 +1,6 @@
-//! The worked cases of the library, over its public calls alone. Expected values come from the standards, from worked
-//! examples and from other programs.
+//! The worked cases of keys, algorithms and X.509, over the public calls of `rpki` alone. Expected values come from the
+//! standards, from worked examples and from other programs. Those of the crates below stand in `rpki_base_tests`.
 #![tactic(auto)]
 
-#[cfg(test)]
-mod der;
-#[cfg(test)]
-mod kinds;
-#[cfg(test)]
-mod text;
-#[cfg(test)]
-mod time;
 #[cfg(test)]
 mod x509;
