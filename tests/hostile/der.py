@@ -36,3 +36,25 @@ def nested(levels):
             octets = length.to_bytes((length.bit_length() + 7) // 8, "little")
             reversed_octets += octets + bytes([0x80 + len(octets), 0x30])
     return bytes(reversed(reversed_octets))
+
+
+def digits_of(octets):
+    """Octets as hexadecimal digits."""
+    return octets.hex().upper().encode()
+
+
+def members(octets):
+    """The values that octets are, each whole, whatever is nested in them: tags of one octet."""
+    found, place = [], 0
+    while place < len(octets):
+        count = octets[place + 1] - 0x80 if octets[place + 1] >= 0x80 else 0
+        head = place + 2 + count
+        length = int.from_bytes(octets[place + 2:head], "big") if count else octets[place + 1]
+        found.append(octets[place:head + length])
+        place = head + length
+    return found
+
+
+def contents(value):
+    """The contents of a value with a tag of one octet."""
+    return value[2 + (value[1] - 0x80 if value[1] >= 0x80 else 0):]

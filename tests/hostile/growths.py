@@ -5,16 +5,13 @@ of its words and of its input are refused too: then it says so and tells of no c
 answers, which is either what it answers when none is refused, or that memory ran out; and what the call's arguments
 hold afterwards, which is then what they held before."""
 import base64
-import os
-import subprocess
-import tempfile
 from typing import FrozenSet, List, NamedTuple
 
-from der import bits, nested, sequence
-from programs import run
+from der import bits, digits_of as digits, nested, sequence
+from shim import Shim
 from vectors import (
-    EXTENSIONS, EXTENSIONS_WRITTEN, KEY, KEY_DIGITS, NAME, ORGANIZATION, ROUTER_ORGANIZATION, RSA_OF_NUMBERS,
-    RSA_SIGNATURE, SIGNED, SUBJECT, USAGE,
+    EXTENSIONS, EXTENSIONS_WRITTEN, EXTENSION_WITHOUT_OCTETS, KEY, KEY_DIGITS, NAME, ORGANIZATION, ROUTER_ORGANIZATION,
+    RSA_OF_NUMBERS, RSA_SIGNATURE, SIGNED, SUBJECT, USAGE,
 )
 
 NOT_TOLD = (1, b"", b"out of memory\n")
@@ -32,15 +29,16 @@ class Call(NamedTuple):
     grows: bool
 
 
-def on_cursor(call, octets, answer, left=b"", counts=(0,), grows=True):
-    """A call on a cursor; the numbers of headers that it may have counted, the one of success last."""
+def on_cursor(call, octets, answer, left=b"", counts=(0,), grows=True, group="cursor"):
+    """A call on a cursor, one that borrows its octets in the group `slice`; the numbers of headers that it may have
+    counted, the one of success last."""
     end = b"finished" if left == b"" else b"unfinished 6"
     lent = b"\nlent " + digits(octets) + b"\n"
     told = answer + b"\ncount %d\nleft " % counts[-1] + digits(left) + b"\n" + end + lent
     refusals = {
         b"out of memory\ncount %d\nleft " % count + digits(octets) + b"\nunfinished 6" + lent for count in counts
     }
-    return Call(["cursor", call], octets, told, frozenset(refusals), grows)
+    return Call([group, call], octets, told, frozenset(refusals), grows)
 
 
 def on_value(group, call, octets, answer, grows, held=None, after=None, words=()):
@@ -54,10 +52,6 @@ def on_value(group, call, octets, answer, grows, held=None, after=None, words=()
 def on_octets(group, call, octets, answer, grows=True):
     """A call that takes octets and leaves nothing to look at."""
     return Call([group, call], octets, answer + b"\n", frozenset([b"out of memory\n"]), grows)
-
-
-def digits(octets):
-    return octets.hex().upper().encode()
 
 
 def made(octets):
@@ -169,6 +163,7 @@ WORDS = [
     (["uri"], HTTPS + b"\n", 0, b"scheme https\nauthority host\npath /foo/bar\n", b""),
     (["uri"], b"rsync:///module/foo", 1, b"", b"refused 6\n"),
     (["ext"], EXTENSIONS, 0, EXTENSIONS_WRITTEN, b""),
+    (["ext"], EXTENSION_WITHOUT_OCTETS, 0, EXTENSION_WITHOUT_OCTETS, b""),
     (["ext"], EXTENSIONS + b"\x30", 1, b"", b"refused 1\n"),
     (["name"], ORGANIZATION, 0, b"rpki yes\nrouter yes\n", b""),
     (["name"], ROUTER_ORGANIZATION, 0, b"rpki no\nrouter yes\n", b""),
@@ -176,39 +171,6 @@ WORDS = [
     ([], b"", 0, USAGE, b""),
     (["x"], b"", 2, b"", USAGE),
 ]
-
-
-class Shim:
-    """`refuse.c`, built, and runs under it."""
-
-    def __init__(self, folder):
-        self.library = os.path.join(folder, "refuse.so")
-        self.count = os.path.join(folder, "count")
-        source = os.path.join(os.path.dirname(os.path.abspath(__file__)), "refuse.c")
-        compiler = os.environ.get("CC", "cc")
-        subprocess.run([compiler, "-O2", "-shared", "-fPIC", "-o", self.library, source], check=True)
-
-    def run(self, program, words, octets, **refused):
-        """A run that refuses what REFUSE or REFUSE_FROM says, and how many growths it met. A run that does not come to
-        its end, or is not under the shim, met none."""
-        if os.path.exists(self.count):
-            os.remove(self.count)
-        environment = {**os.environ, "LD_PRELOAD": self.library, "COUNT_FILE": self.count, **refused}
-        seen = run(program, words, octets, env=environment)
-        if not os.path.exists(self.count):
-            return seen, 0
-        with open(self.count, encoding="ascii") as count:
-            return seen, int(count.read())
-
-    def runs(self, program, words, octets, alone):
-        """Runs with each growth refused in turn, alone or with all later ones, until a run meets none: the number of
-        the growth, whether the run met it, and what is seen."""
-        growth, met = 0, True
-        while met:
-            growth += 1
-            seen, count = self.run(program, words, octets, **{"REFUSE" if alone else "REFUSE_FROM": str(growth)})
-            met = count >= growth
-            yield growth, met, seen
 
 
 def calls_of(shim, programs, call, alone):
@@ -230,12 +192,11 @@ def calls_of(shim, programs, call, alone):
 
 def refused_calls(programs):
     """Calls of the library answer as they do with memory, or that it ran out, and then nothing has changed."""
-    with tempfile.TemporaryDirectory() as folder:
-        shim = Shim(folder)
+    with Shim() as shim:
         calls = READERS + VALUES + URIS + TEXTS
         all_refused, all_times = 0, 0
         for call in calls:
-            yield f"{call.words} is under the shim", shim.run(programs.calls, call.words, call.octets)[1] > 0, True
+            yield f"{call.words} is under the shim", shim.run(programs.calls, call.words, call.octets)[1].met > 0, True
             for alone in [True, False]:
                 refused, times = yield from calls_of(shim, programs, call, alone)
                 all_refused += refused
@@ -246,12 +207,11 @@ def refused_calls(programs):
 def refused_words(programs):
     """Each growth of the program that is refused ends it with that fault, and an empty output; but one growth alone of
     its start, where the words are collected, may be made up for by a smaller one."""
-    with tempfile.TemporaryDirectory() as folder:
-        shim = Shim(folder)
+    with Shim() as shim:
         refused = 0
         for words, octets, *answer in WORDS:
             # Without words, and with one that it does not know, the program takes no memory after its start.
-            start = shim.run(programs.basic, ["x"] if words else [], b"")[1]
+            start = shim.run(programs.basic, ["x"] if words else [], b"")[1].met
             yield f"{words} is under the shim", start > 0, True
             for alone in [True, False]:
                 for growth, met, seen in shim.runs(programs.basic, words, octets, alone):
@@ -268,11 +228,12 @@ GROWTHS = [("join", 2), ("parent", 0)]
 
 def counted_growths(programs):
     """`join` and `parent` meet equally many growths on a URI of 1 segment and on one of 200."""
-    with tempfile.TemporaryDirectory() as folder:
-        shim = Shim(folder)
+    with Shim() as shim:
         for call, growths in GROWTHS:
             for segments in ["1", "200"]:
-                counts = [shim.run(programs.calls, ["repeat", call, segments, times], b"")[1] for times in ["1", "2"]]
+                counts = [
+                    shim.run(programs.calls, ["repeat", call, segments, times], b"")[1].met for times in ["1", "2"]
+                ]
                 yield f"{call} on {segments} segments", counts[1] - counts[0], growths
 
 

@@ -1,5 +1,6 @@
 """The programs, as they were built, and runs of them."""
 import os
+import re
 import subprocess
 from typing import NamedTuple
 
@@ -12,6 +13,13 @@ class Seen(NamedTuple):
     status: int
     output: bytes
     faults: bytes
+
+    def after(self, refused):
+        """What is seen, where so many growths were refused. Where none was, nothing may say that memory ran out: a call
+        that does has given up, and no row expects this."""
+        if refused == 0 and re.search(rb"^out of memory$", self.output + b"\n" + self.faults, re.MULTILINE):
+            return self._replace(output=b"gave up, and no growth was refused: " + self.output)
+        return self
 
 
 class Programs(NamedTuple):
@@ -43,6 +51,11 @@ def programs():
 
 
 def run(program, words, octets=b"", **options):
-    """A run of a program with these words over this input, for a minute at most."""
+    """A run of a program with these words over this input, for a minute at most. No growth is refused."""
+    return run_refused(program, words, octets, **options).after(0)
+
+
+def run_refused(program, words, octets=b"", **options):
+    """The same where growths may be refused."""
     done = subprocess.run([program, *words], input=octets, capture_output=True, timeout=60, close_fds=False, **options)
     return Seen(done.returncode, done.stdout, done.stderr)

@@ -8,7 +8,8 @@ import tempfile
 
 from programs import Seen, run
 from vectors import (
-    EXTENSIONS, EXTENSIONS_WRITTEN, KEY, KEY_DIGITS, ORGANIZATION, ROUTER_ORGANIZATION, SIGNED, USAGE,
+    EXTENSIONS, EXTENSIONS_WRITTEN, EXTENSION_WITHOUT_OCTETS, KEY, KEY_DIGITS, ORGANIZATION, ROUTER_ORGANIZATION,
+    SIGNED, USAGE,
 )
 
 URI = b"rSync://hOst/module/foo/bar\n"
@@ -20,6 +21,7 @@ ANSWERED = [
     (["key"], KEY, KEY_DIGITS + b"\n"),
     (["uri"], URI, b"scheme rsync\nauthority host\nmodule module\npath foo/bar\n"),
     (["ext"], EXTENSIONS, EXTENSIONS_WRITTEN),
+    (["ext"], EXTENSION_WITHOUT_OCTETS, EXTENSION_WITHOUT_OCTETS),
     (["name"], ROUTER_ORGANIZATION, b"rpki no\nrouter yes\n"),
     ([], b"", USAGE),
 ]
@@ -40,7 +42,7 @@ def start(program, words, stdin=subprocess.DEVNULL, stdout=subprocess.PIPE, stde
     """A run over these streams."""
     with subprocess.Popen([program, *words], stdin=stdin, stdout=stdout, stderr=stderr, preexec_fn=prepare) as process:
         output, faults = process.communicate(timeout=60)
-        return Seen(process.wait(), output or b"", faults or b"")
+        return Seen(process.wait(), output or b"", faults or b"").after(0)
 
 
 def unread_inputs(programs):
@@ -88,7 +90,7 @@ def in_file(octets, program, words, given, name):
         source.seek(0)
         seen = start(program, words, stdin=source, prepare=lambda: limit_files(octets), **{name: file})
         file.seek(0)
-        return seen._replace(**{"output" if name == "stdout" else "faults": file.read()})
+        return seen._replace(**{"output" if name == "stdout" else "faults": file.read()}).after(0)
 
 
 def full_outputs(programs):

@@ -41,6 +41,9 @@ VALIDITY = bytes.fromhex("3020") + tlv(0x17, b"200101000000Z") + tlv(0x18, b"205
 CONSTRAINTS = bytes.fromhex("300C 0603551D13 0101FF 04023000")
 CONSTRAINTS_NOT_CRITICAL = bytes.fromhex("3009 0603551D13 04023000")
 
+# An extension whose OCTET STRING is empty.
+EXTENSION_WITHOUT_OCTETS = bytes.fromhex("3007 0603551D0E 0400")
+
 # Two extensions, the first with a FALSE that X.690 11.5 leaves out; and the same as they are written.
 EXTENSIONS = bytes.fromhex("300C 0603551D13 010100 04023000") + CONSTRAINTS
 EXTENSIONS_WRITTEN = CONSTRAINTS_NOT_CRITICAL + CONSTRAINTS

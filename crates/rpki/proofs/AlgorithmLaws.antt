@@ -4,8 +4,10 @@ use Rattle.std.specs.Prelude.{is_some}
 use Rattle.std.proofs.lemmas.List.{append-nil}
 use Rattle.rpki_der.specs.TagName.{oid, null}
 use Rattle.rpki_der.specs.declared.error.DecodeError.{DecodeError}
-use Rattle.rpki_der.specs.Reading.{Spells, Accepts, Refuses, SpellsNothing, ReadsWhere, TakesNoMemory, AnyFault}
-use Rattle.rpki_der.specs.Composed.{ReadsAll}
+use Rattle.rpki_der.specs.Reading.{Spells, Accepts, Refuses, SpellsNothing, ReadsWhere}
+use Rattle.rpki_der.specs.FirstFault.{ReadsParts}
+use Rattle.rpki_der.specs.FirstFault.FirstFault.{Behind}
+use Rattle.rpki.specs.AlgorithmFault.{IsParametersFault, IsNamedFault}
 use Rattle.rpki_der.specs.Values.{SpellsLeaf, HasTag, IsLeafFault}
 use Rattle.rpki_der.specs.Leaves.{IsNull, IsOnly}
 use Rattle.rpki.specs.Algorithm.{IsParameters, IsIdentified}
@@ -56,6 +58,6 @@ parameters-not-read m r (Some x) h some false k = tag-empty null (subst (HasTag 
 -- ---- the parameters of an identifier that was read
 
 pub parameters-all : (o c m r : List ℕ) (x : Result Bool DecodeError) → Accepts (SpellsLeaf oid false (IsOnly o)) c tt m
-    → ReadsAll (λ b. b) IsParameters (TakesNoMemory AnyFault) m r x → ReadsAll (λ b. b) (IsIdentified o) (TakesNoMemory AnyFault) c r x
-parameters-all o c m r (Ok b) a h = (λ end. identified-read o c m b a (h.0 end), λ some. no-parameters o c m a (h.1 some))
-parameters-all o c m r (Err e) a h = (UnlessMemory-weaker e (no-parameters o c m a) h.0, record { other = h.1.other; kind = tt })
+    → ReadsParts (λ b. b) IsParameters IsParametersFault m r x → ReadsParts (λ b. b) (IsIdentified o) (IsNamedFault o IsParametersFault) c r x
+parameters-all o c m r (Ok b) a h = (λ end. identified-read o c m b a (h.0 end), λ some. (no-parameters o c m a (h.1 some).0, Behind tt m a (h.1 some).1))
+parameters-all o c m r (Err e) a h = (UnlessMemory-weaker e (no-parameters o c m a) h.0, Behind tt m a h.1)

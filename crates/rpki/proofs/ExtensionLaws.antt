@@ -2,22 +2,18 @@
 use Rattle.std.proofs.Common.{◌≡◌, ◌↔◌, ℕ, ◌+◌, ◌<◌, ◌≤◌, ◌^◌, Bool, true, false, Option, Some, None, Ok, List, [], ◌∷◌, ◌++◌, length, inl, inr, refl, sym, ap, subst, ◌∙◌, arith, lit<, append_assoc, append-nil, length-append}
 use Rattle.std.specs.Prelude.{nat_eq, bytes_eq, unwrap_or}
 use Rattle.std.proofs.lemmas.Bool.{false_from_ne_true, eqb-true}
-use Rattle.rpki_der.specs.declared.error.DecodeError.{DecodeError}
 use Rattle.rpki_der.specs.TagName.{TagName, oid, boolean, octet_string, sequence}
 use Rattle.rpki_der.specs.Header.{tlv}
-use Rattle.rpki_der.specs.Reading.{Spells, Accepts, Refuses, Refusal, SpellsNothing, ReadsWhere, OrMemoryWhere, Finds}
-use Rattle.rpki_der.specs.Values.{SpellsContents, SpellsLeaf, HasTag, IsLeafFault, GivesOuterFault, IsOuterFault}
+use Rattle.rpki_der.specs.Reading.{Spells, Accepts, Refuses, SpellsNothing, ReadsWhere}
+use Rattle.rpki_der.specs.Values.{SpellsContents, SpellsLeaf, HasTag, IsLeafFault}
 use Rattle.rpki_der.specs.Leaves.{IsOid, IsOidOf, IsBoolean, boolean_contents}
 use Rattle.rpki_der.specs.Front.{front_contents, after_front}
 use Rattle.rpki_der.specs.Members.{IsValue, IsValueList, SpellsValue}
-use Rattle.rpki_der.specs.Walk.{HasEither}
 use Rattle.rpki_der.specs.ValueListLaws.{primitive_value_list, value_lists_append, no_value_list}
-use Rattle.rpki_der.proofs.ReadingLaws.{UnlessMemory-weaker}
 use Rattle.rpki_der.proofs.EncodeLaws.{tlv-at-least, tlv_at_most}
 use Rattle.rpki_der.proofs.LeafValueLaws.{composed-value-alone}
-use Rattle.rpki_der.proofs.LeavesLaws.{leaf-tag, leaf-value}
+use Rattle.rpki_der.proofs.LeavesLaws.{leaf-tag}
 use Rattle.rpki_der.proofs.ComposedLaws.{all-read}
-use Rattle.rpki_der.proofs.InsideLaws.{no-memory, part-memory}
 use Rattle.rpki_der.proofs.FrontLaws.{front_contents_of, after_front-of, contents-alone, nothing-after, one-tag, contents-tag}
 use Rattle.rpki.specs.Extension.{critical_octets, extension_contents}
 use Rattle.rpki.specs.ExtensionValue.{ExtensionParts, extension_parts, SpellsCritical, IsExtensionContents, SpellsExtension, written_extension, CanBeWritten, parts_in, parts_of_extension}
@@ -166,7 +162,7 @@ extension-value x p h = composed-value-alone sequence IsExtensionContents x p (c
 
 -- ---- an extension, captured
 
-value-of : (s : List ℕ) (x : ExtensionParts) (r : List ℕ) (h : Spells SpellsExtension s x r) → Spells SpellsValue s h.front r
+pub value-of : (s : List ℕ) (x : ExtensionParts) (r : List ℕ) (h : Spells SpellsExtension s x r) → Spells SpellsValue s h.front r
 value-of s x r h = record { front = h.front; parts = h.parts; spelled = record { same = refl; value = extension-value x h.front h.spelled } }
 
 pub captured-extension : (s r v q : List ℕ) (x : ExtensionParts) → Accepts SpellsExtension s x r → Accepts SpellsValue s v q → SpellsExtension x v
@@ -182,24 +178,6 @@ extension-captured s r v q x a b =
     let h = captured-extension s r v q x a b in
     subst (λ (y : ExtensionParts). Accepts SpellsExtension s y q) (sym (extension-is x v h))
     (subst (λ (l : List ℕ). Accepts SpellsExtension s x l) (b.only a.spells.front r (value-of s x r a.spells)).1 a)
-
-pub extension-refused : (s q r : List ℕ) (e : DecodeError) → r ≡ s → Refusal SpellsExtension (IsOuterFault sequence true) s q e
-    → Refusal SpellsExtension (OrMemoryWhere (Finds SpellsExtension) (GivesOuterFault sequence true)) s r e
-extension-refused s q r e same h = record {
-  unchanged = same;
-  refuses = h.refuses;
-  kind = no-memory (Finds SpellsExtension) (GivesOuterFault sequence true) s e h.kind.other h.kind.kind;
-}
-
-pub extension-uncaptured : (K : List ℕ → DecodeError → Type 0) (s r q : List ℕ) (x : ExtensionParts) (e : DecodeError) → Accepts SpellsExtension s x r → Refusal SpellsValue (OrMemoryWhere HasEither K) s q e
-    → Refusal SpellsExtension (OrMemoryWhere (Finds SpellsExtension) (GivesOuterFault sequence true)) s q e
-extension-uncaptured K s r q x e a h = record {
-  unchanged = h.unchanged;
-  refuses = UnlessMemory-weaker e (λ none y p k. none k.front p (value-of s y p k)) h.refuses;
-  kind =
-      let l = leaf-value sequence true IsExtensionContents s x r a.spells in
-      part-memory HasEither (Finds SpellsExtension) K (GivesOuterFault sequence true) s s e (λ v. (x, r, a.spells)) h.kind (λ none. absurd (none l.0 r l.1));
-}
 
 -- ---- what is written
 

@@ -3,8 +3,10 @@ use Rattle.std.proofs.Common.{Result, Ok, Err, ◌≡◌, ◌⊎◌, ℕ, Bool, 
 use Rattle.rpki_der.specs.TagName.{oid, null, sequence}
 use Rattle.rpki_der.specs.Header.{tlv}
 use Rattle.rpki_der.specs.declared.error.DecodeError.{DecodeError}
-use Rattle.rpki_der.specs.Reading.{Spells, Accepts, Refuses, SpellsNothing, TakesNoMemory, AnyFault}
-use Rattle.rpki_der.specs.Composed.{ReadsAll}
+use Rattle.rpki_der.specs.Reading.{Spells, Accepts, Refuses, SpellsNothing}
+use Rattle.rpki_der.specs.FirstFault.{ReadsParts}
+use Rattle.rpki_der.specs.FirstFault.FirstFault.{Behind}
+use Rattle.rpki.specs.AlgorithmFault.{IsParametersFault, IsAnyNamedFault, IsCmsRestFault}
 use Rattle.rpki_der.proofs.ReadingLaws.{UnlessMemory-weaker}
 use Rattle.rpki_der.specs.Values.{SpellsLeaf}
 use Rattle.rpki_der.specs.Leaves.{IsOid, IsOidOf, IsOnly, IsNull}
@@ -139,6 +141,6 @@ pub cms-not-read : (c x m : List ℕ) → Accepts AnyName c x m → SpellsNothin
 cms-not-read c x m a none b h = none b (cms-parameters c x m b a h)
 
 pub cms-all : (c x m r : List ℕ) (y : Result Bool DecodeError) → Accepts AnyName c x m → (x ≡ rsa_encryption) ⊎ (x ≡ sha256_with_rsa_encryption)
-    → ReadsAll (λ b. b) IsParameters (TakesNoMemory AnyFault) m r y → ReadsAll (λ b. b) IsCmsContents (TakesNoMemory AnyFault) c r y
-cms-all c x m r (Ok b) a known h = (λ end. cms-read c x m b a known (h.0 end), λ some. cms-not-read c x m a (h.1 some))
-cms-all c x m r (Err e) a known h = (UnlessMemory-weaker e (cms-not-read c x m a) h.0, record { other = h.1.other; kind = tt })
+    → ReadsParts (λ b. b) IsParameters IsParametersFault m r y → ReadsParts (λ b. b) IsCmsContents (IsAnyNamedFault IsCmsRestFault) c r y
+cms-all c x m r (Ok b) a known h = (λ end. cms-read c x m b a known (h.0 end), λ some. (cms-not-read c x m a (h.1 some).0, Behind x m a (inl (known, (h.1 some).1))))
+cms-all c x m r (Err e) a known h = (UnlessMemory-weaker e (cms-not-read c x m a) h.0, Behind x m a (inl (known, h.1)))

@@ -3,6 +3,8 @@ pub mod TwoPartsLaws
 pub mod NamedLaws
 pub mod PartLaws
 pub mod FormatLaws
+pub mod AlgorithmFaultLaws
+pub mod KeyFaultLaws
 pub mod DigestLaws
 pub mod SigningLaws
 pub mod SignedLaws
@@ -12,9 +14,12 @@ pub mod EqualLaws
 pub mod SubjectLaws
 pub mod StrictSubjectLaws
 pub mod MemoryLaws
+pub mod SignedFaultLaws
 pub mod NameLaws
+pub mod NameFaultLaws
 pub mod InspectionLaws
 pub mod WithoutOrganizationLaws
 pub mod OneNameLaws
 pub mod ExtensionLaws
+pub mod ExtensionFaultLaws
 pub mod ExtensionIndexLaws

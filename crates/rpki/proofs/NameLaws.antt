@@ -56,21 +56,32 @@ each-more G [] p front v h k = ([], record { front = front; parts = ap (λ (q : 
 each-more G (w ∷ vs) p front v h k =
     (h.0 ++ front, record { front = h.1.front; parts = ap (λ (q : List ℕ). q ++ front) h.1.parts ∙ append_assoc h.1.front h.0 front; spelled = h.1.spelled }, each-more G vs h.0 front v h.2 k)
 
+-- m is what follows parts of G that begin s, one after another
+pub data Passed {V : Type 0} (G : V → List ℕ → Type 0) : List ℕ → List ℕ → Type 0 where
+  Here : {s : List ℕ} → Passed G s s
+  Next : {s m : List ℕ} (v : V) (r : List ℕ) → Accepts G s v r → Passed G r m → Passed G s m
+
+-- the same of one part more
+passed-more : {V : Type 0} (G : V → List ℕ → Type 0) (s m r : List ℕ) (v : V) → Passed G s m → Accepts G m v r → Passed G s r
+passed-more G s m r v Here a = Next v r a Here
+passed-more G s m r v (Next w q b p) a = Next w q b (passed-more G q m r v p a)
+
 -- what is left follows such a list, and is one exactly where the whole is
 pub record Remains {V : Type 0} (t : TagName) (f : Bool) (C : V → List ℕ → Type 0) (c m : List ℕ) : Type 0 where
   pub whole : IsEach t f C m → IsEach t f C c
   pub rest : IsEach t f C c → IsEach t f C m
   pub before : HasAfter (SpellsLeaf t f C) (λ (r : List ℕ). r ≡ m) c
+  pub passed : Passed (SpellsLeaf t f (SpellsAny C)) c m
 
 pub remains-all : {V : Type 0} (t : TagName) (f : Bool) (C : V → List ℕ → Type 0) (c : List ℕ) → Remains t f C c c
-remains-all t f C c = record { whole = λ h. h; rest = λ h. h; before = ([], [], c, refl, refl, refl) }
+remains-all t f C c = record { whole = λ h. h; rest = λ h. h; before = ([], [], c, refl, refl, refl); passed = Here }
 
 -- what begins what is left begins after such a list
 pub remains-after : {V : Type 0} (t : TagName) (f : Bool) (C : V → List ℕ → Type 0) (P : List ℕ → Type 0) (c m : List ℕ) → Remains t f C c m → P m → HasAfter (SpellsLeaf t f C) P c
 remains-after t f C P c m h p = let (vs, front, r, each, parts, same) = h.before in (vs, front, r, each, parts, subst P (sym same) p)
 
 pub remains-then : {V : Type 0} (t : TagName) (f : Bool) (C : V → List ℕ → Type 0) (c m r : List ℕ) → (m ≡ [] → ⊥) → Remains t f C c m → Accepts (SpellsLeaf t f (SpellsAny C)) m tt r → Remains t f C c r
-remains-then {V} t f C c m r some h a = record { whole = λ k. h.whole (longer k); rest = λ k. shorter (h.rest k); before = further }
+remains-then {V} t f C c m r some h a = record { whole = λ k. h.whole (longer k); rest = λ k. shorter (h.rest k); before = further; passed = passed-more (SpellsLeaf t f (SpellsAny C)) c m r tt h.passed a }
   where
     further : HasAfter (SpellsLeaf t f C) (λ (q : List ℕ). q ≡ r) c
     further =
@@ -166,18 +177,18 @@ name-value parts p h = composed-value-alone sequence (SpellsSome SpellsRelative)
 
 -- ---- a name, captured
 
-abbrev AnyName : Unit {0} → List ℕ → Type 0
+abbrev pub AnyName : Unit {0} → List ℕ → Type 0
 AnyName = SpellsLeaf sequence true (SpellsAny (SpellsSome SpellsRelative))
 
 name-of : (p : List ℕ) → AnyName tt p → IsName p
 name-of p h = any-leaf sequence true (SpellsSome SpellsRelative) p h
 
-octets-any : (s v r : List ℕ) → Spells SpellsNameOctets s v r → Spells AnyName s tt r
+pub octets-any : (s v r : List ℕ) → Spells SpellsNameOctets s v r → Spells AnyName s tt r
 octets-any s v r h =
     let g = h.spelled.named in
     record { front = h.front; parts = h.parts; spelled = rw h.spelled.same (leaf-any sequence true (SpellsSome SpellsRelative) g.0 v g.1) }
 
-octets-value : (s v r : List ℕ) → Spells SpellsNameOctets s v r → Spells SpellsValue s v r
+pub octets-value : (s v r : List ℕ) → Spells SpellsNameOctets s v r → Spells SpellsValue s v r
 octets-value s v r h = let g = h.spelled.named in record { front = h.front; parts = h.parts; spelled = record { same = h.spelled.same; value = name-value g.0 v g.1 } }
 
 pub any-captured : (s r : List ℕ) → Spells AnyName s tt r → (v : List ℕ) × Spells SpellsValue s v r × IsName v
@@ -190,14 +201,6 @@ pub name-captured : (s r v q : List ℕ) → Accepts AnyName s tt r → Accepts 
 name-captured s r v q a b = record {
   spells = record { front = b.spells.front; parts = b.spells.parts; spelled = record { same = b.spells.spelled.same; named = captured-name s r v q a b } };
   only = λ w p h. b.only w p (octets-value s w p h);
-}
-
-pub name-refused : (s r : List ℕ) (e : DecodeError) → Refusal AnyName (OrMemoryWhere HasNameValue (GivesOuterFault sequence true)) s r e
-    → Refusal SpellsNameOctets (OrMemoryWhere HasNameValue (GivesOuterFault sequence true)) s s e
-name-refused s r e h = record {
-  unchanged = refl;
-  refuses = UnlessMemory-weaker e (λ none v q k. none tt q (octets-any s v q k)) h.refuses;
-  kind = h.kind;
 }
 
 -- a name has an attribute, which has a value
@@ -220,16 +223,6 @@ name-found s r h = let l = leaf-value sequence true (SpellsAny (SpellsSome Spell
     first : {c : List ℕ} (parts : List (List Attribute)) → SpellsSome SpellsRelative parts c → HasAfter SpellsRelative HasRelativeValue c
     first [] k = absurd (k.some refl)
     first {c} (x ∷ parts) k = ([], [], c, refl, refl, relative-found c x k.each.0 k.each.1)
-
-pub name-uncaptured : (K : List ℕ → DecodeError → Type 0) (s r q : List ℕ) (e : DecodeError) → Accepts AnyName s tt r → Refusal SpellsValue (OrMemoryWhere HasEither K) s q e
-    → Refusal SpellsNameOctets (OrMemoryWhere HasNameValue (GivesOuterFault sequence true)) s q e
-name-uncaptured K s r q e a h = record {
-  unchanged = h.unchanged;
-  refuses = UnlessMemory-weaker e (λ none v p k. none v p (octets-value s v p k)) h.refuses;
-  kind =
-      let l = leaf-value sequence true (SpellsAny (SpellsSome SpellsRelative)) s tt r a.spells in
-      part-memory HasEither HasNameValue K (GivesOuterFault sequence true) s s e (λ v. name-found s r a.spells) h.kind (λ none. absurd (none l.0 r l.1));
-}
 
 -- ---- whether one value is left
 

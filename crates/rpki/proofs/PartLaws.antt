@@ -10,6 +10,9 @@ use Rattle.rpki_der.specs.Cursor.{left}
 use Rattle.rpki_der.specs.Composed.{ReadsInside}
 use Rattle.rpki_der.proofs.InsideLaws.{Same, read-inside-never, reads-all, unless-memory, refused-inside}
 use Rattle.rpki_der.proofs.LeavesLaws.{leaf-no-memory}
+use Rattle.rpki_der.specs.FirstFault.{IsEndFault}
+use Rattle.rpki_der.proofs.FirstFaultLaws.{read-parts-inside, reads-one-part}
+use Rattle.rpki.specs.AlgorithmFault.{IsNamedFault, IsBareFault}
 use Rattle.rpki.specs.SignatureNames.{SpellsBare}
 use Rattle.rpki.specs.UnknownAlgorithm.{BeginsUnknown, NamesUnknown, IsRefusedWith}
 
@@ -48,3 +51,9 @@ module _ (o : List ℕ) (reads : Constructed → Result (Unit {0}) DecodeError �
       read-inside-never (λ u. u) sequence true (SpellsLeaf oid false (IsOnly o)) (IsLeafFault oid false (IsOnly o)) reads
       (λ b a x h. reads-all (λ u. u) (SpellsLeaf oid false (IsOnly o)) (IsLeafFault oid false (IsOnly o)) (left b) (left a) x (law b a x h))
       (λ s k. leaf-no-memory oid false (IsOnly o) s _ k refl)
+
+  -- the same, with the error of the identifier
+  pub only-named : (s r : List ℕ) (x : Result (Unit {0}) DecodeError) → ReadsInside sequence true Same reads s r x → Reads (λ u. u) (SpellsBare o) (IsBareFault o) s r x
+  only-named =
+      read-parts-inside (λ u. u) sequence true (SpellsLeaf oid false (IsOnly o)) (IsNamedFault o IsEndFault) reads
+      (λ b a x h. reads-one-part (λ u. u) (SpellsLeaf oid false (IsOnly o)) (IsLeafFault oid false (IsOnly o)) (left b) (left a) x (law b a x h))

@@ -3,15 +3,14 @@ use Rattle.std.proofs.Common.{◌≡◌, ◌↔◌, ℕ, ◌+◌, ◌<◌, ◌�
 use Rattle.rpki_der.specs.declared.error.DecodeError.{DecodeError}
 use Rattle.rpki_der.specs.TagName.{IsTag, oid, null, sequence, bit_string, integer}
 use Rattle.rpki_der.specs.Header.{tlv}
-use Rattle.rpki_der.specs.Reading.{Spells, Refusal, SpellsNothing, UnlessMemory, TakesNoMemory, IsWholeFault, Finds}
-use Rattle.rpki_der.specs.Values.{SpellsLeaf, GivesOuterFault, IsOuterFault}
+use Rattle.rpki_der.specs.Reading.{Spells, SpellsNothing, UnlessMemory, TakesNoMemory, IsWholeFault, Finds}
+use Rattle.rpki_der.specs.Values.{SpellsLeaf}
 use Rattle.rpki_der.specs.Leaves.{Bits, AreBits, IsBits, bits_of}
 use Rattle.rpki_der.specs.Contents.{bits_contents}
 use Rattle.rpki_der.specs.Integer.{IsUnsigned, IsMagnitude, unsigned_contents}
 use Rattle.rpki_der.specs.Number.{number_of, AreOctets}
 use Rattle.rpki_der.specs.ValueListLaws.{sequence_legal}
 use Rattle.rpki_der.proofs.ReadingLaws.{UnlessMemory-weaker}
-use Rattle.rpki_der.proofs.ComposedLaws.{not-read}
 use Rattle.rpki_der.proofs.EncodeLaws.{leaf-legal, tlv-same, tlv-same-then, tlv-at-least, tlv_at_most, bits-same, bits-spelled}
 use Rattle.rpki_der.proofs.UnsignedLaws.{unsigned-spelled, unsigned-at-most, magnitude-at-most}
 use Rattle.rpki.specs.declared.crypto.keys.PublicKeyFormat.{PublicKeyFormat}
@@ -20,6 +19,7 @@ use Rattle.rpki.specs.Oids.{rsa_encryption, ec_public_key, secp256r1}
 use Rattle.rpki.specs.TwoParts.{SpellsBoth}
 use Rattle.rpki.specs.KeyFormat.{SpellsFormat, format_contents, format_octets}
 use Rattle.rpki.specs.PublicKey.{KeyParts, key_of, IsKeyContents, SpellsKey, key_contents, key_octets, AreRsaNumbers, SpellsRsaNumbers, SpellsRsaBits, IsRsaKey}
+use Rattle.rpki.specs.KeyFault.{IsRsaBitsFault}
 use Rattle.rpki.proofs.FormatLaws.{format-short, format-spelled}
 use Rattle.rpki.proofs.MemoryLaws.{both-found}
 
@@ -85,8 +85,8 @@ as-key : (s : List ℕ) (v : Unit {0}) (r : List ℕ) (h : Spells SpellsRsaBits 
 as-key s v r h = record { front = h.front; parts = h.parts; spelled = record { format = refl; bits = refl; numbers = h.spelled } }
 
 pub no-rsa-key : (s : List ℕ) (e : DecodeError)
-    → UnlessMemory e (SpellsNothing SpellsRsaBits s) × TakesNoMemory (IsWholeFault SpellsRsaBits (GivesOuterFault sequence true)) s e
-    → UnlessMemory e (SpellsNothing IsRsaKey s) × TakesNoMemory (IsWholeFault IsRsaKey (GivesOuterFault sequence true)) s e
+    → UnlessMemory e (SpellsNothing SpellsRsaBits s) × TakesNoMemory (IsWholeFault SpellsRsaBits IsRsaBitsFault) s e
+    → UnlessMemory e (SpellsNothing IsRsaKey s) × TakesNoMemory (IsWholeFault IsRsaKey IsRsaBitsFault) s e
 no-rsa-key s e h = (
   UnlessMemory-weaker e (λ none k g. none tt g.numbers) h.0,
   record {
@@ -94,16 +94,10 @@ no-rsa-key s e h = (
     kind = record {
       trailing = λ k b more g. h.1.kind.trailing tt b more (as-bits s k (b ∷ more) g);
       kind = λ none. h.1.kind.kind (λ v r g. none (key_of Rsa (bits_of 0 g.front)) r (as-key s v r g));
+      memory = λ z. absurd (h.1.other z);
     };
   },
 )
-
--- a reader of whole octets that allocates nothing
-pub whole-refused : {V : Type 0} (G : V → List ℕ → Type 0) (s r : List ℕ) (e : DecodeError)
-    → Refusal G (IsOuterFault sequence true) s r e → UnlessMemory e (SpellsNothing G s) × TakesNoMemory (IsWholeFault G (GivesOuterFault sequence true)) s e
-whole-refused G s r e h =
-    let k = not-read G (GivesOuterFault sequence true) s r e (record { unchanged = h.unchanged; refuses = h.refuses; kind = h.kind.kind }) in
-    (k.0, record { other = h.kind.other; kind = k.1 })
 
 pub integer-legal : IsTag integer
 integer-legal = record { below = lit< tt; named = λ u. lit< tt }

@@ -2,13 +2,11 @@
 use Rattle.std.proofs.Common.{◌≡◌, ℕ, false, List, ◌++◌, refl, sym, ap, subst, ◌∙◌, append_assoc}
 use Rattle.rpki_der.specs.declared.error.DecodeError.{DecodeError}
 use Rattle.rpki_der.specs.TagName.{bit_string}
-use Rattle.rpki_der.specs.Reading.{Spells, Accepts, Refuses, Refusal, AnyFault, OrMemoryWhere, Finds}
+use Rattle.rpki_der.specs.Reading.{Spells, Accepts, Refuses, Refusal}
 use Rattle.rpki_der.specs.Values.{SpellsLeaf}
 use Rattle.rpki_der.specs.Leaves.{Bits, IsBits, bits_of}
 use Rattle.rpki_der.specs.Members.{SpellsValue}
-use Rattle.rpki_der.specs.Walk.{HasEither}
 use Rattle.rpki_der.proofs.ReadingLaws.{UnlessMemory-weaker}
-use Rattle.rpki_der.proofs.InsideLaws.{part-memory}
 use Rattle.rpki.specs.SignedData.{SignedParts, parts_of, SpellsSignature, IsSignedContents}
 
 -- ---- the signature, of a bit string
@@ -24,17 +22,11 @@ signature-accepted s b r v is a = record {
       (ap (λ (x : Bits). x.octets) one.0 ∙ sym is, one.1);
 }
 
--- a bit string is there, and so is a signature
-pub signature-found : (s : List ℕ) → Finds (SpellsLeaf bit_string false IsBits) s → Finds SpellsSignature s
-signature-found s h = (h.0.octets, h.1, record { front = h.2.front; parts = h.2.parts; spelled = record { unused = h.0.unused; string = h.2.spelled } })
-
-pub signature-refused : (K : List ℕ → DecodeError → Type 0) (s r : List ℕ) (e : DecodeError)
-    → Refusal (SpellsLeaf bit_string false IsBits) (OrMemoryWhere (Finds (SpellsLeaf bit_string false IsBits)) K) s r e
-    → Refusal SpellsSignature (OrMemoryWhere (Finds SpellsSignature) AnyFault) s s e
+pub signature-refused : (K : List ℕ → DecodeError → Type 0) (s r : List ℕ) (e : DecodeError) → Refusal (SpellsLeaf bit_string false IsBits) K s r e → Refusal SpellsSignature K s r e
 signature-refused K s r e h = record {
-  unchanged = refl;
+  unchanged = h.unchanged;
   refuses = UnlessMemory-weaker e (λ none v q k. none (bits_of k.spelled.unused v) q (as-bits s v q k)) h.refuses;
-  kind = part-memory (Finds (SpellsLeaf bit_string false IsBits)) (Finds SpellsSignature) K AnyFault s s e (signature-found s) h.kind tt;
+  kind = h.kind;
 }
 
 -- ---- the parts, one after the other
@@ -104,7 +96,6 @@ no-signature {A} G s m q d a one two none x r h =
     none x.value r (subst (λ (l : List ℕ). Spells SpellsSignature l x.value r) f.1 w.three)
 
 -- an error of one of the parts
-pub part-refused : {A V : Type 0} (G : A → List ℕ → Type 0) (H : V → List ℕ → Type 0) (K : List ℕ → DecodeError → Type 0) (s m q : List ℕ) (e : DecodeError)
-    → (Refuses H m → Refuses (IsSignedContents G) s) → OrMemoryWhere HasEither AnyFault s e → Refusal H K m q e
-    → Refusal (IsSignedContents G) (OrMemoryWhere HasEither AnyFault) s s e
-part-refused G H K s m q e f kind h = record { unchanged = refl; refuses = UnlessMemory-weaker e f h.refuses; kind = kind }
+pub part-refused : {A V : Type 0} (G : A → List ℕ → Type 0) (H : V → List ℕ → Type 0) (K L : List ℕ → DecodeError → Type 0) (s m q : List ℕ) (e : DecodeError)
+    → (Refuses H m → Refuses (IsSignedContents G) s) → L s e → Refusal H K m q e → Refusal (IsSignedContents G) L s s e
+part-refused G H K L s m q e f kind h = record { unchanged = refl; refuses = UnlessMemory-weaker e f h.refuses; kind = kind }

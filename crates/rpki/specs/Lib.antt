@@ -28,6 +28,11 @@ pub mod Findings
 pub mod ErrorContent
 pub mod InspectionView
 pub mod UpdateFirst
+pub mod AlgorithmFault
+pub mod KeyFault
+pub mod ExtensionFault
+pub mod SignedFault
+pub mod NameFault
 -- Lemmas, which the prover checks: ghost items of impls cite them.
 pub mod AlgorithmOctetsLaws
 pub mod BareOctetsLaws

@@ -7,6 +7,9 @@ ghost use Rattle.rpki_der.specs.TagName.{octet_string};
 ghost use Rattle.rpki_der.specs.Header.{tlv};
 ghost use Rattle.rpki_der.specs.ErrorText.{text_of};
 ghost use Rattle.rpki_der.specs.declared.error.DecodeError.{DecodeError};
+ghost use Rattle.rpki.specs.Oids.{sha256_with_rsa_encryption, ecdsa_with_sha256};
+ghost use Rattle.rpki.specs.AlgorithmOctets.{algorithm_octets};
+ghost use Rattle.rpki.specs.SignatureNames.{bare_octets};
 ghost use Rattle.rpki.specs.SignedData.{SignedParts, SpellsSigned, DifferInCount};
 ghost use Rattle.rpki.specs.KeyIdentifier.{SpellsKeyIdentifier};
 ghost use Rattle.rpki.specs.PublicKey.{KeyParts};
@@ -31,7 +34,7 @@ use crate::crypto::{
 };
 use crate::repository::error::{InspectionError, ValidationError, VerificationError};
 use crate::repository::x509::{CertExtension, Name, SignedData};
-use rpki_der::DecodeError;
+use rpki_der::{DecodeError, PrimitiveContent};
 use std::hash::Hash;
 
 /// The algorithm of the RPKI has one spelling with parameters, and one without.
@@ -138,4 +141,14 @@ pub fn equal_errors_have_equal_texts()
         → IsTrue (⟦<ValidationError as PartialEq>⟧.eq d e) ↔ HaveSameContent (⟦<DecodeError as PartialEq>⟧.eq) d e }
     ensures signature { (d e : SignatureVerificationError)
         → IsTrue (⟦<SignatureVerificationError as PartialEq>⟧.eq d e) }
+{}
+
+/// Key identifiers are written as their octets, and the algorithms as RFC 7935 2 and RFC 8608 2 spell them, that of the
+/// RPKI with a NULL; what is written of it is read with one.
+pub fn what_is_written_of_leaves()
+    ensures identifier { (k : List ℕ) → ⟦<KeyIdentifier as PrimitiveContent>⟧.contents k ≡ k }
+    ensures rpki { (a : Bool) → ⟦<RpkiSignatureAlgorithm as SignatureAlgorithm>⟧.written a
+        ≡ algorithm_octets sha256_with_rsa_encryption true }
+    ensures rpki_norm { (a : Bool) → ⟦<RpkiSignatureAlgorithm as SignatureAlgorithm>⟧.norm a ≡ true }
+    ensures bgpsec { ⟦<BgpsecSignatureAlgorithm as SignatureAlgorithm>⟧.written tt ≡ bare_octets ecdsa_with_sha256 }
 {}

@@ -4,19 +4,22 @@ use Rattle.rpki_der.specs.declared.error.DecodeError.{DecodeError}
 use Rattle.rpki_der.specs.declared.error.DecodeError.TheVariants.{Truncated, BadTag, BadLength, Unexpected, Content, Trailing, OutOfMemory}
 use Rattle.rpki_der.specs.declared.tag.Header.{Header}
 use Rattle.rpki_der.specs.TagName.{TagName, sequence, bit_string}
-use Rattle.rpki_der.specs.Reading.{Spells, Accepts, Refuses, Refusal, UnlessMemory, SpellsNothing, AnyFault, OrMemoryWhere}
-use Rattle.rpki_der.specs.Values.{SpellsContents, IsContentsFault, GivesOuterFault, IsValueFault}
+use Rattle.rpki_der.specs.Reading.{Spells, Accepts, Refuses, Refusal, UnlessMemory, SpellsNothing, OrMemoryWhere}
+use Rattle.rpki_der.specs.Values.{SpellsContents, IsContentsFault, GivesOuterFault, IsValueFault, IsLeafFault}
 use Rattle.rpki_der.specs.WantedValue.{SpellsWanted, IsTagged}
 use Rattle.rpki_der.specs.Leaves.{Bits, IsBits, bits_of}
 use Rattle.rpki_der.specs.Walk.{HasConstructed}
 use Rattle.rpki_der.specs.Inside.{HasInside}
-use Rattle.rpki_der.proofs.LeavesLaws.{contents-no-memory}
+use Rattle.rpki_der.specs.FirstFault.FirstFault.{AtPart, Behind}
+use Rattle.rpki_der.proofs.LeavesLaws.{leaf-no-memory}
 use Rattle.rpki_der.proofs.ComposedLaws.{outer-refused, inner-refused}
-use Rattle.rpki_der.proofs.InsideLaws.{no-memory, part-memory}
 use Rattle.rpki.specs.Oids.{sha256_with_rsa_encryption}
 use Rattle.rpki.specs.Algorithm.{SpellsAlgorithm}
+use Rattle.rpki.specs.AlgorithmFault.{IsAlgorithmFault}
 use Rattle.rpki.specs.SignedData.{SignedParts, SpellsSignature, IsSignedContents}
-use Rattle.rpki_c.specs.Signed.{SpellsRpki, IsSignedFault}
+use Rattle.rpki.proofs.AlgorithmFaultLaws.{algorithm-outer}
+use Rattle.rpki.proofs.SignedFaultLaws.{three-outer}
+use Rattle.rpki_c.specs.Signed.{SpellsRpki, IsWalkedFault, IsAllPartsFault, IsSignedFault}
 
 -- ---- errors that are not allocation failure
 
@@ -77,19 +80,21 @@ AreParts = IsSignedContents (SpellsAlgorithm sha256_with_rsa_encryption)
 pub sequence-refused : (s q : List ℕ) (e : DecodeError) → Refusal (SpellsContents sequence true) (IsContentsFault sequence true) s q e → Refusal SpellsRpki IsSignedFault s s e
 sequence-refused s q e h =
     let k = outer-refused sequence true AreParts s q s e refl h in
-    record {
-      unchanged = refl;
-      refuses = k.refuses;
-      kind = no-memory (HasInside sequence HasConstructed) (GivesOuterFault sequence true) s e (contents-no-memory sequence true s e h.kind) k.kind;
-    }
+    record { unchanged = refl; refuses = k.refuses; kind = AtPart h.refuses h.kind }
 
 -- its contents are not the parts, or allocation failed
 pub parts-refused : (s c q : List ℕ) (e : DecodeError) → Accepts (SpellsContents sequence true) s c q
-    → UnlessMemory e (SpellsNothing AreParts c) × OrMemoryWhere HasConstructed AnyFault c e → Refusal SpellsRpki IsSignedFault s s e
+    → UnlessMemory e (SpellsNothing AreParts c) × IsAllPartsFault c e → Refusal SpellsRpki IsSignedFault s s e
 parts-refused s c q e a h =
     let k = inner-refused sequence true AreParts s c q s e refl a h.0 in
-    record {
-      unchanged = refl;
-      refuses = k.refuses;
-      kind = part-memory HasConstructed (HasInside sequence HasConstructed) AnyFault (GivesOuterFault sequence true) c s e (λ p. (c, q, a.spells, p)) h.1 k.kind;
-    }
+    record { unchanged = refl; refuses = k.refuses; kind = Behind c q a h.1 }
+
+-- ---- where allocation may fail, and the error of the SEQUENCE where that isn't there
+
+constructed-memory : (s : List ℕ) → IsWalkedFault s OutOfMemory → HasConstructed s
+constructed-memory s k = k
+
+pub signed-outer : (s : List ℕ) (e : DecodeError) → IsSignedFault s e → OrMemoryWhere (HasInside sequence HasConstructed) (GivesOuterFault sequence true) s e
+signed-outer =
+    three-outer (SpellsAlgorithm sha256_with_rsa_encryption) IsWalkedFault (IsAlgorithmFault sha256_with_rsa_encryption) (IsLeafFault bit_string false IsBits) HasConstructed
+    constructed-memory (λ s k. (algorithm-outer sha256_with_rsa_encryption s OutOfMemory k).other refl) (λ s v m q a k. absurd (leaf-no-memory bit_string false IsBits q OutOfMemory k refl))

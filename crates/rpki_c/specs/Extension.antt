@@ -1,20 +1,15 @@
 -- What a status says of the octets of an extension.
-use Rattle.std.specs.Prelude.{◌≡◌, ◌⊎◌, ◌+◌, ◌++◌, ℕ, true, List, drop, length}
+use Rattle.std.specs.Prelude.{◌≡◌, ◌⊎◌, ◌+◌, ◌++◌, ℕ, List, drop, length}
 use Rattle.rpki_der.specs.declared.error.DecodeError.{DecodeError}
-use Rattle.rpki_der.specs.TagName.{sequence}
-use Rattle.rpki_der.specs.Reading.{Finds, OrMemoryWhere, IsWholeFault}
-use Rattle.rpki_der.specs.Values.{GivesOuterFault}
 use Rattle.rpki.specs.ExtensionValue.{ExtensionParts, SpellsExtension}
+use Rattle.rpki.specs.ExtensionFault.{IsCertExtensionFault}
 use Rattle.rpki_c.specs.declared.extensions.ExtensionParts.{ExtensionParts as Parts}
 use Rattle.rpki_c.specs.Place.{IsPlace}
-use Rattle.rpki_c.specs.Whole.{IsRefused}
+use Rattle.rpki_c.specs.Whole.{NeverMemory, IsRefused}
 
--- the error of a reader of one extension, and of a reader of nothing else
-abbrev pub IsExtensionFault : List ℕ → DecodeError → Type 0
-IsExtensionFault = OrMemoryWhere (Finds SpellsExtension) (GivesOuterFault sequence true)
-
+-- the error of a reader of one extension and nothing else, which allocates nothing
 abbrev pub IsWholeExtensionFault : List ℕ → DecodeError → Type 0
-IsWholeExtensionFault = IsWholeFault SpellsExtension IsExtensionFault
+IsWholeExtensionFault = NeverMemory SpellsExtension IsCertExtensionFault
 
 -- the octets are an extension: the contents of its identifier and the octets of its OCTET STRING stand at these places,
 -- the one right before the two other parts, the other last

@@ -1,23 +1,17 @@
 -- What a status says of the octets of a public key.
-use Rattle.std.specs.Prelude.{◌≡◌, ◌⊎◌, ◌+◌, ℕ, true, List, length}
+use Rattle.std.specs.Prelude.{◌≡◌, ◌⊎◌, ◌+◌, ℕ, List, length}
 use Rattle.sha1.specs.Sha1.{sha1}
-use Rattle.rpki_der.specs.TagName.{sequence}
 use Rattle.rpki_der.specs.declared.error.DecodeError.{DecodeError}
-use Rattle.rpki_der.specs.Reading.{Finds, OrMemoryWhere, IsWholeFault}
-use Rattle.rpki_der.specs.Inside.{HasInside}
-use Rattle.rpki_der.specs.Values.{GivesOuterFault}
-use Rattle.rpki.specs.PublicKey.{KeyParts, IsKeyContents, SpellsKey}
+use Rattle.rpki_der.specs.Reading.{IsWholeFault}
+use Rattle.rpki.specs.PublicKey.{KeyParts, SpellsKey}
+use Rattle.rpki.specs.KeyFault.{IsKeyFault}
 use Rattle.rpki.specs.declared.crypto.keys.PublicKeyFormat.{PublicKeyFormat}
 use Rattle.rpki.specs.declared.crypto.keys.PublicKeyFormat.TheVariants.{Rsa, EcdsaP256}
 use Rattle.rpki_c.specs.declared.keys.KeyParts.{KeyParts as Parts}
 use Rattle.rpki_c.specs.Place.{IsPlace}
 use Rattle.rpki_c.specs.Whole.{IsRefused}
 
--- the error of a reader of one public key
-abbrev pub IsKeyFault : List ℕ → DecodeError → Type 0
-IsKeyFault = OrMemoryWhere (HasInside sequence (Finds IsKeyContents)) (GivesOuterFault sequence true)
-
--- the same of a reader of nothing else
+-- the error of a reader of one public key and of nothing else
 abbrev pub IsWholeKeyFault : List ℕ → DecodeError → Type 0
 IsWholeKeyFault = IsWholeFault SpellsKey IsKeyFault
 

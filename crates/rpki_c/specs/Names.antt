@@ -1,20 +1,14 @@
 -- What a status says of the octets of a name.
-use Rattle.std.specs.Prelude.{◌≡◌, ◌⊎◌, ◌<◌, ℕ, zero, suc, Bool, true, List, IsTrue}
-use Rattle.rpki_der.specs.TagName.{sequence}
+use Rattle.std.specs.Prelude.{◌≡◌, ◌⊎◌, ◌<◌, ℕ, zero, suc, Bool, List, IsTrue}
 use Rattle.rpki_der.specs.declared.error.DecodeError.{DecodeError}
-use Rattle.rpki_der.specs.Reading.{OrMemoryWhere, IsWholeFault}
-use Rattle.rpki_der.specs.Values.{GivesOuterFault}
+use Rattle.rpki_der.specs.Reading.{IsWholeFault}
 use Rattle.rpki.specs.Name.{IsName, SpellsNameOctets}
-use Rattle.rpki.specs.NameValue.{HasNameValue}
+use Rattle.rpki.specs.NameFault.{IsNameFault}
 use Rattle.rpki.specs.StrictName.{IsRpkiName, IsRouterName}
 use Rattle.rpki_c.specs.Status.{not_of_profile, no_profile}
 use Rattle.rpki_c.specs.Whole.{IsRefused}
 
--- the error of a reader of one name
-abbrev pub IsNameFault : List ℕ → DecodeError → Type 0
-IsNameFault = OrMemoryWhere HasNameValue (GivesOuterFault sequence true)
-
--- the same of a reader of nothing else
+-- the error of a reader of one name, and of nothing else
 abbrev pub IsWholeNameFault : List ℕ → DecodeError → Type 0
 IsWholeNameFault = IsWholeFault SpellsNameOctets IsNameFault
 

@@ -1,14 +1,18 @@
 -- What a status says of the octets of signed data.
-use Rattle.std.specs.Prelude.{◌≡◌, ◌⊎◌, ◌+◌, ℕ, Bool, true, List, drop, length}
+use Rattle.std.specs.Prelude.{◌≡◌, ◌⊎◌, ◌+◌, ℕ, Bool, false, List, drop, length}
 use Rattle.rpki_der.specs.declared.error.DecodeError.{DecodeError}
-use Rattle.rpki_der.specs.TagName.{sequence}
+use Rattle.rpki_der.specs.TagName.{bit_string}
 use Rattle.rpki_der.specs.Reading.{OrMemoryWhere, IsWholeFault}
-use Rattle.rpki_der.specs.Values.{GivesOuterFault}
-use Rattle.rpki_der.specs.Inside.{HasInside}
+use Rattle.rpki_der.specs.Values.{IsLeafFault}
+use Rattle.rpki_der.specs.Leaves.{IsBits}
 use Rattle.rpki_der.specs.Walk.{HasConstructed}
+use Rattle.rpki_der.specs.NestedFault.{IsCaptureFault}
+use Rattle.rpki_der.specs.FirstFault.{FirstFault, IsEndFault}
 use Rattle.rpki.specs.Oids.{sha256_with_rsa_encryption}
 use Rattle.rpki.specs.Algorithm.{SpellsAlgorithm}
-use Rattle.rpki.specs.SignedData.{SignedParts, SpellsSigned}
+use Rattle.rpki.specs.AlgorithmFault.{IsAlgorithmFault}
+use Rattle.rpki.specs.SignedData.{SignedParts, IsSignedContents, SpellsSigned}
+use Rattle.rpki.specs.SignedFault.{IsThreeFault, IsThreeInsideFault}
 use Rattle.rpki_c.specs.declared.signed.SignedParts.{SignedParts as Parts}
 use Rattle.rpki_c.specs.Place.{IsPlace}
 use Rattle.rpki_c.specs.Whole.{IsRefused}
@@ -17,9 +21,23 @@ use Rattle.rpki_c.specs.Whole.{IsRefused}
 abbrev pub SpellsRpki : SignedParts Bool → List ℕ → Type 0
 SpellsRpki = SpellsSigned (SpellsAlgorithm sha256_with_rsa_encryption)
 
+-- the error of a value that is walked: allocation may fail where a constructed value begins
+abbrev pub IsWalkedFault : List ℕ → DecodeError → Type 0
+IsWalkedFault = OrMemoryWhere HasConstructed IsCaptureFault
+
+-- the error of the three parts, and of a reader of nothing else
+abbrev pub IsPartsFault : List ℕ → DecodeError → Type 0
+IsPartsFault = IsThreeFault (SpellsAlgorithm sha256_with_rsa_encryption) IsWalkedFault
+    (IsAlgorithmFault sha256_with_rsa_encryption) (IsLeafFault bit_string false IsBits)
+
+abbrev pub IsAllPartsFault : List ℕ → DecodeError → Type 0
+IsAllPartsFault =
+    FirstFault (IsSignedContents (SpellsAlgorithm sha256_with_rsa_encryption)) IsPartsFault (λ parts. IsEndFault)
+
 -- the error of a reader of signed data, and of a reader of nothing else
 abbrev pub IsSignedFault : List ℕ → DecodeError → Type 0
-IsSignedFault = OrMemoryWhere (HasInside sequence HasConstructed) (GivesOuterFault sequence true)
+IsSignedFault = IsThreeInsideFault (SpellsAlgorithm sha256_with_rsa_encryption) IsWalkedFault
+    (IsAlgorithmFault sha256_with_rsa_encryption) (IsLeafFault bit_string false IsBits)
 
 abbrev pub IsWholeSignedFault : List ℕ → DecodeError → Type 0
 IsWholeSignedFault = IsWholeFault SpellsRpki IsSignedFault

@@ -1,14 +1,12 @@
 -- What a status says of the octets of a time.
-use Rattle.std.specs.Prelude.{◌≡◌, ◌⊎◌, ℕ, true, List}
-use Rattle.rpki_der.specs.TagName.{sequence}
-use Rattle.rpki_der.specs.Values.{IsOuterFault}
+use Rattle.std.specs.Prelude.{◌≡◌, ◌⊎◌, ℕ, List}
 use Rattle.rpki_der.specs.declared.error.DecodeError.{DecodeError}
 use Rattle.jiff.specs.Types.{DateTime}
 use Rattle.jiff.specs.Words.{civil_nanos}
 use Rattle.rpki_time.specs.Time.{HasParts, seconds}
 use Rattle.rpki_time.specs.TimeValue.{SpellsTime, IsTimeFault}
 use Rattle.rpki_time.specs.Validity.{Period}
-use Rattle.rpki_time.specs.PeriodValue.{SpellsPeriod}
+use Rattle.rpki_time.specs.PeriodValue.{SpellsPeriod, IsPeriodFault}
 use Rattle.rpki_c.specs.declared.times.Period.{Period as Moments}
 use Rattle.rpki_c.specs.declared.times.Moment.{Moment}
 use Rattle.rpki_c.specs.Whole.{IsRefused, NeverMemory}
@@ -18,7 +16,7 @@ abbrev pub IsWholeTimeFault : List ℕ → DecodeError → Type 0
 IsWholeTimeFault = NeverMemory SpellsTime IsTimeFault
 
 abbrev pub IsWholePeriodFault : List ℕ → DecodeError → Type 0
-IsWholePeriodFault = NeverMemory SpellsPeriod (IsOuterFault sequence true)
+IsWholePeriodFault = NeverMemory SpellsPeriod IsPeriodFault
 
 -- the time: this many seconds since 1970-01-01 00:00:00, exactly, and these parts of the calendar
 pub record IsMoment (t : DateTime) (m : Moment) : Type 0 where

@@ -6,9 +6,8 @@ ghost use Rattle.rpki.specs.ExtensionValue.{SpellsExtension};
 ghost use Rattle.rpki_c.specs.Extension.{IsWholeExtensionFault, HasExtension, IsExtensionRead};
 
 use crate::place::{Place, contents_of};
-use rpki::repository::x509::CertExtension;
+use rpki::repository::x509::ExtensionView;
 use rpki_der::{Constructed, DecodeError};
-use std::alloc::Global;
 
 /// The parts of an extension.
 #[repr(C)]
@@ -23,17 +22,17 @@ pub struct ExtensionParts {
 }
 
 /// An extension, and nothing else.
-fn read_extension(alloc: Global, octets: &[u8]) -> Result<CertExtension, DecodeError>
+fn read_extension(octets: &[u8]) -> Result<ExtensionView<'_>, DecodeError>
     ensures { Decodes (λ x. x) SpellsExtension IsWholeExtensionFault octets.now result }
 {
-    let mut cons = Constructed::from_slice(alloc, octets);
-    let found = CertExtension::take_from(alloc, &mut cons)?;
+    let mut cons = Constructed::from_slice(octets);
+    let found = ExtensionView::take_from(&mut cons)?;
     cons.finish()?;
     Ok(found)
 }
 
 /// Where the parts of the extension stand that the octets are.
-fn places_of(octets: &[u8], found: &CertExtension) -> ExtensionParts
+fn places_of(octets: &[u8], found: &ExtensionView<'_>) -> ExtensionParts
     requires { SpellsExtension found.now octets.now }
     ensures { HasExtension octets.now result }
 {
@@ -55,13 +54,12 @@ fn places_of(octets: &[u8], found: &CertExtension) -> ExtensionParts
 
 /// Reads an extension of a certificate (RFC 5280 4.1, 4.2), and says what its parts are and where they stand.
 ///
-/// The status is 0, or the number of the error; then `out` is unchanged. Allocation can fail only if an extension is
-/// there.
+/// The status is 0, or the number of the error; then `out` is unchanged. Nothing is allocated.
 #[unsafe(no_mangle)]
-pub extern "C" fn rpki_extension(alloc: Global, octets: &[u8], out: &mut ExtensionParts) -> u8
+pub extern "C" fn rpki_extension(octets: &[u8], out: &mut ExtensionParts) -> u8
     ensures { IsExtensionRead octets.now result out.old out.new }
 {
-    match read_extension(alloc, octets) {
+    match read_extension(octets) {
         Ok(found) => {
             *out = places_of(octets, &found);
             0

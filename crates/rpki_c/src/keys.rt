@@ -37,8 +37,8 @@ fn format_number(format: PublicKeyFormat) -> u8
 fn read_key(alloc: Global, octets: &[u8]) -> Result<PublicKey, DecodeError>
     ensures { Decodes (λ k. k) SpellsKey IsWholeKeyFault octets.now result }
 {
-    let mut cons = Constructed::from_slice(alloc, octets);
-    let key = PublicKey::take_from(&mut cons)?;
+    let mut cons = Constructed::from_slice(octets);
+    let key = PublicKey::take_from(alloc, &mut cons)?;
     cons.finish()?;
     Ok(key)
 }

@@ -20,4 +20,5 @@ mod serials;
 mod signed;
 mod status;
 mod times;
+mod version;
 mod walks;

@@ -17,7 +17,7 @@ fn read_name(alloc: Global, octets: &[u8]) -> Result<Name, DecodeError>
     ensures refused { IfErr result (λ e. UnlessMemory e (SpellsNothing SpellsNameOctets octets.now)
         × IsWholeNameFault octets.now e) }
 {
-    let mut cons = Constructed::from_slice(alloc, octets);
+    let mut cons = Constructed::from_slice(octets);
     let name = Name::take_from(alloc, &mut cons)?;
     cons.finish()?;
     Ok(name)

@@ -7,31 +7,22 @@ ghost use Rattle.rpki_c.specs.Serial.{IsWholeSerialFault, IsSerialRead};
 
 use rpki_der::{Constructed, DecodeError};
 use rpki_time::Serial;
-use std::alloc::Global;
 
 /// A serial number, and nothing else. Allocates nothing.
-fn read_serial(alloc: Global, octets: &[u8]) -> Result<Serial, DecodeError>
+fn read_serial(octets: &[u8]) -> Result<Serial, DecodeError>
     ensures { Decodes (λ n. n) SpellsSerial IsWholeSerialFault octets.now result }
 {
-    let mut cons = Constructed::from_slice(alloc, octets);
-    let serial = match Serial::take_from(&mut cons) {
-        Ok(serial) => serial,
-        Err(e) => return Err(e),
-    };
-    match cons.finish() {
-        Ok(()) => Ok(serial),
-        Err(e) => Err(e),
-    }
+    Constructed::from_slice(octets).whole(|cons| Serial::take_from(cons))
 }
 
 /// Reads a serial number (RFC 5280 4.1.2.2), and writes its twenty octets, zeros in front.
 ///
 /// The status is 0, or the number of the error; then `out` is unchanged. Nothing is allocated.
 #[unsafe(no_mangle)]
-pub extern "C" fn rpki_serial(alloc: Global, octets: &[u8], out: &mut [u8; 20]) -> u8
+pub extern "C" fn rpki_serial(octets: &[u8], out: &mut [u8; 20]) -> u8
     ensures { IsSerialRead octets.now result out.old out.new }
 {
-    match read_serial(alloc, octets) {
+    match read_serial(octets) {
         Ok(serial) => {
             *out = serial.into_array();
             0

@@ -1,23 +1,19 @@
 //! Signed data.
 
-ghost use Rattle.std.specs.Prelude.{◌≡◌, ◌≢◌, false};
-ghost use Rattle.rpki_der.specs.declared.error.DecodeError.{DecodeError};
+ghost use Rattle.std.specs.Prelude.{◌≡◌, false};
 ghost use Rattle.rpki_der.specs.Cursor.{left};
 ghost use Rattle.rpki_der.specs.TagName.{bit_string};
-ghost use Rattle.rpki_der.specs.Reading.{Reads, Decodes, AnyFault, OrMemoryWhere};
-ghost use Rattle.rpki_der.specs.Values.{SpellsContents};
-ghost use Rattle.rpki_der.specs.Walk.{HasConstructed};
+ghost use Rattle.rpki_der.specs.Reading.{Reads, Decodes};
+ghost use Rattle.rpki_der.specs.Values.{IsLeafFault};
+ghost use Rattle.rpki_der.specs.Leaves.{IsBits};
 ghost use Rattle.rpki.specs.Oids.{sha256_with_rsa_encryption};
 ghost use Rattle.rpki.specs.Algorithm.{SpellsAlgorithm};
 ghost use Rattle.rpki.specs.SignedData.{parts_of, SpellsSignature, IsSignedContents};
-ghost use Rattle.rpki_c.specs.Signed.{SpellsRpki, IsWholeSignedFault, HasSigned, IsSignedRead};
+ghost use Rattle.rpki_c.specs.Signed.{SpellsRpki, IsAllPartsFault, IsWholeSignedFault, HasSigned, IsSignedRead};
 
 use crate::place::{Place, contents_of};
 use rpki::crypto::{RpkiSignatureAlgorithm, SignatureAlgorithm};
-use rpki_der::{
-    BitString, Constructed, Content, ContentError, DecodeError, Steps, Tag, read_header,
-    walk_octets,
-};
+use rpki_der::{BitString, Constructed, ContentError, DecodeError, Steps, Tag, walk_octets};
 use std::alloc::Global;
 
 /// The parts of signed data.
@@ -36,39 +32,15 @@ pub struct SignedParts {
     pub has_parameters: bool,
 }
 
-/// The contents of a primitive BIT STRING, which are not validated; moves past it.
-///
-/// The errors are those of a header; then `Unexpected` for another tag or form; then `Truncated`.
-fn take_bit_contents<'a>(cons: &mut Constructed<'a>) -> Result<&'a [u8], DecodeError>
-    ensures { Reads (λ c. c.now) (SpellsContents bit_string false) (λ _ e. e ≢ DecodeError.OutOfMemory)
-        (left cons.old) (left cons.new) result }
-{
-    // A constructed form is reported before a truncated value, as by every other reader of a leaf.
-    if let Ok((header, _)) = read_header(cons.rest()) {
-        if header.constructed {
-            return Err(DecodeError::Unexpected);
-        }
-    }
-    let mut after = *cons;
-    match after.take_value_if(Tag::BIT_STRING) {
-        Ok(Content::Primitive(contents)) => {
-            *cons = after;
-            Ok(contents)
-        }
-        Ok(Content::Constructed(_)) => Err(DecodeError::Unexpected),
-        Err(e) => Err(e),
-    }
-}
-
 /// The octets of a signature, with any count of unused bits; moves past it.
 ///
 /// The errors are those of a BIT STRING.
 fn take_signature<'a>(cons: &mut Constructed<'a>) -> Result<&'a [u8], DecodeError>
-    ensures { Reads (λ v. v.now) SpellsSignature (λ _ e. e ≢ DecodeError.OutOfMemory)
+    ensures { Reads (λ v. v.now) SpellsSignature (IsLeafFault bit_string false IsBits)
         (left cons.old) (left cons.new) result }
 {
     let mut after = *cons;
-    let contents = take_bit_contents(&mut after)?;
+    let contents = after.take_primitive_if(Tag::BIT_STRING)?;
     let [unused, octets @ ..] = contents else {
         return Err(DecodeError::Content(ContentError::from_static("malformed BIT STRING")));
     };
@@ -89,12 +61,11 @@ fn read_parts<'a>(
     contents: &'a [u8],
 ) -> Result<(&'a [u8], bool, &'a [u8]), DecodeError>
     ensures { Decodes (λ x. parts_of x.0.now x.1 x.2.now)
-        (IsSignedContents (SpellsAlgorithm sha256_with_rsa_encryption)) (OrMemoryWhere HasConstructed AnyFault)
-        contents.now result }
+        (IsSignedContents (SpellsAlgorithm sha256_with_rsa_encryption)) IsAllPartsFault contents.now result }
 {
     let size = walk_octets(alloc, contents, &mut Steps::new())?;
     let (data, following) = contents.split_at(size);
-    let mut rest = Constructed::from_slice(alloc, following);
+    let mut rest = Constructed::from_slice(following);
     let algorithm = match RpkiSignatureAlgorithm::x509_take_from(&mut rest) {
         Ok(algorithm) => algorithm,
         Err(e) => return Err(e),
@@ -111,7 +82,7 @@ fn read_signed<'a>(
 ) -> Result<(&'a [u8], bool, &'a [u8]), DecodeError>
     ensures { Decodes (λ x. parts_of x.0.now x.1 x.2.now) SpellsRpki IsWholeSignedFault octets.now result }
 {
-    let mut cons = Constructed::from_slice(alloc, octets);
+    let mut cons = Constructed::from_slice(octets);
     let contents = cons.take_sequence()?;
     let found = read_parts(alloc, contents.rest())?;
     cons.finish()?;
@@ -150,7 +121,7 @@ fn places_of(octets: &[u8], signed: &[u8], has_parameters: bool, signature: &[u8
 /// Reads signed data of the RPKI (RFC 5280 4.1, RFC 7935 2), and says where its parts stand.
 ///
 /// The status is 0, or the number of the error; then `out` is unchanged. Allocation can fail only if a constructed
-/// value begins the contents of the SEQUENCE, or if octets follow signed data.
+/// value begins the contents of the SEQUENCE.
 #[unsafe(no_mangle)]
 pub extern "C" fn rpki_signed_data(alloc: Global, octets: &[u8], out: &mut SignedParts) -> u8
     ensures { IsSignedRead octets.now result out.old out.new }

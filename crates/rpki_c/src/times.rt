@@ -10,7 +10,6 @@ ghost use Rattle.rpki_c.specs.Time.{HasMoment, HasMoments, IsWholeTimeFault, IsW
 
 use rpki_der::{Constructed, DecodeError};
 use rpki_time::{Time, Validity};
-use std::alloc::Global;
 
 /// A moment in UTC.
 #[repr(C)]
@@ -33,18 +32,10 @@ pub struct Moment {
 }
 
 /// A time, and nothing else. Allocates nothing.
-fn whole_time(alloc: Global, octets: &[u8]) -> Result<Time, DecodeError>
+fn whole_time(octets: &[u8]) -> Result<Time, DecodeError>
     ensures { Decodes (λ t. t) SpellsTime IsWholeTimeFault octets.now result }
 {
-    let mut cons = Constructed::from_slice(alloc, octets);
-    let time = match Time::take_from(&mut cons) {
-        Ok(time) => time,
-        Err(e) => return Err(e),
-    };
-    match cons.finish() {
-        Ok(()) => Ok(time),
-        Err(e) => Err(e),
-    }
+    Constructed::from_slice(octets).whole(|cons| Time::take_from(cons))
 }
 
 /// The moment of a time, without parts of a second.
@@ -66,12 +57,12 @@ fn moment_of(time: Time) -> Moment
 }
 
 /// The moment of the time that the octets are.
-fn read_time(alloc: Global, octets: &[u8]) -> Result<Moment, DecodeError>
+fn read_time(octets: &[u8]) -> Result<Moment, DecodeError>
     ensures ok { IfOk result (λ m. HasMoment octets.now m) }
     ensures err { IfErr result (λ e. UnlessMemory e (SpellsNothing SpellsTime octets.now)
         × IsWholeTimeFault octets.now e) }
 {
-    match whole_time(alloc, octets) {
+    match whole_time(octets) {
         Ok(time) => Ok(moment_of(time)),
         Err(e) => Err(e),
     }
@@ -81,10 +72,10 @@ fn read_time(alloc: Global, octets: &[u8]) -> Result<Moment, DecodeError>
 ///
 /// The status is 0, or the number of the error; then `out` is unchanged. Nothing is allocated.
 #[unsafe(no_mangle)]
-pub extern "C" fn rpki_time(alloc: Global, octets: &[u8], out: &mut Moment) -> u8
+pub extern "C" fn rpki_time(octets: &[u8], out: &mut Moment) -> u8
     ensures { IsTimeRead octets.now result out.old out.new }
 {
-    match read_time(alloc, octets) {
+    match read_time(octets) {
         Ok(found) => {
             *out = found;
             0
@@ -104,27 +95,19 @@ pub struct Period {
 }
 
 /// A period of validity, and nothing else. Allocates nothing.
-fn whole_validity(alloc: Global, octets: &[u8]) -> Result<Validity, DecodeError>
+fn whole_validity(octets: &[u8]) -> Result<Validity, DecodeError>
     ensures { Decodes (λ p. p) SpellsPeriod IsWholePeriodFault octets.now result }
 {
-    let mut cons = Constructed::from_slice(alloc, octets);
-    let period = match Validity::take_from(&mut cons) {
-        Ok(period) => period,
-        Err(e) => return Err(e),
-    };
-    match cons.finish() {
-        Ok(()) => Ok(period),
-        Err(e) => Err(e),
-    }
+    Constructed::from_slice(octets).whole(|cons| Validity::take_from(cons))
 }
 
 /// The moments of the period that the octets are.
-fn read_validity(alloc: Global, octets: &[u8]) -> Result<Period, DecodeError>
+fn read_validity(octets: &[u8]) -> Result<Period, DecodeError>
     ensures ok { IfOk result (λ m. HasMoments octets.now m) }
     ensures err { IfErr result (λ e. UnlessMemory e (SpellsNothing SpellsPeriod octets.now)
         × IsWholePeriodFault octets.now e) }
 {
-    match whole_validity(alloc, octets) {
+    match whole_validity(octets) {
         Ok(period) => Ok(Period {
             not_before: moment_of(period.not_before()),
             not_after: moment_of(period.not_after()),
@@ -137,10 +120,10 @@ fn read_validity(alloc: Global, octets: &[u8]) -> Result<Period, DecodeError>
 ///
 /// The status is 0, or the number of the error; then `out` is unchanged. Nothing is allocated.
 #[unsafe(no_mangle)]
-pub extern "C" fn rpki_validity(alloc: Global, octets: &[u8], out: &mut Period) -> u8
+pub extern "C" fn rpki_validity(octets: &[u8], out: &mut Period) -> u8
     ensures { IsValidityRead octets.now result out.old out.new }
 {
-    match read_validity(alloc, octets) {
+    match read_validity(octets) {
         Ok(found) => {
             *out = found;
             0

@@ -1,11 +1,12 @@
 //! Calls on a cursor.
 
 use crate::made::{Made, Outcome};
+use crate::readers;
 use crate::refusal::{Failure, Refusal};
 use crate::report::Report;
 use bytes::Bytes;
-use rpki::der::{Constructed, DecodeError, Steps};
-use rpki::repository::x509::Name;
+use rpki::der::{Constructed, DecodeError, Steps, index_octets, walk_octets};
+use rpki::repository::x509::{CertExtension, Name, SignedData};
 use std::alloc::Global;
 use std::io;
 
@@ -27,15 +28,52 @@ fn walk(alloc: Global, cursor: &mut Constructed<'_>, steps: &mut Steps) -> Outco
     walked(cursor.walk(alloc, steps))
 }
 
-/// Makes one call that allocates. `walk` counts.
+/// The same of the octets that are left, without a cursor.
+fn walk_left(alloc: Global, octets: &[u8], steps: &mut Steps) -> Outcome {
+    if steps.count().checked_add(octets.len() as u64).is_none() {
+        return Err(Refusal::NoCall);
+    }
+    Ok(Made::Size(walk_octets(alloc, octets, steps)?))
+}
+
+/// The extension that a call reads, if it finds one.
+fn extension(answer: Result<Option<CertExtension>, DecodeError>) -> Outcome {
+    match answer {
+        Ok(Some(extension)) => Ok(Made::Extension(extension)),
+        Ok(None) => Ok(Made::Nothing),
+        Err(e) => Err(Refusal::from(e)),
+    }
+}
+
+/// The index of the value that begins the octets.
+fn index(alloc: Global, octets: &[u8]) -> Outcome {
+    let (size, entries) = index_octets(alloc, octets)?;
+    Ok(Made::Index(size, entries))
+}
+
+/// Makes one call that reads a value of a certificate.
+fn take_value(alloc: Global, call: &str, cursor: &mut Constructed<'_>) -> Outcome {
+    match call {
+        "take_bit_string" => Ok(Made::Bits(readers::bits(alloc, cursor)?)),
+        "take_key" => Ok(Made::Key(readers::key(alloc, cursor)?)),
+        "take_name" => Ok(Made::Name(Name::take_from(alloc, cursor)?)),
+        "take_signed" => Ok(Made::Signed(SignedData::take_from(alloc, cursor)?)),
+        "take_parts" => Ok(Made::Signed(SignedData::from_constructed(alloc, cursor)?)),
+        "take_extension" => Ok(Made::Extension(CertExtension::take_from(alloc, cursor)?)),
+        "take_opt_extension" => extension(CertExtension::take_opt_from(alloc, cursor)),
+        _ => Err(Refusal::NoCall),
+    }
+}
+
+/// Makes one call that allocates. `walk` and `walk_octets` count.
 fn take(alloc: Global, call: &str, cursor: &mut Constructed<'_>, steps: &mut Steps) -> Outcome {
     match call {
         "capture_one" => Ok(Made::Captured(cursor.capture_one(alloc)?)),
-        "take_bit_string" => Ok(Made::Bits(cursor.take_bit_string()?)),
         "skip_one" => walked(cursor.skip_one(alloc)),
         "walk" => walk(alloc, cursor, steps),
-        "take_name" => Ok(Made::Name(Name::take_from(alloc, cursor)?)),
-        _ => Err(Refusal::NoCall),
+        "index_octets" => index(alloc, cursor.rest()),
+        "walk_octets" => walk_left(alloc, cursor.rest(), steps),
+        _ => take_value(alloc, call, cursor),
     }
 }
 
@@ -51,10 +89,19 @@ fn tell_header(report: Report, cursor: &mut Constructed<'_>, steps: &mut Steps) 
 }
 
 /// Makes one call on a cursor on all of these octets, and reports what it makes, how many headers were counted, what is
-/// left, whether that is the end, and the octets that the cursor stands on.
-pub fn tell(alloc: Global, report: Report, call: &str, octets: Vec<u8>) -> Result<(), Failure> {
+/// left, whether that is the end, and the octets that the cursor stands on. The cursor shares these octets, or borrows
+/// them.
+pub fn tell(
+    alloc: Global,
+    report: Report,
+    (group, call): (&str, &str),
+    octets: Vec<u8>,
+) -> Result<(), Failure> {
     let source = Bytes::from_vec(octets)?;
-    let mut cursor = Constructed::new(&source);
+    let mut cursor = match group {
+        "slice" => readers::on_slice(source.as_slice()),
+        _ => Constructed::new(&source),
+    };
     let mut steps = Steps::new();
     if call == "take_header" {
         tell_header(report, &mut cursor, &mut steps)?;

@@ -3,10 +3,10 @@
 use crate::provider::Digests;
 use crate::refusal::{Failure, Refusal};
 use crate::report::Report;
-use crate::writers;
+use crate::{readers, writers};
 use bytes::Bytes;
 use rpki::crypto::{
-    BgpsecSignatureAlgorithm, DigestAlgorithm, KeyIdentifier, PublicKey, PublicKeyFormat,
+    BgpsecSignatureAlgorithm, DigestAlgorithm, KeyIdentifier, PublicKeyFormat,
     RpkiSignatureAlgorithm, SignatureAlgorithm,
 };
 use rpki::der::{
@@ -76,7 +76,7 @@ fn tell_algorithm(alloc: Global, report: Report, encoder: &str) -> Result<(), Fa
 
 /// Writes what a public key has.
 fn tell_key(alloc: Global, report: Report, encoder: &str, octets: Vec<u8>) -> Result<(), Failure> {
-    let key = PublicKey::decode(Bytes::from_vec(octets)?)?;
+    let key = readers::whole_key(alloc, Bytes::from_vec(octets)?)?;
     match encoder {
         "key" => writers::tell(alloc, report, &key.encode()),
         "lent_key" => writers::tell(alloc, report, &key.encode_ref()),
@@ -91,8 +91,14 @@ fn tell_read(alloc: Global, report: Report, encoder: &str, octets: Vec<u8>) -> R
     let source = Bytes::from_vec(octets)?;
     let mut cursor = Constructed::new(&source);
     match encoder {
-        "bits" => writers::tell(alloc, report, &cursor.take_bit_string()?.encode()),
-        "lent_bits" => writers::tell(alloc, report, &cursor.take_bit_string()?.encode_ref()),
+        "bits" => writers::tell(alloc, report, &readers::bits(alloc, &mut cursor)?.encode()),
+        "lent_bits" => {
+            writers::tell(
+                alloc,
+                report,
+                &readers::bits(alloc, &mut cursor)?.encode_ref(),
+            )
+        }
         "name" => {
             let name = Name::take_from(alloc, &mut cursor)?;
             writers::tell(alloc, report, &name.encode_ref())

@@ -3,8 +3,8 @@
 use crate::refusal::Refusal;
 use bytes::Bytes;
 use rpki::crypto::{PublicKey, RpkiSignature, RpkiSignatureAlgorithm};
-use rpki::der::{BitString, Captured};
-use rpki::repository::x509::{Name, SignedData};
+use rpki::der::{BitString, Captured, HeaderEntry};
+use rpki::repository::x509::{CertExtension, Name, SignedData};
 use rpki::uri::{Https, Rsync};
 
 /// Signed data of the RPKI.
@@ -23,9 +23,14 @@ pub enum Made {
     Rsync(Rsync),
     Https(Https),
     Captured(Captured),
+    /// How many octets a value takes.
+    Size(usize),
+    /// The same, and the index of the value.
+    Index(usize, Vec<HeaderEntry>),
     Bits(BitString),
     Key(PublicKey),
     Name(Name),
+    Extension(CertExtension),
     Signed(RpkiSignedData),
     Signature(RpkiSignature),
 }

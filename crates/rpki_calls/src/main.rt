@@ -3,7 +3,7 @@
 //! lines.
 //!
 //! The words are a group of calls (what the input is read as, or what is made of it), the call, and for `join` the path
-//! that is joined. `write` writes an encoder's values to writers that fail. `repeat` reads no input: it makes one call
+//! that is joined, or for `repeated` how often. `write` writes an encoder's values to writers that fail. `repeat` reads no input: it makes one call
 //! on an rsync URI of so many segments so many times, and reports the sum of the results, for `bench/uris.py`.
 #![tactic(auto)]
 
@@ -11,6 +11,7 @@ mod cursors;
 mod encoders;
 mod made;
 mod provider;
+mod readers;
 mod refusal;
 mod repeated;
 mod report;
@@ -41,13 +42,14 @@ fn tell_of(
     octets: Vec<u8>,
 ) -> Result<(), Failure> {
     match group {
-        "cursor" => cursors::tell(alloc, report, call, octets),
+        "cursor" | "slice" => cursors::tell(alloc, report, (group, call), octets),
         "whole" => values::tell_whole(alloc, report, call, octets),
-        "captured" => values::tell_captured(alloc, report, call, octets),
-        "bits" => values::tell_bits(report, call, octets),
+        "captured" => values::tell_captured(alloc, report, (call, path), octets),
+        "bits" => values::tell_bits(alloc, report, call, octets),
         "key" => values::tell_key(alloc, report, call, octets),
         "signed" => values::tell_signed(alloc, report, call, octets),
         "name" => values::tell_name(alloc, report, call, octets),
+        "extension" => values::tell_extension(alloc, report, call, octets),
         "rsync_of" => uris::tell_rsync_of(alloc, report, call, octets),
         "https_of" => uris::tell_https_of(alloc, report, call, octets),
         "rsync" => uris::tell_rsync(alloc, report, call, path, octets),

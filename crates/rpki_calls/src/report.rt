@@ -7,6 +7,9 @@ use rpki::util::hex::encode_u8;
 use std::io;
 use std::io::{ErrorKind, Stdout, Write};
 
+/// How many octets are written in one piece, as digits.
+const PIECE: usize = 2_048;
+
 /// Writes each octet as two hexadecimal digits.
 #[derive(Clone, Copy)]
 pub struct Digits {
@@ -15,10 +18,15 @@ pub struct Digits {
 
 impl Write for Digits {
     fn write(&mut self, octets: &[u8]) -> io::Result<usize> {
-        for octet in octets {
-            self.out.write_all(&encode_u8(*octet))?;
+        let count = octets.len().min(PIECE);
+        let mut digits = [0u8; 2 * PIECE];
+        for at in 0..count {
+            let [high, low] = encode_u8(octets[at]);
+            digits[2 * at] = high;
+            digits[2 * at + 1] = low;
         }
-        Ok(octets.len())
+        self.out.write_all(&digits[..2 * count])?;
+        Ok(count)
     }
 
     fn flush(&mut self) -> io::Result<()> {
@@ -117,9 +125,15 @@ impl Report {
             Made::Rsync(uri) => self.octets("made", uri.as_slice()),
             Made::Https(uri) => self.octets("made", uri.as_slice()),
             Made::Captured(values) => self.values("made", &values),
+            Made::Size(size) => self.number("size", *size as u64),
+            Made::Index(size, entries) => {
+                self.number("size", *size as u64)?;
+                self.number("entries", entries.len() as u64)
+            }
             Made::Bits(bits) => self.values("made", &bits.encode_ref()),
             Made::Key(key) => self.values("made", &key.encode_ref()),
             Made::Name(name) => self.values("made", &name.encode_ref()),
+            Made::Extension(extension) => self.values("made", &extension.encode_ref()),
             Made::Signed(signed) => self.values("made", &signed.encode_ref()),
             Made::Signature(signature) => self.octets("made", signature.value().as_slice()),
         }

@@ -21,6 +21,10 @@ fn rsync_of(alloc: Global, call: &str, octets: Vec<u8>) -> Outcome {
             Ok(text) => Ok(Made::Rsync(Rsync::from_string(text)?)),
             Err(_) => Err(Refusal::NoCall),
         },
+        "from_str" => match str::from_utf8(&octets) {
+            Ok(text) => Ok(Made::Rsync(Rsync::from_str(alloc, text)?)),
+            Err(_) => Err(Refusal::NoCall),
+        },
         _ => Err(Refusal::NoCall),
     }
 }
@@ -35,6 +39,10 @@ fn https_of(alloc: Global, call: &str, octets: Vec<u8>) -> Outcome {
         },
         "from_string" => match String::from_utf8(octets) {
             Ok(text) => Ok(Made::Https(Https::from_string(text)?)),
+            Err(_) => Err(Refusal::NoCall),
+        },
+        "from_str" => match str::from_utf8(&octets) {
+            Ok(text) => Ok(Made::Https(Https::from_str(alloc, text)?)),
             Err(_) => Err(Refusal::NoCall),
         },
         _ => Err(Refusal::NoCall),
@@ -72,6 +80,8 @@ fn of_https(alloc: Global, call: &str, uri: &mut Https, path: &str) -> Outcome {
             None => Made::Nothing,
         }),
         "join" => Ok(Made::Https(uri.join(alloc, path.as_bytes())?)),
+        // A path that no word of a program can be, since it is too long.
+        "join_own_path" => Ok(Made::Https(uri.join(alloc, uri.path().as_bytes())?)),
         "unshare" => {
             uri.unshare(alloc)?;
             Ok(Made::Done)

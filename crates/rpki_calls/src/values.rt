@@ -2,19 +2,62 @@
 
 use crate::made::{Made, Outcome, RpkiSignedData};
 use crate::provider::Digests;
+use crate::readers;
 use crate::refusal::{Failure, Refusal};
 use crate::report::Report;
 use bytes::Bytes;
 use rpki::crypto::PublicKey;
-use rpki::der::{BitString, Captured, Constructed, Sequence, Values};
-use rpki::repository::x509::{Name, SignedData};
+use rpki::der::{BitString, Captured, Constructed, Cursor, Sequence, Tag, Values};
+use rpki::repository::x509::{CertExtension, Name, SignedData};
 use std::alloc::Global;
 
-/// Makes one call on captured values.
-fn of_captured(alloc: Global, call: &str, captured: &Captured) -> Outcome {
+/// Captures two values, one after the other.
+fn both(alloc: Global, first: &Captured, second: &Captured) -> Result<Captured, Refusal> {
+    let values = (first, second);
+    if !values.fits() {
+        return Err(Refusal::NoCall);
+    }
+    Ok(Captured::from_values(alloc, &values)?)
+}
+
+/// Captures a value so many times, one after another: the double of half as many, and perhaps one more.
+fn repeated(alloc: Global, captured: &Captured, times: u32) -> Outcome {
+    let mut all = captured.clone()?;
+    let digits = 32u32.saturating_sub(times.leading_zeros());
+    for digit in (1..digits).rev() {
+        all = both(alloc, &all, &all)?;
+        if times.wrapping_shr(digit - 1) % 2 == 1 {
+            all = both(alloc, &all, captured)?;
+        }
+    }
+    Ok(Made::Captured(all))
+}
+
+/// Reads the members of a captured SEQUENCE once more, one after another, by the headers in its index.
+fn read_on(captured: &Captured) -> Outcome {
+    let mut all = captured.indexed_cursor();
+    let mut members = all.take_value_contents(Tag::SEQUENCE, true)?;
+    for entry in captured.headers() {
+        if entry.parent() == Some(0) {
+            match members.take_value_contents(entry.tag(), entry.constructed()) {
+                Ok(_) => {}
+                Err(e) => return Err(Refusal::from(e)),
+            }
+        }
+    }
+    Ok(Made::Done)
+}
+
+/// Makes one call on captured values. `repeated` captures them as often as the word says, once at least.
+fn of_captured(alloc: Global, (call, word): (&str, &str), captured: &Captured) -> Outcome {
     let around = Sequence::new(captured);
     match call {
         "clone" => Ok(Made::Captured(captured.clone()?)),
+        "read_on" => read_on(captured),
+        "repeated" => match word.parse::<u32>() {
+            Ok(times) => repeated(alloc, captured, times),
+            Err(_) => Err(Refusal::NoCall),
+        },
         "from_values" if around.fits() => {
             Ok(Made::Captured(Captured::from_values(alloc, &around)?))
         }
@@ -59,13 +102,20 @@ fn of_signed(call: &str, signed: &RpkiSignedData) -> Outcome {
 fn of_octets(alloc: Global, call: &str, octets: Bytes) -> Outcome {
     match call {
         "decode_signed" => Ok(Made::Signed(SignedData::decode(alloc, octets)?)),
-        "decode_key" => Ok(Made::Key(PublicKey::decode(octets)?)),
-        "rsa_from_components" if octets.len() < 65_536 => {
-            let modulus = octets.as_slice();
-            Ok(Made::Key(PublicKey::rsa_from_components(alloc, modulus, &[1, 0, 1])?))
-        }
+        "decode_key" => Ok(Made::Key(readers::whole_key(alloc, octets)?)),
+        "rsa_from_components" => rsa_of(alloc, octets.as_slice(), &[1, 0, 1]),
+        "rsa_of_exponent" => rsa_of(alloc, &[3], octets.as_slice()),
+        "rsa_from_bits_bytes" => Ok(Made::Key(PublicKey::rsa_from_bits_bytes(octets)?)),
         _ => Err(Refusal::NoCall),
     }
+}
+
+/// The RSA key of these numbers.
+fn rsa_of(alloc: Global, modulus: &[u8], exponent: &[u8]) -> Outcome {
+    if modulus.len() > 1 << 30 || exponent.len() > 1 << 30 {
+        return Err(Refusal::NoCall);
+    }
+    Ok(Made::Key(PublicKey::rsa_from_components(alloc, modulus, exponent)?))
 }
 
 /// Makes one call on octets, and reports what it makes.
@@ -84,7 +134,7 @@ pub fn tell_whole(
 pub fn tell_captured(
     alloc: Global,
     report: Report,
-    call: &str,
+    call: (&str, &str),
     octets: Vec<u8>,
 ) -> Result<(), Failure> {
     let source = Bytes::from_vec(octets)?;
@@ -95,9 +145,14 @@ pub fn tell_captured(
 }
 
 /// The same for the bit string that the octets are.
-pub fn tell_bits(report: Report, call: &str, octets: Vec<u8>) -> Result<(), Failure> {
+pub fn tell_bits(
+    alloc: Global,
+    report: Report,
+    call: &str,
+    octets: Vec<u8>,
+) -> Result<(), Failure> {
     let source = Bytes::from_vec(octets)?;
-    let bits = Constructed::new(&source).take_bit_string()?;
+    let bits = readers::bits(alloc, &mut Constructed::new(&source))?;
     report.outcome(of_bits(call, &bits))?;
     report.values("held", &bits.encode_ref())?;
     Ok(())
@@ -105,7 +160,7 @@ pub fn tell_bits(report: Report, call: &str, octets: Vec<u8>) -> Result<(), Fail
 
 /// The same for the public key that the octets are.
 pub fn tell_key(alloc: Global, report: Report, call: &str, octets: Vec<u8>) -> Result<(), Failure> {
-    let key = PublicKey::decode(Bytes::from_vec(octets)?)?;
+    let key = readers::whole_key(alloc, Bytes::from_vec(octets)?)?;
     report.outcome(of_key(alloc, call, &key))?;
     report.values("held", &key.encode_ref())?;
     Ok(())
@@ -139,5 +194,26 @@ pub fn tell_name(
     };
     report.outcome(outcome)?;
     report.values("held", &name.encode_ref())?;
+    Ok(())
+}
+
+/// The same for the extension that the octets are.
+pub fn tell_extension(
+    alloc: Global,
+    report: Report,
+    call: &str,
+    octets: Vec<u8>,
+) -> Result<(), Failure> {
+    let source = Bytes::from_vec(octets)?;
+    let extension = CertExtension::take_from(alloc, &mut Constructed::new(&source))?;
+    let outcome = match call {
+        "clone" => extension
+            .clone()
+            .map(Made::Extension)
+            .map_err(Refusal::from),
+        _ => Err(Refusal::NoCall),
+    };
+    report.outcome(outcome)?;
+    report.values("held", &extension.encode_ref())?;
     Ok(())
 }

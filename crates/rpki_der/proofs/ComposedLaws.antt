@@ -74,12 +74,12 @@ all-read {V} G s v r a end =
 pub more-left : {V : Type 0} (G : V → List ℕ → Type 0) (K : List ℕ → DecodeError → Type 0) (s : List ℕ) (v : V) (r : List ℕ)
     → Accepts G s v r → (r ≡ [] → ⊥) → SpellsNothing G s × IsWholeFault G K s Trailing
 more-left {V} G K s v r a some =
-    (nothing-after G s r v a some, record { trailing = λ w b more h. refl; kind = λ none. absurd (none v r a.spells) })
+    (nothing-after G s r v a some, record { trailing = λ w b more h. refl; kind = λ none. absurd (none v r a.spells); memory = λ z. cc })
 
 -- what it returns where the reader of the beginning failed
 pub not-read : {V : Type 0} (G : V → List ℕ → Type 0) (K : List ℕ → DecodeError → Type 0) (s r : List ℕ) (e : DecodeError)
     → Refusal G K s r e → UnlessMemory e (SpellsNothing G s) × IsWholeFault G K s e
 not-read {V} G K s r e h = (
   UnlessMemory-weaker e (nothing-whole G s) h.refuses,
-  record { trailing = λ v b more g. UnlessMemory-weaker e (λ none. absurd (none v (b ∷ more) g)) h.refuses; kind = λ k. h.kind },
+  record { trailing = λ v b more g. UnlessMemory-weaker e (λ none. absurd (none v (b ∷ more) g)) h.refuses; kind = λ k. h.kind; memory = λ z. subst (K s) z h.kind },
 )

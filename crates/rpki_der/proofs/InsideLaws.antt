@@ -8,11 +8,13 @@ use Rattle.rpki_der.specs.TagName.{TagName}
 use Rattle.rpki_der.specs.Reading.{Spells, Refusal, Reads, UnlessMemory, OrMemoryWhere, TakesNoMemory}
 use Rattle.rpki_der.specs.Values.{SpellsContents, SpellsLeaf, IsContentsFault, GivesOuterFault, IsOuterFault}
 use Rattle.rpki_der.specs.Inside.{HasInside}
-use Rattle.rpki_der.specs.Composed.{Inside, NotInside, ReadsInside, ReadsAll}
+use Rattle.rpki_der.specs.Composed.{Inside, NotInside, ReadsInside, ReadsAll, NotWhole, ReadsWhole}
+use Rattle.rpki_der.specs.Composed.NotWhole.{RefusedAll, Left}
+use Rattle.rpki_der.specs.Reading.{SpellsNothing, Decodes, IsWholeFault}
 use Rattle.rpki_der.specs.Composed.NotInside.{Outside, Refused, More}
 use Rattle.rpki_der.proofs.ReadingLaws.{UnlessMemory-weaker, UnlessMemory-from}
 use Rattle.rpki_der.proofs.LeavesLaws.{contents-no-memory}
-use Rattle.rpki_der.proofs.ComposedLaws.{outer-refused, inner-refused, inner-accepted, without-memory, nothing-whole, nothing-after, all-read}
+use Rattle.rpki_der.proofs.ComposedLaws.{outer-refused, inner-refused, inner-accepted, without-memory, nothing-whole, nothing-after, all-read, more-left, not-read}
 
 -- ---- where allocation fails
 
@@ -126,3 +128,20 @@ module _ {X : Type 0} (t : TagName) (f : Bool) (B : List ℕ → Type 0) (R : Re
   refused-inside s q c r (Err e) (same, Outside a p h k) l b = absurd (unless-memory a (contents-no-memory t f s a h.kind) h.refuses c r l)
   refused-inside s q c r (Err e) (same, Refused p d h) l b = within s p c r d (Err e) h l b
   refused-inside s q c r (Err e) (same, More x p d h some k) l b = absurd (refusal x (within s p c r d (Ok x) h l b))
+
+-- ---- all of the octets, over the reader of a beginning
+
+module _ {X V : Type 0} (view : X → V) (G : V → List ℕ → Type 0) (K : List ℕ → DecodeError → Type 0)
+    (reads : Constructed → Result X DecodeError → Constructed → Type 0)
+    (law : (b a : Constructed) (x : Result X DecodeError) → reads b x a → Reads view G K (left b) (left a) x) where
+  not-whole : (s : List ℕ) (e : DecodeError) → NotWhole Same reads s e → UnlessMemory e (SpellsNothing G s) × IsWholeFault G K s e
+  not-whole s e (RefusedAll d h) =
+      subst (λ q. UnlessMemory e (SpellsNothing G q) × IsWholeFault G K q e) h.all (not-read G K (left h.before) (left h.after) e (law h.before h.after (Err e) h.read))
+  not-whole s e (Left x d h some same) =
+      let m = more-left G K (left h.before) (view x) (left h.after) (law h.before h.after (Ok x) h.read) (λ z. some (sym h.rest ∙ z)) in
+      subst (λ q. UnlessMemory e (SpellsNothing G q) × IsWholeFault G K q e) h.all (subst (λ z. UnlessMemory z (SpellsNothing G (left h.before)) × IsWholeFault G K (left h.before) z) (sym same) m)
+
+  pub read-whole : (s : List ℕ) (x : Result X DecodeError) → ReadsWhole Same reads s x → Decodes view G (IsWholeFault G K) s x
+  read-whole s (Ok x) h =
+      subst (λ q. G (view x) q × ((w : V) → G w q → w ≡ view x)) h.all (all-read G (left h.before) (view x) (left h.after) (law h.before h.after (Ok x) h.read) h.rest)
+  read-whole s (Err e) h = not-whole s e h

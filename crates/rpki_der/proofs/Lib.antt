@@ -33,6 +33,7 @@ pub mod LeafWritingLaws
 pub mod FaultKindLaws
 pub mod MemberLaws
 pub mod FrontLaws
+pub mod FirstFaultLaws
 mod SomeFaultLaws
 mod ShortestLaws
 mod IndexReadingLaws

@@ -4,9 +4,10 @@ use Rattle.rpki_der.specs.declared.error.DecodeError.{DecodeError}
 use Rattle.rpki_der.specs.declared.error.DecodeError.TheVariants.{Truncated, BadTag, BadLength, Unexpected, Content, Trailing, OutOfMemory}
 use Rattle.rpki_der.specs.declared.tag.Header.{Header}
 use Rattle.rpki_der.specs.TagName.{TagName}
-use Rattle.rpki_der.specs.Reading.{Spells, Accepts, Refuses, IsCut}
+use Rattle.rpki_der.specs.Reading.{Spells, Accepts, Refuses, IsCut, Refusal}
 use Rattle.rpki_der.specs.Values.{SpellsHeader, SpellsContents, IsHeaderFault, IsContentsFault}
 use Rattle.rpki_der.specs.WantedValue.{SpellsWanted, IsWantedFault, IsFormed}
+use Rattle.rpki_der.proofs.ReadingLaws.{Refusal-weaker}
 use Rattle.rpki_der.proofs.ValuesLaws.{no-header, told, too-long, cut-value, is-value}
 
 abbrev flat : TagName → Bool → List ℕ → TagName × Bool × List ℕ
@@ -93,3 +94,7 @@ formed-kind t f s Unexpected h = h
 formed-kind t f s (Content x) h = h
 formed-kind t f s Trailing h = h
 formed-kind t f s OutOfMemory h = h
+
+-- an error of the reader of such values
+pub formed-refusal : (t : TagName) (f : Bool) (s r : List ℕ) (e : DecodeError) → Refusal (SpellsWanted (IsFormed t f)) (IsWantedFault (IsFormed t f)) s r e → Refusal (SpellsContents t f) (IsContentsFault t f) s r e
+formed-refusal t f s r e = Refusal-weaker (formed-refused t f s) (formed-kind t f s e)

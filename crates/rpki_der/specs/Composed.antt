@@ -41,3 +41,24 @@ abbrev pub ReadsAll : {X V : Type 0} → (X → V) → (V → List ℕ → Type 
 ReadsAll {X} {V} view G K s r (Ok x) =
     (r ≡ [] → G (view x) s × ((w : V) → G w s → w ≡ view x)) × (r ≢ [] → SpellsNothing G s)
 ReadsAll view G K s r (Err e) = UnlessMemory e (SpellsNothing G s) × K s e
+
+-- All of s was handed to the reader, which returned x and left d.
+pub record Whole {X E : Type 0} (reads : Constructed → Result X E → Constructed → Type 0) (s : List ℕ)
+    (x : Result X E) (d : List ℕ) : Type 0 where
+  pub before : Constructed
+  pub after : Constructed
+  pub all : left before ≡ s
+  pub read : reads before x after
+  pub rest : left after ≡ d
+
+-- The error e of s: the reader rejects it, or leaves some of it.
+pub data NotWhole {X E : Type 0} (turned : DecodeError → E → Type 0)
+    (reads : Constructed → Result X E → Constructed → Type 0) (s : List ℕ) (e : E) : Type 0 where
+  RefusedAll : (d : List ℕ) → Whole reads s (Err e) d → NotWhole turned reads s e
+  Left : (x : X) (d : List ℕ) → Whole reads s (Ok x) d → d ≢ [] → turned Trailing e → NotWhole turned reads s e
+
+-- The reader read all of s.
+abbrev pub ReadsWhole : {X E : Type 0} → (DecodeError → E → Type 0)
+    → (Constructed → Result X E → Constructed → Type 0) → List ℕ → Result X E → Type 0
+ReadsWhole turned reads s (Ok x) = Whole reads s (Ok x) []
+ReadsWhole turned reads s (Err e) = NotWhole turned reads s e

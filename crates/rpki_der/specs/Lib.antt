@@ -8,8 +8,9 @@ pub mod HeaderParts
 pub mod HeaderReading
 pub mod Reading
 pub mod Values
-pub mod Origin
+pub mod Source
 pub mod Cursor
+pub mod IndexedCursor
 pub mod Leaves
 pub mod WantedValue
 pub mod ContentView
@@ -34,6 +35,7 @@ pub mod Tree
 pub mod LeafLaws
 pub mod Inside
 pub mod Composed
+pub mod FirstFault
 -- Lemmas, which the prover checks: ghost items of impls cite them.
 pub mod NumberLaws
 pub mod EqualLaws

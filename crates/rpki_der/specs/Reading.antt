@@ -88,8 +88,9 @@ abbrev pub AnyFault : List ℕ → DecodeError → Type 0
 AnyFault s e = Unit {0}
 
 -- The error of a reader of whole octets: Trailing where a proper beginning is in the grammar; where no beginning is,
--- what the reader of a beginning says.
+-- what the reader of a beginning says. Allocation fails only where it may in the reader of a beginning.
 pub record IsWholeFault {V : Type 0} (G : V → List ℕ → Type 0) (K : List ℕ → DecodeError → Type 0) (s : List ℕ)
     (e : DecodeError) : Type 0 where
   pub trailing : (v : V) (b : ℕ) (more : List ℕ) → Spells G s v (b ∷ more) → UnlessMemory e (e ≡ Trailing)
   pub kind : Refuses G s → K s e
+  pub memory : e ≡ OutOfMemory → K s OutOfMemory

@@ -1,5 +1,5 @@
 -- Values of any tag and form that is wanted: what take_value and its kin read.
-use Rattle.std.specs.Prelude.{ℕ, ◌≡◌, Bool, List}
+use Rattle.std.specs.Prelude.{ℕ, ◌≡◌, Bool, false, List}
 use Rattle.rpki_der.specs.declared.error.DecodeError.{DecodeError}
 use Rattle.rpki_der.specs.TagName.{TagName}
 use Rattle.rpki_der.specs.Reading.{IsCut}
@@ -17,6 +17,10 @@ IsAnyTag t f = Unit {0}
 -- the first error of a reader of such values
 abbrev pub IsWantedFault : (TagName → Bool → Type 0) → List ℕ → DecodeError → Type 0
 IsWantedFault W = IsValueFault (λ h. W h.tag h.constructed) (IsCut (SpellsWanted W))
+
+-- any tag, in primitive form
+abbrev pub IsPrimitive : TagName → Bool → Type 0
+IsPrimitive t f = f ≡ false
 
 -- this tag, in either form
 abbrev pub IsTagged : TagName → TagName → Bool → Type 0

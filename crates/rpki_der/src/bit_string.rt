@@ -7,7 +7,7 @@ use crate::cursor::Constructed;
 use crate::error::{ContentError, DecodeError};
 use crate::tag::Tag;
 use bytes::Bytes;
-use std::alloc::AllocError;
+use std::alloc::{AllocError, Global};
 use std::marker::Model;
 
 /// A bit string (X.690 8.6): shared octets, and how many bits of the last octet are not used.
@@ -74,6 +74,13 @@ impl BitString {
         self.bytes.clone()
     }
 
+    /// The octets alone, without the count of unused bits.
+    pub fn into_octets(self) -> Bytes
+        ensures { result ≡ self.octets }
+    {
+        self.bytes
+    }
+
     /// Returns a copy of the bit string that shares its octets.
     ///
     /// Returns `AllocError` if allocation fails.
@@ -109,6 +116,40 @@ impl Eq for BitString {
     ghost laws = { same_bits_equivalence };
 }
 
+/// A bit string (X.690 8.6) whose octets are borrowed, as [BitString] otherwise.
+#[derive(Debug, Drop)]
+pub struct BitSlice<'a> {
+    unused: u8,
+    octets: &'a [u8],
+}
+
+impl<'a> Model for BitSlice<'a> {
+    ghost use Rattle.rpki_der.specs.Leaves.{Bits, AreBits, bits_of};
+
+    ghost Value = { Bits };
+
+    ghost view = { λ b. bits_of b.unused b.octets.now };
+
+    ghost invariant = { λ b. AreBits (bits_of b.unused b.octets.now) };
+}
+
+impl<'a> BitSlice<'a> {
+    /// How many bits of the last octet are not used: 0 to 7.
+    pub fn unused(&self) -> u8
+        ensures value { result ≡ self.now.unused }
+        ensures legal { AreBits self.now }
+    {
+        self.unused
+    }
+
+    /// The octets.
+    pub fn octet_slice(&self) -> &'a [u8]
+        ensures { result.now ≡ self.now.octets }
+    {
+        self.octets
+    }
+}
+
 impl<'a> Constructed<'a> {
     ghost use Rattle.rpki_der.specs.Cursor.{left};
     ghost use Rattle.rpki_der.specs.TagName.{bit_string};
@@ -116,11 +157,34 @@ impl<'a> Constructed<'a> {
     ghost use Rattle.rpki_der.specs.Values.{SpellsLeaf, IsLeafFault};
     ghost use Rattle.rpki_der.specs.Leaves.{IsBits};
 
-    /// A bit string (X.690 8.6, 11.2). It shares the octets with the input.
+    /// A bit string (X.690 8.6, 11.2) that borrows its octets. Allocates nothing.
+    ///
+    /// The errors are those of a header; then `Unexpected` for another tag or form; then `Truncated`; then `Content`
+    /// for contents that are not those of a bit string.
+    pub fn take_bits(&mut self) -> Result<BitSlice<'a>, DecodeError>
+        ensures { Reads (λ b. b) (SpellsLeaf bit_string false IsBits) (IsLeafFault bit_string false IsBits)
+            (left self.old) (left self.new) result }
+    {
+        let mut after = *self;
+        let contents = after.take_contents(Tag::BIT_STRING, false)?;
+        let [unused, octets @ ..] = contents.rest() else {
+            return Err(DecodeError::Content(ContentError::from_static("malformed BIT STRING")));
+        };
+        if !BitString::is_legal(*unused, octets) {
+            return Err(DecodeError::Content(ContentError::from_static("malformed BIT STRING")));
+        }
+        *self = after;
+        Ok(BitSlice {
+            unused: *unused,
+            octets,
+        })
+    }
+
+    /// A bit string (X.690 8.6, 11.2). It shares the octets with the input, or copies them where that is a slice.
     ///
     /// The errors are those of a header; then `Unexpected` for another tag or form; then `Truncated`; then `Content`
     /// for contents that are not those of a bit string; then `OutOfMemory` if allocation fails.
-    pub fn take_bit_string(&mut self) -> Result<BitString, DecodeError>
+    pub fn take_bit_string(&mut self, alloc: Global) -> Result<BitString, DecodeError>
         ensures { Reads (λ b. b) (SpellsLeaf bit_string false IsBits)
             (OrMemoryWhere (Finds (SpellsLeaf bit_string false IsBits)) (IsLeafFault bit_string false IsBits))
             (left self.old) (left self.new) result }
@@ -133,7 +197,7 @@ impl<'a> Constructed<'a> {
         if !BitString::is_legal(*unused, octets) {
             return Err(DecodeError::Content(ContentError::from_static("malformed BIT STRING")));
         }
-        let bytes = contents.split_at(1).1.to_bytes()?;
+        let bytes = contents.split_at(1).1.to_bytes(alloc)?;
         *self = after;
         Ok(BitString::new(*unused, bytes))
     }

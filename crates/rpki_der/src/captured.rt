@@ -77,11 +77,11 @@ impl Captured {
         &self.index
     }
 
-    /// A cursor on all of the octets.
+    /// A cursor on all of the octets. What a reader keeps of them, it shares.
     pub fn cursor(&self) -> Constructed<'_>
         ensures { left result ≡ self.now }
     {
-        Constructed::indexed(&self.bytes, self.headers())
+        Constructed::new(&self.bytes)
     }
 
     /// Returns a copy of the values, octet for octet, that shares the octets and copies the index.

@@ -1,45 +1,63 @@
 //! A cursor over octets.
 
-ghost use Rattle.std.specs.Prelude.{◌≡◌, ◌≢◌, ◌≤◌, ◌<◌, ◌+◌, ◌-◌, ◌^◌, ℕ, List, [], length, take, drop, IsTrue, ◌↔◌, MatchResult, IfOk, IfErr, IfSome, slice_range};
-ghost use Rattle.std.specs.List.{AllByRecursion};
-ghost use Rattle.rpki_der.specs.Index.{StandsAt};
-ghost use Rattle.rpki_der.specs.Origin.{origin_octets};
-ghost use Rattle.std.proofs.Props.{props};
+ghost use Rattle.std.specs.Prelude.{◌≡◌, ◌≢◌, ◌≤◌, ◌<◌, ◌+◌, ◌-◌, ◌^◌, ℕ, List, [], length, take, drop, IsTrue, ◌↔◌, MatchResult, IfOk, IfErr};
+ghost use Rattle.rpki_der.specs.Source.{source_octets, source_room};
+ghost use Rattle.rpki_der.specs.Reading.{Reads};
+ghost use Rattle.rpki_der.specs.Values.{SpellsContents, IsContentsFault};
 
 use crate::error::DecodeError;
 use crate::header::{begins_with, header};
-use crate::index::HeaderEntry;
 use crate::tag::{Header, Steps, Tag};
 use bytes::Bytes;
 use std::alloc::{AllocError, Global};
 
-/// Where the octets of a cursor are, for a reader that keeps some of them.
+/// A cursor over values: on octets ([Constructed]), or on captured values by their index
+/// ([IndexedCursor](crate::IndexedCursor)). A reader that is generic over it reads both.
+pub trait Cursor: Copy {
+    /// What is left.
+    ghost octets_left: { Self → List ℕ };
+
+    /// The octets that are left.
+    fn octets(&self) -> &[u8]
+        ensures { result.now ≡ octets_left self.now };
+
+    /// Whether nothing is left.
+    fn is_at_end(&self) -> bool
+        ensures { IsTrue result ↔ (octets_left self.now ≡ []) }
+    {
+        self.octets().is_empty()
+    }
+
+    /// A cursor on the contents of a value of this tag and form; moves past the value. The contents are not validated.
+    ///
+    /// The errors are those of a header; then `Unexpected` for another tag or form; then `Truncated`.
+    fn take_value_contents(&mut self, tag: Tag, constructed: bool) -> Result<Self, DecodeError>
+        ensures { Reads octets_left (SpellsContents tag constructed) (IsContentsFault tag constructed)
+            (octets_left self.old) (octets_left self.new) result };
+}
+
+/// In which octets a cursor stands, for a reader that keeps some of them.
 #[derive(Clone, Copy)]
-enum Origin<'a> {
-    /// In shared octets, which are shared once more.
+enum Source<'a> {
+    /// In shared octets, of which a part is shared once more.
     Shared(&'a Bytes),
     /// In a slice, of which a copy is made.
-    Borrowed(Global),
+    Slice,
 }
 
 /// What is left of octets, or of the contents of a value in them.
 ///
-/// A reader moves the cursor past what it reads. A reader that fails leaves it where it was. A cursor on captured
-/// values has their index, and takes from it each header that has an entry, instead of reading it again.
+/// A reader moves the cursor past what it reads. A reader that fails leaves it where it was. A cursor is a slice, and
+/// the place where that stands in shared octets, if it does; it reads the slice alone.
 #[derive(Clone, Copy)]
 pub struct Constructed<'a> {
-    source: &'a [u8],
-    origin: Origin<'a>,
-    start: usize,
-    end: usize,
-    /// The index of the source; empty if there is none.
-    index: &'a [HeaderEntry],
-    /// A hint: the number of the first entry that does not stand before the start. Nothing rests on it.
-    next: usize,
-    ghost same: { origin_octets origin source.now ≡ source.now },
-    ghost ordered: { start ≤ end },
-    ghost inside: { end ≤ length source.now },
-    ghost stands: { AllByRecursion (StandsAt source.now) index.now } by { Prim.hlevel props },
+    rest: &'a [u8],
+    source: Source<'a>,
+    /// How many of the source's octets stand before the rest.
+    place: usize,
+    ghost same: { source_octets source place rest.now ≡ rest.now },
+    ghost inside: { place + length rest.now ≤ source_room source },
+    ghost bounded: { place + length rest.now < 2 ^ 64 },
 }
 
 impl<'a> Constructed<'a> {
@@ -48,111 +66,74 @@ impl<'a> Constructed<'a> {
     ghost use Rattle.rpki_der.specs.Values.{SpellsHeader, HasTag, IsHeaderFault};
 
     /// A cursor on all of the octets. What a reader keeps of them, it shares.
+    #[tactic(auto, using(crate::proofs::CursorLaws::cuts), unfolding(crate::specs::Cursor::left))]
     pub fn new(source: &'a Bytes) -> Constructed<'a>
         ensures { left result ≡ source.now }
     {
-        Constructed::indexed(source, &[])
+        Constructed {
+            rest: source.as_slice(),
+            source: Source::Shared(source),
+            place: 0,
+        }
     }
 
     /// A cursor on all of the octets, without a copy. What a reader keeps of them, it copies.
     #[tactic(auto, using(crate::proofs::CursorLaws::cuts), unfolding(crate::specs::Cursor::left))]
-    pub fn from_slice(alloc: Global, octets: &'a [u8]) -> Constructed<'a>
+    pub fn from_slice(octets: &'a [u8]) -> Constructed<'a>
         ensures { left result ≡ octets.now }
     {
         Constructed {
-            source: octets,
-            origin: Origin::Borrowed(alloc),
-            start: 0,
-            end: octets.len(),
-            index: &[],
-            next: 0,
-        }
-    }
-
-    /// A cursor on all of the octets, whose entries stand where they say.
-    #[tactic(auto, using(crate::proofs::CursorLaws::cuts), unfolding(crate::specs::Cursor::left))]
-    pub(crate) fn indexed(source: &'a Bytes, index: &'a [HeaderEntry]) -> Constructed<'a>
-        requires { AllByRecursion (StandsAt source.now) index.now }
-        ensures { left result ≡ source.now }
-    {
-        Constructed {
-            source: source.as_slice(),
-            origin: Origin::Shared(source),
-            start: 0,
-            end: source.len(),
-            index,
-            next: 0,
-        }
-    }
-
-    /// The number of the first entry from `next` on that does not stand before this place.
-    fn entry_from(&self, place: usize) -> usize {
-        let mut next = self.next;
-        while next < self.index.len() && self.index[next].place() < place {
-            next += 1;
-        }
-        next
-    }
-
-    /// The entry of the header at the front, where the index has one.
-    fn entry(&self) -> Option<HeaderEntry>
-        ensures { IfSome result (λ e. StandsAt self.now.source.now e × (e.place ≡ self.now.start)
-            × (e.past ≤ self.now.end)) }
-    {
-        let found = self.index.get(self.next)?;
-        if found.place() == self.start && found.past() <= self.end {
-            Some(*found)
-        } else {
-            None
+            rest: octets,
+            source: Source::Slice,
+            place: 0,
         }
     }
 
     /// The octets that are left.
-    #[tactic(auto, using(crate::proofs::CursorLaws::cuts), unfolding(crate::specs::Cursor::left))]
+    #[inline(always)]
+    #[tactic(auto, unfolding(crate::specs::Cursor::left))]
     pub fn rest(&self) -> &'a [u8]
         ensures { result.now ≡ left self.now }
     {
-        &self.source[self.start..self.end]
+        self.rest
     }
 
     /// Whether nothing is left.
-    #[tactic(auto, using(crate::proofs::CursorLaws::cuts), unfolding(crate::specs::Cursor::left))]
+    #[inline(always)]
+    #[tactic(auto, unfolding(crate::specs::Cursor::left))]
     pub fn is_empty(&self) -> bool
         ensures { IsTrue result ↔ (left self.now ≡ []) }
     {
-        self.start == self.end
+        self.rest.is_empty()
     }
 
     /// How many octets are left.
-    #[tactic(auto, using(crate::proofs::CursorLaws::cuts), unfolding(crate::specs::Cursor::left))]
+    #[inline(always)]
+    #[tactic(auto, unfolding(crate::specs::Cursor::left))]
     pub(crate) fn len(&self) -> usize
         ensures { result ≡ length (left self.now) }
     {
-        self.end - self.start
+        self.rest.len()
     }
 
     /// The first `at` octets, and those after them.
+    #[inline(always)]
+    #[tactic(auto, unfolding(crate::specs::Cursor::left))]
     pub(crate) fn split_at(&self, at: usize) -> (Constructed<'a>, Constructed<'a>)
         requires { at ≤ length (left self.now) }
         ensures front { left result.0 ≡ take at (left self.now) }
         ensures following { left result.1 ≡ drop at (left self.now) }
     {
-        let seam = self.start + at;
+        let (before, after) = self.rest.split_at(at);
         let front = Constructed {
+            rest: before,
             source: self.source,
-            origin: self.origin,
-            start: self.start,
-            end: seam,
-            index: self.index,
-            next: self.next,
+            place: self.place,
         };
         let following = Constructed {
+            rest: after,
             source: self.source,
-            origin: self.origin,
-            start: seam,
-            end: self.end,
-            index: self.index,
-            next: self.entry_from(seam),
+            place: self.place + at,
         };
         (front, following)
     }
@@ -169,40 +150,20 @@ impl<'a> Constructed<'a> {
         }
     }
 
-    /// What is left after the header of this entry, which is at the front.
-    #[tactic(auto, unfolding(crate::specs::Cursor::left))]
-    fn inside(&self, entry: HeaderEntry) -> Constructed<'a>
-        requires { StandsAt self.now.source.now entry × (entry.place ≡ self.now.start) × (entry.past ≤ self.now.end) }
-        ensures { left result ≡ slice_range self.now.source.now entry.contents self.now.end }
-    {
-        Constructed {
-            source: self.source,
-            origin: self.origin,
-            start: entry.contents(),
-            end: self.end,
-            index: self.index,
-            next: self.entry_from(entry.contents()),
-        }
-    }
-
     /// The header at the front, and a cursor on what follows.
+    #[inline(always)]
+    #[tactic(auto, unfolding(crate::specs::Cursor::left))]
     pub(crate) fn after_header(&self) -> Result<(Header, Constructed<'a>), DecodeError>
         ensures ok { IfOk result (λ x. Accepts SpellsHeader (left self.now) x.0 (left x.1)) }
         ensures err { IfErr result (λ e. Refuses SpellsHeader (left self.now) × IsHeaderFault (left self.now) e) }
     {
-        if let Some(entry) = self.entry() {
-            return Ok((entry.header(), self.inside(entry)));
-        }
-        match header(self.rest()) {
+        match header(self.rest) {
             Ok((found, rest)) => Ok((
                 found,
                 Constructed {
+                    rest,
                     source: self.source,
-                    origin: self.origin,
-                    start: self.end - rest.len(),
-                    end: self.end,
-                    index: self.index,
-                    next: self.next,
+                    place: self.place + (self.rest.len() - rest.len()),
                 },
             )),
             Err(e) => Err(e),
@@ -244,13 +205,27 @@ impl<'a> Constructed<'a> {
     }
 
     /// The octets that are left, shared with the source, or copied where that is a slice.
-    #[tactic(auto, using(crate::proofs::CursorLaws::cuts), unfolding(crate::specs::Cursor::left))]
-    pub(crate) fn to_bytes(&self) -> Result<Bytes, AllocError>
+    #[tactic(auto, unfolding(crate::specs::Cursor::left))]
+    pub(crate) fn to_bytes(&self, alloc: Global) -> Result<Bytes, AllocError>
         ensures { IfOk result (λ b. b ≡ left self.now) }
     {
-        match self.origin {
-            Origin::Shared(bytes) => bytes.slice(self.start..self.end),
-            Origin::Borrowed(alloc) => Bytes::copy_from_slice(alloc, self.rest()),
+        match self.source {
+            Source::Shared(bytes) => bytes.slice(self.place..self.place + self.rest.len()),
+            Source::Slice => Bytes::copy_from_slice(alloc, self.rest),
         }
+    }
+}
+
+impl<'a> Cursor for Constructed<'a> {
+    ghost use Rattle.rpki_der.specs.Cursor.{left};
+
+    ghost octets_left = { left };
+
+    fn octets(&self) -> &[u8] {
+        self.rest()
+    }
+
+    fn take_value_contents(&mut self, tag: Tag, constructed: bool) -> Result<Self, DecodeError> {
+        self.take_contents(tag, constructed)
     }
 }

@@ -78,6 +78,7 @@ fn class_of(number: u8) -> Class
 /// The length octets at the front (X.690 8.1.3, 10.1): the length, and the rest.
 ///
 /// The errors are `Truncated` and `BadLength`.
+#[inline(always)]
 fn length(s: &[u8]) -> Result<(u32, &[u8]), DecodeError>
     ensures { ReadsPart (λ x. (x.0, x.1.now)) SpellsLength BadLength s.now result }
 {

@@ -6,10 +6,10 @@ ghost use Rattle.rpki_der.specs.Reading.{Spells, Accepts};
 ghost use Rattle.rpki_der.specs.Number.{AreOctets};
 ghost use Rattle.rpki_der.specs.Header.{identifier_octets, length_octets, tlv};
 ghost use Rattle.rpki_der.specs.ShortestForm.{IsLengthForm, IsIdentifierForm};
-ghost use Rattle.rpki_der.specs.Contents.{null_contents};
+ghost use Rattle.rpki_der.specs.Contents.{null_contents, bits_contents};
 ghost use Rattle.rpki_der.specs.Values.{SpellsHeader, IsHeaderFault, IsContentsFault, IsLeafFault};
 ghost use Rattle.rpki_der.specs.WantedValue.{IsWantedFault, IsAnyTag, IsTagged};
-ghost use Rattle.rpki_der.specs.Leaves.{IsNull, IsBoolean, IsOidOf, IsBits};
+ghost use Rattle.rpki_der.specs.Leaves.{Bits, IsNull, IsBoolean, IsOidOf, IsBits, boolean_contents};
 ghost use Rattle.rpki_der.specs.Integer.{IsUnsigned};
 ghost use Rattle.rpki_der.specs.Text.{IsPrintableText, IsUtf8Text};
 ghost use Rattle.rpki_der.specs.Error.{error_number};
@@ -176,3 +176,10 @@ pub fn content_tags() -> [Tag; 7]
         <Unsigned<'static>>::TAG,
     ]
 }
+
+/// What is written of leaf values is the contents that X.690 gives them (8.2, 8.6, 8.8, 11.1).
+pub fn contents_that_are_written()
+    ensures null { (v : Unit {0}) → ⟦<() as PrimitiveContent>⟧.contents v ≡ null_contents v }
+    ensures booleans { (b : Bool) → ⟦<bool as PrimitiveContent>⟧.contents b ≡ boolean_contents b }
+    ensures bits { (b : Bits) → ⟦<BitString as PrimitiveContent>⟧.contents b ≡ bits_contents b }
+{}

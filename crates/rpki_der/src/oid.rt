@@ -16,7 +16,7 @@ pub struct Oid<T>(pub T);
 pub type ConstOid = Oid<&'static [u8]>;
 
 /// Whether these are the contents of an object identifier (X.690 8.19.2).
-fn is_oid(contents: &[u8]) -> bool
+pub(crate) fn is_oid(contents: &[u8]) -> bool
     ensures { IsTrue result ↔ IsOid contents.now }
 {
     let mut at_start = true;

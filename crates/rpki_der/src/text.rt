@@ -77,7 +77,7 @@ fn are_printable(contents: &[u8]) -> bool
 }
 
 /// The string with these contents, if each of them is a character of a PrintableString.
-fn printable_of(contents: &[u8]) -> Option<PrintableString<'_>>
+pub(crate) fn printable_of(contents: &[u8]) -> Option<PrintableString<'_>>
     ensures value { IfSome result (λ p. IsPrintableText p contents.now) }
     ensures none { IfNone result ((text : List ℕ) → IsPrintableText text contents.now → ⊥) }
 {
@@ -91,7 +91,7 @@ fn printable_of(contents: &[u8]) -> Option<PrintableString<'_>>
 }
 
 /// The string with these contents, if they are UTF-8.
-fn utf8_of(contents: &[u8]) -> Option<Utf8String<'_>>
+pub(crate) fn utf8_of(contents: &[u8]) -> Option<Utf8String<'_>>
     ensures value { IfSome result (λ u. IsUtf8Text u contents.now) }
     ensures none { IfNone result ((text : List ℕ) → IsUtf8Text text contents.now → ⊥) }
 {

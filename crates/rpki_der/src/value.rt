@@ -1,6 +1,6 @@
 //! Values of any type, by their tag and form.
 
-ghost use Rattle.std.specs.Prelude.{◌≡◌, ◌<◌, ◌≤◌, ◌↔◌, IsTrue, IfOk, IfErr, length, take, drop, true};
+ghost use Rattle.std.specs.Prelude.{◌≡◌, ◌<◌, ◌≤◌, ◌↔◌, IsTrue, IfOk, IfErr, length, take, drop, true, false};
 ghost use Rattle.rpki_der.specs.Wanted.{IsWanted};
 
 use crate::cursor::Constructed;
@@ -19,6 +19,8 @@ pub enum Content<'a> {
 enum Wanted {
     /// Those of any tag and form.
     Any,
+    /// Those of any tag, in primitive form.
+    Primitive,
     /// Those of this tag, in either form.
     Tagged(Tag),
     /// Those of this tag in this form: whether they are constructed.
@@ -31,6 +33,7 @@ fn is_wanted(wanted: Wanted, found: &Header) -> bool
 {
     match wanted {
         Wanted::Any => true,
+        Wanted::Primitive => !found.constructed,
         Wanted::Tagged(tag) => found.tag.is_same(tag),
         Wanted::Formed(tag, constructed) => found.names(tag, constructed),
     }
@@ -42,10 +45,11 @@ impl<'a> Constructed<'a> {
     ghost use Rattle.rpki_der.specs.TagName.{sequence, set};
     ghost use Rattle.rpki_der.specs.Reading.{Reads, ReadsWhere};
     ghost use Rattle.rpki_der.specs.Values.{SpellsContents, HasTag, IsContentsFault};
-    ghost use Rattle.rpki_der.specs.WantedValue.{SpellsWanted, IsWantedFault, IsAnyTag, IsTagged};
+    ghost use Rattle.rpki_der.specs.WantedValue.{SpellsWanted, IsWantedFault, IsAnyTag, IsPrimitive, IsTagged};
 
     /// A value that is wanted: its tag, its form and a cursor on its contents, which are not validated. Moves past the
     /// value.
+    #[inline(always)]
     fn take_wanted(&mut self, wanted: Wanted) -> Result<(Tag, bool, Constructed<'a>), DecodeError>
         ensures { Reads (λ x. (x.0, x.1, left x.2)) (SpellsWanted (IsWanted wanted)) (IsWantedFault (IsWanted wanted))
             (left self.old) (left self.new) result }
@@ -130,6 +134,57 @@ impl<'a> Constructed<'a> {
         }
         let content = self.take_value_if(tag)?;
         Ok(Some(content))
+    }
+
+    /// The tag and the contents of a primitive value of any tag; moves past it. The contents are not validated.
+    ///
+    /// The errors are those of a header; then `Unexpected` for the constructed form; then `Truncated`.
+    pub fn take_primitive(&mut self) -> Result<(Tag, &'a [u8]), DecodeError>
+        ensures { Reads (λ x. (x.0, false, x.1.now)) (SpellsWanted IsPrimitive) (IsWantedFault IsPrimitive)
+            (left self.old) (left self.new) result }
+    {
+        match self.take_wanted(Wanted::Primitive) {
+            Ok(found) => Ok((found.0, found.2.rest())),
+            Err(e) => Err(e),
+        }
+    }
+
+    /// The contents of a primitive value of this tag; moves past it. They are not validated.
+    ///
+    /// The errors are those of a header; then `Unexpected` for another tag or form; then `Truncated`.
+    pub fn take_primitive_if(&mut self, tag: Tag) -> Result<&'a [u8], DecodeError>
+        ensures { Reads (λ x. x.now) (SpellsContents tag false) (IsContentsFault tag false) (left self.old)
+            (left self.new) result }
+    {
+        let contents = self.take_contents(tag, false)?;
+        Ok(contents.rest())
+    }
+
+    /// A cursor on the contents of a constructed value of this tag, as of an explicit context tag (X.690 8.14); moves
+    /// past it. The contents are not validated.
+    ///
+    /// The errors are those of a header; then `Unexpected` for another tag or form; then `Truncated`.
+    pub fn take_constructed_if(&mut self, tag: Tag) -> Result<Constructed<'a>, DecodeError>
+        ensures { Reads left (SpellsContents tag true) (IsContentsFault tag true) (left self.old) (left self.new)
+            result }
+    {
+        self.take_contents(tag, true)
+    }
+
+    /// As [Constructed::take_constructed_if] where what is left begins with the identifier octets of the tag, in either
+    /// form; else None.
+    pub fn take_opt_constructed_if(
+        &mut self,
+        tag: Tag,
+    ) -> Result<Option<Constructed<'a>>, DecodeError>
+        ensures { ReadsWhere (HasTag tag) left (SpellsContents tag true) (IsContentsFault tag true) (left self.old)
+            (left self.new) result }
+    {
+        if !self.has_tag(tag) {
+            return Ok(None);
+        }
+        let contents = self.take_constructed_if(tag)?;
+        Ok(Some(contents))
     }
 
     /// A cursor on the contents of a SEQUENCE (X.690 8.9); moves past it. The contents are not validated.

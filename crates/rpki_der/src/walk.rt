@@ -194,7 +194,7 @@ impl<'a> Constructed<'a> {
     {
         let (size, index) = index_octets(alloc, self.rest())?;
         let (value, following) = self.split_at(size);
-        let bytes = value.to_bytes()?;
+        let bytes = value.to_bytes(alloc)?;
         *self = following;
         Ok(Captured::of_index(bytes, index))
     }

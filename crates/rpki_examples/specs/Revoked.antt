@@ -2,10 +2,12 @@
 use Rattle.std.specs.Prelude.{ℕ, true, List}
 use Rattle.jiff.specs.Types.{DateTime}
 use Rattle.rpki_der.specs.TagName.{sequence}
+use Rattle.rpki_der.specs.declared.error.DecodeError.{DecodeError}
 use Rattle.rpki_der.specs.Values.{SpellsLeaf}
+use Rattle.rpki_der.specs.FirstFault.{FirstFault, IsEndFault, IsInsideFault}
 use Rattle.rpki.specs.TwoParts.{SpellsBoth}
-use Rattle.rpki_time.specs.Serial.{SpellsSerial}
-use Rattle.rpki_time.specs.TimeValue.{SpellsTime}
+use Rattle.rpki_time.specs.Serial.{SpellsSerial, IsSerialFault}
+use Rattle.rpki_time.specs.TimeValue.{SpellsTime, IsTimeFault}
 use Rattle.rpki_examples.specs.declared.revoked.RevokedCertificate.{RevokedCertificate}
 
 -- the number and the time
@@ -19,3 +21,11 @@ IsRevoked e contents = SpellsBoth SpellsSerial SpellsTime e.0 e.1 contents
 -- a SEQUENCE of the two
 abbrev pub SpellsRevoked : ℕ × DateTime → List ℕ → Type 0
 SpellsRevoked = SpellsLeaf sequence true IsRevoked
+
+-- the error of the serial number; then that of the time; then that something follows
+abbrev pub IsPartsFault : List ℕ → DecodeError → Type 0
+IsPartsFault = FirstFault SpellsSerial IsSerialFault (λ serial. FirstFault SpellsTime IsTimeFault (λ date. IsEndFault))
+
+-- the error of the SEQUENCE; then that of its parts
+abbrev pub IsRevokedFault : List ℕ → DecodeError → Type 0
+IsRevokedFault = IsInsideFault sequence true IsPartsFault

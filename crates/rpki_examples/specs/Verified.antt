@@ -1,15 +1,12 @@
 -- Signed data that a key has signed, as a provider's checks say.
-use Rattle.std.specs.Prelude.{ℕ, true, List}
+use Rattle.std.specs.Prelude.{ℕ, List}
 use Rattle.rpki_der.specs.declared.error.DecodeError.{DecodeError}
-use Rattle.rpki_der.specs.TagName.{sequence}
-use Rattle.rpki_der.specs.Reading.{SpellsNothing, UnlessMemory, OrMemoryWhere, IsWholeFault}
-use Rattle.rpki_der.specs.Values.{GivesOuterFault}
-use Rattle.rpki_der.specs.Inside.{HasInside}
-use Rattle.rpki_der.specs.Walk.{HasEither}
+use Rattle.rpki_der.specs.Reading.{SpellsNothing, UnlessMemory, IsWholeFault}
 use Rattle.rpki.specs.declared.crypto.keys.PublicKeyFormat.{PublicKeyFormat}
 use Rattle.rpki.specs.Provider.{Check, Verifies}
 use Rattle.rpki.specs.PublicKey.{KeyParts}
 use Rattle.rpki.specs.SignedData.{SignedParts, SpellsSigned}
+use Rattle.rpki.specs.SignedFault.{IsSignedFault}
 use Rattle.rpki_examples.specs.declared.verification.Unverified.{Unverified}
 use Rattle.rpki_examples.specs.declared.verification.Unverified.TheVariants.{Malformed, NotSigned}
 
@@ -22,16 +19,16 @@ abbrev pub IsVerified : {A : Type 0} → (A → List ℕ → Type 0) → (A → 
     → List ℕ → SignedParts A → Type 0
 IsVerified spells format rsa ecdsa key octets d = SpellsSigned spells d octets × HasSigned format rsa ecdsa key d
 
--- The error of octets that are no signed data: `Trailing` where signed data is followed by something, the error of the
--- SEQUENCE where there is none, and an allocation failure only where a value begins its contents.
-abbrev pub IsMalformed : {A : Type 0} → (A → List ℕ → Type 0) → List ℕ → DecodeError → Type 0
-IsMalformed spells = IsWholeFault (SpellsSigned spells)
-    (OrMemoryWhere (HasInside sequence HasEither) (GivesOuterFault sequence true))
+-- The error of octets that are no signed data: `Trailing` where signed data is followed by something; else that of the
+-- SEQUENCE or of the first of its parts that isn't there.
+abbrev pub IsMalformed : {A : Type 0} → (A → List ℕ → Type 0) → (List ℕ → DecodeError → Type 0) → List ℕ → DecodeError
+    → Type 0
+IsMalformed spells fault = IsWholeFault (SpellsSigned spells) (IsSignedFault spells fault)
 
 -- the octets spell none, or one that the key has not signed
-abbrev pub IsUnverified : {A : Type 0} → (A → List ℕ → Type 0) → (A → PublicKeyFormat) → Check → Check → KeyParts
-    → List ℕ → Unverified → Type 0
-IsUnverified spells format rsa ecdsa key octets (Malformed e) =
-    UnlessMemory e (SpellsNothing (SpellsSigned spells) octets) × IsMalformed spells octets e
-IsUnverified {A} spells format rsa ecdsa key octets NotSigned =
+abbrev pub IsUnverified : {A : Type 0} → (A → List ℕ → Type 0) → (List ℕ → DecodeError → Type 0)
+    → (A → PublicKeyFormat) → Check → Check → KeyParts → List ℕ → Unverified → Type 0
+IsUnverified spells fault format rsa ecdsa key octets (Malformed e) =
+    UnlessMemory e (SpellsNothing (SpellsSigned spells) octets) × IsMalformed spells fault octets e
+IsUnverified {A} spells fault format rsa ecdsa key octets NotSigned =
     (d : SignedParts A) × SpellsSigned spells d octets × (HasSigned format rsa ecdsa key d → ⊥)

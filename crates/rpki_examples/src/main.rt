@@ -36,7 +36,7 @@ const REVOKED: &[u8] = b"\x30\x12\x02\x01\x7F\x17\x0D240229120000Z";
 
 /// Whether the key that the octets are has signed both.
 fn both_verified(alloc: Global) -> Result<bool, DecodeError> {
-    let key = PublicKey::decode(Bytes::from_static(KEY))?;
+    let key = PublicKey::decode(alloc, Bytes::from_static(KEY))?;
     let provider = OneSignature {
         bits: b"abc",
         message: b"\x30\x00",

@@ -1,10 +1,9 @@
 //! An algorithm type of one's own.
 
-ghost use Rattle.std.specs.Prelude.{true, [], ◌∷◌};
+ghost use Rattle.std.specs.Prelude.{[], ◌∷◌};
 ghost use Rattle.rpki_der.specs.Cursor.{left};
-ghost use Rattle.rpki_der.specs.TagName.{sequence};
 ghost use Rattle.rpki_der.specs.Reading.{Reads};
-ghost use Rattle.rpki_der.specs.Values.{IsOuterFault};
+ghost use Rattle.rpki.specs.AlgorithmFault.{IsBareFault};
 ghost use Rattle.rpki.specs.SignatureNames.{SpellsBare};
 
 use rpki::crypto::{SignatureAlgorithm, SigningAlgorithm};
@@ -34,11 +33,14 @@ impl SignatureAlgorithm for OwnAlgorithm {
 
     ghost use Rattle.std.specs.Prelude.{[], ◌∷◌, refl};
     ghost use Rattle.std.proofs.Common.{lit<};
+    ghost use Rattle.rpki.specs.AlgorithmFault.{IsBareFault};
     ghost use Rattle.rpki.specs.SignatureNames.{SpellsBare, bare_octets};
     ghost use Rattle.rpki.specs.BareOctetsLaws.{bare-spelled, bare-value};
     ghost use Rattle.rpki.specs.declared.crypto.keys.PublicKeyFormat.TheVariants.{Rsa};
 
     ghost spells = { SpellsBare (136 ∷ 55 ∷ []) };
+
+    ghost fault = { IsBareFault (136 ∷ 55 ∷ []) };
 
     ghost written = { λ _. bare_octets (136 ∷ 55 ∷ []) };
 
@@ -66,8 +68,8 @@ impl SignatureAlgorithm for OwnAlgorithm {
     ///
     /// The errors of `in_sequence` where there is none; `Content` for another identifier; `Trailing` for parameters.
     fn x509_take_from(cons: &mut Constructed<'_>) -> Result<Self, DecodeError>
-        ensures { Reads (λ a. a) (SpellsBare (136 ∷ 55 ∷ [])) (IsOuterFault sequence true)
-            (left cons.old) (left cons.new) result }
+        ensures { Reads (λ a. a) (SpellsBare (136 ∷ 55 ∷ [])) (IsBareFault (136 ∷ 55 ∷ [])) (left cons.old)
+            (left cons.new) result }
     {
         cons.in_sequence(|contents| contents.skip_oid_if(OWN_NAME))?;
         Ok(OwnAlgorithm { only: () })

@@ -1,12 +1,9 @@
 //! A SEQUENCE of one's own: an entry of a revocation list.
 
-ghost use Rattle.std.specs.Prelude.{true};
 ghost use Rattle.rpki_der.specs.Cursor.{left};
-ghost use Rattle.rpki_der.specs.TagName.{sequence};
-ghost use Rattle.rpki_der.specs.Reading.{Reads, TakesNoMemory, AnyFault};
-ghost use Rattle.rpki_der.specs.Composed.{ReadsAll};
-ghost use Rattle.rpki_der.specs.Values.{IsOuterFault};
-ghost use Rattle.rpki_examples.specs.Revoked.{entry_of, IsRevoked, SpellsRevoked};
+ghost use Rattle.rpki_der.specs.Reading.{Reads};
+ghost use Rattle.rpki_der.specs.FirstFault.{ReadsParts};
+ghost use Rattle.rpki_examples.specs.Revoked.{entry_of, IsRevoked, SpellsRevoked, IsPartsFault, IsRevokedFault};
 
 use rpki::der::{Constructed, DecodeError};
 use rpki::repository::x509::{Serial, Time};
@@ -27,13 +24,11 @@ impl RevokedCertificate {
     /// The errors of [Constructed::in_sequence] where there is none; else those of the first part that could not be
     /// read, or `Trailing` where more follows. An error leaves the cursor where it was.
     pub fn take_from(cons: &mut Constructed<'_>) -> Result<RevokedCertificate, DecodeError>
-        ensures { Reads entry_of SpellsRevoked (IsOuterFault sequence true)
-            (left cons.old) (left cons.new) result }
+        ensures { Reads entry_of SpellsRevoked IsRevokedFault (left cons.old) (left cons.new) result }
     {
         cons.in_sequence(
             |contents|
-                ensures { ReadsAll entry_of IsRevoked (TakesNoMemory AnyFault) (left contents.old)
-                    (left contents.new) result }
+                ensures { ReadsParts entry_of IsRevoked IsPartsFault (left contents.old) (left contents.new) result }
             {
                 let serial = match Serial::take_from(contents) {
                     Ok(serial) => serial,

@@ -52,7 +52,8 @@ pub fn verified<P: Provider, Alg: SignatureAlgorithm + Drop>(
 ) -> Result<SignedData<Alg>, Unverified>
     ensures { MatchResult result
         (IsVerified Alg.spells Alg.format (P.rsa_of provider.now) (P.ecdsa_of provider.now) key.now octets)
-        (IsUnverified Alg.spells Alg.format (P.rsa_of provider.now) (P.ecdsa_of provider.now) key.now octets) }
+        (IsUnverified Alg.spells Alg.fault Alg.format (P.rsa_of provider.now) (P.ecdsa_of provider.now) key.now
+        octets) }
 {
     let signed = SignedData::<Alg>::decode(alloc, octets)?;
     signed.verify_signature(provider, key)?;

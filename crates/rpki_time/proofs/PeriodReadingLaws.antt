@@ -7,13 +7,15 @@ use Rattle.rpki_der.specs.TagName.{sequence}
 use Rattle.rpki_der.specs.Header.{tlv}
 use Rattle.rpki_der.specs.ValueListLaws.{sequence_legal}
 use Rattle.rpki_der.specs.Values.{IsOuterFault}
-use Rattle.rpki_der.specs.Reading.{Spells, Accepts, Refusal, SpellsNothing, UnlessMemory, TakesNoMemory, AnyFault}
-use Rattle.rpki_der.proofs.ReadingLaws.{UnlessMemory-weaker, UnlessMemory-from}
+use Rattle.rpki_der.specs.Reading.{Spells, Accepts, Refusal, SpellsNothing, UnlessMemory}
+use Rattle.rpki_der.proofs.ReadingLaws.{UnlessMemory-weaker}
 use Rattle.rpki_der.proofs.ComposedLaws.{spelled-whole}
+use Rattle.rpki_der.specs.FirstFault.{FirstFault, IsEndFault}
+use Rattle.rpki_der.proofs.FirstFaultLaws.{at-part, at-second, after-second, first-no-memory, end-no-memory, inside-no-memory, inside-outer-exactly}
 use Rattle.rpki_der.proofs.EncodeLaws.{tlv-legal, tlv-same}
 use Rattle.rpki_time.specs.TimeValue.{SpellsTime, IsTimeFault, time_octets}
 use Rattle.rpki_time.specs.Validity.{Period, AreTimeYears, cut_period}
-use Rattle.rpki_time.specs.PeriodValue.{IsPeriod, SpellsPeriod, period_octets}
+use Rattle.rpki_time.specs.PeriodValue.{IsPeriod, SpellsPeriod, IsTimesFault, IsPeriodFault, period_octets}
 use Rattle.rpki_time.proofs.ReadBackLaws.{leaf-there, tlv-short}
 use Rattle.rpki_time.proofs.TimeValueLaws.{times-few, time-there, time_spelled, times-fit, time_octets-cut}
 
@@ -43,22 +45,29 @@ time-no-memory s (Content x) h z = cc
 time-no-memory s Trailing h z = h
 time-no-memory s OutOfMemory h z = h
 
+times-no-memory : (c : List ℕ) → IsTimesFault c OutOfMemory → ⊥
+times-no-memory c = first-no-memory SpellsTime IsTimeFault (λ start. FirstFault SpellsTime IsTimeFault (λ end. IsEndFault)) c (λ h. time-no-memory c OutOfMemory h refl)
+    (λ t r. first-no-memory SpellsTime IsTimeFault (λ end. IsEndFault) r (λ h. time-no-memory r OutOfMemory h refl) (λ u q. end-no-memory q))
+
 abbrev NotRead : List ℕ → DecodeError → Type 0
-NotRead c e = UnlessMemory e (SpellsNothing IsPeriod c) × TakesNoMemory AnyFault c e
+NotRead c e = UnlessMemory e (SpellsNothing IsPeriod c) × IsTimesFault c e
 
 -- the start could not be read
 pub no-start : (c q : List ℕ) (e : DecodeError) → Refusal SpellsTime IsTimeFault c q e → NotRead c e
-no-start c q e h = (UnlessMemory-weaker e (λ none p k. none p.not_before k.end (start-of c p k)) h.refuses, record { other = time-no-memory c e h.kind; kind = tt })
+no-start c q e h = (UnlessMemory-weaker e (λ none p k. none p.not_before k.end (start-of c p k)) h.refuses, at-part SpellsTime IsTimeFault (λ start. FirstFault SpellsTime IsTimeFault (λ end. IsEndFault)) c q e h)
 
 -- the end could not be read
 pub no-end : (c r q : List ℕ) (t : DateTime) (e : DecodeError) → Accepts SpellsTime c t r → Refusal SpellsTime IsTimeFault r q e → NotRead c e
-no-end c r q t e a h = (UnlessMemory-weaker e (λ none p k. none p.not_after [] (following c r t a p k).end) h.refuses, record { other = time-no-memory r e h.kind; kind = tt })
+no-end c r q t e a h = (
+  UnlessMemory-weaker e (λ none p k. none p.not_after [] (following c r t a p k).end) h.refuses,
+  at-second SpellsTime IsTimeFault SpellsTime IsTimeFault (λ start end. IsEndFault) c r q t e a h,
+)
 
 -- something follows
-pub more-behind : (c r q : List ℕ) (t u : DateTime) (e : DecodeError) → Accepts SpellsTime c t r → Accepts SpellsTime r u q → (e ≡ Trailing) × (q ≡ [] → ⊥) → NotRead c e
-more-behind c r q t u e a b h = (
-  UnlessMemory-from e (λ p k. h.1 (sym (b.only p.not_after [] (following c r t a p k).end).1)),
-  record { other = λ z. let is = h.0 in cc; kind = tt },
+pub more-behind : (c r q : List ℕ) (t u : DateTime) → Accepts SpellsTime c t r → Accepts SpellsTime r u q → (q ≡ [] → ⊥) → SpellsNothing IsPeriod c × IsTimesFault c Trailing
+more-behind c r q t u a b some = (
+  λ p k. some (sym (b.only p.not_after [] (following c r t a p k).end).1),
+  after-second SpellsTime IsTimeFault SpellsTime IsTimeFault c r q t u a b some,
 )
 
 same-ends : (p q : Period) → p.not_before ≡ q.not_before → p.not_after ≡ q.not_after → p ≡ q
@@ -121,8 +130,12 @@ period-same p q y z = (
   period_octets-cut p = ap (tlv sequence true) (both _ _ _ _ (time_octets-cut p.not_before) (time_octets-cut p.not_after))
 
 -- the reader allocates nothing
-pub period-no-memory : (s : List ℕ) → IsOuterFault sequence true s OutOfMemory → ⊥
-period-no-memory s h = h.other refl
+pub period-no-memory : (s : List ℕ) → IsPeriodFault s OutOfMemory → ⊥
+period-no-memory s = inside-no-memory sequence true IsTimesFault s times-no-memory
+
+-- where there is no SEQUENCE its error is the one of that
+pub period-outer : (s : List ℕ) (e : DecodeError) → IsPeriodFault s e → IsOuterFault sequence true s e
+period-outer s e = inside-outer-exactly sequence true IsTimesFault s e times-no-memory
 
 pub period-few : (p : Period) → length (period_octets p) ≤ 36
 period-few p =

@@ -8,9 +8,9 @@ use Rattle.rpki_der.specs.declared.error.DecodeError.TheVariants.{Truncated, Bad
 use Rattle.rpki_der.specs.ErrorText.{text_of}
 use Rattle.rpki_der.specs.TagName.{TagName}
 use Rattle.rpki_der.specs.Reading.{Spells, Accepts, Refusal}
-use Rattle.rpki_der.specs.WantedValue.{SpellsWanted, IsWantedFault, IsAnyTag}
+use Rattle.rpki_der.specs.WantedValue.{SpellsWanted, IsWantedFault, IsAnyTag, IsPrimitive}
 use Rattle.rpki_der.proofs.ReadingLaws.{Refusal-weaker}
-use Rattle.rpki_time.specs.TimeValue.{ReadsAs, SpellsTime, IsPrimitive, IsTimeFault}
+use Rattle.rpki_time.specs.TimeValue.{ReadsAs, SpellsTime, IsTimeFault}
 use Rattle.rpki_time.proofs.TextLaws.{utc-unique, generalized-unique}
 
 -- a text under a tag reads as at most one time
@@ -26,25 +26,6 @@ flat t f c = (t, f, c)
 pub not-both : (b : Bool) → b ≡ true → b ≡ false → ⊥
 not-both true h k = cc
 not-both false h k = cc
-
--- ---- primitive values
-
--- a value of the primitive form, found among those of any form
-pub primitive-accepted : (s : List ℕ) (tag : TagName) (c r : List ℕ) → Accepts (SpellsWanted IsAnyTag) s (flat tag false c) r → Accepts (SpellsWanted IsPrimitive) s (flat tag false c) r
-primitive-accepted s tag c r a = record {
-  spells = record { front = a.spells.front; parts = a.spells.parts; spelled = record { wanted = refl; value = a.spells.spelled.value } };
-  only = λ x q k. a.only x q (record { front = k.front; parts = k.parts; spelled = record { wanted = tt; value = k.spelled.value } });
-}
-
--- a value that is there is taken
-pub taken : (s : List ℕ) (x : TagName × Bool × List ℕ) (r q : List ℕ) (e : DecodeError) → Accepts (SpellsWanted IsAnyTag) s x r → Refusal (SpellsWanted IsAnyTag) (IsWantedFault IsAnyTag) s q e → ⊥
-taken s x r q Truncated a h = h.refuses x r a.spells
-taken s x r q BadTag a h = h.refuses x r a.spells
-taken s x r q BadLength a h = h.refuses x r a.spells
-taken s x r q Unexpected a h = h.refuses x r a.spells
-taken s x r q (Content e) a h = h.refuses x r a.spells
-taken s x r q Trailing a h = h.refuses x r a.spells
-taken s x r q OutOfMemory a h = h.kind
 
 -- ---- times
 

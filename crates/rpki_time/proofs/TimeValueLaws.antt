@@ -5,12 +5,13 @@ use Rattle.rpki_der.specs.declared.error.DecodeError.{DecodeError}
 use Rattle.rpki_der.specs.TagName.{TagName, IsTag, utc_time, generalized_time}
 use Rattle.rpki_der.specs.Header.{tlv}
 use Rattle.rpki_der.specs.Reading.{Spells, Accepts, Reads}
+use Rattle.rpki_der.specs.WantedValue.{IsPrimitive}
 use Rattle.rpki_der.specs.Values.{SpellsContents}
 use Rattle.rpki_der.proofs.EncodeLaws.{tlv-legal}
 use Rattle.rpki_time.specs.Time.{IsTimeYear, cut}
 use Rattle.rpki_time.specs.TimeText.{utc_text, generalized_text, is_utc_year, IsUtcYear}
 use Rattle.rpki_time.specs.TimeValueLaws.{utc-legal, generalized-legal}
-use Rattle.rpki_time.specs.TimeValue.{ReadsAs, SpellsTime, IsPrimitive, IsTimeFault, octets_where, time_octets, utc_octets, generalized_octets}
+use Rattle.rpki_time.specs.TimeValue.{ReadsAs, SpellsTime, IsTimeFault, octets_where, time_octets, utc_octets, generalized_octets}
 use Rattle.rpki_time.proofs.ReadBackLaws.{flat-there, reads-back, tlv-short}
 use Rattle.rpki_time.proofs.TextLaws.{utc-reads-cut, generalized-reads-cut, in-window}
 use Rattle.rpki_time.proofs.TimeReadingLaws.{time-accepted, moved}

@@ -8,7 +8,7 @@ use Rattle.rpki_der.specs.TagName.{TagName, utc_time, generalized_time}
 use Rattle.rpki_der.specs.Header.{tlv}
 use Rattle.rpki_der.specs.Reading.{Spells}
 use Rattle.rpki_der.specs.Values.{SpellsContents, HasTag}
-use Rattle.rpki_der.specs.WantedValue.{SpellsWanted, IsWantedFault}
+use Rattle.rpki_der.specs.WantedValue.{SpellsWanted, IsPrimitive, IsWantedFault}
 use Rattle.rpki_der.specs.Tree.{Tree}
 use Rattle.rpki_der.specs.Tree.Tree.{Primitive}
 use Rattle.rpki_time.specs.TimeText.{utc_text, generalized_text, is_utc_year, ReadsAsUtc, ReadsAsGeneralized}
@@ -23,10 +23,6 @@ pub record SpellsTime (t : DateTime) (p : List ℕ) : Type 0 where
   pub text : List ℕ
   pub value : SpellsContents tag false text p
   pub reads : ReadsAs tag text t
-
--- the primitive form, of any tag
-abbrev pub IsPrimitive : TagName → Bool → Type 0
-IsPrimitive t f = f ≡ false
 
 -- s begins with a primitive value that reads as no time
 abbrev pub HasNoTime : List ℕ → Type 0

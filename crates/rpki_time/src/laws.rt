@@ -11,12 +11,14 @@ ghost use Rattle.rpki_time.specs.Serial.{IsSerialContents, serial_contents, seri
 ghost use Rattle.rpki_time.specs.Time.{IsTimeYear, cut};
 ghost use Rattle.rpki_time.specs.TimeText.{IsUtcYear, is_utc_year, utc_text, generalized_text, ReadsAsUtc, ReadsAsGeneralized};
 ghost use Rattle.rpki_time.specs.TimeValue.{time_octets, utc_octets, generalized_octets};
+ghost use Rattle.rpki_time.specs.declared.serial.SerialSliceError.{SerialSliceError as NoSerial};
 ghost use Rattle.rpki_time.specs.Validity.{Period, AreTimeYears, IsTrimmed, cut_period};
 
 use crate::serial::{Serial, SerialSliceError};
 use crate::time::Time;
+use crate::time_encoder::{GeneralizedTime, UtcTime, VariedTime};
 use crate::validity::Validity;
-use rpki_der::{Constructed, DecodeError};
+use rpki_der::{Constructed, DecodeError, PrimitiveContent, Values};
 
 /// The contents that are written of a number below 2^159 are the shortest that write it, at most 20 octets; and the
 /// numbers below 2^159 are those whose INTEGER has at most 20 contents octets.
@@ -119,4 +121,34 @@ pub fn trim_laws()
     ensures associates { (p q r pq qr first second : Period) → IsTrimmed p q pq → IsTrimmed pq r first
         → IsTrimmed q r qr → IsTrimmed p qr second → first ≡ second }
     ensures repeats { (p r : Period) → IsTrimmed p p r → r ≡ p }
+{}
+
+/// Serial numbers are equal where the numbers are one.
+pub fn equal_serials_are_one()
+    ensures { (m n : ℕ) → IsTrue (⟦<Serial as PartialEq>⟧.eq m n) ↔ (m ≡ n) }
+{}
+
+/// Times are equal where the moments are one.
+pub fn equal_times_are_one()
+    ensures { (t u : Civil) → IsTrue (⟦<Time as PartialEq>⟧.eq t u) ↔ (civil_nanos t ≡ civil_nanos u) }
+{}
+
+/// Periods are equal where the moments of their starts are one, and those of their ends.
+pub fn equal_periods_are_one()
+    ensures { (p q : Period) → IsTrue (⟦<Validity as PartialEq>⟧.eq p q)
+        ↔ ((civil_nanos p.not_before ≡ civil_nanos q.not_before)
+        × (civil_nanos p.not_after ≡ civil_nanos q.not_after)) }
+{}
+
+/// Errors of slices are equal where they are of one kind.
+pub fn equal_errors_are_of_one_kind()
+    ensures { (d e : NoSerial) → IsTrue (⟦<SerialSliceError as PartialEq>⟧.eq d e) ↔ (d ≡ e) }
+{}
+
+/// What is written of serial numbers and times is what the standards say (RFC 5280 4.1.2.2, 4.1.2.5).
+pub fn contents_that_are_written()
+    ensures serial { (n : ℕ) → ⟦<Serial as PrimitiveContent>⟧.contents n ≡ serial_contents n }
+    ensures utc { (t : Civil) → ⟦<UtcTime as PrimitiveContent>⟧.contents t ≡ utc_text t }
+    ensures generalized { (t : Civil) → ⟦<GeneralizedTime as PrimitiveContent>⟧.contents t ≡ generalized_text t }
+    ensures varied { (t : Civil) → ⟦<VariedTime as Values>⟧.encoded t ≡ time_octets t }
 {}

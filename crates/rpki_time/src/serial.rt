@@ -283,13 +283,6 @@ impl PrimitiveContent for Serial {
     }
 
     fn plain_tag(&self) -> Tag {
-        serial_tag()
+        Self::TAG
     }
-}
-
-/// The constant `TAG` of serial numbers, by which their contract names the tag.
-fn serial_tag() -> Tag
-    ensures { result ≡ integer }
-{
-    <Serial as PrimitiveContent>::TAG
 }

@@ -44,15 +44,8 @@ impl PrimitiveContent for UtcTime {
     }
 
     fn plain_tag(&self) -> Tag {
-        utc_time_tag()
+        Self::TAG
     }
-}
-
-/// The constant `TAG` of UTC times, by which their contract names the tag.
-fn utc_time_tag() -> Tag
-    ensures { result ≡ utc_time }
-{
-    <UtcTime as PrimitiveContent>::TAG
 }
 
 /// The contents of a generalized time: YYYYMMDDHHMMSSZ (X.690 11.7, RFC 5280 4.1.2.5.2).
@@ -86,15 +79,8 @@ impl PrimitiveContent for GeneralizedTime {
     }
 
     fn plain_tag(&self) -> Tag {
-        generalized_time_tag()
+        Self::TAG
     }
-}
-
-/// The constant `TAG` of generalized times, by which their contract names the tag.
-fn generalized_time_tag() -> Tag
-    ensures { result ≡ generalized_time }
-{
-    <GeneralizedTime as PrimitiveContent>::TAG
 }
 
 /// A time as certificates have it: UTC time in the years 1950 to 2049, and generalized time in the others

@@ -1,15 +1,14 @@
 //! Reading times.
 
-ghost use Rattle.std.specs.Prelude.{◌≡◌, ◌↔◌, codes, false, IsTrue, IfSome, IfNone};
+ghost use Rattle.std.specs.Prelude.{◌≡◌, ◌↔◌, codes, IsTrue, IfSome, IfNone};
 ghost use Rattle.jiff.specs.Types.{DateTime as Civil};
 ghost use Rattle.rpki_der.specs.Cursor.{left};
 ghost use Rattle.rpki_der.specs.ErrorText.{text_of};
-ghost use Rattle.rpki_der.specs.WantedValue.{SpellsWanted, IsWantedFault};
 ghost use Rattle.rpki_der.specs.Reading.{Reads, ReadsWhere};
-ghost use Rattle.rpki_time.specs.TimeValue.{ReadsAs, SpellsTime, IsPrimitive, IsTimeFault, HasTimeTag};
+ghost use Rattle.rpki_time.specs.TimeValue.{ReadsAs, SpellsTime, IsTimeFault, HasTimeTag};
 
 use crate::time::Time;
-use rpki_der::{Class, Constructed, Content, ContentError, DecodeError, Steps, Tag};
+use rpki_der::{Class, Constructed, ContentError, DecodeError, Tag};
 
 /// The error of contents that are not a time.
 fn malformed() -> ContentError
@@ -33,33 +32,6 @@ fn time_under(tag: Tag, text: &[u8]) -> Option<Time>
     }
 }
 
-/// The tag and the contents of a primitive value of any tag; moves past it.
-///
-/// The errors are those of a header; then `Unexpected` for the constructed form; then `Truncated`.
-fn take_primitive<'a>(cons: &mut Constructed<'a>) -> Result<(Tag, &'a [u8]), DecodeError>
-    ensures { Reads (λ x. (x.0, false, x.1.now)) (SpellsWanted IsPrimitive) (IsWantedFault IsPrimitive)
-        (left cons.old) (left cons.new) result }
-{
-    let mut ahead = *cons;
-    let header = match ahead.take_header(&mut Steps::new()) {
-        Ok(header) => header,
-        Err(e) => return Err(e),
-    };
-    if header.constructed {
-        return Err(DecodeError::Unexpected);
-    }
-    if ahead.rest().len() < header.length as usize {
-        return Err(DecodeError::Truncated);
-    }
-    match cons.take_value() {
-        Ok(found) => match found.1 {
-            Content::Primitive(contents) => Ok((found.0, contents)),
-            Content::Constructed(_) => unreachable!(),
-        },
-        Err(e) => Err(e),
-    }
-}
-
 impl Time {
     /// Reads a time: UTC time or generalized time (X.690 11.7, 11.8; RFC 5280 4.1.2.5). Allocates nothing.
     ///
@@ -70,7 +42,7 @@ impl Time {
         ensures { Reads (λ t. t) SpellsTime IsTimeFault (left cons.old) (left cons.new) result }
     {
         let mut after = *cons;
-        let (tag, text) = match take_primitive(&mut after) {
+        let (tag, text) = match after.take_primitive() {
             Ok(found) => found,
             Err(e) => return Err(e),
         };

@@ -5,11 +5,9 @@ ghost use Rattle.jiff.specs.Types.{DateTime as Civil};
 ghost use Rattle.jiff.specs.Words.{civil_nanos, signed_nanos};
 ghost use Rattle.rpki_time.specs.Time.{IsTimeNanos, seconds};
 ghost use Rattle.rpki_der.specs.Cursor.{left};
-ghost use Rattle.rpki_der.specs.Reading.{Reads, TakesNoMemory, AnyFault};
-ghost use Rattle.rpki_der.specs.Composed.{ReadsAll};
-ghost use Rattle.rpki_der.specs.TagName.{sequence};
-ghost use Rattle.rpki_der.specs.Values.{IsOuterFault};
-ghost use Rattle.rpki_time.specs.PeriodValue.{IsPeriod, SpellsPeriod, period_octets};
+ghost use Rattle.rpki_der.specs.Reading.{Reads};
+ghost use Rattle.rpki_der.specs.FirstFault.{ReadsParts};
+ghost use Rattle.rpki_time.specs.PeriodValue.{IsPeriod, SpellsPeriod, IsTimesFault, IsPeriodFault, period_octets};
 ghost use Rattle.rpki_time.specs.Validity.{HoldsAt, SpansBetween, IsTrimmed};
 
 use crate::time::Time;
@@ -177,12 +175,11 @@ impl Validity {
     /// The errors are those of [Constructed::take_sequence] if there is no SEQUENCE; else that of the first time that
     /// could not be read, or `Trailing` if more follows. An error leaves the cursor where it was.
     pub fn take_from(cons: &mut Constructed<'_>) -> Result<Validity, DecodeError>
-        ensures { Reads (λ p. p) SpellsPeriod (IsOuterFault sequence true) (left cons.old) (left cons.new) result }
+        ensures { Reads (λ p. p) SpellsPeriod IsPeriodFault (left cons.old) (left cons.new) result }
     {
         cons.in_sequence(
             |contents|
-                ensures { ReadsAll (λ p. p) IsPeriod (TakesNoMemory AnyFault) (left contents.old)
-                    (left contents.new) result }
+                ensures { ReadsParts (λ p. p) IsPeriod IsTimesFault (left contents.old) (left contents.new) result }
             {
                 let not_before = match Time::take_from(contents) {
                     Ok(time) => time,

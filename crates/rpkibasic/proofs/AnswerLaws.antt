@@ -7,7 +7,7 @@ use Rattle.rpkibasic.specs.declared.input.Unread.{Unread}
 use Rattle.rpkibasic.specs.declared.input.Unread.TheVariants.{Endless, Failed}
 use Rattle.rpkibasic.specs.declared.input.Unread.TheVariants as unread
 use Rattle.rpkibasic.specs.Fault.{unread_fault}
-use Rattle.rpkibasic.specs.Input.{most_octets}
+use Rattle.rpkibasic.specs.Input.{most_calls, most_octets}
 use Rattle.rpkibasic.specs.Run.{Answer, Answers, Replies, IsDue, UnlessMemory, Signed, SpellsOnly, SpellsRpki, written_algorithm}
 use Rattle.rpkibasic.specs.View.{answer_of}
 use Rattle.rpkibasic.specs.declared.fault.Fault.{Fault}
@@ -15,7 +15,7 @@ use Rattle.rpkibasic.specs.declared.command.Command.TheVariants.{Again}
 use Rattle.rpki.specs.SignedData.{written_contents, written_signed}
 
 -- what is given with memory is due, or the program gave up
-replied : (command : Command) (octets : List ℕ) (a : Answer) → length octets ≤ most_octets → Answers command octets a → Replies command octets a
+replied : (command : Command) (octets : List ℕ) (a : Answer) → length octets ≤ most_octets most_calls → Answers command octets a → Replies command octets a
 replied command octets (Ok text) few h = inl (h, few)
 replied command octets (Err (Refused e)) few h = inl (h, few)
 replied command octets (Err (RefusedUri e)) few h = inl (h, few)
@@ -26,7 +26,7 @@ replied command octets (Err Usage) few h = inl (h, few)
 replied command octets (Err Output) few h = inl (h, few)
 
 -- what is returned for the octets that were read is returned for the input
-pub answered : (command asked : Command) (input : Option (List ℕ)) (octets : List ℕ) (a : Answer) → command ≡ asked → IfSome input (λ bytes. octets ≡ bytes) → length octets ≤ most_octets
+pub answered : (command asked : Command) (input : Option (List ℕ)) (octets : List ℕ) (a : Answer) → command ≡ asked → IfSome input (λ bytes. octets ≡ bytes) → length octets ≤ most_octets most_calls
     → Answers asked octets a → IfSome input (λ bytes. Replies command bytes a)
 answered command asked None octets a is same few h = tt
 answered command asked (Some bytes) octets a is same few h =

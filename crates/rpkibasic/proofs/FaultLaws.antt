@@ -13,12 +13,12 @@ use Rattle.rpkibasic.specs.Run.{IsFaultOf, UnlessMemory}
 -- the fault of an error of the reader of whole octets
 pub fault-of : {V : Type 0} (G : V → List ℕ → Type 0) (P : List ℕ → Type 0) (T : Type 0) (input : List ℕ) (e : DecodeError)
     → UnlessNoMemory e (SpellsNothing G input) × IsWholeFault G (OrMemoryWhere P (GivesOuterFault sequence true)) input e → UnlessMemory (refusal e) (IsFaultOf G T input (refusal e))
-fault-of G P T input Truncated h = ((λ (z : Truncated ≡ OutOfMemory). cc), h.0, record { trailing = h.1.trailing; kind = h.1.kind })
-fault-of G P T input BadTag h = ((λ (z : BadTag ≡ OutOfMemory). cc), h.0, record { trailing = h.1.trailing; kind = h.1.kind })
-fault-of G P T input BadLength h = ((λ (z : BadLength ≡ OutOfMemory). cc), h.0, record { trailing = h.1.trailing; kind = h.1.kind })
-fault-of G P T input Unexpected h = ((λ (z : Unexpected ≡ OutOfMemory). cc), h.0, record { trailing = h.1.trailing; kind = h.1.kind })
-fault-of G P T input (Content x) h = ((λ (z : Content x ≡ OutOfMemory). cc), h.0, record { trailing = h.1.trailing; kind = h.1.kind })
-fault-of G P T input Trailing h = ((λ (z : Trailing ≡ OutOfMemory). cc), h.0, record { trailing = h.1.trailing; kind = h.1.kind })
+fault-of G P T input Truncated h = ((λ (z : Truncated ≡ OutOfMemory). cc), h.0, record { trailing = h.1.trailing; kind = h.1.kind; memory = λ z. cc })
+fault-of G P T input BadTag h = ((λ (z : BadTag ≡ OutOfMemory). cc), h.0, record { trailing = h.1.trailing; kind = h.1.kind; memory = λ z. cc })
+fault-of G P T input BadLength h = ((λ (z : BadLength ≡ OutOfMemory). cc), h.0, record { trailing = h.1.trailing; kind = h.1.kind; memory = λ z. cc })
+fault-of G P T input Unexpected h = ((λ (z : Unexpected ≡ OutOfMemory). cc), h.0, record { trailing = h.1.trailing; kind = h.1.kind; memory = λ z. cc })
+fault-of G P T input (Content x) h = ((λ (z : Content x ≡ OutOfMemory). cc), h.0, record { trailing = h.1.trailing; kind = h.1.kind; memory = λ z. cc })
+fault-of G P T input Trailing h = ((λ (z : Trailing ≡ OutOfMemory). cc), h.0, record { trailing = h.1.trailing; kind = h.1.kind; memory = λ z. cc })
 fault-of G P T input OutOfMemory h = tt
 
 -- what does not fit is too long

@@ -4,10 +4,10 @@ use Rattle.std.proofs.lemmas.List.{append-nil}
 use Rattle.rpki_der.specs.declared.error.DecodeError.{DecodeError}
 use Rattle.rpki_der.specs.declared.error.DecodeError.TheVariants.{Truncated, BadTag, BadLength, Unexpected, Content, Trailing, OutOfMemory}
 use Rattle.rpki_der.specs.TagName.{sequence}
-use Rattle.rpki_der.specs.Reading.{Spells, Accepts, Refuses, Refusal, OrMemoryWhere, Finds}
-use Rattle.rpki_der.specs.Values.{GivesOuterFault}
+use Rattle.rpki_der.specs.Reading.{Spells, Accepts, Refuses, Refusal}
 use Rattle.rpki.specs.ExtensionValue.{ExtensionParts, IsExtensionContents, SpellsExtension}
 use Rattle.rpki.proofs.NameLaws.{leaf-nowhere}
+use Rattle.rpki.specs.ExtensionFault.{IsCertExtensionFault, IsKeptExtensionFault}
 use Rattle.rpkibasic.specs.Fault.{refusal}
 use Rattle.rpkibasic.specs.Run.{SpellsOnly, SpellsExtensions, StopsAt, IsExtensionFault, UnlessMemory}
 
@@ -59,7 +59,7 @@ nothing-left : (rest : List ℕ) → (rest ≡ [] → ⊥) → Refuses SpellsExt
 nothing-left rest some none [] k = some k
 nothing-left rest some none (z ∷ zs) k = none z k.0 k.1
 
-stops : (input rest : List ℕ) (xs : List ExtensionParts) (e : DecodeError) → (rest ≡ [] → ⊥) → HaveRead input xs rest → e ≢ OutOfMemory → Refuses SpellsExtension rest → GivesOuterFault sequence true rest e → StopsAt input e
+stops : (input rest : List ℕ) (xs : List ExtensionParts) (e : DecodeError) → (rest ≡ [] → ⊥) → HaveRead input xs rest → e ≢ OutOfMemory → Refuses SpellsExtension rest → IsCertExtensionFault rest e → StopsAt input e
 stops input rest xs e some h other none kind = record {
   front = h.front;
   rest = rest;
@@ -72,7 +72,7 @@ stops input rest xs e some h other none kind = record {
 }
 
 pub extension-fault : (input rest left : List ℕ) (xs : List ExtensionParts) (e : DecodeError) → (rest ≡ [] → ⊥) → HaveRead input xs rest
-    → Refusal SpellsExtension (OrMemoryWhere (Finds SpellsExtension) (GivesOuterFault sequence true)) rest left e → UnlessMemory (refusal e) (IsExtensionFault input (refusal e))
+    → Refusal SpellsExtension IsKeptExtensionFault rest left e → UnlessMemory (refusal e) (IsExtensionFault input (refusal e))
 extension-fault input rest left xs Truncated some h k = stops input rest xs Truncated some h (λ (z : Truncated ≡ OutOfMemory). cc) k.refuses k.kind
 extension-fault input rest left xs BadTag some h k = stops input rest xs BadTag some h (λ (z : BadTag ≡ OutOfMemory). cc) k.refuses k.kind
 extension-fault input rest left xs BadLength some h k = stops input rest xs BadLength some h (λ (z : BadLength ≡ OutOfMemory). cc) k.refuses k.kind

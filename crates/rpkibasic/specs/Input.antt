@@ -1,15 +1,19 @@
 -- Reading the input to its end.
-use Rattle.std.specs.Prelude.{◌≢◌, ℕ, ◌*◌, ◌≤◌, List, [], length}
+use Rattle.std.specs.Prelude.{◌≢◌, ℕ, ◌-◌, ◌*◌, ◌≤◌, List, [], length}
 use Rattle.rpkibasic.specs.declared.input.Unread.{Unread}
 use Rattle.rpkibasic.specs.declared.input.Unread.TheVariants.{Failed, Endless, OutOfMemory}
 
--- the reader is called at most 16,777,216 times, for 65,536 octets each time, and the last call finds the end
-abbrev pub most_octets : ℕ
-most_octets = 16_777_215 * 65_536
+-- how often the program calls its reader at most
+abbrev pub most_calls : ℕ
+most_calls = 16_777_216
 
--- Why the octets that a reader has were not read to their end: each of 16,777,216 calls gave one of them or more; or
+-- each call asks the reader for 65,536 octets, and the last one finds the end
+abbrev pub most_octets : ℕ → ℕ
+most_octets calls = (calls - 1) * 65_536
+
+-- Why the octets that a reader has were not read to their end by so many calls: each of them gave one octet or more; or
 -- allocation failed, where there was an octet; or the reader failed.
-abbrev pub IsUnread : List ℕ → Unread → Type 0
-IsUnread octets Endless = 16_777_216 ≤ length octets
-IsUnread octets OutOfMemory = octets ≢ []
-IsUnread octets (Failed e) = Unit {0}
+abbrev pub IsUnread : ℕ → List ℕ → Unread → Type 0
+IsUnread calls octets Endless = calls ≤ length octets
+IsUnread calls octets OutOfMemory = octets ≢ []
+IsUnread calls octets (Failed e) = Unit {0}

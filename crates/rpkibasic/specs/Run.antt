@@ -14,13 +14,14 @@ use Rattle.rpki.specs.AlgorithmOctets.{algorithm_octets}
 use Rattle.rpki.specs.SignedData.{SignedParts, SpellsSigned, written_contents, written_signed}
 use Rattle.rpki.specs.PublicKey.{KeyParts, SpellsKey}
 use Rattle.rpki.specs.Name.{SpellsEach, SpellsNameOctets}
+use Rattle.rpki.specs.ExtensionFault.{IsCertExtensionFault}
 use Rattle.rpki.specs.ExtensionValue.{ExtensionParts, SpellsExtension, written_extension}
 use Rattle.rpki_text.specs.HexText.{hex_text}
 use Rattle.sha1.specs.Sha1.{sha1}
 use Rattle.rpki_text.specs.declared.uri.error.Error.{Error}
 use Rattle.rpkibasic.specs.UriLines.{without_last_line_feed, uri_refusal_of, uri_lines}
 use Rattle.rpkibasic.specs.NameLines.{AreNameLines}
-use Rattle.rpkibasic.specs.Input.{most_octets}
+use Rattle.rpkibasic.specs.Input.{most_calls, most_octets}
 use Rattle.rpkibasic.specs.Fault.{usage_text, line, status_of}
 use Rattle.rpkibasic.specs.declared.fault.Fault.{Fault}
 use Rattle.rpkibasic.specs.declared.fault.Fault.TheVariants.{Usage, Refused, RefusedUri, TooLong, OutOfMemory, Input, Output}
@@ -113,7 +114,7 @@ pub record StopsAt (input : List ℕ) (e : DecodeError) : Type 0 where
   pub parts : input ≡ front ++ rest
   pub read : SpellsExtensions before front
   pub refused : Refuses SpellsExtension rest
-  pub kind : (e ≢ der.OutOfMemory) × GivesOuterFault sequence true rest e
+  pub kind : (e ≢ der.OutOfMemory) × IsCertExtensionFault rest e
   pub none : SpellsNothing SpellsExtensions input
 
 -- why an input isn't extensions
@@ -166,7 +167,7 @@ GaveUp a = (a ≡ Err OutOfMemory) ⊎ (a ≡ Err Input)
 
 -- the answer that is due to an input whose end the calls of the reader can find; or the program gave up
 abbrev pub Replies : Command → List ℕ → Answer → Type 0
-Replies command input a = (IsDue command input a × (length input ≤ most_octets)) ⊎ GaveUp a
+Replies command input a = (IsDue command input a × (length input ≤ most_octets most_calls)) ⊎ GaveUp a
 
 -- without words, and with other words
 abbrev pub usage_answer : List (List ℕ) → Answer

@@ -14,12 +14,12 @@ use rpki::crypto::{KeyIdentifier, PublicKey};
 use std::alloc::{AllocError, Global};
 
 /// The public key that the input is.
-fn decoded(input: Vec<u8>) -> Result<PublicKey, Fault>
+fn decoded(alloc: Global, input: Vec<u8>) -> Result<PublicKey, Fault>
     ensures { MatchResult result (λ k. SpellsOnly SpellsKey k input.items)
         (λ f. UnlessMemory f (IsFaultOf SpellsKey ⊥ input.items f)) }
 {
     let octets = Bytes::from_vec(input)?;
-    let key = PublicKey::decode(octets)?;
+    let key = PublicKey::decode(alloc, octets)?;
     Ok(key)
 }
 
@@ -36,7 +36,7 @@ fn line_of(alloc: Global, identifier: KeyIdentifier) -> Result<Vec<u8>, AllocErr
 pub fn key(alloc: Global, input: Vec<u8>) -> Result<Vec<u8>, Fault>
     ensures { Answers Key input.items (answer_of result) }
 {
-    let key = decoded(input)?;
+    let key = decoded(alloc, input)?;
     let provider = BenchProvider::new(Vec::new(alloc));
     let line = line_of(alloc, key.key_identifier(&provider))?;
     Ok(line)

@@ -4,7 +4,7 @@ ghost use Rattle.std.specs.Prelude.{◌≡◌, [], ◌∷◌, IfSome, IfOk, IfEr
 ghost use Rattle.rpkibasic.specs.Fault.{usage_text};
 ghost use Rattle.rpkibasic.specs.Command.{word_of};
 ghost use Rattle.rpkibasic.specs.Run.{Answer, Replies, Shows, usage_answer};
-ghost use Rattle.rpkibasic.specs.View.{answer_of, lent_of};
+ghost use Rattle.rpkibasic.specs.View.{answer_of};
 ghost use Rattle.rpkibasic.specs.declared.command.Command.{Command as AnyCommand};
 
 use crate::answers::{again, data};
@@ -34,17 +34,14 @@ fn answer<R: Read>(alloc: Global, command: Command, input: &mut R) -> Result<Vec
     }
 }
 
-/// Writes a result: a text to the output, or the line of a fault to the faults. Returns the exit status.
-fn show<W: Write, F: Write>(answer: Result<&[u8], Fault>, output: &mut W, faults: &mut F) -> u8
+/// Writes a text to the output; the line of a fault to the faults if that fails. Returns the exit status.
+fn show<W: Write, F: Write>(text: &[u8], output: &mut W, faults: &mut F) -> u8
     ensures { Shows (W.contents output.old) (W.contents output.new) (F.contents faults.old) (F.contents faults.new)
-        (lent_of answer.entry) result }
+        (Ok text.now) result }
 {
-    match answer {
-        Ok(text) => match write_whole(output, text) {
-            Ok(()) => 0,
-            Err(_) => refuse(faults, Fault::Output),
-        },
-        Err(fault) => refuse(faults, fault),
+    match write_whole(output, text) {
+        Ok(()) => 0,
+        Err(_) => refuse(faults, Fault::Output),
     }
 }
 
@@ -76,10 +73,10 @@ pub fn run<R: Read, W: Write, F: Write>(
 {
     match Command::of(words) {
         Some(command) => match answer(alloc, command, input) {
-            Ok(text) => show(Ok(text.as_slice()), output, faults),
-            Err(fault) => show(Err(fault), output, faults),
+            Ok(text) => show(text.as_slice(), output, faults),
+            Err(fault) => refuse(faults, fault),
         },
-        None if words.is_empty() => show(Ok(USAGE), output, faults),
-        None => show(Err(Fault::Usage), output, faults),
+        None if words.is_empty() => show(USAGE, output, faults),
+        None => refuse(faults, Fault::Usage),
     }
 }

@@ -5,13 +5,12 @@ mod cms;
 
 ghost use Rattle.std.specs.Prelude.{◌≡◌, ◌≢◌, ℕ, List, Bool, true, false, IfOk};
 ghost use Rattle.rpki_der.specs.Cursor.{left};
-ghost use Rattle.rpki_der.specs.TagName.{sequence};
-ghost use Rattle.rpki_der.specs.Reading.{Reads, TakesNoMemory, AnyFault};
-ghost use Rattle.rpki_der.specs.Values.{IsOuterFault};
+ghost use Rattle.rpki_der.specs.Reading.{Reads, TakesNoMemory};
 ghost use Rattle.rpki_der.specs.Members.{IsValue};
 ghost use Rattle.rpki.specs.Format.{format_of};
 ghost use Rattle.rpki.specs.Oids.{sha256_with_rsa_encryption, ecdsa_with_sha256};
 ghost use Rattle.rpki.specs.Algorithm.{SpellsAlgorithm};
+ghost use Rattle.rpki.specs.AlgorithmFault.{IsAlgorithmFault};
 ghost use Rattle.rpki.specs.Signature.{signature_of};
 
 use crate::crypto::algorithm_identifier::take_algorithm;
@@ -32,9 +31,13 @@ pub trait SignatureAlgorithm: Sized {
     type Encoder: Values;
 
     ghost use Rattle.rpki.specs.declared.crypto.keys.PublicKeyFormat.{PublicKeyFormat};
+    ghost use Rattle.rpki_der.specs.declared.error.DecodeError.{DecodeError};
 
     /// The octets are an algorithm identifier of the algorithm.
     ghost spells: { Self → List ℕ → Type 0 };
+
+    /// The error of octets that no algorithm identifier begins.
+    ghost fault: { List ℕ → DecodeError → Type 0 };
 
     /// The algorithm identifier that is written.
     ghost written: { Self → List ℕ };
@@ -58,7 +61,7 @@ pub trait SignatureAlgorithm: Sized {
 
     /// An algorithm identifier (RFC 5280 4.1.1.2). Allocates nothing.
     fn x509_take_from(cons: &mut Constructed<'_>) -> Result<Self, DecodeError>
-        ensures { Reads (λ a. a) spells (TakesNoMemory AnyFault) (left cons.old) (left cons.new) result };
+        ensures { Reads (λ a. a) spells (TakesNoMemory fault) (left cons.old) (left cons.new) result };
 
     /// An encoder for the algorithm identifier (RFC 5280 4.1.1.2).
     fn x509_encode(&self) -> Self::Encoder
@@ -129,11 +132,14 @@ impl SignatureAlgorithm for RpkiSignatureAlgorithm {
     ghost use Rattle.std.proofs.Common.{lit<};
     ghost use Rattle.rpki.specs.Oids.{sha256_with_rsa_encryption};
     ghost use Rattle.rpki.specs.Algorithm.{SpellsAlgorithm};
+    ghost use Rattle.rpki.specs.AlgorithmFault.{IsAlgorithmFault};
     ghost use Rattle.rpki.specs.AlgorithmOctets.{algorithm_octets};
     ghost use Rattle.rpki.specs.AlgorithmOctetsLaws.{algorithm-spelled, algorithm-value, algorithm-one};
     ghost use Rattle.rpki.specs.declared.crypto.keys.PublicKeyFormat.TheVariants.{Rsa};
 
     ghost spells = { SpellsAlgorithm sha256_with_rsa_encryption };
+
+    ghost fault = { IsAlgorithmFault sha256_with_rsa_encryption };
 
     ghost written = { λ _. algorithm_octets sha256_with_rsa_encryption true };
 
@@ -161,8 +167,8 @@ impl SignatureAlgorithm for RpkiSignatureAlgorithm {
     ///
     /// The errors are those of a SEQUENCE; then `Content` for another identifier; then `Trailing` for other parameters.
     fn x509_take_from(cons: &mut Constructed<'_>) -> Result<Self, DecodeError>
-        ensures { Reads (λ a. a) (SpellsAlgorithm sha256_with_rsa_encryption) (IsOuterFault sequence true)
-            (left cons.old) (left cons.new) result }
+        ensures { Reads (λ a. a) (SpellsAlgorithm sha256_with_rsa_encryption)
+            (IsAlgorithmFault sha256_with_rsa_encryption) (left cons.old) (left cons.new) result }
     {
         let has_parameters = take_algorithm(cons, oid::SHA256_WITH_RSA_ENCRYPTION)?;
         Ok(RpkiSignatureAlgorithm { has_parameters })

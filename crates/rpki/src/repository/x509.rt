@@ -7,7 +7,7 @@ mod signed_data;
 mod subject_name;
 mod update;
 
-pub use cert_extension::{CertExtension, ExtensionBytes};
+pub use cert_extension::{CertExtension, ExtensionBytes, ExtensionView};
 pub use extension::{Extension, encode_extension};
 pub use name::Name;
 pub use rpki_time::{

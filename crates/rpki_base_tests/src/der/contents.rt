@@ -51,10 +51,15 @@ fn bit_rows() -> &'static [(
     BITS
 }
 
-fn is_bits(octets: &'static [u8], expected: Result<(u8, &[u8]), Kind>) -> bool {
+/// The bit string at the front.
+fn taken(alloc: Global, cursor: &mut Constructed<'_>) -> Result<BitString, DecodeError> {
+    cursor.take_bit_string(alloc)
+}
+
+fn is_bits(alloc: Global, octets: &'static [u8], expected: Result<(u8, &[u8]), Kind>) -> bool {
     let source: Bytes = Bytes::from_static(octets);
     let mut cursor = Constructed::new(&source);
-    match (cursor.take_bit_string(), expected) {
+    match (taken(alloc, &mut cursor), expected) {
         (Ok(found), Ok((unused, octets))) => {
             found.unused() == unused && found.octet_slice() == octets && cursor.is_empty()
         }
@@ -66,7 +71,7 @@ fn is_bits(octets: &'static [u8], expected: Result<(u8, &[u8]), Kind>) -> bool {
 #[test]
 fn bit_strings_are_read(rt: HostRuntime) {
     for (name, octets, expected) in bit_rows() {
-        assert!(rt; is_bits(octets, *expected), "{name}");
+        assert!(rt; is_bits(rt.alloc(), octets, *expected), "{name}");
     }
 }
 
@@ -222,7 +227,7 @@ const SEVEN_OCTETS: &[u8] = &[0xaa];
 #[test]
 fn bit_strings(rt: HostRuntime) -> Result<(), Fail> {
     let source: Bytes = Bytes::from_static(SEVEN);
-    let bits = Constructed::new(&source).take_bit_string()?;
+    let bits = taken(rt.alloc(), &mut Constructed::new(&source))?;
     assert!(rt; bits.unused() == 1);
     assert!(rt; bits.octet_slice() == SEVEN_OCTETS);
     assert!(rt; bits.octet_bytes()?.as_slice() == SEVEN_OCTETS);
@@ -232,7 +237,7 @@ fn bit_strings(rt: HostRuntime) -> Result<(), Fail> {
 #[test]
 fn bit_strings_are_equal(rt: HostRuntime) -> Result<(), Fail> {
     let source: Bytes = Bytes::from_static(SEVEN);
-    let bits = Constructed::new(&source).take_bit_string()?;
+    let bits = taken(rt.alloc(), &mut Constructed::new(&source))?;
     assert!(rt; bits.clone()? == bits);
     let other = BitString::new(0, Bytes::from_static(SEVEN_OCTETS));
     assert!(rt; !(other == bits));

@@ -184,7 +184,7 @@ fn indexes_a_slice(rt: HostRuntime) {
 
 /// The octets that a cursor on the slice captures, or the number of the error; and how many octets are left.
 fn captured_of_slice(alloc: Global, octets: &[u8]) -> (Result<Captured, u8>, usize) {
-    let mut cursor = Constructed::from_slice(alloc, octets);
+    let mut cursor = Constructed::from_slice(octets);
     let found = match cursor.capture_one(alloc) {
         Ok(found) => Ok(found),
         Err(e) => Err(e.number()),

@@ -122,39 +122,59 @@ fn repeated_refusal(alloc: Global, parts: &[(&str, usize)]) -> Result<Option<Err
     Ok(refusal(alloc, text.as_str()))
 }
 
-const LIMITS: [(&[(&str, usize)], Option<Error>); 14] = [
-    (&[("rsync://", 1), ("a", 255), ("/m/", 1)], None),
+const LIMITS: [(&str, &[(&str, usize)], Option<Error>); 14] = [
     (
+        "an authority of 255 octets",
+        &[("rsync://", 1), ("a", 255), ("/m/", 1)],
+        None,
+    ),
+    (
+        "an authority of 256 octets",
         &[("rsync://", 1), ("a", 256), ("/m/", 1)],
         Some(Error::LongSegments),
     ),
-    (&[("rsync://host/", 1), ("a", 255), ("/", 1)], None),
     (
+        "a module of 255 octets",
+        &[("rsync://host/", 1), ("a", 255), ("/", 1)],
+        None,
+    ),
+    (
+        "a module of 256 octets",
         &[("rsync://host/", 1), ("a", 256), ("/", 1)],
         Some(Error::LongSegments),
     ),
-    (&[("rsync://host/module/", 1), ("a", 255)], None),
     (
+        "a segment of 255 octets",
+        &[("rsync://host/module/", 1), ("a", 255)],
+        None,
+    ),
+    (
+        "a segment of 256 octets",
         &[("rsync://host/module/", 1), ("a", 256)],
         Some(Error::LongSegments),
     ),
     (
+        "a long segment, then dots",
         &[("rsync://host/module/", 1), ("a", 256), ("/..", 1)],
         Some(Error::LongSegments),
     ),
     (
+        "dots, then a long segment",
         &[("rsync://host/module/../", 1), ("a", 256)],
         Some(Error::DotSegments),
     ),
     (
+        "3,071 octets after the scheme",
         &[("rsync://host/module/", 1), (SEGMENT, 11), ("a", 243)],
         None,
     ),
     (
+        "3,072 octets after the scheme",
         &[("rsync://host/module/", 1), (SEGMENT, 11), ("a", 244)],
         Some(Error::LongUri),
     ),
     (
+        "3,072 octets after the scheme, the last a slash",
         &[
             ("rsync://host/module/", 1),
             (SEGMENT, 11),
@@ -164,14 +184,17 @@ const LIMITS: [(&[(&str, usize)], Option<Error>); 14] = [
         Some(Error::LongUri),
     ),
     (
+        "3,072 octets, and dots before",
         &[("rsync://../module/", 1), (SEGMENT, 11), ("a", 246)],
         Some(Error::LongUri),
     ),
     (
+        "3,071 octets, and dots before",
         &[("rsync://../module/", 1), (SEGMENT, 11), ("a", 245)],
         Some(Error::DotSegments),
     ),
     (
+        "a long text with a blank",
         &[("rsync://host/module/", 1), (SEGMENT, 12), (" ", 1)],
         Some(Error::InvalidCharacters),
     ),
@@ -179,9 +202,9 @@ const LIMITS: [(&[(&str, usize)], Option<Error>); 14] = [
 
 #[test]
 fn limits(rt: HostRuntime) -> Result<(), Fail> {
-    for (case, (parts, want)) in LIMITS.iter().enumerate() {
+    for (name, parts, want) in LIMITS {
         let found = repeated_refusal(rt.alloc(), parts)?;
-        assert!(rt; found == *want, "limit {case}");
+        assert!(rt; found == want, "{name}");
     }
     Ok(())
 }
@@ -324,17 +347,25 @@ fn long_join(alloc: Global, path: &[(&str, usize)]) -> Result<Result<usize, Erro
 }
 
 /// A path of so many segments and so many octets more, and what its join gives.
-const LONG_JOINS: [(&[(&str, usize)], Result<usize, Error>); 3] = [
-    (&[(SEGMENT, 11), ("a", 235)], Ok(3071)),
-    (&[(SEGMENT, 11), ("a", 236)], Err(Error::LongUri)),
-    (&[(SEGMENT, 12)], Err(Error::LongUri)),
+const LONG_JOINS: [(&str, &[(&str, usize)], Result<usize, Error>); 3] = [
+    ("3,071 octets", &[(SEGMENT, 11), ("a", 235)], Ok(3071)),
+    (
+        "3,072 octets",
+        &[(SEGMENT, 11), ("a", 236)],
+        Err(Error::LongUri),
+    ),
+    (
+        "twelve long segments",
+        &[(SEGMENT, 12)],
+        Err(Error::LongUri),
+    ),
 ];
 
 #[test]
 fn long_joins(rt: HostRuntime) -> Result<(), Fail> {
-    for (case, (path, want)) in LONG_JOINS.iter().enumerate() {
+    for (name, path, want) in LONG_JOINS {
         let found = long_join(rt.alloc(), path)?;
-        assert!(rt; found == *want, "join {case}");
+        assert!(rt; found == want, "{name}");
     }
     Ok(())
 }
@@ -548,12 +579,12 @@ fn comparisons(rt: HostRuntime) {
     }
 }
 
-/// A URI, and octets that are not equal to it.
-const OTHER_OCTETS: [(&str, &[u8]); 4] = [
-    ("rsync://host/m/p", b""),
-    ("rsync://host/m/p", b"rsync://HOST"),
-    ("rsync://host/m/p", b"xsync://host/m/p"),
-    ("rsync://h/m/", b"rsync://h/m"),
+/// A name, a URI, and octets that are not equal to it.
+const OTHER_OCTETS: [(&str, &str, &[u8]); 4] = [
+    ("no octets", "rsync://host/m/p", b""),
+    ("its authority alone", "rsync://host/m/p", b"rsync://HOST"),
+    ("another scheme", "rsync://host/m/p", b"xsync://host/m/p"),
+    ("no slash at the end", "rsync://h/m/", b"rsync://h/m"),
 ];
 
 /// Whether the text is read as a URI that is not equal to the octets.
@@ -563,8 +594,8 @@ fn differs(alloc: Global, text: &str, octets: &[u8]) -> Result<bool, Error> {
 
 #[test]
 fn other_octets(rt: HostRuntime) -> Result<(), Fail> {
-    for (case, (text, octets)) in OTHER_OCTETS.iter().enumerate() {
-        assert!(rt; differs(rt.alloc(), text, octets)?, "row {case}, {text}");
+    for (name, text, octets) in OTHER_OCTETS {
+        assert!(rt; differs(rt.alloc(), text, octets)?, "{name}, {text}");
     }
     Ok(())
 }

@@ -21,11 +21,14 @@ fn rsync_ranges(text: &str) -> Result<[usize; 6], Error> {
     ])
 }
 
-const RSYNC_RANGES: [(&str, Result<[usize; 6], Error>); 7] = [
+const RSYNC_RANGES: [(&str, Result<[usize; 6], Error>); 9] = [
     ("rsync://host/module/foo/bar", Ok([8, 12, 13, 19, 20, 27])),
     ("rSync://hOst/module/foo/bar/", Ok([8, 12, 13, 19, 20, 28])),
     ("RSYNC://h/m/", Ok([8, 9, 10, 11, 12, 12])),
     ("rsync://host:873/m/a", Ok([8, 16, 17, 18, 19, 20])),
+    // Parts with the same octets.
+    ("rsync://m/m/m", Ok([8, 9, 10, 11, 12, 13])),
+    ("rsync://rsync/rsync/rsync", Ok([8, 13, 14, 19, 20, 25])),
     ("rsync://host/module", Err(Error::BadUri)),
     ("rsync://host/module/a//", Err(Error::EmptySegments)),
     ("https://host/module/", Err(Error::BadScheme)),
@@ -46,12 +49,14 @@ fn https_ranges(text: &str) -> Result<[usize; 4], Error> {
     Ok([authority.start, authority.end, path.start, path.end])
 }
 
-const HTTPS_RANGES: [(&str, Result<[usize; 4], Error>); 6] = [
+const HTTPS_RANGES: [(&str, Result<[usize; 4], Error>); 8] = [
     ("https://host/a/b", Ok([8, 12, 12, 16])),
     ("HTTPS://HOST/", Ok([8, 12, 12, 13])),
     ("https://host", Ok([8, 12, 12, 12])),
     ("https:///", Ok([8, 8, 8, 9])),
     ("https://", Ok([8, 8, 8, 8])),
+    ("https://h/h", Ok([8, 9, 9, 11])),
+    ("https:////", Ok([8, 8, 8, 10])),
     ("rsync://host/m/", Err(Error::BadScheme)),
 ];
 
@@ -73,7 +78,7 @@ fn relative<'a>(of: &'a str, base: &str) -> Result<Option<(&'a str, usize, usize
     })
 }
 
-const RELATIVES: [(&str, &str, Option<(&str, usize, usize)>); 7] = [
+const RELATIVES: [(&str, &str, Option<(&str, usize, usize)>); 10] = [
     (
         "rsync://host/module/a/b/",
         "rsync://host/module/a",
@@ -94,6 +99,10 @@ const RELATIVES: [(&str, &str, Option<(&str, usize, usize)>); 7] = [
         "rsync://host/module/a",
         Some(("", 22, 22)),
     ),
+    // Parts with the same octets.
+    ("rsync://h/m/m", "rsync://h/m/", Some(("m", 12, 13))),
+    ("rsync://m/m/m/m", "rsync://m/m/m", Some(("m", 14, 15))),
+    ("rsync://m/m/", "rsync://m/m/", Some(("", 12, 12))),
     ("rsync://host/module/", "rsync://host/module/a", None),
     ("rsync://host/module/ab", "rsync://host/module/a", None),
     ("rsync://host/M/a", "rsync://host/m/", None),

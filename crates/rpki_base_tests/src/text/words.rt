@@ -91,19 +91,19 @@ fn characters(rt: HostRuntime) {
     }
 }
 
-/// Octets, and those that they begin with but for the case of letters, or not.
-const BEGINNINGS: [(&[u8], &[u8], bool); 5] = [
-    (b"rSYNC://host", b"rsync://", true),
-    (b"rsync:/", b"rsync://", false),
-    (b"fsync://", b"rsync://", false),
-    (b"", b"", true),
-    (b"", b"a", false),
+/// A name, octets, and those that they begin with but for the case of letters, or not.
+const BEGINNINGS: [(&str, &[u8], &[u8], bool); 5] = [
+    ("other case", b"rSYNC://host", b"rsync://", true),
+    ("cut short", b"rsync:/", b"rsync://", false),
+    ("another letter", b"fsync://", b"rsync://", false),
+    ("no octets, of none", b"", b"", true),
+    ("an octet, of none", b"", b"a", false),
 ];
 
 #[test]
 fn beginnings(rt: HostRuntime) {
-    for (case, (octets, beginning, want)) in BEGINNINGS.iter().enumerate() {
+    for (name, octets, beginning, want) in BEGINNINGS {
         let found = starts_with_ignore_case(octets, beginning);
-        assert!(rt; found == *want, "row {case}");
+        assert!(rt; found == want, "{name}");
     }
 }

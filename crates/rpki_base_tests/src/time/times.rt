@@ -31,54 +31,83 @@ fn ask(asked: Asked, now: Time) -> Option<Time> {
     }
 }
 
-const ASKED: &[(Asked, Parts, Option<Parts>)] = &[
-    (Asked::FiveMinutesAgo, (0, 1, 1, 0, 4, 59), None),
+/// Names, what is asked, of which time, and what comes of it.
+const ASKED: &[(&str, Asked, Parts, Option<Parts>)] = &[
     (
+        "five minutes before the first year",
+        Asked::FiveMinutesAgo,
+        (0, 1, 1, 0, 4, 59),
+        None,
+    ),
+    (
+        "five minutes ago",
         Asked::FiveMinutesAgo,
         (0, 1, 1, 0, 5, 0),
         Some((0, 1, 1, 0, 0, 0)),
     ),
     (
+        "in five minutes",
         Asked::FiveMinutesFromNow,
         (2019, 12, 31, 23, 55, 0),
         Some((2020, 1, 1, 0, 0, 0)),
     ),
     (
+        "tomorrow",
         Asked::Tomorrow,
         (2020, 2, 28, 12, 0, 0),
         Some((2020, 2, 29, 12, 0, 0)),
     ),
-    (Asked::Tomorrow, (9999, 12, 31, 0, 0, 0), None),
     (
+        "the day after the last",
+        Asked::Tomorrow,
+        (9999, 12, 31, 0, 0, 0),
+        None,
+    ),
+    (
+        "next week",
         Asked::NextWeek,
         (2020, 2, 28, 12, 0, 0),
         Some((2020, 3, 6, 12, 0, 0)),
     ),
     (
+        "next year",
         Asked::NextYear,
         (2020, 2, 29, 12, 0, 0),
         Some((2021, 2, 28, 12, 0, 0)),
     ),
     (
+        "in ten years",
         Asked::YearsFromNow(10),
         (2020, 2, 29, 16, 39, 57),
         Some((2030, 2, 28, 16, 39, 57)),
     ),
-    (Asked::YearsFromNow(1), (9999, 1, 1, 0, 0, 0), None),
     (
+        "a year after the last",
+        Asked::YearsFromNow(1),
+        (9999, 1, 1, 0, 0, 0),
+        None,
+    ),
+    (
+        "a second less by addition",
         Asked::Add(-1),
         (2020, 1, 1, 0, 0, 0),
         Some((2019, 12, 31, 23, 59, 59)),
     ),
     (
+        "a second less",
         Asked::Subtract(1),
         (2020, 1, 1, 0, 0, 0),
         Some((2019, 12, 31, 23, 59, 59)),
     ),
-    (Asked::Subtract(1), (0, 1, 1, 0, 0, 0), None),
+    (
+        "a second before the first year",
+        Asked::Subtract(1),
+        (0, 1, 1, 0, 0, 0),
+        None,
+    ),
 ];
 
-fn asked_rows() -> &'static [(Asked, Parts, Option<Parts>)] {
+fn asked_rows() -> &'static [(&'static str, Asked, Parts, Option<Parts>)] {
     ASKED
 }
 
@@ -92,11 +121,8 @@ fn is_asked(asked: Asked, parts: Parts, expected: Option<Parts>) -> bool {
 
 #[test]
 fn sums_of_times(rt: HostRuntime) {
-    for (case, (asked, parts, expected)) in asked_rows().iter().enumerate() {
-        assert!(rt;
-            is_asked(*asked, *parts, *expected),
-            "row {case}, {asked:?}"
-        );
+    for (name, asked, parts, expected) in asked_rows() {
+        assert!(rt; is_asked(*asked, *parts, *expected), "{name}, {asked:?}");
     }
 }
 

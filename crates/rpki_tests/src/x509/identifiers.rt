@@ -57,7 +57,7 @@ fn parts_of(identifier: KeyIdentifier) -> ([u8; 40], [u8; 20], bool) {
 
 #[test]
 fn identifiers_are_those_of_keys(rt: HostRuntime) -> Result<(), Fail> {
-    let key = decoded(KEY_OF_ABC)?;
+    let key = decoded(rt.alloc(), KEY_OF_ABC)?;
     let (digits, octets, equal) = parts_of(identifier_of_key(&key));
     assert_eq!(rt; digits.as_slice(), DIGITS.as_bytes());
     assert!(rt; equal);
@@ -67,7 +67,7 @@ fn identifiers_are_those_of_keys(rt: HostRuntime) -> Result<(), Fail> {
 
 #[test]
 fn identifiers_are_shown(rt: HostRuntime) -> Result<(), Fail> {
-    let key = decoded(KEY_OF_ABC)?;
+    let key = decoded(rt.alloc(), KEY_OF_ABC)?;
     let found = identifier_of_key(&key);
     let shown = format!(in rt.alloc(); "{found} {found:?}")?;
     assert_eq!(rt;

@@ -82,8 +82,8 @@ const P256_KEY: &[u8] =
     b"\x30\x1A\x30\x13\x06\x07\x2A\x86\x48\xCE\x3D\x02\x01\x06\x08\x2A\x86\x48\xCE\x3D\x03\x01\x07\x03\x03\x00\x04\x01";
 
 /// The octets of the bits; or the kind of the error.
-fn bits_of(octets: &'static [u8]) -> Result<Bytes, Outcome> {
-    match PublicKey::decode(Bytes::from_static(octets)) {
+fn bits_of(alloc: Global, octets: &'static [u8]) -> Result<Bytes, Outcome> {
+    match decoded(alloc, octets) {
         Ok(key) => match key.bits_bytes() {
             Ok(bits) => Ok(bits),
             Err(_) => Err(Outcome::OutOfMemory),
@@ -119,8 +119,8 @@ const KEYS: &[(&str, &[u8], Result<&[u8], Outcome>)] = &[
 ];
 
 /// Whether the octets of the bits, or the kind of the error, are these.
-fn is_read(octets: &'static [u8], expected: &Result<&[u8], Outcome>) -> bool {
-    match (bits_of(octets), expected) {
+fn is_read(alloc: Global, octets: &'static [u8], expected: &Result<&[u8], Outcome>) -> bool {
+    match (bits_of(alloc, octets), expected) {
         (Ok(bits), Ok(wanted)) => bits.as_slice() == *wanted,
         (Err(outcome), Err(wanted)) => outcome == *wanted,
         _ => false,
@@ -130,13 +130,13 @@ fn is_read(octets: &'static [u8], expected: &Result<&[u8], Outcome>) -> bool {
 #[test]
 fn public_keys_are_read(rt: HostRuntime) {
     for (name, octets, expected) in KEYS {
-        assert!(rt; is_read(octets, expected), "{name}");
+        assert!(rt; is_read(rt.alloc(), octets, expected), "{name}");
     }
 }
 
 #[test]
 fn unknown_formats_of_keys_are_named(rt: HostRuntime) {
-    let refused = PublicKey::decode(Bytes::from_static(KEY_OF_NO_FORMAT));
+    let refused = decoded(rt.alloc(), KEY_OF_NO_FORMAT);
     let unknown = DecodeError::Content(ContentError::from_static("invalid public key format"));
     assert_eq!(rt; refused.err(), Some(unknown));
 }
@@ -153,27 +153,40 @@ const AGAIN: &[(&str, &[u8], PublicKeyFormat, &[u8])] = &[
 ];
 
 /// The key that these octets are.
-pub(super) fn decoded(octets: &'static [u8]) -> Result<PublicKey, DecodeError> {
-    PublicKey::decode(Bytes::from_static(octets))
+pub(super) fn decoded(alloc: Global, octets: &'static [u8]) -> Result<PublicKey, DecodeError> {
+    decoded_of(alloc, Bytes::from_static(octets))
+}
+
+/// The same of octets that are shared.
+pub(super) fn decoded_of(alloc: Global, octets: Bytes) -> Result<PublicKey, DecodeError> {
+    PublicKey::decode(alloc, octets)
 }
 
 /// The format of a key, and whether these are the octets of its bits.
-fn parts_of(octets: &'static [u8], bits: &[u8]) -> Result<(PublicKeyFormat, bool), DecodeError> {
-    let key = decoded(octets)?;
+fn parts_of(
+    alloc: Global,
+    octets: &'static [u8],
+    bits: &[u8],
+) -> Result<(PublicKeyFormat, bool), DecodeError> {
+    let key = decoded(alloc, octets)?;
     Ok((key.algorithm(), key.bits() == bits))
 }
 
 #[test]
 fn public_keys_have_parts(rt: HostRuntime) -> Result<(), Fail> {
     for (name, octets, format, bits) in AGAIN {
-        assert_eq!(rt; parts_of(octets, bits)?, (*format, true), "{name}");
+        assert_eq!(rt;
+            parts_of(rt.alloc(), octets, bits)?,
+            (*format, true),
+            "{name}"
+        );
     }
     Ok(())
 }
 
 /// Whether certificates of the RPKI and those of routers may have the key.
-fn allowed(octets: &'static [u8]) -> Result<(bool, bool), DecodeError> {
-    let key = decoded(octets)?;
+fn allowed(alloc: Global, octets: &'static [u8]) -> Result<(bool, bool), DecodeError> {
+    let key = decoded(alloc, octets)?;
     Ok((key.allow_rpki_cert(), key.allow_router_cert()))
 }
 
@@ -185,7 +198,7 @@ fn allowed_by(format: PublicKeyFormat) -> (bool, bool) {
 #[test]
 fn public_keys_are_allowed_by_their_formats(rt: HostRuntime) -> Result<(), Fail> {
     for (name, octets, format, _) in AGAIN {
-        assert_eq!(rt; allowed(octets)?, allowed_by(*format), "{name}");
+        assert_eq!(rt; allowed(rt.alloc(), octets)?, allowed_by(*format), "{name}");
     }
     Ok(())
 }
@@ -197,7 +210,7 @@ fn written_lent(alloc: Global, key: &PublicKey) -> Result<Option<Bytes>, AllocEr
 
 /// The same of the key that these octets are.
 fn lent(alloc: Global, octets: &'static [u8]) -> Result<Option<Bytes>, DecodeError> {
-    let key = decoded(octets)?;
+    let key = decoded(alloc, octets)?;
     Ok(written_lent(alloc, &key)?)
 }
 
@@ -217,7 +230,7 @@ fn written_owned(alloc: Global, key: PublicKey) -> Result<Option<Bytes>, AllocEr
 
 /// The same of a copy of the key that these octets are.
 fn owned(alloc: Global, octets: &'static [u8]) -> Result<Option<Bytes>, DecodeError> {
-    let copy = decoded(octets)?.clone()?;
+    let copy = decoded(alloc, octets)?.clone()?;
     Ok(written_owned(alloc, copy)?)
 }
 
@@ -236,17 +249,21 @@ fn are_equal(one: &PublicKey, other: &PublicKey) -> bool {
 }
 
 /// Whether the key at the front is that of `abc`, and these octets follow it.
-fn is_front(octets: &'static [u8], rest: &[u8]) -> Result<(bool, bool), DecodeError> {
+fn is_front(
+    alloc: Global,
+    octets: &'static [u8],
+    rest: &[u8],
+) -> Result<(bool, bool), DecodeError> {
     let source = Bytes::from_static(octets);
     let mut cons = Constructed::new(&source);
-    let key = PublicKey::take_from(&mut cons)?;
-    let same = are_equal(&key, &decoded(KEY_OF_ABC)?);
+    let key = PublicKey::take_from(alloc, &mut cons)?;
+    let same = are_equal(&key, &decoded(alloc, KEY_OF_ABC)?);
     Ok((same, cons.rest() == rest))
 }
 
 #[test]
 fn public_keys_are_read_one_by_one(rt: HostRuntime) -> Result<(), Fail> {
-    assert_eq!(rt; is_front(KEY_AND_MORE, b"\x00")?, (true, true));
+    assert_eq!(rt; is_front(rt.alloc(), KEY_AND_MORE, b"\x00")?, (true, true));
     Ok(())
 }
 
@@ -268,22 +285,22 @@ const COMPARED: &[(&str, &[u8], bool)] = &[
 ];
 
 /// Whether the key is equal to that of eight bits.
-fn is_first(octets: &'static [u8]) -> Result<bool, DecodeError> {
-    let key = decoded(octets)?;
-    Ok(are_equal(&key, &decoded(EIGHT_BITS)?))
+fn is_first(alloc: Global, octets: &'static [u8]) -> Result<bool, DecodeError> {
+    let key = decoded(alloc, octets)?;
+    Ok(are_equal(&key, &decoded(alloc, EIGHT_BITS)?))
 }
 
 /// Whether a copy of the key is equal to it.
-fn is_copied(octets: &'static [u8]) -> Result<bool, DecodeError> {
-    let key = decoded(octets)?;
+fn is_copied(alloc: Global, octets: &'static [u8]) -> Result<bool, DecodeError> {
+    let key = decoded(alloc, octets)?;
     Ok(are_equal(&key.clone()?, &key))
 }
 
 #[test]
 fn public_keys_are_compared(rt: HostRuntime) -> Result<(), Fail> {
     for (name, octets, equal) in COMPARED {
-        assert_eq!(rt; is_first(octets)?, *equal, "{name}");
-        assert!(rt; is_copied(octets)?, "a copy: {name}");
+        assert_eq!(rt; is_first(rt.alloc(), octets)?, *equal, "{name}");
+        assert!(rt; is_copied(rt.alloc(), octets)?, "a copy: {name}");
     }
     Ok(())
 }
@@ -324,14 +341,14 @@ fn subject_written(alloc: Global, key: &PublicKey) -> Result<Option<Bytes>, Allo
 
 #[test]
 fn subjects_are_named_by_their_keys(rt: HostRuntime) -> Result<(), Fail> {
-    let name = subject_written(rt.alloc(), &decoded(KEY_OF_ABC)?)?.ok_or("too long")?;
+    let name = subject_written(rt.alloc(), &decoded(rt.alloc(), KEY_OF_ABC)?)?.ok_or("too long")?;
     assert_eq!(rt; name.as_slice(), SUBJECT);
     Ok(())
 }
 
 /// The name of the subject with the key of `abc`.
 fn subject(alloc: Global) -> Result<Name, Fail> {
-    let key = decoded(KEY_OF_ABC)?;
+    let key = decoded(alloc, KEY_OF_ABC)?;
     Ok(Name::from_pub_key(alloc, &Always { answer: true }, &key)?)
 }
 
@@ -346,7 +363,7 @@ fn names_of_keys_are_strict(rt: HostRuntime) -> Result<(), Fail> {
 
 /// Whether the key makes the same name.
 fn is_named(alloc: Global, name: &Name) -> Result<bool, Fail> {
-    let key = decoded(KEY_OF_ABC)?;
+    let key = decoded(alloc, KEY_OF_ABC)?;
     Ok(key.to_subject_name(alloc, &Always { answer: true })? == *name)
 }
 

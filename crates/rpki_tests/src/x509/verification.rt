@@ -1,13 +1,13 @@
 //! Signed data of several algorithms, and its verification.
 
-ghost use Rattle.std.specs.Prelude.{true, [], ◌∷◌};
+ghost use Rattle.std.specs.Prelude.{[], ◌∷◌};
 ghost use Rattle.rpki_der.specs.Cursor.{left};
-ghost use Rattle.rpki_der.specs.TagName.{sequence};
 ghost use Rattle.rpki_der.specs.Reading.{Reads};
-ghost use Rattle.rpki_der.specs.Values.{IsOuterFault};
+ghost use Rattle.rpki.specs.AlgorithmFault.{IsBareFault};
 ghost use Rattle.rpki.specs.SignatureNames.{SpellsBare};
 
 use super::Always;
+use super::keys::decoded;
 use super::signed_data::{decoded_by, is_written_as};
 use bytes::Bytes;
 use rpki::crypto::{
@@ -50,11 +50,14 @@ impl SignatureAlgorithm for OwnAlgorithm {
 
     ghost use Rattle.std.specs.Prelude.{[], ◌∷◌, refl};
     ghost use Rattle.std.proofs.Common.{lit<};
+    ghost use Rattle.rpki.specs.AlgorithmFault.{IsBareFault};
     ghost use Rattle.rpki.specs.SignatureNames.{SpellsBare, bare_octets};
     ghost use Rattle.rpki.specs.BareOctetsLaws.{bare-spelled, bare-value};
     ghost use Rattle.rpki.specs.declared.crypto.keys.PublicKeyFormat.TheVariants.{Rsa};
 
     ghost spells = { SpellsBare (42 ∷ 3 ∷ []) };
+
+    ghost fault = { IsBareFault (42 ∷ 3 ∷ []) };
 
     ghost written = { λ _. bare_octets (42 ∷ 3 ∷ []) };
 
@@ -79,7 +82,7 @@ impl SignatureAlgorithm for OwnAlgorithm {
     }
 
     fn x509_take_from(cons: &mut Constructed<'_>) -> Result<Self, DecodeError>
-        ensures { Reads (λ a. a) (SpellsBare (42 ∷ 3 ∷ [])) (IsOuterFault sequence true) (left cons.old)
+        ensures { Reads (λ a. a) (SpellsBare (42 ∷ 3 ∷ [])) (IsBareFault (42 ∷ 3 ∷ [])) (left cons.old)
             (left cons.new) result }
     {
         cons.in_sequence(|contents| contents.skip_oid_if(OWN_NAME))?;
@@ -181,11 +184,6 @@ const CASES: &[(&str, &[u8], &[Triple], bool)] = &[
     ),
 ];
 
-/// The key that these octets are.
-fn key_of(octets: &'static [u8]) -> Result<PublicKey, DecodeError> {
-    PublicKey::decode(Bytes::from_static(octets))
-}
-
 /// Whether signed data of any algorithm is verified with the key, as the provider says.
 fn is_accepted<Alg: SignatureAlgorithm, P: Provider>(
     signed: &SignedData<Alg>,
@@ -201,7 +199,7 @@ fn is_verified(
     octets: &'static [u8],
     triples: &'static [Triple],
 ) -> Result<bool, DecodeError> {
-    let key = key_of(KEY_OF_ABC)?;
+    let key = decoded(alloc, KEY_OF_ABC)?;
     let signed = decoded_by::<RpkiSignatureAlgorithm>(alloc, octets)?;
     Ok(is_accepted(&signed, &Table { triples }, &key))
 }
@@ -223,8 +221,8 @@ const ANSWERS: &[(&str, &[u8], bool, bool)] = &[
 ];
 
 /// Whether an RSA signature is verified with the key, by a provider that answers the same to all.
-fn is_verified_by(answer: bool, octets: &'static [u8]) -> Result<bool, DecodeError> {
-    let key = key_of(octets)?;
+fn is_verified_by(alloc: Global, answer: bool, octets: &'static [u8]) -> Result<bool, DecodeError> {
+    let key = decoded(alloc, octets)?;
     let signature: RpkiSignature = Signature::new(
         RpkiSignatureAlgorithm::default(),
         Bytes::from_static(b"\xAA"),
@@ -238,7 +236,7 @@ fn is_verified_by(answer: bool, octets: &'static [u8]) -> Result<bool, DecodeErr
 #[test]
 fn keys_of_another_format_verify_nothing(rt: HostRuntime) -> Result<(), Fail> {
     for (name, octets, answer, expected) in ANSWERS {
-        let verified = is_verified_by(*answer, octets)?;
+        let verified = is_verified_by(rt.alloc(), *answer, octets)?;
         assert_eq!(rt; verified, *expected, "{name}");
     }
     Ok(())

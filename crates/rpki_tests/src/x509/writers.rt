@@ -183,17 +183,17 @@ enum Encoder {
 }
 
 fn key_written(alloc: Global, fault: Fault) -> Result<Option<Outcome>, DecodeError> {
-    let encoder = keys::decoded(KEY_OF_ABC)?.encode();
+    let encoder = keys::decoded(alloc, KEY_OF_ABC)?.encode();
     Ok(written(alloc, fault, &encoder)?)
 }
 
 fn lent_key_written(alloc: Global, fault: Fault) -> Result<Option<Outcome>, DecodeError> {
-    let key = keys::decoded(KEY_OF_ABC)?;
+    let key = keys::decoded(alloc, KEY_OF_ABC)?;
     Ok(written(alloc, fault, &key.encode_ref())?)
 }
 
 fn subject_written(alloc: Global, fault: Fault) -> Result<Option<Outcome>, DecodeError> {
-    let (key, provider) = (keys::decoded(KEY_OF_ABC)?, Always { answer: true });
+    let (key, provider) = (keys::decoded(alloc, KEY_OF_ABC)?, Always { answer: true });
     Ok(written(alloc, fault, &key.encode_subject_name(&provider))?)
 }
 

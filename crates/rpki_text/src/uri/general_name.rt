@@ -16,13 +16,6 @@ const URI_STRING: Tag = Tag::IA5_STRING;
 /// The tag of a URI among general names, uniformResourceIdentifier (RFC 5280 4.2.1.6).
 const URI_NAME: Tag = Tag::CTX_6;
 
-/// The constant `TAG`, with a contract that says which tag it is.
-fn rsync_tag() -> Tag
-    ensures { result ≡ ia5_string }
-{
-    <&Rsync as PrimitiveContent>::TAG
-}
-
 /// The contents of an IA5String: the text as it was spelled.
 impl<'a> PrimitiveContent for &'a Rsync {
     ghost use Rattle.rpki_der.specs.TagName.{ia5_string};
@@ -34,7 +27,7 @@ impl<'a> PrimitiveContent for &'a Rsync {
     ghost contents = { λ u. u.now };
 
     fn plain_tag(&self) -> Tag {
-        rsync_tag()
+        Self::TAG
     }
 
     fn encoded_len(&self) -> u64 {
@@ -57,13 +50,6 @@ impl Rsync {
     }
 }
 
-/// The constant `TAG`, with a contract that says which tag it is.
-fn https_tag() -> Tag
-    ensures { result ≡ ia5_string }
-{
-    <&Https as PrimitiveContent>::TAG
-}
-
 /// The contents of an IA5String: the text as it was spelled.
 impl<'a> PrimitiveContent for &'a Https {
     ghost use Rattle.rpki_der.specs.TagName.{ia5_string};
@@ -75,7 +61,7 @@ impl<'a> PrimitiveContent for &'a Https {
     ghost contents = { λ u. u.now };
 
     fn plain_tag(&self) -> Tag {
-        https_tag()
+        Self::TAG
     }
 
     fn encoded_len(&self) -> u64 {

@@ -4,6 +4,7 @@ use super::{
     ABC_KEY, FALSE_LEFT_OUT, FALSE_SPELLED, FIRST, ROUTER_NAME, Seen, USAGE_LINE, fault_rows, owned,
 };
 use crate::fault::{Fault, refuse};
+use crate::input::{Unread, read_by};
 use crate::runs::run;
 use std::alloc::{AllocError, Global};
 use std::io;
@@ -329,34 +330,57 @@ fn failed_inputs(rt: HostRuntime) -> Result<(), Fail> {
     Ok(())
 }
 
-/// How many calls of the reader there are at most.
-const CALLS: usize = 16_777_216;
+/// Names, how often the reader may be called, the call at which it comes to its end, and how many octets are read; None
+/// where no call is left to find the end. `tests/hostile` has the number of calls that the program makes.
+const BOUNDS: &[(&str, u32, usize, Option<usize>)] = &[
+    ("no call", 0, 1, None),
+    ("one call, which finds the end", 1, 1, Some(0)),
+    ("one call, and an octet", 1, 2, None),
+    ("the last of two calls finds the end", 2, 2, Some(1)),
+    ("two calls, and two octets", 2, 3, None),
+    (
+        "the last of a hundred calls finds the end",
+        100,
+        100,
+        Some(99),
+    ),
+    ("a hundred calls, and a hundred octets", 100, 101, None),
+    (
+        "the first of a hundred calls finds the end",
+        100,
+        1,
+        Some(0),
+    ),
+];
 
-/// What `again` returns for a reader that comes to its end at this call, where it is called as often as may be, each
-/// time for 4,096 octets or more.
-fn seen_of_long(alloc: Global, last: usize) -> Result<Option<Seen>, AllocError> {
+/// The rows.
+fn bounds() -> &'static [(&'static str, u32, usize, Option<usize>)] {
+    BOUNDS
+}
+
+/// How many octets are read, or None for `Endless`; how often the reader was called, and whether each time for 4,096
+/// octets or more. None where reading ends with another error.
+fn read_of_long(alloc: Global, calls: u32, last: usize) -> Option<(Option<usize>, usize, bool)> {
     let mut reader = LongReader {
         last,
         calls: 0,
         least: usize::MAX,
     };
-    let seen = run_over_failing(alloc, &["again"], &mut reader, NEVER, NEVER)?;
-    let as_may_be = reader.calls == CALLS && reader.least >= 4_096;
-    Ok(if as_may_be { Some(seen) } else { None })
+    let octets = match read_by(alloc, calls, &mut reader) {
+        Ok(all) => Some(all.len()),
+        Err(Unread::Endless) => None,
+        Err(_) => return None,
+    };
+    Some((octets, reader.calls, reader.least >= 4_096))
 }
 
 #[test]
-fn the_last_read_finds_the_end(rt: HostRuntime) -> Result<(), Fail> {
-    let seen = seen_of_long(rt.alloc(), CALLS)?;
-    assert!(rt; seen.is_some_and(|seen| seen.is(1, b"", b"refused 4\n")));
-    Ok(())
-}
-
-#[test]
-fn no_read_is_left_to_find_the_end(rt: HostRuntime) -> Result<(), Fail> {
-    let seen = seen_of_long(rt.alloc(), CALLS + 1)?;
-    assert!(rt; seen.is_some_and(|seen| seen.is(1, b"", b"input could not be read\n")));
-    Ok(())
+fn the_last_read_finds_the_end(rt: HostRuntime) {
+    for (name, calls, last, octets) in bounds() {
+        let found = read_of_long(rt.alloc(), *calls, *last);
+        let called = (*last).min(*calls as usize);
+        assert!(rt; found == Some((*octets, called, true)), "{name}, {found:?}");
+    }
 }
 
 /// Whether the run is answered, or gives up, as it should where the output fails so.

@@ -106,7 +106,7 @@ const WITH_COUNT: &[u8] =
 
 /// Whether the signed data is by the key, as the provider says; no where the one or the other is rejected.
 fn verifies(alloc: Global, provider: &BenchProvider, octets: &'static [u8]) -> bool {
-    let key = match PublicKey::decode(Bytes::from_static(ABC_KEY)) {
+    let key = match PublicKey::decode(alloc, Bytes::from_static(ABC_KEY)) {
         Ok(key) => key,
         Err(_) => return false,
     };

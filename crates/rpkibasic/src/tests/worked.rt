@@ -425,6 +425,14 @@ const EXT: &[Case] = &[
         faults: b"",
     },
     Case {
+        name: "an extension without octets",
+        words: &["ext"],
+        input: &[b"\x30\x07\x06\x03\x55\x1d\x0e\x04\x00"],
+        status: 0,
+        output: &[b"\x30\x07\x06\x03\x55\x1d\x0e\x04\x00"],
+        faults: b"",
+    },
+    Case {
         name: "two extensions",
         words: &["ext"],
         input: &[FALSE_SPELLED, CRITICAL],

@@ -3,11 +3,11 @@
 ghost use Rattle.std.specs.Prelude.{◌≡◌, ◌≢◌, ◌↔◌, IsTrue, true, codes};
 ghost use Rattle.rpki_der.specs.Cursor.{left};
 ghost use Rattle.rpki_der.specs.TagName.{sequence};
-ghost use Rattle.rpki_der.specs.Reading.{Reads, TakesNoMemory, AnyFault};
-ghost use Rattle.rpki_der.specs.Composed.{ReadsAll};
-ghost use Rattle.rpki_der.specs.Values.{IsOuterFault};
+ghost use Rattle.rpki_der.specs.Reading.{Reads};
+ghost use Rattle.rpki_der.specs.FirstFault.{ReadsParts};
 ghost use Rattle.rpki.specs.declared.crypto.keys.PublicKeyFormat.{PublicKeyFormat};
 ghost use Rattle.rpki.specs.KeyFormat.{IsFormatContents, SpellsFormat, IsFormatName, format_octets};
+ghost use Rattle.rpki.specs.AlgorithmFault.{IsAnyNamedFault, IsFormatRestFault, IsFormatFault};
 ghost use Rattle.rpki.specs.UnknownAlgorithm.{BeginsUnknown, NamesUnknown, IsRefusedWith};
 
 use crate::crypto::algorithm_identifier::{is_named, take_null_or_nothing};
@@ -47,15 +47,14 @@ impl PublicKeyFormat {
     /// The errors are those of a SEQUENCE; then `Content` with the text `invalid public key format` for another object
     /// identifier; then that of the part that is malformed, and `Trailing` for octets that follow the parts.
     pub fn take_from(cons: &mut Constructed<'_>) -> Result<PublicKeyFormat, DecodeError>
-        ensures reads { Reads (λ f. f) SpellsFormat (IsOuterFault sequence true) (left cons.old)
-            (left cons.new) result }
+        ensures reads { Reads (λ f. f) SpellsFormat IsFormatFault (left cons.old) (left cons.new) result }
         ensures unknown { NamesUnknown IsFormatName (left cons.old)
             → IsRefusedWith (codes "invalid public key format") result }
     {
         cons.in_sequence(
             |contents|
-                ensures reads { ReadsAll (λ f. f) IsFormatContents (TakesNoMemory AnyFault) (left contents.old)
-                    (left contents.new) result }
+                ensures reads { ReadsParts (λ f. f) IsFormatContents (IsAnyNamedFault IsFormatRestFault)
+                    (left contents.old) (left contents.new) result }
                 ensures unknown { BeginsUnknown IsFormatName (left contents.old)
                     → IsRefusedWith (codes "invalid public key format") result }
             {
@@ -77,10 +76,8 @@ impl PublicKeyFormat {
 
     /// An encoder for the algorithm identifier, with a NULL for RSA.
     pub fn encode(self) -> PublicKeyFormatEncoder
-        ensures octets { ⟦<Sequence<(Primitive<ConstOid>, Option<Primitive<()>>, Option<Primitive<ConstOid>>)> as
-            Values>⟧.encoded result ≡ format_octets self }
-        ensures short { ⟦<Sequence<(Primitive<ConstOid>, Option<Primitive<()>>, Option<Primitive<ConstOid>>)> as
-            Values>⟧.is_short result }
+        ensures octets { ⟦<PublicKeyFormatEncoder as Values>⟧.encoded result ≡ format_octets self }
+        ensures short { ⟦<PublicKeyFormatEncoder as Values>⟧.is_short result }
         // What is written is read as the format.
         ensures read_back { SpellsFormat self (format_octets self) }
         // Formats have the same encoding exactly where they are equal.

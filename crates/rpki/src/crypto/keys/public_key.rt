@@ -2,24 +2,24 @@
 
 ghost use Rattle.std.specs.Prelude.{◌≡◌, ◌↔◌, ◌<◌, ◌^◌, true, length, IsTrue, IfOk};
 ghost use Rattle.rpki_der.specs.Cursor.{left};
-ghost use Rattle.rpki_der.specs.TagName.{sequence};
-ghost use Rattle.rpki_der.specs.Reading.{Reads, Decodes, AnyFault, OrMemoryWhere, Finds, IsWholeFault};
-ghost use Rattle.rpki_der.specs.Values.{GivesOuterFault};
-ghost use Rattle.rpki_der.specs.Inside.{HasInside};
-ghost use Rattle.rpki_der.specs.Composed.{ReadsAll};
+ghost use Rattle.rpki_der.specs.Reading.{Reads, Decodes, IsWholeFault};
+ghost use Rattle.rpki_der.specs.FirstFault.{ReadsParts};
 ghost use Rattle.rpki_der.specs.Leaves.{AreBits, bits_of};
 ghost use Rattle.rpki.specs.PublicKey.{KeyParts, key_of, IsKeyContents, SpellsKey, key_contents, key_octets};
+ghost use Rattle.rpki.specs.KeyFault.{IsKeyPartsFault, IsKeyFault};
 
 use super::{KeyIdentifier, PublicKeyFormat, PublicKeyFormatEncoder};
 use crate::crypto::Provider;
 use crate::crypto::digest::sha1_digest;
 use bytes::Bytes;
 use rpki_der::{
-    BitString, Captured, ConstOid, Constructed, DecodeError, Primitive, PrimitiveContent, Sequence,
-    Values,
+    BitString, Captured, Constructed, DecodeError, Primitive, PrimitiveContent, Sequence, Values,
 };
 use std::alloc::{AllocError, Global};
 use std::marker::Model;
+
+/// An encoder for a public key: its format, and its bits.
+pub type PublicKeyEncoder<B> = Sequence<(PublicKeyFormatEncoder, Primitive<B>)>;
 
 /// A public key: its format, and a bit string, which that format gives a meaning (RFC 5280 4.1.2.7).
 #[derive(Debug, Drop, PartialEq, Eq)]
@@ -114,15 +114,10 @@ impl PublicKey {
     /// A public key (SubjectPublicKeyInfo, RFC 5280 4.1), and nothing else.
     ///
     /// The errors are those of [PublicKey::take_from]; then `Trailing` if something follows the key.
-    pub fn decode(bytes: Bytes) -> Result<PublicKey, DecodeError>
-        ensures { Decodes (λ k. k) SpellsKey
-            (IsWholeFault SpellsKey (OrMemoryWhere (HasInside sequence (Finds IsKeyContents))
-            (GivesOuterFault sequence true))) bytes result }
+    pub fn decode(alloc: Global, bytes: Bytes) -> Result<PublicKey, DecodeError>
+        ensures { Decodes (λ k. k) SpellsKey (IsWholeFault SpellsKey IsKeyFault) bytes result }
     {
-        let mut cons = Constructed::new(&bytes);
-        let key = PublicKey::take_from(&mut cons)?;
-        cons.finish()?;
-        Ok(key)
+        Constructed::new(&bytes).whole(|cons| PublicKey::take_from(alloc, cons))
     }
 
     /// A public key (SubjectPublicKeyInfo, RFC 5280 4.1): a SEQUENCE of a format and a BIT STRING, whose octets it
@@ -130,30 +125,25 @@ impl PublicKey {
     ///
     /// The errors are those of a SEQUENCE; then those of the parts, `Trailing` for octets that follow them, and
     /// `OutOfMemory` if allocation fails, only where both parts are there.
-    pub fn take_from(cons: &mut Constructed<'_>) -> Result<PublicKey, DecodeError>
-        ensures { Reads (λ k. k) SpellsKey (OrMemoryWhere (HasInside sequence (Finds IsKeyContents))
-            (GivesOuterFault sequence true))
-            (left cons.old) (left cons.new) result }
+    pub fn take_from(alloc: Global, cons: &mut Constructed<'_>) -> Result<PublicKey, DecodeError>
+        ensures { Reads (λ k. k) SpellsKey IsKeyFault (left cons.old) (left cons.new) result }
     {
         cons.in_sequence(
             |contents|
-                ensures { ReadsAll (λ k. k) IsKeyContents (OrMemoryWhere (Finds IsKeyContents) AnyFault)
-                    (left contents.old) (left contents.new) result }
+                ensures { ReadsParts (λ k. k) IsKeyContents IsKeyPartsFault (left contents.old) (left contents.new) result }
             {
                 let algorithm = PublicKeyFormat::take_from(contents)?;
-                let bits = contents.take_bit_string()?;
+                let bits = contents.take_bit_string(alloc)?;
                 Ok(PublicKey { algorithm, bits })
             },
         )
     }
 
     /// An encoder for the key (SubjectPublicKeyInfo, RFC 5280 4.1), which it owns.
-    pub fn encode(self) -> Sequence<(PublicKeyFormatEncoder, Primitive<BitString>)>
-        ensures octets { ⟦<Sequence<(Sequence<(Primitive<ConstOid>, Option<Primitive<()>>,
-            Option<Primitive<ConstOid>>)>, Primitive<BitString>)> as Values>⟧.encoded result ≡ key_octets self }
+    pub fn encode(self) -> PublicKeyEncoder<BitString>
+        ensures octets { ⟦<PublicKeyEncoder<BitString> as Values>⟧.encoded result ≡ key_octets self }
         // It fits exactly where its contents have fewer than 2^32 octets.
-        ensures short { ⟦<Sequence<(Sequence<(Primitive<ConstOid>, Option<Primitive<()>>,
-            Option<Primitive<ConstOid>>)>, Primitive<BitString>)> as Values>⟧.is_short result
+        ensures short { ⟦<PublicKeyEncoder<BitString> as Values>⟧.is_short result
             ↔ (length (key_contents self) < 2 ^ 32) }
     {
         let PublicKey { algorithm, bits } = self;
@@ -161,13 +151,10 @@ impl PublicKey {
     }
 
     /// An encoder for the key (SubjectPublicKeyInfo, RFC 5280 4.1), which it borrows.
-    pub fn encode_ref(&self) -> Sequence<(PublicKeyFormatEncoder, Primitive<&BitString>)>
-        ensures octets { ⟦<Sequence<(Sequence<(Primitive<ConstOid>, Option<Primitive<()>>,
-            Option<Primitive<ConstOid>>)>, Primitive<&'static BitString>)> as Values>⟧.encoded result
-            ≡ key_octets self.now }
+    pub fn encode_ref(&self) -> PublicKeyEncoder<&BitString>
+        ensures octets { ⟦<PublicKeyEncoder<&'static BitString> as Values>⟧.encoded result ≡ key_octets self.now }
         // It fits exactly where its contents have fewer than 2^32 octets.
-        ensures short { ⟦<Sequence<(Sequence<(Primitive<ConstOid>, Option<Primitive<()>>,
-            Option<Primitive<ConstOid>>)>, Primitive<&'static BitString>)> as Values>⟧.is_short result
+        ensures short { ⟦<PublicKeyEncoder<&'static BitString> as Values>⟧.is_short result
             ↔ (length (key_contents self.now) < 2 ^ 32) }
         // What is written is read as the key.
         ensures read_back { length (key_contents self.now) < 2 ^ 32 → SpellsKey self.now (key_octets self.now) }

@@ -2,14 +2,13 @@
 
 ghost use Rattle.std.specs.Prelude.{◌≡◌, ◌≢◌, ◌≤◌, ◌+◌, ◌^◌, ◌⊎◌, ◌↔◌, [], length, true, IfOk, IsErrOf};
 ghost use Rattle.rpki_der.specs.Cursor.{left};
-ghost use Rattle.rpki_der.specs.TagName.{sequence};
-ghost use Rattle.rpki_der.specs.Reading.{Reads, Decodes, TakesNoMemory, IsWholeFault, AnyFault};
-ghost use Rattle.rpki_der.specs.Composed.{ReadsAll};
-ghost use Rattle.rpki_der.specs.Values.{GivesOuterFault, IsOuterFault};
+ghost use Rattle.rpki_der.specs.Reading.{Reads, Decodes, TakesNoMemory, IsWholeFault};
+ghost use Rattle.rpki_der.specs.FirstFault.{ReadsParts};
 ghost use Rattle.rpki_der.specs.Number.{number_of};
 ghost use Rattle.rpki.specs.declared.crypto.keys.PublicKeyFormat.TheVariants.{Rsa};
 ghost use Rattle.rpki.specs.AnyValue.{SpellsAny};
 ghost use Rattle.rpki.specs.PublicKey.{SpellsRsaNumbers, SpellsRsaBits, AreRsaNumbers, IsRsaKey};
+ghost use Rattle.rpki.specs.KeyFault.{IsRsaNumbersFault, IsRsaBitsFault};
 
 use super::PublicKey;
 use bytes::Bytes;
@@ -51,7 +50,7 @@ impl PublicKey {
     /// The errors are those of a SEQUENCE; then those of the INTEGERs, and `Trailing` for octets that follow them or
     /// the SEQUENCE.
     pub fn rsa_from_bits_bytes(bytes: Bytes) -> Result<PublicKey, DecodeError>
-        ensures { Decodes (λ k. k) IsRsaKey (TakesNoMemory (IsWholeFault IsRsaKey (GivesOuterFault sequence true)))
+        ensures { Decodes (λ k. k) IsRsaKey (TakesNoMemory (IsWholeFault IsRsaKey IsRsaBitsFault))
             bytes result }
     {
         check_rsa_bits(&bytes)?;
@@ -62,7 +61,7 @@ impl PublicKey {
 /// Tests that all of the octets are the bits of an RSA key.
 fn check_rsa_bits(octets: &Bytes) -> Result<(), DecodeError>
     ensures { Decodes (λ _. tt) SpellsRsaBits (TakesNoMemory
-        (IsWholeFault SpellsRsaBits (GivesOuterFault sequence true))) octets.now result }
+        (IsWholeFault SpellsRsaBits IsRsaBitsFault)) octets.now result }
 {
     let mut cons = Constructed::new(octets);
     take_rsa_bits(&mut cons)?;
@@ -72,11 +71,11 @@ fn check_rsa_bits(octets: &Bytes) -> Result<(), DecodeError>
 
 /// Moves past the bits of an RSA key: a SEQUENCE of two non-negative INTEGERs.
 fn take_rsa_bits(cons: &mut Constructed<'_>) -> Result<(), DecodeError>
-    ensures { Reads (λ _. tt) SpellsRsaBits (IsOuterFault sequence true) (left cons.old) (left cons.new) result }
+    ensures { Reads (λ _. tt) SpellsRsaBits IsRsaBitsFault (left cons.old) (left cons.new) result }
 {
     cons.in_sequence(
         |contents|
-            ensures { ReadsAll (λ _. tt) (SpellsAny AreRsaNumbers) (TakesNoMemory AnyFault) (left contents.old)
+            ensures { ReadsParts (λ _. tt) (SpellsAny AreRsaNumbers) IsRsaNumbersFault (left contents.old)
                 (left contents.new) result }
         {
             contents.take_unsigned()?;

@@ -1,11 +1,9 @@
 //! The signature algorithm of BGPsec.
 
-ghost use Rattle.std.specs.Prelude.{true};
 ghost use Rattle.rpki_der.specs.Cursor.{left};
-ghost use Rattle.rpki_der.specs.TagName.{sequence};
 ghost use Rattle.rpki_der.specs.Reading.{Reads};
-ghost use Rattle.rpki_der.specs.Values.{IsOuterFault};
 ghost use Rattle.rpki.specs.Oids.{ecdsa_with_sha256};
+ghost use Rattle.rpki.specs.AlgorithmFault.{IsBareFault};
 ghost use Rattle.rpki.specs.SignatureNames.{SpellsBare};
 
 use super::SignatureAlgorithm;
@@ -34,11 +32,14 @@ impl SignatureAlgorithm for BgpsecSignatureAlgorithm {
     ghost use Rattle.std.specs.Prelude.{refl};
     ghost use Rattle.std.proofs.Common.{lit<};
     ghost use Rattle.rpki.specs.Oids.{ecdsa_with_sha256};
+    ghost use Rattle.rpki.specs.AlgorithmFault.{IsBareFault};
     ghost use Rattle.rpki.specs.SignatureNames.{SpellsBare, bare_octets};
     ghost use Rattle.rpki.specs.BareOctetsLaws.{bare-spelled, bare-value};
     ghost use Rattle.rpki.specs.declared.crypto.keys.PublicKeyFormat.TheVariants.{EcdsaP256};
 
     ghost spells = { SpellsBare ecdsa_with_sha256 };
+
+    ghost fault = { IsBareFault ecdsa_with_sha256 };
 
     ghost written = { λ _. bare_octets ecdsa_with_sha256 };
 
@@ -67,7 +68,7 @@ impl SignatureAlgorithm for BgpsecSignatureAlgorithm {
     /// The errors are those of a SEQUENCE; then `Content` for another identifier; then `Trailing` for parameters, also
     /// a NULL.
     fn x509_take_from(cons: &mut Constructed<'_>) -> Result<Self, DecodeError>
-        ensures { Reads (λ a. a) (SpellsBare ecdsa_with_sha256) (IsOuterFault sequence true) (left cons.old)
+        ensures { Reads (λ a. a) (SpellsBare ecdsa_with_sha256) (IsBareFault ecdsa_with_sha256) (left cons.old)
             (left cons.new) result }
     {
         cons.in_sequence(|contents| contents.skip_oid_if(oid::ECDSA_WITH_SHA256))?;

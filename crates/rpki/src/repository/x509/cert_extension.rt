@@ -3,15 +3,18 @@
 ghost use Rattle.std.specs.Prelude.{◌≡◌, ◌<◌, ◌^◌, ◌↔◌, true, false, length, IfOk, IfSome, IfNone};
 ghost use Rattle.rpki_der.specs.Cursor.{left};
 ghost use Rattle.rpki_der.specs.TagName.{sequence};
-ghost use Rattle.rpki_der.specs.Reading.{Reads, ReadsWhere, OrMemoryWhere, Finds};
-ghost use Rattle.rpki_der.specs.Values.{HasTag, GivesOuterFault};
+ghost use Rattle.rpki_der.specs.Reading.{Reads, ReadsWhere};
+ghost use Rattle.rpki_der.specs.Values.{HasTag};
 ghost use Rattle.rpki_der.specs.Leaves.{boolean_contents};
 ghost use Rattle.rpki.specs.Extension.{extension_octets};
 ghost use Rattle.rpki.specs.ExtensionValue.{ExtensionParts, extension_parts, SpellsExtension, written_extension, CanBeWritten, parts_of_extension};
+ghost use Rattle.rpki.specs.ExtensionFault.{IsKeptExtensionFault};
 
 mod grammar;
+mod view;
 
 use self::grammar::take_extension;
+pub use self::view::ExtensionView;
 use rpki_der::{
     Captured, Constructed, DecodeError, Oid, Primitive, PrimitiveContent, Sequence, Tag, Values,
 };
@@ -66,7 +69,7 @@ impl CertExtension {
         alloc: Global,
         cons: &mut Constructed<'_>,
     ) -> Result<CertExtension, DecodeError>
-        ensures { Reads (λ x. x) SpellsExtension (OrMemoryWhere (Finds SpellsExtension) (GivesOuterFault sequence true))
+        ensures { Reads (λ x. x) SpellsExtension IsKeptExtensionFault
             (left cons.old) (left cons.new) result }
     {
         let mut after = *cons;
@@ -81,8 +84,7 @@ impl CertExtension {
         alloc: Global,
         cons: &mut Constructed<'_>,
     ) -> Result<Option<CertExtension>, DecodeError>
-        ensures { ReadsWhere (HasTag sequence) (λ x. x) SpellsExtension
-            (OrMemoryWhere (Finds SpellsExtension) (GivesOuterFault sequence true))
+        ensures { ReadsWhere (HasTag sequence) (λ x. x) SpellsExtension IsKeptExtensionFault
             (left cons.old) (left cons.new) result }
     {
         if !cons.has_tag(Tag::SEQUENCE) {

@@ -1,13 +1,11 @@
 //! Names (RFC 5280 4.1.2.4, RFC 6487 4.4).
 
-ghost use Rattle.std.specs.Prelude.{◌≡◌, true, List, IsTrue, IsOk, IfOk, IfErr};
+ghost use Rattle.std.specs.Prelude.{◌≡◌, List, IsTrue, IsOk, IfOk, IfErr};
 ghost use Rattle.rpki_der.specs.Cursor.{left};
-ghost use Rattle.rpki_der.specs.TagName.{sequence};
-ghost use Rattle.rpki_der.specs.Reading.{Reads, OrMemoryWhere};
-ghost use Rattle.rpki_der.specs.Values.{GivesOuterFault};
+ghost use Rattle.rpki_der.specs.Reading.{Reads};
 ghost use Rattle.rpki_der.specs.Members.{IsValue};
 ghost use Rattle.rpki.specs.Name.{Attribute, IsName, SpellsName, SpellsNameOctets};
-ghost use Rattle.rpki.specs.NameValue.{HasNameValue};
+ghost use Rattle.rpki.specs.NameFault.{IsNameFault};
 ghost use Rattle.rpki.specs.StrictName.{IsRpkiName, IsRouterName};
 ghost use Rattle.rpki.specs.StrictNameWithoutOrganization.{IsRpkiNameWithoutOrganization, IsRouterNameWithoutOrganization};
 
@@ -55,8 +53,7 @@ impl Name {
     /// value, those of the parts, `Trailing` for what follows an attribute's value, and `OutOfMemory` if allocation
     /// fails, only where an attribute has a value.
     pub fn take_from(alloc: Global, cons: &mut Constructed<'_>) -> Result<Name, DecodeError>
-        ensures { Reads (λ n. n) SpellsNameOctets (OrMemoryWhere HasNameValue (GivesOuterFault sequence true))
-            (left cons.old) (left cons.new) result }
+        ensures { Reads (λ n. n) SpellsNameOctets IsNameFault (left cons.old) (left cons.new) result }
     {
         let mut after = *cons;
         skip_name(alloc, &mut after)?;
@@ -79,7 +76,7 @@ impl Name {
         if !strict {
             return Ok(());
         }
-        Profile::Rpki.inspect(self.captured.cursor())
+        Profile::Rpki.inspect(self.captured.indexed_cursor())
     }
 
     /// Tests that the name is one of a router's certificate, unless `strict` is false: the same, and each string is a
@@ -96,7 +93,7 @@ impl Name {
         if !strict {
             return Ok(());
         }
-        Profile::Router.inspect(self.captured.cursor())
+        Profile::Router.inspect(self.captured.indexed_cursor())
     }
 
     /// An encoder for the name: its original octets.

@@ -2,18 +2,16 @@
 
 ghost use Rattle.std.specs.Prelude.{◌≡◌, ◌<◌, ◌^◌, ◌↔◌, true, false, ℕ, List, length, IfOk, IsOk};
 ghost use Rattle.rpki_der.specs.Cursor.{left};
-ghost use Rattle.rpki_der.specs.TagName.{sequence};
-ghost use Rattle.rpki_der.specs.Reading.{Reads, Decodes, AnyFault, OrMemoryWhere, Finds, IsWholeFault};
-ghost use Rattle.rpki_der.specs.Values.{GivesOuterFault};
+ghost use Rattle.rpki_der.specs.Reading.{Reads, Decodes, IsWholeFault};
 ghost use Rattle.rpki_der.specs.Members.{AreValues, IsValue};
-ghost use Rattle.rpki_der.specs.Walk.{HasEither};
-ghost use Rattle.rpki_der.specs.Inside.{HasInside};
 ghost use Rattle.rpki_der.specs.Contents.{bits_contents};
 ghost use Rattle.rpki_der.specs.Leaves.{bits_of};
 ghost use Rattle.rpki_der.specs.Written.{Writes};
 ghost use Rattle.rpki.specs.Provider.{Verifies};
 ghost use Rattle.rpki.specs.Signature.{signature_of};
 ghost use Rattle.rpki.specs.SignedData.{SignedParts, parts_of, SpellsSignature, IsSignedContents, SpellsSigned, signed_octets, written_contents, written_signed, normal_parts, DifferInCount};
+ghost use Rattle.rpki.specs.KeyFault.{IsBitsFault};
+ghost use Rattle.rpki.specs.SignedFault.{IsSignedPartsFault, IsSignedFault};
 
 use crate::crypto::{
     Provider, PublicKey, RpkiSignatureAlgorithm, Signature, SignatureAlgorithm,
@@ -81,13 +79,13 @@ impl<Alg: SignatureAlgorithm + Drop> SignedData<Alg> {
         alloc: Global,
         cons: &mut Constructed<'_>,
     ) -> Result<SignedData<Alg>, DecodeError>
-        ensures { Reads (λ x. x) (IsSignedContents Alg.spells) (OrMemoryWhere HasEither AnyFault) (left cons.old)
-            (left cons.new) result }
+        ensures { Reads (λ x. x) (IsSignedContents Alg.spells) (IsSignedPartsFault Alg.spells Alg.fault)
+            (left cons.old) (left cons.new) result }
     {
         let mut after = *cons;
         let signed = after.capture_one(alloc)?;
         let algorithm = Alg::x509_take_from(&mut after)?;
-        let value = signature_value(&mut after)?;
+        let value = signature_value(alloc, &mut after)?;
         *cons = after;
         Ok(SignedData::new(signed, Signature::new(algorithm, value)))
     }
@@ -100,9 +98,8 @@ impl<Alg: SignatureAlgorithm + Drop> SignedData<Alg> {
         alloc: Global,
         cons: &mut Constructed<'_>,
     ) -> Result<SignedData<Alg>, DecodeError>
-        ensures { Reads (λ x. x) (SpellsSigned Alg.spells)
-            (OrMemoryWhere (HasInside sequence HasEither) (GivesOuterFault sequence true))
-            (left cons.old) (left cons.new) result }
+        ensures { Reads (λ x. x) (SpellsSigned Alg.spells) (IsSignedFault Alg.spells Alg.fault) (left cons.old)
+            (left cons.new) result }
     {
         cons.in_sequence(|contents| SignedData::from_constructed(alloc, contents))
     }
@@ -112,8 +109,7 @@ impl<Alg: SignatureAlgorithm + Drop> SignedData<Alg> {
     /// The errors are those of [SignedData::take_from]; then `Trailing` if something follows signed data.
     pub fn decode(alloc: Global, bytes: Bytes) -> Result<SignedData<Alg>, DecodeError>
         ensures decodes { Decodes (λ x. x) (SpellsSigned Alg.spells)
-            (IsWholeFault (SpellsSigned Alg.spells)
-            (OrMemoryWhere (HasInside sequence HasEither) (GivesOuterFault sequence true))) bytes result }
+            (IsWholeFault (SpellsSigned Alg.spells) (IsSignedFault Alg.spells Alg.fault)) bytes result }
         // It is written as it was read exactly where its algorithm was spelled as it is written, and no bit was unused.
         ensures again { IfOk result (λ v. (text : List ℕ) (unused : ℕ) → Alg.spells v.algorithm text
             → bytes ≡ signed_octets v.signed text unused v.value →
@@ -130,23 +126,19 @@ impl<Alg: SignatureAlgorithm + Drop> SignedData<Alg> {
     }
 }
 
+/// An encoder for signed data: the signed octets, the algorithm by its own encoder `E`, and the signature.
+pub type SignedDataEncoder<'a, Alg, E> = Sequence<
+    (&'a Captured, E, Primitive<SignatureValueContent<'a, Alg>>),
+>;
+
 impl<Alg: SignatureAlgorithm + 'static> SignedData<Alg> {
     /// An encoder for the signed data: exactly the signed octets, the algorithm as it is written, and the signature
     /// without unused bits.
-    pub fn encode_ref(
-        &self,
-    ) -> Sequence<
-        (
-            &Captured,
-            Alg::Encoder,
-            Primitive<SignatureValueContent<'_, Alg>>,
-        ),
-    >
-        ensures octets { ⟦<Sequence<(&'static Captured, Alg::Encoder, Primitive<SignatureValueContent<'static, Alg>>)>
-            as Values>⟧.encoded result ≡ written_signed Alg.written self.now }
+    pub fn encode_ref(&self) -> SignedDataEncoder<'_, Alg, Alg::Encoder>
+        ensures octets { ⟦<SignedDataEncoder<'static, Alg, Alg::Encoder> as Values>⟧.encoded result
+            ≡ written_signed Alg.written self.now }
         // It fits exactly where its contents have fewer than 2^32 octets.
-        ensures short { ⟦<Sequence<(&'static Captured, Alg::Encoder, Primitive<SignatureValueContent<'static, Alg>>)>
-            as Values>⟧.is_short result
+        ensures short { ⟦<SignedDataEncoder<'static, Alg, Alg::Encoder> as Values>⟧.is_short result
             ↔ (length (written_contents Alg.written self.now) < 2 ^ 32) }
         // The encoding is read as the normal form.
         ensures read_back { length (written_contents Alg.written self.now) < 2 ^ 32
@@ -254,13 +246,9 @@ impl<'a, Alg> PrimitiveContent for SignatureValueContent<'a, Alg> {
 }
 
 /// The octets of a signature, with any count of unused bits.
-fn signature_value(cons: &mut Constructed<'_>) -> Result<Bytes, DecodeError>
-    ensures { Reads (λ v. v) SpellsSignature (OrMemoryWhere (Finds SpellsSignature) AnyFault) (left cons.old)
-        (left cons.new) result }
+fn signature_value(alloc: Global, cons: &mut Constructed<'_>) -> Result<Bytes, DecodeError>
+    ensures { Reads (λ v. v) SpellsSignature IsBitsFault (left cons.old) (left cons.new) result }
 {
-    let mut after = *cons;
-    let bits = after.take_bit_string()?;
-    let value = bits.octet_bytes()?;
-    *cons = after;
-    Ok(value)
+    let bits = cons.take_bit_string(alloc)?;
+    Ok(bits.into_octets())
 }

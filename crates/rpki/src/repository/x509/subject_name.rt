@@ -21,10 +21,9 @@ impl PublicKey {
     /// An encoder for the name of the subject with this key: one common name, the key identifier in hexadecimal digits
     /// (RFC 6487 4.5). The provider computes the digest.
     pub fn encode_subject_name<P: Provider>(&self, provider: &P) -> SubjectName
-        ensures octets { ⟦<Sequence<Set<Sequence<(Primitive<ConstOid>, Primitive<PublicKeyCn>)>>> as Values>⟧.encoded
-            result ≡ subject_octets (P.sha1_of provider.now self.now.bits.octets) }
-        ensures short { ⟦<Sequence<Set<Sequence<(Primitive<ConstOid>, Primitive<PublicKeyCn>)>>> as Values>⟧.is_short
-            result }
+        ensures octets { ⟦<SubjectName as Values>⟧.encoded result
+            ≡ subject_octets (P.sha1_of provider.now self.now.bits.octets) }
+        ensures short { ⟦<SubjectName as Values>⟧.is_short result }
         ensures size { length (subject_octets (P.sha1_of provider.now self.now.bits.octets)) < 2 ^ 63 }
         // The encoding is a name that passes both strict inspections.
         ensures strict { IsRpkiName (subject_octets (P.sha1_of provider.now self.now.bits.octets))

@@ -1,7 +1,7 @@
 use Rattle.std.proofs.lemmas.Result.{err_from_is_err_and}
 use Rattle.rpki_der.proofs.ComposedLaws.{all-read, more-left, not-read}
 use Rattle.rpki.specs.PublicKey.{SpellsKey}
-use Rattle.rpki_c.specs.Key.{IsKeyFault}
+use Rattle.rpki.specs.KeyFault.{IsKeyFault}
 use Rattle.rpki_c.proofs.keys.read_key.Goals as goal
 
 pub returns-in_err-key : goal.returns-in_err-key

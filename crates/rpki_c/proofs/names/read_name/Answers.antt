@@ -2,7 +2,7 @@ use Rattle.std.proofs.Common.{sym, subst}
 use Rattle.std.proofs.lemmas.Result.{err_from_is_err_and}
 use Rattle.rpki_der.proofs.ComposedLaws.{all-read, more-left, not-read}
 use Rattle.rpki.specs.Name.{IsName, SpellsNameOctets}
-use Rattle.rpki_c.specs.Names.{IsNameFault}
+use Rattle.rpki.specs.NameFault.{IsNameFault}
 use Rattle.rpki_c.proofs.names.read_name.Goals as goal
 
 pub returns-in_err-name-clause-refused : goal.returns-in_err-name-clause-refused

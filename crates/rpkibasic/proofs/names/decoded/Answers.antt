@@ -6,6 +6,9 @@ use Rattle.rpki_der.specs.Values.{GivesOuterFault}
 use Rattle.rpki_der.proofs.ComposedLaws.{all-read, more-left, not-read}
 use Rattle.rpki.specs.Name.{SpellsNameOctets}
 use Rattle.rpki.specs.NameValue.{HasNameValue}
+use Rattle.rpki.specs.NameFault.{IsNameFault}
+use Rattle.rpki.proofs.NameFaultLaws.{name-outer}
+use Rattle.rpki_der.proofs.FirstFaultLaws.{refusal-kind}
 use Rattle.rpkibasic.proofs.FaultLaws.{fault-of}
 use Rattle.rpkibasic.proofs.names.decoded.Goals as goal
 
@@ -20,7 +23,9 @@ returns-in_err-name c =
     let p = err_from_is_err_and c.from_residual-in_err-name.result c.from_residual-in_err-name.ensures.1 in
     rw (p.1, p.2)
     (fault-of SpellsNameOctets HasNameValue ⊥ c.args.input.items c.in_err-name.field-0.0
-    (not-read SpellsNameOctets (OrMemoryWhere HasNameValue (GivesOuterFault sequence true)) c.args.input.items _ c.in_err-name.field-0.0 h))
+    (not-read SpellsNameOctets (OrMemoryWhere HasNameValue (GivesOuterFault sequence true)) c.args.input.items _ c.in_err-name.field-0.0
+    (refusal-kind SpellsNameOctets IsNameFault (OrMemoryWhere HasNameValue (GivesOuterFault sequence true)) c.args.input.items _ c.in_err-name.field-0.0
+    (name-outer c.args.input.items c.in_err-name.field-0.0) h)))
 
 pub returns-in_err-finish : goal.returns-in_err-finish
 returns-in_err-finish c =

@@ -1,5 +1,6 @@
 use Rattle.std.proofs.Common.{Ok, Err, map, refl, sym, ◌∙◌, string_bytes}
 use Rattle.rpkibasic.proofs.SeenLaws.{answer-seen, no-words}
+use Rattle.std.proofs.KnownBytes.{Appends-nil}
 use Rattle.rpkibasic.proofs.runs.run.Goals as goal
 
 pub returns-in-Ok-clause-replies : goal.returns-in-Ok-clause-replies
@@ -9,7 +10,7 @@ returns-in-Ok-clause-replies g c =
 
 pub returns-in-Err-clause-replies : goal.returns-in-Err-clause-replies
 returns-in-Err-clause-replies g c =
-    λ command named. answer-seen (map string_bytes c.args.words.now) c.in-Some.command command _ (Err c.in-Err.fault) _ c.in-Some.ensures.named c.in-Err.ensures c.show-in-Err.ensures named
+    λ command named. answer-seen (map string_bytes c.args.words.now) c.in-Some.command command _ (Err c.in-Err.fault) _ c.in-Some.ensures.named c.in-Err.ensures (Appends-nil _, c.refuse.ensures.told, c.refuse.ensures.status) named
 
 pub returns-in-None-clause-usage : goal.returns-in-None-clause-usage
 returns-in-None-clause-usage g c =

@@ -1,12 +1,9 @@
 //! The grammar of extensions (RFC 5280 4.1).
 
-ghost use Rattle.std.specs.Prelude.{◌≢◌, true};
 ghost use Rattle.rpki_der.specs.Cursor.{left};
-ghost use Rattle.rpki_der.specs.TagName.{sequence};
 ghost use Rattle.rpki_der.specs.Reading.{Reads, Decodes};
-ghost use Rattle.rpki_der.specs.Values.{IsOuterFault};
-ghost use Rattle.rpki_der.specs.declared.error.DecodeError.{DecodeError};
 ghost use Rattle.rpki.specs.ExtensionValue.{extension_parts, IsExtensionContents, SpellsExtension};
+ghost use Rattle.rpki.specs.ExtensionFault.{IsExtensionPartsFault, IsCertExtensionFault};
 
 use rpki_der::{Constructed, DecodeError, Oid};
 
@@ -14,8 +11,7 @@ use rpki_der::{Constructed, DecodeError, Oid};
 /// BOOLEAN that is left out stands for FALSE, its default; FALSE is read where it is spelled.
 fn take_parts<'a>(contents: Constructed<'a>) -> Result<(Oid<&'a [u8]>, bool, &'a [u8]), DecodeError>
     ensures { Decodes (λ x. extension_parts x.0.0.now x.1 x.2.now) IsExtensionContents
-        (λ _ e. e ≢ DecodeError.OutOfMemory)
-        (left contents.entry) result }
+        IsExtensionPartsFault (left contents.entry) result }
 {
     let mut rest = contents;
     let identifier = rest.take_oid()?;
@@ -29,7 +25,7 @@ fn take_parts<'a>(contents: Constructed<'a>) -> Result<(Oid<&'a [u8]>, bool, &'a
 pub(super) fn take_extension<'a>(
     cons: &mut Constructed<'a>,
 ) -> Result<(Oid<&'a [u8]>, bool, &'a [u8]), DecodeError>
-    ensures { Reads (λ x. extension_parts x.0.0.now x.1 x.2.now) SpellsExtension (IsOuterFault sequence true)
+    ensures { Reads (λ x. extension_parts x.0.0.now x.1 x.2.now) SpellsExtension IsCertExtensionFault
         (left cons.old) (left cons.new) result }
 {
     let mut after = *cons;

@@ -1,7 +1,6 @@
 //! What a name is inspected for (RFC 6487 4.4, RFC 8209 3.1.1).
 
 ghost use Rattle.std.specs.Prelude.{◌↔◌, IsTrue, List, [], ◌∷◌, MatchResult};
-ghost use Rattle.rpki_der.specs.Cursor.{left};
 ghost use Rattle.rpki.specs.Name.{Attribute, attribute_of, SpellsAttribute, SpellsSome, SpellsRelative, SpellsName};
 ghost use Rattle.rpki.specs.StrictName.{attributes, IsPrintable, IsUtf8String, IsStrict};
 ghost use Rattle.rpki.specs.Findings.{Finds};
@@ -10,7 +9,7 @@ ghost use Rattle.rpki.specs.InspectionView.{found_of, permitted};
 use super::grammar::take_attribute_type;
 use crate::oid::{AT_COMMON_NAME, AT_ORGANIZATION_NAME, AT_SERIAL_NUMBER};
 use crate::repository::error::InspectionError;
-use rpki_der::{Constructed, ContentError, Oid};
+use rpki_der::{ContentError, Cursor, Oid, Tag, take_printable_contents, take_utf8_contents};
 
 /// Whose names are inspected.
 #[derive(Clone, Copy)]
@@ -35,31 +34,31 @@ pub(super) fn refusal(text: &'static str) -> InspectionError {
 }
 
 /// Whether the octets that are left are a PrintableString.
-fn is_printable(value: Constructed<'_>) -> bool
-    ensures { IsTrue result ↔ IsPrintable (left value.entry) }
+fn is_printable<C: Cursor>(value: C) -> bool
+    ensures { IsTrue result ↔ IsPrintable (C.octets_left value) }
 {
     let mut after = value;
-    match after.take_printable() {
-        Ok(_) => after.is_empty(),
+    match take_printable_contents(&mut after) {
+        Ok(_) => after.is_at_end(),
         Err(_) => false,
     }
 }
 
 /// Whether they are a UTF8String.
-fn is_utf8(value: Constructed<'_>) -> bool
-    ensures { IsTrue result ↔ IsUtf8String (left value.entry) }
+fn is_utf8<C: Cursor>(value: C) -> bool
+    ensures { IsTrue result ↔ IsUtf8String (C.octets_left value) }
 {
     let mut after = value;
-    match after.take_utf8() {
-        Ok(_) => after.is_empty(),
+    match take_utf8_contents(&mut after) {
+        Ok(_) => after.is_at_end(),
         Err(_) => false,
     }
 }
 
 impl Profile {
     /// Whether the octets that are left are a string that these names may have.
-    fn permits(self, value: Constructed<'_>) -> bool
-        ensures { IsTrue result ↔ permitted self (left value.entry) }
+    fn permits<C: Cursor>(self, value: C) -> bool
+        ensures { IsTrue result ↔ permitted self (C.octets_left value) }
     {
         match self {
             Profile::Rpki => is_printable(value),
@@ -79,14 +78,14 @@ impl Profile {
     ///
     /// Returns an error if a second common name, serial number or organization name, another attribute, or a string
     /// that is not permitted is found.
-    fn add(
+    fn add<C: Cursor>(
         self,
         found: Found,
         identifier: Oid<&[u8]>,
-        value: Constructed<'_>,
+        value: C,
     ) -> Result<Found, InspectionError>
         ensures { Finds (permitted self) found_of found
-            (attribute_of identifier.entry.0.now (left value.entry) ∷ []) result }
+            (attribute_of identifier.entry.0.now (C.octets_left value) ∷ []) result }
     {
         let mut found = found;
         if identifier == AT_COMMON_NAME {
@@ -114,35 +113,31 @@ impl Profile {
     }
 
     /// What is found in these attributes, after what was found before.
-    fn add_attributes(
-        self,
-        found: Found,
-        contents: Constructed<'_>,
-    ) -> Result<Found, InspectionError>
-        ensures { (xs : List Attribute) → SpellsSome SpellsAttribute xs (left contents.entry)
+    fn add_attributes<C: Cursor>(self, found: Found, contents: C) -> Result<Found, InspectionError>
+        ensures { (xs : List Attribute) → SpellsSome SpellsAttribute xs (C.octets_left contents)
             → Finds (permitted self) found_of found xs result }
     {
         let mut rest = contents;
         let mut all = found;
-        'attributes: while !rest.is_empty() {
+        'attributes: while !rest.is_at_end() {
             let (identifier, value) = match take_attribute_type(&mut rest) {
                 Ok(read) => read,
                 Err(_) => return Err(refusal("invalid name")),
             };
-            all = self.add(all, identifier, value)?;
+            all = self.add(all, Oid(identifier.octets()), value)?;
         }
         Ok(all)
     }
 
     /// The same for relative distinguished names.
-    fn add_rdns(self, found: Found, contents: Constructed<'_>) -> Result<Found, InspectionError>
-        ensures { (parts : List (List Attribute)) → SpellsSome SpellsRelative parts (left contents.entry)
+    fn add_rdns<C: Cursor>(self, found: Found, contents: C) -> Result<Found, InspectionError>
+        ensures { (parts : List (List Attribute)) → SpellsSome SpellsRelative parts (C.octets_left contents)
             → Finds (permitted self) found_of found (attributes parts) result }
     {
         let mut rest = contents;
         let mut all = found;
-        'relatives: while !rest.is_empty() {
-            let relative = match rest.take_set() {
+        'relatives: while !rest.is_at_end() {
+            let relative = match rest.take_value_contents(Tag::SET, true) {
                 Ok(relative) => relative,
                 Err(_) => return Err(refusal("invalid name")),
             };
@@ -152,13 +147,13 @@ impl Profile {
     }
 
     /// Tests a name.
-    pub(super) fn inspect(self, name: Constructed<'_>) -> Result<(), InspectionError>
-        ensures { (parts : List (List Attribute)) → SpellsName parts (left name.entry)
+    pub(super) fn inspect<C: Cursor>(self, name: C) -> Result<(), InspectionError>
+        ensures { (parts : List (List Attribute)) → SpellsName parts (C.octets_left name)
             → MatchResult result (λ _. IsStrict (permitted self) (attributes parts))
             (λ _. IsStrict (permitted self) (attributes parts) → ⊥) }
     {
         let mut name = name;
-        let contents = match name.take_sequence() {
+        let contents = match name.take_value_contents(Tag::SEQUENCE, true) {
             Ok(contents) => contents,
             Err(_) => return Err(refusal("invalid name")),
         };

@@ -1,39 +1,33 @@
-use Rattle.std.proofs.Common.{arith}
+use Rattle.std.proofs.Common.{◌≡◌, ◌-◌, length, take, drop, arith}
+use Rattle.std.proofs.lemmas.List.{length-take-le, length-drop}
 use Rattle.rpki_der.specs.Cursor.{left}
-use Rattle.rpki_der.proofs.CursorLaws.{front-of-cut, back-of-cut, seam-within}
+use Rattle.rpki_der.proofs.CursorLaws.{source-front, source-back}
 use Rattle.rpki_der.proofs.cursor.Constructed.split_at.Goals as goal
-
-pub overflow_add-seam : goal.overflow_add-seam
-unfolding left
-overflow_add-seam c =
-    let self = c.args.self.now in
-    let within = seam-within self.source.now self.start self.end c.args.at self.ordered self.inside c.requires in
-    omega arith
 
 pub invariant_of-front : goal.invariant_of-front
 unfolding left
 invariant_of-front c =
     let self = c.args.self.now in
-    let within = seam-within self.source.now self.start self.end c.args.at self.ordered self.inside c.requires in
+    let le = c.requires in
+    let size = c.split_at.ensures.front_len in
     let inside = self.inside in
-    record { same = self.same; ordered = omega arith; inside = omega arith; stands = self.stands }
+    let bounded = self.bounded in
+    record {
+      same = rw c.split_at.ensures.front (source-front self.source self.place c.args.at self.rest.now le self.same);
+      inside = omega arith;
+      bounded = omega arith;
+    }
 
 pub invariant_of-following : goal.invariant_of-following
 unfolding left
 invariant_of-following c =
     let self = c.args.self.now in
-    let within = seam-within self.source.now self.start self.end c.args.at self.ordered self.inside c.requires in
+    let le = c.requires in
+    let size = c.split_at.ensures.back_len in
     let inside = self.inside in
-    record { same = self.same; ordered = omega arith; inside = omega arith; stands = self.stands }
-
-pub returns-clause-front : goal.returns-clause-front
-unfolding left
-returns-clause-front c =
-    let self = c.args.self.now in
-    front-of-cut self.source.now self.start self.end c.args.at (seam-within self.source.now self.start self.end c.args.at self.ordered self.inside c.requires)
-
-pub returns-clause-following : goal.returns-clause-following
-unfolding left
-returns-clause-following c =
-    let self = c.args.self.now in
-    back-of-cut self.source.now self.start self.end c.args.at (seam-within self.source.now self.start self.end c.args.at self.ordered self.inside c.requires)
+    let bounded = self.bounded in
+    record {
+      same = rw c.split_at.ensures.back (source-back self.source self.place c.args.at self.rest.now le self.same);
+      inside = omega arith;
+      bounded = omega arith;
+    }

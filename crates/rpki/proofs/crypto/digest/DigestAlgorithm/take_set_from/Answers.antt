@@ -1,12 +1,14 @@
 use Rattle.std.proofs.Common.{rules, true}
-use Rattle.rpki_der.specs.Reading.{TakesNoMemory}
-use Rattle.rpki_der.specs.TagName.{set, sequence}
-use Rattle.rpki_der.specs.Values.{GivesOuterFault}
-use Rattle.rpki_der.proofs.InsideLaws.{read-inside-exactly, reads-all}
+use Rattle.rpki_der.specs.TagName.{set}
+use Rattle.rpki_der.specs.FirstFault.{FirstFault, IsEndFault}
+use Rattle.rpki_der.proofs.FirstFaultLaws.{read-parts-inside, reads-one-part}
+use Rattle.rpki.specs.Oids.{sha256}
 use Rattle.rpki.specs.Digest.{SpellsDigest}
+use Rattle.rpki.specs.AlgorithmFault.{IsAlgorithmFault}
 use Rattle.rpki.proofs.crypto.digest.DigestAlgorithm.take_set_from.Goals as goal
 
 pub returns : goal.returns
 returns c =
-    let K = GivesOuterFault sequence true in
-    read-inside-exactly (λ d. tt) set true SpellsDigest K _ (λ b a x h. reads-all (λ d. tt) SpellsDigest (TakesNoMemory K) _ _ x (search rules)) _ _ _ c.in_set.ensures
+    let K = IsAlgorithmFault sha256 in
+    read-parts-inside (λ d. tt) set true SpellsDigest (FirstFault SpellsDigest K (λ d. IsEndFault)) _
+    (λ b a x h. reads-one-part (λ d. tt) SpellsDigest K _ _ x (search rules)) _ _ _ c.in_set.ensures

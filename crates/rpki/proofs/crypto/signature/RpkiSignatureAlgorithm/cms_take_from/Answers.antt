@@ -1,8 +1,8 @@
 use Rattle.std.proofs.Common.{rules, codes, Ok, Err, true}
 use Rattle.std.proofs.lemmas.Result.{err_from_is_err_and}
-use Rattle.rpki_der.specs.Reading.{AnyFault}
 use Rattle.rpki_der.specs.TagName.{sequence}
-use Rattle.rpki_der.proofs.InsideLaws.{read-inside-exactly}
+use Rattle.rpki_der.proofs.FirstFaultLaws.{read-parts-inside}
+use Rattle.rpki.specs.AlgorithmFault.{IsAnyNamedFault, IsCmsRestFault}
 use Rattle.rpki_der.proofs.TriedLaws.{tried-refused}
 use Rattle.rpki.specs.SignatureNames.{IsCmsContents, IsCmsName}
 use Rattle.rpki.proofs.PartLaws.{unknown-inside}
@@ -12,7 +12,7 @@ pub returns-in_err-has_parameters-clause-reads : goal.returns-in_err-has_paramet
 returns-in_err-has_parameters-clause-reads c =
     let e = c.in_err-has_parameters.field-0.0 in
     tried-refused _ _ _ _ _ _ _ c.from_residual.ensures
-    (read-inside-exactly (λ b. b) sequence true IsCmsContents AnyFault _ (λ b a x h. search rules) _ _ (Err e) c.in_err-has_parameters.ensures)
+    (read-parts-inside (λ b. b) sequence true IsCmsContents (IsAnyNamedFault IsCmsRestFault) _ (λ b a x h. search rules) _ _ (Err e) c.in_err-has_parameters.ensures)
 
 pub returns-in_err-has_parameters-clause-unknown : goal.returns-in_err-has_parameters-clause-unknown
 returns-in_err-has_parameters-clause-unknown c =
@@ -22,7 +22,7 @@ returns-in_err-has_parameters-clause-unknown c =
 
 pub returns-clause-reads : goal.returns-clause-reads
 returns-clause-reads c =
-    read-inside-exactly (λ b. b) sequence true IsCmsContents AnyFault _ (λ b a x h. search rules) _ _ (Ok c.in_ok-has_parameters.has_parameters) c.in_ok-has_parameters.ensures
+    read-parts-inside (λ b. b) sequence true IsCmsContents (IsAnyNamedFault IsCmsRestFault) _ (λ b a x h. search rules) _ _ (Ok c.in_ok-has_parameters.has_parameters) c.in_ok-has_parameters.ensures
 
 pub returns-clause-unknown : goal.returns-clause-unknown
 returns-clause-unknown c =

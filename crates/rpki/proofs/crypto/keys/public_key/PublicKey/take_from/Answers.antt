@@ -1,9 +1,9 @@
-use Rattle.std.proofs.Common.{rules}
-use Rattle.rpki_der.specs.Reading.{AnyFault, Finds}
+use Rattle.std.proofs.Common.{rules, true}
 use Rattle.rpki_der.specs.TagName.{sequence}
-use Rattle.rpki_der.proofs.InsideLaws.{read-inside-where}
+use Rattle.rpki_der.proofs.FirstFaultLaws.{read-parts-inside}
 use Rattle.rpki.specs.PublicKey.{IsKeyContents}
+use Rattle.rpki.specs.KeyFault.{IsKeyPartsFault}
 use Rattle.rpki.proofs.crypto.keys.public_key.PublicKey.take_from.Goals as goal
 
 pub returns : goal.returns
-returns c = read-inside-where (λ k. k) sequence IsKeyContents (Finds IsKeyContents) AnyFault _ (λ b a x h. search rules) _ _ _ c.in_sequence.ensures
+returns c = read-parts-inside (λ k. k) sequence true IsKeyContents IsKeyPartsFault _ (λ b a x h. search rules) _ _ _ c.in_sequence.ensures

@@ -1,7 +1,8 @@
 use Rattle.std.proofs.Common.{refl}
 use Rattle.rpki_der.specs.NestedFault.{IsCaptureFault}
 use Rattle.rpki_der.proofs.TriedLaws.{tried-refused}
-use Rattle.rpki.proofs.ExtensionLaws.{extension-refused, kept-extension, extension-captured, extension-uncaptured}
+use Rattle.rpki.proofs.ExtensionLaws.{kept-extension, extension-captured}
+use Rattle.rpki.proofs.ExtensionFaultLaws.{extension-refused, extension-uncaptured}
 use Rattle.rpki.proofs.repository.x509.cert_extension.CertExtension.take_from.Goals as goal
 
 pub returns-in_err-take_extension : goal.returns-in_err-take_extension

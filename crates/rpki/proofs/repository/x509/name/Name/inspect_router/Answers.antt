@@ -7,13 +7,13 @@ use Rattle.rpki.proofs.repository.x509.name.Name.inspect_router.Goals as goal
 
 pub returns-clause-ok : goal.returns-clause-ok
 returns-clause-ok c =
-    let h = rw c.cursor.ensures at c.inspect.ensures in
+    let h = rw c.indexed_cursor.ensures at c.inspect.ensures in
     subst (λ (o : List ℕ). IfOk c.inspect.result (λ u. IsTrue c.args.strict → IsRouterName o)) c.self.view_is
     (inspected-ok (IsStrict IsPrintableOrUtf8) _ c.self.inside.captured c.inspect.result c.self.invariant h)
 
 pub returns-clause-err : goal.returns-clause-err
 returns-clause-err c =
-    let h = rw c.cursor.ensures at c.inspect.ensures in
+    let h = rw c.indexed_cursor.ensures at c.inspect.ensures in
     subst (λ (o : List ℕ). IfErr c.inspect.result (λ e. IsTrue c.args.strict × (IsRouterName o → ⊥))) c.self.view_is
     (inspected-err (IsStrict IsPrintableOrUtf8) _ c.self.inside.captured c.inspect.result c.if-not-strict.false h)
 

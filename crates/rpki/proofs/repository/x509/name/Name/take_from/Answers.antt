@@ -1,6 +1,7 @@
 use Rattle.rpki_der.specs.NestedFault.{IsCaptureFault}
 use Rattle.rpki_der.proofs.TriedLaws.{tried-refused}
-use Rattle.rpki.proofs.NameLaws.{name-refused, captured-name, name-captured, name-uncaptured}
+use Rattle.rpki.proofs.NameLaws.{captured-name, name-captured}
+use Rattle.rpki.proofs.NameFaultLaws.{name-refused, name-uncaptured}
 use Rattle.rpki.proofs.repository.x509.name.Name.take_from.Goals as goal
 
 pub returns-in_err-skip_name : goal.returns-in_err-skip_name

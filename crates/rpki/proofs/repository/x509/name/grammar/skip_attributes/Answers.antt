@@ -1,19 +1,22 @@
-use Rattle.std.proofs.Common.{refl, true}
+use Rattle.std.proofs.Common.{inl, inr, refl, true}
 use Rattle.rpki_der.specs.Cursor.{left}
 use Rattle.rpki_der.specs.TagName.{sequence}
-use Rattle.rpki_der.specs.Reading.{AnyFault, OrMemoryWhere}
-use Rattle.rpki_der.specs.Values.{GivesOuterFault}
+use Rattle.rpki_der.specs.Values.{SpellsLeaf}
+use Rattle.rpki_der.specs.FirstFault.RepeatedFault.{AtMember}
 use Rattle.rpki_der.proofs.ReadingLaws.{UnlessMemory-weaker}
-use Rattle.rpki_der.proofs.InsideLaws.{part-memory}
-use Rattle.rpki_der.proofs.TriedLaws.{tried-inside}
+use Rattle.rpki_der.proofs.FirstFaultLaws.{tried-parts}
 use Rattle.rpki.specs.Name.{IsAttribute, SpellsAttribute, SpellsSome}
 use Rattle.rpki.specs.AnyValue.{SpellsAny}
-use Rattle.rpki.specs.NameValue.{HasAfter, HasAttributeValue}
-use Rattle.rpki.proofs.NameLaws.{nothing-spelled, remains-then, remains-refused, remains-after, remains-nothing, at-end, not-at-end}
+use Rattle.rpki.specs.NameFault.{IsAttributeFault, IsAttributesFault}
+use Rattle.rpki.proofs.NameFaultLaws.{passed-fault}
+use Rattle.rpki.proofs.NameLaws.{nothing-spelled, remains-all, remains-then, remains-refused, remains-nothing, at-end, not-at-end}
 use Rattle.rpki.proofs.repository.x509.name.grammar.skip_attributes.Goals as goal
 
 pub returns-then-is_empty : goal.returns-then-is_empty
-returns-then-is_empty c = (nothing-spelled sequence true IsAttribute (left c.args.contents.now) (at-end _ _ c.if-is_empty.true c.is_empty.ensures), tt)
+returns-then-is_empty c = (nothing-spelled sequence true IsAttribute (left c.args.contents.now) (at-end _ _ c.if-is_empty.true c.is_empty.ensures), inl (at-end _ _ c.if-is_empty.true c.is_empty.ensures, c.from_static.ensures))
+
+pub attributes-init : goal.attributes-init
+attributes-init c = remains-all sequence true IsAttribute (left c.args.contents.now)
 
 pub attributes-preserved : goal.attributes-preserved
 attributes-preserved c =
@@ -21,14 +24,14 @@ attributes-preserved c =
 
 pub returns-in_err-skip_attribute : goal.returns-in_err-skip_attribute
 returns-in_err-skip_attribute c =
-    let P = HasAfter SpellsAttribute HasAttributeValue in
     let s = left c.args.contents.now in
     let m = left c.attributes.contents in
     let e = c.in_err-skip_attribute.field-0.0 in
     let h = c.in_err-skip_attribute.ensures in
-    tried-inside (λ u. tt) (SpellsAny (SpellsSome SpellsAttribute)) (OrMemoryWhere P AnyFault) s _ e _ c.from_residual.ensures (
-      UnlessMemory-weaker e (remains-refused sequence true IsAttribute s m (not-at-end _ _ c.attributes-test.true c.is_empty-in-attributes.ensures) c.attributes.invariant) h.refuses,
-      part-memory HasAttributeValue P (GivesOuterFault sequence true) AnyFault m s e (remains-after sequence true IsAttribute HasAttributeValue s m c.attributes.invariant) h.kind tt,
+    let some = not-at-end _ _ c.attributes-test.true c.is_empty-in-attributes.ensures in
+    tried-parts (λ u. tt) (SpellsAny (SpellsSome SpellsAttribute)) IsAttributesFault s _ e _ c.from_residual.ensures (
+      UnlessMemory-weaker e (remains-refused sequence true IsAttribute s m some c.attributes.invariant) h.refuses,
+      inr (passed-fault (SpellsLeaf sequence true (SpellsAny IsAttribute)) IsAttributeFault s m e c.attributes.invariant.passed (AtMember some h.refuses h.kind)),
     )
 
 pub returns : goal.returns

@@ -1,5 +1,4 @@
 use Rattle.std.proofs.Common.{refl, true, false}
-use Rattle.rpki_der.specs.Cursor.{left}
 use Rattle.rpki_der.specs.TagName.{sequence, oid}
 use Rattle.rpki_der.specs.Leaves.{IsOidOf}
 use Rattle.rpki_der.proofs.ReadingLaws.{UnlessMemory-weaker}
@@ -11,17 +10,17 @@ use Rattle.rpki.proofs.NameLaws.{identified, unidentified}
 use Rattle.rpki.proofs.repository.x509.name.grammar.take_attribute_type.Goals as goal
 
 pub returns-in_err-contents : goal.returns-in_err-contents
-returns-in_err-contents c =
+returns-in_err-contents gen c =
     tried-refused _ _ _ _ _ _ _ c.from_residual.ensures (outer-refused-exactly sequence true IsIdentifierThen _ _ _ c.in_err-contents.field-0.0 refl c.in_err-contents.ensures)
 
 pub returns-in_err-identifier : goal.returns-in_err-identifier
-returns-in_err-identifier c =
+returns-in_err-identifier gen c =
     let e = c.in_err-identifier.field-0.0 in
     let h = c.in_err-identifier.ensures in
-    let m = left c.in_ok-contents.contents in
+    let m = gen.C.Cursor.octets_left c.in_ok-contents.contents in
     tried-refused _ _ _ _ _ _ _ c.from_residual-in_err-identifier.ensures
     (inner-refused-exactly sequence true IsIdentifierThen _ m _ _ e refl c.in_ok-contents.ensures
     (UnlessMemory-weaker e (unidentified m) h.refuses, leaf-no-memory oid false IsOidOf m e h.kind))
 
 pub returns : goal.returns
-returns c = inner-accepted sequence true IsIdentifierThen _ (left c.in_ok-contents.contents) _ _ c.in_ok-contents.ensures (identified _ _ _ c.in_ok-identifier.ensures)
+returns gen c = inner-accepted sequence true IsIdentifierThen _ (gen.C.Cursor.octets_left c.in_ok-contents.contents) _ _ c.in_ok-contents.ensures (identified _ _ _ c.in_ok-identifier.ensures)

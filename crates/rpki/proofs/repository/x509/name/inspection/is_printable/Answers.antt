@@ -1,5 +1,4 @@
 use Rattle.std.proofs.Common.{false}
-use Rattle.rpki_der.specs.Cursor.{left}
 use Rattle.rpki_der.specs.TagName.{printable_string}
 use Rattle.rpki_der.specs.Values.{SpellsLeaf}
 use Rattle.rpki_der.specs.Text.{IsPrintableText}
@@ -7,7 +6,7 @@ use Rattle.rpki.proofs.InspectionLaws.{whole-read, whole-unread}
 use Rattle.rpki.proofs.repository.x509.name.inspection.is_printable.Goals as goal
 
 pub returns-in-Ok : goal.returns-in-Ok
-returns-in-Ok c = whole-read (SpellsLeaf printable_string false IsPrintableText) (left c.args.value) _ _ _ c.in-Ok.ensures c.is_empty.ensures
+returns-in-Ok gen c = whole-read (SpellsLeaf printable_string false IsPrintableText) (gen.C.Cursor.octets_left c.args.value) _ _ _ c.in-Ok.ensures c.is_at_end.ensures
 
 pub returns-in-Err : goal.returns-in-Err
-returns-in-Err c = whole-unread printable_string false IsPrintableText (left c.args.value) _ _ c.in-Err.ensures
+returns-in-Err gen c = whole-unread printable_string false IsPrintableText (gen.C.Cursor.octets_left c.args.value) _ _ c.in-Err.ensures

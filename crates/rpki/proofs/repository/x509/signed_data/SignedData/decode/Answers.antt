@@ -1,12 +1,7 @@
-use Rattle.std.proofs.Common.{true}
 use Rattle.std.proofs.lemmas.Result.{err_from_is_err_and}
-use Rattle.rpki_der.specs.TagName.{sequence}
-use Rattle.rpki_der.specs.Reading.{OrMemoryWhere}
-use Rattle.rpki_der.specs.Values.{GivesOuterFault}
-use Rattle.rpki_der.specs.Walk.{HasEither}
-use Rattle.rpki_der.specs.Inside.{HasInside}
 use Rattle.rpki_der.proofs.ComposedLaws.{all-read, more-left, not-read}
 use Rattle.rpki.specs.SignedData.{SpellsSigned}
+use Rattle.rpki.specs.SignedFault.{IsSignedFault}
 use Rattle.rpki.proofs.SignedLaws.{again-iff, differ-in-count}
 use Rattle.rpki.proofs.repository.x509.signed_data.SignedData.decode.Goals as goal
 
@@ -14,7 +9,7 @@ pub returns-in_err-found-clause-decodes : goal.returns-in_err-found-clause-decod
 returns-in_err-found-clause-decodes g c =
     let h = rw c.new-cons.ensures at c.in_err-found.ensures in
     let p = err_from_is_err_and c.from_residual.result c.from_residual.ensures.1 in
-    rw (p.1, p.2) (not-read (SpellsSigned g.Alg.SignatureAlgorithm.spells) (OrMemoryWhere (HasInside sequence HasEither) (GivesOuterFault sequence true)) c.args.bytes _ c.in_err-found.field-0.0 h)
+    rw (p.1, p.2) (not-read (SpellsSigned g.Alg.SignatureAlgorithm.spells) (IsSignedFault g.Alg.SignatureAlgorithm.spells g.Alg.SignatureAlgorithm.fault) c.args.bytes _ c.in_err-found.field-0.0 h)
 
 pub returns-clause-decodes : goal.returns-clause-decodes
 returns-clause-decodes g c =
@@ -42,4 +37,4 @@ returns-in_err-finish-clause-decodes g c =
     let h = rw c.new-cons.ensures at c.in_ok-found.ensures in
     let p = err_from_is_err_and c.from_residual-in_err-finish.result c.from_residual-in_err-finish.ensures.1 in
     rw (p.1, p.2) (rw c.in_err-finish.ensures.0
-    (more-left (SpellsSigned g.Alg.SignatureAlgorithm.spells) (OrMemoryWhere (HasInside sequence HasEither) (GivesOuterFault sequence true)) c.args.bytes c.in_ok-found.found _ h c.in_err-finish.ensures.1))
+    (more-left (SpellsSigned g.Alg.SignatureAlgorithm.spells) (IsSignedFault g.Alg.SignatureAlgorithm.spells g.Alg.SignatureAlgorithm.fault) c.args.bytes c.in_ok-found.found _ h c.in_err-finish.ensures.1))

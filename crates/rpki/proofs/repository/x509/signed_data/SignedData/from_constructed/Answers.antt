@@ -1,10 +1,5 @@
-use Rattle.rpki_der.specs.NestedFault.{IsCaptureFault}
-use Rattle.rpki_der.specs.Reading.{AnyFault, Finds}
-use Rattle.rpki_der.specs.Walk.{HasEither}
-use Rattle.rpki_der.proofs.InsideLaws.{no-memory, part-memory}
+use Rattle.rpki_der.specs.FirstFault.FirstFault.{AtPart, Behind}
 use Rattle.rpki_der.proofs.TriedLaws.{tried-refused}
-use Rattle.rpki.specs.SignedData.{SpellsSignature}
-use Rattle.rpki.proofs.MemoryLaws.{has-either}
 use Rattle.rpki.proofs.SigningLaws.{part-refused, no-value, no-algorithm, no-signature, contents-accepted}
 use Rattle.rpki.proofs.repository.x509.signed_data.SignedData.from_constructed.Goals as goal
 
@@ -12,23 +7,22 @@ pub returns-in_err-signed : goal.returns-in_err-signed
 returns-in_err-signed g c =
     let h = c.in_err-signed.ensures.reads in
     tried-refused _ _ _ _ _ _ _ c.from_residual.ensures
-    (part-refused g.Alg.SignatureAlgorithm.spells _ _ _ _ _ _ (no-value g.Alg.SignatureAlgorithm.spells _)
-    (part-memory HasEither HasEither IsCaptureFault AnyFault _ _ c.in_err-signed.field-0.0 (λ h. h) h.kind tt) h)
+    (part-refused g.Alg.SignatureAlgorithm.spells _ _ _ _ _ _ _ (no-value g.Alg.SignatureAlgorithm.spells _) (AtPart h.refuses h.kind) h)
 
 pub returns-in_err-algorithm : goal.returns-in_err-algorithm
 returns-in_err-algorithm g c =
     let h = c.in_err-algorithm.ensures in
+    let signed = c.in_ok-signed.ensures.reads in
     tried-refused _ _ _ _ _ _ _ c.from_residual-in_err-algorithm.ensures
-    (part-refused g.Alg.SignatureAlgorithm.spells _ _ _ _ _ _ (no-algorithm g.Alg.SignatureAlgorithm.spells _ _ _ c.in_ok-signed.ensures.reads)
-    (no-memory HasEither AnyFault _ c.in_err-algorithm.field-0.0 h.kind.other tt) h)
+    (part-refused g.Alg.SignatureAlgorithm.spells _ _ _ _ _ _ _ (no-algorithm g.Alg.SignatureAlgorithm.spells _ _ _ signed) (Behind _ _ signed (AtPart h.refuses h.kind)) h)
 
 pub returns-in_err-value : goal.returns-in_err-value
 returns-in_err-value g c =
     let h = c.in_err-value.ensures in
     let signed = c.in_ok-signed.ensures.reads in
+    let algorithm = c.in_ok-algorithm.ensures in
     tried-refused _ _ _ _ _ _ _ c.from_residual-in_err-value.ensures
-    (part-refused g.Alg.SignatureAlgorithm.spells _ _ _ _ _ _ (no-signature g.Alg.SignatureAlgorithm.spells _ _ _ _ _ signed c.in_ok-algorithm.ensures)
-    (part-memory (Finds SpellsSignature) HasEither AnyFault AnyFault _ _ c.in_err-value.field-0.0 (λ k. has-either _ _ _ signed) h.kind tt) h)
+    (part-refused g.Alg.SignatureAlgorithm.spells _ _ _ _ _ _ _ (no-signature g.Alg.SignatureAlgorithm.spells _ _ _ _ _ signed algorithm) (Behind _ _ signed (Behind _ _ algorithm h.kind)) h)
 
 pub returns : goal.returns
 returns g c =

@@ -1,5 +1,3 @@
-use Rattle.std.proofs.Common.{refl}
-use Rattle.rpki_der.specs.declared.error.DecodeError.TheVariants.{Trailing}
 use Rattle.rpki_time.proofs.PeriodReadingLaws.{no-start, no-end, more-behind, both-read}
 use Rattle.rpki_time.proofs.validity.fn.Validity.take_from.in_sequence.Goals as goal
 
@@ -14,5 +12,5 @@ returns c =
     let t = c.in-Ok.time in
     let u = c.in-Ok-take_from.time in (
       λ end. both-read _ _ _ t u c.new.result c.in-Ok.ensures c.in-Ok-take_from.ensures end c.new.ensures.not_before c.new.ensures.not_after,
-      λ some. (more-behind _ _ _ t u Trailing c.in-Ok.ensures c.in-Ok-take_from.ensures (refl, some)).0,
+      λ some. more-behind _ _ _ t u c.in-Ok.ensures c.in-Ok-take_from.ensures some,
     )

@@ -1,35 +1,45 @@
 use Rattle.std.proofs.Common.{ℕ, List, false, refl}
 use Rattle.rpki_der.specs.Cursor.{left}
 use Rattle.rpki_der.specs.TagName.{integer}
-use Rattle.rpki_der.specs.Values.{SpellsLeaf}
+use Rattle.rpki_der.specs.declared.error.DecodeError.{DecodeError}
+use Rattle.rpki_der.specs.Values.{SpellsLeaf, IsLeafFault}
 use Rattle.rpki_der.specs.Integer.{IsUnsigned}
+use Rattle.rpki_der.specs.FirstFault.{IsEndFault}
+use Rattle.rpki_der.specs.FirstFault.FirstFault.{AtPart}
+use Rattle.rpki_der.proofs.ReadingLaws.{UnlessMemory-weaker}
 use Rattle.rpki_der.proofs.ComposedLaws.{all-read, nothing-whole, nothing-after}
-use Rattle.rpki_der.proofs.LeavesLaws.{leaf-no-memory}
-use Rattle.rpki_der.proofs.TriedLaws.{tried-exactly}
+use Rattle.rpki_der.proofs.FirstFaultLaws.{tried-parts, at-second, after-second}
 use Rattle.rpki.specs.AnyValue.{SpellsAny}
 use Rattle.rpki.specs.PublicKey.{AreRsaNumbers}
+use Rattle.rpki.specs.KeyFault.{IsRsaNumbersFault}
 use Rattle.rpki.proofs.TwoPartsLaws.{both-read, no-first, no-second}
 use Rattle.rpki.proofs.crypto.keys.rsa.fn.take_rsa_bits.in_sequence.Goals as goal
 
 abbrev U : ℕ → List ℕ → Type 0
 U = SpellsLeaf integer false IsUnsigned
 
+abbrev K : List ℕ → DecodeError → Type 0
+K = IsLeafFault integer false IsUnsigned
+
 pub returns-in_err-take_unsigned : goal.returns-in_err-take_unsigned
 returns-in_err-take_unsigned c =
     let s = left c.args.contents.now in
     let e = c.in_err-take_unsigned.field-0.0 in
     let h = c.in_err-take_unsigned.ensures in
-    tried-exactly (λ u. tt) (SpellsAny AreRsaNumbers) s _ e _ c.from_residual.ensures (λ none v k. no-first U U s none (k.0).0 (k.0).1 k.1) h.refuses
-    (leaf-no-memory integer false IsUnsigned s e h.kind)
+    tried-parts (λ u. tt) (SpellsAny AreRsaNumbers) IsRsaNumbersFault s _ e _ c.from_residual.ensures
+    (UnlessMemory-weaker e (λ none v k. no-first U U s none (k.0).0 (k.0).1 k.1) h.refuses, AtPart h.refuses h.kind)
 
 pub returns-in_err-take_unsigned-2 : goal.returns-in_err-take_unsigned-2
 returns-in_err-take_unsigned-2 c =
     let s = left c.args.contents.now in
     let m = left c.take_unsigned.new.self in
     let e = c.in_err-take_unsigned-2.field-0.0 in
+    let a = c.in_ok-take_unsigned.ensures in
     let h = c.in_err-take_unsigned-2.ensures in
-    tried-exactly (λ u. tt) (SpellsAny AreRsaNumbers) s _ e _ c.from_residual-in_err-take_unsigned-2.ensures
-    (λ none v k. no-second U U s m _ c.in_ok-take_unsigned.ensures (nothing-whole U m none) (k.0).0 (k.0).1 k.1) h.refuses (leaf-no-memory integer false IsUnsigned m e h.kind)
+    tried-parts (λ u. tt) (SpellsAny AreRsaNumbers) IsRsaNumbersFault s _ e _ c.from_residual-in_err-take_unsigned-2.ensures (
+      UnlessMemory-weaker e (λ none v k. no-second U U s m _ a (nothing-whole U m none) (k.0).0 (k.0).1 k.1) h.refuses,
+      at-second U K U K (λ x y. IsEndFault) s m _ _ e a h,
+    )
 
 pub returns : goal.returns
 returns c =
@@ -37,5 +47,8 @@ returns c =
     let a = c.in_ok-take_unsigned.ensures in
     let b = c.in_ok-take_unsigned-2.ensures in (
       λ end. (((_, _), (both-read U U s _ _ _ a (all-read U _ _ _ b end)).0), λ w h. refl),
-      λ some v k. no-second U U s _ _ a (nothing-after U _ _ _ b some) (k.0).0 (k.0).1 k.1,
+      λ some. (
+        λ v k. no-second U U s _ _ a (nothing-after U _ _ _ b some) (k.0).0 (k.0).1 k.1,
+        after-second U K U K s _ _ _ _ a b some,
+      ),
     )

@@ -1,9 +1,9 @@
-use Rattle.std.proofs.Common.{false, inl, inr}
+use Rattle.std.proofs.Common.{inl, inr}
 use Rattle.rpki_der.specs.Cursor.{left}
-use Rattle.rpki_der.specs.TagName.{oid}
-use Rattle.rpki_der.specs.Leaves.{IsOidOf}
-use Rattle.rpki_der.proofs.LeavesLaws.{leaf-no-memory}
-use Rattle.rpki_der.proofs.TriedLaws.{tried-exactly}
+use Rattle.rpki_der.specs.FirstFault.FirstFault.{AtPart, Behind}
+use Rattle.rpki_der.proofs.ReadingLaws.{UnlessMemory-weaker}
+use Rattle.rpki_der.proofs.FirstFaultLaws.{tried-parts}
+use Rattle.rpki.specs.AlgorithmFault.{IsAnyNamedFault, IsCmsRestFault}
 use Rattle.rpki.specs.SignatureNames.{IsCmsName, IsCmsContents}
 use Rattle.rpki.proofs.FormatLaws.{no-cms, other-cms, cms-all}
 use Rattle.rpki.proofs.PartLaws.{none-unknown, known-named}
@@ -15,7 +15,7 @@ returns-in_err-identifier c =
     let e = c.in_err-identifier.field-0.0 in
     let h = c.in_err-identifier.ensures in
     record {
-      reads = tried-exactly (λ b. b) IsCmsContents s _ e _ c.from_residual.ensures (no-cms s) h.refuses (leaf-no-memory oid false IsOidOf s e h.kind);
+      reads = tried-parts (λ b. b) IsCmsContents (IsAnyNamedFault IsCmsRestFault) s _ e _ c.from_residual.ensures (UnlessMemory-weaker e (no-cms s) h.refuses, AtPart h.refuses h.kind);
       unknown = λ u. absurd (none-unknown IsCmsName s _ e h u);
     }
 
@@ -30,6 +30,9 @@ pub returns-else-is_cms_name : goal.returns-else-is_cms_name
 returns-else-is_cms_name c =
     let none : IsCmsName c.in_ok-identifier.identifier.0.now → ⊥ = λ e. let h = c.is_cms_name.ensures.1 e in let k = c.if-is_cms_name.false in cc in
     record {
-      reads = (other-cms (left c.args.contents.now) _ _ c.in_ok-identifier.ensures (λ e. none (inl e)) (λ e. none (inr e)), record { other = λ z. cc; kind = tt });
+      reads = (
+        other-cms (left c.args.contents.now) _ _ c.in_ok-identifier.ensures (λ e. none (inl e)) (λ e. none (inr e)),
+        Behind c.in_ok-identifier.identifier.0.now _ c.in_ok-identifier.ensures (inr (none, c.from_static.ensures)),
+      );
       unknown = λ u. c.from_static.ensures;
     }

@@ -1,6 +1,5 @@
 use Rattle.std.proofs.Common.{[], ◌∷◌, ◌++◌, true, subst, sym}
 use Rattle.std.proofs.lemmas.Result.{err_from_is_err_and}
-use Rattle.rpki_der.specs.Cursor.{left}
 use Rattle.rpki_der.specs.TagName.{sequence}
 use Rattle.rpki.specs.Name.{Attribute, IsAttribute, SpellsAttribute, IsIdentifierThen}
 use Rattle.rpki.specs.StrictName.{IsStrict}
@@ -11,40 +10,40 @@ use Rattle.rpki.proofs.InspectionLaws.{join-attributes, through-nothing, through
 use Rattle.rpki.proofs.repository.x509.name.inspection.Profile.add_attributes.Goals as goal
 
 pub attributes-init : goal.attributes-init
-attributes-init c = through-nothing SpellsAttribute (λ xs. xs) (permitted c.args.self) (found_of c.args.found) (left c.args.contents) join-attributes
+attributes-init gen c = through-nothing SpellsAttribute (λ xs. xs) (permitted c.args.self) (found_of c.args.found) (gen.C.Cursor.octets_left c.args.contents) join-attributes
 
 pub returns-in-Err : goal.returns-in-Err
-returns-in-Err c =
+returns-in-Err gen c =
     λ xs h.
-    through-refused SpellsAttribute (λ ys. ys) (permitted c.args.self) (found_of c.args.found) (found_of c.attributes.all) _ (left c.attributes.rest) join-attributes
-    (not-at-end _ _ c.attributes-test.true c.is_empty.ensures) c.attributes.invariant
-    (λ v q g. absurd (no-attribute (left c.attributes.rest) _ _ c.in-Err.ensures v q g)) xs h.each
+    through-refused SpellsAttribute (λ ys. ys) (permitted c.args.self) (found_of c.args.found) (found_of c.attributes.all) _ (gen.C.Cursor.octets_left c.attributes.rest) join-attributes
+    (not-at-end _ _ c.attributes-test.true c.is_at_end.ensures) c.attributes.invariant
+    (λ v q g. absurd (no-attribute (gen.C.Cursor.octets_left c.attributes.rest) _ _ c.in-Err.ensures v q g)) xs h.each
 
 pub returns-in_err-all : goal.returns-in_err-all
-returns-in_err-all c =
+returns-in_err-all gen c =
     let p = err_from_is_err_and c.from_residual.result c.from_residual.ensures.1 in
     rw p.1 (
     λ xs h.
-    through-refused SpellsAttribute (λ ys. ys) (permitted c.args.self) (found_of c.args.found) (found_of c.attributes.all) _ (left c.attributes.rest) join-attributes
-    (not-at-end _ _ c.attributes-test.true c.is_empty.ensures) c.attributes.invariant
+    through-refused SpellsAttribute (λ ys. ys) (permitted c.args.self) (found_of c.args.found) (found_of c.attributes.all) _ (gen.C.Cursor.octets_left c.attributes.rest) join-attributes
+    (not-at-end _ _ c.attributes-test.true c.is_at_end.ensures) c.attributes.invariant
     (λ v q g before rest f strict.
-    let k = this-attribute (left c.attributes.rest) _ _ c.in-Ok.ensures v q g in
-    c.in_err-all.ensures before rest f (subst (λ (a : Attribute). IsStrict (permitted c.args.self) ((before ++ a ∷ []) ++ rest)) k.1 strict)) xs h.each
+    let k = this-attribute (gen.C.Cursor.octets_left c.attributes.rest) _ _ c.in-Ok.ensures v q g in
+    (rw c.octets.ensures at c.in_err-all.ensures) before rest f (subst (λ (a : Attribute). IsStrict (permitted c.args.self) ((before ++ a ∷ []) ++ rest)) k.1 strict)) xs h.each
     )
 
 pub attributes-smaller : goal.attributes-smaller
-attributes-smaller c = leaf-shorter sequence true IsIdentifierThen (left c.attributes.rest) _ (left c.take_attribute_type.new.cons) c.in-Ok.ensures.spells
+attributes-smaller gen c = leaf-shorter sequence true IsIdentifierThen (gen.C.Cursor.octets_left c.attributes.rest) _ (gen.C.Cursor.octets_left c.take_attribute_type.new.cons) c.in-Ok.ensures.spells
 
 pub attributes-preserved : goal.attributes-preserved
-attributes-preserved c =
-    through-more SpellsAttribute (λ ys. ys) (permitted c.args.self) (found_of c.args.found) (found_of c.attributes.all) (found_of c.in_ok-all.all) _ (left c.attributes.rest) _ join-attributes
-    (not-at-end _ _ c.attributes-test.true c.is_empty.ensures) c.attributes.invariant
+attributes-preserved gen c =
+    through-more SpellsAttribute (λ ys. ys) (permitted c.args.self) (found_of c.args.found) (found_of c.attributes.all) (found_of c.in_ok-all.all) _ (gen.C.Cursor.octets_left c.attributes.rest) _ join-attributes
+    (not-at-end _ _ c.attributes-test.true c.is_at_end.ensures) c.attributes.invariant
     (λ v q g.
-    let k = this-attribute (left c.attributes.rest) _ _ c.in-Ok.ensures v q g in
-    (k.0, λ before f. subst (λ (a : Attribute). IsFound (permitted c.args.self) (found_of c.in_ok-all.all) (before ++ a ∷ [])) (sym k.1) (c.in_ok-all.ensures before f)))
+    let k = this-attribute (gen.C.Cursor.octets_left c.attributes.rest) _ _ c.in-Ok.ensures v q g in
+    (k.0, λ before f. subst (λ (a : Attribute). IsFound (permitted c.args.self) (found_of c.in_ok-all.all) (before ++ a ∷ [])) (sym k.1) ((rw c.octets.ensures at c.in_ok-all.ensures) before f)))
 
 pub returns : goal.returns
-returns c =
+returns gen c =
     λ xs h.
-    through-all SpellsAttribute (λ ys. ys) (permitted c.args.self) (found_of c.args.found) (found_of c.attributes.all) _ (left c.attributes.rest)
-    (λ v q g. leaf-nowhere sequence true IsAttribute (left c.attributes.rest) v q (at-end _ _ c.attributes-test.false c.is_empty.ensures) g) c.attributes.invariant xs h.each
+    through-all SpellsAttribute (λ ys. ys) (permitted c.args.self) (found_of c.args.found) (found_of c.attributes.all) _ (gen.C.Cursor.octets_left c.attributes.rest)
+    (λ v q g. leaf-nowhere sequence true IsAttribute (gen.C.Cursor.octets_left c.attributes.rest) v q (at-end _ _ c.attributes-test.false c.is_at_end.ensures) g) c.attributes.invariant xs h.each

@@ -1,6 +1,5 @@
 use Rattle.std.proofs.Common.{List, ◌++◌, true, subst, sym}
 use Rattle.std.proofs.lemmas.Result.{err_from_is_err_and}
-use Rattle.rpki_der.specs.Cursor.{left}
 use Rattle.rpki_der.specs.TagName.{set}
 use Rattle.rpki.specs.Name.{Attribute, SpellsAttribute, SpellsSome, SpellsRelative}
 use Rattle.rpki.specs.StrictName.{IsStrict, attributes}
@@ -11,40 +10,40 @@ use Rattle.rpki.proofs.InspectionLaws.{join-relatives, one-relative, through-not
 use Rattle.rpki.proofs.repository.x509.name.inspection.Profile.add_rdns.Goals as goal
 
 pub relatives-init : goal.relatives-init
-relatives-init c = through-nothing SpellsRelative attributes (permitted c.args.self) (found_of c.args.found) (left c.args.contents) join-relatives
+relatives-init gen c = through-nothing SpellsRelative attributes (permitted c.args.self) (found_of c.args.found) (gen.C.Cursor.octets_left c.args.contents) join-relatives
 
 pub returns-in-Err : goal.returns-in-Err
-returns-in-Err c =
+returns-in-Err gen c =
     λ parts h.
-    through-refused SpellsRelative attributes (permitted c.args.self) (found_of c.args.found) (found_of c.relatives.all) _ (left c.relatives.rest) join-relatives
-    (not-at-end _ _ c.relatives-test.true c.is_empty.ensures) c.relatives.invariant
-    (λ v q g. absurd (no-contents set (SpellsSome SpellsAttribute) (left c.relatives.rest) _ _ c.in-Err.ensures v q g)) parts h.each
+    through-refused SpellsRelative attributes (permitted c.args.self) (found_of c.args.found) (found_of c.relatives.all) _ (gen.C.Cursor.octets_left c.relatives.rest) join-relatives
+    (not-at-end _ _ c.relatives-test.true c.is_at_end.ensures) c.relatives.invariant
+    (λ v q g. absurd (no-contents set (SpellsSome SpellsAttribute) (gen.C.Cursor.octets_left c.relatives.rest) _ _ c.in-Err.ensures v q g)) parts h.each
 
 pub returns-in_err-all : goal.returns-in_err-all
-returns-in_err-all c =
+returns-in_err-all gen c =
     let p = err_from_is_err_and c.from_residual.result c.from_residual.ensures.1 in
     rw p.1 (
     λ parts h.
-    through-refused SpellsRelative attributes (permitted c.args.self) (found_of c.args.found) (found_of c.relatives.all) _ (left c.relatives.rest) join-relatives
-    (not-at-end _ _ c.relatives-test.true c.is_empty.ensures) c.relatives.invariant
+    through-refused SpellsRelative attributes (permitted c.args.self) (found_of c.args.found) (found_of c.relatives.all) _ (gen.C.Cursor.octets_left c.relatives.rest) join-relatives
+    (not-at-end _ _ c.relatives-test.true c.is_at_end.ensures) c.relatives.invariant
     (λ v q g before rest f strict.
-    let k = these-contents set (SpellsSome SpellsAttribute) (left c.relatives.rest) _ _ c.in-Ok.ensures v q g in
+    let k = these-contents set (SpellsSome SpellsAttribute) (gen.C.Cursor.octets_left c.relatives.rest) _ _ c.in-Ok.ensures v q g in
     c.in_err-all.ensures v k.1 before rest f (subst (λ (xs : List Attribute). IsStrict (permitted c.args.self) ((before ++ xs) ++ rest)) (one-relative v) strict)) parts h.each
     )
 
 pub relatives-smaller : goal.relatives-smaller
-relatives-smaller c = contents-shorter set true (left c.relatives.rest) _ (left c.take_set.new.self) c.in-Ok.ensures.spells
+relatives-smaller gen c = contents-shorter set true (gen.C.Cursor.octets_left c.relatives.rest) _ (gen.C.Cursor.octets_left c.take_value_contents.new.self) c.in-Ok.ensures.spells
 
 pub relatives-preserved : goal.relatives-preserved
-relatives-preserved c =
-    through-more SpellsRelative attributes (permitted c.args.self) (found_of c.args.found) (found_of c.relatives.all) (found_of c.in_ok-all.all) _ (left c.relatives.rest) _ join-relatives
-    (not-at-end _ _ c.relatives-test.true c.is_empty.ensures) c.relatives.invariant
+relatives-preserved gen c =
+    through-more SpellsRelative attributes (permitted c.args.self) (found_of c.args.found) (found_of c.relatives.all) (found_of c.in_ok-all.all) _ (gen.C.Cursor.octets_left c.relatives.rest) _ join-relatives
+    (not-at-end _ _ c.relatives-test.true c.is_at_end.ensures) c.relatives.invariant
     (λ v q g.
-    let k = these-contents set (SpellsSome SpellsAttribute) (left c.relatives.rest) _ _ c.in-Ok.ensures v q g in
+    let k = these-contents set (SpellsSome SpellsAttribute) (gen.C.Cursor.octets_left c.relatives.rest) _ _ c.in-Ok.ensures v q g in
     (k.0, λ before f. subst (λ (xs : List Attribute). IsFound (permitted c.args.self) (found_of c.in_ok-all.all) (before ++ xs)) (sym (one-relative v)) (c.in_ok-all.ensures v k.1 before f)))
 
 pub returns : goal.returns
-returns c =
+returns gen c =
     λ parts h.
-    through-all SpellsRelative attributes (permitted c.args.self) (found_of c.args.found) (found_of c.relatives.all) _ (left c.relatives.rest)
-    (λ v q g. leaf-nowhere set true (SpellsSome SpellsAttribute) (left c.relatives.rest) v q (at-end _ _ c.relatives-test.false c.is_empty.ensures) g) c.relatives.invariant parts h.each
+    through-all SpellsRelative attributes (permitted c.args.self) (found_of c.args.found) (found_of c.relatives.all) _ (gen.C.Cursor.octets_left c.relatives.rest)
+    (λ v q g. leaf-nowhere set true (SpellsSome SpellsAttribute) (gen.C.Cursor.octets_left c.relatives.rest) v q (at-end _ _ c.relatives-test.false c.is_at_end.ensures) g) c.relatives.invariant parts h.each

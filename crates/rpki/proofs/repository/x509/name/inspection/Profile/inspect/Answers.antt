@@ -1,6 +1,5 @@
 use Rattle.std.proofs.Common.{[]}
 use Rattle.std.proofs.lemmas.Result.{err_from_is_err_and}
-use Rattle.rpki_der.specs.Cursor.{left}
 use Rattle.rpki_der.specs.TagName.{sequence}
 use Rattle.rpki_der.proofs.ComposedLaws.{spelled-whole}
 use Rattle.rpki.specs.Name.{SpellsSome, SpellsRelative, SpellsName}
@@ -10,28 +9,28 @@ use Rattle.rpki.proofs.InspectionLaws.{no-contents, these-contents, never-strict
 use Rattle.rpki.proofs.repository.x509.name.inspection.Profile.inspect.Goals as goal
 
 pub returns-in-Err : goal.returns-in-Err
-returns-in-Err c =
-    λ parts h strict. no-contents sequence (SpellsSome SpellsRelative) (left c.args.name) _ _ c.in-Err.ensures parts [] (spelled-whole SpellsName (left c.args.name) parts h)
+returns-in-Err gen c =
+    λ parts h strict. no-contents sequence (SpellsSome SpellsRelative) (gen.C.Cursor.octets_left c.args.name) _ _ c.in-Err.ensures parts [] (spelled-whole SpellsName (gen.C.Cursor.octets_left c.args.name) parts h)
 
 pub returns-in_err-found : goal.returns-in_err-found
-returns-in_err-found c =
+returns-in_err-found gen c =
     let p = err_from_is_err_and c.from_residual.result c.from_residual.ensures.1 in
     rw p.1 (
     λ parts h.
-    let k = these-contents sequence (SpellsSome SpellsRelative) (left c.args.name) _ _ c.in-Ok.ensures parts [] (spelled-whole SpellsName (left c.args.name) parts h) in
+    let k = these-contents sequence (SpellsSome SpellsRelative) (gen.C.Cursor.octets_left c.args.name) _ _ c.in-Ok.ensures parts [] (spelled-whole SpellsName (gen.C.Cursor.octets_left c.args.name) parts h) in
     never-strict (permitted c.args.self) (attributes parts) (c.in_err-found.ensures parts k.1)
     )
 
 pub returns-then-not-found : goal.returns-then-not-found
-returns-then-not-found c =
+returns-then-not-found gen c =
     λ parts h.
-    let k = these-contents sequence (SpellsSome SpellsRelative) (left c.args.name) _ _ c.in-Ok.ensures parts [] (spelled-whole SpellsName (left c.args.name) parts h) in
+    let k = these-contents sequence (SpellsSome SpellsRelative) (gen.C.Cursor.octets_left c.args.name) _ _ c.in-Ok.ensures parts [] (spelled-whole SpellsName (gen.C.Cursor.octets_left c.args.name) parts h) in
     let all = c.in_ok-found.ensures parts k.1 [] (nothing-found (permitted c.args.self)) in
     found-nameless (permitted c.args.self) (found_of c.in_ok-found.found) (attributes parts) all (is-not _ c.if-not-found.true)
 
 pub returns : goal.returns
-returns c =
+returns gen c =
     λ parts h.
-    let k = these-contents sequence (SpellsSome SpellsRelative) (left c.args.name) _ _ c.in-Ok.ensures parts [] (spelled-whole SpellsName (left c.args.name) parts h) in
+    let k = these-contents sequence (SpellsSome SpellsRelative) (gen.C.Cursor.octets_left c.args.name) _ _ c.in-Ok.ensures parts [] (spelled-whole SpellsName (gen.C.Cursor.octets_left c.args.name) parts h) in
     let all = c.in_ok-found.ensures parts k.1 [] (nothing-found (permitted c.args.self)) in
     found-strict (permitted c.args.self) (found_of c.in_ok-found.found) (attributes parts) all (is-so _ c.if-not-found.false)

@@ -1,18 +1,14 @@
-use Rattle.std.proofs.Common.{true, refl, false}
+use Rattle.std.proofs.Common.{inl, inr, refl}
 use Rattle.rpki_der.specs.Cursor.{left}
-use Rattle.rpki_der.specs.NestedFault.{IsNestedFault}
-use Rattle.rpki_der.specs.TagName.{oid}
-use Rattle.rpki_der.specs.Leaves.{IsOidOf}
-use Rattle.rpki_der.specs.Reading.{AnyFault, OrMemoryWhere}
-use Rattle.rpki_der.specs.Walk.{SpellsAnyValue, HasConstructed}
+use Rattle.rpki_der.specs.Walk.{SpellsAnyValue}
+use Rattle.rpki_der.specs.FirstFault.FirstFault.{AtPart, Behind}
 use Rattle.rpki_der.proofs.ReadingLaws.{UnlessMemory-weaker}
-use Rattle.rpki_der.proofs.LeavesLaws.{leaf-no-memory}
 use Rattle.rpki_der.proofs.ComposedLaws.{all-read, nothing-whole, nothing-after}
-use Rattle.rpki_der.proofs.InsideLaws.{no-memory, part-memory}
-use Rattle.rpki_der.proofs.TriedLaws.{tried-inside}
+use Rattle.rpki_der.proofs.FirstFaultLaws.{tried-parts}
 use Rattle.rpki.specs.Name.{IsAttribute}
 use Rattle.rpki.specs.AnyValue.{SpellsAny}
-use Rattle.rpki.specs.NameValue.{IdentifiesValue}
+use Rattle.rpki.specs.NameFault.{IsAttributePartsFault}
+use Rattle.rpki.proofs.NameFaultLaws.{is-nothing}
 use Rattle.rpki.proofs.NameLaws.{identified, unidentified, identified-value, no-value-where-nothing}
 use Rattle.rpki.proofs.repository.x509.name.grammar.fn.skip_attribute.in_sequence.Goals as goal
 
@@ -21,9 +17,9 @@ returns-in_err-take_oid c =
     let s = left c.args.contents.now in
     let e = c.in_err-take_oid.field-0.0 in
     let h = c.in_err-take_oid.ensures in
-    tried-inside (λ u. tt) (SpellsAny IsAttribute) (OrMemoryWhere IdentifiesValue AnyFault) s _ e _ c.from_residual.ensures (
+    tried-parts (λ u. tt) (SpellsAny IsAttribute) IsAttributePartsFault s _ e _ c.from_residual.ensures (
       UnlessMemory-weaker e (λ none x k. unidentified s none k.0 k.1.identified) h.refuses,
-      no-memory IdentifiesValue AnyFault s e (leaf-no-memory oid false IsOidOf s e h.kind) tt,
+      AtPart h.refuses h.kind,
     )
 
 pub returns-in_err-skip_one : goal.returns-in_err-skip_one
@@ -33,9 +29,9 @@ returns-in_err-skip_one c =
     let e = c.in_err-skip_one.field-0.0 in
     let a = c.in_ok-take_oid.ensures in
     let h = c.in_err-skip_one.ensures.reads.1 in
-    tried-inside (λ u. tt) (SpellsAny IsAttribute) (OrMemoryWhere IdentifiesValue AnyFault) s _ e _ c.from_residual-in_err-skip_one.ensures (
+    tried-parts (λ u. tt) (SpellsAny IsAttribute) IsAttributePartsFault s _ e _ c.from_residual-in_err-skip_one.ensures (
       UnlessMemory-weaker e (λ none x k. nothing-whole SpellsAnyValue m none tt (identified-value s m _ a k.0 k.1)) h.refuses,
-      part-memory HasConstructed IdentifiesValue IsNestedFault AnyFault m s e (λ v. (_, (identified s m _ a).0, (true, v))) h.kind tt,
+      Behind _ m a (inr (AtPart h.refuses h.kind)),
     )
 
 pub returns-in-Some : goal.returns-in-Some
@@ -45,7 +41,7 @@ returns-in-Some c =
     let a = c.in_ok-take_oid.ensures in
     let h = rw c.in-Some.is at c.in_ok-skip_one.ensures.reads in (
       λ end. ((_, record { identified = (identified s m _ a).0; one = (all-read SpellsAnyValue m tt _ h.1 end).0 }), λ w k. refl),
-      λ some x k. nothing-after SpellsAnyValue m _ tt h.1 some tt (identified-value s m _ a k.0 k.1),
+      λ some. (λ x k. nothing-after SpellsAnyValue m _ tt h.1 some tt (identified-value s m _ a k.0 k.1), Behind _ m a (inr (Behind tt _ h.1 (some, refl)))),
     )
 
 pub returns-in-None : goal.returns-in-None
@@ -53,4 +49,5 @@ returns-in-None c =
     let s = left c.args.contents.now in
     let m = left c.take_oid.new.self in
     let h = rw c.in-None.is at c.in_ok-skip_one.ensures.reads in
-    (λ x k. no-value-where-nothing m h.0 tt (identified-value s m _ c.in_ok-take_oid.ensures k.0 k.1), tt)
+    let a = c.in_ok-take_oid.ensures in
+    (λ x k. no-value-where-nothing m h.0 tt (identified-value s m _ a k.0 k.1), Behind _ m a (inl (is-nothing m h.0, c.from_static.ensures)))

@@ -1,0 +1,61 @@
+-- The errors of algorithm identifiers: none is an allocation failure, and where there is no SEQUENCE it is that of one.
+use Rattle.std.proofs.Common.{inl, inr, ℕ, true, false, List, Result, refl}
+use Rattle.rpki_der.specs.declared.error.DecodeError.{DecodeError}
+use Rattle.rpki_der.specs.declared.error.DecodeError.TheVariants.{OutOfMemory}
+use Rattle.rpki_der.specs.TagName.{oid, null, sequence, set}
+use Rattle.rpki_der.specs.Reading.{Reads, TakesNoMemory}
+use Rattle.rpki_der.specs.Values.{SpellsLeaf, HasTag, IsLeafFault, IsOuterFault}
+use Rattle.rpki_der.specs.Leaves.{IsNull, IsOidOf, IsOnly}
+use Rattle.rpki_der.specs.FirstFault.{IsEndFault}
+use Rattle.rpki_der.proofs.LeavesLaws.{leaf-no-memory}
+use Rattle.rpki_der.proofs.FirstFaultLaws.{first-no-memory, optional-no-memory, end-no-memory, inside-outer-exactly, reads-kind}
+use Rattle.rpki.specs.Oids.{sha256, secp256r1}
+use Rattle.rpki.specs.Digest.{SpellsDigest}
+use Rattle.rpki.specs.AlgorithmFault.{IsParametersFault, IsNamedFault, IsAnyNamedFault, IsAlgorithmFault, IsBareFault, IsDigestSetFault, IsCmsRestFault, IsCmsFault, IsFormatRestFault, IsFormatFault}
+
+pub parameters-never : (s : List ℕ) → IsParametersFault s OutOfMemory → ⊥
+parameters-never s = optional-no-memory (HasTag null) (SpellsLeaf null false IsNull) (IsLeafFault null false IsNull) IsEndFault s (λ h. leaf-no-memory null false IsNull s OutOfMemory h refl) end-no-memory
+
+pub named-never : (o : List ℕ) (L : List ℕ → DecodeError → Type 0) (s : List ℕ) → ((r : List ℕ) → L r OutOfMemory → ⊥) → IsNamedFault o L s OutOfMemory → ⊥
+named-never o L s f =
+    first-no-memory (SpellsLeaf oid false (IsOnly o)) (IsLeafFault oid false (IsOnly o)) (λ v. L) s (λ h. leaf-no-memory oid false (IsOnly o) s OutOfMemory h refl) (λ v r. f r)
+
+any-named-never : (L : List ℕ → List ℕ → DecodeError → Type 0) (s : List ℕ) → ((x r : List ℕ) → L x r OutOfMemory → ⊥) → IsAnyNamedFault L s OutOfMemory → ⊥
+any-named-never L s f = first-no-memory (SpellsLeaf oid false IsOidOf) (IsLeafFault oid false IsOidOf) L s (λ h. leaf-no-memory oid false IsOidOf s OutOfMemory h refl) f
+
+cms-rest-never : (x r : List ℕ) → IsCmsRestFault x r OutOfMemory → ⊥
+cms-rest-never x r (inl h) = parameters-never r h.1
+cms-rest-never x r (inr h) = h.1
+
+format-rest-never : (x r : List ℕ) → IsFormatRestFault x r OutOfMemory → ⊥
+format-rest-never x r (inl h) = parameters-never r h.1
+format-rest-never x r (inr (inl h)) = named-never secp256r1 IsEndFault r end-no-memory h.1
+format-rest-never x r (inr (inr h)) = h.1
+
+-- ---- each is as a reader that allocates nothing says it of a SEQUENCE
+
+pub algorithm-outer : (o s : List ℕ) (e : DecodeError) → IsAlgorithmFault o s e → IsOuterFault sequence true s e
+algorithm-outer o s e = inside-outer-exactly sequence true (IsNamedFault o IsParametersFault) s e (λ c. named-never o IsParametersFault c parameters-never)
+
+pub bare-outer : (o s : List ℕ) (e : DecodeError) → IsBareFault o s e → IsOuterFault sequence true s e
+bare-outer o s e = inside-outer-exactly sequence true (IsNamedFault o IsEndFault) s e (λ c. named-never o IsEndFault c end-no-memory)
+
+pub cms-outer : (s : List ℕ) (e : DecodeError) → IsCmsFault s e → IsOuterFault sequence true s e
+cms-outer s e = inside-outer-exactly sequence true (IsAnyNamedFault IsCmsRestFault) s e (λ c. any-named-never IsCmsRestFault c cms-rest-never)
+
+pub format-outer : (s : List ℕ) (e : DecodeError) → IsFormatFault s e → IsOuterFault sequence true s e
+format-outer s e = inside-outer-exactly sequence true (IsAnyNamedFault IsFormatRestFault) s e (λ c. any-named-never IsFormatRestFault c format-rest-never)
+
+pub digest-set-outer : (s : List ℕ) (e : DecodeError) → IsDigestSetFault s e → IsOuterFault set true s e
+digest-set-outer s e =
+    inside-outer-exactly set true _ s e (λ c. first-no-memory SpellsDigest (IsAlgorithmFault sha256) (λ d. IsEndFault) c (λ h. (algorithm-outer sha256 c OutOfMemory h).other refl) (λ d r. end-no-memory r))
+
+-- ---- a reader of an algorithm identifier never returns that allocation failed
+
+pub algorithm-exactly : {X V : Type 0} (view : X → V) (G : V → List ℕ → Type 0) (o s r : List ℕ) (x : Result X DecodeError)
+    → Reads view G (IsAlgorithmFault o) s r x → Reads view G (TakesNoMemory (IsAlgorithmFault o)) s r x
+algorithm-exactly view G o s r x = reads-kind view G (IsAlgorithmFault o) (TakesNoMemory (IsAlgorithmFault o)) s r x (λ e h. record { other = (algorithm-outer o s e h).other; kind = h })
+
+pub bare-exactly : {X V : Type 0} (view : X → V) (G : V → List ℕ → Type 0) (o s r : List ℕ) (x : Result X DecodeError)
+    → Reads view G (IsBareFault o) s r x → Reads view G (TakesNoMemory (IsBareFault o)) s r x
+bare-exactly view G o s r x = reads-kind view G (IsBareFault o) (TakesNoMemory (IsBareFault o)) s r x (λ e h. record { other = (bare-outer o s e h).other; kind = h })

@@ -1,0 +1,43 @@
+-- The errors of public keys: where allocation may fail, and where there is no SEQUENCE.
+use Rattle.std.proofs.Common.{ℕ, true, false, List, refl}
+use Rattle.rpki_der.specs.declared.error.DecodeError.{DecodeError}
+use Rattle.rpki_der.specs.declared.error.DecodeError.TheVariants.{OutOfMemory}
+use Rattle.rpki_der.specs.TagName.{sequence, integer}
+use Rattle.rpki_der.specs.Reading.{Finds, OrMemoryWhere, Refusal, UnlessMemory, SpellsNothing, TakesNoMemory, IsWholeFault}
+use Rattle.rpki_der.specs.Values.{SpellsLeaf, IsLeafFault, GivesOuterFault, IsOuterFault}
+use Rattle.rpki_der.specs.Integer.{IsUnsigned}
+use Rattle.rpki_der.specs.Inside.{HasInside}
+use Rattle.rpki_der.specs.FirstFault.{FirstFault, IsEndFault}
+use Rattle.rpki_der.specs.FirstFault.FirstFault.{AtPart, Behind}
+use Rattle.rpki_der.proofs.LeavesLaws.{leaf-no-memory}
+use Rattle.rpki_der.proofs.ComposedLaws.{not-read}
+use Rattle.rpki_der.proofs.FirstFaultLaws.{first-no-memory, end-no-memory, inside-outer-exactly, inside-outer-where}
+use Rattle.rpki.specs.PublicKey.{IsKeyContents, SpellsRsaBits}
+use Rattle.rpki.specs.KeyFault.{IsKeyPartsFault, IsKeyFault, IsRsaNumbersFault, IsRsaBitsFault}
+use Rattle.rpki.proofs.PublicKeyLaws.{key-found}
+use Rattle.rpki.proofs.AlgorithmFaultLaws.{format-outer}
+
+key-parts-memory : (c : List ℕ) → IsKeyPartsFault c OutOfMemory → Finds IsKeyContents c
+key-parts-memory c (AtPart none k) = absurd ((format-outer c OutOfMemory k).other refl)
+key-parts-memory c (Behind f r a (AtPart none k)) = key-found c r f a.spells k
+key-parts-memory c (Behind f r a (Behind b q d k)) = absurd (end-no-memory q k)
+
+-- allocation may fail only where both parts are there
+pub key-outer : (s : List ℕ) (e : DecodeError) → IsKeyFault s e → OrMemoryWhere (HasInside sequence (Finds IsKeyContents)) (GivesOuterFault sequence true) s e
+key-outer s e = inside-outer-where sequence (Finds IsKeyContents) IsKeyPartsFault s e key-parts-memory
+
+rsa-never : (c : List ℕ) → IsRsaNumbersFault c OutOfMemory → ⊥
+rsa-never c =
+    let U : ℕ → List ℕ → Type 0 = SpellsLeaf integer false IsUnsigned in
+    let K : List ℕ → DecodeError → Type 0 = IsLeafFault integer false IsUnsigned in
+    first-no-memory U K (λ m. FirstFault U K (λ n. IsEndFault)) c (λ h. leaf-no-memory integer false IsUnsigned c OutOfMemory h refl)
+    (λ m r. first-no-memory U K (λ n. IsEndFault) r (λ h. leaf-no-memory integer false IsUnsigned r OutOfMemory h refl) (λ n q. end-no-memory q))
+
+-- nothing is allocated
+pub rsa-bits-outer : (s : List ℕ) (e : DecodeError) → IsRsaBitsFault s e → IsOuterFault sequence true s e
+rsa-bits-outer s e = inside-outer-exactly sequence true IsRsaNumbersFault s e rsa-never
+
+pub whole-refused : (s r : List ℕ) (e : DecodeError) → Refusal SpellsRsaBits IsRsaBitsFault s r e → UnlessMemory e (SpellsNothing SpellsRsaBits s) × TakesNoMemory (IsWholeFault SpellsRsaBits IsRsaBitsFault) s e
+whole-refused s r e h =
+    let k = not-read SpellsRsaBits IsRsaBitsFault s r e h in
+    (k.0, record { other = (rsa-bits-outer s e h.kind).other; kind = k.1 })

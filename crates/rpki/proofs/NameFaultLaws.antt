@@ -1,0 +1,115 @@
+-- The errors of names: where allocation may fail, and where there is no SEQUENCE.
+use Rattle.std.proofs.Common.{◌≡◌, inl, inr, ℕ, true, false, List, [], ◌∷◌, ◌++◌, refl, sym, ap, subst, ◌∙◌, append_assoc}
+use Rattle.rpki_der.specs.declared.error.DecodeError.{DecodeError}
+use Rattle.rpki_der.specs.declared.error.DecodeError.TheVariants.{Truncated, BadTag, BadLength, Unexpected, Content, Trailing, OutOfMemory}
+use Rattle.rpki_der.specs.TagName.{TagName, oid, sequence, set}
+use Rattle.rpki_der.specs.Reading.{Accepts, Refusal, UnlessMemory, OrMemoryWhere}
+use Rattle.rpki_der.specs.Values.{SpellsLeaf, GivesOuterFault}
+use Rattle.rpki_der.specs.Leaves.{IsOidOf}
+use Rattle.rpki_der.specs.Members.{SpellsValue}
+use Rattle.rpki_der.specs.Walk.{HasEither}
+use Rattle.rpki_der.specs.Inside.{HasInside}
+use Rattle.rpki_der.specs.FirstFault.{RepeatedFault, IsInsideFault}
+use Rattle.rpki_der.specs.FirstFault.FirstFault.{AtPart, Behind}
+use Rattle.rpki_der.specs.FirstFault.RepeatedFault.{AtMember, AfterMember}
+use Rattle.rpki_der.proofs.ReadingLaws.{UnlessMemory-weaker}
+use Rattle.rpki_der.proofs.LeavesLaws.{leaf-no-memory, contents-no-memory}
+use Rattle.rpki_der.proofs.FirstFaultLaws.{memory-where, end-no-memory, inside-outer}
+use Rattle.rpki.specs.Name.{IsAttribute, SpellsSome, SpellsAttribute, SpellsRelative, SpellsNameOctets}
+use Rattle.rpki.specs.AnyValue.{SpellsAny}
+use Rattle.rpki.specs.NameValue.{HasAfter, IdentifiesValue, HasAttributeValue, HasRelativeValue, HasNameValue}
+use Rattle.rpki.specs.NameFault.{IsAttributePartsFault, IsAttributeFault, IsAttributesFault, IsRelativeFault, IsRelativesFault, IsWalkedNameFault, IsNameFault}
+use Rattle.rpki.proofs.NameLaws.{Passed, AnyName, any-leaf, octets-any, octets-value, any-captured, name-found, identified}
+use Rattle.rpki.proofs.NameLaws.Passed.{Here, Next}
+
+-- ---- the loop of a reader of many parts
+
+-- the error of what is left is that of all
+pub passed-fault : {V : Type 0} (G : V → List ℕ → Type 0) (K : List ℕ → DecodeError → Type 0) (s m : List ℕ) (e : DecodeError) → Passed G s m → RepeatedFault G K m e → RepeatedFault G K s e
+passed-fault G K s m e Here h = h
+passed-fault G K s m e (Next v n a p) h = AfterMember v n a (passed-fault G K n m e p h)
+
+-- nothing is left
+pub is-nothing : (s : List ℕ) → ((s ≡ [] → ⊥) → ⊥) → s ≡ []
+is-nothing [] h = refl
+is-nothing (x ∷ xs) h = absurd (h (λ e. cc))
+
+-- ---- where allocation fails
+
+inside-memory : (t : TagName) (L : List ℕ → DecodeError → Type 0) (P : List ℕ → Type 0) (s : List ℕ) → ((c : List ℕ) → L c OutOfMemory → P c) → IsInsideFault t true L s OutOfMemory → HasInside t P s
+inside-memory t L P s g (AtPart none k) = absurd (contents-no-memory t true s OutOfMemory k refl)
+inside-memory t L P s g (Behind c r a l) = (c, r, a.spells, g c l)
+
+repeated-memory : {V : Type 0} (t : TagName) (C : V → List ℕ → Type 0) (K : List ℕ → DecodeError → Type 0) (P : List ℕ → Type 0) (s : List ℕ)
+    → ((r : List ℕ) → K r OutOfMemory → P r) → RepeatedFault (SpellsLeaf t true (SpellsAny C)) K s OutOfMemory → HasAfter (SpellsLeaf t true C) P s
+repeated-memory t C K P s f (AtMember some none k) = ([], [], s, refl, refl, f s k)
+repeated-memory t C K P s f (AfterMember v r a h) =
+    let (vs, front, q, each, parts, p) = repeated-memory t C K P r f h in
+    let g = any-leaf t true C a.spells.front a.spells.spelled in (
+      g.0 ∷ vs,
+      a.spells.front ++ front,
+      q,
+      (front, record { front = a.spells.front; parts = refl; spelled = g.1 }, each),
+      a.spells.parts ∙ ap (λ (x : List ℕ). a.spells.front ++ x) parts ∙ sym (append_assoc a.spells.front front q),
+      p,
+    )
+
+attribute-memory : (c : List ℕ) → IsAttributePartsFault c OutOfMemory → IdentifiesValue c
+attribute-memory c (AtPart none k) = absurd (leaf-no-memory oid false IsOidOf c OutOfMemory k refl)
+attribute-memory c (Behind x r a (inl h)) = absurd h.1
+attribute-memory c (Behind x r a (inr (AtPart none k))) = (_, (identified c r x a).0, (true, k))
+attribute-memory c (Behind x r a (inr (Behind v q b k))) = absurd (end-no-memory q k)
+
+attributes-memory : (c : List ℕ) → IsAttributesFault c OutOfMemory → HasAfter SpellsAttribute HasAttributeValue c
+attributes-memory c (inl h) = absurd h.1
+attributes-memory c (inr h) = repeated-memory sequence IsAttribute IsAttributeFault HasAttributeValue c (λ s. inside-memory sequence IsAttributePartsFault IdentifiesValue s attribute-memory) h
+
+relatives-memory : (c : List ℕ) → IsRelativesFault c OutOfMemory → HasAfter SpellsRelative HasRelativeValue c
+relatives-memory c (inl h) = absurd h.1
+relatives-memory c (inr h) =
+    repeated-memory set (SpellsSome SpellsAttribute) IsRelativeFault HasRelativeValue c (λ s. inside-memory set IsAttributesFault (HasAfter SpellsAttribute HasAttributeValue) s attributes-memory) h
+
+name-memory : (s : List ℕ) → IsWalkedNameFault s OutOfMemory → HasNameValue s
+name-memory s = inside-memory sequence IsRelativesFault (HasAfter SpellsRelative HasRelativeValue) s relatives-memory
+
+-- ---- a name, captured
+
+pub name-refused : (s r : List ℕ) (e : DecodeError) → Refusal AnyName IsWalkedNameFault s r e → Refusal SpellsNameOctets IsNameFault s s e
+name-refused s r e h = record {
+  unchanged = refl;
+  refuses = UnlessMemory-weaker e (λ none v q k. none tt q (octets-any s v q k)) h.refuses;
+  kind = memory-where HasNameValue IsWalkedNameFault s e (λ z. name-memory s (subst (IsWalkedNameFault s) z h.kind)) h.kind;
+}
+
+memory-only : (P : List ℕ → Type 0) (K : List ℕ → DecodeError → Type 0) (s : List ℕ) (e : DecodeError) → UnlessMemory e ⊥ → P s → OrMemoryWhere P K s e
+memory-only P K s Truncated h p = absurd h
+memory-only P K s BadTag h p = absurd h
+memory-only P K s BadLength h p = absurd h
+memory-only P K s Unexpected h p = absurd h
+memory-only P K s (Content x) h p = absurd h
+memory-only P K s Trailing h p = absurd h
+memory-only P K s OutOfMemory h p = p
+
+pub name-uncaptured : (K : List ℕ → DecodeError → Type 0) (s r q : List ℕ) (e : DecodeError) → Accepts AnyName s tt r → Refusal SpellsValue (OrMemoryWhere HasEither K) s q e
+    → Refusal SpellsNameOctets IsNameFault s q e
+name-uncaptured K s r q e a h = record {
+  unchanged = h.unchanged;
+  refuses = UnlessMemory-weaker e (λ none v p k. none v p (octets-value s v p k)) h.refuses;
+  kind =
+      let g = any-captured s r a.spells in
+      memory-only HasNameValue IsWalkedNameFault s e (UnlessMemory-weaker e (λ none. none g.0 r g.1) h.refuses) (name-found s r a.spells);
+}
+
+-- ---- the error of the SEQUENCE, where that isn't there
+
+or-memory-kind : (P : List ℕ → Type 0) (K L : List ℕ → DecodeError → Type 0) (s : List ℕ) (e : DecodeError) → ((d : DecodeError) → K s d → L s d) → OrMemoryWhere P K s e → OrMemoryWhere P L s e
+or-memory-kind P K L s Truncated f h = f Truncated h
+or-memory-kind P K L s BadTag f h = f BadTag h
+or-memory-kind P K L s BadLength f h = f BadLength h
+or-memory-kind P K L s Unexpected f h = f Unexpected h
+or-memory-kind P K L s (Content x) f h = f (Content x) h
+or-memory-kind P K L s Trailing f h = f Trailing h
+or-memory-kind P K L s OutOfMemory f h = h
+
+pub name-outer : (s : List ℕ) (e : DecodeError) → IsNameFault s e → OrMemoryWhere HasNameValue (GivesOuterFault sequence true) s e
+name-outer s e = or-memory-kind HasNameValue IsWalkedNameFault (GivesOuterFault sequence true) s e (λ d. inside-outer sequence true IsRelativesFault s d)

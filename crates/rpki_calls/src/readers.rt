@@ -1,0 +1,26 @@
+//! The calls that read a value and may share or copy what they keep, each in one place.
+
+use bytes::Bytes;
+use rpki::crypto::PublicKey;
+use rpki::der::{BitString, Constructed, DecodeError};
+use std::alloc::Global;
+
+/// A cursor on octets that it borrows: what a reader keeps of them is a copy.
+pub fn on_slice(octets: &[u8]) -> Constructed<'_> {
+    Constructed::from_slice(octets)
+}
+
+/// Reads a bit string.
+pub fn bits(alloc: Global, cursor: &mut Constructed<'_>) -> Result<BitString, DecodeError> {
+    cursor.take_bit_string(alloc)
+}
+
+/// Reads a public key.
+pub fn key(alloc: Global, cursor: &mut Constructed<'_>) -> Result<PublicKey, DecodeError> {
+    PublicKey::take_from(alloc, cursor)
+}
+
+/// Reads a public key, and nothing else.
+pub fn whole_key(alloc: Global, octets: Bytes) -> Result<PublicKey, DecodeError> {
+    PublicKey::decode(alloc, octets)
+}

@@ -1,0 +1,64 @@
+//! Leaves as cursors on their contents, over octets and over captured values alike.
+
+ghost use Rattle.std.specs.Prelude.{false};
+ghost use Rattle.rpki_der.specs.TagName.{oid, printable_string, utf8_string};
+ghost use Rattle.rpki_der.specs.Leaves.{IsOidOf};
+ghost use Rattle.rpki_der.specs.Text.{IsPrintableText, IsUtf8Text};
+ghost use Rattle.rpki_der.specs.Reading.{Reads};
+ghost use Rattle.rpki_der.specs.Values.{SpellsLeaf, IsLeafFault};
+
+use crate::cursor::Cursor;
+use crate::error::{ContentError, DecodeError};
+use crate::oid::is_oid;
+use crate::tag::Tag;
+use crate::text::{printable_of, utf8_of};
+
+/// The contents of an object identifier (X.690 8.19), with the errors of
+/// [Constructed::take_oid](crate::Constructed::take_oid).
+pub fn take_oid_contents<C: Cursor>(cursor: &mut C) -> Result<C, DecodeError>
+    ensures { Reads C.octets_left (SpellsLeaf oid false IsOidOf) (IsLeafFault oid false IsOidOf)
+        (C.octets_left cursor.old) (C.octets_left cursor.new) result }
+{
+    let mut after = *cursor;
+    let contents = after.take_value_contents(Tag::OID, false)?;
+    if !is_oid(contents.octets()) {
+        return Err(DecodeError::Content(ContentError::from_static("malformed object identifier")));
+    }
+    *cursor = after;
+    Ok(contents)
+}
+
+/// The contents of a PrintableString (X.690 8.23), with the errors of
+/// [Constructed::take_printable](crate::Constructed::take_printable).
+pub fn take_printable_contents<C: Cursor>(cursor: &mut C) -> Result<C, DecodeError>
+    ensures { Reads C.octets_left (SpellsLeaf printable_string false IsPrintableText)
+        (IsLeafFault printable_string false IsPrintableText) (C.octets_left cursor.old) (C.octets_left cursor.new)
+        result }
+{
+    let mut after = *cursor;
+    let contents = after.take_value_contents(Tag::PRINTABLE_STRING, false)?;
+    match printable_of(contents.octets()) {
+        Some(_) => {
+            *cursor = after;
+            Ok(contents)
+        }
+        None => Err(DecodeError::Content(ContentError::from_static("malformed PrintableString"))),
+    }
+}
+
+/// The contents of a UTF8String (X.690 8.23), with the errors of
+/// [Constructed::take_utf8](crate::Constructed::take_utf8).
+pub fn take_utf8_contents<C: Cursor>(cursor: &mut C) -> Result<C, DecodeError>
+    ensures { Reads C.octets_left (SpellsLeaf utf8_string false IsUtf8Text) (IsLeafFault utf8_string false IsUtf8Text)
+        (C.octets_left cursor.old) (C.octets_left cursor.new) result }
+{
+    let mut after = *cursor;
+    let contents = after.take_value_contents(Tag::UTF8_STRING, false)?;
+    match utf8_of(contents.octets()) {
+        Some(_) => {
+            *cursor = after;
+            Ok(contents)
+        }
+        None => Err(DecodeError::Content(ContentError::from_static("malformed UTF8String"))),
+    }
+}

@@ -1,0 +1,58 @@
+"""Runs under `refuse.c`, which counts growths, and refuses some."""
+import os
+import subprocess
+import tempfile
+from typing import NamedTuple
+
+from programs import run_refused
+
+
+def compiled(source, folder):
+    """A library of this source beside this file, to be put before the C library."""
+    library = os.path.join(folder, source[:-2] + ".so")
+    source = os.path.join(os.path.dirname(os.path.abspath(__file__)), source)
+    subprocess.run([os.environ.get("CC", "cc"), "-O2", "-shared", "-fPIC", "-o", library, source], check=True)
+    return library
+
+
+class Growths(NamedTuple):
+    """How many growths a run met, and how many of them were refused."""
+
+    met: int
+    refused: int
+
+
+class Shim:
+    """`refuse.c`, built, and runs under it. It is used in a `with`."""
+
+    def __enter__(self):
+        self.folder = tempfile.TemporaryDirectory()
+        self.library = compiled("refuse.c", self.folder.name)
+        self.count = os.path.join(self.folder.name, "count")
+        return self
+
+    def __exit__(self, *_):
+        self.folder.cleanup()
+
+    def run(self, program, words, octets, **refused):
+        """A run that refuses what REFUSE or REFUSE_FROM says, and its growths. A run that does not come to its end, or
+        is not under the shim, met none."""
+        if os.path.exists(self.count):
+            os.remove(self.count)
+        environment = {**os.environ, "LD_PRELOAD": self.library, "COUNT_FILE": self.count, **refused}
+        seen = run_refused(program, words, octets, env=environment)
+        growths = Growths(0, 0)
+        if os.path.exists(self.count):
+            with open(self.count, encoding="ascii") as count:
+                growths = Growths(*map(int, count.read().split()))
+        return seen.after(growths.refused), growths
+
+    def runs(self, program, words, octets, alone):
+        """Runs with each growth refused in turn, alone or with all later ones, until a run meets none: the number of
+        the growth, whether one was refused, and what is seen."""
+        growth, refused = 0, True
+        while refused:
+            growth += 1
+            seen, growths = self.run(program, words, octets, **{"REFUSE" if alone else "REFUSE_FROM": str(growth)})
+            refused = growths.refused > 0
+            yield growth, refused, seen
