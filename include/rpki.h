@@ -9,14 +9,21 @@
  * Where the status is not 0, `out` is left as it was; only `*count` of rpki_index is written with RPKI_TOO_SMALL too.
  *
  * What a call takes of memory it frees before it returns. Those that take none, and so never return RPKI_OUT_OF_MEMORY,
- * are rpki_header, rpki_serial, rpki_time, rpki_validity and the calls on URIs.
+ * are rpki_header, rpki_serial, rpki_time, rpki_validity, rpki_extension, rpki_version and the calls on URIs. The others,
+ * at the peak:
+ *  - each takes up to 24 octets for each level of nesting, and 64 more;
+ *  - rpki_index and rpki_name_inspect take up to 96 octets for each header beside that, and 256 more (of which they keep
+ *    up to 64 a header until they return);
+ *  - rpki_name_inspect, rpki_public_key and rpki_key_identifier take a copy of their octets.
+ * So bound the size of what strangers send before you hand it in.
  *
  * What the caller owes, which no call can check:
  *  - A pointer and the size after it are octets that may be read, fewer than 2^63, and that nobody writes to during the
- *    call. Only read-only data is needed: they may be in constant memory or in a mapped file.
+ *    call. Only read-only data is needed: they may be in constant memory or in a mapped file. A pointer and the
+ *    capacity after it are so many entries or octets that may be written, fewer than 2^63 octets in all, of one object.
  *  - No pointer may be NULL, even where its size is 0: where there are no octets pass any other pointer, as that of an
- *    empty string. (The proofs rest on this. The compiled calls look at no octet where the size is 0, and the tests pass NULL
- *    with size 0 too; but no contract covers that.)
+ *    empty string. (The proofs rest on this. The compiled calls look at no octet where the size is 0, and the tests
+ *    pass NULL with size 0 too; but no contract covers that.)
  *  - `out`, and each other parameter that is written, is aligned for its type and is inside neither the octets that are
  *    read nor another parameter. It need not be initialised.
  *  - malloc, realloc and free are of one allocator, and align a block to each power of two up to 16 that divides its
@@ -25,7 +32,24 @@
  * Calls may be made from several threads at once, on the same octets too. The stack that a call takes is small and does
  * not grow with the input, however deeply values are nested.
  *
- * Link with librpki.a, which bindings/archive makes; it needs malloc, realloc, free, memcpy and memmove alone.
+ * Link with librpki.a, or with librpki.so: -lrpki, or what `pkg-config --cflags --libs rpki` says. The library needs
+ * malloc, realloc, free, memcpy and memmove alone. Each call of librpki.a is a section of its own: with
+ * -Wl,--gc-sections a program holds those that it makes, 2 KB in place of 38 where that is rpki_header.
+ *
+ * The processor is the one that the library was built for, and no call checks it. librpki.a and librpki.so of a package
+ * run on every processor of their kind, x86-64 (v1) or aarch64. The library in the folder x86_64-v2 asks for x86-64-v2
+ * (SSE4.2, SSSE3, POPCNT); `/lib64/ld-linux-x86-64.so.2 --help` says whether the machine has that. librpki.proof beside
+ * an archive names what it was built for: the target, and the processor, as in `cpu=x86-64-v2`, where not every one of
+ * the target will do.
+ *
+ * Versions. A program that was compiled with this header runs with the library of this major number and of this minor
+ * number or a later one. Within a major number, 0 too,
+ *  - nothing changes of what is here: no call, type or constant goes away or gets another meaning, no call gets another
+ *    parameter or a status that is not said of it here, no number of a status or another constant changes, and no
+ *    struct gets another size, member, offset or order;
+ *  - calls, structs, constants, and statuses of new calls may be added, with the next minor number;
+ *  - which octets a call accepts, and what it writes then, changes only where it was not what the standard says that is
+ *    named with it. CHANGELOG.md names each such correction.
  */
 #ifndef RPKI_H
 #define RPKI_H
@@ -37,6 +61,20 @@
 #ifdef __cplusplus
 extern "C" {
 #endif
+
+/* ---- Version ---- */
+
+/* The version of this header. */
+#define RPKI_VERSION_MAJOR 0
+#define RPKI_VERSION_MINOR 1
+#define RPKI_VERSION_PATCH 0
+
+/* A version in one number; a later version has a larger one. */
+#define RPKI_VERSION_NUMBER(major, minor, patch) ((uint32_t)(major)*65536 + (uint32_t)(minor)*256 + (uint32_t)(patch))
+#define RPKI_VERSION RPKI_VERSION_NUMBER(RPKI_VERSION_MAJOR, RPKI_VERSION_MINOR, RPKI_VERSION_PATCH)
+
+/* The version of the library that is linked. It is RPKI_VERSION where both are of one release. */
+uint32_t rpki_version(void);
 
 /* ---- Statuses ---- */
 
@@ -58,12 +96,13 @@ enum {
     RPKI_OUT_OF_MEMORY = 7, /* malloc or realloc returned NULL */
 
     /* Of calls that read URIs: the first of these that is wrong, in the order 1, 4, 3, then 5 to 7 from the left, then
-       2. No call on URIs takes memory, so none returns 8. */
+       2. Of a path that is joined to a URI: 1, 3 of the path alone, then 5 to 7 from the left, and last 3 of the text
+       that joining gives. No call on URIs takes memory, so none returns 8. */
     RPKI_URI_INVALID_CHARACTERS = 1, /* a character that a URI may not have */
     RPKI_URI_BAD_URI = 2,            /* no authority, no module, or no slash after the module, in an rsync URI; an
                                         authority of 256 octets or more in an https URI */
     RPKI_URI_LONG_URI = 3,           /* 3,072 octets or more after the scheme and the slashes of an rsync URI; as many
-                                        in a path that is joined, or in the text that joining gives */
+                                        in a path that is joined, or in all of the text that joining gives */
     RPKI_URI_BAD_SCHEME = 4,         /* the text does not begin with the scheme that is read, a colon and two slashes */
     RPKI_URI_DOT_SEGMENTS = 5,       /* a segment is `.` or `..` (here and below, the authority and the module of an
                                         rsync URI count as segments) */
@@ -309,8 +348,9 @@ rpki_status rpki_public_key(const uint8_t *octets, size_t size, struct rpki_key_
 rpki_status rpki_key_identifier(const uint8_t *octets, size_t size, uint8_t out[20]);
 
 /*
- * Inspects a name (RFC 5280 4.1.2.4). `profile` is RPKI_PROFILE_RPKI or RPKI_PROFILE_ROUTER. Where `strict` is false,
- * any name will do; where it is true, it has to be of the profile: one common name, at most one serial number, of the
+ * Inspects a name (RFC 5280 4.1.2.4). `profile` is RPKI_PROFILE_RPKI or RPKI_PROFILE_ROUTER, in eight bits: C cuts a
+ * larger number down to them before the call, so that 256 is RPKI_PROFILE_RPKI. Where `strict` is false, any name will
+ * do; where it is true, it has to be of the profile: one common name, at most one serial number, of the
  * strings that the profile permits, and what else docs/SPECIFICATION.md, "Names", permits.
  *
  * RPKI_NOT_OF_PROFILE: it is a name, `strict` is true, and it is not of the profile. RPKI_NO_PROFILE: `profile` is
@@ -343,7 +383,9 @@ rpki_status rpki_extension(const uint8_t *octets, size_t size, struct rpki_exten
 
 /*
  * Reads an rsync URI (RFC 5781), and says where its parts stand. The scheme may be in upper case. No segment is `.`,
- * `..` or, but for the last, empty: so the path stays in its module.
+ * `..` or, but for the last, empty: so the path stays in its module. That is a promise on the text as it is spelled:
+ * `%2e%2e` is a segment like another, as nothing is decoded. Who decodes `%` and two digits, to make the name of a file
+ * for example, has to look for `..` and for slashes after that.
  *
  * Where a status is not 0, it is an RPKI_URI_ number: 1, 4, 3, 5 to 7 or 2, the first that is wrong in this order.
  */
@@ -363,10 +405,11 @@ rpki_status rpki_rsync_relative_to(const uint8_t *uri, size_t uri_size, const ui
 /*
  * Writes `base` with `path` after it to `out`, which has room for `capacity` octets: `base` itself where the path is
  * empty, else with a slash between them where `base` ends with none. `*written` becomes the count of the octets; what
- * is after them in `out` stays. The text has at most base_size + 1 + path_size octets.
+ * is after them in `out` stays. The text has at most base_size + 1 + path_size octets, and 3,079 are always enough.
  *
  * RPKI_TOO_SMALL: the text is longer than `capacity`; nothing is written. An RPKI_URI_ number: what is wrong with
- * `base`; with RPKI_SECOND added, what is wrong with `path` or with the text, where `base` is right.
+ * `base`; with RPKI_SECOND added, where `base` is right, what is wrong with `path`, or last RPKI_URI_LONG_URI of the
+ * text: a base of 3,036 octets and a path of 60 that begins with `../` give RPKI_SECOND + RPKI_URI_DOT_SEGMENTS.
  */
 rpki_status rpki_rsync_join(const uint8_t *base, size_t base_size, const uint8_t *path, size_t path_size, uint8_t *out,
                             size_t capacity, size_t *written);

@@ -367,7 +367,7 @@ static const struct call calls[] = {
     {"serial", WHOLE, 1, 20, false, serial, tell_serial, NULL},
     {"time", WHOLE, 1, sizeof(struct rpki_moment), false, time_of, tell_time, NULL},
     {"validity", WHOLE, 1, sizeof(struct rpki_period), false, validity, tell_validity, NULL},
-    {"extension", WHOLE, 1, sizeof(struct rpki_extension_parts), true, extension, tell_extension, NULL},
+    {"extension", WHOLE, 1, sizeof(struct rpki_extension_parts), false, extension, tell_extension, NULL},
     {"rsync_parse", TEXTS, 1, sizeof(struct rpki_rsync_parts), false, rsync_parse, tell_rsync, NULL},
     {"rsync_relative_to", TEXTS, 2, sizeof(struct rpki_place), false, relative_to, tell_relative, NULL},
     {"rsync_join", TEXTS, 2, sizeof(struct joined), false, join, tell_joined, join_capacities},
@@ -598,6 +598,112 @@ static bool deep(void) {
     return well;
 }
 
+/* ---- What calls allocate at the peak, as the header says ---- */
+
+/* A value of `levels` SEQUENCEs one inside the other, the innermost of `nulls` NULLs. */
+static struct octets tree(size_t levels, size_t nulls) {
+    size_t size = 6 * levels + 2 * nulls, start = size, level;
+    struct octets made = new_octets(NULL, size, 0), value;
+    for (level = 0; level < nulls; level++) {
+        made.at[--start] = 0;
+        made.at[--start] = 5;
+    }
+    for (level = 0; level < levels; level++) {
+        size_t length = size - start, rest, count = 0;
+        for (rest = length; length > 127 && rest > 0; rest >>= 8, count++) made.at[--start] = (uint8_t)rest;
+        made.at[--start] = (uint8_t)(length > 127 ? 0x80 + count : length);
+        made.at[--start] = 0x30;
+    }
+    value = new_octets(made.at + start, size - start, 0);
+    free(made.at);
+    return value;
+}
+
+static bool is_within(size_t headers, size_t levels, size_t octets) {
+    bool all_freed;
+    (void)allocations(&all_freed);
+    return all_freed && most_octets() <= 96 * headers + 24 * levels + octets + (headers ? 256 : 0) + 64;
+}
+
+static bool tree_takes_little(size_t levels, size_t nulls) {
+    struct octets value = tree(levels, nulls);
+    size_t headers = levels + nulls, count = 0;
+    struct rpki_walked walked;
+    struct rpki_entry entry;
+    struct rpki_extension_parts extension;
+    struct rpki_signed_parts parts;
+    struct rpki_key_parts key;
+    bool well;
+    count_allocations(NONE_REFUSED);
+    well = rpki_walk(value.at, value.size, &walked) == RPKI_OK;
+    well = is_within(0, levels, 0) && well && walked.headers == headers;
+    count_allocations(NONE_REFUSED);
+    well = rpki_index(value.at, value.size, &entry, 0, &count) == RPKI_TOO_SMALL && well;
+    well = is_within(headers, levels, 0) && well && count == headers;
+    /* What is none of these types is refused over as little. */
+    count_allocations(NONE_REFUSED);
+    well = rpki_name_inspect(value.at, value.size, RPKI_PROFILE_RPKI, false) <= RPKI_TRAILING && well;
+    well = is_within(headers, levels, value.size) && well;
+    count_allocations(NONE_REFUSED);
+    well = rpki_extension(value.at, value.size, &extension) <= RPKI_TRAILING && well;
+    well = is_within(0, 0, 0) && well;
+    count_allocations(NONE_REFUSED);
+    well = rpki_signed_data(value.at, value.size, &parts) <= RPKI_TRAILING && well;
+    well = is_within(0, levels, 0) && well;
+    count_allocations(NONE_REFUSED);
+    well = rpki_public_key(value.at, value.size, &key) <= RPKI_TRAILING && well;
+    well = is_within(0, levels, value.size) && well;
+    free(value.at);
+    return well;
+}
+
+/* A name of so many common names: a copy, and an index. */
+static bool copies_take_little(size_t attributes) {
+    static const uint8_t one[] = {0x31, 0x0C, 0x30, 0x0A, 0x06, 0x03, 0x55, 0x04, 0x03, 0x13, 0x03, 'a', 'b', 'c'};
+    size_t size = attributes * sizeof one, place;
+    struct octets name = new_octets(NULL, 4 + size, 0x30);
+    bool well;
+    name.at[1] = 0x82;
+    name.at[2] = (uint8_t)(size >> 8);
+    name.at[3] = (uint8_t)size;
+    for (place = 0; place < attributes; place++) memcpy(name.at + 4 + place * sizeof one, one, sizeof one);
+    count_allocations(NONE_REFUSED);
+    well = rpki_name_inspect(name.at, name.size, RPKI_PROFILE_ROUTER, true) == RPKI_NOT_OF_PROFILE;
+    well = is_within(1 + 5 * attributes, 4, name.size) && well;
+    free(name.at);
+    return well;
+}
+
+/* A key of RSA with 16,360 octets of bits: a copy. */
+static bool keys_take_little(void) {
+    static const uint8_t before[] = {0x30, 0x82, 0x3F, 0xFC, 0x30, 0x0D, 0x06, 0x09, 0x2A, 0x86, 0x48, 0x86,
+                                     0xF7, 0x0D, 0x01, 0x01, 0x01, 0x05, 0x00, 0x03, 0x82, 0x3F, 0xE9};
+    struct octets octets = new_octets(NULL, 16384, 0);
+    struct rpki_key_parts key;
+    uint8_t identifier[20];
+    bool well;
+    memcpy(octets.at, before, sizeof before);
+    count_allocations(NONE_REFUSED);
+    well = rpki_public_key(octets.at, octets.size, &key) == RPKI_OK && key.bits.length == 16360;
+    well = is_within(0, 2, octets.size) && well;
+    count_allocations(NONE_REFUSED);
+    well = rpki_key_identifier(octets.at, octets.size, identifier) == RPKI_OK && well;
+    well = is_within(0, 2, octets.size) && well;
+    free(octets.at);
+    return well;
+}
+
+static bool takes_little(void) {
+    size_t count;
+    bool well =
+        keys_take_little() && tree_takes_little(1, 0) && tree_takes_little(100001, 0) && tree_takes_little(1, 100001);
+    for (count = 1; count < 300; count++) {
+        well = well && tree_takes_little(1, count) && tree_takes_little(count, 1) && tree_takes_little(count, count);
+        well = well && (count < 20 || copies_take_little(count));
+    }
+    return well;
+}
+
 static void judge_alone(const char *name, bool well) {
     if (well) {
         passed++;
@@ -619,7 +725,9 @@ int main(int count, char **words) {
     judge_alone("no octets by NULL", null_input());
     judge_alone("no room by NULL", null_output());
     judge_alone("no profile", no_profile());
+    judge_alone("the version", rpki_version() == RPKI_VERSION && RPKI_VERSION_NUMBER(1, 2, 3) == 0x010203);
     judge_alone("100,001 levels", deep());
+    judge_alone("what calls allocate", takes_little());
     judge_alone("refused allocations", refusals > 0);
     printf("%u rows, %zu refused allocations: %u passed, %u failed\n", rows, refusals, passed, failed);
     return failed ? 1 : 0;

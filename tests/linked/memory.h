@@ -9,7 +9,11 @@
 #define NONE_REFUSED ((size_t)-1)
 void count_allocations(size_t refused);
 
-/* What was seen since then: how many were asked for, and whether all that was given has been freed. */
+/* What was seen since then: how many were asked for, and whether all that was given has been freed and nothing was
+ * written after a block. */
 size_t allocations(bool *all_freed);
+
+/* The most octets that were held at once since then, with both blocks of each realloc. */
+size_t most_octets(void);
 
 #endif

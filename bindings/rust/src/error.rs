@@ -6,6 +6,7 @@ use std::fmt;
 
 /// Why octets are not the value that was asked for.
 #[derive(Clone, Copy, Debug, PartialEq, Eq, Hash)]
+#[non_exhaustive]
 pub enum DecodeError {
     /// The octets end before the value does.
     Truncated,
@@ -57,6 +58,7 @@ impl Error for DecodeError {}
 
 /// Why a text is not a URI, or why a path cannot be joined to one.
 #[derive(Clone, Copy, Debug, PartialEq, Eq, Hash)]
+#[non_exhaustive]
 pub enum UriError {
     /// There is a character that a URI may not have.
     InvalidCharacters,
@@ -110,6 +112,7 @@ impl Error for UriError {}
 
 /// Why a name does not pass an inspection.
 #[derive(Clone, Copy, Debug, PartialEq, Eq, Hash)]
+#[non_exhaustive]
 pub enum InspectError {
     /// The octets are no name.
     Decode(DecodeError),
@@ -143,6 +146,7 @@ impl Error for InspectError {
 
 /// Why a path cannot be joined to a URI in a buffer.
 #[derive(Clone, Copy, Debug, PartialEq, Eq, Hash)]
+#[non_exhaustive]
 pub enum JoinError {
     /// The path, or the text that joining gives, is not right.
     Uri(UriError),
@@ -170,6 +174,40 @@ impl Error for JoinError {
         match self {
             JoinError::Uri(error) => Some(error),
             JoinError::TooSmall => None,
+        }
+    }
+}
+
+#[cfg(test)]
+mod tests {
+    use super::{DecodeError, UriError};
+
+    /// The numbers that `include/rpki.h` gives the statuses.
+    #[test]
+    fn statuses() {
+        let decoding = [
+            (1, DecodeError::Truncated),
+            (2, DecodeError::BadTag),
+            (3, DecodeError::BadLength),
+            (4, DecodeError::Unexpected),
+            (5, DecodeError::Content),
+            (6, DecodeError::Trailing),
+            (7, DecodeError::OutOfMemory),
+        ];
+        for (status, error) in decoding {
+            assert_eq!(DecodeError::from_status(status), error, "{status}");
+        }
+        let uris = [
+            (1, UriError::InvalidCharacters),
+            (2, UriError::BadUri),
+            (3, UriError::LongUri),
+            (4, UriError::BadScheme),
+            (5, UriError::DotSegments),
+            (6, UriError::EmptySegments),
+            (7, UriError::LongSegments),
+        ];
+        for (status, error) in uris {
+            assert_eq!(UriError::from_status(status), error, "{status}");
         }
     }
 }

@@ -161,6 +161,14 @@ extern "C" {
     ) -> Status;
     fn rpki_rsync_parent(text: *const u8, size: usize, out: *mut usize) -> Status;
     fn rpki_https_parse(text: *const u8, size: usize, out: *mut HttpsParts) -> Status;
+    fn rpki_version() -> u32;
+}
+
+/// The version of the library that is linked: the major number times 65,536, the minor number times 256, and the patch
+/// number.
+pub(crate) fn version() -> u32 {
+    // SAFETY: the call takes nothing and writes nothing.
+    unsafe { rpki_version() }
 }
 
 /// A call that takes octets and has one place to write to.
@@ -204,15 +212,14 @@ readers! {
     https_parse(rpki_https_parse) -> HttpsParts;
 }
 
-/// Writes the entries to the array, and says how many there are. `TOO_SMALL` with the count is an `Ok` as well: then
-/// the count is larger than the array, and nothing was written.
+/// Writes the entries to the front of the array, and says how many there are.
 pub(crate) fn index(octets: &[u8], entries: &mut [Entry]) -> Result<usize, Status> {
     let mut count = 0;
     // SAFETY: both pointers and sizes are those of slices, which are borrowed for the call, the second for writing
     // alone; `count` is this function's own.
     let status = unsafe { rpki_index(octets.as_ptr(), octets.len(), entries.as_mut_ptr(), entries.len(), &mut count) };
     match status {
-        0 | TOO_SMALL => Ok(count),
+        0 => Ok(count),
         status => Err(status),
     }
 }

@@ -25,19 +25,19 @@ pub struct Index<'a> {
 
 impl<'a> Index<'a> {
     /// Makes the index of the value at the front of the octets. More may follow it: [`Index::octets`] are those of the
-    /// value. Takes 40 octets a header.
+    /// value. Takes 40 octets a header, and up to 96 more while it is made; nothing where there is no value.
     ///
     /// # Errors
-    /// Those of [`walk`](crate::walk).
+    /// Those of [`walk`](crate::walk); `OutOfMemory` also where there is no room for the entries.
     pub fn of(octets: &'a [u8]) -> Result<Index<'a>, DecodeError> {
-        let mut entries = vec![ffi::Entry::default(); octets.len() / 16 + 4];
-        let mut count = ffi::index(octets, &mut entries).map_err(DecodeError::from_status)?;
-        if count > entries.len() {
-            entries = vec![ffi::Entry::default(); count];
-            count = ffi::index(octets, &mut entries).map_err(DecodeError::from_status)?;
-        }
-        entries.truncate(count);
-        Ok(Index { octets: &octets[..entries[0].end], entries })
+        let walked = ffi::walk(octets).map_err(DecodeError::from_status)?;
+        let octets = &octets[..walked.size];
+        let count = usize::try_from(walked.headers).map_err(|_| DecodeError::OutOfMemory)?;
+        let mut entries = Vec::new();
+        entries.try_reserve_exact(count).map_err(|_| DecodeError::OutOfMemory)?;
+        entries.resize(count, ffi::Entry::default());
+        ffi::index(octets, &mut entries).map_err(DecodeError::from_status)?;
+        Ok(Index { octets, entries })
     }
 
     /// The octets of the value.

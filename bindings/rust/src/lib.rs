@@ -2,8 +2,8 @@
 //!
 //! The library behind this crate is written in Rust with contracts, and each call is proved to meet its contract: it
 //! accepts exactly the grammars of docs/SPECIFICATION.md, and does not panic, overflow, read out of bounds or run
-//! forever. It is linked as a static library, `librpki.a` (`bindings/archive` of the repository makes it). What is in
-//! this crate is not proved: it is a thin layer that passes slices, and turns places in them into slices again.
+//! forever. It is linked as a static library, `librpki.a`; README.md says where the build looks for it. What is in this
+//! crate is not proved: it is a thin layer that passes slices, and turns places in them into slices again.
 //!
 //! Nothing is copied but where a call says so. A value that is read borrows the octets that it was read from.
 //!
@@ -23,6 +23,7 @@
 //! ```
 #![deny(missing_docs)]
 #![deny(unsafe_code)]
+#![deny(unsafe_op_in_unsafe_fn)]
 
 mod der;
 mod error;
@@ -34,6 +35,7 @@ mod signed;
 mod time;
 mod uri;
 mod values;
+mod version;
 
 pub use der::{walk, Class, Header, Walked};
 pub use error::{DecodeError, InspectError, JoinError, UriError};
@@ -43,3 +45,9 @@ pub use signed::SignedData;
 pub use time::{Time, Validity};
 pub use uri::{Https, Rsync};
 pub use values::{Extension, Name, ObjectIdentifier, Profile, Serial};
+pub use version::{library_version, Version};
+
+// The code in README.md is compiled with that of the documentation.
+#[cfg(doctest)]
+#[doc = include_str!("../README.md")]
+struct Readme;

@@ -9,6 +9,9 @@ fn text_of(octets: &[u8]) -> Result<&str, UriError> {
     std::str::from_utf8(octets).map_err(|_| UriError::InvalidCharacters)
 }
 
+/// The most octets that an rsync URI has, or a joined one.
+const LONGEST: usize = 3_079;
+
 /// The error of a call on two texts of which the first is a URI.
 fn error_of_second(status: ffi::Status) -> UriError {
     UriError::from_status(status.wrapping_sub(ffi::SECOND))
@@ -45,12 +48,7 @@ impl<'a> Rsync<'a> {
     /// `LongSegments` and `EmptySegments`, then `BadUri`.
     pub fn parse(text: &'a str) -> Result<Rsync<'a>, UriError> {
         let found = ffi::rsync_parse(text.as_bytes()).map_err(UriError::from_status)?;
-        Ok(Rsync {
-            text,
-            authority: found.authority.of_text(text),
-            module_name: found.module_name.of_text(text),
-            path: found.path.of_text(text),
-        })
+        Ok(Rsync::of(text, &found))
     }
 
     /// The same of octets that need not be a text.
@@ -58,8 +56,18 @@ impl<'a> Rsync<'a> {
     /// # Errors
     /// Those of [`Rsync::parse`].
     pub fn from_octets(octets: &'a [u8]) -> Result<Rsync<'a>, UriError> {
-        ffi::rsync_parse(octets).map_err(UriError::from_status)?;
-        Rsync::parse(text_of(octets)?)
+        let found = ffi::rsync_parse(octets).map_err(UriError::from_status)?;
+        Ok(Rsync::of(text_of(octets)?, &found))
+    }
+
+    /// The URI of a text that was read, by the places of its parts.
+    fn of(text: &'a str, found: &ffi::RsyncParts) -> Rsync<'a> {
+        Rsync {
+            text,
+            authority: found.authority.of_text(text),
+            module_name: found.module_name.of_text(text),
+            path: found.path.of_text(text),
+        }
     }
 
     /// The text.
@@ -110,10 +118,12 @@ impl<'a> Rsync<'a> {
     /// itself where the path is empty.
     ///
     /// # Errors
-    /// What is wrong with the path, or `LongUri` where the text would have 3,072 octets or more.
+    /// The first that is wrong with the path of `InvalidCharacters`, `LongUri`, then from the left `DotSegments`,
+    /// `LongSegments` and `EmptySegments`; then `LongUri` where the text would have 3,072 octets or more.
     pub fn join(&self, path: impl AsRef<[u8]>) -> Result<String, UriError> {
-        let mut room = vec![0; self.text.len() + 1 + path.as_ref().len()];
-        let size = ffi::rsync_join(self.text.as_bytes(), path.as_ref(), &mut room).map_err(error_of_second)?;
+        let path = path.as_ref();
+        let mut room = vec![0; LONGEST.min(self.text.len() + 1 + path.len())];
+        let size = ffi::rsync_join(self.text.as_bytes(), path, &mut room).map_err(error_of_second)?;
         room.truncate(size);
         String::from_utf8(room).map_err(|_| UriError::InvalidCharacters)
     }
@@ -170,7 +180,7 @@ impl<'a> Https<'a> {
     /// more.
     pub fn parse(text: &'a str) -> Result<Https<'a>, UriError> {
         let found = ffi::https_parse(text.as_bytes()).map_err(UriError::from_status)?;
-        Ok(Https { text, authority: found.authority.of_text(text), path: found.path.of_text(text) })
+        Ok(Https::of(text, &found))
     }
 
     /// The same of octets that need not be a text.
@@ -178,8 +188,13 @@ impl<'a> Https<'a> {
     /// # Errors
     /// Those of [`Https::parse`].
     pub fn from_octets(octets: &'a [u8]) -> Result<Https<'a>, UriError> {
-        ffi::https_parse(octets).map_err(UriError::from_status)?;
-        Https::parse(text_of(octets)?)
+        let found = ffi::https_parse(octets).map_err(UriError::from_status)?;
+        Ok(Https::of(text_of(octets)?, &found))
+    }
+
+    /// The URI of a text that was read, by the places of its parts.
+    fn of(text: &'a str, found: &ffi::HttpsParts) -> Https<'a> {
+        Https { text, authority: found.authority.of_text(text), path: found.path.of_text(text) }
     }
 
     /// The text.

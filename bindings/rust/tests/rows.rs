@@ -1,10 +1,10 @@
-//! Makes the calls of `tests/linked/rows.txt`, and compares what they return with what the rows say.
+//! Makes the calls of `rows.txt`, and compares what they return with what the rows say.
 
 use rpki_proved::*;
 use std::collections::HashMap;
 use std::fmt::Write;
 
-const ROWS: &str = include_str!("../../../tests/linked/rows.txt");
+const ROWS: &str = include_str!("rows.txt");
 
 /// Octets that lines `let NAME = OCTETS` name.
 type Names<'t> = HashMap<&'t str, Vec<u8>>;
@@ -47,8 +47,9 @@ fn octets_of(column: &str, names: &Names) -> Vec<u8> {
 
 /// A field, with its octets in hexadecimal.
 fn field(column: &str, names: &Names) -> String {
-    let Some(mark) = column.find(['@', '=']) else {
-        return column.into();
+    let mark = match column.find(['@', '=']) {
+        Some(mark) => mark,
+        None => return column.into(),
     };
     let end = column[mark..].find(' ').map_or(column.len(), |space| mark + space);
     format!("{} {}", &column[..end], hex(&octets_of(&column[end..], names)))
@@ -127,8 +128,7 @@ fn entry(entry: Entry) -> String {
 fn families_agree(index: &Index) {
     for entry in index.entries() {
         let children: Vec<usize> = entry.children().map(|child| child.place()).collect();
-        let named =
-            index.entries().filter(|other| other.parent().is_some_and(|parent| parent.place() == entry.place()));
+        let named = index.entries().filter(|other| other.parent().map(|parent| parent.place()) == Some(entry.place()));
         assert_eq!(children, named.map(|other| other.place()).collect::<Vec<_>>());
     }
 }
@@ -173,6 +173,7 @@ fn name_inspect(octets: &[u8], words: &str) -> Given {
         name.inspect(profile).map_err(|error| match error {
             InspectError::Decode(error) => status(error),
             InspectError::NotOfProfile => "NOT_OF_PROFILE".into(),
+            error => panic!("{error}"),
         })?;
     }
     Ok(vec![])

@@ -77,8 +77,11 @@ fn print_signed(tbs: Entry) -> Result<(), Box<dyn Error>> {
         0
     };
     let parts: Vec<Entry> = tbs.children().skip(after_version).collect();
-    let [serial, _algorithm, issuer, validity, subject, key, rest @ ..] = &parts[..] else {
-        return Err("a part is not there".into());
+    let (serial, issuer, validity, subject, key, rest) = match &parts[..] {
+        [serial, _algorithm, issuer, validity, subject, key, rest @ ..] => {
+            (serial, issuer, validity, subject, key, rest)
+        }
+        _ => return Err("a part is not there".into()),
     };
     let validity = Validity::decode(validity.octets())?;
     println!("serial number: {}", Serial::decode(serial.octets())?);

@@ -1,0 +1,3 @@
+module certificate
+
+go 1.19
