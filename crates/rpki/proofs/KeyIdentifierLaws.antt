@@ -15,8 +15,6 @@ use Rattle.rpki_text.specs.HexText.{hex_digit, hex_text}
 use Rattle.std.proofs.Math.ListN.{set}
 use Rattle.std.proofs.lemmas.List.{length-map, get_or-map, take_more, take_more_set, take_all, map-append}
 use Rattle.rpki_text.proofs.HexLaws.{length-hex_text, hex_text-append}
-use Rattle.std.specs.List.{flat_map}
-use Rattle.std.specs.Hash.{u8, slice}
 use Rattle.rpki.specs.UnknownAlgorithm.{IsContentWith}
 use Rattle.rpki.specs.AnyValue.{SpellsAny}
 use Rattle.rpki.specs.KeyIdentifier.{IsKeyIdentifier, SpellsKeyIdentifier, identifier_error, TellsOfContents, IsIdentifierFault, IsHexOf}
@@ -134,17 +132,3 @@ all-digits digits octets i all o size full h = record {
   size = full;
   digits = ap (map to_ascii_uppercase) (sym (take_all (2 * i) digits (omega arith))) ∙ h ∙ ap hex_text (take_all i octets (omega arith));
 }
-
--- what is hashed: how many octets there are, and then each of them
-
-each-hashed : (k l : List ℕ) → flat_map u8 k ≡ flat_map u8 l → k ≡ l
-each-hashed [] [] e = refl
-each-hashed [] (y ∷ l) e = absurd (cc)
-each-hashed (x ∷ k) [] e = absurd (cc)
-each-hashed (x ∷ k) (y ∷ l) e =
-    let rest = each-hashed k l (cc) in
-    let first : x ≡ y = cc in
-    ap (λ (z : ℕ). z ∷ k) first ∙ ap (λ (m : List ℕ). y ∷ m) rest
-
-pub hashed-same : (k l : List ℕ) → (slice u8 k ≡ slice u8 l) ↔ (k ≡ l)
-hashed-same k l = (λ e. each-hashed k l (cc), λ e. ap (slice u8) e)

@@ -28,11 +28,15 @@ pub record IsSecondFault (refusal : Option Error) (status : ℕ) : Type 0 where
 abbrev pub IsFaultOfTwo : Option Error → Option Error → ℕ → Type 0
 IsFaultOfTwo first second status = IsTextFault first status ⊎ ((first ≡ None) × IsSecondFault second status)
 
--- the parts of the text stand at these places
+-- the parts of the text stand at these places: the authority after `rsync://`, the name after that and a slash, the
+-- path at the end
 pub record HasRsyncParts (text : List ℕ) (p : RsyncParts) : Type 0 where
   pub authority : IsPlace text p.authority (authority_of text)
   pub module_name : IsPlace text p.module_name (module_name_of text)
   pub path : IsPlace text p.path (path_of text)
+  pub authority_first : p.authority.start ≡ 8
+  pub module_name_first : p.module_name.start ≡ 9 + length (authority_of text)
+  pub path_last : p.path.start + p.path.length ≡ length text
 
 -- Status 0: the text is an rsync URI of these parts. Else: its first error, and nothing was written.
 abbrev pub IsRsyncParsed : List ℕ → ℕ → RsyncParts → RsyncParts → Type 0
@@ -44,11 +48,12 @@ IsRsyncParsed text status old new =
 abbrev pub AreRsync : List ℕ → List ℕ → Type 0
 AreRsync u v = (rsync_refusal u ≡ None) × (rsync_refusal v ≡ None)
 
--- the path from v to u stands in the text of u at the place
+-- the path from v to u stands in the text of u at the place, which is the end of the text
 pub record IsRelativeAt (u v : List ℕ) (p : Place) : Type 0 where
   pub path : List ℕ
   pub leads : relative (uri_of u) (uri_of v) ≡ Some path
   pub place : IsPlace u p path
+  pub last : p.start + p.length ≡ length u
 
 -- Status 0: both are rsync URIs, and the path from v to u stands at this place. 10: both are, and there is no such
 -- path. Else: the error of one of them. Unless the status is 0, nothing was written.

@@ -34,6 +34,7 @@ pub mod FaultKindLaws
 pub mod MemberLaws
 pub mod FrontLaws
 pub mod FirstFaultLaws
+pub mod HashLaws
 mod SomeFaultLaws
 mod ShortestLaws
 mod IndexReadingLaws

@@ -10,7 +10,7 @@ ghost use Rattle.rpki_der.specs.Contents.{null_contents, bits_contents};
 ghost use Rattle.rpki_der.specs.Values.{SpellsHeader, IsHeaderFault, IsContentsFault, IsLeafFault};
 ghost use Rattle.rpki_der.specs.WantedValue.{IsWantedFault, IsAnyTag, IsTagged};
 ghost use Rattle.rpki_der.specs.Leaves.{Bits, IsNull, IsBoolean, IsOidOf, IsBits, boolean_contents};
-ghost use Rattle.rpki_der.specs.Integer.{IsUnsigned};
+ghost use Rattle.rpki_der.specs.Integer.{IsUnsigned, unsigned_contents};
 ghost use Rattle.rpki_der.specs.Text.{IsPrintableText, IsUtf8Text};
 ghost use Rattle.rpki_der.specs.Error.{error_number};
 ghost use Rattle.std.specs.Prelude.{Bool, Option, false};
@@ -22,9 +22,9 @@ ghost use Rattle.rpki_der.specs.declared.error.DecodeError.TheVariants.{Truncate
 ghost use Rattle.rpki_der.specs.declared.tag.Header.{Header};
 
 use crate::bit_string::BitString;
-use crate::encode::PrimitiveContent;
+use crate::encode::{Primitive, PrimitiveContent, Values};
 use crate::integer::Unsigned;
-use crate::oid::ConstOid;
+use crate::oid::{ConstOid, Oid};
 use crate::tag::Tag;
 
 /// Length octets are those of X.690: the definite form, in as few octets as can be.
@@ -176,6 +176,20 @@ pub fn content_tags() -> [Tag; 7]
         <Unsigned<'static>>::TAG,
     ]
 }
+
+/// What is written of borrowed octets is an OCTET STRING of them (X.690 8.7).
+pub fn octets_that_are_written<'a>(octets: &'a [u8]) -> Primitive<&'a [u8]>
+    ensures { ⟦<Primitive<&'static [u8]> as Values>⟧.encoded result ≡ tlv octet_string false octets.now }
+{
+    octets.encode()
+}
+
+/// What is written of identifiers and numbers that borrow their octets is the contents that X.690 gives them (8.3,
+/// 8.19).
+pub fn borrowed_contents_that_are_written(identifier: &Oid<&[u8]>, number: &Unsigned<'_>)
+    ensures identifier { ⟦<Oid<&'static [u8]> as PrimitiveContent>⟧.contents identifier.now ≡ identifier.now.0.now }
+    ensures number { ⟦<Unsigned<'static> as PrimitiveContent>⟧.contents number.now ≡ unsigned_contents number.now }
+{}
 
 /// What is written of leaf values is the contents that X.690 gives them (8.2, 8.6, 8.8, 11.1).
 pub fn contents_that_are_written()

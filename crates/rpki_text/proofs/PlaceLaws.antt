@@ -1,7 +1,7 @@
 -- Where the parts of a text stand, by the places where it is cut.
-use Rattle.std.proofs.Common.{◌≡◌, ◌≤◌, ℕ, ◌-◌, true, List, ◌++◌, length, take, drop, slice_range, sym, ap, ◌∙◌, arith, le_refl, take_all}
+use Rattle.std.proofs.Common.{◌≡◌, ◌≤◌, ℕ, ◌-◌, ◌+◌, true, List, ◌++◌, length, take, drop, slice_range, sym, ap, ◌∙◌, arith, le_refl, take_all}
 use Rattle.std.specs.List.{list_all}
-use Rattle.std.proofs.lemmas.List.{length-drop, length-append, take-append-drop}
+use Rattle.std.proofs.lemmas.List.{length-drop, length-take-le, length-append, take-append-drop}
 use Rattle.std.proofs.Math.Seq.{drop-append_seam}
 use Rattle.rpki_text.specs.UriText.{is_uri_byte}
 use Rattle.rpki_text.specs.RsyncText.{IsCut, authority_of, module_name_of, module_of, path_of}
@@ -32,6 +32,14 @@ module_name-at t m p c =
       within = omega (arith, facts.fits);
       octets = ap (λ n. take n (drop m t)) (omega arith) ∙ sym facts.module_name_is;
     }
+
+-- the module's name begins after the authority and a slash
+pub module_name-first : (t : List ℕ) (m p : ℕ) → IsCut t m p → m ≡ 9 + length (authority_of t)
+module_name-first t m p c =
+    let facts = cut-facts t m p c in
+    let size : length (take (m - 9) (drop 8 t)) ≡ m - 9 =
+    length-take-le (m - 9) (drop 8 t) (omega (arith, facts.authority, facts.module_name, facts.fits, length-drop 8 t)) in
+    omega (arith, facts.authority, size, ap length facts.authority_is)
 
 pub module-at : (t : List ℕ) (m p : ℕ) → IsCut t m p → IsPartAt t (record { start = 0; end = p }) (module_of t)
 module-at t m p c =

@@ -9,8 +9,9 @@ pub record IsPartAt (text : List ℕ) (range : Range ℕ) (part : List ℕ) : Ty
   pub within : range.end ≤ length text
   pub octets : slice_range text range.start range.end ≡ part
 
--- the path from v to u stands in the text of u, at this range
+-- the path from v to u stands in the text of u, at this range, which is the end of the text
 pub record IsRelativeAt (u v : List ℕ) (range : Range ℕ) : Type 0 where
   pub path : List ℕ
   pub leads : relative (uri_of u) (uri_of v) ≡ Some path
   pub stands : IsPartAt u range path
+  pub last : range.end ≡ length u

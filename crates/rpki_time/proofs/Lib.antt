@@ -1,5 +1,6 @@
 pub mod OctetLaws
 pub mod SerialLaws
+pub mod HashLaws
 pub mod WritingLaws
 pub mod ReadBackLaws
 pub mod SerialReadingLaws

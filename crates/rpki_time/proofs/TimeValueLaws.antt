@@ -106,6 +106,24 @@ time-same t u yt yu = (
   λ e. sym (time_octets-cut t) ∙ ap time_octets e ∙ time_octets-cut u,
 )
 
+-- octets that spell two times but for parts of a second
+spelled-same : (t u : DateTime) (x y : List ℕ) → SpellsTime (cut t) x → SpellsTime (cut u) y → x ≡ y → cut t ≡ cut u
+spelled-same t u x y ht hu e =
+    let a = time-there (y ++ []) (cut u) [] (in-front (y ++ []) y [] (cut u) refl hu) in
+    (a.only (cut t) [] (in-front (y ++ []) x [] (cut t) (ap (λ (w : List ℕ). w ++ []) (sym e)) ht)).0
+
+pub utc-same : (t u : DateTime) → IsUtcYear t.date.year → IsUtcYear u.date.year → (utc_octets t ≡ utc_octets u) ↔ (cut t ≡ cut u)
+utc-same t u yt yu = (
+  λ e. spelled-same t u _ _ (utc-spelled t yt) (utc-spelled u yu) e,
+  λ e. sym (where-cut true t) ∙ ap utc_octets e ∙ where-cut true u,
+)
+
+pub generalized-same : (t u : DateTime) → IsTimeYear t.date.year → IsTimeYear u.date.year → (generalized_octets t ≡ generalized_octets u) ↔ (cut t ≡ cut u)
+generalized-same t u yt yu = (
+  λ e. spelled-same t u _ _ (generalized-spelled t yt) (generalized-spelled u yu) e,
+  λ e. sym (where-cut false t) ∙ ap generalized_octets e ∙ where-cut false u,
+)
+
 -- ---- what the reader returns
 
 pub time-read_back : (s r : List ℕ) (x : Result DateTime DecodeError) (t : DateTime) (q : List ℕ) → Reads (λ w. w) SpellsTime IsTimeFault s r x → Spells SpellsTime s t q → (x ≡ Ok t) × (r ≡ q)

@@ -19,6 +19,7 @@ use crate::time::Time;
 use crate::time_encoder::{GeneralizedTime, UtcTime, VariedTime};
 use crate::validity::Validity;
 use rpki_der::{Constructed, DecodeError, PrimitiveContent, Values};
+use std::hash::Hash;
 
 /// The contents that are written of a number below 2^159 are the shortest that write it, at most 20 octets; and the
 /// numbers below 2^159 are those whose INTEGER has at most 20 contents octets.
@@ -136,6 +137,25 @@ pub fn equal_times_are_one()
 /// Periods are equal where the moments of their starts are one, and those of their ends.
 pub fn equal_periods_are_one()
     ensures { (p q : Period) → IsTrue (⟦<Validity as PartialEq>⟧.eq p q)
+        ↔ ((civil_nanos p.not_before ≡ civil_nanos q.not_before)
+        × (civil_nanos p.not_after ≡ civil_nanos q.not_after)) }
+{}
+
+/// Serial numbers are hashed as the same octets exactly where they are one.
+pub fn serials_are_hashed_by_value()
+    ensures { (m n : ℕ) → m < 2 ^ 159 → n < 2 ^ 159
+        → (⟦<Serial as Hash>⟧.hash_input m ≡ ⟦<Serial as Hash>⟧.hash_input n) ↔ (m ≡ n) }
+{}
+
+/// Times are hashed as the same octets exactly where the moments are one, as they are compared.
+pub fn times_are_hashed_by_moment()
+    ensures { (t u : Civil) → (⟦<Time as Hash>⟧.hash_input t ≡ ⟦<Time as Hash>⟧.hash_input u)
+        ↔ (civil_nanos t ≡ civil_nanos u) }
+{}
+
+/// Periods are hashed as the same octets exactly where the moments of their starts are one, and those of their ends.
+pub fn periods_are_hashed_by_moments()
+    ensures { (p q : Period) → (⟦<Validity as Hash>⟧.hash_input p ≡ ⟦<Validity as Hash>⟧.hash_input q)
         ↔ ((civil_nanos p.not_before ≡ civil_nanos q.not_before)
         × (civil_nanos p.not_after ≡ civil_nanos q.not_after)) }
 {}

@@ -4,7 +4,9 @@ ghost use Rattle.std.specs.Prelude.{◌≡◌, ◌<◌, ◌^◌, ◌↔◌, fals
 ghost use Rattle.rpki_der.specs.Header.{tlv};
 ghost use Rattle.rpki_der.specs.TagName.{utc_time, generalized_time};
 ghost use Rattle.rpki_der.specs.Written.{Writes};
-ghost use Rattle.rpki_time.specs.TimeText.{utc_text, generalized_text};
+ghost use Rattle.jiff.specs.Types.{DateTime as Civil};
+ghost use Rattle.rpki_time.specs.Time.{IsTimeYear, cut};
+ghost use Rattle.rpki_time.specs.TimeText.{utc_text, generalized_text, IsUtcYear};
 ghost use Rattle.rpki_time.specs.TimeValue.{utc_octets, generalized_octets, time_octets};
 
 use crate::time::Time;
@@ -150,6 +152,10 @@ impl Time {
     pub fn encode_utc_time(self) -> Primitive<UtcTime>
         ensures encoded { ⟦<Primitive<UtcTime> as Values>⟧.encoded result ≡ utc_octets self }
         ensures fits { ⟦<Primitive<UtcTime> as Values>⟧.is_short result × (length (utc_octets self) < 2 ^ 63) }
+        // Two times of the years 1950 to 2049 have the same encoding exactly where they differ in parts of a second
+        // alone.
+        ensures same { (other : Civil) → IsUtcYear self.date.year → IsUtcYear other.date.year
+            → (utc_octets self ≡ utc_octets other) ↔ (cut self ≡ cut other) }
     {
         UtcTime { time: self }.encode()
     }
@@ -160,6 +166,9 @@ impl Time {
         ensures encoded { ⟦<Primitive<GeneralizedTime> as Values>⟧.encoded result ≡ generalized_octets self }
         ensures fits { ⟦<Primitive<GeneralizedTime> as Values>⟧.is_short result
             × (length (generalized_octets self) < 2 ^ 63) }
+        // Two times have the same encoding exactly where they differ in parts of a second alone.
+        ensures same { (other : Civil) → IsTimeYear other.date.year
+            → (generalized_octets self ≡ generalized_octets other) ↔ (cut self ≡ cut other) }
     {
         GeneralizedTime { time: self }.encode()
     }
@@ -169,8 +178,12 @@ impl Time {
     #[tactic(auto, using(crate::proofs::TimeValueLaws::time_fits))]
     pub fn encode_varied(self) -> VariedTime
         ensures time { result ≡ self }
+        ensures year { IsTimeYear self.date.year }
         ensures encoded { ⟦<VariedTime as Values>⟧.encoded result ≡ time_octets self }
         ensures fits { ⟦<VariedTime as Values>⟧.is_short result × (length (time_octets self) < 2 ^ 63) }
+        // Two times have the same encoding exactly where they differ in parts of a second alone.
+        ensures same { (other : Civil) → IsTimeYear other.date.year
+            → (time_octets self ≡ time_octets other) ↔ (cut self ≡ cut other) }
     {
         VariedTime { time: self }
     }

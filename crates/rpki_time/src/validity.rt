@@ -8,7 +8,7 @@ ghost use Rattle.rpki_der.specs.Cursor.{left};
 ghost use Rattle.rpki_der.specs.Reading.{Reads};
 ghost use Rattle.rpki_der.specs.FirstFault.{ReadsParts};
 ghost use Rattle.rpki_time.specs.PeriodValue.{IsPeriod, SpellsPeriod, IsTimesFault, IsPeriodFault, period_octets};
-ghost use Rattle.rpki_time.specs.Validity.{HoldsAt, SpansBetween, IsTrimmed};
+ghost use Rattle.rpki_time.specs.Validity.{Period, AreTimeYears, HoldsAt, SpansBetween, IsTrimmed, cut_period};
 
 use crate::time::Time;
 use crate::time_encoder::VariedTime;
@@ -200,6 +200,9 @@ impl Validity {
         ensures encoded { ⟦<Sequence<(VariedTime, VariedTime)> as Values>⟧.encoded result ≡ period_octets self }
         ensures fits { ⟦<Sequence<(VariedTime, VariedTime)> as Values>⟧.is_short result
             × (length (period_octets self) < 2 ^ 63) }
+        // Two periods have the same encoding exactly where they differ in parts of a second alone.
+        ensures same { (other : Period) → AreTimeYears other
+            → (period_octets self ≡ period_octets other) ↔ (cut_period self ≡ cut_period other) }
     {
         Sequence::new((
             self.not_before.encode_varied(),

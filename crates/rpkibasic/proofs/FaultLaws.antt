@@ -3,23 +3,21 @@ use Rattle.std.proofs.Common.{◌≡◌, ◌↔◌, ℕ, ◌+◌, ◌<◌, ◌�
 use Rattle.std.proofs.lemmas.Bool.{cases_lt}
 use Rattle.rpki_der.specs.declared.error.DecodeError.{DecodeError}
 use Rattle.rpki_der.specs.declared.error.DecodeError.TheVariants.{Truncated, BadTag, BadLength, Unexpected, Content, Trailing, OutOfMemory}
-use Rattle.rpki_der.specs.Reading.{SpellsNothing, IsWholeFault, OrMemoryWhere}
+use Rattle.rpki_der.specs.Reading.{SpellsNothing, IsWholeFault}
 use Rattle.rpki_der.specs.Reading.{UnlessMemory as UnlessNoMemory}
-use Rattle.rpki_der.specs.Values.{GivesOuterFault}
-use Rattle.rpki_der.specs.TagName.{sequence}
 use Rattle.rpkibasic.specs.Fault.{refusal}
 use Rattle.rpkibasic.specs.Run.{IsFaultOf, UnlessMemory}
 
 -- the fault of an error of the reader of whole octets
-pub fault-of : {V : Type 0} (G : V → List ℕ → Type 0) (P : List ℕ → Type 0) (T : Type 0) (input : List ℕ) (e : DecodeError)
-    → UnlessNoMemory e (SpellsNothing G input) × IsWholeFault G (OrMemoryWhere P (GivesOuterFault sequence true)) input e → UnlessMemory (refusal e) (IsFaultOf G T input (refusal e))
-fault-of G P T input Truncated h = ((λ (z : Truncated ≡ OutOfMemory). cc), h.0, record { trailing = h.1.trailing; kind = h.1.kind; memory = λ z. cc })
-fault-of G P T input BadTag h = ((λ (z : BadTag ≡ OutOfMemory). cc), h.0, record { trailing = h.1.trailing; kind = h.1.kind; memory = λ z. cc })
-fault-of G P T input BadLength h = ((λ (z : BadLength ≡ OutOfMemory). cc), h.0, record { trailing = h.1.trailing; kind = h.1.kind; memory = λ z. cc })
-fault-of G P T input Unexpected h = ((λ (z : Unexpected ≡ OutOfMemory). cc), h.0, record { trailing = h.1.trailing; kind = h.1.kind; memory = λ z. cc })
-fault-of G P T input (Content x) h = ((λ (z : Content x ≡ OutOfMemory). cc), h.0, record { trailing = h.1.trailing; kind = h.1.kind; memory = λ z. cc })
-fault-of G P T input Trailing h = ((λ (z : Trailing ≡ OutOfMemory). cc), h.0, record { trailing = h.1.trailing; kind = h.1.kind; memory = λ z. cc })
-fault-of G P T input OutOfMemory h = tt
+pub fault-of : {V : Type 0} (G : V → List ℕ → Type 0) (K : List ℕ → DecodeError → Type 0) (T : Type 0) (input : List ℕ) (e : DecodeError)
+    → UnlessNoMemory e (SpellsNothing G input) × IsWholeFault G K input e → UnlessMemory (refusal e) (IsFaultOf G K T input (refusal e))
+fault-of G K T input Truncated h = ((λ (z : Truncated ≡ OutOfMemory). cc), h.0, h.1)
+fault-of G K T input BadTag h = ((λ (z : BadTag ≡ OutOfMemory). cc), h.0, h.1)
+fault-of G K T input BadLength h = ((λ (z : BadLength ≡ OutOfMemory). cc), h.0, h.1)
+fault-of G K T input Unexpected h = ((λ (z : Unexpected ≡ OutOfMemory). cc), h.0, h.1)
+fault-of G K T input (Content x) h = ((λ (z : Content x ≡ OutOfMemory). cc), h.0, h.1)
+fault-of G K T input Trailing h = ((λ (z : Trailing ≡ OutOfMemory). cc), h.0, h.1)
+fault-of G K T input OutOfMemory h = tt
 
 -- what does not fit is too long
 pub too-long : (n m : ℕ) (b : Bool) {S : Type 0} → (IsTrue b ↔ (S × (m < 2 ^ 63))) → b ≡ false → (S ↔ (n < 2 ^ 32)) → m ≤ n + 10 → 2 ^ 32 ≤ n

@@ -4,7 +4,9 @@ use Rattle.std.specs.Prelude.{◌⊎◌, ◌↔◌, Bool, true, false, IsTrue, O
 use Rattle.rpki_der.specs.Reading.{SpellsNothing}
 use Rattle.rpki.specs.SignedData.{written_contents, written_signed}
 use Rattle.rpki.specs.PublicKey.{SpellsKey}
+use Rattle.rpki.specs.KeyFault.{IsKeyFault}
 use Rattle.rpki.specs.Name.{SpellsNameOctets}
+use Rattle.rpki.specs.NameFault.{IsNameFault}
 use Rattle.rpki_text.specs.HexText.{hex_text}
 use Rattle.rpki_text.specs.declared.uri.error.Error.{Error}
 use Rattle.sha1.specs.Sha1.{sha1}
@@ -12,7 +14,7 @@ use Rattle.rpkibasic.specs.UriLines.{without_last_line_feed, uri_refusal_of}
 use Rattle.rpkibasic.specs.NameLines.{AreNameLines}
 use Rattle.rpkibasic.specs.Fault.{text_of}
 use Rattle.rpki_der.specs.declared.error.DecodeError.{DecodeError}
-use Rattle.rpkibasic.specs.Run.{SpellsExtensions, written_extensions, IsExtensionFault, Signed, SpellsRpki, SpellsOnly, written_algorithm, IsTooLong, IsFaultOf, IsRefusedText, IsDue}
+use Rattle.rpkibasic.specs.Run.{SpellsExtensions, written_extensions, IsExtensionFault, Signed, SpellsRpki, IsRpkiFault, SpellsOnly, written_algorithm, IsTooLong, IsFaultOf, IsRefusedText, IsDue}
 use Rattle.rpkibasic.specs.declared.command.Command.{Command}
 use Rattle.rpkibasic.specs.declared.command.Command.TheVariants.{Again, Data, Key, Uri, Ext, Name}
 use Rattle.rpkibasic.specs.declared.fault.Fault.{Fault}
@@ -46,14 +48,14 @@ one-text Ext input s t a b = of-one SpellsExtensions written_extensions input a.
 one-text Name input s t a b = one-inspection input s t a b
 
 -- a fault of an input is T, or the input is in no grammar
-two-faults : {V : Type 0} (G : V → List ℕ → Type 0) (T : Type 0) (input : List ℕ) (f : Fault) → IsFaultOf G T input f → (T × (text_of f ≡ text_of TooLong)) ⊎ (SpellsNothing G input × (text_of f ≡ codes "refused "))
-two-faults G T input (Refused e) h = inr (h.1, refl)
-two-faults G T input (RefusedUri e) h = absurd h
-two-faults G T input TooLong h = inl (h, refl)
-two-faults G T input OutOfMemory h = absurd h
-two-faults G T input Input h = absurd h
-two-faults G T input Usage h = absurd h
-two-faults G T input Output h = absurd h
+two-faults : {V : Type 0} (G : V → List ℕ → Type 0) (K : List ℕ → DecodeError → Type 0) (T : Type 0) (input : List ℕ) (f : Fault) → IsFaultOf G K T input f → (T × (text_of f ≡ text_of TooLong)) ⊎ (SpellsNothing G input × (text_of f ≡ codes "refused "))
+two-faults G K T input (Refused e) h = inr (h.1, refl)
+two-faults G K T input (RefusedUri e) h = absurd h
+two-faults G K T input TooLong h = inl (h, refl)
+two-faults G K T input OutOfMemory h = absurd h
+two-faults G K T input Input h = absurd h
+two-faults G K T input Usage h = absurd h
+two-faults G K T input Output h = absurd h
 
 -- a text has no lines for what is wrong with it first
 one-wrong : (wrong : Option Error) (f : Fault) → IsRefusedText wrong f → (e : Error) × (f ≡ RefusedUri e) × (wrong ≡ Some e)
@@ -81,27 +83,27 @@ not-too-long input s a b =
     let long = subst (λ (x : Signed). 2 ^ 32 ≤ length (written_contents written_algorithm x)) (a.1.1 b.0 b.1.0) b.2 in
     absurd (omega (arith, long, a.2))
 
-no-fault : {V : Type 0} (G : V → List ℕ → Type 0) (T : Type 0) (input : List ℕ) (v : V) (f : Fault) → G v input → (T → ⊥) → IsFaultOf G T input f → ⊥
-no-fault G T input v f g never h = elim (two-faults G T input f h) [
+no-fault : {V : Type 0} (G : V → List ℕ → Type 0) (K : List ℕ → DecodeError → Type 0) (T : Type 0) (input : List ℕ) (v : V) (f : Fault) → G v input → (T → ⊥) → IsFaultOf G K T input f → ⊥
+no-fault G K T input v f g never h = elim (two-faults G K T input f h) [
   | inl p ↦ never p.0
   | inr p ↦ p.0 v g
 ]
 
 pub text-or-fault : (command : Command) (input s : List ℕ) (e : Fault) → IsDue command input (Ok s) → IsDue command input (Err e) → ⊥
-text-or-fault Again input s e a b = no-fault SpellsRpki (IsTooLong input) input a.0 e a.1.0 (not-too-long input s a) b
-text-or-fault Data input s e a b = no-fault SpellsRpki ⊥ input a.0 e a.1.0 (λ z. z) b
-text-or-fault Key input s e a b = no-fault SpellsKey ⊥ input a.0 e a.1.0 (λ z. z) b
-text-or-fault Name input s e a b = no-fault SpellsNameOctets ⊥ input a.0 e a.1.0 (λ z. z) b
+text-or-fault Again input s e a b = no-fault SpellsRpki IsRpkiFault (IsTooLong input) input a.0 e a.1.0 (not-too-long input s a) b
+text-or-fault Data input s e a b = no-fault SpellsRpki IsRpkiFault ⊥ input a.0 e a.1.0 (λ z. z) b
+text-or-fault Key input s e a b = no-fault SpellsKey IsKeyFault ⊥ input a.0 e a.1.0 (λ z. z) b
+text-or-fault Name input s e a b = no-fault SpellsNameOctets IsNameFault ⊥ input a.0 e a.1.0 (λ z. z) b
 text-or-fault Ext input s e a b = (not-extensions input e b).2 a.0 a.1.0
 text-or-fault Uri input s e a b = let w = one-wrong (uri_refusal_of (without_last_line_feed input)) e b in let x = sym a.0 ∙ w.2 in cc
 
-one-kind : {V : Type 0} (G : V → List ℕ → Type 0) (T : Type 0) (input : List ℕ) (e f : Fault) → (T → SpellsNothing G input → ⊥) → IsFaultOf G T input e → IsFaultOf G T input f → text_of e ≡ text_of f
-one-kind G T input e f never h k = elim (two-faults G T input e h) [
-  | inl p ↦ elim (two-faults G T input f k) [
+one-kind : {V : Type 0} (G : V → List ℕ → Type 0) (K : List ℕ → DecodeError → Type 0) (T : Type 0) (input : List ℕ) (e f : Fault) → (T → SpellsNothing G input → ⊥) → IsFaultOf G K T input e → IsFaultOf G K T input f → text_of e ≡ text_of f
+one-kind G K T input e f never h k = elim (two-faults G K T input e h) [
+  | inl p ↦ elim (two-faults G K T input f k) [
     | inl q ↦ p.1 ∙ sym q.1
     | inr q ↦ absurd (never p.0 q.0)
   ]
-  | inr p ↦ elim (two-faults G T input f k) [
+  | inr p ↦ elim (two-faults G K T input f k) [
     | inl q ↦ absurd (never q.0 p.0)
     | inr q ↦ p.1 ∙ sym q.1
   ]
@@ -117,9 +119,9 @@ one-uri-fault input e f a b =
     p.1 ∙ ap RefusedUri error ∙ sym q.1
 
 pub one-fault : (command : Command) (input : List ℕ) (e f : Fault) → IsDue command input (Err e) → IsDue command input (Err f) → text_of e ≡ text_of f
-one-fault Again input e f a b = one-kind SpellsRpki (IsTooLong input) input e f (λ long none. none long.0 long.1.0) a b
-one-fault Data input e f a b = one-kind SpellsRpki ⊥ input e f (λ z none. z) a b
-one-fault Key input e f a b = one-kind SpellsKey ⊥ input e f (λ z none. z) a b
-one-fault Name input e f a b = one-kind SpellsNameOctets ⊥ input e f (λ z none. z) a b
+one-fault Again input e f a b = one-kind SpellsRpki IsRpkiFault (IsTooLong input) input e f (λ long none. none long.0 long.1.0) a b
+one-fault Data input e f a b = one-kind SpellsRpki IsRpkiFault ⊥ input e f (λ z none. z) a b
+one-fault Key input e f a b = one-kind SpellsKey IsKeyFault ⊥ input e f (λ z none. z) a b
+one-fault Name input e f a b = one-kind SpellsNameOctets IsNameFault ⊥ input e f (λ z none. z) a b
 one-fault Uri input e f a b = ap text_of (one-uri-fault input e f a b)
 one-fault Ext input e f a b = ap text_of (not-extensions input e a).1 ∙ sym (ap text_of (not-extensions input f b).1)

@@ -5,8 +5,6 @@ use Rattle.std.specs.List.{flat_map}
 use Rattle.rpki_der.specs.declared.error.DecodeError.{DecodeError}
 use Rattle.rpki_der.specs.declared.error.DecodeError.TheVariants as der
 use Rattle.rpki_der.specs.Reading.{Refuses, SpellsNothing, IsWholeFault}
-use Rattle.rpki_der.specs.Values.{GivesOuterFault}
-use Rattle.rpki_der.specs.TagName.{sequence}
 use Rattle.rpki_der.specs.Written.{AppendsCut}
 use Rattle.rpki.specs.Oids.{sha256_with_rsa_encryption}
 use Rattle.rpki.specs.Algorithm.{SpellsAlgorithm}
@@ -14,6 +12,10 @@ use Rattle.rpki.specs.AlgorithmOctets.{algorithm_octets}
 use Rattle.rpki.specs.SignedData.{SignedParts, SpellsSigned, written_contents, written_signed}
 use Rattle.rpki.specs.PublicKey.{KeyParts, SpellsKey}
 use Rattle.rpki.specs.Name.{SpellsEach, SpellsNameOctets}
+use Rattle.rpki.specs.AlgorithmFault.{IsAlgorithmFault}
+use Rattle.rpki.specs.SignedFault.{IsSignedFault}
+use Rattle.rpki.specs.KeyFault.{IsKeyFault}
+use Rattle.rpki.specs.NameFault.{IsNameFault}
 use Rattle.rpki.specs.ExtensionFault.{IsCertExtensionFault}
 use Rattle.rpki.specs.ExtensionValue.{ExtensionParts, SpellsExtension, written_extension}
 use Rattle.rpki_text.specs.HexText.{hex_text}
@@ -47,16 +49,21 @@ written_algorithm present = algorithm_octets sha256_with_rsa_encryption true
 abbrev pub SpellsOnly : {V : Type 0} → (V → List ℕ → Type 0) → V → List ℕ → Type 0
 SpellsOnly {V} G v octets = G v octets × ((w : V) → G w octets → w ≡ v)
 
--- Why an input gives no text: it is in the grammar of none, and the reader of whole octets rejects it so; or T.
-abbrev pub IsFaultOf : {V : Type 0} → (V → List ℕ → Type 0) → Type 0 → List ℕ → Fault → Type 0
-IsFaultOf G T input (Refused e) =
-    (e ≢ der.OutOfMemory) × SpellsNothing G input × IsWholeFault G (GivesOuterFault sequence true) input e
-IsFaultOf G T input (RefusedUri e) = ⊥
-IsFaultOf G T input TooLong = T
-IsFaultOf G T input OutOfMemory = ⊥
-IsFaultOf G T input Input = ⊥
-IsFaultOf G T input Usage = ⊥
-IsFaultOf G T input Output = ⊥
+-- the error of signed data of the RPKI
+abbrev pub IsRpkiFault : List ℕ → DecodeError → Type 0
+IsRpkiFault = IsSignedFault (SpellsAlgorithm sha256_with_rsa_encryption) (IsAlgorithmFault sha256_with_rsa_encryption)
+
+-- Why an input gives no text: it is in the grammar of none, and the reader of whole octets rejects it with the leftmost
+-- error, which K says of the reader of a beginning; or T.
+abbrev pub IsFaultOf : {V : Type 0} → (V → List ℕ → Type 0) → (List ℕ → DecodeError → Type 0) → Type 0 → List ℕ
+    → Fault → Type 0
+IsFaultOf G K T input (Refused e) = (e ≢ der.OutOfMemory) × SpellsNothing G input × IsWholeFault G K input e
+IsFaultOf G K T input (RefusedUri e) = ⊥
+IsFaultOf G K T input TooLong = T
+IsFaultOf G K T input OutOfMemory = ⊥
+IsFaultOf G K T input Input = ⊥
+IsFaultOf G K T input Usage = ⊥
+IsFaultOf G K T input Output = ⊥
 
 -- The input is signed data, and the text is what is written of it.
 abbrev pub IsAgain : List ℕ → List ℕ → Type 0
@@ -134,17 +141,17 @@ IsInspected input text = (n : List ℕ) × SpellsOnly SpellsNameOctets n input �
 -- the answer that is due to the input, which is one for each command
 abbrev pub IsDue : Command → List ℕ → Answer → Type 0
 IsDue Again input (Ok text) = IsAgain input text
-IsDue Again input (Err fault) = IsFaultOf SpellsRpki (IsTooLong input) input fault
+IsDue Again input (Err fault) = IsFaultOf SpellsRpki IsRpkiFault (IsTooLong input) input fault
 IsDue Data input (Ok text) = IsSlice input text
-IsDue Data input (Err fault) = IsFaultOf SpellsRpki ⊥ input fault
+IsDue Data input (Err fault) = IsFaultOf SpellsRpki IsRpkiFault ⊥ input fault
 IsDue Key input (Ok text) = IsKeyLine input text
-IsDue Key input (Err fault) = IsFaultOf SpellsKey ⊥ input fault
+IsDue Key input (Err fault) = IsFaultOf SpellsKey IsKeyFault ⊥ input fault
 IsDue Uri input (Ok text) = IsLines input text
 IsDue Uri input (Err fault) = IsRefusedText (uri_refusal_of (without_last_line_feed input)) fault
 IsDue Ext input (Ok text) = AreExtensions input text
 IsDue Ext input (Err fault) = IsExtensionFault input fault
 IsDue Name input (Ok text) = IsInspected input text
-IsDue Name input (Err fault) = IsFaultOf SpellsNameOctets ⊥ input fault
+IsDue Name input (Err fault) = IsFaultOf SpellsNameOctets IsNameFault ⊥ input fault
 
 -- a fact of each fault but an allocation failure
 abbrev pub UnlessMemory : Fault → Type 0 → Type 0

@@ -1,7 +1,7 @@
 //! What each command returns.
 
 ghost use Rattle.std.specs.Prelude.{◌≡◌, ◌≢◌, ◌<◌, ◌≤◌, ◌^◌, ◌⊎◌, length, true, MatchResult, IfSome};
-ghost use Rattle.rpkibasic.specs.Run.{SpellsOnly, SpellsRpki, IsFaultOf, UnlessMemory, Answers, written_algorithm};
+ghost use Rattle.rpkibasic.specs.Run.{SpellsOnly, SpellsRpki, IsRpkiFault, IsFaultOf, UnlessMemory, Answers, written_algorithm};
 ghost use Rattle.rpkibasic.specs.View.{answer_of};
 ghost use Rattle.rpkibasic.specs.declared.command.Command.TheVariants.{Again, Data};
 ghost use Rattle.rpki.specs.SignedData.{written_contents, written_signed};
@@ -19,7 +19,7 @@ type RpkiSignedData = SignedData<RpkiSignatureAlgorithm>;
 /// The signed data that the input is.
 fn decoded(alloc: Global, input: Vec<u8>) -> Result<RpkiSignedData, Fault>
     ensures { MatchResult result (λ v. SpellsOnly SpellsRpki v input.items)
-        (λ f. UnlessMemory f (IsFaultOf SpellsRpki ⊥ input.items f)) }
+        (λ f. UnlessMemory f (IsFaultOf SpellsRpki IsRpkiFault ⊥ input.items f)) }
 {
     let octets = Bytes::from_vec(input)?;
     let signed = SignedData::decode(alloc, octets)?;

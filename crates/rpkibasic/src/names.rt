@@ -2,6 +2,7 @@
 
 ghost use Rattle.std.specs.Prelude.{◌≡◌, MatchResult, IfOk};
 ghost use Rattle.rpki.specs.Name.{SpellsNameOctets};
+ghost use Rattle.rpki.specs.NameFault.{IsNameFault};
 ghost use Rattle.rpkibasic.specs.Run.{SpellsOnly, IsFaultOf, UnlessMemory, Answers};
 ghost use Rattle.rpkibasic.specs.NameLines.{yes_or_no, AreNameLines};
 ghost use Rattle.rpkibasic.specs.View.{answer_of};
@@ -17,7 +18,7 @@ use std::alloc::{AllocError, Global};
 /// The name that the input is.
 fn decoded(alloc: Global, input: Vec<u8>) -> Result<Name, Fault>
     ensures { MatchResult result (λ n. SpellsOnly SpellsNameOctets n input.items)
-        (λ f. UnlessMemory f (IsFaultOf SpellsNameOctets ⊥ input.items f)) }
+        (λ f. UnlessMemory f (IsFaultOf SpellsNameOctets IsNameFault ⊥ input.items f)) }
 {
     let octets = Bytes::from_vec(input)?;
     let mut rest = Constructed::new(&octets);

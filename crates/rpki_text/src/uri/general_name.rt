@@ -1,6 +1,6 @@
 //! URIs in certificates: as IA5String contents and as general names (RFC 5280 4.2.1.6).
 
-ghost use Rattle.std.specs.Prelude.{◌≡◌, ◌<◌, ◌^◌, ◌↔◌, false, length};
+ghost use Rattle.std.specs.Prelude.{◌≡◌, ◌<◌, ◌^◌, ◌↔◌, ℕ, List, false, length};
 ghost use Rattle.rpki_der.specs.Header.{tlv};
 ghost use Rattle.rpki_der.specs.TagName.{context_6, ia5_string};
 
@@ -45,6 +45,9 @@ impl Rsync {
     pub fn encode_general_name(&self) -> Primitive<&Rsync>
         ensures encoded { ⟦<Primitive<&'static Rsync> as Values>⟧.encoded result ≡ tlv context_6 false self.now }
         ensures short { ⟦<Primitive<&'static Rsync> as Values>⟧.is_short result ↔ (length self.now < 2 ^ 32) }
+        // URIs have the same encoding exactly where their texts are the same.
+        ensures same { (other : List ℕ) → length other < 2 ^ 32
+            → (tlv context_6 false self.now ≡ tlv context_6 false other) ↔ (self.now ≡ other) }
     {
         self.encode_as(URI_NAME)
     }
@@ -79,6 +82,9 @@ impl Https {
     pub fn encode_general_name(&self) -> Primitive<&Https>
         ensures encoded { ⟦<Primitive<&'static Https> as Values>⟧.encoded result ≡ tlv context_6 false self.now }
         ensures short { ⟦<Primitive<&'static Https> as Values>⟧.is_short result ↔ (length self.now < 2 ^ 32) }
+        // URIs have the same encoding exactly where their texts are the same.
+        ensures same { (other : List ℕ) → length other < 2 ^ 32
+            → (tlv context_6 false self.now ≡ tlv context_6 false other) ↔ (self.now ≡ other) }
     {
         self.encode_as(URI_NAME)
     }

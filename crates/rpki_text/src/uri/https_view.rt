@@ -72,9 +72,10 @@ impl<'a> HttpsView<'a> {
         self.part(self.authority_range())
     }
 
-    /// Where the authority stands in the text.
+    /// Where the authority stands in the text: after `https://`.
     pub fn authority_range(&self) -> Range<usize>
-        ensures { IsPartAt (https_text self.now) result (https_authority (https_text self.now)) }
+        ensures part { IsPartAt (https_text self.now) result (https_authority (https_text self.now)) }
+        ensures first { result.start ≡ 8 }
     {
         SCHEME_LEN..self.path_start
     }

@@ -83,9 +83,10 @@ impl<'a> RsyncView<'a> {
         self.part(self.authority_range())
     }
 
-    /// Where the authority stands in the text.
+    /// Where the authority stands in the text: after `rsync://`.
     pub fn authority_range(&self) -> Range<usize>
-        ensures { IsPartAt (rsync_text self.now) result (authority_of (rsync_text self.now)) }
+        ensures part { IsPartAt (rsync_text self.now) result (authority_of (rsync_text self.now)) }
+        ensures first { result.start ≡ 8 }
     {
         SCHEME_LEN..self.places.module_start - 1
     }
@@ -97,9 +98,10 @@ impl<'a> RsyncView<'a> {
         self.part(self.module_name_range())
     }
 
-    /// Where the module's name stands in the text.
+    /// Where the module's name stands in the text: after the authority and a slash.
     pub fn module_name_range(&self) -> Range<usize>
-        ensures { IsPartAt (rsync_text self.now) result (module_name_of (rsync_text self.now)) }
+        ensures part { IsPartAt (rsync_text self.now) result (module_name_of (rsync_text self.now)) }
+        ensures first { result.start ≡ 9 + length (authority_of (rsync_text self.now)) }
     {
         self.places.module_start..self.places.path_start - 1
     }
@@ -163,7 +165,7 @@ impl<'a> RsyncView<'a> {
         Some(uri_text(path))
     }
 
-    /// Where the path from `base` to this URI stands in this text; `None` where there is none.
+    /// Where the path from `base` to this URI stands in this text, which ends with it; `None` where there is none.
     pub fn relative_range(&self, base: &RsyncView<'_>) -> Option<Range<usize>>
         ensures some { IfSome result (λ r. IsRelativeAt (rsync_text self.now) (rsync_text base.now) r) }
         ensures none { IfNone result (relative (uri_of (rsync_text self.now)) (uri_of (rsync_text base.now)) ≡ None) }

@@ -145,6 +145,11 @@ impl PublicKey {
         // It fits exactly where its contents have fewer than 2^32 octets.
         ensures short { ⟦<PublicKeyEncoder<BitString> as Values>⟧.is_short result
             ↔ (length (key_contents self) < 2 ^ 32) }
+        // What is written is read as the key.
+        ensures read_back { length (key_contents self) < 2 ^ 32 → SpellsKey self (key_octets self) }
+        // Keys have the same encoding exactly where they are equal.
+        ensures same { (other : KeyParts) → length (key_contents self) < 2 ^ 32
+            → length (key_contents other) < 2 ^ 32 → (key_octets self ≡ key_octets other) ↔ (self ≡ other) }
     {
         let PublicKey { algorithm, bits } = self;
         Sequence::new((algorithm.encode(), bits.encode()))

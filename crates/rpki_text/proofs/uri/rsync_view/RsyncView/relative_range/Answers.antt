@@ -1,4 +1,4 @@
-use Rattle.std.proofs.Common.{sym}
+use Rattle.std.proofs.Common.{sym, refl}
 use Rattle.rpki_text.proofs.PlaceLaws.{end-at}
 use Rattle.rpki_text.proofs.uri.rsync_view.RsyncView.relative_range.Goals as goal
 
@@ -7,4 +7,5 @@ returns-clause-some c = record {
   path = c.in_ok-path.path.now;
   leads = sym c.in_ok-path.ensures.path;
   stands = end-at c.args.self.now.text.now c.in_ok-path.path.now c.in_ok-path.ensures.tail.0 c.in_ok-path.ensures.tail.1;
+  last = refl;
 }
