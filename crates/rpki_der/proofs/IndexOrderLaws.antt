@@ -62,31 +62,33 @@ entries-within Empty at parent n = tt
 entries-within (Primitive t c rest) at parent n =
     let e = entry at parent t false c in
     let size : at + length (spell (Primitive t c rest)) ≡ e.past + length (spell rest) =
-        omega (arith, length-append (header t false (length c) ++ c) (spell rest), length-append (header t false (length c)) c) in
-    let grows = head-grows at parent t false c in
-    (record { begins = omega arith; grows = omega (arith, grows); ends = omega (arith, size); held = inl refl },
+    omega (arith, length-append (header t false (length c) ++ c) (spell rest), length-append (header t false (length c)) c) in
+    let grows = head-grows at parent t false c in (
+      record { begins = omega arith; grows = omega (arith, grows); ends = omega (arith, size); held = inl refl },
       all-map (entries rest e.past parent (n + 1))
-        (λ f w. wider e.past at (e.past + length (spell rest)) (at + length (spell (Primitive t c rest))) parent parent (n + 1) n f
+          (λ f w. wider e.past at (e.past + length (spell rest)) (at + length (spell (Primitive t c rest))) parent parent (n + 1) n f
           (omega (arith, grows)) (omega (arith, size)) (from-later parent n (n + 1) f.parent (omega arith) w.held) w)
-        (entries-within rest e.past parent (n + 1)))
+          (entries-within rest e.past parent (n + 1)),
+    )
 entries-within (Constructed t ms rest) at parent n =
     let c = spell ms in
     let e = entry at parent t true c in
     let k = n + 1 + header_count ms in
     let all = at + length (spell (Constructed t ms rest)) in
     let size : all ≡ e.past + length (spell rest) =
-        omega (arith, length-append (header t true (length c) ++ c) (spell rest), length-append (header t true (length c)) c) in
-    let grows = head-grows at parent t true c in
-    (record { begins = omega arith; grows = omega (arith, grows); ends = omega (arith, size); held = inl refl },
+    omega (arith, length-append (header t true (length c) ++ c) (spell rest), length-append (header t true (length c)) c) in
+    let grows = head-grows at parent t true c in (
+      record { begins = omega arith; grows = omega (arith, grows); ends = omega (arith, size); held = inl refl },
       all-append _ (entries ms e.contents (Some n) (n + 1)) (entries rest e.past parent k)
-        (all-map (entries ms e.contents (Some n) (n + 1))
+          (all-map (entries ms e.contents (Some n) (n + 1))
           (λ f w. wider e.contents at (e.contents + length c) all (Some n) parent (n + 1) n f
-            (omega (arith, grows)) (omega (arith, size)) (from-inside parent n f.parent w.held) w)
+          (omega (arith, grows)) (omega (arith, size)) (from-inside parent n f.parent w.held) w)
           (entries-within ms e.contents (Some n) (n + 1)))
-        (all-map (entries rest e.past parent k)
+          (all-map (entries rest e.past parent k)
           (λ f w. wider e.past at (e.past + length (spell rest)) all parent parent k n f
-            (omega (arith, grows)) (omega (arith, size)) (from-later parent n k f.parent (omega arith) w.held) w)
-          (entries-within rest e.past parent k)))
+          (omega (arith, grows)) (omega (arith, size)) (from-later parent n k f.parent (omega arith) w.held) w)
+          (entries-within rest e.past parent k)),
+    )
 
 all-at : (P : Entry → Type 0) (es : List Entry) (i : ℕ) (e : Entry) → AllByRecursion P es → slice_get es i ≡ Some e → P e
 all-at P [] i e h is = absurd (cc)
@@ -148,12 +150,13 @@ entries-ordered : (vs : Members) (at : ℕ) (parent : Option ℕ) (n : ℕ) → 
 entries-ordered Empty at parent n below = tt
 entries-ordered (Primitive t c rest) at parent n below =
     let e = entry at parent t false c in
-    let grows = head-grows at parent t false c in
-    (below,
+    let grows = head-grows at parent t false c in (
+      below,
       all-map (entries rest e.past parent (n + 1))
-        (λ f w. behind-follows n (n + 1) e f e.past (e.past + length (spell rest)) parent below (omega arith) (omega (arith, grows)) (omega arith) w)
-        (entries-within rest e.past parent (n + 1)),
-      entries-ordered rest e.past parent (n + 1) (below-more n (n + 1) parent (omega arith) below))
+          (λ f w. behind-follows n (n + 1) e f e.past (e.past + length (spell rest)) parent below (omega arith) (omega (arith, grows)) (omega arith) w)
+          (entries-within rest e.past parent (n + 1)),
+      entries-ordered rest e.past parent (n + 1) (below-more n (n + 1) parent (omega arith) below),
+    )
 entries-ordered (Constructed t ms rest) at parent n below =
     let c = spell ms in
     let e = entry at parent t true c in
@@ -162,17 +165,18 @@ entries-ordered (Constructed t ms rest) at parent n below =
     let inner = entries ms e.contents (Some n) (n + 1) in
     let outer = entries rest e.past parent k in
     let in-inner = entries-within ms e.contents (Some n) (n + 1) in
-    let in-outer = entries-within rest e.past parent k in
-    (below,
+    let in-outer = entries-within rest e.past parent k in (
+      below,
       all-append (Follows n e) inner outer
-        (all-map inner (λ f w. inside-follows n e f (e.contents + length c) below grows (omega arith) w) in-inner)
-        (all-map outer (λ f w. behind-follows n k e f e.past (e.past + length (spell rest)) parent below (omega arith) (omega (arith, grows)) (omega arith) w) in-outer),
+          (all-map inner (λ f w. inside-follows n e f (e.contents + length c) below grows (omega arith) w) in-inner)
+          (all-map outer (λ f w. behind-follows n k e f e.past (e.past + length (spell rest)) parent below (omega arith) (omega (arith, grows)) (omega arith) w) in-outer),
       ordered-append (n + 1) k e.past e.past (e.past + length (spell rest)) parent inner outer
-        (omega (arith, length-entries ms e.contents (Some n) (n + 1))) (omega arith) (below-more n (n + 1) parent (omega arith) below)
-        (entries-ordered ms e.contents (Some n) (n + 1) (omega arith))
-        (all-map inner (λ f w. (w.grows, omega (arith, w.ends))) in-inner)
-        (entries-ordered rest e.past parent k (below-more n k parent (omega arith) below))
-        in-outer)
+          (omega (arith, length-entries ms e.contents (Some n) (n + 1))) (omega arith) (below-more n (n + 1) parent (omega arith) below)
+          (entries-ordered ms e.contents (Some n) (n + 1) (omega arith))
+          (all-map inner (λ f w. (w.grows, omega (arith, w.ends))) in-inner)
+          (entries-ordered rest e.past parent k (below-more n k parent (omega arith) below))
+          in-outer,
+    )
 
 -- ---- the members of a value
 
@@ -227,7 +231,7 @@ skipped-by parent es x zero i j gap within other =
 skipped-by parent es x (suc d) i j gap within other =
     let here : slice_get es i ≡ Some (get_or es i x) = slice_get-get_or es i x (omega (arith, gap, within)) in
     let not : option_eq nat_eq (get_or es i x).parent parent ≡ false =
-        no-equal (get_or es i x).parent parent (other i (get_or es i x) (omega arith) (omega (arith, gap)) here) in
+    no-equal (get_or es i x).parent parent (other i (get_or es i x) (omega arith) (omega (arith, gap)) here) in
     no-member i parent es x (omega (arith, gap, within)) not
     ∙ skipped-by parent es x d (i + 1) j (omega (arith, gap)) within (λ k f low high is. other k f (omega (arith, low)) high is)
 
@@ -243,27 +247,27 @@ pub siblings-apart : (es : List Entry) → AreInOrder es → (i j : ℕ) (e last
     → numbers_from (i + 1) e.parent (drop (i + 1) es) ≡ numbers_from (j + 1) e.parent (drop (j + 1) es)
 siblings-apart es o i j e last at lt within is before =
     numbers-skipped e.parent es e (i + 1) (j + 1) (omega (arith, lt)) (omega (arith, within)) (λ k f low high there.
-      let follows = o.0 i k e f (omega (arith, low)) at there in
-      follows.1 (elim (cases_lt k j) [
-        | inl less ↦ let later = o.0 k j f last less there is in omega (arith, later.0, before)
-        | inr more ↦
-            let same : k ≡ j = omega (arith, more, high) in
-            let one : f ≡ last = one-entry es k j f last same there is in
-            subst (λ (g : Entry). g.place < e.past) (sym one) before
-      ]))
+    let follows = o.0 i k e f (omega (arith, low)) at there in
+    follows.1 (elim (cases_lt k j) [
+      | inl less ↦ let later = o.0 k j f last less there is in omega (arith, later.0, before)
+      | inr more ↦
+          let same : k ≡ j = omega (arith, more, high) in
+          let one : f ≡ last = one-entry es k j f last same there is in
+          subst (λ (g : Entry). g.place < e.past) (sym one) before
+    ]))
 
 -- no member begins past the end of its parent
 pub members-past : (parent : Option ℕ) (past : ℕ) (es : List Entry) → AreInOrder es → HasEnd parent es past → (i : ℕ) (e : Entry) → slice_get es i ≡ Some e → i < length es → past ≤ e.place
     → numbers_from i parent (drop i es) ≡ []
 members-past parent past es o ends i e at within beyond =
     numbers-skipped parent es e i (length es) (omega (arith, within)) (omega arith) (λ k f low high there.
-      ends k f there (elim (cases_lt i k) [
-        | inl less ↦ let later = o.0 i k e f less at there in omega (arith, later.0, beyond)
-        | inr more ↦
-            let same : k ≡ i = omega (arith, more, low) in
-            let one : f ≡ e = one-entry es k i f e same there at in
-            subst (λ (g : Entry). past ≤ g.place) (sym one) beyond
-      ]))
+    ends k f there (elim (cases_lt i k) [
+      | inl less ↦ let later = o.0 i k e f less at there in omega (arith, later.0, beyond)
+      | inr more ↦
+          let same : k ≡ i = omega (arith, more, low) in
+          let one : f ≡ e = one-entry es k i f e same there at in
+          subst (λ (g : Entry). past ≤ g.place) (sym one) beyond
+    ]))
     ∙ members-end (length es) parent es (omega arith)
 
 -- no entry up to a value's is of its members
@@ -271,11 +275,11 @@ pub members-after : (es : List Entry) → AreInOrder es → (q : ℕ) (x : Entry
     → numbers_from 0 (Some q) es ≡ numbers_from (q + 1) (Some q) (drop (q + 1) es)
 members-after es o q x within =
     numbers-skipped (Some q) es x 0 (q + 1) (omega arith) (omega (arith, within)) (λ k f low high there same.
-      let before = o.1 k q f there same in omega (arith, before, high))
+    let before = o.1 k q f there same in omega (arith, before, high))
 
 pub has-end : (es : List Entry) → AreInOrder es → (q : ℕ) (e : Entry) → slice_get es q ≡ Some e → HasEnd (Some q) es e.past
 has-end es o q e at = λ k f there beyond same.
-  elim (cases_lt q k) [
-    | inl less ↦ let follows = o.0 q k e f less at there in omega (arith, follows.2 same, beyond)
-    | inr more ↦ let before = o.1 k q f there same in omega (arith, before, more)
-  ]
+    elim (cases_lt q k) [
+      | inl less ↦ let follows = o.0 q k e f less at there in omega (arith, follows.2 same, beyond)
+      | inr more ↦ let before = o.1 k q f there same in omega (arith, before, more)
+    ]

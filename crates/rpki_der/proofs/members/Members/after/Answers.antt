@@ -12,8 +12,8 @@ halves-preserved-then-place-past c =
     let high = c.halves.invariant.1 in
     let test = c.halves-test.true in
     let apart = siblings-apart m.entries.now m.ordered number middle c.entry_of-value.result c.entry_of-found.result c.entry_of-value.ensures
-        (omega (arith, low)) (omega (arith, high, test)) c.entry_of-found.ensures
-        (omega (arith, c.if-place-past.true, c.place.ensures, c.past-past.ensures)) in
+    (omega (arith, low)) (omega (arith, high, test)) c.entry_of-found.ensures
+    (omega (arith, c.if-place-past.true, c.place.ensures, c.past-past.ensures)) in
     let parent = c.requires.member c.entry_of-value.result c.entry_of-value.ensures in (
       omega (arith, low),
       high,

@@ -13,7 +13,7 @@ unfolding numbers_left
 returns-then-past-place-clause-steps c =
     let m = c.entries.self in
     let none = members-past m.parent c.in-Some.past m.entries.now m.ordered (m.ends c.in-Some.past c.in-Some.is) m.next c.entry_of-found.result
-        c.entry_of-found.ensures c.entries-test.true (omega (arith, c.if-past-place.true, c.place.ensures)) in
+    c.entry_of-found.ensures c.entries-test.true (omega (arith, c.if-past-place.true, c.place.ensures)) in
     (sym c.entries.invariant ∙ none, none)
 
 pub returns-then-eq-clause-steps : goal.returns-then-eq-clause-steps
@@ -22,7 +22,7 @@ returns-then-eq-clause-steps c =
     let m = c.entries.self in
     let here = get_or_from_slice_get m.entries.now m.next c.entry_of-found.result c.entry_of-found.result c.entry_of-found.ensures in
     let has : option_eq nat_eq (get_or m.entries.now m.next c.entry_of-found.result).parent m.parent ≡ true =
-        ap (λ (e : Entry). option_eq nat_eq e.parent m.parent) here ∙ ap₂ (option_eq nat_eq) (sym c.parent.ensures) refl ∙ sym c.eq.ensures ∙ c.if-eq.true in
+    ap (λ (e : Entry). option_eq nat_eq e.parent m.parent) here ∙ ap₂ (option_eq nat_eq) (sym c.parent.ensures) refl ∙ sym c.eq.ensures ∙ c.if-eq.true in
     sym c.entries.invariant ∙ next-member m.next m.parent m.entries.now c.entry_of-found.result c.entries-test.true has
     ∙ ap (λ (ns : List ℕ). m.next ∷ ns) c.after-self.ensures
 
@@ -38,7 +38,7 @@ entries-preserved c =
     let m = c.entries.self in
     let here = get_or_from_slice_get m.entries.now m.next c.entry_of-found.result c.entry_of-found.result c.entry_of-found.ensures in
     let has : option_eq nat_eq (get_or m.entries.now m.next c.entry_of-found.result).parent m.parent ≡ false =
-        ap (λ (e : Entry). option_eq nat_eq e.parent m.parent) here ∙ ap₂ (option_eq nat_eq) (sym c.parent.ensures) refl ∙ sym c.eq.ensures ∙ c.if-eq.false in
+    ap (λ (e : Entry). option_eq nat_eq e.parent m.parent) here ∙ ap₂ (option_eq nat_eq) (sym c.parent.ensures) refl ∙ sym c.eq.ensures ∙ c.if-eq.false in
     sym (no-member m.next m.parent m.entries.now c.entry_of-found.result c.entries-test.true has) ∙ c.entries.invariant
 
 pub returns-clause-steps : goal.returns-clause-steps
