@@ -1,4 +1,4 @@
-"""How often headers are read, by callgrind's count of calls.
+"""How often headers are read, by callgrind's count of calls, and how the instructions grow that name members.
 
 The members of a SEQUENCE have the tag number 31 here, and the function `tag_number` reads such numbers, once for each
 header that is read from octets. Without valgrind nothing is counted, and the last line of the table says so; so for a
@@ -9,7 +9,7 @@ import re
 import shutil
 import tempfile
 
-from der import digits_of, sequence
+from der import digits_of, nested, sequence
 from programs import run
 
 MEMBERS = 1_000
@@ -29,6 +29,14 @@ CALLS = [
 ]
 
 
+# Values of so many members whose members are named, each value's in turn: many in one, one in another, and pairs.
+SHAPES = [
+    ("many in one", lambda number: sequence(bytes.fromhex("0500") * number)),
+    ("one in another", nested),
+    ("pairs", lambda number: sequence(sequence(bytes.fromhex("05000500")) * (number // 3))),
+]
+
+
 def calls_in(path):
     """How often callgrind saw the function called; None where it saw no such function."""
     with open(path, encoding="utf-8") as file:
@@ -40,10 +48,22 @@ def calls_in(path):
     return sum(int(times) for times in re.findall(called, text, re.MULTILINE))
 
 
+def instructions_in(path):
+    """How many instructions callgrind saw."""
+    with open(path, encoding="utf-8") as file:
+        return int(re.search(r"^totals: (\d+)$", file.read(), re.MULTILINE)[1])
+
+
+def counted(programs, counts, words, value):
+    """Runs the program under callgrind: its status and the first line that it tells."""
+    options = ["--tool=callgrind", f"--callgrind-out-file={counts}", f"--log-file={counts}.log"]
+    seen = run(shutil.which("valgrind"), [*options, programs.calls, *words], value)
+    return seen.status, seen.output.split(b"\n")[0]
+
+
 def headers_read(programs):
     """Each call reads each header from octets once, and what has an index reads none."""
-    valgrind = shutil.which("valgrind")
-    if not valgrind:
+    if not shutil.which("valgrind"):
         return "nothing counted: there is no valgrind"
     if programs.compiler != "LLVM":
         return "nothing counted: the functions have no sizes"
@@ -53,10 +73,24 @@ def headers_read(programs):
     with tempfile.TemporaryDirectory() as folder:
         counts = os.path.join(folder, "counts")
         for words, told, times in CALLS:
-            options = ["--tool=callgrind", f"--callgrind-out-file={counts}", f"--log-file={counts}.log"]
-            seen = run(valgrind, [*options, programs.calls, *words], VALUE)
-            yield f"{words} is answered", (seen.status, seen.output.split(b"\n")[0]), (0, told)
+            yield f"{words} is answered", counted(programs, counts, words, VALUE), (0, told)
             yield f"{words}, headers read", calls_in(counts), times
 
 
-TABLES = [headers_read]
+def entries_looked_at(programs):
+    """Where there are ten times as many members, naming those of each value takes at most twenty times the instructions:
+    not every entry is looked at for each of them."""
+    if not shutil.which("valgrind"):
+        return "nothing counted: there is no valgrind"
+    with tempfile.TemporaryDirectory() as folder:
+        counts = os.path.join(folder, "counts")
+        for name, shape in SHAPES:
+            instructions = []
+            for number in (999, 9_990):
+                told = (0, b"size %d" % number)
+                yield f"{number} members, {name}", counted(programs, counts, ["captured", "members"], shape(number)), told
+                instructions.append(instructions_in(counts))
+            yield f"{name}, twenty times the instructions", instructions[1] < 20 * instructions[0], True
+
+
+TABLES = [headers_read, entries_looked_at]

@@ -48,11 +48,23 @@ fn read_on(captured: &Captured) -> Outcome {
     Ok(Made::Done)
 }
 
+/// Names the members of each value by their numbers, and says how many there are.
+fn name_members(captured: &Captured) -> usize {
+    let mut count: usize = 0;
+    for number in 0..captured.headers().len() {
+        for _ in captured.members(Some(number)) {
+            count = count.wrapping_add(1);
+        }
+    }
+    count
+}
+
 /// Makes one call on captured values. `repeated` captures them as often as the word says, once at least.
 fn of_captured(alloc: Global, (call, word): (&str, &str), captured: &Captured) -> Outcome {
     let around = Sequence::new(captured);
     match call {
         "clone" => Ok(Made::Captured(captured.clone()?)),
+        "members" => Ok(Made::Size(name_members(captured))),
         "read_on" => read_on(captured),
         "repeated" => match word.parse::<u32>() {
             Ok(times) => repeated(alloc, captured, times),

@@ -32,6 +32,7 @@ pub mod LeafValueLaws
 pub mod LeafWritingLaws
 pub mod FaultKindLaws
 pub mod MemberLaws
+pub mod IndexOrderLaws
 pub mod FrontLaws
 pub mod FirstFaultLaws
 pub mod HashLaws

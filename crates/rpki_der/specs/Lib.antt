@@ -18,6 +18,7 @@ pub mod Members
 pub mod Index
 pub mod IndexParts
 pub mod IndexMembers
+pub mod IndexOrder
 pub mod MembersLeft
 pub mod Front
 pub mod NestedFault

@@ -1,21 +1,73 @@
 //! The members of captured values, by their entries in the index.
 
-ghost use Rattle.std.specs.Prelude.{◌≡◌, ◌<◌, Some, List, length, IfSome, slice_get, slice_range};
+ghost use Rattle.std.specs.Prelude.{◌≡◌, ◌+◌, ◌<◌, ℕ, ⊤, Some, None, List, length, drop, IfSome, slice_get, slice_range};
 ghost use Rattle.std.specs.List.{AllByRecursion};
 ghost use Rattle.rpki_der.specs.Index.{Entry, IsIndex, StandsAt};
-ghost use Rattle.rpki_der.specs.IndexMembers.{member_numbers, HasEntry};
-ghost use Rattle.rpki_der.specs.MembersLeft.{numbers_left};
+ghost use Rattle.rpki_der.specs.IndexMembers.{numbers_from, member_numbers, HasEntry};
+ghost use Rattle.rpki_der.specs.IndexOrder.{AreInOrder, HasEnd};
 
 use crate::captured::Captured;
 use crate::index::HeaderEntry;
+use std::alloc::AllocError;
 
-/// The numbers of the entries of the members of one value, or of the values that stand in no other, in order.
-#[derive(Clone, Debug, Drop)]
+/// The numbers of the entries of the members of one value, or of the values that stand in no other, in order. From one
+/// member it goes to the next by halving, past the entries of all that stands inside.
+#[derive(Debug, Drop)]
 pub struct Members<'a> {
     entries: &'a [HeaderEntry],
     parent: Option<usize>,
+    /// The place just past the parent's contents.
+    past: Option<usize>,
     /// The number of the first entry that was not looked at.
     next: usize,
+    ghost ordered: { AreInOrder entries.now },
+    ghost ends: { (p : ℕ) → past ≡ Some p → HasEnd parent entries.now p },
+}
+
+impl<'a> Members<'a> {
+    /// The number of the first entry after this one, of a member, that does not begin in its value.
+    fn after(&self, number: usize) -> usize
+        requires within { number < length self.now.entries.now }
+        requires member { (e : Entry) → slice_get self.now.entries.now number ≡ Some e → e.parent ≡ self.now.parent }
+        ensures { numbers_from (number + 1) self.now.parent (drop (number + 1) self.now.entries.now)
+            ≡ numbers_from result self.now.parent (drop result self.now.entries.now) }
+    {
+        let value = entry_of(self.entries, number);
+        let mut low = number + 1;
+        if !value.constructed() {
+            return low;
+        }
+        let past = value.past();
+        let mut high = self.entries.len();
+        'halves: while low < high {
+            let middle = low + (high - low) / 2;
+            let found = entry_of(self.entries, middle);
+            if found.place() < past {
+                low = middle + 1;
+            } else {
+                high = middle;
+            }
+        }
+        low
+    }
+}
+
+/// Returns a copy, which has the same members left. It never fails.
+impl<'a> Clone for Members<'a> {
+    ghost use Rattle.rpki_der.specs.MembersLeft.{numbers_left};
+
+    ghost is_clone = { λ m n. numbers_left n ≡ numbers_left m };
+
+    ghost is_infallible = { λ _. ⊤ };
+
+    fn clone(&self) -> Result<Members<'a>, AllocError> {
+        Ok(Members {
+            entries: self.entries,
+            parent: self.parent,
+            past: self.past,
+            next: self.next,
+        })
+    }
 }
 
 impl<'a> Iterator for Members<'a> {
@@ -31,10 +83,17 @@ impl<'a> Iterator for Members<'a> {
     fn next(&mut self) -> Option<usize> {
         'entries: while self.next < self.entries.len() {
             let number = self.next;
-            self.next += 1;
-            if self.entries[number].parent() == self.parent {
+            let found = entry_of(self.entries, number);
+            if let Some(past) = self.past {
+                if past <= found.place() {
+                    return None;
+                }
+            }
+            if found.parent() == self.parent {
+                self.next = self.after(number);
                 return Some(number);
             }
+            self.next += 1;
         }
         None
     }
@@ -49,6 +108,8 @@ fn entry_of(index: &[HeaderEntry], number: usize) -> HeaderEntry
 }
 
 impl Captured {
+    ghost use Rattle.rpki_der.specs.MembersLeft.{numbers_left};
+
     /// The entry of this number.
     fn entry(&self, number: usize) -> HeaderEntry
         requires { HasEntry self.now number }
@@ -70,10 +131,37 @@ impl Captured {
         // Each is below `headers().len()`.
         ensures entries { AllByRecursion (HasEntry self.now) (numbers_left result) }
     {
+        match parent {
+            None => self.outer_members(),
+            Some(number) => self.inner_members(number),
+        }
+    }
+
+    /// The numbers of the entries of the captured values themselves.
+    fn outer_members(&self) -> Members<'_>
+        ensures { (index : List Entry) × IsIndex self.now index × (numbers_left result ≡ member_numbers None index) }
+    {
         Members {
             entries: self.headers(),
-            parent,
+            parent: None,
+            past: None,
             next: 0,
+        }
+    }
+
+    /// The numbers of the entries of the members of the value whose entry has this number.
+    fn inner_members(&self, number: usize) -> Members<'_>
+        requires { HasEntry self.now number }
+        ensures { (index : List Entry) × IsIndex self.now index
+            × (numbers_left result ≡ member_numbers (Some number) index) }
+    {
+        let entries = self.headers();
+        let value = entry_of(entries, number);
+        Members {
+            entries,
+            parent: Some(number),
+            past: Some(value.past()),
+            next: number + 1,
         }
     }
 
