@@ -1,3 +1,13 @@
+-- Which lemma file answers which question.
+--
+-- Parts in order; which identifier; allocation failures: TwoPartsLaws, PartLaws, NamedLaws, MemoryLaws.
+-- Algorithms, formats, digests; their errors: AlgorithmLaws, FormatLaws, DigestLaws, AlgorithmFaultLaws.
+-- Signed data; its errors: SigningLaws, SignedLaws, EqualLaws, SignedFaultLaws.
+-- Keys and key identifiers; errors of keys: PublicKeyLaws, KeyIdentifierLaws, KeyFaultLaws.
+-- Extensions; their errors: ExtensionLaws, ExtensionIndexLaws, ExtensionFaultLaws.
+-- Names; their errors: NameLaws, OneNameLaws, NameFaultLaws, InspectionLaws, WithoutOrganizationLaws,
+--   SubjectLaws, StrictSubjectLaws.
+
 pub mod AlgorithmLaws
 pub mod TwoPartsLaws
 pub mod NamedLaws

@@ -1,3 +1,10 @@
+-- Which lemma file answers which question.
+--
+-- A part by its place; parts of signed data and of extensions; the value at the front by its header: PartLaws,
+--   SuffixLaws, FrontLaws.
+-- Parts of keys, moments of times, whole octets without allocation: KeyPlaceLaws, MomentLaws, WholeLaws.
+-- Signed data read in place: SignedReadingLaws.
+
 mod SuffixLaws
 mod PartLaws
 mod WholeLaws

@@ -1,3 +1,26 @@
+-- Which lemma file answers which question.
+--
+-- Crates above rest on ReadingLaws, LeavesLaws, ComposedLaws, InsideLaws, TriedLaws, FirstFaultLaws, EncodeLaws,
+-- WritingLaws and IntegerLaws: their names and statements stay.
+--
+-- How readings are put together, whatever the grammar: ReadingLaws, StepLaws.
+-- A leaf over its contents; a value over the reader of its contents: LeavesLaws, ComposedLaws, InsideLaws.
+-- What a reader returns where a `?` ends it: TriedLaws.
+-- The error of the leftmost part that isn't there: FirstFaultLaws.
+-- Values of a wanted tag; values by their headers: WantedLaws, ValuesLaws.
+-- The members of a value by number; the value at the front: MemberLaws, FrontLaws.
+-- Readers of a header's parts: PartReadingLaws.
+-- Headers: tag, tag number, length, all together: IdentifierLaws, TagNumberLaws, LengthLaws, HeaderLaws,
+--   HeaderReadingLaws.
+-- An error excludes the others: HeaderFaultLaws, FaultKindLaws, NestedFaultLaws, SomeFaultLaws.
+-- A walk: in the middle, at its end: WalkingLaws, WalkLaws, MembersLaws.
+-- The index: IndexingLaws, IndexReadingLaws, IndexLaws.
+-- A cursor: CursorLaws.
+-- Contents: numbers, identifiers, strings: IntegerLaws, UnsignedLaws, OidLaws, TextLaws.
+-- Digits of numbers, and that they are the shortest: DigitLaws, ShortestLaws.
+-- What is written, and that it is read back: EncodeLaws, HeaderWritingLaws, WritingLaws, LeafWritingLaws,
+--   LeafValueLaws.
+
 pub mod StepLaws
 pub mod DigitLaws
 pub mod TagNumberLaws

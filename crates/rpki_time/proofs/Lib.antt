@@ -1,3 +1,9 @@
+-- Which lemma file answers which question.
+--
+-- Serial numbers: SerialLaws, SerialReadingLaws, OctetLaws, WritingLaws.
+-- Times and validity periods: TimeLaws, TextLaws, TimeReadingLaws, TimeValueLaws, PeriodLaws, PeriodReadingLaws.
+-- What a reader returns where the octets are known: ReadBackLaws.
+
 pub mod OctetLaws
 pub mod SerialLaws
 pub mod HashLaws

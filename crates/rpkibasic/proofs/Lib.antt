@@ -1,3 +1,8 @@
+-- Which lemma file answers which question.
+--
+-- Answers, errors, words, rows: AnswerLaws, OneAnswerLaws, FaultLaws, CutLaws, WordLaws, DroppedLaws, RowLaws.
+-- Extensions read on; names inspected; what is seen of a run: ReadingLaws, InspectionLaws, SeenLaws.
+
 pub mod WordLaws
 pub mod DroppedLaws
 pub mod FaultLaws
