@@ -111,10 +111,11 @@ enum {
     RPKI_URI_OUT_OF_MEMORY = 8,      /* the layer's number, which no call here returns */
 
     /* Of single calls, which name them. */
-    RPKI_TOO_SMALL = 9,       /* the caller's array or buffer has no room */
-    RPKI_NO_ANSWER = 10,      /* there is nothing to answer: no path leads there, there is no parent */
-    RPKI_NOT_OF_PROFILE = 11, /* a name, but not of the profile */
-    RPKI_NO_PROFILE = 12,     /* no profile has this number */
+    RPKI_TOO_SMALL = 9,        /* the caller's array or buffer has no room */
+    RPKI_NO_ANSWER = 10,       /* there is nothing to answer: no path leads there, there is no parent */
+    RPKI_NOT_OF_PROFILE = 11,  /* a name, but not of the profile */
+    RPKI_NO_PROFILE = 12,      /* no profile has this number */
+    RPKI_OTHER_ALGORITHM = 13, /* an algorithm identifier, but of none of the algorithms that the call reads */
 
     /* Calls on two texts add this to the number of what is wrong with the second. */
     RPKI_SECOND = 16
@@ -334,6 +335,11 @@ rpki_status rpki_index(const uint8_t *octets, size_t size, struct rpki_entry *en
  * Signed data of the RPKI (RFC 5280 4.1): a SEQUENCE of one value, an algorithm identifier and a BIT STRING. The
  * algorithm identifier is sha256WithRSAEncryption, with NULL for parameters or with none (RFC 7935 2).
  *
+ * RPKI_OTHER_ALGORITHM: the octets are well formed as far as the algorithm identifier, and that is another one. The
+ * SEQUENCE is all there; one value begins its contents, with all that is nested in it; and what follows that is a
+ * SEQUENCE of an object identifier and perhaps one value more (RFC 5280 4.1.1.2), but not the one above. What is in
+ * that one value, and what follows the algorithm identifier, is not looked at.
+ *
  * Nothing is verified. Verify that the signature's octets sign exactly the octets of `data`, by an RSA library.
  */
 rpki_status rpki_signed_data(const uint8_t *octets, size_t size, struct rpki_signed_parts *out);
@@ -341,6 +347,10 @@ rpki_status rpki_signed_data(const uint8_t *octets, size_t size, struct rpki_sig
 /*
  * A public key, a SubjectPublicKeyInfo (RFC 5280 4.1.2.7): an algorithm identifier of RSA (rsaEncryption with NULL or
  * without parameters) or of P-256 (id-ecPublicKey with secp256r1), and a BIT STRING. The bits are not looked at.
+ *
+ * RPKI_OTHER_ALGORITHM: the SEQUENCE is all there, and its contents begin with a SEQUENCE of an object identifier and
+ * perhaps one value more (RFC 5280 4.1.1.2), but with neither of the two above: another object identifier, curve or
+ * parameters. What is in that one value, and what follows the algorithm identifier, is not looked at.
  */
 rpki_status rpki_public_key(const uint8_t *octets, size_t size, struct rpki_key_parts *out);
 

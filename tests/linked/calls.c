@@ -75,6 +75,7 @@ static const struct {
     {"URI_LONG_SEGMENTS", RPKI_URI_LONG_SEGMENTS},
     {"NO_ANSWER", RPKI_NO_ANSWER},
     {"NOT_OF_PROFILE", RPKI_NOT_OF_PROFILE},
+    {"OTHER_ALGORITHM", RPKI_OTHER_ALGORITHM},
 };
 
 static int status_of(const char *name) {

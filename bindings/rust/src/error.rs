@@ -23,6 +23,8 @@ pub enum DecodeError {
     Trailing,
     /// Allocation failed.
     OutOfMemory,
+    /// An algorithm identifier, but of none of the algorithms that are read (RFC 5280 4.1.1.2).
+    OtherAlgorithm,
 }
 
 impl DecodeError {
@@ -35,6 +37,7 @@ impl DecodeError {
             5 => DecodeError::Content,
             6 => DecodeError::Trailing,
             7 => DecodeError::OutOfMemory,
+            13 => DecodeError::OtherAlgorithm,
             _ => unreachable!("{status} is the status of no call that reads DER"),
         }
     }
@@ -50,6 +53,7 @@ impl fmt::Display for DecodeError {
             DecodeError::Content => "malformed contents",
             DecodeError::Trailing => "octets after the value",
             DecodeError::OutOfMemory => "out of memory",
+            DecodeError::OtherAlgorithm => "another algorithm",
         })
     }
 }
@@ -193,6 +197,7 @@ mod tests {
             (5, DecodeError::Content),
             (6, DecodeError::Trailing),
             (7, DecodeError::OutOfMemory),
+            (13, DecodeError::OtherAlgorithm),
         ];
         for (status, error) in decoding {
             assert_eq!(DecodeError::from_status(status), error, "{status}");

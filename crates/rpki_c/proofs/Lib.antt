@@ -3,5 +3,8 @@ mod PartLaws
 mod WholeLaws
 mod FrontLaws
 mod KeyPlaceLaws
+mod KeyStatusLaws
 mod MomentLaws
 mod SignedReadingLaws
+mod IdentifierLaws
+mod ElseLaws

@@ -3,6 +3,7 @@ pub mod Status
 pub mod Place
 pub mod Uri
 pub mod Whole
+pub mod Identifier
 pub mod Key
 pub mod Serial
 pub mod Time

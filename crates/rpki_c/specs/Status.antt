@@ -17,6 +17,10 @@ not_of_profile = 11
 abbrev pub no_profile : ℕ
 no_profile = 12
 
+-- an algorithm identifier is there, and not one of those that are read
+abbrev pub other_algorithm : ℕ
+other_algorithm = 13
+
 -- what is added to the number of an error of the second of two texts
 abbrev pub second : ℕ
 second = 16

@@ -10,6 +10,7 @@ mod digests;
 mod extensions;
 mod headers;
 mod https;
+mod identifiers;
 mod index;
 mod keys;
 mod names;

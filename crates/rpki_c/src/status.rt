@@ -12,5 +12,8 @@ pub(crate) const NOT_OF_PROFILE: u8 = 11;
 /// No profile has the number.
 pub(crate) const NO_PROFILE: u8 = 12;
 
+/// An algorithm identifier is there, and not one of those that are read.
+pub(crate) const OTHER_ALGORITHM: u8 = 13;
+
 /// What is added to the number of an error of the second of two texts.
 pub(crate) const SECOND: u8 = 16;
