@@ -113,12 +113,20 @@ enum {
     /* Of single calls, which name them. */
     RPKI_TOO_SMALL = 9,        /* the caller's array or buffer has no room */
     RPKI_NO_ANSWER = 10,       /* there is nothing to answer: no path leads there, there is no parent */
-    RPKI_NOT_OF_PROFILE = 11,  /* a name, but not of the profile */
+    RPKI_NOT_OF_PROFILE = 11,  /* no call returns it: one of the statuses 32 to 37 says which rule is broken */
     RPKI_NO_PROFILE = 12,      /* no profile has this number */
     RPKI_OTHER_ALGORITHM = 13, /* an algorithm identifier, but of none of the algorithms that the call reads */
 
     /* Calls on two texts add this to the number of what is wrong with the second. */
-    RPKI_SECOND = 16
+    RPKI_SECOND = 16,
+
+    /* Of rpki_name_inspect: the rule of the profile that the name breaks first, from the left. */
+    RPKI_MISSING_COMMON_NAME = 32,      /* no attribute is a common name, and no other rule is broken */
+    RPKI_SECOND_COMMON_NAME = 33,       /* a second common name */
+    RPKI_SECOND_SERIAL_NUMBER = 34,     /* a second serial number */
+    RPKI_SECOND_ORGANIZATION_NAME = 35, /* a second organization name */
+    RPKI_STRING_NOT_PERMITTED = 36,     /* a value that is no string of the profile, or one of another type */
+    RPKI_ATTRIBUTE_NOT_PERMITTED = 37   /* an attribute that is none of these three */
 };
 
 /* ---- Structs ---- */
@@ -363,8 +371,12 @@ rpki_status rpki_key_identifier(const uint8_t *octets, size_t size, uint8_t out[
  * do; where it is true, it has to be of the profile: one common name, at most one serial number, of the
  * strings that the profile permits, and what else docs/SPECIFICATION.md, "Names", permits.
  *
- * RPKI_NOT_OF_PROFILE: it is a name, `strict` is true, and it is not of the profile. RPKI_NO_PROFILE: `profile` is
- * another number, whatever the octets are. Else as above.
+ * RPKI_MISSING_COMMON_NAME to RPKI_ATTRIBUTE_NOT_PERMITTED: it is a name, `strict` is true, and it is not of the
+ * profile. The status is that of the first attribute, from the left, with which a rule is broken: a second one of its
+ * kind; else a string that is not permitted. Where none breaks a rule, a common name is missing. A relative
+ * distinguished name may have several attributes. RPKI_NO_PROFILE: `profile` is another number, whatever the octets
+ * are. Else as above: RPKI_CONTENT also for a name without relative distinguished names, for one of those without
+ * attributes, and for an attribute without a value.
  */
 rpki_status rpki_name_inspect(const uint8_t *octets, size_t size, uint8_t profile, bool strict);
 

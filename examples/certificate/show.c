@@ -109,8 +109,9 @@ static void print_validity(const uint8_t *octets, size_t size) {
 
 static const char *is_of(const uint8_t *octets, size_t size, uint8_t profile) {
     rpki_status status = rpki_name_inspect(octets, size, profile, true);
-    if (status != RPKI_OK && status != RPKI_NOT_OF_PROFILE) stop("name", status);
-    return status == RPKI_OK ? "yes" : "no";
+    if (status >= RPKI_MISSING_COMMON_NAME && status <= RPKI_ATTRIBUTE_NOT_PERMITTED) return "no";
+    check("name", status);
+    return "yes";
 }
 
 /* A name's first attribute, and which profiles the name is of. */

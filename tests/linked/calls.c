@@ -74,7 +74,12 @@ static const struct {
     {"URI_EMPTY_SEGMENTS", RPKI_URI_EMPTY_SEGMENTS},
     {"URI_LONG_SEGMENTS", RPKI_URI_LONG_SEGMENTS},
     {"NO_ANSWER", RPKI_NO_ANSWER},
-    {"NOT_OF_PROFILE", RPKI_NOT_OF_PROFILE},
+    {"MISSING_COMMON_NAME", RPKI_MISSING_COMMON_NAME},
+    {"SECOND_COMMON_NAME", RPKI_SECOND_COMMON_NAME},
+    {"SECOND_SERIAL_NUMBER", RPKI_SECOND_SERIAL_NUMBER},
+    {"SECOND_ORGANIZATION_NAME", RPKI_SECOND_ORGANIZATION_NAME},
+    {"STRING_NOT_PERMITTED", RPKI_STRING_NOT_PERMITTED},
+    {"ATTRIBUTE_NOT_PERMITTED", RPKI_ATTRIBUTE_NOT_PERMITTED},
     {"OTHER_ALGORITHM", RPKI_OTHER_ALGORITHM},
 };
 
@@ -669,7 +674,7 @@ static bool copies_take_little(size_t attributes) {
     name.at[3] = (uint8_t)size;
     for (place = 0; place < attributes; place++) memcpy(name.at + 4 + place * sizeof one, one, sizeof one);
     count_allocations(NONE_REFUSED);
-    well = rpki_name_inspect(name.at, name.size, RPKI_PROFILE_ROUTER, true) == RPKI_NOT_OF_PROFILE;
+    well = rpki_name_inspect(name.at, name.size, RPKI_PROFILE_ROUTER, true) == RPKI_SECOND_COMMON_NAME;
     well = is_within(1 + 5 * attributes, 4, name.size) && well;
     free(name.at);
     return well;

@@ -9,7 +9,6 @@ pub(crate) type Status = u8;
 
 pub(crate) const TOO_SMALL: Status = 9;
 pub(crate) const NO_ANSWER: Status = 10;
-pub(crate) const NOT_OF_PROFILE: Status = 11;
 pub(crate) const SECOND: Status = 16;
 pub(crate) const NO_PARENT: usize = usize::MAX;
 

@@ -172,8 +172,7 @@ fn name_inspect(octets: &[u8], words: &str) -> Given {
     if words.ends_with("strict") {
         name.inspect(profile).map_err(|error| match error {
             InspectError::Decode(error) => status(error),
-            InspectError::NotOfProfile => "NOT_OF_PROFILE".into(),
-            error => panic!("{error}"),
+            error => status(error),
         })?;
     }
     Ok(vec![])

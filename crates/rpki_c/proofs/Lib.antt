@@ -8,3 +8,4 @@ mod MomentLaws
 mod SignedReadingLaws
 mod IdentifierLaws
 mod ElseLaws
+mod NameStatusLaws
