@@ -448,6 +448,152 @@ rpki_status rpki_rsync_parent(const uint8_t *text, size_t size, size_t *out);
  */
 rpki_status rpki_https_parse(const uint8_t *text, size_t size, struct rpki_https_parts *out);
 
+/* ---- In this header alone: nothing below is in the library, and nothing below is proved ---- */
+
+/* What kind of call a status is of. */
+enum {
+    RPKI_OF_DER = 0, /* each call but those on URIs */
+    RPKI_OF_URI = 1  /* a call on URIs */
+};
+
+/*
+ * What a status says, in a few words of English: static text, of one line. `kind` is RPKI_OF_DER or RPKI_OF_URI. A
+ * status with RPKI_SECOND added has the text of that without it. "unknown status": no call of that kind returns it.
+ */
+static inline const char *rpki_status_text(int kind, rpki_status status) {
+    if (kind == RPKI_OF_URI && status > RPKI_SECOND && status <= RPKI_SECOND + RPKI_URI_OUT_OF_MEMORY) {
+        status = (rpki_status)(status - RPKI_SECOND);
+    }
+    if (kind == RPKI_OF_URI) {
+        switch (status) {
+        case RPKI_URI_INVALID_CHARACTERS: return "invalid characters";
+        case RPKI_URI_BAD_URI: return "bad URI";
+        case RPKI_URI_LONG_URI: return "URI exceeds 3072 characters";
+        case RPKI_URI_BAD_SCHEME: return "bad URI scheme";
+        case RPKI_URI_DOT_SEGMENTS: return "URI with dot path segments";
+        case RPKI_URI_EMPTY_SEGMENTS: return "URI with empty path segments";
+        case RPKI_URI_LONG_SEGMENTS: return "one or more segments are longer than 255 characters";
+        case RPKI_URI_OUT_OF_MEMORY: return "out of memory";
+        case RPKI_NO_ANSWER: return "no such path";
+        default: break;
+        }
+    } else {
+        switch (status) {
+        case RPKI_TRUNCATED: return "truncated value";
+        case RPKI_BAD_TAG: return "malformed tag";
+        case RPKI_BAD_LENGTH: return "malformed length";
+        case RPKI_UNEXPECTED: return "unexpected value";
+        case RPKI_CONTENT: return "malformed contents";
+        case RPKI_TRAILING: return "octets after the value";
+        case RPKI_OUT_OF_MEMORY: return "out of memory";
+        case RPKI_NOT_OF_PROFILE: return "name not of the profile";
+        case RPKI_NO_PROFILE: return "no such profile";
+        case RPKI_OTHER_ALGORITHM: return "another algorithm";
+        case RPKI_MISSING_COMMON_NAME: return "missing common name";
+        case RPKI_SECOND_COMMON_NAME: return "multiple common names";
+        case RPKI_SECOND_SERIAL_NUMBER: return "multiple serial numbers";
+        case RPKI_SECOND_ORGANIZATION_NAME: return "multiple organization names";
+        case RPKI_STRING_NOT_PERMITTED: return "unpermitted string in name";
+        case RPKI_ATTRIBUTE_NOT_PERMITTED: return "unpermitted attribute in name";
+        default: break;
+        }
+    }
+    if (status == RPKI_OK) return "no error";
+    return status == RPKI_TOO_SMALL ? "buffer too small" : "unknown status";
+}
+
+/* No entry: what the calls below return where there is none. */
+#define RPKI_NO_ENTRY SIZE_MAX
+
+/* The number of the first entry inside entry `number` of the `count` that rpki_index wrote, or RPKI_NO_ENTRY. */
+static inline size_t rpki_first_child(const struct rpki_entry *entries, size_t count, size_t number) {
+    return number < count && count - number > 1 && entries[number + 1].parent == number ? number + 1 : RPKI_NO_ENTRY;
+}
+
+/*
+ * The number of the next entry in the value around entry `number`, or RPKI_NO_ENTRY. It is found by halving: entries
+ * stand in order of place.
+ */
+static inline size_t rpki_next_sibling(const struct rpki_entry *entries, size_t count, size_t number) {
+    size_t low = number, high = count;
+    if (number >= count) return RPKI_NO_ENTRY;
+    while (high - low > 1) {
+        size_t middle = low + (high - low) / 2;
+        if (entries[middle].start < entries[number].end) {
+            low = middle;
+        } else {
+            high = middle;
+        }
+    }
+    return high < count && entries[high].parent == entries[number].parent ? high : RPKI_NO_ENTRY;
+}
+
+/* Where the contents of an entry's value stand. */
+static inline struct rpki_place rpki_contents(const struct rpki_entry *entry) {
+    struct rpki_place place;
+    place.start = entry->contents;
+    place.length = entry->end - entry->contents;
+    return place;
+}
+
+/* Puts a character before text[at] to text[*end - 1], of which there may be fewer than `capacity`. For rpki_oid_text. */
+static inline bool rpki_oid_insert(char *text, size_t capacity, size_t at, size_t *end, char character) {
+    size_t place;
+    if (*end >= capacity) return false;
+    for (place = *end; place > at; place--) text[place] = text[place - 1];
+    text[at] = character;
+    ++*end;
+    return true;
+}
+
+/*
+ * Writes the dotted form of an object identifier, of which these are the contents octets (X.690 8.19), with a zero
+ * after it: `2A 86 48` is "1.2.840". Arcs may have any size. `capacity` is the room at `text`; 4 * size + 3 is always
+ * enough.
+ *
+ * RPKI_TOO_SMALL: `capacity` is too small. RPKI_CONTENT: the octets are no identifier: there are none, the last one is
+ * not the last of an arc, or an arc begins with 0x80. In both cases `text` holds nothing of use.
+ */
+static inline rpki_status rpki_oid_text(const uint8_t *contents, size_t size, char *text, size_t capacity) {
+    size_t place, at = 0, end = 0; /* the arc that is read has the digits text[at] to text[end - 1] */
+    if (size == 0 || contents[size - 1] >= 0x80) return RPKI_CONTENT;
+    for (place = 0; place < size; place++) {
+        size_t digit;
+        unsigned more = contents[place] & 0x7F;
+        if (at == end && contents[place] == 0x80) return RPKI_CONTENT;
+        for (digit = end; digit > at; digit--) { /* the arc times 128, and seven bits more */
+            more += 128 * (unsigned)(text[digit - 1] - '0');
+            text[digit - 1] = (char)('0' + more % 10);
+            more /= 10;
+        }
+        for (; more > 0 || at == end; more /= 10) {
+            if (!rpki_oid_insert(text, capacity, at, &end, (char)('0' + more % 10))) return RPKI_TOO_SMALL;
+        }
+        if (contents[place] >= 0x80) continue;
+        if (at == 0) { /* the first two arcs: 40 times the first one, which is 0, 1 or 2, and the second one */
+            bool is_large = end > 2 || (end == 2 && text[0] >= '8');
+            unsigned first = is_large ? 2 : end == 2 && text[0] >= '4' ? 1 : 0;
+            if (end > 1) { /* less 40 or 80: from the tens on, with what has to be borrowed */
+                unsigned less = 4 * first;
+                for (digit = end - 1; digit > 0 && less > 0; digit--) {
+                    unsigned from = (unsigned)(text[digit - 1] - '0');
+                    text[digit - 1] = (char)('0' + (from + 10 - less) % 10);
+                    less = from < less ? 1 : 0;
+                }
+                for (; end > 1 && text[0] == '0'; end--) {
+                    for (digit = 1; digit < end; digit++) text[digit - 1] = text[digit];
+                }
+            }
+            if (!rpki_oid_insert(text, capacity, 0, &end, '.')) return RPKI_TOO_SMALL;
+            if (!rpki_oid_insert(text, capacity, 0, &end, (char)('0' + first))) return RPKI_TOO_SMALL;
+        }
+        if (end >= capacity) return RPKI_TOO_SMALL;
+        text[end] = place + 1 < size ? '.' : 0;
+        at = ++end;
+    }
+    return RPKI_OK;
+}
+
 #ifdef __cplusplus
 }
 #endif

@@ -127,6 +127,7 @@ fn errors_have_texts() {
         (DecodeError::Content, "malformed contents"),
         (DecodeError::Trailing, "octets after the value"),
         (DecodeError::OutOfMemory, "out of memory"),
+        (DecodeError::OtherAlgorithm, "another algorithm"),
     ];
     for (error, text) in decoding {
         assert_eq!(error.to_string(), text);
