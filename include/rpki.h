@@ -112,7 +112,7 @@ enum {
 
     /* Of single calls, which name them. */
     RPKI_TOO_SMALL = 9,        /* the caller's array or buffer has no room */
-    RPKI_NO_ANSWER = 10,       /* there is nothing to answer: no path leads there, there is no parent */
+    RPKI_NO_ANSWER = 10,       /* there is nothing to answer: no path leads there, no parent, no fault */
     RPKI_NOT_OF_PROFILE = 11,  /* no call returns it: one of the statuses 32 to 37 says which rule is broken */
     RPKI_NO_PROFILE = 12,      /* no profile has this number */
     RPKI_OTHER_ALGORITHM = 13, /* an algorithm identifier, but of none of the algorithms that the call reads */
@@ -329,6 +329,16 @@ rpki_status rpki_walk(const uint8_t *octets, size_t size, struct rpki_walked *ou
  */
 rpki_status rpki_index(const uint8_t *octets, size_t size, struct rpki_entry *entries, size_t capacity, size_t *count);
 
+/*
+ * Says where the value at the front of the octets goes wrong. `*at` becomes the place where the leftmost value begins
+ * that is none, itself or nested in it: there no header begins; or one does, and the contents that it announces pass
+ * the end of the value around it or of the octets. It is the place of what rpki_walk and rpki_index return, and 0 where
+ * there are no octets.
+ *
+ * RPKI_NO_ANSWER: a value begins the octets, so nothing is wrong. RPKI_OUT_OF_MEMORY as rpki_walk.
+ */
+rpki_status rpki_fault(const uint8_t *octets, size_t size, size_t *at);
+
 /* ---- Values that are all of the octets ---- */
 
 /*
@@ -486,6 +496,7 @@ static inline const char *rpki_status_text(int kind, rpki_status status) {
         case RPKI_CONTENT: return "malformed contents";
         case RPKI_TRAILING: return "octets after the value";
         case RPKI_OUT_OF_MEMORY: return "out of memory";
+        case RPKI_NO_ANSWER: return "no fault";
         case RPKI_NOT_OF_PROFILE: return "name not of the profile";
         case RPKI_NO_PROFILE: return "no such profile";
         case RPKI_OTHER_ALGORITHM: return "another algorithm";
@@ -536,7 +547,7 @@ static inline struct rpki_place rpki_contents(const struct rpki_entry *entry) {
     return place;
 }
 
-/* Puts a character before text[at] to text[*end - 1], of which there may be fewer than `capacity`. For rpki_oid_text. */
+/* For rpki_oid_text: puts a character before text[at] to text[*end - 1], where there is room for one more. */
 static inline bool rpki_oid_insert(char *text, size_t capacity, size_t at, size_t *end, char character) {
     size_t place;
     if (*end >= capacity) return false;

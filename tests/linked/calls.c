@@ -27,8 +27,8 @@ struct indexed {
     struct rpki_entry entries[ENTRIES];
 };
 
-/* How a call takes its octets: a value at the front, a value that is all of them, or texts; or it is of the header. */
-enum kind { FRONT, WHOLE, TEXTS, INLINE };
+/* How a call takes its octets: a value at the front, a value that is all of them, or texts; or none of these. */
+enum kind { FRONT, WHOLE, TEXTS, OTHER };
 
 struct call {
     const char *name;
@@ -380,6 +380,20 @@ static void tell_https(const struct octets *given, const void *out, struct shown
     tell_place("path", given, parts->path, shown);
 }
 
+static rpki_status fault(const struct octets *given, void *out) { return rpki_fault(given->at, given->size, out); }
+
+static void tell_fault(const struct octets *given, const void *out, struct shown *shown) {
+    const size_t *at = out;
+    (void)given;
+    show(shown, " | at %zu", *at);
+}
+
+/* The place is inside the octets, and a walk of them is refused. */
+static bool fault_is_walked(const struct octets *given, const void *out) {
+    struct rpki_walked walked;
+    return *(const size_t *)out <= given->size && rpki_walk(given->at, given->size, &walked) != RPKI_OK;
+}
+
 static rpki_status oid_text(const struct octets *given, void *out) {
     return rpki_oid_text(given->at, given->size, out, ROOM);
 }
@@ -434,9 +448,10 @@ static const struct call calls[] = {
     {"rsync_join", TEXTS, 2, sizeof(struct joined), false, join, tell_joined, join_capacities},
     {"rsync_parent", TEXTS, 1, sizeof(size_t), false, parent, tell_parent, NULL},
     {"https_parse", TEXTS, 1, sizeof(struct rpki_https_parts), false, https_parse, tell_https, NULL},
-    {"oid_text", INLINE, 1, ROOM, false, oid_text, tell_text, oid_capacities},
-    {"status_text der", INLINE, 1, ROOM, false, text_of_der, tell_text, NULL},
-    {"status_text uri", INLINE, 1, ROOM, false, text_of_uri, tell_text, NULL},
+    {"oid_text", OTHER, 1, ROOM, false, oid_text, tell_text, oid_capacities},
+    {"status_text der", OTHER, 1, ROOM, false, text_of_der, tell_text, NULL},
+    {"fault", OTHER, 1, sizeof(size_t), true, fault, tell_fault, fault_is_walked},
+    {"status_text uri", OTHER, 1, ROOM, false, text_of_uri, tell_text, NULL},
 };
 
 enum { CALLS = sizeof calls / sizeof calls[0] };
@@ -595,7 +610,7 @@ static bool null_input(void) {
     for (place = 0; place < CALLS; place++) {
         rpki_status expected = calls[place].kind == TEXTS ? RPKI_URI_BAD_SCHEME : RPKI_TRUNCATED;
         struct octets given[2];
-        if (calls[place].kind == INLINE) continue;
+        if (calls[place].kind == OTHER) continue;
         given[0] = given[1] = none;
         well = well && calls[place].make(given, out.at) == expected && untouched(out.at, out.size);
     }

@@ -111,6 +111,12 @@ fn walked(octets: &[u8]) -> Given {
     Ok(vec![format!("headers {}", walked.headers()), format!("size {}", walked.octets().len())])
 }
 
+fn fault_at(octets: &[u8]) -> Given {
+    let at = fault(octets).map_err(status)?.ok_or("NO_ANSWER")?;
+    assert!(walk(octets).is_err());
+    Ok(vec![format!("at {at}")])
+}
+
 fn entry(entry: Entry) -> String {
     let contents = entry.start() + entry.octets().len() - entry.contents().len();
     let parent = entry.parent().map_or("none".into(), |parent| parent.place().to_string());
@@ -295,6 +301,7 @@ fn make(call: &str, octets: &[u8], second: &[u8]) -> (Given, bool) {
         "header" => (header(octets), false),
         "walk" => (walked(octets), false),
         "index" => (indexed(octets), false),
+        "fault" => (fault_at(octets), false),
         "signed_data" => (signed_data(octets), true),
         "public_key" => (public_key(octets), true),
         "key_identifier" => (key_identifier(octets), true),

@@ -8,4 +8,5 @@ mod MomentLaws
 mod SignedReadingLaws
 mod IdentifierLaws
 mod ElseLaws
+mod FaultLaws
 mod NameStatusLaws

@@ -11,6 +11,7 @@ pub mod Names
 pub mod HttpsUri
 pub mod Header
 pub mod Walk
+pub mod Fault
 pub mod Index
 pub mod Signed
 pub mod Extension

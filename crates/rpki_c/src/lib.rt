@@ -8,6 +8,7 @@
 
 mod digests;
 mod extensions;
+mod faults;
 mod headers;
 mod https;
 mod identifiers;
