@@ -127,8 +127,8 @@ pub fn walk(octets: &[u8]) -> Result<Walked<'_>, DecodeError> {
     Ok(Walked { octets: &octets[..walked.size], headers: walked.headers })
 }
 
-/// The place where the value at the front of the octets goes wrong: where the leftmost value begins that is none, itself
-/// or nested in it, and so of what [`walk`] returns. None where a value begins the octets.
+/// The place where the value at the front of the octets goes wrong: where the leftmost value begins that is none,
+/// itself or nested in it, and so of what [`walk`] returns. None where a value begins the octets.
 ///
 /// ```
 /// // A SEQUENCE of two values, of which the second has no header.

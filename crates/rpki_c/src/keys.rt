@@ -101,8 +101,8 @@ fn places_of(octets: &[u8], key: &PublicKey) -> KeyParts
 ///
 /// The status is 0. It is 13 where the algorithm identifier is another one, whatever follows it: a SEQUENCE of an
 /// object identifier and perhaps one value, that of neither format. Else it is the number of the error. `out` is
-/// unchanged where the status is not 0. Allocation can fail only if a SEQUENCE of a format and a BIT STRING begins the octets, or with
-/// octets after it.
+/// unchanged where the status is not 0. Allocation can fail only if a SEQUENCE of a format and a BIT STRING begins the
+/// octets, or with octets after it.
 #[unsafe(no_mangle)]
 pub extern "C" fn rpki_public_key(alloc: Global, octets: &[u8], out: &mut KeyParts) -> u8
     ensures { IsKeyRead octets.now result out.old out.new }
