@@ -111,13 +111,22 @@ enum {
     RPKI_URI_OUT_OF_MEMORY = 8,      /* the layer's number, which no call here returns */
 
     /* Of single calls, which name them. */
-    RPKI_TOO_SMALL = 9,       /* the caller's array or buffer has no room */
-    RPKI_NO_ANSWER = 10,      /* there is nothing to answer: no path leads there, there is no parent */
-    RPKI_NOT_OF_PROFILE = 11, /* a name, but not of the profile */
-    RPKI_NO_PROFILE = 12,     /* no profile has this number */
+    RPKI_TOO_SMALL = 9,        /* the caller's array or buffer has no room */
+    RPKI_NO_ANSWER = 10,       /* there is nothing to answer: no path leads there, no parent, no fault */
+    RPKI_NOT_OF_PROFILE = 11,  /* no call returns it: one of the statuses 32 to 37 says which rule is broken */
+    RPKI_NO_PROFILE = 12,      /* no profile has this number */
+    RPKI_OTHER_ALGORITHM = 13, /* an algorithm identifier, but of none of the algorithms that the call reads */
 
     /* Calls on two texts add this to the number of what is wrong with the second. */
-    RPKI_SECOND = 16
+    RPKI_SECOND = 16,
+
+    /* Of rpki_name_inspect: the rule of the profile that the name breaks first, from the left. */
+    RPKI_MISSING_COMMON_NAME = 32,      /* no attribute is a common name, and no other rule is broken */
+    RPKI_SECOND_COMMON_NAME = 33,       /* a second common name */
+    RPKI_SECOND_SERIAL_NUMBER = 34,     /* a second serial number */
+    RPKI_SECOND_ORGANIZATION_NAME = 35, /* a second organization name */
+    RPKI_STRING_NOT_PERMITTED = 36,     /* a value that is no string of the profile, or one of another type */
+    RPKI_ATTRIBUTE_NOT_PERMITTED = 37   /* an attribute that is none of these three */
 };
 
 /* ---- Structs ---- */
@@ -320,6 +329,16 @@ rpki_status rpki_walk(const uint8_t *octets, size_t size, struct rpki_walked *ou
  */
 rpki_status rpki_index(const uint8_t *octets, size_t size, struct rpki_entry *entries, size_t capacity, size_t *count);
 
+/*
+ * Says where the value at the front of the octets goes wrong. `*at` becomes the place where the leftmost value begins
+ * that is none, itself or nested in it: there no header begins; or one does, and the contents that it announces pass
+ * the end of the value around it or of the octets. It is the place of what rpki_walk and rpki_index return, and 0 where
+ * there are no octets.
+ *
+ * RPKI_NO_ANSWER: a value begins the octets, so nothing is wrong. RPKI_OUT_OF_MEMORY as rpki_walk.
+ */
+rpki_status rpki_fault(const uint8_t *octets, size_t size, size_t *at);
+
 /* ---- Values that are all of the octets ---- */
 
 /*
@@ -334,6 +353,11 @@ rpki_status rpki_index(const uint8_t *octets, size_t size, struct rpki_entry *en
  * Signed data of the RPKI (RFC 5280 4.1): a SEQUENCE of one value, an algorithm identifier and a BIT STRING. The
  * algorithm identifier is sha256WithRSAEncryption, with NULL for parameters or with none (RFC 7935 2).
  *
+ * RPKI_OTHER_ALGORITHM: the octets are well formed as far as the algorithm identifier, and that is another one. The
+ * SEQUENCE is all there; one value begins its contents, with all that is nested in it; and what follows that is a
+ * SEQUENCE of an object identifier and perhaps one value more (RFC 5280 4.1.1.2), but not the one above. What is in
+ * that one value, and what follows the algorithm identifier, is not looked at.
+ *
  * Nothing is verified. Verify that the signature's octets sign exactly the octets of `data`, by an RSA library.
  */
 rpki_status rpki_signed_data(const uint8_t *octets, size_t size, struct rpki_signed_parts *out);
@@ -341,6 +365,10 @@ rpki_status rpki_signed_data(const uint8_t *octets, size_t size, struct rpki_sig
 /*
  * A public key, a SubjectPublicKeyInfo (RFC 5280 4.1.2.7): an algorithm identifier of RSA (rsaEncryption with NULL or
  * without parameters) or of P-256 (id-ecPublicKey with secp256r1), and a BIT STRING. The bits are not looked at.
+ *
+ * RPKI_OTHER_ALGORITHM: the SEQUENCE is all there, and its contents begin with a SEQUENCE of an object identifier and
+ * perhaps one value more (RFC 5280 4.1.1.2), but with neither of the two above: another object identifier, curve or
+ * parameters. What is in that one value, and what follows the algorithm identifier, is not looked at.
  */
 rpki_status rpki_public_key(const uint8_t *octets, size_t size, struct rpki_key_parts *out);
 
@@ -353,8 +381,12 @@ rpki_status rpki_key_identifier(const uint8_t *octets, size_t size, uint8_t out[
  * do; where it is true, it has to be of the profile: one common name, at most one serial number, of the
  * strings that the profile permits, and what else docs/SPECIFICATION.md, "Names", permits.
  *
- * RPKI_NOT_OF_PROFILE: it is a name, `strict` is true, and it is not of the profile. RPKI_NO_PROFILE: `profile` is
- * another number, whatever the octets are. Else as above.
+ * RPKI_MISSING_COMMON_NAME to RPKI_ATTRIBUTE_NOT_PERMITTED: it is a name, `strict` is true, and it is not of the
+ * profile. The status is that of the first attribute, from the left, with which a rule is broken: a second one of its
+ * kind; else a string that is not permitted. Where none breaks a rule, a common name is missing. A relative
+ * distinguished name may have several attributes. RPKI_NO_PROFILE: `profile` is another number, whatever the octets
+ * are. Else as above: RPKI_CONTENT also for a name without relative distinguished names, for one of those without
+ * attributes, and for an attribute without a value.
  */
 rpki_status rpki_name_inspect(const uint8_t *octets, size_t size, uint8_t profile, bool strict);
 
@@ -425,6 +457,153 @@ rpki_status rpki_rsync_parent(const uint8_t *text, size_t size, size_t *out);
  * empty. RPKI_URI_INVALID_CHARACTERS, RPKI_URI_BAD_SCHEME or RPKI_URI_BAD_URI, the first in this order.
  */
 rpki_status rpki_https_parse(const uint8_t *text, size_t size, struct rpki_https_parts *out);
+
+/* ---- In this header alone: nothing below is in the library, and nothing below is proved ---- */
+
+/* What kind of call a status is of. */
+enum {
+    RPKI_OF_DER = 0, /* each call but those on URIs */
+    RPKI_OF_URI = 1  /* a call on URIs */
+};
+
+/*
+ * What a status says, in a few words of English: static text, of one line. `kind` is RPKI_OF_DER or RPKI_OF_URI. A
+ * status with RPKI_SECOND added has the text of that without it. "unknown status": no call of that kind returns it.
+ */
+static inline const char *rpki_status_text(int kind, rpki_status status) {
+    if (kind == RPKI_OF_URI && status > RPKI_SECOND && status <= RPKI_SECOND + RPKI_URI_OUT_OF_MEMORY) {
+        status = (rpki_status)(status - RPKI_SECOND);
+    }
+    if (kind == RPKI_OF_URI) {
+        switch (status) {
+        case RPKI_URI_INVALID_CHARACTERS: return "invalid characters";
+        case RPKI_URI_BAD_URI: return "bad URI";
+        case RPKI_URI_LONG_URI: return "URI exceeds 3072 characters";
+        case RPKI_URI_BAD_SCHEME: return "bad URI scheme";
+        case RPKI_URI_DOT_SEGMENTS: return "URI with dot path segments";
+        case RPKI_URI_EMPTY_SEGMENTS: return "URI with empty path segments";
+        case RPKI_URI_LONG_SEGMENTS: return "one or more segments are longer than 255 characters";
+        case RPKI_URI_OUT_OF_MEMORY: return "out of memory";
+        case RPKI_NO_ANSWER: return "no such path";
+        default: break;
+        }
+    } else {
+        switch (status) {
+        case RPKI_TRUNCATED: return "truncated value";
+        case RPKI_BAD_TAG: return "malformed tag";
+        case RPKI_BAD_LENGTH: return "malformed length";
+        case RPKI_UNEXPECTED: return "unexpected value";
+        case RPKI_CONTENT: return "malformed contents";
+        case RPKI_TRAILING: return "octets after the value";
+        case RPKI_OUT_OF_MEMORY: return "out of memory";
+        case RPKI_NO_ANSWER: return "no fault";
+        case RPKI_NOT_OF_PROFILE: return "name not of the profile";
+        case RPKI_NO_PROFILE: return "no such profile";
+        case RPKI_OTHER_ALGORITHM: return "another algorithm";
+        case RPKI_MISSING_COMMON_NAME: return "missing common name";
+        case RPKI_SECOND_COMMON_NAME: return "multiple common names";
+        case RPKI_SECOND_SERIAL_NUMBER: return "multiple serial numbers";
+        case RPKI_SECOND_ORGANIZATION_NAME: return "multiple organization names";
+        case RPKI_STRING_NOT_PERMITTED: return "unpermitted string in name";
+        case RPKI_ATTRIBUTE_NOT_PERMITTED: return "unpermitted attribute in name";
+        default: break;
+        }
+    }
+    if (status == RPKI_OK) return "no error";
+    return status == RPKI_TOO_SMALL ? "buffer too small" : "unknown status";
+}
+
+/* No entry: what the calls below return where there is none. */
+#define RPKI_NO_ENTRY SIZE_MAX
+
+/* The number of the first entry inside entry `number` of the `count` that rpki_index wrote, or RPKI_NO_ENTRY. */
+static inline size_t rpki_first_child(const struct rpki_entry *entries, size_t count, size_t number) {
+    return number < count && count - number > 1 && entries[number + 1].parent == number ? number + 1 : RPKI_NO_ENTRY;
+}
+
+/*
+ * The number of the next entry in the value around entry `number`, or RPKI_NO_ENTRY. It is found by halving: entries
+ * stand in order of place.
+ */
+static inline size_t rpki_next_sibling(const struct rpki_entry *entries, size_t count, size_t number) {
+    size_t low = number, high = count;
+    if (number >= count) return RPKI_NO_ENTRY;
+    while (high - low > 1) {
+        size_t middle = low + (high - low) / 2;
+        if (entries[middle].start < entries[number].end) {
+            low = middle;
+        } else {
+            high = middle;
+        }
+    }
+    return high < count && entries[high].parent == entries[number].parent ? high : RPKI_NO_ENTRY;
+}
+
+/* Where the contents of an entry's value stand. */
+static inline struct rpki_place rpki_contents(const struct rpki_entry *entry) {
+    struct rpki_place place;
+    place.start = entry->contents;
+    place.length = entry->end - entry->contents;
+    return place;
+}
+
+/* For rpki_oid_text: puts a character before text[at] to text[*end - 1], where there is room for one more. */
+static inline bool rpki_oid_insert(char *text, size_t capacity, size_t at, size_t *end, char character) {
+    size_t place;
+    if (*end >= capacity) return false;
+    for (place = *end; place > at; place--) text[place] = text[place - 1];
+    text[at] = character;
+    ++*end;
+    return true;
+}
+
+/*
+ * Writes the dotted form of an object identifier, of which these are the contents octets (X.690 8.19), with a zero
+ * after it: `2A 86 48` is "1.2.840". Arcs may have any size. `capacity` is the room at `text`; 4 * size + 3 is always
+ * enough.
+ *
+ * RPKI_TOO_SMALL: `capacity` is too small. RPKI_CONTENT: the octets are no identifier: there are none, the last one is
+ * not the last of an arc, or an arc begins with 0x80. In both cases `text` holds nothing of use.
+ */
+static inline rpki_status rpki_oid_text(const uint8_t *contents, size_t size, char *text, size_t capacity) {
+    size_t place, at = 0, end = 0; /* the arc that is read has the digits text[at] to text[end - 1] */
+    if (size == 0 || contents[size - 1] >= 0x80) return RPKI_CONTENT;
+    for (place = 0; place < size; place++) {
+        size_t digit;
+        unsigned more = contents[place] & 0x7F;
+        if (at == end && contents[place] == 0x80) return RPKI_CONTENT;
+        for (digit = end; digit > at; digit--) { /* the arc times 128, and seven bits more */
+            more += 128 * (unsigned)(text[digit - 1] - '0');
+            text[digit - 1] = (char)('0' + more % 10);
+            more /= 10;
+        }
+        for (; more > 0 || at == end; more /= 10) {
+            if (!rpki_oid_insert(text, capacity, at, &end, (char)('0' + more % 10))) return RPKI_TOO_SMALL;
+        }
+        if (contents[place] >= 0x80) continue;
+        if (at == 0) { /* the first two arcs: 40 times the first one, which is 0, 1 or 2, and the second one */
+            bool is_large = end > 2 || (end == 2 && text[0] >= '8');
+            unsigned first = is_large ? 2 : end == 2 && text[0] >= '4' ? 1 : 0;
+            if (end > 1) { /* less 40 or 80: from the tens on, with what has to be borrowed */
+                unsigned less = 4 * first;
+                for (digit = end - 1; digit > 0 && less > 0; digit--) {
+                    unsigned from = (unsigned)(text[digit - 1] - '0');
+                    text[digit - 1] = (char)('0' + (from + 10 - less) % 10);
+                    less = from < less ? 1 : 0;
+                }
+                for (; end > 1 && text[0] == '0'; end--) {
+                    for (digit = 1; digit < end; digit++) text[digit - 1] = text[digit];
+                }
+            }
+            if (!rpki_oid_insert(text, capacity, 0, &end, '.')) return RPKI_TOO_SMALL;
+            if (!rpki_oid_insert(text, capacity, 0, &end, (char)('0' + first))) return RPKI_TOO_SMALL;
+        }
+        if (end >= capacity) return RPKI_TOO_SMALL;
+        text[end] = place + 1 < size ? '.' : 0;
+        at = ++end;
+    }
+    return RPKI_OK;
+}
 
 #ifdef __cplusplus
 }

@@ -21,7 +21,7 @@ struct certificate {
 };
 
 static void stop(const char *what, rpki_status status) {
-    fprintf(stderr, "%s: refused %u\n", what, status);
+    fprintf(stderr, "%s: %s\n", what, rpki_status_text(RPKI_OF_DER, status));
     exit(1);
 }
 
@@ -31,24 +31,15 @@ static void check(const char *what, rpki_status status) {
 
 /* ---- By the index ---- */
 
-/* The number of the first entry after an entry and all that is in it. */
-static size_t past(const struct certificate *it, size_t entry) {
-    size_t next = entry + 1;
-    while (next < it->count && it->entries[next].start < it->entries[entry].end) next++;
-    return next;
-}
-
-/* The next value with the same parent, or `count` where there is none. */
+/* The next value with the same parent, or RPKI_NO_ENTRY. */
 static size_t sibling(const struct certificate *it, size_t entry) {
-    size_t next = past(it, entry);
-    return next < it->count && it->entries[next].parent == it->entries[entry].parent ? next : it->count;
+    return rpki_next_sibling(it->entries, it->count, entry);
 }
 
-/* The child of this number, from 0 on, or `count` where there is none. */
+/* The child of this number, from 0 on, or RPKI_NO_ENTRY. */
 static size_t child(const struct certificate *it, size_t entry, size_t number) {
-    size_t found = entry + 1;
-    if (found >= it->count || it->entries[found].parent != entry) return it->count;
-    for (; number > 0 && found < it->count; number--) found = sibling(it, found);
+    size_t found = rpki_first_child(it->entries, it->count, entry);
+    for (; number > 0; number--) found = sibling(it, found);
     return found;
 }
 
@@ -69,7 +60,10 @@ static struct certificate opened(const char *path) {
     FILE *file = fopen(path, "rb");
     rpki_status status;
     it.octets = malloc(MOST_OCTETS);
-    if (!file || !it.octets) stop(path, RPKI_NO_ANSWER);
+    if (!file || !it.octets) {
+        fprintf(stderr, "%s: cannot be read\n", path);
+        exit(1);
+    }
     it.size = fread(it.octets, 1, MOST_OCTETS, file);
     fclose(file);
     /* How many entries there are, and then the entries. */
@@ -109,8 +103,9 @@ static void print_validity(const uint8_t *octets, size_t size) {
 
 static const char *is_of(const uint8_t *octets, size_t size, uint8_t profile) {
     rpki_status status = rpki_name_inspect(octets, size, profile, true);
-    if (status != RPKI_OK && status != RPKI_NOT_OF_PROFILE) stop("name", status);
-    return status == RPKI_OK ? "yes" : "no";
+    if (status >= RPKI_MISSING_COMMON_NAME && status <= RPKI_ATTRIBUTE_NOT_PERMITTED) return "no";
+    check("name", status);
+    return "yes";
 }
 
 /* A name's first attribute, and which profiles the name is of. */
@@ -136,23 +131,14 @@ static void print_key(const uint8_t *octets, size_t size) {
     printf("\n");
 }
 
-/* An object identifier in dotted form (X.690 8.19); arcs here are below 2^64. */
+/* An object identifier in dotted form. */
 static void print_identifier(const uint8_t *contents, size_t size) {
-    uint64_t arc = 0;
-    size_t place;
-    bool first = true;
-    for (place = 0; place < size; place++) {
-        arc = arc * 128 + (contents[place] & 0x7F);
-        if (contents[place] & 0x80) continue;
-        if (first) {
-            unsigned top = arc < 40 ? 0 : arc < 80 ? 1 : 2;
-            printf("%u.", top);
-            arc -= 40 * top;
-        }
-        printf(first ? "%" PRIu64 : ".%" PRIu64, arc);
-        first = false;
-        arc = 0;
-    }
+    size_t room = 4 * size + 3;
+    char *text = malloc(room);
+    if (!text) stop("object identifier", RPKI_OUT_OF_MEMORY);
+    check("object identifier", rpki_oid_text(contents, size, text, room));
+    printf("%s", text);
+    free(text);
 }
 
 static void print_extension(const uint8_t *octets, size_t size) {

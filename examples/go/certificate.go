@@ -72,13 +72,12 @@ func (it certificate) isContext(entry int, number C.uint32_t) bool {
 
 func isOf(name []byte, profile C.uint8_t) string {
 	at, size := front(name)
-	switch status := C.rpki_name_inspect(at, size, profile, true); status {
-	case C.RPKI_NOT_OF_PROFILE:
+	status := C.rpki_name_inspect(at, size, profile, true)
+	if status >= C.RPKI_MISSING_COMMON_NAME && status <= C.RPKI_ATTRIBUTE_NOT_PERMITTED {
 		return "no"
-	default:
-		check("name", status)
-		return "yes"
 	}
+	check("name", status)
+	return "yes"
 }
 
 func (it certificate) printName(what string, name int) {

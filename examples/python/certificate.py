@@ -7,7 +7,8 @@ import sys
 from ctypes import POINTER, Structure, byref, c_bool, c_char_p, c_int32, c_int64, c_size_t, c_uint8, c_uint32
 
 RPKI = ctypes.CDLL("librpki.so.0")
-TOO_SMALL, NOT_OF_PROFILE, CONTEXT, NO_PARENT = 9, 11, 2, ctypes.c_size_t(-1).value
+TOO_SMALL, CONTEXT, NO_PARENT = 9, 2, ctypes.c_size_t(-1).value
+NOT_OF_PROFILE = range(32, 38)  # RPKI_MISSING_COMMON_NAME to RPKI_ATTRIBUTE_NOT_PERMITTED
 
 
 def struct(name, **members):
@@ -55,7 +56,7 @@ def index(octets):
 def is_of(name, profile):
     RPKI.rpki_name_inspect.argtypes, RPKI.rpki_name_inspect.restype = [c_char_p, c_size_t, c_uint8, c_bool], c_uint8
     status = RPKI.rpki_name_inspect(name, len(name), profile, True)
-    check(0 if status == NOT_OF_PROFILE else status)
+    check(0 if status in NOT_OF_PROFILE else status)
     return "no" if status else "yes"
 
 

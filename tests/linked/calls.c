@@ -27,8 +27,8 @@ struct indexed {
     struct rpki_entry entries[ENTRIES];
 };
 
-/* How a call takes its octets: a value at the front, a value that is all of them, or texts. */
-enum kind { FRONT, WHOLE, TEXTS };
+/* How a call takes its octets: a value at the front, a value that is all of them, or texts; or none of these. */
+enum kind { FRONT, WHOLE, TEXTS, OTHER };
 
 struct call {
     const char *name;
@@ -74,7 +74,13 @@ static const struct {
     {"URI_EMPTY_SEGMENTS", RPKI_URI_EMPTY_SEGMENTS},
     {"URI_LONG_SEGMENTS", RPKI_URI_LONG_SEGMENTS},
     {"NO_ANSWER", RPKI_NO_ANSWER},
-    {"NOT_OF_PROFILE", RPKI_NOT_OF_PROFILE},
+    {"MISSING_COMMON_NAME", RPKI_MISSING_COMMON_NAME},
+    {"SECOND_COMMON_NAME", RPKI_SECOND_COMMON_NAME},
+    {"SECOND_SERIAL_NUMBER", RPKI_SECOND_SERIAL_NUMBER},
+    {"SECOND_ORGANIZATION_NAME", RPKI_SECOND_ORGANIZATION_NAME},
+    {"STRING_NOT_PERMITTED", RPKI_STRING_NOT_PERMITTED},
+    {"ATTRIBUTE_NOT_PERMITTED", RPKI_ATTRIBUTE_NOT_PERMITTED},
+    {"OTHER_ALGORITHM", RPKI_OTHER_ALGORITHM},
 };
 
 static int status_of(const char *name) {
@@ -158,11 +164,32 @@ static bool same_entry(const struct rpki_entry *one, const struct rpki_entry *ot
            one->constructed == other->constructed;
 }
 
+/* The first child and its next siblings are, one after another, the entries that name an entry their parent. */
+static bool families_agree(const struct rpki_entry *entries, size_t count) {
+    size_t place, other;
+    bool well = rpki_first_child(entries, count, count) == RPKI_NO_ENTRY;
+    well = well && rpki_next_sibling(entries, count, count) == RPKI_NO_ENTRY;
+    for (place = 0; place < count; place++) {
+        struct rpki_place contents = rpki_contents(&entries[place]);
+        size_t child = rpki_first_child(entries, count, place);
+        well = well && contents.start == entries[place].contents;
+        well = well && contents.start + contents.length == entries[place].end;
+        for (other = 0; other < count; other++) {
+            if (entries[other].parent != place) continue;
+            well = well && child == other;
+            child = rpki_next_sibling(entries, count, other);
+        }
+        well = well && child == RPKI_NO_ENTRY;
+    }
+    return well && rpki_next_sibling(entries, count, 0) == RPKI_NO_ENTRY;
+}
+
 /* With an array of exactly that many entries, and with each number fewer. */
 static bool index_capacities(const struct octets *given, const void *out) {
     const struct indexed *indexed = out;
     size_t size = sizeof(struct rpki_entry), capacity, place;
     bool well = untouched(indexed->entries + indexed->count, (ENTRIES - indexed->count) * size);
+    well = well && families_agree(indexed->entries, indexed->count);
     for (capacity = indexed->count + 1; capacity-- > 0;) {
         struct octets room = new_octets(NULL, capacity * size, FILL);
         size_t count = 77;
@@ -353,6 +380,54 @@ static void tell_https(const struct octets *given, const void *out, struct shown
     tell_place("path", given, parts->path, shown);
 }
 
+static rpki_status fault(const struct octets *given, void *out) { return rpki_fault(given->at, given->size, out); }
+
+static void tell_fault(const struct octets *given, const void *out, struct shown *shown) {
+    const size_t *at = out;
+    (void)given;
+    show(shown, " | at %zu", *at);
+}
+
+/* The place is inside the octets, and a walk of them is refused. */
+static bool fault_is_walked(const struct octets *given, const void *out) {
+    struct rpki_walked walked;
+    return *(const size_t *)out <= given->size && rpki_walk(given->at, given->size, &walked) != RPKI_OK;
+}
+
+static rpki_status oid_text(const struct octets *given, void *out) {
+    return rpki_oid_text(given->at, given->size, out, ROOM);
+}
+
+static rpki_status text_of_der(const struct octets *given, void *out) {
+    strcpy(out, rpki_status_text(RPKI_OF_DER, given->at[0]));
+    return RPKI_OK;
+}
+
+static rpki_status text_of_uri(const struct octets *given, void *out) {
+    strcpy(out, rpki_status_text(RPKI_OF_URI, given->at[0]));
+    return RPKI_OK;
+}
+
+static void tell_text(const struct octets *given, const void *out, struct shown *shown) {
+    (void)given;
+    show(shown, " | text = ");
+    show_octets(shown, out, strlen(out));
+}
+
+/* With room for exactly the text and its zero, which 4 times the octets and 3 are, and with each number fewer. */
+static bool oid_capacities(const struct octets *given, const void *out) {
+    size_t exact = strlen(out) + 1, capacity;
+    bool well = exact <= 4 * given->size + 3;
+    for (capacity = 0; capacity <= exact; capacity++) {
+        struct octets room = new_octets(NULL, capacity, FILL);
+        rpki_status status = rpki_oid_text(given->at, given->size, (char *)room.at, capacity);
+        well = well && status == (capacity < exact ? RPKI_TOO_SMALL : RPKI_OK);
+        well = well && (status != RPKI_OK || !strcmp((char *)room.at, out));
+        free(room.at);
+    }
+    return well;
+}
+
 static const struct call calls[] = {
     {"header", FRONT, 1, sizeof(struct rpki_header_parts), false, header, tell_header, NULL},
     {"walk", FRONT, 1, sizeof(struct rpki_walked), true, walk, tell_walked, NULL},
@@ -373,6 +448,10 @@ static const struct call calls[] = {
     {"rsync_join", TEXTS, 2, sizeof(struct joined), false, join, tell_joined, join_capacities},
     {"rsync_parent", TEXTS, 1, sizeof(size_t), false, parent, tell_parent, NULL},
     {"https_parse", TEXTS, 1, sizeof(struct rpki_https_parts), false, https_parse, tell_https, NULL},
+    {"oid_text", OTHER, 1, ROOM, false, oid_text, tell_text, oid_capacities},
+    {"status_text der", OTHER, 1, ROOM, false, text_of_der, tell_text, NULL},
+    {"fault", OTHER, 1, sizeof(size_t), true, fault, tell_fault, fault_is_walked},
+    {"status_text uri", OTHER, 1, ROOM, false, text_of_uri, tell_text, NULL},
 };
 
 enum { CALLS = sizeof calls / sizeof calls[0] };
@@ -531,6 +610,7 @@ static bool null_input(void) {
     for (place = 0; place < CALLS; place++) {
         rpki_status expected = calls[place].kind == TEXTS ? RPKI_URI_BAD_SCHEME : RPKI_TRUNCATED;
         struct octets given[2];
+        if (calls[place].kind == OTHER) continue;
         given[0] = given[1] = none;
         well = well && calls[place].make(given, out.at) == expected && untouched(out.at, out.size);
     }
@@ -668,7 +748,7 @@ static bool copies_take_little(size_t attributes) {
     name.at[3] = (uint8_t)size;
     for (place = 0; place < attributes; place++) memcpy(name.at + 4 + place * sizeof one, one, sizeof one);
     count_allocations(NONE_REFUSED);
-    well = rpki_name_inspect(name.at, name.size, RPKI_PROFILE_ROUTER, true) == RPKI_NOT_OF_PROFILE;
+    well = rpki_name_inspect(name.at, name.size, RPKI_PROFILE_ROUTER, true) == RPKI_SECOND_COMMON_NAME;
     well = is_within(1 + 5 * attributes, 4, name.size) && well;
     free(name.at);
     return well;
@@ -704,6 +784,35 @@ static bool takes_little(void) {
     return well;
 }
 
+/* Contents octets of no object identifier, and one with an arc of 128 bits, a UUID (X.667 6.3). */
+static bool identifiers(void) {
+    static const uint8_t none[] = {0x2A, 0x80, 0x01, 0x86};
+    static const uint8_t uuid[] = {0x69, 0x83, 0xF0, 0x9D, 0xA7, 0xEB, 0xCF, 0xDE, 0xE0, 0xC7, 0xA1, 0xA7, 0xB2, 0xC0,
+        0x94, 0x8C, 0xC8, 0xF9, 0xD7, 0x76};
+    static const char uuid_text[] = "2.25.329800735698586629295641978511506172918";
+    char text[4 * sizeof uuid + 3];
+    bool well = rpki_oid_text(none, 0, text, sizeof text) == RPKI_CONTENT;
+    well = well && rpki_oid_text(none, 2, text, sizeof text) == RPKI_CONTENT;
+    well = well && rpki_oid_text(none, 3, text, sizeof text) == RPKI_CONTENT;
+    well = well && rpki_oid_text(none + 1, 2, text, sizeof text) == RPKI_CONTENT;
+    well = well && rpki_oid_text(none, 4, text, sizeof text) == RPKI_CONTENT;
+    return well && rpki_oid_text(uuid, sizeof uuid, text, sizeof text) == RPKI_OK && !strcmp(text, uuid_text);
+}
+
+/* Each status has a text of its own, and no other number has one. */
+static bool texts_differ(int kind) {
+    unsigned one, other;
+    bool well = true;
+    for (one = 0; one < 256; one++) {
+        const char *text = rpki_status_text(kind, (rpki_status)one);
+        bool is_second = kind == RPKI_OF_URI && one > RPKI_SECOND && one <= RPKI_SECOND + RPKI_URI_OUT_OF_MEMORY;
+        for (other = 0; other < one && !is_second && strcmp(text, "unknown status"); other++) {
+            well = well && strcmp(text, rpki_status_text(kind, (rpki_status)other));
+        }
+    }
+    return well;
+}
+
 static void judge_alone(const char *name, bool well) {
     if (well) {
         passed++;
@@ -728,6 +837,8 @@ int main(int count, char **words) {
     judge_alone("the version", rpki_version() == RPKI_VERSION && RPKI_VERSION_NUMBER(1, 2, 3) == 0x010203);
     judge_alone("100,001 levels", deep());
     judge_alone("what calls allocate", takes_little());
+    judge_alone("object identifiers", identifiers());
+    judge_alone("texts of statuses", texts_differ(RPKI_OF_DER) && texts_differ(RPKI_OF_URI));
     judge_alone("refused allocations", refusals > 0);
     printf("%u rows, %zu refused allocations: %u passed, %u failed\n", rows, refusals, passed, failed);
     return failed ? 1 : 0;

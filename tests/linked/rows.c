@@ -7,7 +7,7 @@
 #include <stdlib.h>
 #include <string.h>
 
-enum { MOST_NAMES = 32, MOST_LINE = 4096 };
+enum { MOST_NAMES = 64, MOST_LINE = 4096 };
 
 /* The names of the lines `let NAME = OCTETS`. */
 static struct {

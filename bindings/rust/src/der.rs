@@ -126,3 +126,22 @@ pub fn walk(octets: &[u8]) -> Result<Walked<'_>, DecodeError> {
     let walked = ffi::walk(octets).map_err(DecodeError::from_status)?;
     Ok(Walked { octets: &octets[..walked.size], headers: walked.headers })
 }
+
+/// The place where the value at the front of the octets goes wrong: where the leftmost value begins that is none,
+/// itself or nested in it, and so of what [`walk`] returns. None where a value begins the octets.
+///
+/// ```
+/// // A SEQUENCE of two values, of which the second has no header.
+/// assert_eq!(rpki_proved::fault(b"\x30\x04\x05\x00\x1f\x1e"), Ok(Some(4)));
+/// assert_eq!(rpki_proved::fault(b"\x30\x02\x05\x00"), Ok(None));
+/// ```
+///
+/// # Errors
+/// `OutOfMemory`.
+pub fn fault(octets: &[u8]) -> Result<Option<usize>, DecodeError> {
+    match ffi::fault(octets) {
+        Ok(at) => Ok(Some(at)),
+        Err(ffi::NO_ANSWER) => Ok(None),
+        Err(status) => Err(DecodeError::from_status(status)),
+    }
+}

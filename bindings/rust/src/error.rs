@@ -23,6 +23,8 @@ pub enum DecodeError {
     Trailing,
     /// Allocation failed.
     OutOfMemory,
+    /// An algorithm identifier, but of none of the algorithms that are read (RFC 5280 4.1.1.2).
+    OtherAlgorithm,
 }
 
 impl DecodeError {
@@ -35,6 +37,7 @@ impl DecodeError {
             5 => DecodeError::Content,
             6 => DecodeError::Trailing,
             7 => DecodeError::OutOfMemory,
+            13 => DecodeError::OtherAlgorithm,
             _ => unreachable!("{status} is the status of no call that reads DER"),
         }
     }
@@ -50,6 +53,7 @@ impl fmt::Display for DecodeError {
             DecodeError::Content => "malformed contents",
             DecodeError::Trailing => "octets after the value",
             DecodeError::OutOfMemory => "out of memory",
+            DecodeError::OtherAlgorithm => "another algorithm",
         })
     }
 }
@@ -110,14 +114,38 @@ impl fmt::Display for UriError {
 
 impl Error for UriError {}
 
-/// Why a name does not pass an inspection.
+/// Why a name does not pass an inspection: the first rule that it breaks, from the left.
 #[derive(Clone, Copy, Debug, PartialEq, Eq, Hash)]
 #[non_exhaustive]
 pub enum InspectError {
     /// The octets are no name.
     Decode(DecodeError),
-    /// It is a name, but not of the profile.
-    NotOfProfile,
+    /// It has no common name, and breaks no other rule.
+    MissingCommonName,
+    /// It has a second common name.
+    SecondCommonName,
+    /// It has a second serial number.
+    SecondSerialNumber,
+    /// It has a second organization name.
+    SecondOrganizationName,
+    /// An attribute has a value that is no string of the profile.
+    StringNotPermitted,
+    /// It has an attribute that is no common name, serial number or organization name.
+    AttributeNotPermitted,
+}
+
+impl InspectError {
+    pub(crate) fn from_status(status: Status) -> InspectError {
+        match status {
+            32 => InspectError::MissingCommonName,
+            33 => InspectError::SecondCommonName,
+            34 => InspectError::SecondSerialNumber,
+            35 => InspectError::SecondOrganizationName,
+            36 => InspectError::StringNotPermitted,
+            37 => InspectError::AttributeNotPermitted,
+            status => InspectError::Decode(DecodeError::from_status(status)),
+        }
+    }
 }
 
 impl From<DecodeError> for InspectError {
@@ -130,7 +158,12 @@ impl fmt::Display for InspectError {
     fn fmt(&self, f: &mut fmt::Formatter) -> fmt::Result {
         match self {
             InspectError::Decode(error) => error.fmt(f),
-            InspectError::NotOfProfile => f.write_str("name not of the profile"),
+            InspectError::MissingCommonName => f.write_str("missing common name"),
+            InspectError::SecondCommonName => f.write_str("multiple common names"),
+            InspectError::SecondSerialNumber => f.write_str("multiple serial numbers"),
+            InspectError::SecondOrganizationName => f.write_str("multiple organization names"),
+            InspectError::StringNotPermitted => f.write_str("unpermitted string in name"),
+            InspectError::AttributeNotPermitted => f.write_str("unpermitted attribute in name"),
         }
     }
 }
@@ -139,7 +172,7 @@ impl Error for InspectError {
     fn source(&self) -> Option<&(dyn Error + 'static)> {
         match self {
             InspectError::Decode(error) => Some(error),
-            InspectError::NotOfProfile => None,
+            _ => None,
         }
     }
 }
@@ -180,7 +213,7 @@ impl Error for JoinError {
 
 #[cfg(test)]
 mod tests {
-    use super::{DecodeError, UriError};
+    use super::{DecodeError, InspectError, UriError};
 
     /// The numbers that `include/rpki.h` gives the statuses.
     #[test]
@@ -193,9 +226,22 @@ mod tests {
             (5, DecodeError::Content),
             (6, DecodeError::Trailing),
             (7, DecodeError::OutOfMemory),
+            (13, DecodeError::OtherAlgorithm),
         ];
         for (status, error) in decoding {
             assert_eq!(DecodeError::from_status(status), error, "{status}");
+        }
+        let rules = [
+            (5, InspectError::Decode(DecodeError::Content)),
+            (32, InspectError::MissingCommonName),
+            (33, InspectError::SecondCommonName),
+            (34, InspectError::SecondSerialNumber),
+            (35, InspectError::SecondOrganizationName),
+            (36, InspectError::StringNotPermitted),
+            (37, InspectError::AttributeNotPermitted),
+        ];
+        for (status, error) in rules {
+            assert_eq!(InspectError::from_status(status), error, "{status}");
         }
         let uris = [
             (1, UriError::InvalidCharacters),

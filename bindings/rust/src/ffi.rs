@@ -9,7 +9,6 @@ pub(crate) type Status = u8;
 
 pub(crate) const TOO_SMALL: Status = 9;
 pub(crate) const NO_ANSWER: Status = 10;
-pub(crate) const NOT_OF_PROFILE: Status = 11;
 pub(crate) const SECOND: Status = 16;
 pub(crate) const NO_PARENT: usize = usize::MAX;
 
@@ -134,6 +133,7 @@ extern "C" {
     fn rpki_header(octets: *const u8, size: usize, out: *mut HeaderParts) -> Status;
     fn rpki_walk(octets: *const u8, size: usize, out: *mut Walked) -> Status;
     fn rpki_index(octets: *const u8, size: usize, entries: *mut Entry, capacity: usize, count: *mut usize) -> Status;
+    fn rpki_fault(octets: *const u8, size: usize, at: *mut usize) -> Status;
     fn rpki_signed_data(octets: *const u8, size: usize, out: *mut SignedParts) -> Status;
     fn rpki_public_key(octets: *const u8, size: usize, out: *mut KeyParts) -> Status;
     fn rpki_key_identifier(octets: *const u8, size: usize, out: *mut [u8; 20]) -> Status;
@@ -200,6 +200,7 @@ macro_rules! readers {
 readers! {
     header(rpki_header) -> HeaderParts;
     walk(rpki_walk) -> Walked;
+    fault(rpki_fault) -> usize;
     signed_data(rpki_signed_data) -> SignedParts;
     public_key(rpki_public_key) -> KeyParts;
     key_identifier(rpki_key_identifier) -> [u8; 20];

@@ -37,8 +37,8 @@ impl<'a> PublicKey<'a> {
     /// Reads a public key that is all of the octets. Its bits are not looked at.
     ///
     /// # Errors
-    /// `Trailing` where octets follow a key, `Content` where the algorithm is another, `OutOfMemory`, and else why no
-    /// beginning of the octets is a key.
+    /// `OtherAlgorithm` where the algorithm identifier is well formed and another one; `Trailing` where octets follow a
+    /// key, `OutOfMemory`, and else why no beginning of the octets is a key.
     pub fn decode(octets: &'a [u8]) -> Result<PublicKey<'a>, DecodeError> {
         let found = ffi::public_key(octets).map_err(DecodeError::from_status)?;
         Ok(PublicKey {

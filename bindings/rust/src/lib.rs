@@ -37,7 +37,7 @@ mod uri;
 mod values;
 mod version;
 
-pub use der::{walk, Class, Header, Walked};
+pub use der::{fault, walk, Class, Header, Walked};
 pub use error::{DecodeError, InspectError, JoinError, UriError};
 pub use index::{Entries, Entry, Index};
 pub use keys::{KeyFormat, KeyIdentifier, PublicKey};

@@ -27,6 +27,7 @@ impl<'a> SignedData<'a> {
     /// Reads signed data that is all of the octets.
     ///
     /// # Errors
+    /// `OtherAlgorithm` where all is well formed as far as the algorithm identifier, and that is another one;
     /// `Trailing` where octets follow signed data, `OutOfMemory`, and else why no beginning of the octets is any.
     pub fn decode(octets: &'a [u8]) -> Result<SignedData<'a>, DecodeError> {
         let found = ffi::signed_data(octets).map_err(DecodeError::from_status)?;

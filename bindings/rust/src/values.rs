@@ -21,7 +21,7 @@ pub enum Profile {
 /// // One common name, A, as a UTF8String: a router's name may be that, a resource certificate's may not.
 /// let name = Name::decode(b"\x30\x0c\x31\x0a\x30\x08\x06\x03\x55\x04\x03\x0c\x01A")?;
 /// assert_eq!(name.inspect(Profile::Router), Ok(()));
-/// assert_eq!(name.inspect(Profile::Rpki), Err(InspectError::NotOfProfile));
+/// assert_eq!(name.inspect(Profile::Rpki), Err(InspectError::StringNotPermitted));
 /// # Ok::<(), rpki_proved::DecodeError>(())
 /// ```
 #[derive(Clone, Copy, Debug)]
@@ -50,12 +50,9 @@ impl<'a> Name<'a> {
     /// permits, and what else docs/SPECIFICATION.md, "Names", permits.
     ///
     /// # Errors
-    /// `NotOfProfile`, or that allocation failed.
+    /// The first rule that the name breaks, from the left, or that allocation failed.
     pub fn inspect(&self, profile: Profile) -> Result<(), InspectError> {
-        ffi::name_inspect(self.octets, profile as u8, true).map_err(|status| match status {
-            ffi::NOT_OF_PROFILE => InspectError::NotOfProfile,
-            status => InspectError::Decode(DecodeError::from_status(status)),
-        })
+        ffi::name_inspect(self.octets, profile as u8, true).map_err(InspectError::from_status)
     }
 }
 

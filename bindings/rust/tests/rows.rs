@@ -111,6 +111,12 @@ fn walked(octets: &[u8]) -> Given {
     Ok(vec![format!("headers {}", walked.headers()), format!("size {}", walked.octets().len())])
 }
 
+fn fault_at(octets: &[u8]) -> Given {
+    let at = fault(octets).map_err(status)?.ok_or("NO_ANSWER")?;
+    assert!(walk(octets).is_err());
+    Ok(vec![format!("at {at}")])
+}
+
 fn entry(entry: Entry) -> String {
     let contents = entry.start() + entry.octets().len() - entry.contents().len();
     let parent = entry.parent().map_or("none".into(), |parent| parent.place().to_string());
@@ -172,8 +178,7 @@ fn name_inspect(octets: &[u8], words: &str) -> Given {
     if words.ends_with("strict") {
         name.inspect(profile).map_err(|error| match error {
             InspectError::Decode(error) => status(error),
-            InspectError::NotOfProfile => "NOT_OF_PROFILE".into(),
-            error => panic!("{error}"),
+            error => status(error),
         })?;
     }
     Ok(vec![])
@@ -252,6 +257,43 @@ fn https_parse(octets: &[u8]) -> Given {
     Ok(vec![part("authority", octets, uri.authority().as_bytes()), part("path", octets, uri.path().as_bytes())])
 }
 
+fn oid_text(contents: &[u8]) -> Given {
+    let inner = [&[6, contents.len() as u8][..], contents, &[4, 0]].concat();
+    let octets = [&[0x30, inner.len() as u8][..], &inner].concat();
+    let extension = Extension::decode(&octets).map_err(status)?;
+    Ok(vec![format!("text = {}", hex(extension.id().to_string().as_bytes()))])
+}
+
+/// The text of the error that stands for a status; a second text's has the same.
+fn status_text(number: u8, words: &str) -> Given {
+    let text = match (words, number) {
+        ("der", 1) => DecodeError::Truncated.to_string(),
+        ("der", 2) => DecodeError::BadTag.to_string(),
+        ("der", 3) => DecodeError::BadLength.to_string(),
+        ("der", 4) => DecodeError::Unexpected.to_string(),
+        ("der", 5) => DecodeError::Content.to_string(),
+        ("der", 6) => DecodeError::Trailing.to_string(),
+        ("der", 7) => DecodeError::OutOfMemory.to_string(),
+        ("der", 13) => DecodeError::OtherAlgorithm.to_string(),
+        ("der", 32) => InspectError::MissingCommonName.to_string(),
+        ("der", 33) => InspectError::SecondCommonName.to_string(),
+        ("der", 34) => InspectError::SecondSerialNumber.to_string(),
+        ("der", 35) => InspectError::SecondOrganizationName.to_string(),
+        ("der", 36) => InspectError::StringNotPermitted.to_string(),
+        ("der", 37) => InspectError::AttributeNotPermitted.to_string(),
+        ("uri", 1) => UriError::InvalidCharacters.to_string(),
+        ("uri", 2) => UriError::BadUri.to_string(),
+        ("uri", 3 | 19) => UriError::LongUri.to_string(),
+        ("uri", 4) => UriError::BadScheme.to_string(),
+        ("uri", 5) => UriError::DotSegments.to_string(),
+        ("uri", 6) => UriError::EmptySegments.to_string(),
+        ("uri", 7) => UriError::LongSegments.to_string(),
+        ("uri", 9) => JoinError::TooSmall.to_string(),
+        _ => panic!("{words} {number} is no status"),
+    };
+    Ok(vec![format!("text = {}", hex(text.as_bytes()))])
+}
+
 /// What the call gives, and whether it reads all of the octets as one value of DER.
 fn make(call: &str, octets: &[u8], second: &[u8]) -> (Given, bool) {
     let (name, words) = call.split_once(' ').unwrap_or((call, ""));
@@ -259,6 +301,7 @@ fn make(call: &str, octets: &[u8], second: &[u8]) -> (Given, bool) {
         "header" => (header(octets), false),
         "walk" => (walked(octets), false),
         "index" => (indexed(octets), false),
+        "fault" => (fault_at(octets), false),
         "signed_data" => (signed_data(octets), true),
         "public_key" => (public_key(octets), true),
         "key_identifier" => (key_identifier(octets), true),
@@ -272,6 +315,8 @@ fn make(call: &str, octets: &[u8], second: &[u8]) -> (Given, bool) {
         "rsync_join" => (join(octets, second), false),
         "rsync_parent" => (parent(octets), false),
         "https_parse" => (https_parse(octets), false),
+        "oid_text" => (oid_text(octets), false),
+        "status_text" => (status_text(octets[0], words), false),
         _ => panic!("there is no call {call}"),
     }
 }

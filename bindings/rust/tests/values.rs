@@ -127,6 +127,7 @@ fn errors_have_texts() {
         (DecodeError::Content, "malformed contents"),
         (DecodeError::Trailing, "octets after the value"),
         (DecodeError::OutOfMemory, "out of memory"),
+        (DecodeError::OtherAlgorithm, "another algorithm"),
     ];
     for (error, text) in decoding {
         assert_eq!(error.to_string(), text);
@@ -147,8 +148,18 @@ fn errors_have_texts() {
         assert_eq!(JoinError::from(error).to_string(), text);
         assert_eq!(JoinError::from(error).source().unwrap().to_string(), text);
     }
-    assert_eq!(InspectError::NotOfProfile.to_string(), "name not of the profile");
-    assert!(InspectError::NotOfProfile.source().is_none());
+    let rules = [
+        (InspectError::MissingCommonName, "missing common name"),
+        (InspectError::SecondCommonName, "multiple common names"),
+        (InspectError::SecondSerialNumber, "multiple serial numbers"),
+        (InspectError::SecondOrganizationName, "multiple organization names"),
+        (InspectError::StringNotPermitted, "unpermitted string in name"),
+        (InspectError::AttributeNotPermitted, "unpermitted attribute in name"),
+    ];
+    for (error, text) in rules {
+        assert_eq!(error.to_string(), text);
+        assert!(error.source().is_none());
+    }
     assert_eq!(JoinError::TooSmall.to_string(), "buffer too small");
     assert!(JoinError::TooSmall.source().is_none());
 }

@@ -18,6 +18,9 @@ use Rattle.rpki.specs.Oids.{common_name, serial_number, organization_name}
 use Rattle.rpki.specs.Name.{Attribute, IsIdentifierThen, SpellsAttribute, SpellsEach, SpellsName, IsName}
 use Rattle.rpki.specs.StrictName.{has_identifier, count_of, IsKnown, IsStrict, attributes, IsNameOf}
 use Rattle.rpki.specs.Findings.{Findings, IsFound}
+use Rattle.rpki.specs.NameRule.{BreaksAt, FirstBreaks, BreaksRule}
+use Rattle.rpki.specs.declared.repository.x509.name.rule.NameRule.{NameRule}
+use Rattle.rpki.specs.declared.repository.x509.name.rule.NameRule.TheVariants.{MissingCommonName, SecondCommonName, SecondSerialNumber, SecondOrganizationName, OtherString, OtherAttribute}
 use Rattle.rpki.proofs.NameLaws.{attribute-identified}
 
 -- ---- errors of readers that allocate nothing
@@ -94,7 +97,7 @@ found-organization P x before a h none is permitted =
     found-more P x (record { common = x.common; serial = x.serial; organization = true }) before a h
     (rw common (omega arith)) (rw serial (omega arith)) (rw (none, is) refl) (inr (inr name)) permitted
 
--- ---- an attribute that no strict name has after those that were found
+-- ---- an attribute that breaks a rule after those that were found
 
 count-with : (o : List ℕ) (before rest : List Attribute) (a : Attribute) → count_of o ((before ++ a ∷ []) ++ rest) ≡ (count_of o before + cond (has_identifier o a) 1 0) + count_of o rest
 count-with o before rest a =
@@ -109,33 +112,83 @@ two-of o before rest a seen is strict =
     let again : ◌≡◌ {A = ℕ} (cond (has_identifier o a) 1 0) 1 = rw is refl in
     omega (arith, count-with o before rest a, seen, again, strict)
 
-pub second-common : (P : List ℕ → Type 0) (x : Findings) (before rest : List Attribute) (a : Attribute) → IsFound P x before → x.common ≡ true → pointwise nat_eq a.identifier common_name ≡ true
-    → IsStrict P ((before ++ a ∷ []) ++ rest) → ⊥
-second-common P x before rest a f one is strict =
-    two-of common_name before rest a (let g = rw one at f.common in g) is (let h = strict.common in omega (arith, h))
+-- the attribute is the last
+breaks-last : (P : List ℕ → Type 0) (rule : NameRule) (x : Findings) (before : List Attribute) (a : Attribute) → IsFound P x before → BreaksAt P rule before a → FirstBreaks P rule (before ++ a ∷ [])
+breaks-last P rule x before a f broken = record { before = before; attribute = a; after = []; parts = sym (append-nil (before ++ a ∷ [])); fine = (x, f); broken = broken }
 
-pub second-serial : (P : List ℕ → Type 0) (x : Findings) (before rest : List Attribute) (a : Attribute) → IsFound P x before → x.serial ≡ true → pointwise nat_eq a.identifier serial_number ≡ true
-    → IsStrict P ((before ++ a ∷ []) ++ rest) → ⊥
-second-serial P x before rest a f one is strict = two-of serial_number before rest a (let g = rw one at f.serial in g) is strict.serial
+pub second-common : (P : List ℕ → Type 0) (x : Findings) (before : List Attribute) (a : Attribute) → IsFound P x before → x.common ≡ true → pointwise nat_eq a.identifier common_name ≡ true
+    → FirstBreaks P SecondCommonName (before ++ a ∷ [])
+second-common P x before a f one is = breaks-last P SecondCommonName x before a f (let g = rw one at f.common in g, same-octets a.identifier common_name is)
 
-pub second-organization : (P : List ℕ → Type 0) (x : Findings) (before rest : List Attribute) (a : Attribute) → IsFound P x before → x.organization ≡ true → pointwise nat_eq a.identifier organization_name ≡ true
-    → IsStrict P ((before ++ a ∷ []) ++ rest) → ⊥
-second-organization P x before rest a f one is strict =
-    two-of organization_name before rest a (let g = rw one at f.organization in g) is strict.organization
+pub second-serial : (P : List ℕ → Type 0) (x : Findings) (before : List Attribute) (a : Attribute) → IsFound P x before → x.serial ≡ true → pointwise nat_eq a.identifier serial_number ≡ true
+    → FirstBreaks P SecondSerialNumber (before ++ a ∷ [])
+second-serial P x before a f one is = breaks-last P SecondSerialNumber x before a f (let g = rw one at f.serial in g, same-octets a.identifier serial_number is)
+
+pub second-organization : (P : List ℕ → Type 0) (x : Findings) (before : List Attribute) (a : Attribute) → IsFound P x before → x.organization ≡ true → pointwise nat_eq a.identifier organization_name ≡ true
+    → FirstBreaks P SecondOrganizationName (before ++ a ∷ [])
+second-organization P x before a f one is =
+    breaks-last P SecondOrganizationName x before a f (let g = rw one at f.organization in g, same-octets a.identifier organization_name is)
 
 not-of : (o : List ℕ) (a : Attribute) → pointwise nat_eq a.identifier o ≡ false → a.identifier ≡ o → ⊥
 not-of o a differs e = let same : pointwise nat_eq a.identifier o ≡ true = (pointwise_decides Decides-eqb a.identifier o).1 e in let both = sym same ∙ differs in absurd (cc)
 
-pub other-attribute : (P : List ℕ → Type 0) (before rest : List Attribute) (a : Attribute) → pointwise nat_eq a.identifier common_name ≡ false → pointwise nat_eq a.identifier serial_number ≡ false
-    → pointwise nat_eq a.identifier organization_name ≡ false → IsStrict P ((before ++ a ∷ []) ++ rest) → ⊥
-other-attribute P before rest a common serial organization strict = elim (all-with IsKnown before rest a strict.known) [
-  | inl e ↦ not-of common_name a common e
-  | inr (inl e) ↦ not-of serial_number a serial e
-  | inr (inr e) ↦ not-of organization_name a organization e
-]
+pub other-attribute : (P : List ℕ → Type 0) (x : Findings) (before : List Attribute) (a : Attribute) → IsFound P x before → pointwise nat_eq a.identifier common_name ≡ false
+    → pointwise nat_eq a.identifier serial_number ≡ false → pointwise nat_eq a.identifier organization_name ≡ false → FirstBreaks P OtherAttribute (before ++ a ∷ [])
+other-attribute P x before a f common serial organization =
+    breaks-last P OtherAttribute x before a f (λ known. elim known [
+      | inl e ↦ not-of common_name a common e
+      | inr (inl e) ↦ not-of serial_number a serial e
+      | inr (inr e) ↦ not-of organization_name a organization e
+    ])
 
-pub other-string : (P : List ℕ → Type 0) (before rest : List Attribute) (a : Attribute) → (P a.value → ⊥) → IsStrict P ((before ++ a ∷ []) ++ rest) → ⊥
-other-string P before rest a none strict = none (all-with (λ b. P b.value) before rest a strict.strings)
+pub other-common : (P : List ℕ → Type 0) (x : Findings) (before : List Attribute) (a : Attribute) → IsFound P x before → x.common ≡ false → pointwise nat_eq a.identifier common_name ≡ true → (P a.value → ⊥)
+    → FirstBreaks P OtherString (before ++ a ∷ [])
+other-common P x before a f one is none =
+    let name : a.identifier ≡ common_name = same-octets a.identifier common_name is in
+    breaks-last P OtherString x before a f (inl name, rw name (let g = rw one at f.common in g), none)
+
+pub other-serial : (P : List ℕ → Type 0) (x : Findings) (before : List Attribute) (a : Attribute) → IsFound P x before → x.serial ≡ false → pointwise nat_eq a.identifier serial_number ≡ true → (P a.value → ⊥)
+    → FirstBreaks P OtherString (before ++ a ∷ [])
+other-serial P x before a f one is none =
+    let name : a.identifier ≡ serial_number = same-octets a.identifier serial_number is in
+    breaks-last P OtherString x before a f (inr (inl name), rw name (let g = rw one at f.serial in g), none)
+
+pub other-organization : (P : List ℕ → Type 0) (x : Findings) (before : List Attribute) (a : Attribute) → IsFound P x before → x.organization ≡ false → pointwise nat_eq a.identifier organization_name ≡ true → (P a.value → ⊥)
+    → FirstBreaks P OtherString (before ++ a ∷ [])
+other-organization P x before a f one is none =
+    let name : a.identifier ≡ organization_name = same-octets a.identifier organization_name is in
+    breaks-last P OtherString x before a f (inr (inr name), rw name (let g = rw one at f.organization in g), none)
+
+-- ---- what is broken is not strict
+
+two-named : (o : List ℕ) (before rest : List Attribute) (a : Attribute) → count_of o before ≡ 1 → a.identifier ≡ o → count_of o ((before ++ a ∷ []) ++ rest) ≤ 1 → ⊥
+two-named o before rest a seen is strict = two-of o before rest a seen ((pointwise_decides Decides-eqb a.identifier o).1 is) strict
+
+breaks-not : (P : List ℕ → Type 0) (rule : NameRule) (before rest : List Attribute) (a : Attribute) → BreaksAt P rule before a → IsStrict P ((before ++ a ∷ []) ++ rest) → ⊥
+breaks-not P MissingCommonName before rest a b strict = b
+breaks-not P SecondCommonName before rest a b strict = two-named common_name before rest a b.0 b.1 (let h = strict.common in omega (arith, h))
+breaks-not P SecondSerialNumber before rest a b strict = two-named serial_number before rest a b.0 b.1 strict.serial
+breaks-not P SecondOrganizationName before rest a b strict = two-named organization_name before rest a b.0 b.1 strict.organization
+breaks-not P OtherString before rest a b strict = b.2 (all-with (λ c. P c.value) before rest a strict.strings)
+breaks-not P OtherAttribute before rest a b strict = b (all-with IsKnown before rest a strict.known)
+
+first-not : (P : List ℕ → Type 0) (rule : NameRule) (xs : List Attribute) → FirstBreaks P rule xs → IsStrict P xs → ⊥
+first-not P rule xs h strict = breaks-not P rule h.before h.after h.attribute h.broken (subst (IsStrict P) h.parts strict)
+
+pub rule-not : (P : List ℕ → Type 0) (rule : NameRule) (xs : List Attribute) → BreaksRule P rule xs → IsStrict P xs → ⊥
+rule-not P rule xs (inl h) strict = first-not P rule xs h strict
+rule-not P rule xs (inr h) strict = let none = h.1.1 in omega (arith, none, strict.common)
+
+-- and stays so, whatever follows
+more-after : (P : List ℕ → Type 0) (rule : NameRule) (xs ys : List Attribute) → FirstBreaks P rule xs → FirstBreaks P rule (xs ++ ys)
+more-after P rule xs ys h = record {
+  before = h.before;
+  attribute = h.attribute;
+  after = h.after ++ ys;
+  parts = ap (λ (l : List Attribute). l ++ ys) h.parts ∙ append_assoc (h.before ++ h.attribute ∷ []) h.after ys;
+  fine = h.fine;
+  broken = h.broken;
+}
 
 -- ---- a list of values, each of which stands for attributes
 
@@ -189,20 +242,20 @@ through-more {V} G join P x y z c m r j some t step vs h = let g = t vs h in nex
               subst (IsFound P z) (append_assoc before (join done) (join (v ∷ [])) ∙ ap (λ (l : List Attribute). before ++ l) (sym (j.more done (v ∷ [])))) (k.1 (before ++ join done) (found before f));
         }
 
-regroup : (a b d e g : List Attribute) → (a ++ (b ++ (d ++ e))) ++ g ≡ ((a ++ b) ++ d) ++ (e ++ g)
-regroup a b d e g = simp append_assoc
+regroup : (a b d e : List Attribute) → a ++ (b ++ (d ++ e)) ≡ ((a ++ b) ++ d) ++ e
+regroup a b d e = simp append_assoc
 
-pub through-refused : {V : Type 0} (G : V → List ℕ → Type 0) (join : List V → List Attribute) (P : List ℕ → Type 0) (x y : Findings) (c m : List ℕ) → IsJoin join → (m ≡ [] → ⊥) → Through G join P x y c m
-    → ((v : V) (q : List ℕ) → Spells G m v q → (before rest : List Attribute) → IsFound P y before → IsStrict P ((before ++ join (v ∷ [])) ++ rest) → ⊥)
-    → (vs : List V) → SpellsEach G vs c → (before rest : List Attribute) → IsFound P x before → IsStrict P ((before ++ join vs) ++ rest) → ⊥
-through-refused {V} G join P x y c m j some t refused vs h before rest f strict = let g = t vs h in next g.done g.todo g.split g.following (g.found before f)
+pub through-refused : {V : Type 0} (G : V → List ℕ → Type 0) (join : List V → List Attribute) (P : List ℕ → Type 0) (rule : NameRule) (x y : Findings) (c m : List ℕ) → IsJoin join → (m ≡ [] → ⊥) → Through G join P x y c m
+    → ((v : V) (q : List ℕ) → Spells G m v q → (before : List Attribute) → IsFound P y before → FirstBreaks P rule (before ++ join (v ∷ [])))
+    → (vs : List V) → SpellsEach G vs c → (before : List Attribute) → IsFound P x before → FirstBreaks P rule (before ++ join vs)
+through-refused {V} G join P rule x y c m j some t refused vs h before f = let g = t vs h in next g.done g.todo g.split g.following (g.found before f)
   where
-    next : (done todo : List V) → vs ≡ done ++ todo → SpellsEach G todo m → IsFound P y (before ++ join done) → ⊥
-    next done [] split following found = some following
+    next : (done todo : List V) → vs ≡ done ++ todo → SpellsEach G todo m → IsFound P y (before ++ join done) → FirstBreaks P rule (before ++ join vs)
+    next done [] split following found = absurd (some following)
     next done (v ∷ ws) split following found =
         let joined : join vs ≡ join done ++ (join (v ∷ []) ++ join ws) = ap join split ∙ j.more done (v ∷ ws) ∙ ap (λ (l : List Attribute). join done ++ l) (j.more (v ∷ []) ws) in
-        refused v following.0 following.1 (before ++ join done) (join ws ++ rest) found
-        (subst (IsStrict P) (ap (λ (l : List Attribute). (before ++ l) ++ rest) joined ∙ regroup before (join done) (join (v ∷ [])) (join ws) rest) strict)
+        subst (FirstBreaks P rule) (sym (ap (λ (l : List Attribute). before ++ l) joined ∙ regroup before (join done) (join (v ∷ [])) (join ws)))
+        (more-after P rule ((before ++ join done) ++ join (v ∷ [])) (join ws) (refused v following.0 following.1 (before ++ join done) found))
 
 pub through-all : {V : Type 0} (G : V → List ℕ → Type 0) (join : List V → List Attribute) (P : List ℕ → Type 0) (x y : Findings) (c m : List ℕ) → ((v : V) (q : List ℕ) → Spells G m v q → ⊥) → Through G join P x y c m
     → (vs : List V) → SpellsEach G vs c → (before : List Attribute) → IsFound P x before → IsFound P y (before ++ join vs)
@@ -238,9 +291,9 @@ these-contents t C m r c h v q g =
 pub nothing-found : (P : List ℕ → Type 0) → IsFound P (record { common = false; serial = false; organization = false }) []
 nothing-found P = record { common = refl; serial = refl; organization = refl; known = All-nil IsKnown; strings = All-nil (λ a. P a.value) }
 
-pub never-strict : (P : List ℕ → Type 0) (xs : List Attribute)
-    → ((before rest : List Attribute) → IsFound P (record { common = false; serial = false; organization = false }) before → IsStrict P ((before ++ xs) ++ rest) → ⊥) → IsStrict P xs → ⊥
-never-strict P xs h strict = h [] [] (nothing-found P) (subst (IsStrict P) (sym (append-nil xs)) strict)
+pub first-rule : (P : List ℕ → Type 0) (rule : NameRule) (xs : List Attribute)
+    → ((before : List Attribute) → IsFound P (record { common = false; serial = false; organization = false }) before → FirstBreaks P rule (before ++ xs)) → BreaksRule P rule xs
+first-rule P rule xs h = inl (h [] (nothing-found P))
 
 pub is-not : (b : Bool) → not b ≡ true → b ≡ false
 is-not true e = sym e
@@ -250,8 +303,8 @@ pub is-so : (b : Bool) → not b ≡ false → b ≡ true
 is-so true e = refl
 is-so false e = sym e
 
-pub found-nameless : (P : List ℕ → Type 0) (x : Findings) (xs : List Attribute) → IsFound P x xs → x.common ≡ false → IsStrict P xs → ⊥
-found-nameless P x xs f none strict = let g = rw none at f.common in omega (arith, g, strict.common)
+pub found-nameless : (P : List ℕ → Type 0) (x : Findings) (xs : List Attribute) → IsFound P x xs → x.common ≡ false → BreaksRule P MissingCommonName xs
+found-nameless P x xs f none = inr (refl, ((x, f), let g = rw none at f.common in g))
 
 at-most-one : (b : Bool) → cond b 1 0 ≤ 1
 at-most-one true = omega arith
@@ -268,12 +321,9 @@ found-strict P x xs f one = record {
 
 -- ---- what the public calls say
 
-pub inspected-ok : {E : Type 0} (P : List Attribute → Type 0) (q : Type 0) (octets : List ℕ) (r : Result (Unit {0}) E) → IsName octets
-    → ((parts : List (List Attribute)) → SpellsName parts octets → MatchResult r (λ u. P (attributes parts)) (λ e. P (attributes parts) → ⊥)) → IfOk r (λ u. q → IsNameOf P octets)
-inspected-ok P q octets (Ok u) n h = λ z. (n.0, n.1, h n.0 n.1)
-inspected-ok P q octets (Err e) n h = tt
-
-pub inspected-err : {E : Type 0} (P : List Attribute → Type 0) (q : Type 0) (octets : List ℕ) (r : Result (Unit {0}) E) → q
-    → ((parts : List (List Attribute)) → SpellsName parts octets → MatchResult r (λ u. P (attributes parts)) (λ e. P (attributes parts) → ⊥)) → IfErr r (λ e. q × (IsNameOf P octets → ⊥))
-inspected-err P q octets (Ok u) z h = tt
-inspected-err P q octets (Err e) z h = (z, λ g. h g.0 g.1 g.2)
+-- of a name that has been read
+pub inspected : (P : List ℕ → Type 0) (octets : List ℕ) (r : Result (Unit {0}) NameRule) → IsName octets
+    → ((parts : List (List Attribute)) → SpellsName parts octets → MatchResult r (λ u. IsStrict P (attributes parts)) (λ rule. BreaksRule P rule (attributes parts)))
+    → MatchResult r (λ u. IsNameOf (IsStrict P) octets) (λ rule. IsNameOf (BreaksRule P rule) octets)
+inspected P octets (Ok u) n h = (n.0, n.1, h n.0 n.1)
+inspected P octets (Err rule) n h = (n.0, n.1, h n.0 n.1)

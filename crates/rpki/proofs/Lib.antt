@@ -30,6 +30,7 @@ pub mod NameFaultLaws
 pub mod InspectionLaws
 pub mod WithoutOrganizationLaws
 pub mod OneNameLaws
+pub mod RuleLaws
 pub mod ExtensionLaws
 pub mod ExtensionFaultLaws
 pub mod ExtensionIndexLaws

@@ -1,9 +1,9 @@
 -- What an inspection of a name has seen, attribute by attribute.
-use Rattle.std.specs.Prelude.{◌≡◌, ℕ, Bool, List, ◌++◌, cond, Result, Ok, Err}
+use Rattle.std.specs.Prelude.{◌≡◌, ℕ, Bool, List, cond}
 use Rattle.std.specs.List.{All}
 use Rattle.rpki.specs.Oids.{common_name, serial_number, organization_name}
 use Rattle.rpki.specs.Name.{Attribute}
-use Rattle.rpki.specs.StrictName.{count_of, IsKnown, IsStrict}
+use Rattle.rpki.specs.StrictName.{count_of, IsKnown}
 
 -- whether there was a common name, a serial number, and an organization name
 pub record Findings : Type 0 where
@@ -18,10 +18,3 @@ pub record IsFound (IsPermitted : List ℕ → Type 0) (x : Findings) (xs : List
   pub organization : count_of organization_name xs ≡ cond x.organization 1 0
   pub known : All IsKnown xs
   pub strings : All (λ a. IsPermitted a.value) xs
-
--- after attributes in which x was found come these: what is found in all of them, or that they are no strict name,
--- whatever follows
-abbrev pub Finds : {X E : Type 0} → (List ℕ → Type 0) → (X → Findings) → X → List Attribute → Result X E → Type 0
-Finds P view x xs (Ok y) = (before : List Attribute) → IsFound P (view x) before → IsFound P (view y) (before ++ xs)
-Finds P view x xs (Err e) = (before rest : List Attribute) → IsFound P (view x) before
-    → IsStrict P ((before ++ xs) ++ rest) → ⊥

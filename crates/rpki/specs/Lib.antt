@@ -25,6 +25,7 @@ pub mod NameValue
 pub mod StrictName
 pub mod StrictNameWithoutOrganization
 pub mod Findings
+pub mod NameRule
 pub mod ErrorContent
 pub mod InspectionView
 pub mod UpdateFirst

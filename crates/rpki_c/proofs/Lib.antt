@@ -10,5 +10,10 @@ mod PartLaws
 mod WholeLaws
 mod FrontLaws
 mod KeyPlaceLaws
+mod KeyStatusLaws
 mod MomentLaws
 mod SignedReadingLaws
+mod IdentifierLaws
+mod ElseLaws
+mod FaultLaws
+mod NameStatusLaws

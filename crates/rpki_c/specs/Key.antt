@@ -2,18 +2,31 @@
 use Rattle.std.specs.Prelude.{◌≡◌, ◌⊎◌, ◌+◌, ℕ, List, length}
 use Rattle.sha1.specs.Sha1.{sha1}
 use Rattle.rpki_der.specs.declared.error.DecodeError.{DecodeError}
+use Rattle.rpki_der.specs.Error.{error_number}
 use Rattle.rpki_der.specs.Reading.{IsWholeFault}
 use Rattle.rpki.specs.PublicKey.{KeyParts, SpellsKey}
+use Rattle.rpki.specs.KeyFormat.{SpellsFormat}
 use Rattle.rpki.specs.KeyFault.{IsKeyFault}
 use Rattle.rpki.specs.declared.crypto.keys.PublicKeyFormat.{PublicKeyFormat}
 use Rattle.rpki.specs.declared.crypto.keys.PublicKeyFormat.TheVariants.{Rsa, EcdsaP256}
 use Rattle.rpki_c.specs.declared.keys.KeyParts.{KeyParts as Parts}
 use Rattle.rpki_c.specs.Place.{IsPlace}
+use Rattle.rpki_c.specs.Status.{other_algorithm}
+use Rattle.rpki_c.specs.Identifier.{IsOther, HoldsFirst}
 use Rattle.rpki_c.specs.Whole.{IsRefused}
 
 -- the error of a reader of one public key and of nothing else
 abbrev pub IsWholeKeyFault : List ℕ → DecodeError → Type 0
 IsWholeKeyFault = IsWholeFault SpellsKey IsKeyFault
+
+-- a SEQUENCE that begins with the identifier of another algorithm than those of the formats; whatever follows
+abbrev pub IsOtherKey : List ℕ → Type 0
+IsOtherKey = HoldsFirst (IsOther SpellsFormat)
+
+-- the number of an error of a public key, and another one where the identifier of its algorithm is another one
+abbrev pub IsKeyStatus : List ℕ → DecodeError → ℕ → Type 0
+IsKeyStatus s e status =
+    ((status ≡ other_algorithm) × IsOtherKey s) ⊎ ((status ≡ error_number e) × (IsOtherKey s → ⊥))
 
 -- how a format is passed
 abbrev pub format_number : PublicKeyFormat → ℕ
@@ -29,10 +42,13 @@ pub record HasKey (s : List ℕ) (p : Parts) : Type 0 where
   pub bits : IsPlace s p.bits key.bits.octets
   pub last : p.bits.start + p.bits.length ≡ length s
 
--- Status 0: the octets are a public key of these parts. Else the number of the error, and nothing is written.
+-- Status 0: the octets are a public key of these parts. 13: the identifier of its algorithm is another one. Else the
+-- number of the error. Only with 0 is anything written.
 abbrev pub IsKeyRead : List ℕ → ℕ → Parts → Parts → Type 0
 IsKeyRead s status old new =
-    ((status ≡ 0) × HasKey s new) ⊎ (IsRefused SpellsKey IsWholeKeyFault s status × (new ≡ old))
+    ((status ≡ 0) × HasKey s new)
+    ⊎ ((status ≡ other_algorithm) × IsOtherKey s × (new ≡ old))
+    ⊎ ((IsOtherKey s → ⊥) × IsRefused SpellsKey IsWholeKeyFault s status × (new ≡ old))
 
 -- the octets are a public key, and the twenty octets are the SHA-1 digest of its bits
 pub record HasIdentifier (s twenty : List ℕ) : Type 0 where
@@ -40,8 +56,10 @@ pub record HasIdentifier (s twenty : List ℕ) : Type 0 where
   pub spelled : SpellsKey key s
   pub digest : twenty ≡ sha1 key.bits.octets
 
--- Status 0: the octets are a public key, and its identifier was written. Else the number of the error, and nothing is
--- written.
+-- Status 0: the octets are a public key, and its identifier was written. 13: the identifier of its algorithm is another
+-- one. Else the number of the error. Only with 0 is anything written.
 abbrev pub IsIdentified : List ℕ → ℕ → List ℕ → List ℕ → Type 0
 IsIdentified s status old new =
-    ((status ≡ 0) × HasIdentifier s new) ⊎ (IsRefused SpellsKey IsWholeKeyFault s status × (new ≡ old))
+    ((status ≡ 0) × HasIdentifier s new)
+    ⊎ ((status ≡ other_algorithm) × IsOtherKey s × (new ≡ old))
+    ⊎ ((IsOtherKey s → ⊥) × IsRefused SpellsKey IsWholeKeyFault s status × (new ≡ old))

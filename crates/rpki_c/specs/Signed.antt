@@ -15,7 +15,9 @@ use Rattle.rpki.specs.SignedData.{SignedParts, IsSignedContents, SpellsSigned}
 use Rattle.rpki.specs.SignedFault.{IsThreeFault, IsThreeInsideFault}
 use Rattle.rpki_c.specs.declared.signed.SignedParts.{SignedParts as Parts}
 use Rattle.rpki_c.specs.Place.{IsPlace}
-use Rattle.rpki_c.specs.Whole.{IsRefused}
+use Rattle.rpki_c.specs.Status.{other_algorithm}
+use Rattle.rpki_c.specs.Identifier.{IsOther, HoldsFirst, FollowsValue}
+use Rattle.rpki_c.specs.Whole.{IsRefusedElse}
 
 -- signed data of the RPKI; of the algorithm it is said whether it has parameters
 abbrev pub SpellsRpki : SignedParts Bool → List ℕ → Type 0
@@ -42,6 +44,14 @@ IsSignedFault = IsThreeInsideFault (SpellsAlgorithm sha256_with_rsa_encryption) 
 abbrev pub IsWholeSignedFault : List ℕ → DecodeError → Type 0
 IsWholeSignedFault = IsWholeFault SpellsRpki IsSignedFault
 
+-- a value, and behind it the identifier of another algorithm; whatever follows
+abbrev pub AreOtherParts : List ℕ → Type 0
+AreOtherParts = FollowsValue (IsOther (SpellsAlgorithm sha256_with_rsa_encryption))
+
+-- the same in a SEQUENCE: signed data of another algorithm, as far as its identifier
+abbrev pub IsOtherSigned : List ℕ → Type 0
+IsOtherSigned = HoldsFirst AreOtherParts
+
 -- the octets are signed data: its parts stand at these places, one after another, the signature's octets last
 pub record HasSigned (s : List ℕ) (p : Parts) : Type 0 where
   pub parts : SignedParts Bool
@@ -55,8 +65,10 @@ pub record HasSigned (s : List ℕ) (p : Parts) : Type 0 where
   pub unused : p.unused ≡ spelled.spelled.signature.unused
   pub parameters : p.has_parameters ≡ parts.algorithm
 
--- Status 0: the octets are signed data with its parts at these places. Else the number of the error, and nothing is
--- written.
+-- Status 0: the octets are signed data with its parts at these places. 13: the identifier of its algorithm is another
+-- one. Else the number of the error. Only with 0 is anything written.
 abbrev pub IsSignedRead : List ℕ → ℕ → Parts → Parts → Type 0
 IsSignedRead s status old new =
-    ((status ≡ 0) × HasSigned s new) ⊎ (IsRefused SpellsRpki IsWholeSignedFault s status × (new ≡ old))
+    ((status ≡ 0) × HasSigned s new)
+    ⊎ ((status ≡ other_algorithm) × IsOtherSigned s × (new ≡ old))
+    ⊎ (IsRefusedElse IsOtherSigned SpellsRpki IsWholeSignedFault s status × (new ≡ old))

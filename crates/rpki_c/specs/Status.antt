@@ -1,5 +1,7 @@
 -- The statuses of the library itself, beside 0 and the numbers of the layer's errors.
 use Rattle.std.specs.Prelude.{ℕ}
+use Rattle.rpki.specs.declared.repository.x509.name.rule.NameRule.{NameRule}
+use Rattle.rpki.specs.declared.repository.x509.name.rule.NameRule.TheVariants.{MissingCommonName, SecondCommonName, SecondSerialNumber, SecondOrganizationName, OtherString, OtherAttribute}
 
 -- the caller's array or buffer has no room
 abbrev pub too_small : ℕ
@@ -9,13 +11,22 @@ too_small = 9
 abbrev pub no_answer : ℕ
 no_answer = 10
 
--- a name is not one of the profile
-abbrev pub not_of_profile : ℕ
-not_of_profile = 11
-
 -- no profile has the number
 abbrev pub no_profile : ℕ
 no_profile = 12
+
+-- an algorithm identifier is there, and not one of those that are read
+abbrev pub other_algorithm : ℕ
+other_algorithm = 13
+
+-- a name breaks this rule of the profile
+abbrev pub rule_number : NameRule → ℕ
+rule_number MissingCommonName = 32
+rule_number SecondCommonName = 33
+rule_number SecondSerialNumber = 34
+rule_number SecondOrganizationName = 35
+rule_number OtherString = 36
+rule_number OtherAttribute = 37
 
 -- what is added to the number of an error of the second of two texts
 abbrev pub second : ℕ

@@ -1,5 +1,5 @@
 -- What a status says of octets that were rejected.
-use Rattle.std.specs.Prelude.{◌≡◌, ℕ, List}
+use Rattle.std.specs.Prelude.{◌≡◌, ℕ, List, Result, Ok, Err, Option, Some, None}
 use Rattle.rpki_der.specs.declared.error.DecodeError.{DecodeError}
 use Rattle.rpki_der.specs.Error.{error_number}
 use Rattle.rpki_der.specs.Reading.{SpellsNothing, UnlessMemory, Refusal, IsWholeFault, TakesNoMemory}
@@ -12,6 +12,19 @@ pub record IsRefused {V : Type 0} (G : V → List ℕ → Type 0) (K : List ℕ 
   pub number : status ≡ error_number error
   pub nothing : UnlessMemory error (SpellsNothing G s)
   pub kind : K s error
+
+-- The same, and unless allocation failed they are not as O says either.
+pub record IsRefusedElse {V : Type 0} (O : List ℕ → Type 0) (G : V → List ℕ → Type 0)
+    (K : List ℕ → DecodeError → Type 0) (s : List ℕ) (status : ℕ) : Type 0 where
+  pub refused : IsRefused G K s status
+  pub other : UnlessMemory refused.error (O s → ⊥)
+
+-- A reader of the whole of s found a value of G, or None, which says that s is as O says.
+abbrev pub DecodesElse : {X V : Type 0} → (List ℕ → Type 0) → (X → V) → (V → List ℕ → Type 0)
+    → (List ℕ → DecodeError → Type 0) → List ℕ → Result (Option X) DecodeError → Type 0
+DecodesElse {X} {V} O view G K s (Ok (Some x)) = (O s → ⊥) × (G (view x) s × ((w : V) → G w s → w ≡ view x))
+DecodesElse O view G K s (Ok None) = O s
+DecodesElse O view G K s (Err e) = UnlessMemory e (O s → ⊥) × (UnlessMemory e (SpellsNothing G s) × K s e)
 
 -- The same where the value at the front was read.
 pub record IsFrontRefused {V : Type 0} (G : V → List ℕ → Type 0) (K : List ℕ → DecodeError → Type 0)

@@ -1,12 +1,16 @@
 //! Public keys.
 
-ghost use Rattle.std.specs.Prelude.{◌≡◌, ◌≤◌, ◌<◌, ◌-◌, length};
+ghost use Rattle.std.specs.Prelude.{◌≡◌, ◌↔◌, ◌≤◌, ◌<◌, ◌-◌, IsTrue, length};
 ghost use Rattle.rpki_der.specs.Reading.{Decodes};
 ghost use Rattle.rpki.specs.PublicKey.{SpellsKey};
-ghost use Rattle.rpki_c.specs.Key.{IsWholeKeyFault, format_number, HasKey, IsKeyRead, HasIdentifier, IsIdentified};
+ghost use Rattle.rpki.specs.KeyFormat.{SpellsFormat};
+ghost use Rattle.rpki_c.specs.Identifier.{IsOther};
+ghost use Rattle.rpki_c.specs.Key.{IsWholeKeyFault, IsOtherKey, IsKeyStatus, format_number, HasKey, IsKeyRead, HasIdentifier, IsIdentified};
 
 use crate::digests::Digests;
+use crate::identifiers::begins_with_identifier;
 use crate::place::Place;
+use crate::status::OTHER_ALGORITHM;
 use rpki::crypto::{PublicKey, PublicKeyFormat};
 use rpki_der::{Constructed, DecodeError};
 use std::alloc::Global;
@@ -43,6 +47,39 @@ fn read_key(alloc: Global, octets: &[u8]) -> Result<PublicKey, DecodeError>
     Ok(key)
 }
 
+/// Whether the identifier of another algorithm than those of the formats begins the octets. Allocates nothing.
+fn is_other_format(octets: &[u8]) -> bool
+    ensures { IsTrue result ↔ IsOther SpellsFormat octets.now }
+{
+    let mut cons = Constructed::from_slice(octets);
+    match PublicKeyFormat::take_from(&mut cons) {
+        Ok(_) => false,
+        Err(_) => begins_with_identifier(octets),
+    }
+}
+
+/// Whether it begins the contents of a SEQUENCE at the front of the octets.
+fn is_other_key(octets: &[u8]) -> bool
+    ensures { IsTrue result ↔ IsOtherKey octets.now }
+{
+    let mut cons = Constructed::from_slice(octets);
+    match cons.take_sequence() {
+        Ok(contents) => is_other_format(contents.rest()),
+        Err(_) => false,
+    }
+}
+
+/// The status of octets that were rejected with this error.
+fn key_status(octets: &[u8], e: DecodeError) -> u8
+    ensures { IsKeyStatus octets.now e result }
+{
+    if is_other_key(octets) {
+        OTHER_ALGORITHM
+    } else {
+        e.number()
+    }
+}
+
 /// The parts of the key that the octets are.
 fn places_of(octets: &[u8], key: &PublicKey) -> KeyParts
     requires { SpellsKey key.now octets.now }
@@ -62,8 +99,10 @@ fn places_of(octets: &[u8], key: &PublicKey) -> KeyParts
 
 /// Reads a public key (SubjectPublicKeyInfo, RFC 5280 4.1), and says what its parts are and where its bits stand.
 ///
-/// The status is 0, or the number of the error; then `out` is unchanged. Allocation can fail only if a SEQUENCE of a
-/// format and a BIT STRING begins the octets, or with octets after it.
+/// The status is 0. It is 13 where the algorithm identifier is another one, whatever follows it: a SEQUENCE of an
+/// object identifier and perhaps one value, that of neither format. Else it is the number of the error. `out` is
+/// unchanged where the status is not 0. Allocation can fail only if a SEQUENCE of a format and a BIT STRING begins the
+/// octets, or with octets after it.
 #[unsafe(no_mangle)]
 pub extern "C" fn rpki_public_key(alloc: Global, octets: &[u8], out: &mut KeyParts) -> u8
     ensures { IsKeyRead octets.now result out.old out.new }
@@ -73,7 +112,7 @@ pub extern "C" fn rpki_public_key(alloc: Global, octets: &[u8], out: &mut KeyPar
             *out = places_of(octets, &key);
             0
         }
-        Err(e) => e.number(),
+        Err(e) => key_status(octets, e),
     }
 }
 
@@ -89,6 +128,6 @@ pub extern "C" fn rpki_key_identifier(alloc: Global, octets: &[u8], out: &mut [u
             *out = <[u8; 20]>::from(key.key_identifier(&Digests));
             0
         }
-        Err(e) => e.number(),
+        Err(e) => key_status(octets, e),
     }
 }

@@ -8,8 +8,10 @@
 
 mod digests;
 mod extensions;
+mod faults;
 mod headers;
 mod https;
+mod identifiers;
 mod index;
 mod keys;
 mod names;

@@ -1,13 +1,16 @@
 //! Names.
 
-ghost use Rattle.std.specs.Prelude.{◌≡◌, ◌<◌, true, IfOk, IfErr, IsTrue};
+ghost use Rattle.std.specs.Prelude.{◌≡◌, ◌<◌, true, IfOk, IfErr, IsTrue, MatchResult};
 ghost use Rattle.rpki_der.specs.Reading.{SpellsNothing, UnlessMemory};
 ghost use Rattle.rpki.specs.Name.{IsName, SpellsNameOctets};
-ghost use Rattle.rpki_c.specs.Names.{IsOfProfile, IsWholeNameFault, IsInspected};
+ghost use Rattle.rpki_c.specs.Status.{rule_number};
+ghost use Rattle.rpki_c.specs.Names.{IsOfProfile, BreaksProfile, IsWholeNameFault, IsInspected};
 
-use crate::status::{NO_PROFILE, NOT_OF_PROFILE};
-use rpki::repository::error::InspectionError;
-use rpki::repository::x509::Name;
+use crate::status::{
+    ATTRIBUTE_NOT_PERMITTED, MISSING_COMMON_NAME, NO_PROFILE, SECOND_COMMON_NAME,
+    SECOND_ORGANIZATION_NAME, SECOND_SERIAL_NUMBER, STRING_NOT_PERMITTED,
+};
+use rpki::repository::x509::{Name, NameRule};
 use rpki_der::{Constructed, DecodeError};
 use std::alloc::Global;
 
@@ -23,24 +26,37 @@ fn read_name(alloc: Global, octets: &[u8]) -> Result<Name, DecodeError>
     Ok(name)
 }
 
-/// Tests the name by the profile of this number.
-fn inspect(name: &Name, profile: u8, strict: bool) -> Result<(), InspectionError>
+/// How a rule is passed.
+fn rule_number(rule: NameRule) -> u8
+    ensures { result ≡ rule_number rule }
+{
+    match rule {
+        NameRule::MissingCommonName => MISSING_COMMON_NAME,
+        NameRule::SecondCommonName => SECOND_COMMON_NAME,
+        NameRule::SecondSerialNumber => SECOND_SERIAL_NUMBER,
+        NameRule::SecondOrganizationName => SECOND_ORGANIZATION_NAME,
+        NameRule::OtherString => STRING_NOT_PERMITTED,
+        NameRule::OtherAttribute => ATTRIBUTE_NOT_PERMITTED,
+    }
+}
+
+/// Tests the name by the profile of this number; returns the rule that it breaks first.
+fn inspect(name: &Name, profile: u8) -> Result<(), NameRule>
     requires { profile < 2 }
-    ensures ok { IfOk result (λ _. IsTrue strict → IsOfProfile profile name.now) }
-    ensures err { IfErr result (λ _. IsTrue strict × (IsOfProfile profile name.now → ⊥)) }
+    ensures { MatchResult result (λ _. IsOfProfile profile name.now) (λ rule. BreaksProfile profile rule name.now) }
 {
     match profile {
-        0 => name.inspect_rpki(strict),
-        _ => name.inspect_router(strict),
+        0 => name.test_rpki(),
+        _ => name.test_router(),
     }
 }
 
 /// Reads a name (RFC 5280 4.1.2.4), and tests it by the profile of this number: 0 is that of the RPKI (RFC 6487 4.4),
 /// 1 that of routers (RFC 8209 3.1.1).
 ///
-/// The status is 0; 11 where the name is not of the profile, and `strict` is true; 12 for another number of a profile,
-/// before the octets are looked at; else the number of the error. Allocation can fail only if an attribute with a value
-/// is there.
+/// The status is 0; 32 to 37 where the name is not of the profile, and `strict` is true, by the rule that it breaks
+/// first, from the left; 12 for another number of a profile, before the octets are looked at; else the number of the
+/// error. Allocation can fail only if an attribute with a value is there.
 #[unsafe(no_mangle)]
 pub extern "C" fn rpki_name_inspect(alloc: Global, octets: &[u8], profile: u8, strict: bool) -> u8
     ensures { IsInspected octets.now profile strict result }
@@ -48,11 +64,15 @@ pub extern "C" fn rpki_name_inspect(alloc: Global, octets: &[u8], profile: u8, s
     if profile > 1 {
         return NO_PROFILE;
     }
-    match read_name(alloc, octets) {
-        Ok(name) => match inspect(&name, profile, strict) {
-            Ok(()) => 0,
-            Err(_) => NOT_OF_PROFILE,
-        },
-        Err(e) => e.number(),
+    let name = match read_name(alloc, octets) {
+        Ok(name) => name,
+        Err(e) => return e.number(),
+    };
+    if !strict {
+        return 0;
+    }
+    match inspect(&name, profile) {
+        Ok(()) => 0,
+        Err(rule) => rule_number(rule),
     }
 }

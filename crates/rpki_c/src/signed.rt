@@ -3,15 +3,18 @@
 ghost use Rattle.std.specs.Prelude.{◌≡◌, false};
 ghost use Rattle.rpki_der.specs.Cursor.{left};
 ghost use Rattle.rpki_der.specs.TagName.{bit_string};
-ghost use Rattle.rpki_der.specs.Reading.{Reads, Decodes};
+ghost use Rattle.rpki_der.specs.Reading.{Reads};
 ghost use Rattle.rpki_der.specs.Values.{IsLeafFault};
 ghost use Rattle.rpki_der.specs.Leaves.{IsBits};
 ghost use Rattle.rpki.specs.Oids.{sha256_with_rsa_encryption};
 ghost use Rattle.rpki.specs.Algorithm.{SpellsAlgorithm};
 ghost use Rattle.rpki.specs.SignedData.{parts_of, SpellsSignature, IsSignedContents};
-ghost use Rattle.rpki_c.specs.Signed.{SpellsRpki, IsAllPartsFault, IsWholeSignedFault, HasSigned, IsSignedRead};
+ghost use Rattle.rpki_c.specs.Whole.{DecodesElse};
+ghost use Rattle.rpki_c.specs.Signed.{SpellsRpki, AreOtherParts, IsOtherSigned, IsAllPartsFault, IsWholeSignedFault, HasSigned, IsSignedRead};
 
+use crate::identifiers::begins_with_identifier;
 use crate::place::{Place, contents_of};
+use crate::status::OTHER_ALGORITHM;
 use rpki::crypto::{RpkiSignatureAlgorithm, SignatureAlgorithm};
 use rpki_der::{BitString, Constructed, ContentError, DecodeError, Steps, Tag, walk_octets};
 use std::alloc::Global;
@@ -52,15 +55,15 @@ fn take_signature<'a>(cons: &mut Constructed<'a>) -> Result<&'a [u8], DecodeErro
 }
 
 /// The parts that are all of these contents: the value that is signed, whether the algorithm has parameters, and the
-/// octets of the signature.
+/// octets of the signature. None where the algorithm identifier behind the value is another one.
 ///
 /// The errors are those of the parts; then `Trailing`. Allocation can fail only if a constructed value begins the
 /// contents.
 fn read_parts<'a>(
     alloc: Global,
     contents: &'a [u8],
-) -> Result<(&'a [u8], bool, &'a [u8]), DecodeError>
-    ensures { Decodes (λ x. parts_of x.0.now x.1 x.2.now)
+) -> Result<Option<(&'a [u8], bool, &'a [u8])>, DecodeError>
+    ensures { DecodesElse AreOtherParts (λ x. parts_of x.0.now x.1 x.2.now)
         (IsSignedContents (SpellsAlgorithm sha256_with_rsa_encryption)) IsAllPartsFault contents.now result }
 {
     let size = walk_octets(alloc, contents, &mut Steps::new())?;
@@ -68,25 +71,34 @@ fn read_parts<'a>(
     let mut rest = Constructed::from_slice(following);
     let algorithm = match RpkiSignatureAlgorithm::x509_take_from(&mut rest) {
         Ok(algorithm) => algorithm,
-        Err(e) => return Err(e),
+        Err(e) => {
+            if begins_with_identifier(following) {
+                return Ok(None);
+            }
+            return Err(e);
+        }
     };
     let value = take_signature(&mut rest)?;
     rest.finish()?;
-    Ok((data, algorithm.has_parameters(), value))
+    Ok(Some((data, algorithm.has_parameters(), value)))
 }
 
-/// The parts of signed data by an algorithm of the RPKI, and of nothing else, as they stand in the octets.
+/// The parts of signed data by an algorithm of the RPKI, and of nothing else, as they stand in the octets. None where
+/// the algorithm identifier is another one.
 fn read_signed<'a>(
     alloc: Global,
     octets: &'a [u8],
-) -> Result<(&'a [u8], bool, &'a [u8]), DecodeError>
-    ensures { Decodes (λ x. parts_of x.0.now x.1 x.2.now) SpellsRpki IsWholeSignedFault octets.now result }
+) -> Result<Option<(&'a [u8], bool, &'a [u8])>, DecodeError>
+    ensures { DecodesElse IsOtherSigned (λ x. parts_of x.0.now x.1 x.2.now) SpellsRpki IsWholeSignedFault
+        octets.now result }
 {
     let mut cons = Constructed::from_slice(octets);
     let contents = cons.take_sequence()?;
-    let found = read_parts(alloc, contents.rest())?;
+    let Some(found) = read_parts(alloc, contents.rest())? else {
+        return Ok(None);
+    };
     cons.finish()?;
-    Ok(found)
+    Ok(Some(found))
 }
 
 /// Where the parts of the signed data stand that the octets are.
@@ -120,17 +132,20 @@ fn places_of(octets: &[u8], signed: &[u8], has_parameters: bool, signature: &[u8
 
 /// Reads signed data of the RPKI (RFC 5280 4.1, RFC 7935 2), and says where its parts stand.
 ///
-/// The status is 0, or the number of the error; then `out` is unchanged. Allocation can fail only if a constructed
+/// The status is 0. It is 13 where the algorithm identifier behind the value that is signed is another one, whatever
+/// follows it: a SEQUENCE of an object identifier and perhaps one value, but not that of RSA with SHA-256. Else it is
+/// the number of the error. `out` is unchanged where the status is not 0. Allocation can fail only if a constructed
 /// value begins the contents of the SEQUENCE.
 #[unsafe(no_mangle)]
 pub extern "C" fn rpki_signed_data(alloc: Global, octets: &[u8], out: &mut SignedParts) -> u8
     ensures { IsSignedRead octets.now result out.old out.new }
 {
     match read_signed(alloc, octets) {
-        Ok((signed, has_parameters, signature)) => {
+        Ok(Some((signed, has_parameters, signature))) => {
             *out = places_of(octets, signed, has_parameters, signature);
             0
         }
+        Ok(None) => OTHER_ALGORITHM,
         Err(e) => e.number(),
     }
 }

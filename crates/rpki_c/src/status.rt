@@ -6,11 +6,29 @@ pub(crate) const TOO_SMALL: u8 = 9;
 /// What is asked for doesn't exist.
 pub(crate) const NO_ANSWER: u8 = 10;
 
-/// A name is not one of the profile.
-pub(crate) const NOT_OF_PROFILE: u8 = 11;
-
 /// No profile has the number.
 pub(crate) const NO_PROFILE: u8 = 12;
+
+/// An algorithm identifier is there, and not one of those that are read.
+pub(crate) const OTHER_ALGORITHM: u8 = 13;
+
+/// A name has no common name.
+pub(crate) const MISSING_COMMON_NAME: u8 = 32;
+
+/// A name has a second common name.
+pub(crate) const SECOND_COMMON_NAME: u8 = 33;
+
+/// A name has a second serial number.
+pub(crate) const SECOND_SERIAL_NUMBER: u8 = 34;
+
+/// A name has a second organization name.
+pub(crate) const SECOND_ORGANIZATION_NAME: u8 = 35;
+
+/// An attribute of a name has a value that is no string of the profile.
+pub(crate) const STRING_NOT_PERMITTED: u8 = 36;
+
+/// A name has an attribute that the profile doesn't permit.
+pub(crate) const ATTRIBUTE_NOT_PERMITTED: u8 = 37;
 
 /// What is added to the number of an error of the second of two texts.
 pub(crate) const SECOND: u8 = 16;

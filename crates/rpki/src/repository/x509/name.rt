@@ -1,6 +1,10 @@
 //! Names (RFC 5280 4.1.2.4, RFC 6487 4.4).
 
-ghost use Rattle.std.specs.Prelude.{◌≡◌, List, IsTrue, IsOk, IfOk, IfErr};
+ghost use Rattle.std.specs.Prelude.{◌≡◌, List, IsTrue, IsOk, IfOk, IfErr, MatchResult};
+ghost use Rattle.rpki_der.specs.ErrorText.{text_of};
+ghost use Rattle.rpki.specs.ErrorContent.{content_of};
+ghost use Rattle.rpki.specs.NameRule.{BreaksRpkiRule, BreaksRouterRule, rpki_text, router_text};
+ghost use Rattle.rpki.specs.declared.repository.x509.name.rule.NameRule.{NameRule};
 ghost use Rattle.rpki_der.specs.Cursor.{left};
 ghost use Rattle.rpki_der.specs.Reading.{Reads};
 ghost use Rattle.rpki_der.specs.Members.{IsValue};
@@ -11,9 +15,11 @@ ghost use Rattle.rpki.specs.StrictNameWithoutOrganization.{IsRpkiNameWithoutOrga
 
 mod grammar;
 mod inspection;
+mod rule;
 
 use self::grammar::skip_name;
 use self::inspection::Profile;
+pub use self::rule::NameRule;
 use crate::repository::error::InspectionError;
 use rpki_der::{Captured, Constructed, DecodeError};
 use std::alloc::{AllocError, Global};
@@ -61,6 +67,22 @@ impl Name {
         Ok(Name { captured })
     }
 
+    /// Tests that the name is one of a certificate of the RPKI, as [Name::inspect_rpki] does; returns the rule that it
+    /// breaks first, from the left.
+    pub fn test_rpki(&self) -> Result<(), NameRule>
+        ensures { MatchResult result (λ _. IsRpkiName self.now) (λ rule. BreaksRpkiRule rule self.now) }
+    {
+        Profile::Rpki.inspect(self.captured.indexed_cursor())
+    }
+
+    /// Tests that the name is one of a router's certificate, as [Name::inspect_router] does; returns the rule that it
+    /// breaks first, from the left.
+    pub fn test_router(&self) -> Result<(), NameRule>
+        ensures { MatchResult result (λ _. IsRouterName self.now) (λ rule. BreaksRouterRule rule self.now) }
+    {
+        Profile::Router.inspect(self.captured.indexed_cursor())
+    }
+
     /// Tests that the name is one of a certificate of the RPKI, unless `strict` is false: one common name, at most one
     /// serial number and at most one organization name, each a PrintableString, and no other attribute (RFC 6487 4.4,
     /// which names no organization).
@@ -70,13 +92,19 @@ impl Name {
     pub fn inspect_rpki(&self, strict: bool) -> Result<(), InspectionError>
         ensures ok { IfOk result (λ _. IsTrue strict → IsRpkiName self.now) }
         ensures err { IfErr result (λ _. IsTrue strict × (IsRpkiName self.now → ⊥)) }
+        // The text is that of the rule that is broken first.
+        ensures reason { IfErr result (λ e. (rule : NameRule) × BreaksRpkiRule rule self.now
+            × (text_of (content_of e) ≡ rpki_text rule)) }
         // A name that is strict without an organization name passes.
         ensures without_organization { IsRpkiNameWithoutOrganization self.now → IsOk result }
     {
         if !strict {
             return Ok(());
         }
-        Profile::Rpki.inspect(self.captured.indexed_cursor())
+        match self.test_rpki() {
+            Ok(()) => Ok(()),
+            Err(rule) => Err(rule.rpki_error()),
+        }
     }
 
     /// Tests that the name is one of a router's certificate, unless `strict` is false: the same, and each string is a
@@ -87,13 +115,19 @@ impl Name {
     pub fn inspect_router(&self, strict: bool) -> Result<(), InspectionError>
         ensures ok { IfOk result (λ _. IsTrue strict → IsRouterName self.now) }
         ensures err { IfErr result (λ _. IsTrue strict × (IsRouterName self.now → ⊥)) }
+        // The text is that of the rule that is broken first.
+        ensures reason { IfErr result (λ e. (rule : NameRule) × BreaksRouterRule rule self.now
+            × (text_of (content_of e) ≡ router_text rule)) }
         // A name that is strict without an organization name passes.
         ensures without_organization { IsRouterNameWithoutOrganization self.now → IsOk result }
     {
         if !strict {
             return Ok(());
         }
-        Profile::Router.inspect(self.captured.indexed_cursor())
+        match self.test_router() {
+            Ok(()) => Ok(()),
+            Err(rule) => Err(rule.router_error()),
+        }
     }
 
     /// An encoder for the name: its original octets.

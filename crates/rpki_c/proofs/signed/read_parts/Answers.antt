@@ -1,16 +1,20 @@
-use Rattle.std.proofs.Common.{◌≡◌, List, ℕ, take, drop, ◌∙◌}
+use Rattle.std.proofs.Common.{◌≡◌, List, ℕ, take, drop, ◌∙◌, sym, subst}
+use Rattle.std.proofs.lemmas.Bool.{iff_false}
 use Rattle.rpki_der.specs.Cursor.{left}
-use Rattle.rpki_der.specs.Reading.{Accepts, Refuses, UnlessMemory}
+use Rattle.rpki_der.specs.Reading.{Accepts, Refuses, UnlessMemory, Finds}
 use Rattle.rpki_der.specs.Members.{SpellsValue}
 use Rattle.rpki_der.specs.FirstFault.FirstFault.{AtPart, Behind}
 use Rattle.rpki_der.proofs.ReadingLaws.{UnlessMemory-weaker, UnlessMemory-from}
 use Rattle.rpki_der.proofs.ComposedLaws.{nothing-whole, nothing-after, all-read}
-use Rattle.rpki_der.proofs.TriedLaws.{tried-nothing}
 use Rattle.rpki.specs.Oids.{sha256_with_rsa_encryption}
 use Rattle.rpki.specs.Algorithm.{SpellsAlgorithm}
+use Rattle.rpki_der.proofs.InsideLaws.{unless-memory}
+use Rattle.rpki.proofs.AlgorithmFaultLaws.{algorithm-outer}
 use Rattle.rpki.proofs.SigningLaws.{no-value, no-algorithm, no-signature, contents-accepted}
-use Rattle.rpki_c.specs.Signed.{IsAllPartsFault}
+use Rattle.rpki_c.specs.Identifier.{IsOther, SpellsIdentifier}
+use Rattle.rpki_c.specs.Signed.{IsAllPartsFault, AreOtherParts}
 use Rattle.rpki_c.proofs.SignedReadingLaws.{AreParts}
+use Rattle.rpki_c.proofs.ElseLaws.{tried-else, no-front, follows, not-other}
 use Rattle.rpki_c.proofs.signed.read_parts.Goals as goal
 
 -- the value at the front, as the slice is split
@@ -23,7 +27,8 @@ returns-in_err-size c =
     let e = c.in_err-size.field-0.0 in
     let h = c.in_err-size.ensures.refused in
     let none : UnlessMemory e (Refuses AreParts s) = UnlessMemory-weaker e (no-value (SpellsAlgorithm sha256_with_rsa_encryption) s) h.refuses in
-    tried-nothing _ AreParts IsAllPartsFault s e _ c.from_residual.ensures (UnlessMemory-weaker e (nothing-whole AreParts s) none, AtPart none (AtPart h.refuses h.kind))
+    tried-else AreOtherParts _ AreParts IsAllPartsFault s e _ c.from_residual.ensures
+    (UnlessMemory-weaker e (no-front (IsOther (SpellsAlgorithm sha256_with_rsa_encryption)) s) h.refuses, (UnlessMemory-weaker e (nothing-whole AreParts s) none, AtPart none (AtPart h.refuses h.kind)))
 
 pub returns-in-Err : goal.returns-in-Err
 returns-in-Err c =
@@ -34,7 +39,20 @@ returns-in-Err c =
     let m = left c.from_slice-rest.result in
     let one : Accepts SpellsValue s d m = split-value s d m c.in_ok-size.size c.split_at.ensures.front (c.from_slice-rest.ensures ∙ c.split_at.ensures.back) c.in_ok-size.ensures.accepted in
     let none : UnlessMemory e (Refuses AreParts s) = UnlessMemory-weaker e (no-algorithm (SpellsAlgorithm sha256_with_rsa_encryption) s m d one) h.refuses in
-    (UnlessMemory-weaker e (nothing-whole AreParts s) none, AtPart none (Behind d m one (AtPart h.refuses h.kind)))
+    let other : AreOtherParts s → ⊥ = λ f. (iff_false c.begins_with_identifier.ensures c.if-begins_with_identifier.false) (subst (λ (l : List ℕ). Finds SpellsIdentifier l) c.from_slice-rest.ensures (follows (IsOther (SpellsAlgorithm sha256_with_rsa_encryption)) s d m one f).some) in
+    (UnlessMemory-from e other, (UnlessMemory-weaker e (nothing-whole AreParts s) none, AtPart none (Behind d m one (AtPart h.refuses h.kind))))
+
+pub returns-then-begins_with_identifier : goal.returns-then-begins_with_identifier
+returns-then-begins_with_identifier c =
+    let s = c.args.contents.now in
+    let e = c.in-Err.e in
+    let h = c.in-Err.ensures in
+    let d = c.split_at.result.0.now in
+    let m = left c.from_slice-rest.result in
+    let one : Accepts SpellsValue s d m = split-value s d m c.in_ok-size.size c.split_at.ensures.front (c.from_slice-rest.ensures ∙ c.split_at.ensures.back) c.in_ok-size.ensures.accepted in
+    let some : Finds SpellsIdentifier m = subst (λ (l : List ℕ). Finds SpellsIdentifier l) (sym c.from_slice-rest.ensures) (c.begins_with_identifier.ensures.0 c.if-begins_with_identifier.true) in
+    let none : Refuses (SpellsAlgorithm sha256_with_rsa_encryption) m = unless-memory e (algorithm-outer sha256_with_rsa_encryption m e h.kind).other h.refuses in
+    record { value = d; rest = m; begins = one.spells; follows = record { some = some; none = none } }
 
 pub returns-in_err-value : goal.returns-in_err-value
 returns-in_err-value c =
@@ -45,8 +63,8 @@ returns-in_err-value c =
     let m = left c.from_slice-rest.result in
     let one : Accepts SpellsValue s d m = split-value s d m c.in_ok-size.size c.split_at.ensures.front (c.from_slice-rest.ensures ∙ c.split_at.ensures.back) c.in_ok-size.ensures.accepted in
     let none : UnlessMemory e (Refuses AreParts s) = UnlessMemory-weaker e (no-signature (SpellsAlgorithm sha256_with_rsa_encryption) s m _ d _ one c.in-Ok.ensures) h.refuses in
-    tried-nothing _ AreParts IsAllPartsFault s e _ c.from_residual-in_err-value.ensures
-    (UnlessMemory-weaker e (nothing-whole AreParts s) none, AtPart none (Behind d m one (Behind _ _ c.in-Ok.ensures h.kind)))
+    tried-else AreOtherParts _ AreParts IsAllPartsFault s e _ c.from_residual-in_err-value.ensures
+    (UnlessMemory-from e (not-other s d m _ _ one c.in-Ok.ensures), (UnlessMemory-weaker e (nothing-whole AreParts s) none, AtPart none (Behind d m one (Behind _ _ c.in-Ok.ensures h.kind))))
 
 pub returns-in_err-finish : goal.returns-in_err-finish
 returns-in_err-finish c =
@@ -57,8 +75,8 @@ returns-in_err-finish c =
     let m = left c.from_slice-rest.result in
     let one : Accepts SpellsValue s d m = split-value s d m c.in_ok-size.size c.split_at.ensures.front (c.from_slice-rest.ensures ∙ c.split_at.ensures.back) c.in_ok-size.ensures.accepted in
     let all = contents-accepted (SpellsAlgorithm sha256_with_rsa_encryption) s m _ _ d _ _ one c.in-Ok.ensures c.in_ok-value.ensures in
-    tried-nothing _ AreParts IsAllPartsFault s e _ c.from_residual-in_err-finish.ensures
-    (UnlessMemory-from e (nothing-after AreParts s _ _ all h.1), Behind _ _ all (h.1, h.0))
+    tried-else AreOtherParts _ AreParts IsAllPartsFault s e _ c.from_residual-in_err-finish.ensures
+    (UnlessMemory-from e (not-other s d m _ _ one c.in-Ok.ensures), (UnlessMemory-from e (nothing-after AreParts s _ _ all h.1), Behind _ _ all (h.1, h.0)))
 
 pub returns : goal.returns
 returns c =
@@ -67,4 +85,4 @@ returns c =
     let m = left c.from_slice-rest.result in
     let one : Accepts SpellsValue s d m = split-value s d m c.in_ok-size.size c.split_at.ensures.front (c.from_slice-rest.ensures ∙ c.split_at.ensures.back) c.in_ok-size.ensures.accepted in
     let all = contents-accepted (SpellsAlgorithm sha256_with_rsa_encryption) s m _ _ d _ _ one c.in-Ok.ensures c.in_ok-value.ensures in
-    rw c.has_parameters.ensures (all-read AreParts s _ _ all c.in_ok-finish.ensures)
+    (not-other s d m _ _ one c.in-Ok.ensures, rw c.has_parameters.ensures (all-read AreParts s _ _ all c.in_ok-finish.ensures))

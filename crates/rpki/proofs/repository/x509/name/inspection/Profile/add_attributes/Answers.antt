@@ -2,7 +2,7 @@ use Rattle.std.proofs.Common.{[], ◌∷◌, ◌++◌, true, subst, sym}
 use Rattle.std.proofs.lemmas.Result.{err_from_is_err_and}
 use Rattle.rpki_der.specs.TagName.{sequence}
 use Rattle.rpki.specs.Name.{Attribute, IsAttribute, SpellsAttribute, IsIdentifierThen}
-use Rattle.rpki.specs.StrictName.{IsStrict}
+use Rattle.rpki.specs.NameRule.{FirstBreaks}
 use Rattle.rpki.specs.Findings.{IsFound}
 use Rattle.rpki.specs.InspectionView.{permitted, found_of}
 use Rattle.rpki.proofs.NameLaws.{leaf-shorter, leaf-nowhere, at-end, not-at-end}
@@ -15,20 +15,21 @@ attributes-init gen c = through-nothing SpellsAttribute (λ xs. xs) (permitted c
 pub returns-in-Err : goal.returns-in-Err
 returns-in-Err gen c =
     λ xs h.
-    through-refused SpellsAttribute (λ ys. ys) (permitted c.args.self) (found_of c.args.found) (found_of c.attributes.all) _ (gen.C.Cursor.octets_left c.attributes.rest) join-attributes
+    through-refused SpellsAttribute (λ ys. ys) (permitted c.args.self) _ (found_of c.args.found) (found_of c.attributes.all) _ (gen.C.Cursor.octets_left c.attributes.rest) join-attributes
     (not-at-end _ _ c.attributes-test.true c.is_at_end.ensures) c.attributes.invariant
     (λ v q g. absurd (no-attribute (gen.C.Cursor.octets_left c.attributes.rest) _ _ c.in-Err.ensures v q g)) xs h.each
 
 pub returns-in_err-all : goal.returns-in_err-all
 returns-in_err-all gen c =
     let p = err_from_is_err_and c.from_residual.result c.from_residual.ensures.1 in
-    rw p.1 (
+    let rule = c.in_err-all.field-0.0 in
+    rw (p.1, p.2) (
     λ xs h.
-    through-refused SpellsAttribute (λ ys. ys) (permitted c.args.self) (found_of c.args.found) (found_of c.attributes.all) _ (gen.C.Cursor.octets_left c.attributes.rest) join-attributes
+    through-refused SpellsAttribute (λ ys. ys) (permitted c.args.self) rule (found_of c.args.found) (found_of c.attributes.all) _ (gen.C.Cursor.octets_left c.attributes.rest) join-attributes
     (not-at-end _ _ c.attributes-test.true c.is_at_end.ensures) c.attributes.invariant
-    (λ v q g before rest f strict.
+    (λ v q g before f.
     let k = this-attribute (gen.C.Cursor.octets_left c.attributes.rest) _ _ c.in-Ok.ensures v q g in
-    (rw c.octets.ensures at c.in_err-all.ensures) before rest f (subst (λ (a : Attribute). IsStrict (permitted c.args.self) ((before ++ a ∷ []) ++ rest)) k.1 strict)) xs h.each
+    subst (λ (a : Attribute). FirstBreaks (permitted c.args.self) rule (before ++ a ∷ [])) (sym k.1) ((rw c.octets.ensures at c.in_err-all.ensures) before f)) xs h.each
     )
 
 pub attributes-smaller : goal.attributes-smaller

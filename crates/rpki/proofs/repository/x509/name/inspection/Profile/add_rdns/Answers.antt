@@ -2,7 +2,8 @@ use Rattle.std.proofs.Common.{List, ◌++◌, true, subst, sym}
 use Rattle.std.proofs.lemmas.Result.{err_from_is_err_and}
 use Rattle.rpki_der.specs.TagName.{set}
 use Rattle.rpki.specs.Name.{Attribute, SpellsAttribute, SpellsSome, SpellsRelative}
-use Rattle.rpki.specs.StrictName.{IsStrict, attributes}
+use Rattle.rpki.specs.StrictName.{attributes}
+use Rattle.rpki.specs.NameRule.{FirstBreaks}
 use Rattle.rpki.specs.Findings.{IsFound}
 use Rattle.rpki.specs.InspectionView.{permitted, found_of}
 use Rattle.rpki.proofs.NameLaws.{leaf-nowhere, at-end, not-at-end, contents-shorter}
@@ -15,20 +16,21 @@ relatives-init gen c = through-nothing SpellsRelative attributes (permitted c.ar
 pub returns-in-Err : goal.returns-in-Err
 returns-in-Err gen c =
     λ parts h.
-    through-refused SpellsRelative attributes (permitted c.args.self) (found_of c.args.found) (found_of c.relatives.all) _ (gen.C.Cursor.octets_left c.relatives.rest) join-relatives
+    through-refused SpellsRelative attributes (permitted c.args.self) _ (found_of c.args.found) (found_of c.relatives.all) _ (gen.C.Cursor.octets_left c.relatives.rest) join-relatives
     (not-at-end _ _ c.relatives-test.true c.is_at_end.ensures) c.relatives.invariant
     (λ v q g. absurd (no-contents set (SpellsSome SpellsAttribute) (gen.C.Cursor.octets_left c.relatives.rest) _ _ c.in-Err.ensures v q g)) parts h.each
 
 pub returns-in_err-all : goal.returns-in_err-all
 returns-in_err-all gen c =
     let p = err_from_is_err_and c.from_residual.result c.from_residual.ensures.1 in
-    rw p.1 (
+    let rule = c.in_err-all.field-0.0 in
+    rw (p.1, p.2) (
     λ parts h.
-    through-refused SpellsRelative attributes (permitted c.args.self) (found_of c.args.found) (found_of c.relatives.all) _ (gen.C.Cursor.octets_left c.relatives.rest) join-relatives
+    through-refused SpellsRelative attributes (permitted c.args.self) rule (found_of c.args.found) (found_of c.relatives.all) _ (gen.C.Cursor.octets_left c.relatives.rest) join-relatives
     (not-at-end _ _ c.relatives-test.true c.is_at_end.ensures) c.relatives.invariant
-    (λ v q g before rest f strict.
+    (λ v q g before f.
     let k = these-contents set (SpellsSome SpellsAttribute) (gen.C.Cursor.octets_left c.relatives.rest) _ _ c.in-Ok.ensures v q g in
-    c.in_err-all.ensures v k.1 before rest f (subst (λ (xs : List Attribute). IsStrict (permitted c.args.self) ((before ++ xs) ++ rest)) (one-relative v) strict)) parts h.each
+    subst (λ (xs : List Attribute). FirstBreaks (permitted c.args.self) rule (before ++ xs)) (sym (one-relative v)) (c.in_err-all.ensures v k.1 before f)) parts h.each
     )
 
 pub relatives-smaller : goal.relatives-smaller

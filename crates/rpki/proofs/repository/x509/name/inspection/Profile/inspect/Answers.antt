@@ -5,20 +5,20 @@ use Rattle.rpki_der.proofs.ComposedLaws.{spelled-whole}
 use Rattle.rpki.specs.Name.{SpellsSome, SpellsRelative, SpellsName}
 use Rattle.rpki.specs.StrictName.{attributes}
 use Rattle.rpki.specs.InspectionView.{permitted, found_of}
-use Rattle.rpki.proofs.InspectionLaws.{no-contents, these-contents, never-strict, nothing-found, found-nameless, found-strict, is-not, is-so}
+use Rattle.rpki.proofs.InspectionLaws.{no-contents, these-contents, first-rule, nothing-found, found-nameless, found-strict, is-not, is-so}
 use Rattle.rpki.proofs.repository.x509.name.inspection.Profile.inspect.Goals as goal
 
 pub returns-in-Err : goal.returns-in-Err
 returns-in-Err gen c =
-    λ parts h strict. no-contents sequence (SpellsSome SpellsRelative) (gen.C.Cursor.octets_left c.args.name) _ _ c.in-Err.ensures parts [] (spelled-whole SpellsName (gen.C.Cursor.octets_left c.args.name) parts h)
+    λ parts h. absurd (no-contents sequence (SpellsSome SpellsRelative) (gen.C.Cursor.octets_left c.args.name) _ _ c.in-Err.ensures parts [] (spelled-whole SpellsName (gen.C.Cursor.octets_left c.args.name) parts h))
 
 pub returns-in_err-found : goal.returns-in_err-found
 returns-in_err-found gen c =
     let p = err_from_is_err_and c.from_residual.result c.from_residual.ensures.1 in
-    rw p.1 (
+    rw (p.1, p.2) (
     λ parts h.
     let k = these-contents sequence (SpellsSome SpellsRelative) (gen.C.Cursor.octets_left c.args.name) _ _ c.in-Ok.ensures parts [] (spelled-whole SpellsName (gen.C.Cursor.octets_left c.args.name) parts h) in
-    never-strict (permitted c.args.self) (attributes parts) (c.in_err-found.ensures parts k.1)
+    first-rule (permitted c.args.self) c.in_err-found.field-0.0 (attributes parts) (c.in_err-found.ensures parts k.1)
     )
 
 pub returns-then-not-found : goal.returns-then-not-found
