@@ -34,6 +34,8 @@ pub mod FaultKindLaws
 pub mod MemberLaws
 pub mod FrontLaws
 pub mod FirstFaultLaws
+pub mod EachLaws
+pub mod PartsLaws
 mod SomeFaultLaws
 mod ShortestLaws
 mod IndexReadingLaws

@@ -11,6 +11,7 @@ mod captured;
 mod composed;
 mod contents;
 mod cursor;
+mod each;
 mod encode;
 mod error;
 mod from_values;
@@ -30,7 +31,9 @@ mod walk;
 
 pub use bit_string::{BitSlice, BitString};
 pub use captured::Captured;
-pub use contents::{take_oid_contents, take_printable_contents, take_utf8_contents};
+pub use contents::{
+    take_ia5_contents, take_oid_contents, take_printable_contents, take_utf8_contents,
+};
 pub use cursor::{Constructed, Cursor};
 pub use encode::{Primitive, PrimitiveContent, Sequence, Set, Values, Wrapped, write_whole};
 pub use error::{ContentError, DecodeError};
@@ -41,5 +44,5 @@ pub use integer::{InvalidInteger, Unsigned};
 pub use members::Members;
 pub use oid::{ConstOid, Oid};
 pub use tag::{Class, Header, Steps, Tag};
-pub use text::{PrintableString, Utf8String};
+pub use text::{Ia5String, PrintableString, Utf8String};
 pub use value::Content;
