@@ -1,11 +1,13 @@
 -- Values of one type, one after another, over the reader of one.
-use Rattle.std.proofs.Common.{◌≡◌, ◌≢◌, ◌<◌, ◌≤◌, ◌⊎◌, ◌++◌, ℕ, List, [], ◌∷◌, length, Result, Ok, Err, inl, inr, refl, sym, ap, subst, ◌∙◌, arith, length-append}
+use Rattle.std.proofs.Common.{◌≡◌, ◌≢◌, ◌<◌, ◌≤◌, ◌⊎◌, ◌++◌, ℕ, Bool, List, [], ◌∷◌, length, Result, Ok, Err, inl, inr, refl, sym, ap, subst, ◌∙◌, arith, length-append}
 use Rattle.std.specs.Prelude.{map}
-use Rattle.std.proofs.lemmas.List.{append-nil}
+use Rattle.std.proofs.lemmas.List.{map-id}
 use Rattle.rpki_der.specs.declared.error.DecodeError.{DecodeError}
 use Rattle.rpki_der.specs.declared.error.DecodeError.TheVariants.{Trailing, OutOfMemory}
 use Rattle.rpki_der.specs.declared.cursor.Constructed.{Constructed}
 use Rattle.rpki_der.specs.Cursor.{left}
+use Rattle.rpki_der.specs.TagName.{TagName}
+use Rattle.rpki_der.specs.Values.{SpellsLeaf}
 use Rattle.rpki_der.specs.Reading.{Spells, Accepts, Refuses, Refusal, Reads, SpellsNothing, UnlessMemory, OrMemoryWhere, Finds}
 use Rattle.rpki_der.specs.Composed.{Whole}
 use Rattle.rpki_der.specs.FirstFault.{RepeatedFault, ReadsParts}
@@ -15,6 +17,7 @@ use Rattle.rpki_der.specs.Each.EachRead.{NoneRead, NextRead}
 use Rattle.rpki_der.specs.Each.NotEach.{RefusedNext, Unmoved, NotKept}
 use Rattle.rpki_der.proofs.ReadingLaws.{UnlessMemory-weaker}
 use Rattle.rpki_der.proofs.InsideLaws.{Same}
+use Rattle.rpki_der.proofs.EncodeLaws.{tlv-at-least}
 use Rattle.rpki_der.proofs.FirstFaultLaws.{memory-where}
 
 -- one call more
@@ -93,3 +96,18 @@ module _ {X V : Type 0} (view : X → V) (G : V → List ℕ → Type 0) (K : Li
       → ReadsParts (λ u. map view (items u)) (SpellsEach G) (IsEachFault G K) s r x
   read-each items s r (Ok u) h = (λ end. (spelled s [] (items u) h.1 refl, only s [] (items u) h.1 refl), λ some. absurd (some h.0))
   read-each items s r (Err e) h = not-each s e h.1
+
+-- the same where a value stands for itself
+pub read-each-itself : {V U : Type 0} (G : V → List ℕ → Type 0) (K : List ℕ → DecodeError → Type 0)
+    (reads : Constructed → Result V DecodeError → Constructed → Type 0)
+    (law : (b a : Constructed) (x : Result V DecodeError) → reads b x a → Reads (λ v. v) G K (left b) (left a) x)
+    (nowhere : (v : V) → G v [] → ⊥) (items : U → List V) (s r : List ℕ) (x : Result U DecodeError) → ReadsEach items Same reads s r x
+    → ReadsParts items (SpellsEach G) (IsEachFault G K) s r x
+read-each-itself {V} G K reads law nowhere items s r (Ok u) h =
+    subst (λ (vs : List V). (r ≡ [] → SpellsEach G vs s × ((ws : List V) → SpellsEach G ws s → ws ≡ vs)) × (r ≢ [] → SpellsNothing (SpellsEach G) s × IsEachFault G K s Trailing))
+    (map-id (items u)) (read-each (λ v. v) G K reads law nowhere items s r (Ok u) h)
+read-each-itself G K reads law nowhere items s r (Err e) h = read-each (λ v. v) G K reads law nowhere items s r (Err e) h
+
+-- a value of a tag is written in some octets
+pub leaf-some : {V : Type 0} (t : TagName) (f : Bool) (C : V → List ℕ → Type 0) (v : V) → SpellsLeaf t f C v [] → ⊥
+leaf-some t f C v h = omega (arith, ap length h.value.octets, tlv-at-least t f h.contents)
