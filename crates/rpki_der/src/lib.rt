@@ -3,7 +3,8 @@
 //! A reader takes a [Constructed], the cursor, and moves it past what it reads: `Constructed::new(&octets).take_oid()`.
 //! An encoder implements the trait [Values]: call `fits`, then `write_encoded`, or `Captured::from_values` to keep its
 //! octets.
-//! `crates/rpki_examples/src/revoked.rt` reads a SEQUENCE of its own; docs/CALLING.md explains it.
+//! `crates/rpki_examples/src/revoked.rt` reads a SEQUENCE of its own, and docs/CALLING.md explains it; `number_list.rt`
+//! beside it reads one with a context tag and a list.
 #![tactic(auto)]
 
 mod bit_string;

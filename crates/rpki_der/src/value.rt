@@ -163,7 +163,8 @@ impl<'a> Constructed<'a> {
     }
 
     /// The contents of a primitive value of this tag, as of an OCTET STRING or of an implicit context tag (X.690 8.14);
-    /// moves past it. It shares the octets with the input, or copies them where that is a slice. They are not validated.
+    /// moves past it. It shares the octets with the input, or copies them where that is a slice. They are not
+    /// validated.
     ///
     /// The errors are those of [Constructed::take_primitive_if]; then `OutOfMemory` if allocation fails.
     pub fn take_primitive_bytes_if(&mut self, alloc: Global, tag: Tag) -> Result<Bytes, DecodeError>
