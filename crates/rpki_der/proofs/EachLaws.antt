@@ -8,7 +8,7 @@ use Rattle.rpki_der.specs.declared.cursor.Constructed.{Constructed}
 use Rattle.rpki_der.specs.Cursor.{left}
 use Rattle.rpki_der.specs.TagName.{TagName}
 use Rattle.rpki_der.specs.Values.{SpellsLeaf}
-use Rattle.rpki_der.specs.Reading.{Spells, Accepts, Refuses, Refusal, Reads, SpellsNothing, UnlessMemory, OrMemoryWhere, Finds}
+use Rattle.rpki_der.specs.Reading.{Spells, Accepts, Refuses, Reads, SpellsNothing, UnlessMemory, OrMemoryWhere, Finds}
 use Rattle.rpki_der.specs.Composed.{Whole}
 use Rattle.rpki_der.specs.FirstFault.{RepeatedFault, ReadsParts}
 use Rattle.rpki_der.specs.FirstFault.RepeatedFault.{AtMember, AfterMember}

@@ -1,6 +1,6 @@
 -- Parts in order, each over its reader: what a reader of contents returns at each of its ends. The parts are read from
 -- the left, and the laws are applied from the right: to the last part first, and then to each part in front of it.
-use Rattle.std.proofs.Common.{◌≡◌, ◌≢◌, inl, inr, ℕ, Bool, List, [], Option, Some, None, Result, Ok, Err, refl, sym, ap, subst, ◌∙◌}
+use Rattle.std.proofs.Common.{◌≡◌, ◌≢◌, inl, inr, ℕ, Bool, List, [], Option, Some, None, Ok, refl, sym, ap, subst}
 use Rattle.rpki_der.specs.declared.error.DecodeError.{DecodeError}
 use Rattle.rpki_der.specs.declared.error.DecodeError.TheVariants.{Trailing}
 use Rattle.rpki_der.specs.TagName.{TagName}

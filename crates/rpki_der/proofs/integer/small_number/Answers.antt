@@ -1,4 +1,4 @@
-use Rattle.std.proofs.Common.{◌≡◌, ◌+◌, ◌*◌, ◌^◌, ◌<◌, ◌≤◌, ◌∷◌, ℕ, List, length, arith, Fits, w64, subst}
+use Rattle.std.proofs.Common.{◌≡◌, ◌+◌, ◌*◌, ◌^◌, ◌<◌, ◌≤◌, ◌∷◌, ℕ, List, length, arith, subst}
 use Rattle.rpki_der.specs.Number.{number_of, AreOctets}
 use Rattle.rpki_der.proofs.IntegerLaws.{octets-fit, next-octet, so-far, eight-octets}
 use Rattle.rpki_der.proofs.integer.small_number.Goals as goal

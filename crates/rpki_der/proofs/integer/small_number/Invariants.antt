@@ -1,5 +1,5 @@
 use Rattle.std.proofs.Common.{◌≡◌, ◌+◌, ◌*◌, ◌^◌, length}
-use Rattle.rpki_der.specs.Number.{number_of, AreOctets}
+use Rattle.rpki_der.specs.Number.{number_of}
 use Rattle.rpki_der.proofs.integer.small_number.Given as goal
 
 -- what was read, before the octets that are left, writes the number
