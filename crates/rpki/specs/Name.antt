@@ -1,10 +1,10 @@
 -- Names: a SEQUENCE of relative distinguished names, each a SET of attributes (RFC 5280 4.1.2.4, X.501 9.2).
-use Rattle.std.specs.Prelude.{◌≡◌, ◌≢◌, ℕ, true, false, List, [], ◌∷◌, ◌++◌}
+use Rattle.std.specs.Prelude.{◌≡◌, ℕ, true, false, List, ◌++◌}
 use Rattle.rpki_der.specs.TagName.{oid, sequence, set}
-use Rattle.rpki_der.specs.Reading.{Spells}
 use Rattle.rpki_der.specs.Values.{SpellsLeaf}
 use Rattle.rpki_der.specs.Leaves.{IsOidOf}
 use Rattle.rpki_der.specs.Members.{IsValue}
+pub use Rattle.rpki_der.specs.Each.{SpellsEach, SpellsSome}
 
 -- an attribute: the contents octets of its identifier, and the octets of its value
 pub record Attribute : Type 0 where
@@ -28,16 +28,6 @@ pub record IsAttribute (a : Attribute) (c : List ℕ) : Type 0 where
 -- an attribute
 abbrev pub SpellsAttribute : Attribute → List ℕ → Type 0
 SpellsAttribute = SpellsLeaf sequence true IsAttribute
-
--- the spellings of these values, one after another
-abbrev pub SpellsEach : {V : Type 0} → (V → List ℕ → Type 0) → List V → List ℕ → Type 0
-SpellsEach G [] p = p ≡ []
-SpellsEach G (v ∷ vs) p = (following : List ℕ) × Spells G p v following × SpellsEach G vs following
-
--- the same of one value at least
-pub record SpellsSome {V : Type 0} (G : V → List ℕ → Type 0) (vs : List V) (p : List ℕ) : Type 0 where
-  pub some : vs ≢ []
-  pub each : SpellsEach G vs p
 
 -- a relative distinguished name: a SET of attributes, in any order
 abbrev pub SpellsRelative : List Attribute → List ℕ → Type 0

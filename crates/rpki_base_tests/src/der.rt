@@ -6,4 +6,5 @@ mod encoders;
 mod headers;
 mod index;
 mod readers;
+mod verbs;
 mod walks;

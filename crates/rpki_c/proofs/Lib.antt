@@ -4,6 +4,9 @@
 --   SuffixLaws, FrontLaws.
 -- Parts of keys, moments of times, whole octets without allocation: KeyPlaceLaws, MomentLaws, WholeLaws.
 -- Signed data read in place: SignedReadingLaws.
+-- Any algorithm identifier; statuses of keys, of names, and of another algorithm: IdentifierLaws, KeyStatusLaws,
+--   NameStatusLaws, ElseLaws.
+-- Where octets go wrong: FaultLaws.
 
 mod SuffixLaws
 mod PartLaws

@@ -4,7 +4,7 @@ use Rattle.std.specs.Prelude.{slice_range}
 use Rattle.std.proofs.lemmas.List.{take-take, take_rest, drop_at, drop-take, drop-drop, length-take, length-take-le, length-drop}
 use Rattle.rpki_der.specs.declared.cursor.Source.{Source}
 use Rattle.rpki_der.specs.declared.cursor.Source.TheVariants.{Shared, Slice}
-use Rattle.rpki_der.specs.Source.{source_octets, source_room}
+use Rattle.rpki_der.specs.Source.{source_octets}
 
 pub length-cut : (s : List ℕ) (i j : ℕ) → i ≤ j → j ≤ length s → length (slice_range s i j) ≡ j - i
 length-cut s i j le in_s = omega (arith, length-take (j - i) (drop i s), length-drop i s)

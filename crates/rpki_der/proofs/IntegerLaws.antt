@@ -2,7 +2,7 @@
 use Rattle.std.proofs.Common.{◌≡◌, ℕ, zero, suc, ◌+◌, ◌-◌, ◌*◌, ◌^◌, ◌<◌, ◌≤◌, inl, inr, List, [], ◌∷◌, length, get_or, drop, length-drop, add-zero, Fits, w8, arith, refl, sym, ap, ◌∙◌}
 use Rattle.std.proofs.lemmas.Bool.{cases_order}
 use Rattle.std.proofs.lemmas.List.{get_or-drop, take_rest}
-use Rattle.std.proofs.Math.Nat.{pow-le-pow_right, mul-le-mul_right}
+use Rattle.std.proofs.Math.Nat.{pow-le-pow_right, mul-le-mul_right, le-mul_of_pos_right}
 use Rattle.rpki_der.specs.Number.{number_of, AreOctets, low_octets}
 use Rattle.rpki_der.specs.NumberLaws.{number-lt, power, low_octets-full}
 use Rattle.rpki_der.specs.Integer.{WritesNumber, IsUnsigned, IsMinimal, IsMagnitude}
@@ -153,3 +153,28 @@ zero-too-many n xs long none low h =
 -- contents have one number
 pub one-number : (m n : ℕ) (xs : List ℕ) → IsUnsigned m xs → IsUnsigned n xs → m ≡ n
 one-number m n xs a b = sym a.writes.value ∙ b.writes.value
+
+-- ---- numbers below a bound
+
+-- one octet more was read
+pub next-octet : (total n x : ℕ) (xs : List ℕ) → total ≡ n * 256 ^ suc (length xs) + (x * 256 ^ length xs + number_of xs) → total ≡ (n * 256 + x) * 256 ^ length xs + number_of xs
+next-octet total n x xs h = let p = 256 ^ length xs in let top : 256 ^ suc (length xs) ≡ 256 * p = power (length xs) in let e : total ≡ n * (256 * p) + (x * p + number_of xs) = h ∙ ap (λ q. n * q + (x * p + number_of xs)) top in omega (arith, e)
+
+-- what was read so far is at most the whole
+pub so-far : (total m k r : ℕ) → total ≡ m * 256 ^ k + r → m ≤ total
+so-far total m k r h = let le : m ≤ m * 256 ^ k = le-mul_of_pos_right m (power-some k) in omega (arith, h, le) where
+  power-some : (k : ℕ) → 0 < 256 ^ k
+  power-some k = let grow : 256 ^ 0 ≤ 256 ^ k = power-grows 0 k (omega arith) in omega arith
+
+-- eight octets write a number below 2 ^ 64
+pub eight-octets : (xs : List ℕ) → AreOctets xs → length xs ≤ 8 → number_of xs < 2 ^ 64
+eight-octets xs o few = let lt = number-lt xs o in let grow = power-grows (length xs) 8 few in omega arith
+
+-- a number of more octets than eight, without leading zeros, is above
+pub nine-octets : (xs : List ℕ) → IsMagnitude xs → 8 < length xs → 2 ^ 64 ≤ number_of xs
+nine-octets [] m many = absurd (omega arith)
+nine-octets (x ∷ xs) m many =
+    let some : 0 < x = m.no_zero_in_front (omega arith) in
+    let le : 1 * 256 ^ length xs ≤ x * 256 ^ length xs = mul-le-mul_right (256 ^ length xs) some in
+    let grow = power-grows 8 (length xs) (omega arith) in
+    omega arith

@@ -7,10 +7,10 @@ use Rattle.rpki_der.specs.declared.error.DecodeError.TheVariants.{Truncated, Bad
 use Rattle.rpki_der.specs.declared.error.ContentError.{ContentError}
 use Rattle.rpki_der.specs.TagName.{TagName}
 use Rattle.rpki_der.specs.Leaves.{Bits, AreBits, IsBits, bits_of, boolean_contents}
-use Rattle.rpki_der.specs.Reading.{Spells, Accepts, Refusal}
+use Rattle.rpki_der.specs.Reading.{Spells, Accepts, Refusal, OrMemoryWhere}
 use Rattle.rpki_der.specs.Values.{SpellsContents, SpellsLeaf, HasTag, IsContentsFault, IsLeafFault}
 use Rattle.rpki_der.specs.Header.{identifier_octets, length_octets}
-use Rattle.rpki_der.proofs.ReadingLaws.{UnlessMemory-weaker, Refusal-weaker}
+use Rattle.rpki_der.proofs.ReadingLaws.{UnlessMemory-weaker, Refusal-weaker, or-memory-kind}
 
 -- a leaf is a value
 pub leaf-value : {V : Type 0} (t : TagName) (f : Bool) (C : V → List ℕ → Type 0) (s : List ℕ) (v : V) (r : List ℕ) → Spells (SpellsLeaf t f C) s v r → (c : List ℕ) × Spells (SpellsContents t f) s c r × C v c
@@ -32,6 +32,15 @@ leaf-refused t f C s q r e same h = record {
   unchanged = same;
   refuses = (Refusal-weaker {H = SpellsLeaf t f C} {L = IsLeafFault t f C} (λ none v p l. let k = leaf-value t f C s v p l in none k.0 p k.1) (leaf-kind t f C s e) h).refuses;
   kind = leaf-kind t f C s e h.kind;
+}
+
+-- the same where a value's contents are shared before they are validated
+pub shared-refused : {V : Type 0} (P : List ℕ → Type 0) (t : TagName) (f : Bool) (C : V → List ℕ → Type 0) (s q r : List ℕ) (e : DecodeError) → r ≡ s
+    → Refusal (SpellsContents t f) (OrMemoryWhere P (IsContentsFault t f)) s q e → Refusal (SpellsLeaf t f C) (OrMemoryWhere P (IsLeafFault t f C)) s r e
+shared-refused P t f C s q r e same h = record {
+  unchanged = same;
+  refuses = UnlessMemory-weaker e (λ none v p l. let k = leaf-value t f C s v p l in none k.0 p k.1) h.refuses;
+  kind = or-memory-kind P (IsContentsFault t f) (IsLeafFault t f C) s e (leaf-kind t f C s) h.kind;
 }
 
 -- contents that spell a value, and no other

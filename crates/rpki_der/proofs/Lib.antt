@@ -1,11 +1,12 @@
 -- Which lemma file answers which question.
 --
--- Crates above rest on ReadingLaws, LeavesLaws, ComposedLaws, InsideLaws, TriedLaws, FirstFaultLaws, EncodeLaws,
--- WritingLaws and IntegerLaws: their names and statements stay.
+-- Crates above rest on ReadingLaws, LeavesLaws, ComposedLaws, InsideLaws, TriedLaws, FirstFaultLaws, PartsLaws,
+-- EachLaws, EncodeLaws, WritingLaws and IntegerLaws: their names and statements stay.
 --
 -- How readings are put together, whatever the grammar: ReadingLaws, StepLaws.
 -- A leaf over its contents; a value over the reader of its contents: LeavesLaws, ComposedLaws, InsideLaws.
 -- What a reader returns where a `?` ends it: TriedLaws.
+-- Parts in order, the first of which may be left out; a list of values: PartsLaws, EachLaws.
 -- The error of the leftmost part that isn't there: FirstFaultLaws.
 -- Values of a wanted tag; values by their headers: WantedLaws, ValuesLaws.
 -- The members of a value by number; the value at the front: MemberLaws, FrontLaws.
@@ -14,9 +15,10 @@
 --   HeaderReadingLaws.
 -- An error excludes the others: HeaderFaultLaws, FaultKindLaws, NestedFaultLaws, SomeFaultLaws.
 -- A walk: in the middle, at its end: WalkingLaws, WalkLaws, MembersLaws.
--- The index: IndexingLaws, IndexReadingLaws, IndexLaws.
+-- The index: IndexingLaws, IndexReadingLaws, IndexLaws, IndexOrderLaws.
 -- A cursor: CursorLaws.
 -- Contents: numbers, identifiers, strings: IntegerLaws, UnsignedLaws, OidLaws, TextLaws.
+-- What is hashed of octets and numbers: HashLaws.
 -- Digits of numbers, and that they are the shortest: DigitLaws, ShortestLaws.
 -- What is written, and that it is read back: EncodeLaws, HeaderWritingLaws, WritingLaws, LeafWritingLaws,
 --   LeafValueLaws.
@@ -59,6 +61,8 @@ pub mod IndexOrderLaws
 pub mod FrontLaws
 pub mod FirstFaultLaws
 pub mod HashLaws
+pub mod EachLaws
+pub mod PartsLaws
 mod SomeFaultLaws
 mod ShortestLaws
 mod IndexReadingLaws

@@ -41,3 +41,13 @@ or-memory-where P K s OutOfMemory f h = f h
 pub Refusal-or-memory-where : {V : Type 0} {G : V → List ℕ → Type 0} (P : List ℕ → Type 0) (K : List ℕ → DecodeError → Type 0) (s r : List ℕ) (e : DecodeError)
     → (K s OutOfMemory → P s) → Refusal G K s r e → Refusal G (OrMemoryWhere P K) s r e
 Refusal-or-memory-where P K s r e f h = record { unchanged = h.unchanged; refuses = h.refuses; kind = or-memory-where P K s e f h.kind }
+
+-- another kind, allocation failure aside
+pub or-memory-kind : (P : List ℕ → Type 0) (K L : List ℕ → DecodeError → Type 0) (s : List ℕ) (e : DecodeError) → ((d : DecodeError) → K s d → L s d) → OrMemoryWhere P K s e → OrMemoryWhere P L s e
+or-memory-kind P K L s Truncated f h = f Truncated h
+or-memory-kind P K L s BadTag f h = f BadTag h
+or-memory-kind P K L s BadLength f h = f BadLength h
+or-memory-kind P K L s Unexpected f h = f Unexpected h
+or-memory-kind P K L s (Content x) f h = f (Content x) h
+or-memory-kind P K L s Trailing f h = f Trailing h
+or-memory-kind P K L s OutOfMemory f h = h

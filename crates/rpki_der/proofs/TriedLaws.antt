@@ -1,6 +1,7 @@
 -- What a reader returns where a `?` ends it.
-use Rattle.std.proofs.Common.{◌≡◌, ◌≢◌, ℕ, List, Result, Ok, Err, sym, subst}
-use Rattle.std.specs.Prelude.{IsErr, IsErrAnd}
+use Rattle.std.proofs.Common.{◌≡◌, ◌≢◌, ℕ, Bool, true, false, List, Result, Ok, Err, sym, subst}
+use Rattle.std.specs.Prelude.{◌↔◌, IsOk, IsErr, IsErrAnd, MatchResult}
+use Rattle.std.proofs.lemmas.Bool.{false≢true}
 use Rattle.rpki_der.specs.declared.error.DecodeError.{DecodeError}
 use Rattle.rpki_der.specs.declared.error.DecodeError.TheVariants.{OutOfMemory}
 use Rattle.rpki_der.specs.Reading.{SpellsNothing, UnlessMemory, Refusal, Reads, Decodes, TakesNoMemory, AnyFault}
@@ -30,3 +31,24 @@ pub tried-exactly : {X V : Type 0} {P : Type 0} (view : X → V) (G : V → List
     → IsErr x × IsErrAnd x (λ e. e ≡ d) → (P → SpellsNothing G s) → UnlessMemory d P → d ≢ OutOfMemory → ReadsAll view G (TakesNoMemory AnyFault) s r x
 tried-exactly view G s r d x h f none other =
     tried-inside view G (TakesNoMemory AnyFault) s r d x h (UnlessMemory-weaker d f none, record { other = other; kind = tt })
+
+-- ---- a function that is no reader
+
+-- one whose contract says of each error the same, by `MatchResult`
+pub tried-match : {X E : Type 0} (P : X → Type 0) (Q : Type 0) (F : E → Type 0) (x : Result X E) → IsErr x × IsErrAnd x F → Q → MatchResult x P (λ e. Q)
+tried-match P Q F (Ok x) h q = absurd h.1
+tried-match P Q F (Err e) h q = q
+
+-- one whose contract says of each error what the `?` says of it
+pub tried-match-error : {X E : Type 0} (P : X → Type 0) (F : E → Type 0) (x : Result X E) → IsErr x × IsErrAnd x F → MatchResult x P F
+tried-match-error P F (Ok x) h = absurd h.1
+tried-match-error P F (Err e) h = h.1
+
+-- one that returns Ok exactly where V holds
+pub tried-refused-iff : {X E : Type 0} (V : Type 0) (F : E → Type 0) (x : Result X E) → IsErr x × IsErrAnd x F → (V → ⊥) → IsOk x ↔ V
+tried-refused-iff V F (Ok x) h none = absurd h.1
+tried-refused-iff V F (Err e) h none = (λ k. absurd (false≢true k), λ v. absurd (none v))
+
+-- the same of an error that is written out: an `Err` is not `IsOk`
+pub refused-iff : (V : Type 0) → (V → ⊥) → (◌≡◌ {A = Bool} false true) ↔ V
+refused-iff V none = (λ k. absurd (false≢true k), λ v. absurd (none v))

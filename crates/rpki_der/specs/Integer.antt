@@ -14,6 +14,11 @@ pub record IsUnsigned (n : ℕ) (c : List ℕ) : Type 0 where
   pub writes : WritesNumber n c
   pub shortest : (d : List ℕ) → WritesNumber n d → length c ≤ length d
 
+-- the same of a number below the bound
+pub record IsUnsignedBelow (bound n : ℕ) (c : List ℕ) : Type 0 where
+  pub below : n < bound
+  pub contents : IsUnsigned n c
+
 -- octets with the first bit 0 of which none can be left out: at least one, and the first nine bits aren't all 0
 pub record IsMinimal (c : List ℕ) : Type 0 where
   pub nonempty : 0 < length c

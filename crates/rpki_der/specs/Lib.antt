@@ -37,6 +37,9 @@ pub mod LeafLaws
 pub mod Inside
 pub mod Composed
 pub mod FirstFault
+pub mod Each
+pub mod Parts
+pub mod DefaultFalse
 -- Lemmas, which the prover checks: ghost items of impls cite them.
 pub mod NumberLaws
 pub mod EqualLaws

@@ -1,9 +1,9 @@
 //! Leaves as cursors on their contents, over octets and over captured values alike.
 
 ghost use Rattle.std.specs.Prelude.{false};
-ghost use Rattle.rpki_der.specs.TagName.{oid, printable_string, utf8_string};
+ghost use Rattle.rpki_der.specs.TagName.{oid, printable_string, utf8_string, ia5_string};
 ghost use Rattle.rpki_der.specs.Leaves.{IsOidOf};
-ghost use Rattle.rpki_der.specs.Text.{IsPrintableText, IsUtf8Text};
+ghost use Rattle.rpki_der.specs.Text.{IsPrintableText, IsUtf8Text, IsIa5Text};
 ghost use Rattle.rpki_der.specs.Reading.{Reads};
 ghost use Rattle.rpki_der.specs.Values.{SpellsLeaf, IsLeafFault};
 
@@ -11,7 +11,7 @@ use crate::cursor::Cursor;
 use crate::error::{ContentError, DecodeError};
 use crate::oid::is_oid;
 use crate::tag::Tag;
-use crate::text::{printable_of, utf8_of};
+use crate::text::{ia5_of, printable_of, utf8_of};
 
 /// The contents of an object identifier (X.690 8.19), with the errors of
 /// [Constructed::take_oid](crate::Constructed::take_oid).
@@ -60,5 +60,21 @@ pub fn take_utf8_contents<C: Cursor>(cursor: &mut C) -> Result<C, DecodeError>
             Ok(contents)
         }
         None => Err(DecodeError::Content(ContentError::from_static("malformed UTF8String"))),
+    }
+}
+
+/// The contents of an IA5String (X.690 8.23), with the errors of [Constructed::take_ia5](crate::Constructed::take_ia5).
+pub fn take_ia5_contents<C: Cursor>(cursor: &mut C) -> Result<C, DecodeError>
+    ensures { Reads C.octets_left (SpellsLeaf ia5_string false IsIa5Text) (IsLeafFault ia5_string false IsIa5Text)
+        (C.octets_left cursor.old) (C.octets_left cursor.new) result }
+{
+    let mut after = *cursor;
+    let contents = after.take_value_contents(Tag::IA5_STRING, false)?;
+    match ia5_of(contents.octets()) {
+        Some(_) => {
+            *cursor = after;
+            Ok(contents)
+        }
+        None => Err(DecodeError::Content(ContentError::from_static("malformed IA5String"))),
     }
 }

@@ -1,8 +1,8 @@
 //! Non-negative INTEGERs.
 
-ghost use Rattle.std.specs.Prelude.{false, ◌≡◌, ◌≢◌, ◌<◌, ◌↔◌, ℕ, [], length, drop, IfOk, IfErr, IfSome, IfNone};
+ghost use Rattle.std.specs.Prelude.{false, ◌≡◌, ◌≢◌, ◌<◌, ◌≤◌, ◌^◌, ◌↔◌, ℕ, [], length, drop, IfOk, IfErr, IfSome, IfNone};
 ghost use Rattle.rpki_der.specs.Number.{number_of};
-ghost use Rattle.rpki_der.specs.Integer.{IsUnsigned, IsMagnitude};
+ghost use Rattle.rpki_der.specs.Integer.{IsUnsigned, IsUnsignedBelow, IsMagnitude};
 
 use crate::cursor::Constructed;
 use crate::error::{ContentError, DecodeError};
@@ -108,6 +108,46 @@ fn unsigned_of(contents: &[u8]) -> Option<Unsigned<'_>>
     })
 }
 
+/// The number that at most eight octets write, the most significant first.
+fn small_number(octets: &[u8]) -> u64
+    requires { length octets.now ≤ 8 }
+    ensures { result ≡ number_of octets.now }
+{
+    let mut number = 0;
+    let mut rest = octets;
+    'octets: while let Some((first, following)) = rest.split_first() {
+        number = number * 256 + u64::from(*first);
+        rest = following;
+    }
+    number
+}
+
+/// The number whose INTEGER has these contents, if it is below 2^64 and none of its octets can be left out.
+fn u64_of(contents: &[u8]) -> Option<u64>
+    ensures value { IfSome result (λ n. IsUnsignedBelow (2 ^ 64) n contents.now) }
+    ensures none { IfNone result ((n : ℕ) → IsUnsignedBelow (2 ^ 64) n contents.now → ⊥) }
+{
+    let number = match unsigned_of(contents) {
+        Some(number) => number,
+        None => return None,
+    };
+    if number.as_slice().len() > 8 {
+        return None;
+    }
+    Some(small_number(number.as_slice()))
+}
+
+/// The number whose INTEGER has these contents, if it is below 2^8 and none of its octets can be left out.
+fn u8_of(contents: &[u8]) -> Option<u8>
+    ensures value { IfSome result (λ n. IsUnsignedBelow (2 ^ 8) n contents.now) }
+    ensures none { IfNone result ((n : ℕ) → IsUnsignedBelow (2 ^ 8) n contents.now → ⊥) }
+{
+    match u64_of(contents) {
+        Some(number) if number < 256 => Some(number as u8),
+        _ => None,
+    }
+}
+
 impl<'a> Constructed<'a> {
     ghost use Rattle.rpki_der.specs.Cursor.{left};
     ghost use Rattle.rpki_der.specs.TagName.{integer};
@@ -130,6 +170,46 @@ impl<'a> Constructed<'a> {
                 Ok(number)
             }
             None => Err(DecodeError::Content(ContentError::from_static("malformed INTEGER"))),
+        }
+    }
+
+    /// A non-negative INTEGER (X.690 8.3) below 2^64.
+    ///
+    /// The errors are those of [Constructed::take_unsigned]; `Content` also for a number of 2^64 or more.
+    pub fn take_u64(&mut self) -> Result<u64, DecodeError>
+        ensures { Reads (λ n. n) (SpellsLeaf integer false (IsUnsignedBelow (2 ^ 64)))
+            (IsLeafFault integer false (IsUnsignedBelow (2 ^ 64))) (left self.old) (left self.new) result }
+    {
+        let mut after = *self;
+        let contents = after.take_contents(Tag::INTEGER, false)?;
+        match u64_of(contents.rest()) {
+            Some(number) => {
+                *self = after;
+                Ok(number)
+            }
+            None => Err(DecodeError::Content(ContentError::from_static(
+                "malformed INTEGER, or one of 2^64 or more",
+            ))),
+        }
+    }
+
+    /// A non-negative INTEGER (X.690 8.3) below 2^8, as a version or the length of a path.
+    ///
+    /// The errors are those of [Constructed::take_unsigned]; `Content` also for a number of 2^8 or more.
+    pub fn take_u8(&mut self) -> Result<u8, DecodeError>
+        ensures { Reads (λ n. n) (SpellsLeaf integer false (IsUnsignedBelow (2 ^ 8)))
+            (IsLeafFault integer false (IsUnsignedBelow (2 ^ 8))) (left self.old) (left self.new) result }
+    {
+        let mut after = *self;
+        let contents = after.take_contents(Tag::INTEGER, false)?;
+        match u8_of(contents.rest()) {
+            Some(number) => {
+                *self = after;
+                Ok(number)
+            }
+            None => Err(DecodeError::Content(ContentError::from_static(
+                "malformed INTEGER, or one of 2^8 or more",
+            ))),
         }
     }
 }

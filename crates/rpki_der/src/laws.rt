@@ -10,8 +10,9 @@ ghost use Rattle.rpki_der.specs.Contents.{null_contents, bits_contents};
 ghost use Rattle.rpki_der.specs.Values.{SpellsHeader, IsHeaderFault, IsContentsFault, IsLeafFault};
 ghost use Rattle.rpki_der.specs.WantedValue.{IsWantedFault, IsAnyTag, IsTagged};
 ghost use Rattle.rpki_der.specs.Leaves.{Bits, IsNull, IsBoolean, IsOidOf, IsBits, boolean_contents};
-ghost use Rattle.rpki_der.specs.Integer.{IsUnsigned, unsigned_contents};
-ghost use Rattle.rpki_der.specs.Text.{IsPrintableText, IsUtf8Text};
+ghost use Rattle.rpki_der.specs.Integer.{IsUnsigned, IsUnsignedBelow, unsigned_contents};
+ghost use Rattle.rpki_der.specs.Text.{IsPrintableText, IsUtf8Text, IsIa5Text};
+ghost use Rattle.rpki_der.specs.DefaultFalse.{IsTrueFault};
 ghost use Rattle.rpki_der.specs.Error.{error_number};
 ghost use Rattle.std.specs.Prelude.{Bool, Option, false};
 ghost use Rattle.rpki_der.specs.TagName.{TagName, IsTag, boolean, integer, bit_string, octet_string, null, oid, utf8_string, sequence, set, printable_string, ia5_string, utc_time, generalized_time, context_6};
@@ -70,6 +71,13 @@ pub fn one_refusal()
         → IsLeafFault printable_string false IsPrintableText s e → error_number d ≡ error_number e }
     ensures utf8 { (s : List ℕ) (d e : DecodeError) → IsLeafFault utf8_string false IsUtf8Text s d
         → IsLeafFault utf8_string false IsUtf8Text s e → error_number d ≡ error_number e }
+    ensures ia5 { (s : List ℕ) (d e : DecodeError) → IsLeafFault ia5_string false IsIa5Text s d
+        → IsLeafFault ia5_string false IsIa5Text s e → error_number d ≡ error_number e }
+    ensures small { (bound : ℕ) (s : List ℕ) (d e : DecodeError)
+        → IsLeafFault integer false (IsUnsignedBelow bound) s d → IsLeafFault integer false (IsUnsignedBelow bound) s e
+        → error_number d ≡ error_number e }
+    ensures written { (s : List ℕ) (d e : DecodeError) → IsTrueFault s d → IsTrueFault s e
+        → error_number d ≡ error_number e }
 {}
 
 /// Octets are one list of members at most, at every depth.

@@ -25,6 +25,7 @@ impl<'a> Constructed<'a> {
     ghost use Rattle.rpki_der.specs.Reading.{Reads, ReadsWhere};
     ghost use Rattle.rpki_der.specs.Values.{SpellsContents, SpellsLeaf, HasTag, IsContentsFault, IsLeafFault};
     ghost use Rattle.rpki_der.specs.Leaves.{IsNull, IsBoolean};
+    ghost use Rattle.rpki_der.specs.DefaultFalse.{SpellsTrue, IsTrueFault, written};
 
     /// A NULL (X.690 8.8).
     ///
@@ -86,6 +87,29 @@ impl<'a> Constructed<'a> {
         }
         let value = self.take_bool()?;
         Ok(Some(value))
+    }
+
+    /// A BOOLEAN DEFAULT FALSE (X.690 11.5: the default value is never written): true where what is left begins with
+    /// the identifier octets of a BOOLEAN, in either form, and the value is TRUE; false where it doesn't begin so, and
+    /// then nothing is read.
+    ///
+    /// The errors are those of [Constructed::take_bool]; `Content` also for a FALSE that is written.
+    pub fn take_bool_default_false(&mut self) -> Result<bool, DecodeError>
+        ensures { ReadsWhere (HasTag boolean) (λ _. tt) SpellsTrue IsTrueFault (left self.old) (left self.new)
+            (written result) }
+    {
+        if !self.has_tag(Tag::BOOLEAN) {
+            return Ok(false);
+        }
+        let mut after = *self;
+        let contents = after.take_contents(Tag::BOOLEAN, false)?;
+        if !contents.rest_is(&[0xff]) {
+            return Err(DecodeError::Content(ContentError::from_static(
+                "malformed BOOLEAN DEFAULT FALSE",
+            )));
+        }
+        *self = after;
+        Ok(true)
     }
 
     /// The octets of an OCTET STRING (X.690 8.7) in primitive form.

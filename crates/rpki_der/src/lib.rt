@@ -3,7 +3,8 @@
 //! A reader takes a [Constructed], the cursor, and moves it past what it reads: `Constructed::new(&octets).take_oid()`.
 //! An encoder implements the trait [Values]: call `fits`, then `write_encoded`, or `Captured::from_values` to keep its
 //! octets.
-//! `crates/rpki_examples/src/revoked.rt` reads a SEQUENCE of its own; docs/CALLING.md explains it.
+//! `crates/rpki_examples/src/revoked.rt` reads a SEQUENCE of its own, and docs/CALLING.md explains it; `number_list.rt`
+//! beside it reads one with a context tag and a list.
 #![tactic(auto)]
 
 mod bit_string;
@@ -11,6 +12,7 @@ mod captured;
 mod composed;
 mod contents;
 mod cursor;
+mod each;
 mod encode;
 mod error;
 mod from_values;
@@ -30,7 +32,9 @@ mod walk;
 
 pub use bit_string::{BitSlice, BitString};
 pub use captured::Captured;
-pub use contents::{take_oid_contents, take_printable_contents, take_utf8_contents};
+pub use contents::{
+    take_ia5_contents, take_oid_contents, take_printable_contents, take_utf8_contents,
+};
 pub use cursor::{Constructed, Cursor};
 pub use encode::{Primitive, PrimitiveContent, Sequence, Set, Values, Wrapped, write_whole};
 pub use error::{ContentError, DecodeError};
@@ -41,5 +45,5 @@ pub use integer::{InvalidInteger, Unsigned};
 pub use members::Members;
 pub use oid::{ConstOid, Oid};
 pub use tag::{Class, Header, Steps, Tag};
-pub use text::{PrintableString, Utf8String};
+pub use text::{Ia5String, PrintableString, Utf8String};
 pub use value::Content;

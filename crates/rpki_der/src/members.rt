@@ -7,6 +7,7 @@ ghost use Rattle.rpki_der.specs.IndexMembers.{numbers_from, member_numbers, HasE
 ghost use Rattle.rpki_der.specs.IndexOrder.{AreInOrder, HasEnd};
 
 use crate::captured::Captured;
+use crate::cursor::Constructed;
 use crate::index::HeaderEntry;
 use std::alloc::AllocError;
 
@@ -108,6 +109,7 @@ fn entry_of(index: &[HeaderEntry], number: usize) -> HeaderEntry
 }
 
 impl Captured {
+    ghost use Rattle.rpki_der.specs.Cursor.{left};
     ghost use Rattle.rpki_der.specs.MembersLeft.{numbers_left};
 
     /// The entry of this number.
@@ -176,5 +178,20 @@ impl Captured {
         let found = self.entry(entry);
         let octets = self.as_slice();
         &octets[found.contents()..found.past()]
+    }
+
+    /// A cursor on the contents octets of the value whose entry has this number. What a reader keeps of them, it shares.
+    /// Allocates nothing.
+    ///
+    /// Requires that the number is below `headers().len()`.
+    pub fn contents_cursor(&self, entry: usize) -> Constructed<'_>
+        requires { HasEntry self.now entry }
+        ensures { (index : List Entry) (e : Entry) → IsIndex self.now index → slice_get index entry ≡ Some e
+            → left result ≡ slice_range self.now e.contents e.past }
+    {
+        let found = self.entry(entry);
+        let (_, following) = self.cursor().split_at(found.contents());
+        let (contents, _) = following.split_at(found.past() - found.contents());
+        contents
     }
 }

@@ -1,7 +1,7 @@
 //! Character strings (X.680 41).
 
 ghost use Rattle.std.specs.Prelude.{false, ◌≡◌, ◌↔◌, IsTrue, IfSome, IfNone, List, ℕ};
-ghost use Rattle.rpki_der.specs.Text.{is_printable, are_printable, IsPrintableText, IsUtf8Text};
+ghost use Rattle.rpki_der.specs.Text.{is_printable, are_printable, IsPrintableText, IsUtf8Text, IsIa5Text};
 
 use crate::cursor::Constructed;
 use crate::error::{ContentError, DecodeError};
@@ -58,6 +58,35 @@ impl<'a> Utf8String<'a> {
     }
 }
 
+/// A string of the characters of an IA5String: those of ASCII, whose octets are below 128 (X.680 41.1, table 8).
+#[derive(Debug, Drop)]
+pub struct Ia5String<'a> {
+    text: &'a str,
+}
+
+impl<'a> Model for Ia5String<'a> {
+    ghost use Rattle.std.specs.Prelude.{ℕ, List};
+    ghost use Rattle.std.specs.Str.{IsAscii};
+
+    ghost Value = { List ℕ };
+
+    ghost view = { λ s. s.text.now };
+
+    ghost invariant = { λ s. IsAscii s.text.now };
+}
+
+impl<'a> Ia5String<'a> {
+    ghost use Rattle.std.specs.Str.{IsAscii};
+
+    /// The string.
+    pub fn as_str(&self) -> &'a str
+        ensures text { result.now ≡ self.now }
+        ensures ascii { IsAscii self.now }
+    {
+        self.text
+    }
+}
+
 /// Whether the octet is a character of a PrintableString.
 fn is_printable(octet: u8) -> bool
     ensures { result ≡ is_printable octet }
@@ -101,9 +130,23 @@ pub(crate) fn utf8_of(contents: &[u8]) -> Option<Utf8String<'_>>
     }
 }
 
+/// The string with these contents, if each of them is below 128.
+pub(crate) fn ia5_of(contents: &[u8]) -> Option<Ia5String<'_>>
+    ensures value { IfSome result (λ s. IsIa5Text s contents.now) }
+    ensures none { IfNone result ((text : List ℕ) → IsIa5Text text contents.now → ⊥) }
+{
+    if !contents.is_ascii() {
+        return None;
+    }
+    match str::from_utf8(contents) {
+        Ok(text) => Some(Ia5String { text }),
+        Err(_) => None,
+    }
+}
+
 impl<'a> Constructed<'a> {
     ghost use Rattle.rpki_der.specs.Cursor.{left};
-    ghost use Rattle.rpki_der.specs.TagName.{printable_string, utf8_string};
+    ghost use Rattle.rpki_der.specs.TagName.{printable_string, utf8_string, ia5_string};
     ghost use Rattle.rpki_der.specs.Reading.{Reads};
     ghost use Rattle.rpki_der.specs.Values.{SpellsLeaf, IsLeafFault};
 
@@ -144,6 +187,25 @@ impl<'a> Constructed<'a> {
                 Ok(text)
             }
             None => Err(DecodeError::Content(ContentError::from_static("malformed UTF8String"))),
+        }
+    }
+
+    /// An IA5String (X.690 8.23, X.680 41.1).
+    ///
+    /// The errors are those of a header; then `Unexpected` for another tag or form; then `Truncated`; then `Content`
+    /// for an octet of 128 or more.
+    pub fn take_ia5(&mut self) -> Result<Ia5String<'a>, DecodeError>
+        ensures { Reads (λ s. s) (SpellsLeaf ia5_string false IsIa5Text) (IsLeafFault ia5_string false IsIa5Text)
+            (left self.old) (left self.new) result }
+    {
+        let mut after = *self;
+        let contents = after.take_contents(Tag::IA5_STRING, false)?;
+        match ia5_of(contents.rest()) {
+            Some(text) => {
+                *self = after;
+                Ok(text)
+            }
+            None => Err(DecodeError::Content(ContentError::from_static("malformed IA5String"))),
         }
     }
 }

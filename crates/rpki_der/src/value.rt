@@ -6,6 +6,8 @@ ghost use Rattle.rpki_der.specs.Wanted.{IsWanted};
 use crate::cursor::Constructed;
 use crate::error::DecodeError;
 use crate::tag::{Header, Tag};
+use bytes::Bytes;
+use std::alloc::Global;
 
 /// The contents of a value: octets, or values themselves (X.690 8.1.2.5).
 #[derive(Clone, Copy)]
@@ -43,7 +45,7 @@ impl<'a> Constructed<'a> {
     ghost use Rattle.rpki_der.specs.Cursor.{left};
     ghost use Rattle.rpki_der.specs.ContentView.{is_constructed, octets_of};
     ghost use Rattle.rpki_der.specs.TagName.{sequence, set};
-    ghost use Rattle.rpki_der.specs.Reading.{Reads, ReadsWhere};
+    ghost use Rattle.rpki_der.specs.Reading.{Reads, ReadsWhere, OrMemoryWhere, Finds};
     ghost use Rattle.rpki_der.specs.Values.{SpellsContents, HasTag, IsContentsFault};
     ghost use Rattle.rpki_der.specs.WantedValue.{SpellsWanted, IsWantedFault, IsAnyTag, IsPrimitive, IsTagged};
 
@@ -158,6 +160,23 @@ impl<'a> Constructed<'a> {
     {
         let contents = self.take_contents(tag, false)?;
         Ok(contents.rest())
+    }
+
+    /// The contents of a primitive value of this tag, as of an OCTET STRING or of an implicit context tag (X.690 8.14);
+    /// moves past it. It shares the octets with the input, or copies them where that is a slice. They are not
+    /// validated.
+    ///
+    /// The errors are those of [Constructed::take_primitive_if]; then `OutOfMemory` if allocation fails.
+    pub fn take_primitive_bytes_if(&mut self, alloc: Global, tag: Tag) -> Result<Bytes, DecodeError>
+        ensures { Reads (λ b. b) (SpellsContents tag false)
+            (OrMemoryWhere (Finds (SpellsContents tag false)) (IsContentsFault tag false)) (left self.old)
+            (left self.new) result }
+    {
+        let mut after = *self;
+        let contents = after.take_contents(tag, false)?;
+        let bytes = contents.to_bytes(alloc)?;
+        *self = after;
+        Ok(bytes)
     }
 
     /// A cursor on the contents of a constructed value of this tag, as of an explicit context tag (X.690 8.14); moves

@@ -1,6 +1,5 @@
 -- Which lemma file answers which question.
 --
--- Parts of a SEQUENCE; a URI beside another: PartLaws, BesideLaws.
+-- A URI beside another: BesideLaws.
 
-pub mod PartLaws
 pub mod BesideLaws

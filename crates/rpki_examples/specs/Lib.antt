@@ -1,3 +1,4 @@
 pub mod Revoked
 pub mod Beside
 pub mod Verified
+pub mod NumberList

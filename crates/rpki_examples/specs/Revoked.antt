@@ -5,7 +5,7 @@ use Rattle.rpki_der.specs.TagName.{sequence}
 use Rattle.rpki_der.specs.declared.error.DecodeError.{DecodeError}
 use Rattle.rpki_der.specs.Values.{SpellsLeaf}
 use Rattle.rpki_der.specs.FirstFault.{FirstFault, IsEndFault, IsInsideFault}
-use Rattle.rpki.specs.TwoParts.{SpellsBoth}
+use Rattle.rpki_der.specs.Parts.{Then}
 use Rattle.rpki_time.specs.Serial.{SpellsSerial, IsSerialFault}
 use Rattle.rpki_time.specs.TimeValue.{SpellsTime, IsTimeFault}
 use Rattle.rpki_examples.specs.declared.revoked.RevokedCertificate.{RevokedCertificate}
@@ -16,7 +16,7 @@ entry_of c = (c.serial, c.date)
 
 -- a serial number, and then a time
 abbrev pub IsRevoked : ℕ × DateTime → List ℕ → Type 0
-IsRevoked e contents = SpellsBoth SpellsSerial SpellsTime e.0 e.1 contents
+IsRevoked = Then SpellsSerial SpellsTime
 
 -- a SEQUENCE of the two
 abbrev pub SpellsRevoked : ℕ × DateTime → List ℕ → Type 0

@@ -1,13 +1,15 @@
 //! The layer as its users call it: verify signed data, write an algorithm type and a provider of one's own, read a
-//! SEQUENCE of one's own, join URIs. docs/CALLING.md quotes these files.
+//! SEQUENCE of one's own, and one with a context tag and a list, join URIs. docs/CALLING.md quotes these files.
 #![tactic(auto)]
 
+mod number_list;
 mod own_algorithm;
 mod own_provider;
 mod revoked;
 mod uris;
 mod verification;
 
+use crate::number_list::NumberList;
 use crate::own_algorithm::OwnAlgorithm;
 use crate::own_provider::OneSignature;
 use crate::revoked::RevokedCertificate;
@@ -33,6 +35,10 @@ const SIGNED_BY_OWN: &[u8] = b"\x30\x0C\x30\x00\x30\x04\x06\x02\x88\x37\x03\x02\
 
 /// The serial number 127 and the time 2024-02-29 12:00:00.
 const REVOKED: &[u8] = b"\x30\x12\x02\x01\x7F\x17\x0D240229120000Z";
+
+/// Version 1 for the purpose 2.999, with the numbers 64496 and 64497.
+const NUMBERS: &[u8] =
+    b"\x30\x15\xA0\x03\x02\x01\x01\x06\x02\x88\x37\x30\x0A\x02\x03\x00\xFB\xF0\x02\x03\x00\xFB\xF1";
 
 /// Whether the key that the octets are has signed both.
 fn both_verified(alloc: Global) -> Result<bool, DecodeError> {
@@ -67,6 +73,17 @@ fn year_of_revocation() -> Result<i32, DecodeError> {
     }
 }
 
+/// The version of a list, and the greatest of its numbers.
+fn greatest_number(alloc: Global) -> Result<(u8, Option<u64>), DecodeError> {
+    let octets = Bytes::from_static(NUMBERS);
+    let mut cons = Constructed::new(&octets);
+    let list = match NumberList::take_from(alloc, &mut cons) {
+        Ok(list) => list,
+        Err(e) => return Err(e),
+    };
+    Ok((list.version, list.numbers.iter().copied().max()))
+}
+
 /// The URI of an object beside a manifest.
 fn object(alloc: Global) -> Result<Option<Rsync>, Error> {
     let manifest = Rsync::from_str(alloc, "rsync://host/module/ca/ca.mft")?;
@@ -80,6 +97,11 @@ fn main(rt: HostRuntime) -> Result<()> {
     }
     match year_of_revocation() {
         Ok(year) => println!(rt; "revoked in {year}")?,
+        Err(e) => bail!("refused {}", e.number()),
+    }
+    match greatest_number(rt.alloc()) {
+        Ok((version, Some(number))) => println!(rt; "version {version}, up to {number}")?,
+        Ok((_, None)) => bail!("the list is empty"),
         Err(e) => bail!("refused {}", e.number()),
     }
     match object(rt.alloc())? {

@@ -7,6 +7,7 @@ pub mod Places
 pub mod Buffer
 pub mod Views
 pub mod SchemeText
+pub mod GeneralName
 pub mod HexText
 pub mod ErrorText
 pub mod Laws

@@ -9,6 +9,7 @@ mod general_name;
 mod https;
 mod https_view;
 mod path;
+mod read_general_name;
 mod rsync;
 mod rsync_view;
 mod scheme;

@@ -2,6 +2,7 @@
 --
 -- Serial numbers: SerialLaws, SerialReadingLaws, OctetLaws, WritingLaws.
 -- Times and validity periods: TimeLaws, TextLaws, TimeReadingLaws, TimeValueLaws, PeriodLaws, PeriodReadingLaws.
+-- What is hashed: HashLaws.
 -- What a reader returns where the octets are known: ReadBackLaws.
 
 pub mod OctetLaws

@@ -1,6 +1,8 @@
 //! URIs as general names and as IA5Strings.
 
-use rpki_der::{Captured, PrimitiveContent, Values};
+use crate::kinds::{Kind, kind_of};
+use bytes::Bytes;
+use rpki_der::{Captured, Constructed, PrimitiveContent, Tag, Values};
 use rpki_text::uri::{Error, Https, Rsync};
 use std::alloc::Global;
 
@@ -84,4 +86,157 @@ fn general_names(rt: HostRuntime) {
         let name = general_name(rt.alloc(), text);
         assert!(rt; has_front_and_text(name, front, text), "{text}");
     }
+}
+
+/// A name, the octets, the texts that are read as an rsync and as an https URI, and how many octets each leaves.
+type Name = (
+    &'static str,
+    &'static [u8],
+    Result<&'static str, Kind>,
+    usize,
+    Result<&'static str, Kind>,
+    usize,
+);
+
+const READ: &[Name] = &[
+    (
+        "an rsync URI, and an octet",
+        b"\x86\x14rSync://hOst/module/\x05",
+        Ok("rSync://hOst/module/"),
+        1,
+        Err(Kind::Content),
+        23,
+    ),
+    (
+        "an https URI",
+        b"\x86\x18hTtps://eXample.com/some",
+        Err(Kind::Content),
+        26,
+        Ok("hTtps://eXample.com/some"),
+        0,
+    ),
+    (
+        "an http URI",
+        b"\x86\x08http://a",
+        Err(Kind::Content),
+        10,
+        Err(Kind::Content),
+        10,
+    ),
+    (
+        "a DNS name",
+        b"\x82\x08https://",
+        Err(Kind::Unexpected),
+        10,
+        Err(Kind::Unexpected),
+        10,
+    ),
+    (
+        "an IA5String",
+        b"\x16\x08https://",
+        Err(Kind::Unexpected),
+        10,
+        Err(Kind::Unexpected),
+        10,
+    ),
+    (
+        "constructed",
+        b"\xa6\x08https://",
+        Err(Kind::Unexpected),
+        10,
+        Err(Kind::Unexpected),
+        10,
+    ),
+    (
+        "cut short",
+        b"\x86\x09https://",
+        Err(Kind::Truncated),
+        10,
+        Err(Kind::Truncated),
+        10,
+    ),
+    (
+        "nothing",
+        b"",
+        Err(Kind::Truncated),
+        0,
+        Err(Kind::Truncated),
+        0,
+    ),
+];
+
+fn read_rows() -> &'static [Name] {
+    READ
+}
+
+/// Whether the cursor gives the URI, or the kind of the error, and leaves so many octets.
+fn is_rsync(
+    alloc: Global,
+    mut cursor: Constructed<'_>,
+    text: Result<&'static str, Kind>,
+    left: usize,
+) -> bool {
+    let same = match (Rsync::take_general_name(alloc, &mut cursor), text) {
+        (Ok(uri), Ok(text)) => uri.as_slice() == text.as_bytes(),
+        (Err(e), Err(kind)) => kind_of(&e) == kind,
+        _ => false,
+    };
+    same && cursor.rest().len() == left
+}
+
+fn is_https(
+    alloc: Global,
+    mut cursor: Constructed<'_>,
+    text: Result<&'static str, Kind>,
+    left: usize,
+) -> bool {
+    let same = match (Https::take_general_name(alloc, &mut cursor), text) {
+        (Ok(uri), Ok(text)) => uri.as_slice() == text.as_bytes(),
+        (Err(e), Err(kind)) => kind_of(&e) == kind,
+        _ => false,
+    };
+    same && cursor.rest().len() == left
+}
+
+#[test]
+fn general_names_are_read(rt: HostRuntime) {
+    for (name, octets, rsync, rsync_left, https, https_left) in read_rows() {
+        let source: Bytes = Bytes::from_static(octets);
+        let alloc = rt.alloc();
+        assert!(rt;
+            is_rsync(alloc, Constructed::new(&source), *rsync, *rsync_left),
+            "{name}"
+        );
+        assert!(rt;
+            is_https(alloc, Constructed::new(&source), *https, *https_left),
+            "{name}"
+        );
+        assert!(rt;
+            is_rsync(alloc, Constructed::from_slice(octets), *rsync, *rsync_left),
+            "{name}"
+        );
+        assert!(rt;
+            is_https(alloc, Constructed::from_slice(octets), *https, *https_left),
+            "{name}"
+        );
+    }
+}
+
+/// The contents of a value of context tag 6, and how many octets are left.
+fn contents_of(alloc: Global, mut cursor: Constructed<'_>) -> (Result<Bytes, Kind>, usize) {
+    let found = match cursor.take_primitive_bytes_if(alloc, Tag::CTX_6) {
+        Ok(bytes) => Ok(bytes),
+        Err(e) => Err(kind_of(&e)),
+    };
+    (found, cursor.rest().len())
+}
+
+#[test]
+fn contents_are_shared(rt: HostRuntime) {
+    let octets: &'static [u8] = b"\x86\x02\x00\xff\x05";
+    let source: Bytes = Bytes::from_static(octets);
+    let (shared, left) = contents_of(rt.alloc(), Constructed::new(&source));
+    assert!(rt; left == 1 && shared.is_ok_and(|bytes| bytes.as_slice() == [0, 0xff].as_slice()));
+    let (copied, left) = contents_of(rt.alloc(), Constructed::from_slice(octets));
+    assert!(rt; left == 1 && copied.is_ok_and(|bytes| bytes.as_slice() == [0, 0xff].as_slice()));
 }

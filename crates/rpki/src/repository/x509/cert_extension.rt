@@ -140,6 +140,19 @@ impl CertExtension {
         self.parts().2
     }
 
+    /// A cursor on the octets of the OCTET STRING. What a reader keeps of them, it shares with the extension.
+    pub fn cursor(&self) -> Constructed<'_>
+        ensures { left result ≡ self.now.content }
+    {
+        let mut members = self.captured.members(Some(0));
+        members.next();
+        let second = members.next().unwrap();
+        match members.next() {
+            Some(third) => self.captured.contents_cursor(third),
+            None => self.captured.contents_cursor(second),
+        }
+    }
+
     /// An encoder for the extension: the identifier, TRUE where it is critical, and the OCTET STRING. FALSE is left
     /// out, as X.690 11.5 requires.
     pub fn encode_ref(&self) -> ExtensionBytes<'_>

@@ -1,4 +1,4 @@
-use Rattle.std.proofs.Common.{false, refl, sym, subst, List, ℕ, ◌∙◌}
+use Rattle.std.proofs.Common.{false, refl, sym}
 use Rattle.std.proofs.lemmas.Bool.{iff_false}
 use Rattle.rpki_der.specs.Leaves.{IsOidOf}
 use Rattle.rpki_der.specs.TagName.{oid}

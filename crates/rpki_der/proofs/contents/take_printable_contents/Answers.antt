@@ -1,5 +1,4 @@
-use Rattle.std.proofs.Common.{false, refl, sym, subst, List, ℕ, ◌∙◌}
-use Rattle.std.proofs.lemmas.Bool.{iff_false}
+use Rattle.std.proofs.Common.{false, refl, sym, subst, List, ℕ}
 use Rattle.rpki_der.specs.Text.{IsPrintableText}
 use Rattle.rpki_der.specs.TagName.{printable_string}
 use Rattle.rpki_der.proofs.LeavesLaws.{leaf-refused, leaf-accepted, leaf-bad}

@@ -1,8 +1,8 @@
-use Rattle.std.specs.Prelude.{false}
-use Rattle.rpki_der.specs.TagName.{null, boolean, integer, oid, bit_string, printable_string, utf8_string}
-use Rattle.rpki_der.specs.Leaves.{IsNull, IsBoolean, IsOidOf, IsBits}
-use Rattle.rpki_der.specs.Integer.{IsUnsigned}
-use Rattle.rpki_der.specs.Text.{IsPrintableText, IsUtf8Text}
+use Rattle.std.specs.Prelude.{true, false}
+use Rattle.rpki_der.specs.TagName.{null, boolean, integer, oid, bit_string, printable_string, utf8_string, ia5_string}
+use Rattle.rpki_der.specs.Leaves.{IsNull, IsBoolean, IsOnly, IsOidOf, IsBits, boolean_contents}
+use Rattle.rpki_der.specs.Integer.{IsUnsigned, IsUnsignedBelow}
+use Rattle.rpki_der.specs.Text.{IsPrintableText, IsUtf8Text, IsIa5Text}
 use Rattle.rpki_der.specs.WantedValue.{IsAnyTag, IsTagged}
 use Rattle.rpki_der.proofs.FaultKindLaws.{one-contents-fault, one-flat-fault, one-leaf-fault}
 use Rattle.rpki_der.proofs.laws.one_refusal.Goals as goal
@@ -36,3 +36,12 @@ returns-clause-printable c = one-leaf-fault printable_string false IsPrintableTe
 
 pub returns-clause-utf8 : goal.returns-clause-utf8
 returns-clause-utf8 c = one-leaf-fault utf8_string false IsUtf8Text
+
+pub returns-clause-ia5 : goal.returns-clause-ia5
+returns-clause-ia5 c = one-leaf-fault ia5_string false IsIa5Text
+
+pub returns-clause-small : goal.returns-clause-small
+returns-clause-small c = λ bound. one-leaf-fault integer false (IsUnsignedBelow bound)
+
+pub returns-clause-written : goal.returns-clause-written
+returns-clause-written c = one-leaf-fault boolean false (IsOnly (boolean_contents true))

@@ -1,5 +1,4 @@
-use Rattle.std.proofs.Common.{◌≡◌, ◌-◌, length, take, drop, arith}
-use Rattle.std.proofs.lemmas.List.{length-take-le, length-drop}
+use Rattle.std.proofs.Common.{arith}
 use Rattle.rpki_der.specs.Cursor.{left}
 use Rattle.rpki_der.proofs.CursorLaws.{source-front, source-back}
 use Rattle.rpki_der.proofs.cursor.Constructed.split_at.Goals as goal

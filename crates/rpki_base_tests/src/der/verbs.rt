@@ -1,0 +1,356 @@
+//! Small numbers, BOOLEAN DEFAULT FALSE, IA5String and lists.
+
+use crate::kinds::{Kind, kind_of};
+use bytes::Bytes;
+use rpki_der::*;
+use std::alloc::{AllocError, Global};
+use std::test::Fail;
+
+/// What was read, or the kind of the error.
+fn kinds<T: Drop>(outcome: Result<T, DecodeError>) -> Result<T, Kind> {
+    match outcome {
+        Ok(found) => Ok(found),
+        Err(e) => Err(kind_of(&e)),
+    }
+}
+
+/// A name, the octets, what `take_u8` and `take_u64` return, and how many octets each leaves.
+type Number = (
+    &'static str,
+    &'static [u8],
+    Result<u8, Kind>,
+    usize,
+    Result<u64, Kind>,
+    usize,
+);
+
+/// The octets of the numbers are those of X.690 8.3.
+const NUMBERS: &[Number] = &[
+    ("zero", &[2, 1, 0], Ok(0), 0, Ok(0), 0),
+    ("2, and an octet", &[2, 1, 2, 5], Ok(2), 1, Ok(2), 1),
+    ("127", &[2, 1, 0x7f], Ok(127), 0, Ok(127), 0),
+    ("128", &[2, 2, 0, 0x80], Ok(128), 0, Ok(128), 0),
+    ("255", &[2, 2, 0, 0xff], Ok(255), 0, Ok(255), 0),
+    ("256", &[2, 2, 1, 0], Err(Kind::Content), 4, Ok(256), 0),
+    (
+        "2^63 - 1",
+        &[2, 8, 0x7f, 0xff, 0xff, 0xff, 0xff, 0xff, 0xff, 0xff],
+        Err(Kind::Content),
+        10,
+        Ok(9_223_372_036_854_775_807),
+        0,
+    ),
+    (
+        "0x0102030405060708",
+        &[2, 8, 1, 2, 3, 4, 5, 6, 7, 8],
+        Err(Kind::Content),
+        10,
+        Ok(72_623_859_790_382_856),
+        0,
+    ),
+    (
+        "2^64 - 1",
+        &[2, 9, 0, 0xff, 0xff, 0xff, 0xff, 0xff, 0xff, 0xff, 0xff],
+        Err(Kind::Content),
+        11,
+        Ok(18_446_744_073_709_551_615),
+        0,
+    ),
+    (
+        "2^64",
+        &[2, 9, 1, 0, 0, 0, 0, 0, 0, 0, 0],
+        Err(Kind::Content),
+        11,
+        Err(Kind::Content),
+        11,
+    ),
+    (
+        "minus one",
+        &[2, 1, 0xff],
+        Err(Kind::Content),
+        3,
+        Err(Kind::Content),
+        3,
+    ),
+    (
+        "a needless zero",
+        &[2, 2, 0, 0x7f],
+        Err(Kind::Content),
+        4,
+        Err(Kind::Content),
+        4,
+    ),
+    (
+        "no contents",
+        &[2, 0],
+        Err(Kind::Content),
+        2,
+        Err(Kind::Content),
+        2,
+    ),
+    (
+        "a BOOLEAN",
+        &[1, 1, 0],
+        Err(Kind::Unexpected),
+        3,
+        Err(Kind::Unexpected),
+        3,
+    ),
+    (
+        "constructed",
+        &[0x22, 1, 0],
+        Err(Kind::Unexpected),
+        3,
+        Err(Kind::Unexpected),
+        3,
+    ),
+    (
+        "cut short",
+        &[2, 2, 0],
+        Err(Kind::Truncated),
+        3,
+        Err(Kind::Truncated),
+        3,
+    ),
+    (
+        "the indefinite form",
+        &[2, 0x80, 0, 0],
+        Err(Kind::BadLength),
+        4,
+        Err(Kind::BadLength),
+        4,
+    ),
+];
+
+fn number_rows() -> &'static [Number] {
+    NUMBERS
+}
+
+fn small(octets: &'static [u8]) -> (Result<u8, Kind>, usize) {
+    let mut cursor = Constructed::from_slice(octets);
+    let found = kinds(cursor.take_u8());
+    (found, cursor.rest().len())
+}
+
+fn large(octets: &'static [u8]) -> (Result<u64, Kind>, usize) {
+    let mut cursor = Constructed::from_slice(octets);
+    let found = kinds(cursor.take_u64());
+    (found, cursor.rest().len())
+}
+
+#[test]
+fn numbers_below_a_bound(rt: HostRuntime) {
+    for (name, octets, byte, byte_left, long, long_left) in number_rows() {
+        assert!(rt; small(octets) == (*byte, *byte_left), "{name}");
+        assert!(rt; large(octets) == (*long, *long_left), "{name}");
+    }
+}
+
+/// The octets, what a reader of BOOLEAN DEFAULT FALSE returns, and how many octets it leaves.
+type Default = (&'static str, &'static [u8], Result<bool, Kind>, usize);
+
+const DEFAULTS: &[Default] = &[
+    ("nothing", &[], Ok(false), 0),
+    ("another value", &[4, 1, 0xff], Ok(false), 3),
+    ("TRUE", &[1, 1, 0xff], Ok(true), 0),
+    ("TRUE, and an octet", &[1, 1, 0xff, 4], Ok(true), 1),
+    ("FALSE, written", &[1, 1, 0], Err(Kind::Content), 3),
+    ("TRUE as 01", &[1, 1, 1], Err(Kind::Content), 3),
+    ("two octets", &[1, 2, 0xff, 0xff], Err(Kind::Content), 4),
+    ("no contents", &[1, 0], Err(Kind::Content), 2),
+    ("constructed", &[0x21, 1, 0xff], Err(Kind::Unexpected), 3),
+    ("no length", &[1], Err(Kind::Truncated), 1),
+    ("cut short", &[1, 1], Err(Kind::Truncated), 2),
+    (
+        "a long length",
+        &[1, 0x81, 1, 0xff],
+        Err(Kind::BadLength),
+        4,
+    ),
+    ("no tag", &[0, 1, 0xff], Ok(false), 3),
+];
+
+fn default_rows() -> &'static [Default] {
+    DEFAULTS
+}
+
+fn defaulted(octets: &'static [u8]) -> (Result<bool, Kind>, usize) {
+    let mut cursor = Constructed::from_slice(octets);
+    let found = kinds(cursor.take_bool_default_false());
+    (found, cursor.rest().len())
+}
+
+#[test]
+fn the_default_is_never_written(rt: HostRuntime) {
+    for (name, octets, expected, left) in default_rows() {
+        assert!(rt; defaulted(octets) == (*expected, *left), "{name}");
+    }
+}
+
+/// The octets, the text of an IA5String, and how many octets are left.
+type Text = (
+    &'static str,
+    &'static [u8],
+    Result<&'static [u8], Kind>,
+    usize,
+);
+
+const TEXTS: &[Text] = &[
+    ("no characters", &[0x16, 0], Ok(b""), 0),
+    (
+        "a URI",
+        &[0x16, 4, 0x61, 0x3a, 0x2f, 0x2a, 5],
+        Ok(b"a:/*"),
+        1,
+    ),
+    ("00 and 7F", &[0x16, 2, 0, 0x7f], Ok(&[0, 0x7f]), 0),
+    ("80", &[0x16, 1, 0x80], Err(Kind::Content), 3),
+    ("UTF-8", &[0x16, 2, 0xc3, 0xa9], Err(Kind::Content), 4),
+    ("a UTF8String", &[0x0c, 1, 0x61], Err(Kind::Unexpected), 3),
+    ("constructed", &[0x36, 1, 0x61], Err(Kind::Unexpected), 3),
+    ("cut short", &[0x16, 2, 0x61], Err(Kind::Truncated), 3),
+];
+
+fn text_rows() -> &'static [Text] {
+    TEXTS
+}
+
+fn text_taken(octets: &'static [u8]) -> (Result<&'static [u8], Kind>, usize) {
+    let mut cursor = Constructed::from_slice(octets);
+    let found = match cursor.take_ia5() {
+        Ok(text) => Ok(text.as_str().as_bytes()),
+        Err(e) => Err(kind_of(&e)),
+    };
+    (found, cursor.rest().len())
+}
+
+fn contents_taken(octets: &'static [u8]) -> (Result<&'static [u8], Kind>, usize) {
+    let mut cursor = Constructed::from_slice(octets);
+    let found = match take_ia5_contents(&mut cursor) {
+        Ok(contents) => Ok(contents.rest()),
+        Err(e) => Err(kind_of(&e)),
+    };
+    (found, cursor.rest().len())
+}
+
+#[test]
+fn characters_of_ascii(rt: HostRuntime) {
+    for (name, octets, expected, left) in text_rows() {
+        assert!(rt; text_taken(octets) == (*expected, *left), "{name}");
+        assert!(rt; contents_taken(octets) == (*expected, *left), "{name}");
+    }
+}
+
+/// The octets, the numbers that are read one after another, and how many octets are left.
+type Numbers = (
+    &'static str,
+    &'static [u8],
+    Result<&'static [u8], Kind>,
+    usize,
+);
+
+const LISTS: &[Numbers] = &[
+    ("none", &[], Ok(&[]), 0),
+    ("one", &[2, 1, 7], Ok(&[7]), 0),
+    (
+        "three, in order",
+        &[2, 1, 3, 2, 1, 1, 2, 1, 2],
+        Ok(&[3, 1, 2]),
+        0,
+    ),
+    (
+        "a second of another tag",
+        &[2, 1, 1, 4, 0],
+        Err(Kind::Unexpected),
+        5,
+    ),
+    ("a first too large", &[2, 2, 1, 0], Err(Kind::Content), 4),
+    (
+        "a last cut short",
+        &[2, 1, 1, 2, 1],
+        Err(Kind::Truncated),
+        5,
+    ),
+];
+
+fn list_rows() -> &'static [Numbers] {
+    LISTS
+}
+
+/// The small numbers that these octets are.
+fn listed(alloc: Global, cursor: &mut Constructed<'_>) -> Result<Vec<u8>, DecodeError> {
+    cursor.take_each(alloc, |cons| cons.take_u8())
+}
+
+fn is_list(
+    alloc: Global,
+    octets: &'static [u8],
+    expected: Result<&[u8], Kind>,
+    left: usize,
+) -> bool {
+    let mut cursor = Constructed::from_slice(octets);
+    let same = match (listed(alloc, &mut cursor), expected) {
+        (Ok(numbers), Ok(list)) => numbers.as_slice() == list,
+        (Err(e), Err(kind)) => kind_of(&e) == kind,
+        _ => false,
+    };
+    same && cursor.rest().len() == left
+}
+
+#[test]
+fn lists_keep_their_order(rt: HostRuntime) {
+    for (name, octets, expected, left) in list_rows() {
+        assert!(rt; is_list(rt.alloc(), octets, *expected, *left), "{name}");
+    }
+}
+
+/// How many values are read by a reader that reads nothing, and how many octets are left.
+fn unmoved(alloc: Global, octets: &'static [u8]) -> (Result<usize, Kind>, usize) {
+    let mut cursor = Constructed::from_slice(octets);
+    let found: Result<Vec<bool>, DecodeError> = cursor.take_each(
+        alloc,
+        |cons| cons.take_bool_default_false(),
+    );
+    let count = match found {
+        Ok(values) => Ok(values.len()),
+        Err(e) => Err(kind_of(&e)),
+    };
+    (count, cursor.rest().len())
+}
+
+#[test]
+fn a_reader_that_reads_nothing_ends(rt: HostRuntime) {
+    let alloc = rt.alloc();
+    assert!(rt; unmoved(alloc, &[]) == (Ok(0), 0));
+    assert!(rt; unmoved(alloc, &[1, 1, 0xff]) == (Ok(1), 0));
+    assert!(rt; unmoved(alloc, &[5, 0]) == (Err(Kind::Trailing), 2));
+    assert!(rt; unmoved(alloc, &[1, 1, 0xff, 5, 0]) == (Err(Kind::Trailing), 5));
+}
+
+/// The octets of so many TRUEs.
+fn truths(alloc: Global, count: usize) -> Result<Vec<u8>, AllocError> {
+    let mut octets = Vec::new(alloc);
+    for _ in 0..count {
+        octets.extend_from_slice(&[1, 1, 0xff])?;
+    }
+    Ok(octets)
+}
+
+/// How many TRUEs are read of so many.
+fn counted(alloc: Global, count: usize) -> Result<usize, DecodeError> {
+    let octets = truths(alloc, count)?;
+    let mut cursor = Constructed::from_slice(octets.as_slice());
+    let found = cursor.take_each(alloc, |cons| cons.take_bool())?;
+    Ok(found.iter().filter(|value| **value).count())
+}
+
+const COUNTS: [usize; 9] = [0, 1, 127, 128, 255, 256, 65_535, 65_536, 1_000_000];
+
+#[test]
+fn lists_of_real_sizes(rt: HostRuntime) -> Result<(), Fail> {
+    for count in COUNTS {
+        let found = counted(rt.alloc(), count)?;
+        assert!(rt; found == count, "{count}");
+    }
+    Ok(())
+}

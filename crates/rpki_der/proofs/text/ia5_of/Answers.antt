@@ -1,0 +1,6 @@
+use Rattle.std.proofs.lemmas.Str.{IsUtf8-from_ascii}
+use Rattle.rpki_der.proofs.text.ia5_of.Goals as goal
+
+pub returns-in-Err-clause-none : goal.returns-in-Err-clause-none
+returns-in-Err-clause-none c =
+    λ text h. absurd (c.in-Err.ensures.cases.0 (IsUtf8-from_ascii c.args.contents.now h.1))

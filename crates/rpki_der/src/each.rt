@@ -1,0 +1,40 @@
+//! Values of one type, one after another.
+
+ghost use Rattle.rpki_der.specs.Cursor.{left};
+ghost use Rattle.rpki_der.specs.Each.{CallReads, ReadsEach};
+
+use crate::cursor::Constructed;
+use crate::error::DecodeError;
+use std::alloc::Global;
+
+impl<'a> Constructed<'a> {
+    /// The values of what is left, as the contents of a SEQUENCE OF or a SET OF are (X.690 8.10, 8.12), in their order:
+    /// `op` reads one after another, until nothing is left. There may be none.
+    ///
+    /// Returns the error of `op`; `Trailing` where `op` returns a value and the cursor hasn't moved on; `OutOfMemory`
+    /// if allocation fails for a value that was read. An error leaves the cursor where it was.
+    pub fn take_each<
+        T: Drop,
+        E: Drop + From<DecodeError>,
+        F: Fn(&mut Constructed<'a>) -> Result<T, E>,
+    >(&mut self, alloc: Global, op: F) -> Result<Vec<T>, E>
+        requires { F.IsAlwaysCallable op }
+        ensures { ReadsEach (λ v. v.items) (λ c e. E.from_gives c e) (CallReads F.Fn op) (left self.old)
+            (left self.new) result }
+    {
+        let mut rest = *self;
+        let mut values = Vec::new(alloc);
+        'values: while !rest.is_empty() {
+            let before = rest.len();
+            let value = op(&mut rest)?;
+            if rest.len() >= before {
+                return Err(E::from(DecodeError::Trailing));
+            }
+            if let Err(e) = values.push(value) {
+                return Err(E::from(DecodeError::from(e)));
+            }
+        }
+        *self = rest;
+        Ok(values)
+    }
+}
