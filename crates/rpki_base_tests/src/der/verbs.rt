@@ -354,3 +354,28 @@ fn lists_of_real_sizes(rt: HostRuntime) -> Result<(), Fail> {
     }
     Ok(())
 }
+
+/// A SEQUENCE of an OCTET STRING and a NULL, captured.
+fn captured(alloc: Global) -> Result<Captured, DecodeError> {
+    Constructed::from_slice(&[0x30, 5, 4, 1, 7, 5, 0]).capture_one(alloc)
+}
+
+/// What a cursor on the contents of the SEQUENCE and of the OCTET STRING has left.
+fn contents_left(found: &Captured) -> (&[u8], &[u8]) {
+    if found.headers().len() < 3 {
+        return (&[], &[]);
+    }
+    (
+        found.contents_cursor(0).rest(),
+        found.contents_cursor(1).rest(),
+    )
+}
+
+#[test]
+fn contents_of_captured_values(rt: HostRuntime) -> Result<(), Fail> {
+    let found = captured(rt.alloc())?;
+    let (sequence, string) = contents_left(&found);
+    assert!(rt; sequence == [4, 1, 7, 5, 0].as_slice());
+    assert!(rt; string == [7].as_slice());
+    Ok(())
+}
