@@ -4,7 +4,7 @@
 Checks that both programs print the same, and prints the nanoseconds of a call of each and their ratio. Each figure is
 the smallest of five runs, taken in turn.
 
-usage: bench/uris.py     (after `rt run -- repeat join 1 1` in crates/rpki_calls has built the program)"""
+usage: bench/uris.py     (after `rt run -- repeat join 1 1` in crates/hostile_calls has built the program)"""
 import os
 import resource
 import subprocess
@@ -12,7 +12,7 @@ import sys
 import tempfile
 
 TOP = os.path.dirname(os.path.dirname(os.path.abspath(__file__)))
-PROGRAM = os.path.join(TOP, "crates", "rpki_calls", "out", "rpki_calls")
+PROGRAM = os.path.join(TOP, "crates", "hostile_calls", "out", "hostile_calls")
 MINE = (PROGRAM, "repeat")
 CALLS = ["join", "parent", "relative_to", "is_parent_of", "is_identical_to"]
 RUNS = 5
@@ -28,7 +28,7 @@ def run(program, words):
 
 def main():
     if not os.path.exists(PROGRAM):
-        sys.exit("build the program first: in crates/rpki_calls, `rt run -- repeat join 1 1`")
+        sys.exit("build the program first: in crates/hostile_calls, `rt run -- repeat join 1 1`")
     with tempfile.TemporaryDirectory() as folder:
         plain = os.path.join(folder, "plain")
         other = (plain,)

@@ -1,4 +1,4 @@
-//! The five calls on rsync URIs in plain Rust on `&str`, as a measure: what `crates/rpki_calls` does, with the same
+//! The five calls on rsync URIs in plain Rust on `&str`, as a measure: what `crates/hostile_calls` does, with the same
 //! words and the same output.
 
 use std::env;

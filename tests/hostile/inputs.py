@@ -6,10 +6,10 @@ from programs import run
 from vectors import RSA_SIGNATURE, SIGNED, VALUES
 
 
-def lines(answer, count, left, finished, lent):
-    """What `rpki_calls cursor` tells."""
+def lines(answer, count, left, finished, borrowed):
+    """What `hostile_calls cursor` tells."""
     end = "finished" if finished else "unfinished 6"
-    text = f"{answer}\ncount {count}\nleft {left.hex().upper()}\n{end}\nlent {lent.hex().upper()}\n"
+    text = f"{answer}\ncount {count}\nleft {left.hex().upper()}\n{end}\nborrowed {borrowed.hex().upper()}\n"
     return (0, text.encode(), b"")
 
 

@@ -1,4 +1,4 @@
-"""Runs under `refuse.c`, which counts growths, and refuses some."""
+"""Runs under `refuse.c`, which counts allocations, and refuses some."""
 import os
 import subprocess
 import tempfile
@@ -15,8 +15,8 @@ def compiled(source, folder):
     return library
 
 
-class Growths(NamedTuple):
-    """How many growths a run met, and how many of them were refused."""
+class Allocations(NamedTuple):
+    """How many allocations a run met, and how many of them were refused."""
 
     met: int
     refused: int
@@ -35,24 +35,24 @@ class Shim:
         self.folder.cleanup()
 
     def run(self, program, words, octets, **refused):
-        """A run that refuses what REFUSE or REFUSE_FROM says, and its growths. A run that does not come to its end, or
+        """A run that refuses what REFUSE or REFUSE_FROM says, and its allocations. A run that does not come to its end, or
         is not under the shim, met none."""
         if os.path.exists(self.count):
             os.remove(self.count)
         environment = {**os.environ, "LD_PRELOAD": self.library, "COUNT_FILE": self.count, **refused}
         seen = run_refused(program, words, octets, env=environment)
-        growths = Growths(0, 0)
+        allocations = Allocations(0, 0)
         if os.path.exists(self.count):
             with open(self.count, encoding="ascii") as count:
-                growths = Growths(*map(int, count.read().split()))
-        return seen.after(growths.refused), growths
+                allocations = Allocations(*map(int, count.read().split()))
+        return seen.after(allocations.refused), allocations
 
     def runs(self, program, words, octets, alone):
-        """Runs with each growth refused in turn, alone or with all later ones, until a run meets none: the number of
-        the growth, whether one was refused, and what is seen."""
-        growth, refused = 0, True
+        """Runs with each allocation refused in turn, alone or with all later ones, until a run meets none: the number of
+        the allocation, whether one was refused, and what is seen."""
+        allocation, refused = 0, True
         while refused:
-            growth += 1
-            seen, growths = self.run(program, words, octets, **{"REFUSE" if alone else "REFUSE_FROM": str(growth)})
-            refused = growths.refused > 0
-            yield growth, refused, seen
+            allocation += 1
+            seen, allocations = self.run(program, words, octets, **{"REFUSE" if alone else "REFUSE_FROM": str(allocation)})
+            refused = allocations.refused > 0
+            yield allocation, refused, seen

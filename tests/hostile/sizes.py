@@ -9,7 +9,7 @@ import os
 from itertools import chain
 
 from der import bits, contents, members, nested, sequence, tlv, unsigned
-from growths import made, on_cursor, on_octets, on_uri, on_value
+from allocations import made, on_cursor, on_octets, on_uri, on_value
 from programs import TOP
 from shim import Shim
 from vectors import COMMON_NAME, P256_KEY, RSA_KEY, RSA_SIGNATURE
@@ -314,11 +314,11 @@ def under_shim(programs, rows):
     calls = 0
     with Shim() as shim:
         for name, call in rows:
-            seen, growths = shim.run(programs.calls, call.words, call.octets)
+            seen, allocations = shim.run(programs.calls, call.words, call.octets)
             words = " ".join(call.words)[:60]
             calls += 1
             yield f"{words}, {name}", seen, (0, call.answer, b"")
-            yield f"{words}, {name}, is under the shim", growths.met > 0 and growths.refused == 0, True
+            yield f"{words}, {name}, is under the shim", allocations.met > 0 and allocations.refused == 0, True
     return f"{calls} calls"
 
 

@@ -1,6 +1,6 @@
 """Each named encoder over writers that fail: at the first call, at the second, and so on until none fails.
 
-`rpki_calls write` does that in twelve ways, and tells of each writer in a line: its number, the call that fails (from
+`hostile_calls write` does that in twelve ways, and tells of each writer in a line: its number, the call that fails (from
 0), how often it was called, how the encoder ended, and the octets that it holds. The first six take an octet at a call,
 the other six what they are given; of each six the first three fail once, the others from that call on."""
 from der import bits, sequence, tlv
@@ -24,7 +24,7 @@ ENCODERS = [
     ("uri", b"ab", tlv(0x86, b"ab")),
     ("unsigned", b"\x00\x80", bytes.fromhex("02020080")),
     ("bits", BITS, BITS),
-    ("lent_bits", BITS, BITS),
+    ("borrowed_bits", BITS, BITS),
     ("captured", NAME, NAME),
     ("sequence", NAME, sequence(NAME)),
     ("set", NAME, tlv(0x31, NAME)),
@@ -42,7 +42,7 @@ ENCODERS = [
     ("cms", b"", RSA_KEY),
     ("bgpsec", b"", ECDSA_SIGNATURE),
     ("key", KEY, KEY),
-    ("lent_key", KEY, KEY),
+    ("borrowed_key", KEY, KEY),
     ("subject", KEY, SUBJECT),
     ("key_identifier", KEY, tlv(0x04, KEY_IDENTIFIER)),
     ("name", NAME, NAME),

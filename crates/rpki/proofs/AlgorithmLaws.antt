@@ -6,7 +6,7 @@ use Rattle.rpki_der.specs.TagName.{oid, null}
 use Rattle.rpki_der.specs.declared.error.DecodeError.{DecodeError}
 use Rattle.rpki_der.specs.Reading.{Spells, Accepts, Refuses, SpellsNothing, ReadsWhere}
 use Rattle.rpki_der.specs.FirstFault.{ReadsParts}
-use Rattle.rpki_der.specs.FirstFault.FirstFault.{Behind}
+use Rattle.rpki_der.specs.FirstFault.FirstFault.{Later}
 use Rattle.rpki.specs.AlgorithmFault.{IsParametersFault, IsNamedFault}
 use Rattle.rpki_der.specs.Values.{SpellsLeaf, HasTag, IsLeafFault}
 use Rattle.rpki_der.specs.Leaves.{IsNull, IsOnly}
@@ -59,5 +59,5 @@ parameters-not-read m r (Some x) h some false k = tag-empty null (subst (HasTag 
 
 pub parameters-all : (o c m r : List ℕ) (x : Result Bool DecodeError) → Accepts (SpellsLeaf oid false (IsOnly o)) c tt m
     → ReadsParts (λ b. b) IsParameters IsParametersFault m r x → ReadsParts (λ b. b) (IsIdentified o) (IsNamedFault o IsParametersFault) c r x
-parameters-all o c m r (Ok b) a h = (λ end. identified-read o c m b a (h.0 end), λ some. (no-parameters o c m a (h.1 some).0, Behind tt m a (h.1 some).1))
-parameters-all o c m r (Err e) a h = (UnlessMemory-weaker e (no-parameters o c m a) h.0, Behind tt m a h.1)
+parameters-all o c m r (Ok b) a h = (λ end. identified-read o c m b a (h.0 end), λ some. (no-parameters o c m a (h.1 some).0, Later tt m a (h.1 some).1))
+parameters-all o c m r (Err e) a h = (UnlessMemory-weaker e (no-parameters o c m a) h.0, Later tt m a h.1)

@@ -9,7 +9,7 @@ use Rattle.rpki_der.specs.Leaves.{IsOidOf, IsBoolean}
 use Rattle.rpki_der.specs.Members.{SpellsValue}
 use Rattle.rpki_der.specs.Walk.{HasEither}
 use Rattle.rpki_der.specs.FirstFault.{OptionalFault, IsEndFault}
-use Rattle.rpki_der.specs.FirstFault.FirstFault.{AtPart, Behind}
+use Rattle.rpki_der.specs.FirstFault.FirstFault.{AtPart, Later}
 use Rattle.rpki_der.proofs.ReadingLaws.{UnlessMemory-weaker}
 use Rattle.rpki_der.proofs.LeavesLaws.{leaf-no-memory, contents-no-memory}
 use Rattle.rpki_der.proofs.ComposedLaws.{outer-refused, inner-refused}
@@ -23,7 +23,7 @@ use Rattle.rpki.proofs.ExtensionLaws.{value-of}
 pub behind-optional : {X V : Type 0} (B : List ℕ → Type 0) (view : X → V) (G : V → List ℕ → Type 0) (K L : List ℕ → DecodeError → Type 0) (s r : List ℕ) (p : Option X) (e : DecodeError)
     → ReadsWhere B view G K s r (Ok p) → L r e → OptionalFault B G K L s e
 behind-optional B view G K L s r None e h l = inl (h.0, subst (λ (x : List ℕ). L x e) h.1 l)
-behind-optional B view G K L s r (Some x) e h l = inr (h.0, Behind (view x) r h.1 l)
+behind-optional B view G K L s r (Some x) e h l = inr (h.0, Later (view x) r h.1 l)
 
 -- nothing is allocated
 content-never : (s : List ℕ) → IsContentFault s OutOfMemory → ⊥
@@ -59,7 +59,7 @@ no-sequence s q e h = record { unchanged = refl; refuses = (outer-refused sequen
 -- its contents spell nothing
 pub no-parts : (s c q : List ℕ) (e : DecodeError) → Accepts (SpellsContents sequence true) s c q → UnlessMemory e (SpellsNothing IsExtensionContents c) × IsExtensionPartsFault c e
     → Refusal SpellsExtension IsCertExtensionFault s s e
-no-parts s c q e a h = record { unchanged = refl; refuses = (inner-refused sequence true IsExtensionContents s c q s e refl a h.0).refuses; kind = Behind c q a h.1 }
+no-parts s c q e a h = record { unchanged = refl; refuses = (inner-refused sequence true IsExtensionContents s c q s e refl a h.0).refuses; kind = Later c q a h.1 }
 
 -- it isn't there, or could not be kept
 pub extension-refused : (s q r : List ℕ) (e : DecodeError) → r ≡ s → Refusal SpellsExtension IsCertExtensionFault s q e → Refusal SpellsExtension IsKeptExtensionFault s r e

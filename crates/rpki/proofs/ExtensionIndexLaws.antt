@@ -99,8 +99,8 @@ HasContents octets n c = (index : List Entry) × (e : Entry) × IsIndex octets i
 abbrev pub Lends : List ℕ → ℕ → List ℕ → Type 0
 Lends octets n found = (index : List Entry) (e : Entry) → IsIndex octets index → slice_get index n ≡ Some e → found ≡ slice_range octets e.contents e.past
 
-pub lent : (octets : List ℕ) (n m : ℕ) (r : Option ℕ) (c found : List ℕ) → r ≡ Some n → r ≡ Some m → HasContents octets m c → Lends octets n found → found ≡ c
-lent octets n m r c found e f h l =
+pub borrowed : (octets : List ℕ) (n m : ℕ) (r : Option ℕ) (c found : List ℕ) → r ≡ Some n → r ≡ Some m → HasContents octets m c → Lends octets n found → found ≡ c
+borrowed octets n m r c found e f h l =
     let same : n ≡ m = cc in
     l h.0 h.1 h.2 (ap (λ (k : ℕ). slice_get h.0 k) same ∙ h.3) ∙ h.4
 

@@ -5,7 +5,7 @@ use Rattle.rpki_der.specs.Header.{tlv}
 use Rattle.rpki_der.specs.declared.error.DecodeError.{DecodeError}
 use Rattle.rpki_der.specs.Reading.{Spells, Accepts, Refuses, SpellsNothing}
 use Rattle.rpki_der.specs.FirstFault.{ReadsParts}
-use Rattle.rpki_der.specs.FirstFault.FirstFault.{Behind}
+use Rattle.rpki_der.specs.FirstFault.FirstFault.{Later}
 use Rattle.rpki.specs.AlgorithmFault.{IsParametersFault, IsAnyNamedFault, IsCmsRestFault}
 use Rattle.rpki_der.proofs.ReadingLaws.{UnlessMemory-weaker}
 use Rattle.rpki_der.specs.Values.{SpellsLeaf}
@@ -142,5 +142,5 @@ cms-not-read c x m a none b h = none b (cms-parameters c x m b a h)
 
 pub cms-all : (c x m r : List ℕ) (y : Result Bool DecodeError) → Accepts AnyName c x m → (x ≡ rsa_encryption) ⊎ (x ≡ sha256_with_rsa_encryption)
     → ReadsParts (λ b. b) IsParameters IsParametersFault m r y → ReadsParts (λ b. b) IsCmsContents (IsAnyNamedFault IsCmsRestFault) c r y
-cms-all c x m r (Ok b) a known h = (λ end. cms-read c x m b a known (h.0 end), λ some. (cms-not-read c x m a (h.1 some).0, Behind x m a (inl (known, (h.1 some).1))))
-cms-all c x m r (Err e) a known h = (UnlessMemory-weaker e (cms-not-read c x m a) h.0, Behind x m a (inl (known, h.1)))
+cms-all c x m r (Ok b) a known h = (λ end. cms-read c x m b a known (h.0 end), λ some. (cms-not-read c x m a (h.1 some).0, Later x m a (inl (known, (h.1 some).1))))
+cms-all c x m r (Err e) a known h = (UnlessMemory-weaker e (cms-not-read c x m a) h.0, Later x m a (inl (known, h.1)))

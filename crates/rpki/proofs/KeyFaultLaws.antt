@@ -8,7 +8,7 @@ use Rattle.rpki_der.specs.Values.{SpellsLeaf, IsLeafFault, GivesOuterFault, IsOu
 use Rattle.rpki_der.specs.Integer.{IsUnsigned}
 use Rattle.rpki_der.specs.Inside.{HasInside}
 use Rattle.rpki_der.specs.FirstFault.{FirstFault, IsEndFault}
-use Rattle.rpki_der.specs.FirstFault.FirstFault.{AtPart, Behind}
+use Rattle.rpki_der.specs.FirstFault.FirstFault.{AtPart, Later}
 use Rattle.rpki_der.proofs.LeavesLaws.{leaf-no-memory}
 use Rattle.rpki_der.proofs.ComposedLaws.{not-read}
 use Rattle.rpki_der.proofs.FirstFaultLaws.{first-no-memory, end-no-memory, inside-outer-exactly, inside-outer-where}
@@ -19,8 +19,8 @@ use Rattle.rpki.proofs.AlgorithmFaultLaws.{format-outer}
 
 key-parts-memory : (c : List ℕ) → IsKeyPartsFault c OutOfMemory → Finds IsKeyContents c
 key-parts-memory c (AtPart none k) = absurd ((format-outer c OutOfMemory k).other refl)
-key-parts-memory c (Behind f r a (AtPart none k)) = key-found c r f a.spells k
-key-parts-memory c (Behind f r a (Behind b q d k)) = absurd (end-no-memory q k)
+key-parts-memory c (Later f r a (AtPart none k)) = key-found c r f a.spells k
+key-parts-memory c (Later f r a (Later b q d k)) = absurd (end-no-memory q k)
 
 -- allocation may fail only where both parts are there
 pub key-outer : (s : List ℕ) (e : DecodeError) → IsKeyFault s e → OrMemoryWhere (HasInside sequence (Finds IsKeyContents)) (GivesOuterFault sequence true) s e

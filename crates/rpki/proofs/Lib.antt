@@ -5,8 +5,8 @@
 -- Signed data; its errors: SigningLaws, SignedLaws, EqualLaws, SignedFaultLaws.
 -- Keys and key identifiers; errors of keys: PublicKeyLaws, KeyIdentifierLaws, KeyFaultLaws.
 -- Extensions; their errors: ExtensionLaws, ExtensionIndexLaws, ExtensionFaultLaws.
--- Names; their errors: NameLaws, OneNameLaws, NameFaultLaws, InspectionLaws, WithoutOrganizationLaws,
---   SubjectLaws, StrictSubjectLaws.
+-- Names; their errors, and the rules of profiles: NameLaws, OneNameLaws, NameFaultLaws, RuleLaws, InspectionLaws,
+--   WithoutOrganizationLaws, SubjectLaws, StrictSubjectLaws.
 
 pub mod AlgorithmLaws
 pub mod TwoPartsLaws

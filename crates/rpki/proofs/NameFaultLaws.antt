@@ -10,7 +10,7 @@ use Rattle.rpki_der.specs.Members.{SpellsValue}
 use Rattle.rpki_der.specs.Walk.{HasEither}
 use Rattle.rpki_der.specs.Inside.{HasInside}
 use Rattle.rpki_der.specs.FirstFault.{RepeatedFault, IsInsideFault}
-use Rattle.rpki_der.specs.FirstFault.FirstFault.{AtPart, Behind}
+use Rattle.rpki_der.specs.FirstFault.FirstFault.{AtPart, Later}
 use Rattle.rpki_der.specs.FirstFault.RepeatedFault.{AtMember, AfterMember}
 use Rattle.rpki_der.proofs.ReadingLaws.{UnlessMemory-weaker}
 use Rattle.rpki_der.proofs.LeavesLaws.{leaf-no-memory, contents-no-memory}
@@ -38,7 +38,7 @@ is-nothing (x ∷ xs) h = absurd (h (λ e. cc))
 
 inside-memory : (t : TagName) (L : List ℕ → DecodeError → Type 0) (P : List ℕ → Type 0) (s : List ℕ) → ((c : List ℕ) → L c OutOfMemory → P c) → IsInsideFault t true L s OutOfMemory → HasInside t P s
 inside-memory t L P s g (AtPart none k) = absurd (contents-no-memory t true s OutOfMemory k refl)
-inside-memory t L P s g (Behind c r a l) = (c, r, a.spells, g c l)
+inside-memory t L P s g (Later c r a l) = (c, r, a.spells, g c l)
 
 repeated-memory : {V : Type 0} (t : TagName) (C : V → List ℕ → Type 0) (K : List ℕ → DecodeError → Type 0) (P : List ℕ → Type 0) (s : List ℕ)
     → ((r : List ℕ) → K r OutOfMemory → P r) → RepeatedFault (SpellsLeaf t true (SpellsAny C)) K s OutOfMemory → HasAfter (SpellsLeaf t true C) P s
@@ -56,9 +56,9 @@ repeated-memory t C K P s f (AfterMember v r a h) =
 
 attribute-memory : (c : List ℕ) → IsAttributePartsFault c OutOfMemory → IdentifiesValue c
 attribute-memory c (AtPart none k) = absurd (leaf-no-memory oid false IsOidOf c OutOfMemory k refl)
-attribute-memory c (Behind x r a (inl h)) = absurd h.1
-attribute-memory c (Behind x r a (inr (AtPart none k))) = (_, (identified c r x a).0, (true, k))
-attribute-memory c (Behind x r a (inr (Behind v q b k))) = absurd (end-no-memory q k)
+attribute-memory c (Later x r a (inl h)) = absurd h.1
+attribute-memory c (Later x r a (inr (AtPart none k))) = (_, (identified c r x a).0, (true, k))
+attribute-memory c (Later x r a (inr (Later v q b k))) = absurd (end-no-memory q k)
 
 attributes-memory : (c : List ℕ) → IsAttributesFault c OutOfMemory → HasAfter SpellsAttribute HasAttributeValue c
 attributes-memory c (inl h) = absurd h.1

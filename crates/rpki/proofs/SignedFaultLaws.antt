@@ -9,7 +9,7 @@ use Rattle.rpki_der.specs.Members.{SpellsValue}
 use Rattle.rpki_der.specs.Walk.{HasEither}
 use Rattle.rpki_der.specs.Inside.{HasInside}
 use Rattle.rpki_der.specs.FirstFault.{FirstFault, IsEndFault}
-use Rattle.rpki_der.specs.FirstFault.FirstFault.{AtPart, Behind}
+use Rattle.rpki_der.specs.FirstFault.FirstFault.{AtPart, Later}
 use Rattle.rpki_der.proofs.FirstFaultLaws.{memory-where, end-no-memory, inside-outer-where, whole-kind}
 use Rattle.rpki.specs.SignedData.{IsSignedContents, SpellsSigned}
 use Rattle.rpki.specs.KeyFault.{IsBitsFault}
@@ -23,12 +23,12 @@ module _ {A : Type 0} (spells : A → List ℕ → Type 0) (K L M : List ℕ →
     (h : (s v m q : List ℕ) → Accepts SpellsValue s v m → M q OutOfMemory → P s) where
   pub three-memory : (s : List ℕ) → IsThreeFault spells K L M s OutOfMemory → P s
   three-memory s (AtPart none k) = f s k
-  three-memory s (Behind v m a (AtPart none k)) = absurd (g m k)
-  three-memory s (Behind v m a (Behind x q b k)) = h s v m q a k
+  three-memory s (Later v m a (AtPart none k)) = absurd (g m k)
+  three-memory s (Later v m a (Later x q b k)) = h s v m q a k
 
   all-memory : (c : List ℕ) → FirstFault (IsSignedContents spells) (IsThreeFault spells K L M) (λ x. IsEndFault) c OutOfMemory → P c
   all-memory c (AtPart none k) = three-memory c k
-  all-memory c (Behind x q a k) = absurd (end-no-memory q k)
+  all-memory c (Later x q a k) = absurd (end-no-memory q k)
 
   -- the error of the SEQUENCE, where that isn't there
   pub three-outer : (s : List ℕ) (e : DecodeError) → IsThreeInsideFault spells K L M s e → OrMemoryWhere (HasInside sequence P) (GivesOuterFault sequence true) s e

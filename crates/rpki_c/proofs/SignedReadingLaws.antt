@@ -10,7 +10,7 @@ use Rattle.rpki_der.specs.WantedValue.{SpellsWanted, IsTagged}
 use Rattle.rpki_der.specs.Leaves.{Bits, IsBits, bits_of}
 use Rattle.rpki_der.specs.Walk.{HasConstructed}
 use Rattle.rpki_der.specs.Inside.{HasInside}
-use Rattle.rpki_der.specs.FirstFault.FirstFault.{AtPart, Behind}
+use Rattle.rpki_der.specs.FirstFault.FirstFault.{AtPart, Later}
 use Rattle.rpki_der.proofs.LeavesLaws.{leaf-no-memory}
 use Rattle.rpki_der.proofs.ComposedLaws.{outer-refused, inner-refused}
 use Rattle.rpki.specs.Oids.{sha256_with_rsa_encryption}
@@ -87,7 +87,7 @@ pub parts-refused : (s c q : List ℕ) (e : DecodeError) → Accepts (SpellsCont
     → UnlessMemory e (SpellsNothing AreParts c) × IsAllPartsFault c e → Refusal SpellsRpki IsSignedFault s s e
 parts-refused s c q e a h =
     let k = inner-refused sequence true AreParts s c q s e refl a h.0 in
-    record { unchanged = refl; refuses = k.refuses; kind = Behind c q a h.1 }
+    record { unchanged = refl; refuses = k.refuses; kind = Later c q a h.1 }
 
 -- ---- where allocation may fail, and the error of the SEQUENCE where that isn't there
 

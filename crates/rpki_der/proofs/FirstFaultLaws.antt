@@ -13,7 +13,7 @@ use Rattle.rpki_der.specs.Inside.{HasInside}
 use Rattle.rpki_der.specs.Composed.{NotInside, ReadsInside, ReadsAll}
 use Rattle.rpki_der.specs.Composed.NotInside.{Outside, Refused, More}
 use Rattle.rpki_der.specs.FirstFault.{FirstFault, OptionalFault, IsEndFault, RepeatedFault, IsInsideFault, ReadsParts}
-use Rattle.rpki_der.specs.FirstFault.FirstFault.{AtPart, Behind}
+use Rattle.rpki_der.specs.FirstFault.FirstFault.{AtPart, Later}
 use Rattle.rpki_der.specs.FirstFault.RepeatedFault.{AtMember, AfterMember}
 use Rattle.rpki_der.proofs.ReadingLaws.{UnlessMemory-weaker}
 use Rattle.rpki_der.proofs.LeavesLaws.{contents-no-memory}
@@ -33,24 +33,24 @@ at-part G K L s r e h = AtPart h.refuses h.kind
 -- the second isn't
 pub at-second : {V W : Type 0} (G : V → List ℕ → Type 0) (K : Kind) (H : W → List ℕ → Type 0) (M : Kind) (L : V → W → Kind) (s r q : List ℕ) (v : V) (e : DecodeError)
     → Accepts G s v r → Refusal H M r q e → FirstFault G K (λ v. FirstFault H M (L v)) s e
-at-second G K H M L s r q v e a h = Behind v r a (at-part H M (L v) r q e h)
+at-second G K H M L s r q v e a h = Later v r a (at-part H M (L v) r q e h)
 
 -- the third isn't
 pub at-third : {V W U : Type 0} (G : V → List ℕ → Type 0) (K : Kind) (H : W → List ℕ → Type 0) (M : Kind) (J : U → List ℕ → Type 0) (N : Kind) (L : V → W → U → Kind)
     (s r q p : List ℕ) (v : V) (w : W) (e : DecodeError)
     → Accepts G s v r → Accepts H r w q → Refusal J N q p e → FirstFault G K (λ v. FirstFault H M (λ w. FirstFault J N (L v w))) s e
-at-third G K H M J N L s r q p v w e a b h = Behind v r a (at-second H M J N (L v) r q p w e b h)
+at-third G K H M J N L s r q p v w e a b h = Later v r a (at-second H M J N (L v) r q p w e b h)
 
 -- something follows the second
 pub after-second : {V W : Type 0} (G : V → List ℕ → Type 0) (K : Kind) (H : W → List ℕ → Type 0) (M : Kind) (s r q : List ℕ) (v : V) (w : W)
     → Accepts G s v r → Accepts H r w q → q ≢ [] → FirstFault G K (λ v. FirstFault H M (λ w. IsEndFault)) s Trailing
-after-second G K H M s r q v w a b some = Behind v r a (Behind w q b (some, refl))
+after-second G K H M s r q v w a b some = Later v r a (Later w q b (some, refl))
 
 -- something follows the third
 pub after-third : {V W U : Type 0} (G : V → List ℕ → Type 0) (K : Kind) (H : W → List ℕ → Type 0) (M : Kind) (J : U → List ℕ → Type 0) (N : Kind)
     (s r q p : List ℕ) (v : V) (w : W) (u : U)
     → Accepts G s v r → Accepts H r w q → Accepts J q u p → p ≢ [] → FirstFault G K (λ v. FirstFault H M (λ w. FirstFault J N (λ u. IsEndFault))) s Trailing
-after-third G K H M J N s r q p v w u a b c some = Behind v r a (after-second H M J N r q p w u b c some)
+after-third G K H M J N s r q p v w u a b c some = Later v r a (after-second H M J N r q p w u b c some)
 
 -- an optional part that is there in part alone
 pub at-optional : {V : Type 0} (B : List ℕ → Type 0) (G : V → List ℕ → Type 0) (K L : Kind) (s r : List ℕ) (e : DecodeError) → B s × Refusal G K s r e → OptionalFault B G K L s e
@@ -60,17 +60,17 @@ at-optional B G K L s r e h = inr (h.0, AtPart h.1.refuses h.1.kind)
 pub after-optional : {X V : Type 0} (B : List ℕ → Type 0) (view : X → V) (G : V → List ℕ → Type 0) (K : Kind) (s r : List ℕ) (p : Option X)
     → ReadsWhere B view G K s r (Ok p) → r ≢ [] → OptionalFault B G K IsEndFault s Trailing
 after-optional B view G K s r None h some = inl (h.0, (λ z. some (h.1 ∙ z), refl))
-after-optional B view G K s r (Some x) h some = inr (h.0, Behind (view x) r h.1 (some, refl))
+after-optional B view G K s r (Some x) h some = inr (h.0, Later (view x) r h.1 (some, refl))
 
 -- what follows a part that is there, whatever it is; and where no part is there
 module _ {V : Type 0} (G : V → List ℕ → Type 0) (K : Kind) (L : V → Kind) (s : List ℕ) (e : DecodeError) where
   pub where-missing : FirstFault G K L s e → Refuses G s → K s e
   where-missing (AtPart none k) h = k
-  where-missing (Behind v r a l) h = absurd (h v r a.spells)
+  where-missing (Later v r a l) h = absurd (h v r a.spells)
 
   pub where-found : FirstFault G K L s e → e ≢ OutOfMemory → (v : V) (r : List ℕ) → Spells G s v r → L v r e
   where-found (AtPart none k) n v r h = absurd (unless-memory e n none v r h)
-  where-found (Behind w q a l) n v r h =
+  where-found (Later w q a l) n v r h =
       let is = a.only v r h in
       subst (λ (x : V). L x r e) (sym is.0) (subst (λ (x : List ℕ). L w x e) (sym is.1) l)
 
@@ -78,7 +78,7 @@ module _ {V : Type 0} (G : V → List ℕ → Type 0) (K : Kind) (L : V → Kind
 pub weaker : {V : Type 0} (G : V → List ℕ → Type 0) (K M : Kind) (L N : V → Kind) (s : List ℕ) (e : DecodeError) → (K s e → M s e) → ((v : V) (r : List ℕ) → L v r e → N v r e)
     → FirstFault G K L s e → FirstFault G M N s e
 weaker G K M L N s e f g (AtPart none k) = AtPart none (f k)
-weaker G K M L N s e f g (Behind v r a l) = Behind v r a (g v r l)
+weaker G K M L N s e f g (Later v r a l) = Later v r a (g v r l)
 
 -- ---- where allocation fails
 
@@ -95,7 +95,7 @@ memory-where P K s OutOfMemory f h = f refl
 pub first-no-memory : {V : Type 0} (G : V → List ℕ → Type 0) (K : Kind) (L : V → Kind) (s : List ℕ) → (K s OutOfMemory → ⊥) → ((v : V) (r : List ℕ) → L v r OutOfMemory → ⊥)
     → FirstFault G K L s OutOfMemory → ⊥
 first-no-memory G K L s f g (AtPart none k) = f k
-first-no-memory G K L s f g (Behind v r a l) = g v r l
+first-no-memory G K L s f g (Later v r a l) = g v r l
 
 pub end-no-memory : (s : List ℕ) → IsEndFault s OutOfMemory → ⊥
 end-no-memory s h = let e = h.1 in cc
@@ -116,9 +116,9 @@ IsOne K s = (d e : DecodeError) → d ≢ OutOfMemory → e ≢ OutOfMemory → 
 
 pub first-one : {V : Type 0} (G : V → List ℕ → Type 0) (K : Kind) (L : V → Kind) (s : List ℕ) → IsOne K s → ((v : V) (r : List ℕ) → IsOne (L v) r) → IsOne (FirstFault G K L) s
 first-one G K L s f g d e m n (AtPart none k) (AtPart not l) = f d e m n k l
-first-one G K L s f g d e m n (AtPart none k) (Behind v r a l) = absurd (unless-memory d m none v r a.spells)
-first-one G K L s f g d e m n (Behind v r a k) (AtPart none l) = absurd (unless-memory e n none v r a.spells)
-first-one {V} G K L s f g d e m n (Behind v r a k) (Behind w q b l) =
+first-one G K L s f g d e m n (AtPart none k) (Later v r a l) = absurd (unless-memory d m none v r a.spells)
+first-one G K L s f g d e m n (Later v r a k) (AtPart none l) = absurd (unless-memory e n none v r a.spells)
+first-one {V} G K L s f g d e m n (Later v r a k) (Later w q b l) =
     let is = a.only w q b.spells in
     g v r d e m n k (subst (λ (x : V). L x r e) is.0 (subst (λ (x : List ℕ). L w x e) is.1 l))
 
@@ -169,7 +169,7 @@ inside-outer-exactly t f L s e g h = record {
 pub inside-outer-where : (t : TagName) (P : List ℕ → Type 0) (L : Kind) (s : List ℕ) (e : DecodeError) → ((c : List ℕ) → L c OutOfMemory → P c)
     → IsInsideFault t true L s e → OrMemoryWhere (HasInside t P) (GivesOuterFault t true) s e
 inside-outer-where t P L s e g (AtPart none k) = no-memory (HasInside t P) (GivesOuterFault t true) s e (contents-no-memory t true s e k) (λ not. k)
-inside-outer-where t P L s e g (Behind c r a l) = found e l where
+inside-outer-where t P L s e g (Later c r a l) = found e l where
   found : (d : DecodeError) → L c d → OrMemoryWhere (HasInside t P) (GivesOuterFault t true) s d
   found d k = memory-where (HasInside t P) (GivesOuterFault t true) s d (λ z. (c, r, a.spells, g c (subst (L c) z k))) (λ none. absurd (none c r a.spells))
 
@@ -184,9 +184,9 @@ module _ {X V : Type 0} (view : X → V) (t : TagName) (f : Bool) (C : V → Lis
     (law : (b a : Constructed) (x : Result X DecodeError) → reads b x a → ReadsParts view C K (left b) (left a) x) where
   kind-inside : (s : List ℕ) (e : DecodeError) → NotInside t f Same reads s e → IsInsideFault t f K s e
   kind-inside s e (Outside c q h same) = subst (IsInsideFault t f K s) (sym same) (AtPart h.refuses h.kind)
-  kind-inside s e (Refused q d h) = Behind (left h.before) q h.value (law h.before h.after (Err e) h.read).1
+  kind-inside s e (Refused q d h) = Later (left h.before) q h.value (law h.before h.after (Err e) h.read).1
   kind-inside s e (More x q d h some same) =
-      subst (IsInsideFault t f K s) (sym same) (Behind (left h.before) q h.value ((law h.before h.after (Ok x) h.read).1 (λ z. some (sym h.rest ∙ z))).1)
+      subst (IsInsideFault t f K s) (sym same) (Later (left h.before) q h.value ((law h.before h.after (Ok x) h.read).1 (λ z. some (sym h.rest ∙ z))).1)
 
   all : (b a : Constructed) (x : Result X DecodeError) → reads b x a → ReadsAll view C K (left b) (left a) x
   all b a x h = reads-parts-all view C K (left b) (left a) x (law b a x h)
@@ -201,7 +201,7 @@ module _ {X V : Type 0} (view : X → V) (t : TagName) (f : Bool) (C : V → Lis
 -- a reader of one part, as a reader of parts: nothing may follow
 pub reads-one-part : {X V : Type 0} (view : X → V) (G : V → List ℕ → Type 0) (K : Kind) (s r : List ℕ) (x : Result X DecodeError)
     → Reads view G K s r x → ReadsParts view G (FirstFault G K (λ v. IsEndFault)) s r x
-reads-one-part view G K s r (Ok x) h = (all-read G s (view x) r h, λ some. (nothing-after G s r (view x) h some, Behind (view x) r h (some, refl)))
+reads-one-part view G K s r (Ok x) h = (all-read G s (view x) r h, λ some. (nothing-after G s r (view x) h some, Later (view x) r h (some, refl)))
 reads-one-part view G K s r (Err e) h = (UnlessMemory-weaker e (nothing-whole G s) h.refuses, AtPart h.refuses h.kind)
 
 -- what a reader of parts returns where a `?` ends it

@@ -8,7 +8,7 @@ use Rattle.rpki_der.specs.Reading.{Spells, Accepts, Refuses, Refusal, ReadsWhere
 use Rattle.rpki_der.specs.Values.{SpellsLeaf, HasTag}
 use Rattle.rpki_der.specs.Parts.{SpellsBoth, Then, OptionalThen, optional_of}
 use Rattle.rpki_der.specs.FirstFault.{FirstFault, OptionalFault, IsEndFault}
-use Rattle.rpki_der.specs.FirstFault.FirstFault.{AtPart, Behind}
+use Rattle.rpki_der.specs.FirstFault.FirstFault.{AtPart, Later}
 use Rattle.rpki_der.proofs.ReadingLaws.{UnlessMemory-weaker}
 use Rattle.rpki_der.proofs.LeavesLaws.{leaf-tag}
 use Rattle.rpki_der.proofs.FrontLaws.{one-tag}
@@ -35,7 +35,7 @@ Failed G K s e = UnlessMemory e (SpellsNothing G s) × K s e
 
 module _ {V : Type 0} {G : V → List ℕ → Type 0} {K : Kind} {s r : List ℕ} where
   pub last-read : {v : V} → Accepts G s v r → Returned G (FirstFault G K (λ v. IsEndFault)) s r v
-  last-read {v} a = (all-read G s v r a, λ some. (nothing-after G s r v a some, Behind v r a (some, refl)))
+  last-read {v} a = (all-read G s v r a, λ some. (nothing-after G s r v a some, Later v r a (some, refl)))
 
   pub last-refused : {e : DecodeError} → Refusal G K s r e → Failed G (FirstFault G K (λ v. IsEndFault)) s e
   last-refused {e} h = (UnlessMemory-weaker e (nothing-whole G s) h.refuses, AtPart h.refuses h.kind)
@@ -70,13 +70,13 @@ module _ {A B : Type 0} {G : A → List ℕ → Type 0} (H : B → List ℕ → 
 
     -- it is there, and one of the others isn't
     pub then-refused : {m : List ℕ} {a : A} {e : DecodeError} → Accepts G s a m → Failed H L m e → Failed (Then G H) (FirstFault G K (λ a. L)) s e
-    then-refused {m} {a} {e} one h = (UnlessMemory-weaker e (λ none x k. no-second s m a one none x.0 x.1 k) h.0, Behind a m one h.1)
+    then-refused {m} {a} {e} one h = (UnlessMemory-weaker e (λ none x k. no-second s m a one none x.0 x.1 k) h.0, Later a m one h.1)
 
     -- it is there, and so are the others
     pub then-read : {m r : List ℕ} {a : A} {b : B} → Accepts G s a m → Returned H L m r b → Returned (Then G H) (FirstFault G K (λ a. L)) s r (a, b)
     then-read {m} {r} {a} {b} one h = (
       λ end. both s m a b one (h.0 end),
-      λ some. let k = h.1 some in (λ x q. no-second s m a one k.0 x.0 x.1 q, Behind a m one k.1),
+      λ some. let k = h.1 some in (λ x q. no-second s m a one k.0 x.0 x.1 q, Later a m one k.1),
     )
 
 -- ---- a part that may be left out, in front of others that do not begin as it does
@@ -100,7 +100,7 @@ module _ {A B : Type 0} {G : A → List ℕ → Type 0} {H : B → List ℕ → 
 
     fault : (e : DecodeError) (p : Option X) → ReadsWhere Begins view G K s m (Ok p) → L m e → OptionalFault Begins G K L s e
     fault e None h k = inl (h.0, subst (λ (q : List ℕ). L q e) h.1 k)
-    fault e (Some x) h k = inr (h.0, Behind (view x) m h.1 k)
+    fault e (Some x) h k = inr (h.0, Later (view x) m h.1 k)
 
     -- it is there or left out, and one of the others isn't there
     pub optional-then-refused : (p : Option X) {e : DecodeError} → ReadsWhere Begins view G K s m (Ok p) → Failed H L m e

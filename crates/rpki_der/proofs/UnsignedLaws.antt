@@ -21,8 +21,8 @@ unsigned-spelled octets m = by_first (nat_lt (get_or octets 0 0) 128) refl where
 pub unsigned_bare : (octets : List ℕ) → get_or octets 0 0 < 128 → unsigned_contents octets ≡ octets
 unsigned_bare octets low = ap (λ (b : Bool). cond b octets (0 ∷ octets)) (lt-ltb (get_or octets 0 0) 128 low)
 
-pub unsigned_behind : (octets : List ℕ) → 128 ≤ get_or octets 0 0 → unsigned_contents octets ≡ 0 ∷ octets
-unsigned_behind octets high = ap (λ (b : Bool). cond b octets (0 ∷ octets)) (le-ltb (get_or octets 0 0) 128 high)
+pub unsigned_after_zero : (octets : List ℕ) → 128 ≤ get_or octets 0 0 → unsigned_contents octets ≡ 0 ∷ octets
+unsigned_after_zero octets high = ap (λ (b : Bool). cond b octets (0 ∷ octets)) (le-ltb (get_or octets 0 0) 128 high)
 
 -- with at most one octet more
 pub unsigned-at-most : (octets : List ℕ) → length (unsigned_contents octets) ≤ length octets + 1

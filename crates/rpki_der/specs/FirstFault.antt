@@ -11,7 +11,7 @@ use Rattle.rpki_der.specs.Values.{SpellsContents, IsContentsFault}
 pub data FirstFault {V : Type 0} (G : V → List ℕ → Type 0) (K : List ℕ → DecodeError → Type 0)
     (L : V → List ℕ → DecodeError → Type 0) (s : List ℕ) (e : DecodeError) : Type 0 where
   AtPart : UnlessMemory e (Refuses G s) → K s e → FirstFault G K L s e
-  Behind : (v : V) (r : List ℕ) → Accepts G s v r → L v r e → FirstFault G K L s e
+  Later : (v : V) (r : List ℕ) → Accepts G s v r → L v r e → FirstFault G K L s e
 
 -- the same of a part that is looked for only where s begins as B says
 abbrev pub OptionalFault : {V : Type 0} → (List ℕ → Type 0) → (V → List ℕ → Type 0) → (List ℕ → DecodeError → Type 0)

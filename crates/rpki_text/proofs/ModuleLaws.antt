@@ -45,10 +45,10 @@ lower-site t site low is same =
     append_cancel_right _ _ (module_name_of t) (append_cancel_right _ _ (codes "/") (canonical-by t (lowercase site) low ∙ same ∙ is))
 
 -- so it allocates nothing where a test says that there is one
-pub lent : {P : Type 0} (t site : List ℕ) (b : Bool) → lowercase site ≡ codes "rsync://" ++ lowercase (authority_of t) ++ codes "/"
+pub borrowed : {P : Type 0} (t site : List ℕ) (b : Bool) → lowercase site ≡ codes "rsync://" ++ lowercase (authority_of t) ++ codes "/"
     → module_of t ≡ site ++ module_name_of t ++ codes "/" → IsTrue b ↔ (lowercase site ≡ site) → b ≡ false → canonical_module_of t ≡ module_of t → P
-lent t site true low is test h same = absurd (cc)
-lent t site false low is test h same = absurd (let yes : false ≡ true = test.1 (lower-site t site low is same) in cc)
+borrowed t site true low is test h same = absurd (cc)
+borrowed t site false low is test h same = absurd (let yes : false ≡ true = test.1 (lower-site t site low is same) in cc)
 
 -- ---- equality with octets
 

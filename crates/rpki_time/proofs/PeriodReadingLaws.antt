@@ -27,11 +27,11 @@ end-of : (c : List ℕ) (p : Period) (h : IsPeriod p c) → Spells SpellsTime h.
 end-of c p h = spelled-whole SpellsTime h.end p.not_after h.not_after
 
 -- what a period is whose start was read
-pub record Behind (t : DateTime) (r : List ℕ) (p : Period) : Type 0 where
+pub record Later (t : DateTime) (r : List ℕ) (p : Period) : Type 0 where
   pub start : p.not_before ≡ t
   pub end : Spells SpellsTime r p.not_after []
 
-following : (c r : List ℕ) (t : DateTime) → Accepts SpellsTime c t r → (p : Period) → IsPeriod p c → Behind t r p
+following : (c r : List ℕ) (t : DateTime) → Accepts SpellsTime c t r → (p : Period) → IsPeriod p c → Later t r p
 following c r t a p h =
     let e = a.only p.not_before h.end (start-of c p h) in
     record { start = e.0; end = subst (λ (x : List ℕ). Spells SpellsTime x p.not_after []) e.1 (end-of c p h) }
@@ -64,8 +64,8 @@ no-end c r q t e a h = (
 )
 
 -- something follows
-pub more-behind : (c r q : List ℕ) (t u : DateTime) → Accepts SpellsTime c t r → Accepts SpellsTime r u q → (q ≡ [] → ⊥) → SpellsNothing IsPeriod c × IsTimesFault c Trailing
-more-behind c r q t u a b some = (
+pub more-follows : (c r q : List ℕ) (t u : DateTime) → Accepts SpellsTime c t r → Accepts SpellsTime r u q → (q ≡ [] → ⊥) → SpellsNothing IsPeriod c × IsTimesFault c Trailing
+more-follows c r q t u a b some = (
   λ p k. some (sym (b.only p.not_after [] (following c r t a p k).end).1),
   after-second SpellsTime IsTimeFault SpellsTime IsTimeFault c r q t u a b some,
 )

@@ -10,6 +10,6 @@ answer_of (Ok text) = Ok text.items
 answer_of (Err fault) = Err fault
 
 -- a text that is borrowed
-abbrev pub lent_of : Result (Bor (List ℕ)) Fault → Answer
-lent_of (Ok text) = Ok text.now
-lent_of (Err fault) = Err fault
+abbrev pub borrowed_of : Result (Bor (List ℕ)) Fault → Answer
+borrowed_of (Ok text) = Ok text.now
+borrowed_of (Err fault) = Err fault

@@ -16,7 +16,7 @@ enum Leaf {
     False,
     Identifier,
     Bits,
-    LentBits,
+    BorrowedBits,
     NoBits,
     Octets,
     Uri,
@@ -177,7 +177,7 @@ fn bits_written(
     }
 }
 
-fn lent_bits_written(
+fn borrowed_bits_written(
     alloc: Global,
     sink: Sink,
     unused: u8,
@@ -207,7 +207,7 @@ fn leaf_written(alloc: Global, sink: Sink, leaf: Leaf) -> Result<Option<Outcome>
         Leaf::False => written(alloc, sink, &false.encode()),
         Leaf::Identifier => written(alloc, sink, &COMMON_NAME.encode()),
         Leaf::Bits => bits_written(alloc, sink, 1, &[0xaa]),
-        Leaf::LentBits => lent_bits_written(alloc, sink, 1, &[0xaa]),
+        Leaf::BorrowedBits => borrowed_bits_written(alloc, sink, 1, &[0xaa]),
         Leaf::NoBits => bits_written(alloc, sink, 0, &[]),
         Leaf::Octets => written(alloc, sink, &b"ab".as_slice().encode()),
         Leaf::Uri => written(alloc, sink, &b"ab".as_slice().encode_as(Tag::CTX_6)),
@@ -255,7 +255,7 @@ const LEAVES: &[(Leaf, &[u8])] = &[
     (Leaf::False, &[0x01, 0x01, 0x00]),
     (Leaf::Identifier, &[0x06, 0x03, 0x55, 0x04, 0x03]),
     (Leaf::Bits, &[0x03, 0x02, 0x01, 0xaa]),
-    (Leaf::LentBits, &[0x03, 0x02, 0x01, 0xaa]),
+    (Leaf::BorrowedBits, &[0x03, 0x02, 0x01, 0xaa]),
     (Leaf::NoBits, &[0x03, 0x01, 0x00]),
     (Leaf::Octets, &[0x04, 0x02, 0x61, 0x62]),
     (Leaf::Uri, &[0x86, 0x02, 0x61, 0x62]),

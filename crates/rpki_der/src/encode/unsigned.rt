@@ -31,7 +31,7 @@ impl<'a> PrimitiveContent for Unsigned<'a> {
         if needs_zero(self) { octets + 1 } else { octets }
     }
 
-    #[tactic(auto, using(crate::proofs::WritingLaws::writes_of_cut, crate::proofs::WritingLaws::beginning_of, crate::proofs::WritingLaws::beginning_more, crate::proofs::WritingLaws::writes_then, crate::proofs::UnsignedLaws::unsigned_bare, crate::proofs::UnsignedLaws::unsigned_behind))]
+    #[tactic(auto, using(crate::proofs::WritingLaws::writes_of_cut, crate::proofs::WritingLaws::beginning_of, crate::proofs::WritingLaws::beginning_more, crate::proofs::WritingLaws::writes_then, crate::proofs::UnsignedLaws::unsigned_bare, crate::proofs::UnsignedLaws::unsigned_after_zero))]
     fn write_encoded<W: Write>(&self, out: &mut W) -> Result<(), io::Error> {
         if needs_zero(self) {
             write_whole(out, &[0])?;

@@ -155,7 +155,7 @@ pub(super) fn len_above(path: &[u8]) -> Option<usize>
     Some(after_last_slash(front))
 }
 
-/// The base, perhaps a slash, and the path: one growth to the final length.
+/// The base, perhaps a slash, and the path: one allocation of the final length.
 pub(super) fn joined_bytes(
     alloc: Global,
     base: &[u8],

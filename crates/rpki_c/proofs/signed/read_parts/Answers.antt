@@ -3,7 +3,7 @@ use Rattle.std.proofs.lemmas.Bool.{iff_false}
 use Rattle.rpki_der.specs.Cursor.{left}
 use Rattle.rpki_der.specs.Reading.{Accepts, Refuses, UnlessMemory, Finds}
 use Rattle.rpki_der.specs.Members.{SpellsValue}
-use Rattle.rpki_der.specs.FirstFault.FirstFault.{AtPart, Behind}
+use Rattle.rpki_der.specs.FirstFault.FirstFault.{AtPart, Later}
 use Rattle.rpki_der.proofs.ReadingLaws.{UnlessMemory-weaker, UnlessMemory-from}
 use Rattle.rpki_der.proofs.ComposedLaws.{nothing-whole, nothing-after, all-read}
 use Rattle.rpki.specs.Oids.{sha256_with_rsa_encryption}
@@ -40,7 +40,7 @@ returns-in-Err c =
     let one : Accepts SpellsValue s d m = split-value s d m c.in_ok-size.size c.split_at.ensures.front (c.from_slice-rest.ensures ∙ c.split_at.ensures.back) c.in_ok-size.ensures.accepted in
     let none : UnlessMemory e (Refuses AreParts s) = UnlessMemory-weaker e (no-algorithm (SpellsAlgorithm sha256_with_rsa_encryption) s m d one) h.refuses in
     let other : AreOtherParts s → ⊥ = λ f. (iff_false c.begins_with_identifier.ensures c.if-begins_with_identifier.false) (subst (λ (l : List ℕ). Finds SpellsIdentifier l) c.from_slice-rest.ensures (follows (IsOther (SpellsAlgorithm sha256_with_rsa_encryption)) s d m one f).some) in
-    (UnlessMemory-from e other, (UnlessMemory-weaker e (nothing-whole AreParts s) none, AtPart none (Behind d m one (AtPart h.refuses h.kind))))
+    (UnlessMemory-from e other, (UnlessMemory-weaker e (nothing-whole AreParts s) none, AtPart none (Later d m one (AtPart h.refuses h.kind))))
 
 pub returns-then-begins_with_identifier : goal.returns-then-begins_with_identifier
 returns-then-begins_with_identifier c =
@@ -64,7 +64,7 @@ returns-in_err-value c =
     let one : Accepts SpellsValue s d m = split-value s d m c.in_ok-size.size c.split_at.ensures.front (c.from_slice-rest.ensures ∙ c.split_at.ensures.back) c.in_ok-size.ensures.accepted in
     let none : UnlessMemory e (Refuses AreParts s) = UnlessMemory-weaker e (no-signature (SpellsAlgorithm sha256_with_rsa_encryption) s m _ d _ one c.in-Ok.ensures) h.refuses in
     tried-else AreOtherParts _ AreParts IsAllPartsFault s e _ c.from_residual-in_err-value.ensures
-    (UnlessMemory-from e (not-other s d m _ _ one c.in-Ok.ensures), (UnlessMemory-weaker e (nothing-whole AreParts s) none, AtPart none (Behind d m one (Behind _ _ c.in-Ok.ensures h.kind))))
+    (UnlessMemory-from e (not-other s d m _ _ one c.in-Ok.ensures), (UnlessMemory-weaker e (nothing-whole AreParts s) none, AtPart none (Later d m one (Later _ _ c.in-Ok.ensures h.kind))))
 
 pub returns-in_err-finish : goal.returns-in_err-finish
 returns-in_err-finish c =
@@ -76,7 +76,7 @@ returns-in_err-finish c =
     let one : Accepts SpellsValue s d m = split-value s d m c.in_ok-size.size c.split_at.ensures.front (c.from_slice-rest.ensures ∙ c.split_at.ensures.back) c.in_ok-size.ensures.accepted in
     let all = contents-accepted (SpellsAlgorithm sha256_with_rsa_encryption) s m _ _ d _ _ one c.in-Ok.ensures c.in_ok-value.ensures in
     tried-else AreOtherParts _ AreParts IsAllPartsFault s e _ c.from_residual-in_err-finish.ensures
-    (UnlessMemory-from e (not-other s d m _ _ one c.in-Ok.ensures), (UnlessMemory-from e (nothing-after AreParts s _ _ all h.1), Behind _ _ all (h.1, h.0)))
+    (UnlessMemory-from e (not-other s d m _ _ one c.in-Ok.ensures), (UnlessMemory-from e (nothing-after AreParts s _ _ all h.1), Later _ _ all (h.1, h.0)))
 
 pub returns : goal.returns
 returns c =

@@ -1,7 +1,7 @@
 use Rattle.std.proofs.Common.{◌++◌, codes, sym, refl, ap, ◌∙◌}
 use Rattle.rpki_text.specs.UriText.{lowercase}
 use Rattle.rpki_text.specs.RsyncText.{module_name_of}
-use Rattle.rpki_text.proofs.ModuleLaws.{canonical-by, lent}
+use Rattle.rpki_text.proofs.ModuleLaws.{canonical-by, borrowed}
 use Rattle.rpki_text.proofs.uri.rsync.Rsync.canonical_module.Goals as goal
 
 pub returns-then-has_no_capital-clause-ok : goal.returns-then-has_no_capital-clause-ok
@@ -16,15 +16,15 @@ returns-clause-ok c =
 
 pub returns-in_err-text-clause-free : goal.returns-in_err-text-clause-free
 returns-in_err-text-clause-free c =
-    lent c.args.self.now c.site-site.result.now c.has_no_capital.result c.site-site.ensures.lower c.site-site.ensures.module c.has_no_capital.ensures
+    borrowed c.args.self.now c.site-site.result.now c.has_no_capital.result c.site-site.ensures.lower c.site-site.ensures.module c.has_no_capital.ensures
     c.if-has_no_capital.false
 
 pub returns-in_err-push_str-clause-free : goal.returns-in_err-push_str-clause-free
 returns-in_err-push_str-clause-free c =
-    lent c.args.self.now c.site-site.result.now c.has_no_capital.result c.site-site.ensures.lower c.site-site.ensures.module c.has_no_capital.ensures
+    borrowed c.args.self.now c.site-site.result.now c.has_no_capital.result c.site-site.ensures.lower c.site-site.ensures.module c.has_no_capital.ensures
     c.if-has_no_capital.false
 
 pub returns-in_err-push_str-2-clause-free : goal.returns-in_err-push_str-2-clause-free
 returns-in_err-push_str-2-clause-free c =
-    lent c.args.self.now c.site-site.result.now c.has_no_capital.result c.site-site.ensures.lower c.site-site.ensures.module c.has_no_capital.ensures
+    borrowed c.args.self.now c.site-site.result.now c.has_no_capital.result c.site-site.ensures.lower c.site-site.ensures.module c.has_no_capital.ensures
     c.if-has_no_capital.false

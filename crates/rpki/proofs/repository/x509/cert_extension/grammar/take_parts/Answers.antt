@@ -3,7 +3,7 @@ use Rattle.rpki_der.specs.Cursor.{left}
 use Rattle.rpki_der.specs.TagName.{boolean}
 use Rattle.rpki_der.specs.Values.{SpellsLeaf, HasTag, IsLeafFault}
 use Rattle.rpki_der.specs.Leaves.{IsBoolean}
-use Rattle.rpki_der.specs.FirstFault.FirstFault.{AtPart, Behind}
+use Rattle.rpki_der.specs.FirstFault.FirstFault.{AtPart, Later}
 use Rattle.rpki_der.specs.declared.error.DecodeError.{DecodeError}
 use Rattle.rpki_der.proofs.ReadingLaws.{UnlessMemory-weaker, UnlessMemory-from}
 use Rattle.rpki_der.proofs.TriedLaws.{tried-nothing}
@@ -35,7 +35,7 @@ returns-in_err-take_opt_bool c =
     let e = c.in_err-take_opt_bool.field-0.0 in
     let h = c.in_err-take_opt_bool.ensures in
     tried-nothing _ IsExtensionContents IsExtensionPartsFault s e _ c.from_residual-in_err-take_opt_bool.ensures
-    (UnlessMemory-weaker e (bad-flag s _ _ c.in_ok-identifier.ensures h.0) h.1.refuses, Behind c.in_ok-identifier.identifier.0.now _ c.in_ok-identifier.ensures (inr (h.0, AtPart h.1.refuses h.1.kind)))
+    (UnlessMemory-weaker e (bad-flag s _ _ c.in_ok-identifier.ensures h.0) h.1.refuses, Later c.in_ok-identifier.identifier.0.now _ c.in_ok-identifier.ensures (inr (h.0, AtPart h.1.refuses h.1.kind)))
 
 pub returns-in_err-octets : goal.returns-in_err-octets
 returns-in_err-octets c =
@@ -44,7 +44,7 @@ returns-in_err-octets c =
     let h = c.in_err-octets.ensures in
     tried-nothing _ IsExtensionContents IsExtensionPartsFault s e _ c.from_residual-in_err-octets.ensures (
       UnlessMemory-weaker e (no-octets s _ _ _ c.in_ok-take_opt_bool.field-0 c.in_ok-identifier.ensures c.in_ok-take_opt_bool.ensures) h.refuses,
-      Behind c.in_ok-identifier.identifier.0.now _ c.in_ok-identifier.ensures
+      Later c.in_ok-identifier.identifier.0.now _ c.in_ok-identifier.ensures
           (behind-optional B (λ b. b) F N IsContentFault _ _ c.in_ok-take_opt_bool.field-0 e c.in_ok-take_opt_bool.ensures (AtPart h.refuses h.kind)),
     )
 
@@ -63,6 +63,6 @@ returns-in_err-finish c =
     let h = c.in_err-finish.ensures in
     tried-nothing _ IsExtensionContents IsExtensionPartsFault s e _ c.from_residual-in_err-finish.ensures (
       UnlessMemory-from e (more-following s _ _ _ _ _ c.in_ok-take_opt_bool.field-0 c.in_ok-identifier.ensures c.in_ok-take_opt_bool.ensures c.in_ok-octets.ensures h.1),
-      Behind c.in_ok-identifier.identifier.0.now _ c.in_ok-identifier.ensures
-          (behind-optional B (λ b. b) F N IsContentFault _ _ c.in_ok-take_opt_bool.field-0 e c.in_ok-take_opt_bool.ensures (Behind c.in_ok-octets.octets.now _ c.in_ok-octets.ensures (h.1, h.0))),
+      Later c.in_ok-identifier.identifier.0.now _ c.in_ok-identifier.ensures
+          (behind-optional B (λ b. b) F N IsContentFault _ _ c.in_ok-take_opt_bool.field-0 e c.in_ok-take_opt_bool.ensures (Later c.in_ok-octets.octets.now _ c.in_ok-octets.ensures (h.1, h.0))),
     )

@@ -1,4 +1,4 @@
-use Rattle.rpki_time.proofs.PeriodReadingLaws.{no-start, no-end, more-behind, both-read}
+use Rattle.rpki_time.proofs.PeriodReadingLaws.{no-start, no-end, more-follows, both-read}
 use Rattle.rpki_time.proofs.validity.fn.Validity.take_from.in_sequence.Goals as goal
 
 pub returns-in-Err : goal.returns-in-Err
@@ -12,5 +12,5 @@ returns c =
     let t = c.in-Ok.time in
     let u = c.in-Ok-take_from.time in (
       λ end. both-read _ _ _ t u c.new.result c.in-Ok.ensures c.in-Ok-take_from.ensures end c.new.ensures.not_before c.new.ensures.not_after,
-      λ some. more-behind _ _ _ t u c.in-Ok.ensures c.in-Ok-take_from.ensures some,
+      λ some. more-follows _ _ _ t u c.in-Ok.ensures c.in-Ok-take_from.ensures some,
     )

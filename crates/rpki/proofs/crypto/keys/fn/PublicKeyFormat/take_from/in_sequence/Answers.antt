@@ -4,7 +4,7 @@ use Rattle.rpki_der.specs.TagName.{oid}
 use Rattle.rpki_der.specs.Values.{SpellsLeaf}
 use Rattle.rpki_der.specs.Leaves.{IsOnly}
 use Rattle.rpki_der.specs.declared.error.DecodeError.{DecodeError}
-use Rattle.rpki_der.specs.FirstFault.FirstFault.{AtPart, Behind}
+use Rattle.rpki_der.specs.FirstFault.FirstFault.{AtPart, Later}
 use Rattle.rpki_der.proofs.ReadingLaws.{UnlessMemory-weaker}
 use Rattle.rpki_der.proofs.FirstFaultLaws.{tried-parts}
 use Rattle.rpki.specs.AlgorithmFault.{IsAnyNamedFault, IsFormatRestFault}
@@ -42,7 +42,7 @@ returns-in_err-take_null_or_nothing c =
     let h = c.in_err-take_null_or_nothing.ensures in
     record {
       reads = tried-parts (λ f. f) IsFormatContents K s _ c.in_err-take_null_or_nothing.field-0.0 _ c.from_residual-in_err-take_null_or_nothing.ensures
-          (UnlessMemory-weaker c.in_err-take_null_or_nothing.field-0.0 (rsa-not-read s _ _ a is) h.0, Behind c.in_ok-identifier.identifier.0.now _ a (inl (is, h.1)));
+          (UnlessMemory-weaker c.in_err-take_null_or_nothing.field-0.0 (rsa-not-read s _ _ a is) h.0, Later c.in_ok-identifier.identifier.0.now _ a (inl (is, h.1)));
       unknown = λ u. absurd (known-named IsFormatName s _ _ a (inl is) u);
     }
 
@@ -53,7 +53,7 @@ returns-in_ok-take_null_or_nothing c =
     let is = c.is_named.ensures.0 c.if-is_named.true in
     let h = c.in_ok-take_null_or_nothing.ensures in
     record {
-      reads = (λ end. rsa-read s _ _ _ a is (h.0 end), λ some. (rsa-not-read s _ _ a is (h.1 some).0, Behind c.in_ok-identifier.identifier.0.now _ a (inl (is, (h.1 some).1))));
+      reads = (λ end. rsa-read s _ _ _ a is (h.0 end), λ some. (rsa-not-read s _ _ a is (h.1 some).0, Later c.in_ok-identifier.identifier.0.now _ a (inl (is, (h.1 some).1))));
       unknown = λ u. known-named IsFormatName s _ _ a (inl is) u;
     }
 
@@ -70,7 +70,7 @@ returns-in_err-skip_oid_if c =
     record {
       reads = tried-parts (λ f. f) IsFormatContents K s _ e _ c.from_residual-in_err-skip_oid_if.ensures (
         UnlessMemory-weaker e (λ none. ec-not-read s _ m a is (nothing-whole (SpellsLeaf oid false (IsOnly secp256r1)) m none)) h.refuses,
-        Behind c.in_ok-identifier.identifier.0.now m a (inr (inl (is, AtPart h.refuses h.kind))),
+        Later c.in_ok-identifier.identifier.0.now m a (inr (inl (is, AtPart h.refuses h.kind))),
       );
       unknown = λ u. absurd (known-named IsFormatName s _ _ a (inr is) u);
     }
@@ -86,7 +86,7 @@ returns-in_ok-skip_oid_if c =
         λ end. ec-read s _ _ a is (all-read (SpellsLeaf oid false (IsOnly secp256r1)) _ _ _ h end),
         λ some. (
           ec-not-read s _ _ a is (nothing-after (SpellsLeaf oid false (IsOnly secp256r1)) _ _ _ h some),
-          Behind c.in_ok-identifier.identifier.0.now _ a (inr (inl (is, Behind tt _ h (some, refl)))),
+          Later c.in_ok-identifier.identifier.0.now _ a (inr (inl (is, Later tt _ h (some, refl)))),
         ),
       );
       unknown = λ u. known-named IsFormatName s _ _ a (inr is) u;
@@ -101,7 +101,7 @@ returns-else-is_named-2 c =
     record {
       reads = (
         other-format (left c.args.contents.now) _ _ c.in_ok-identifier.ensures other neither,
-        Behind c.in_ok-identifier.identifier.0.now _ c.in_ok-identifier.ensures (inr (inr (unknown-format _ other neither, c.from_static.ensures))),
+        Later c.in_ok-identifier.identifier.0.now _ c.in_ok-identifier.ensures (inr (inr (unknown-format _ other neither, c.from_static.ensures))),
       );
       unknown = λ u. c.from_static.ensures;
     }

@@ -1,6 +1,6 @@
 use Rattle.std.proofs.Common.{inl, inr}
 use Rattle.rpki_der.specs.Cursor.{left}
-use Rattle.rpki_der.specs.FirstFault.FirstFault.{AtPart, Behind}
+use Rattle.rpki_der.specs.FirstFault.FirstFault.{AtPart, Later}
 use Rattle.rpki_der.proofs.ReadingLaws.{UnlessMemory-weaker}
 use Rattle.rpki_der.proofs.FirstFaultLaws.{tried-parts}
 use Rattle.rpki.specs.AlgorithmFault.{IsAnyNamedFault, IsCmsRestFault}
@@ -32,7 +32,7 @@ returns-else-is_cms_name c =
     record {
       reads = (
         other-cms (left c.args.contents.now) _ _ c.in_ok-identifier.ensures (λ e. none (inl e)) (λ e. none (inr e)),
-        Behind c.in_ok-identifier.identifier.0.now _ c.in_ok-identifier.ensures (inr (none, c.from_static.ensures)),
+        Later c.in_ok-identifier.identifier.0.now _ c.in_ok-identifier.ensures (inr (none, c.from_static.ensures)),
       );
       unknown = λ u. c.from_static.ensures;
     }

@@ -1,7 +1,7 @@
 use Rattle.std.proofs.Common.{inl, inr, refl}
 use Rattle.rpki_der.specs.Cursor.{left}
 use Rattle.rpki_der.specs.Walk.{SpellsAnyValue}
-use Rattle.rpki_der.specs.FirstFault.FirstFault.{AtPart, Behind}
+use Rattle.rpki_der.specs.FirstFault.FirstFault.{AtPart, Later}
 use Rattle.rpki_der.proofs.ReadingLaws.{UnlessMemory-weaker}
 use Rattle.rpki_der.proofs.ComposedLaws.{all-read, nothing-whole, nothing-after}
 use Rattle.rpki_der.proofs.FirstFaultLaws.{tried-parts}
@@ -31,7 +31,7 @@ returns-in_err-skip_one c =
     let h = c.in_err-skip_one.ensures.reads.1 in
     tried-parts (λ u. tt) (SpellsAny IsAttribute) IsAttributePartsFault s _ e _ c.from_residual-in_err-skip_one.ensures (
       UnlessMemory-weaker e (λ none x k. nothing-whole SpellsAnyValue m none tt (identified-value s m _ a k.0 k.1)) h.refuses,
-      Behind _ m a (inr (AtPart h.refuses h.kind)),
+      Later _ m a (inr (AtPart h.refuses h.kind)),
     )
 
 pub returns-in-Some : goal.returns-in-Some
@@ -41,7 +41,7 @@ returns-in-Some c =
     let a = c.in_ok-take_oid.ensures in
     let h = rw c.in-Some.is at c.in_ok-skip_one.ensures.reads in (
       λ end. ((_, record { identified = (identified s m _ a).0; one = (all-read SpellsAnyValue m tt _ h.1 end).0 }), λ w k. refl),
-      λ some. (λ x k. nothing-after SpellsAnyValue m _ tt h.1 some tt (identified-value s m _ a k.0 k.1), Behind _ m a (inr (Behind tt _ h.1 (some, refl)))),
+      λ some. (λ x k. nothing-after SpellsAnyValue m _ tt h.1 some tt (identified-value s m _ a k.0 k.1), Later _ m a (inr (Later tt _ h.1 (some, refl)))),
     )
 
 pub returns-in-None : goal.returns-in-None
@@ -50,4 +50,4 @@ returns-in-None c =
     let m = left c.take_oid.new.self in
     let h = rw c.in-None.is at c.in_ok-skip_one.ensures.reads in
     let a = c.in_ok-take_oid.ensures in
-    (λ x k. no-value-where-nothing m h.0 tt (identified-value s m _ a k.0 k.1), Behind _ m a (inl (is-nothing m h.0, c.from_static.ensures)))
+    (λ x k. no-value-where-nothing m h.0 tt (identified-value s m _ a k.0 k.1), Later _ m a (inl (is-nothing m h.0, c.from_static.ensures)))

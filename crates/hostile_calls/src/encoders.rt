@@ -42,15 +42,15 @@ fn tell_composed(
 ) -> Result<(), Failure> {
     let source = Bytes::from_vec(octets)?;
     let captured = Constructed::new(&source).capture_one(alloc)?;
-    let lent = &captured;
+    let borrowed = &captured;
     match encoder {
-        "captured" => writers::tell(alloc, report, &lent),
-        "sequence" => writers::tell(alloc, report, &Sequence::new(lent)),
-        "set" => writers::tell(alloc, report, &Set::new(lent)),
-        "wrapped" => writers::tell(alloc, report, &Wrapped::new(lent)),
-        "pair" => writers::tell(alloc, report, &(lent, ().encode())),
-        "triple" => writers::tell(alloc, report, &(lent, ().encode(), lent)),
-        "some" => writers::tell(alloc, report, &Some(lent)),
+        "captured" => writers::tell(alloc, report, &borrowed),
+        "sequence" => writers::tell(alloc, report, &Sequence::new(borrowed)),
+        "set" => writers::tell(alloc, report, &Set::new(borrowed)),
+        "wrapped" => writers::tell(alloc, report, &Wrapped::new(borrowed)),
+        "pair" => writers::tell(alloc, report, &(borrowed, ().encode())),
+        "triple" => writers::tell(alloc, report, &(borrowed, ().encode(), borrowed)),
+        "some" => writers::tell(alloc, report, &Some(borrowed)),
         "none" => writers::tell(alloc, report, &None::<Primitive<()>>),
         _ => Err(Failure::Usage),
     }
@@ -79,7 +79,7 @@ fn tell_key(alloc: Global, report: Report, encoder: &str, octets: Vec<u8>) -> Re
     let key = readers::whole_key(alloc, Bytes::from_vec(octets)?)?;
     match encoder {
         "key" => writers::tell(alloc, report, &key.encode()),
-        "lent_key" => writers::tell(alloc, report, &key.encode_ref()),
+        "borrowed_key" => writers::tell(alloc, report, &key.encode_ref()),
         "subject" => writers::tell(alloc, report, &key.encode_subject_name(&Digests)),
         "key_identifier" => writers::tell(alloc, report, &key.key_identifier(&Digests).encode()),
         _ => Err(Failure::Usage),
@@ -92,7 +92,7 @@ fn tell_read(alloc: Global, report: Report, encoder: &str, octets: Vec<u8>) -> R
     let mut cursor = Constructed::new(&source);
     match encoder {
         "bits" => writers::tell(alloc, report, &readers::bits(alloc, &mut cursor)?.encode()),
-        "lent_bits" => {
+        "borrowed_bits" => {
             writers::tell(
                 alloc,
                 report,
@@ -166,10 +166,10 @@ pub fn tell(alloc: Global, report: Report, encoder: &str, octets: Vec<u8>) -> Re
         "captured" | "sequence" | "set" | "wrapped" | "pair" | "triple" | "some" | "none" => {
             tell_composed(alloc, report, encoder, octets)
         }
-        "key" | "lent_key" | "subject" | "key_identifier" => {
+        "key" | "borrowed_key" | "subject" | "key_identifier" => {
             tell_key(alloc, report, encoder, octets)
         }
-        "bits" | "lent_bits" | "name" | "signed" | "extension" => {
+        "bits" | "borrowed_bits" | "name" | "signed" | "extension" => {
             tell_read(alloc, report, encoder, octets)
         }
         "rsync_string" | "rsync_name" | "https_string" | "https_name" => {

@@ -94,7 +94,7 @@ fn failed(rt: &HostRuntime, failure: Failure) -> u8 {
     let (status, line) = match failure {
         Failure::Usage => (
             2,
-            "usage: rpki_calls GROUP CALL [PATH] | repeat CALL SEGMENTS TIMES\n",
+            "usage: hostile_calls GROUP CALL [PATH] | repeat CALL SEGMENTS TIMES\n",
         ),
         Failure::Refused => (1, "refused\n"),
         Failure::OutOfMemory => (1, "out of memory\n"),

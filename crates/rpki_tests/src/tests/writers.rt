@@ -174,7 +174,7 @@ fn a_fault_ends_the_writing_of_an_algorithm(rt: HostRuntime) -> Result<(), Fail>
 #[derive(Clone, Copy, Debug)]
 enum Encoder {
     Key,
-    LentKey,
+    BorrowedKey,
     Subject,
     Identifier,
     Name,
@@ -187,7 +187,7 @@ fn key_written(alloc: Global, fault: Fault) -> Result<Option<Outcome>, DecodeErr
     Ok(written(alloc, fault, &encoder)?)
 }
 
-fn lent_key_written(alloc: Global, fault: Fault) -> Result<Option<Outcome>, DecodeError> {
+fn borrowed_key_written(alloc: Global, fault: Fault) -> Result<Option<Outcome>, DecodeError> {
     let key = keys::decoded(alloc, KEY_OF_ABC)?;
     Ok(written(alloc, fault, &key.encode_ref())?)
 }
@@ -235,7 +235,7 @@ const CONSTRAINTS: &[u8] = b"\x30\x0C\x06\x03\x55\x1D\x13\x01\x01\xFF\x04\x02\x3
 
 const ENCODERS: &[(Encoder, &[u8])] = &[
     (Encoder::Key, KEY_OF_ABC),
-    (Encoder::LentKey, KEY_OF_ABC),
+    (Encoder::BorrowedKey, KEY_OF_ABC),
     (Encoder::Subject, SUBJECT),
     (Encoder::Identifier, SPELLED),
     (Encoder::Name, SUBJECT),
@@ -251,7 +251,7 @@ fn encoder_written(
 ) -> Result<Option<Outcome>, DecodeError> {
     match encoder {
         Encoder::Key => key_written(alloc, fault),
-        Encoder::LentKey => lent_key_written(alloc, fault),
+        Encoder::BorrowedKey => borrowed_key_written(alloc, fault),
         Encoder::Subject => subject_written(alloc, fault),
         Encoder::Identifier => identifier_written(alloc, fault),
         Encoder::Name => name_written(alloc, fault),

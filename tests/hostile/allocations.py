@@ -1,6 +1,6 @@
-"""Refused growths: each allocation of a run fails, in turn, alone and with all that come after it.
+"""Refused allocations: each allocation of a run fails, in turn, alone and with all that come after it.
 
-`refuse.c` is put before the C library. A run counts its growths from its start on, so those of the program's own start,
+`refuse.c` is put before the C library. A run counts its allocations from its start on, so those of the program's own start,
 of its words and of its input are refused too: then it says so and tells of no call. Every other run tells what the call
 answers, which is either what it answers when none is refused, or that memory ran out; and what the call's arguments
 hold afterwards, which is then what they held before."""
@@ -22,7 +22,7 @@ class Call(NamedTuple):
 
     words: List[str]
     octets: bytes
-    # What is told where no growth is refused, and what may be told where one is.
+    # What is told where no allocation is refused, and what may be told where one is.
     answer: bytes
     refusals: FrozenSet[bytes]
     # Whether the call has to take memory.
@@ -33,10 +33,10 @@ def on_cursor(call, octets, answer, left=b"", counts=(0,), grows=True, group="cu
     """A call on a cursor, one that borrows its octets in the group `slice`; the numbers of headers that it may have
     counted, the one of success last."""
     end = b"finished" if left == b"" else b"unfinished 6"
-    lent = b"\nlent " + digits(octets) + b"\n"
-    told = answer + b"\ncount %d\nleft " % counts[-1] + digits(left) + b"\n" + end + lent
+    borrowed = b"\nborrowed " + digits(octets) + b"\n"
+    told = answer + b"\ncount %d\nleft " % counts[-1] + digits(left) + b"\n" + end + borrowed
     refusals = {
-        b"out of memory\ncount %d\nleft " % count + digits(octets) + b"\nunfinished 6" + lent for count in counts
+        b"out of memory\ncount %d\nleft " % count + digits(octets) + b"\nunfinished 6" + borrowed for count in counts
     }
     return Call([group, call], octets, told, frozenset(refusals), grows)
 
@@ -174,18 +174,18 @@ WORDS = [
 
 
 def calls_of(shim, programs, call, alone):
-    """The runs of one call with a growth refused: what is seen, and what may be. With all later growths refused too
-    there is no right answer. Whether the call itself ran out of memory comes last. How many growths were refused, and
+    """The runs of one call with a allocation refused: what is seen, and what may be. With all later allocations refused too
+    there is no right answer. Whether the call itself ran out of memory comes last. How many allocations were refused, and
     how often the call itself ran out."""
-    name = " ".join(call.words)[:60] + (" without growth" if alone else " without growths from")
+    name = " ".join(call.words)[:60] + (" without allocation" if alone else " without allocations from")
     answer = (0, call.answer, b"")
     refusals = {(0, told, b"") for told in call.refusals}
     refused, times = 0, 0
-    for growth, met, seen in shim.runs(programs.calls, call.words, call.octets, alone):
+    for allocation, met, seen in shim.runs(programs.calls, call.words, call.octets, alone):
         may_be = refusals | {NOT_TOLD} | ({answer} if alone else set()) if met else {answer}
         refused += met
         times += tuple(seen) in refusals
-        yield f"{name} {growth}", seen, tuple(seen) if tuple(seen) in may_be else answer
+        yield f"{name} {allocation}", seen, tuple(seen) if tuple(seen) in may_be else answer
     yield f"{name} N: the call ran out of memory", times > 0, call.grows or times > 0
     return refused, times
 
@@ -201,11 +201,11 @@ def refused_calls(programs):
                 refused, times = yield from calls_of(shim, programs, call, alone)
                 all_refused += refused
                 all_times += times
-        return f"{all_refused} refused growths in {len(calls)} calls, {all_times} of them in the call itself"
+        return f"{all_refused} refused allocations in {len(calls)} calls, {all_times} of them in the call itself"
 
 
 def refused_words(programs):
-    """Each growth of the program that is refused ends it with that fault, and an empty output; but one growth alone of
+    """Each allocation of the program that is refused ends it with that fault, and an empty output; but one allocation alone of
     its start, where the words are collected, may be made up for by a smaller one."""
     with Shim() as shim:
         refused = 0
@@ -214,27 +214,27 @@ def refused_words(programs):
             start = shim.run(programs.basic, ["x"] if words else [], b"")[1].met
             yield f"{words} is under the shim", start > 0, True
             for alone in [True, False]:
-                for growth, met, seen in shim.runs(programs.basic, words, octets, alone):
+                for allocation, met, seen in shim.runs(programs.basic, words, octets, alone):
                     refused += met
-                    made_up = alone and growth <= start and seen == tuple(answer)
+                    made_up = alone and allocation <= start and seen == tuple(answer)
                     expected = NOT_TOLD if met and not made_up else tuple(answer)
-                    yield f"{words}, growth {growth}{'' if alone else ' and all later'}", seen, expected
-        return f"{refused} refused growths over {len(WORDS)} inputs"
+                    yield f"{words}, allocation {allocation}{'' if alone else ' and all later'}", seen, expected
+        return f"{refused} refused allocations over {len(WORDS)} inputs"
 
 
-# How many growths a call meets, however many segments its URI has.
-GROWTHS = [("join", 2), ("parent", 0)]
+# How many allocations a call meets, however many segments its URI has.
+ALLOCATIONS = [("join", 2), ("parent", 0)]
 
 
-def counted_growths(programs):
-    """`join` and `parent` meet equally many growths on a URI of 1 segment and on one of 200."""
+def counted_allocations(programs):
+    """`join` and `parent` meet equally many allocations on a URI of 1 segment and on one of 200."""
     with Shim() as shim:
-        for call, growths in GROWTHS:
+        for call, allocations in ALLOCATIONS:
             for segments in ["1", "200"]:
                 counts = [
                     shim.run(programs.calls, ["repeat", call, segments, times], b"")[1].met for times in ["1", "2"]
                 ]
-                yield f"{call} on {segments} segments", counts[1] - counts[0], growths
+                yield f"{call} on {segments} segments", counts[1] - counts[0], allocations
 
 
-TABLES = [refused_calls, refused_words, counted_growths]
+TABLES = [refused_calls, refused_words, counted_allocations]

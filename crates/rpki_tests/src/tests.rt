@@ -87,7 +87,7 @@ struct Always {
 
 impl Provider for Always {
     ghost use Rattle.std.specs.Prelude.{ℕ, List, replicate};
-    ghost use Rattle.rpki_tests.specs.declared.x509.TheConstants.{DIGEST_OF_ABC};
+    ghost use Rattle.rpki_tests.specs.declared.tests.TheConstants.{DIGEST_OF_ABC};
 
     ghost sha1_of = { λ _ _. DIGEST_OF_ABC };
 

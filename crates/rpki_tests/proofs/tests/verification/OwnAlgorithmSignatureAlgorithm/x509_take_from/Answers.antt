@@ -1,7 +1,7 @@
 use Rattle.std.proofs.Common.{rules, Ok, Err, [], ◌∷◌}
 use Rattle.rpki_der.proofs.TriedLaws.{tried-refused}
 use Rattle.rpki.proofs.PartLaws.{only-named}
-use Rattle.rpki_tests.proofs.x509.verification.OwnAlgorithmSignatureAlgorithm.x509_take_from.Goals as goal
+use Rattle.rpki_tests.proofs.tests.verification.OwnAlgorithmSignatureAlgorithm.x509_take_from.Goals as goal
 
 pub returns-in_err-in_sequence : goal.returns-in_err-in_sequence
 returns-in_err-in_sequence c =

@@ -1,7 +1,7 @@
 //! Algorithm identifiers.
 
 use super::{Outcome, optional_outcome_of, outcome_of, refused, written};
-use crate::x509::{Always, DIGEST_OF_ABC};
+use crate::tests::{Always, DIGEST_OF_ABC};
 use bytes::Bytes;
 use rpki::crypto::{
     BgpsecSignatureAlgorithm, DigestAlgorithm, PublicKeyFormat, RpkiSignatureAlgorithm,

@@ -204,20 +204,20 @@ fn public_keys_are_allowed_by_their_formats(rt: HostRuntime) -> Result<(), Fail>
 }
 
 /// What the encoder that borrows a key writes.
-fn written_lent(alloc: Global, key: &PublicKey) -> Result<Option<Bytes>, AllocError> {
+fn written_borrowed(alloc: Global, key: &PublicKey) -> Result<Option<Bytes>, AllocError> {
     written(alloc, &key.encode_ref())
 }
 
 /// The same of the key that these octets are.
-fn lent(alloc: Global, octets: &'static [u8]) -> Result<Option<Bytes>, DecodeError> {
+fn borrowed(alloc: Global, octets: &'static [u8]) -> Result<Option<Bytes>, DecodeError> {
     let key = decoded(alloc, octets)?;
-    Ok(written_lent(alloc, &key)?)
+    Ok(written_borrowed(alloc, &key)?)
 }
 
 #[test]
 fn public_keys_are_written(rt: HostRuntime) -> Result<(), Fail> {
     for (name, octets, _, _) in AGAIN {
-        let found = lent(rt.alloc(), octets)?.ok_or("too long")?;
+        let found = borrowed(rt.alloc(), octets)?.ok_or("too long")?;
         assert_eq!(rt; found.as_slice(), *octets, "{name}");
     }
     Ok(())

@@ -114,6 +114,6 @@ pub fn tell(
         Ok(()) => report.words("finished")?,
         Err(e) => report.number("unfinished", u64::from(e.number()))?,
     }
-    report.octets("lent", source.as_slice())?;
+    report.octets("borrowed", source.as_slice())?;
     Ok(())
 }
