@@ -1,9 +1,9 @@
 """Refused allocations: each allocation of a run fails, in turn, alone and with all that come after it.
 
-`refuse.c` is put before the C library. A run counts its allocations from its start on, so those of the program's own start,
-of its words and of its input are refused too: then it says so and tells of no call. Every other run tells what the call
-answers, which is either what it answers when none is refused, or that memory ran out; and what the call's arguments
-hold afterwards, which is then what they held before."""
+`refuse.c` is put before the C library. A run counts its allocations from its start on, so those of the program's own
+start, of its words and of its input are refused too: then it says so and tells of no call. Every other run tells what
+the call answers, which is either what it answers when none is refused, or that memory ran out; and what the call's
+arguments hold afterwards, which is then what they held before."""
 import base64
 from typing import FrozenSet, List, NamedTuple
 
@@ -174,9 +174,9 @@ WORDS = [
 
 
 def calls_of(shim, programs, call, alone):
-    """The runs of one call with a allocation refused: what is seen, and what may be. With all later allocations refused too
-    there is no right answer. Whether the call itself ran out of memory comes last. How many allocations were refused, and
-    how often the call itself ran out."""
+    """The runs of one call with an allocation refused: what is seen, and what may be. With all later allocations
+    refused too there is no right answer. Whether the call itself ran out of memory comes last. How many allocations
+    were refused, and how often the call itself ran out."""
     name = " ".join(call.words)[:60] + (" without allocation" if alone else " without allocations from")
     answer = (0, call.answer, b"")
     refusals = {(0, told, b"") for told in call.refusals}
@@ -205,8 +205,8 @@ def refused_calls(programs):
 
 
 def refused_words(programs):
-    """Each allocation of the program that is refused ends it with that fault, and an empty output; but one allocation alone of
-    its start, where the words are collected, may be made up for by a smaller one."""
+    """Each allocation of the program that is refused ends it with that fault, and an empty output; but one allocation
+    alone of its start, where the words are collected, may be made up for by a smaller one."""
     with Shim() as shim:
         refused = 0
         for words, octets, *answer in WORDS:

@@ -78,8 +78,8 @@ def headers_read(programs):
 
 
 def entries_looked_at(programs):
-    """Where there are ten times as many members, naming those of each value takes at most twenty times the instructions:
-    not every entry is looked at for each of them."""
+    """Where there are ten times as many members, naming those of each value takes less than twenty times the
+    instructions: not every entry is looked at for each of them."""
     if not shutil.which("valgrind"):
         return "nothing counted: there is no valgrind"
     with tempfile.TemporaryDirectory() as folder:
@@ -87,8 +87,8 @@ def entries_looked_at(programs):
         for name, shape in SHAPES:
             instructions = []
             for number in (999, 9_990):
-                told = (0, b"size %d" % number)
-                yield f"{number} members, {name}", counted(programs, counts, ["captured", "members"], shape(number)), told
+                seen = counted(programs, counts, ["captured", "members"], shape(number))
+                yield f"{number} members, {name}", seen, (0, b"size %d" % number)
                 instructions.append(instructions_in(counts))
             yield f"{name}, twenty times the instructions", instructions[1] < 20 * instructions[0], True
 

@@ -15,8 +15,8 @@ class Seen(NamedTuple):
     faults: bytes
 
     def after(self, refused):
-        """What is seen, where so many allocations were refused. Where none was, nothing may say that memory ran out: a call
-        that does has given up, and no row expects this."""
+        """What is seen, where so many allocations were refused. Where none was, nothing may say that memory ran out: a
+        call that does has given up, and no row expects this."""
         if refused == 0 and re.search(rb"^out of memory$", self.output + b"\n" + self.faults, re.MULTILINE):
             return self._replace(output=b"gave up, and no allocation was refused: " + self.output)
         return self

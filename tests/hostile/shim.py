@@ -35,8 +35,8 @@ class Shim:
         self.folder.cleanup()
 
     def run(self, program, words, octets, **refused):
-        """A run that refuses what REFUSE or REFUSE_FROM says, and its allocations. A run that does not come to its end, or
-        is not under the shim, met none."""
+        """A run that refuses what REFUSE or REFUSE_FROM says, and its allocations. A run that does not come to its end,
+        or is not under the shim, met none."""
         if os.path.exists(self.count):
             os.remove(self.count)
         environment = {**os.environ, "LD_PRELOAD": self.library, "COUNT_FILE": self.count, **refused}
@@ -48,11 +48,12 @@ class Shim:
         return seen.after(allocations.refused), allocations
 
     def runs(self, program, words, octets, alone):
-        """Runs with each allocation refused in turn, alone or with all later ones, until a run meets none: the number of
-        the allocation, whether one was refused, and what is seen."""
+        """Runs with each allocation refused in turn, alone or with all later ones, until a run meets none: the number
+        of the allocation, whether one was refused, and what is seen."""
         allocation, refused = 0, True
         while refused:
             allocation += 1
-            seen, allocations = self.run(program, words, octets, **{"REFUSE" if alone else "REFUSE_FROM": str(allocation)})
+            refusing = {"REFUSE" if alone else "REFUSE_FROM": str(allocation)}
+            seen, allocations = self.run(program, words, octets, **refusing)
             refused = allocations.refused > 0
             yield allocation, refused, seen

@@ -1,8 +1,8 @@
 """Each named encoder over writers that fail: at the first call, at the second, and so on until none fails.
 
-`hostile_calls write` does that in twelve ways, and tells of each writer in a line: its number, the call that fails (from
-0), how often it was called, how the encoder ended, and the octets that it holds. The first six take an octet at a call,
-the other six what they are given; of each six the first three fail once, the others from that call on."""
+`hostile_calls write` does that in twelve ways, and tells of each writer in a line: its number, the call that fails
+(from 0), how often it was called, how the encoder ended, and the octets that it holds. The first six take an octet at a
+call, the other six what they are given; of each six the first three fail once, the others from that call on."""
 from der import bits, sequence, tlv
 from programs import run
 from vectors import (
