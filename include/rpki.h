@@ -8,12 +8,12 @@
  *
  * Where the status is not 0, `out` is left as it was; only `*count` of rpki_index is written with RPKI_TOO_SMALL too.
  *
- * What a call takes of memory it frees before it returns. Those that take none, and so never return RPKI_OUT_OF_MEMORY,
- * are rpki_header, rpki_serial, rpki_time, rpki_validity, rpki_extension, rpki_version and the calls on URIs. The others,
- * at the peak:
+ * What a call takes of memory it frees before it returns. Those that take none, and so never return
+ * RPKI_OUT_OF_MEMORY, are rpki_header, rpki_serial, rpki_time, rpki_validity, rpki_extension, rpki_version and the
+ * calls on URIs. The others, at the peak:
  *  - each takes up to 24 octets for each level of nesting, and 64 more;
- *  - rpki_index and rpki_name_inspect take up to 96 octets for each header beside that, and 256 more (of which they keep
- *    up to 64 a header until they return);
+ *  - rpki_index and rpki_name_inspect take up to 96 octets for each header beside that, and 256 more (of which they
+ *    keep up to 64 a header until they return);
  *  - rpki_name_inspect, rpki_public_key and rpki_key_identifier take a copy of their octets.
  * So bound the size of what strangers send before you hand it in.
  *

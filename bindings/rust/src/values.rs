@@ -120,7 +120,8 @@ impl<'a> Extension<'a> {
     /// Reads an extension that is all of the octets. What is in its OCTET STRING is not looked at.
     ///
     /// # Errors
-    /// `Trailing` where octets follow an extension, and else why no beginning of the octets is one. Nothing is allocated.
+    /// `Trailing` where octets follow an extension, and else why no beginning of the octets is one. Nothing is
+    /// allocated.
     pub fn decode(octets: &'a [u8]) -> Result<Extension<'a>, DecodeError> {
         let found = ffi::extension(octets).map_err(DecodeError::from_status)?;
         Ok(Extension {

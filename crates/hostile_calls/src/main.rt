@@ -3,8 +3,9 @@
 //! lines.
 //!
 //! The words are a group of calls (what the input is read as, or what is made of it), the call, and for `join` the path
-//! that is joined, or for `repeated` how often. `write` writes an encoder's values to writers that fail. `repeat` reads no input: it makes one call
-//! on an rsync URI of so many segments so many times, and reports the sum of the results, for `bench/uris.py`.
+//! that is joined, or for `repeated` how often. `write` writes an encoder's values to writers that fail. `repeat` reads
+//! no input: it makes one call on an rsync URI of so many segments so many times, and reports the sum of the results,
+//! for `bench/uris.py`.
 #![tactic(auto)]
 
 mod cursors;

@@ -12,8 +12,8 @@ use crate::header::header;
 use crate::index::HeaderEntry;
 use crate::tag::{Header, Tag};
 
-/// What is left of captured values, or of the contents of one of them. It takes each header from their index, instead of
-/// reading it again.
+/// What is left of captured values, or of the contents of one of them. It takes each header from their index, instead
+/// of reading it again.
 #[derive(Clone, Copy)]
 pub struct IndexedCursor<'a> {
     source: &'a [u8],

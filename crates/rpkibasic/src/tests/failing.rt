@@ -278,7 +278,8 @@ fn answered_rows() -> &'static [Answered] {
     ANSWERED
 }
 
-/// How many calls of an input that fails so find all of it and its end: one for each octet or one for all, and one more.
+/// How many calls of an input that fails so find all of it and its end: one for each octet or one for all, and one
+/// more.
 fn calls_needed(row: &Answered, failure: Failure) -> usize {
     if failure.most == 1 {
         row.input.len().saturating_add(1)

@@ -10,8 +10,8 @@ use super::grammar::take_extension;
 use rpki_der::{Constructed, DecodeError, Oid};
 use std::marker::Model;
 
-/// An extension of a certificate, as [CertExtension](crate::repository::x509::CertExtension), whose parts are borrowed from the octets
-/// that it was read from.
+/// An extension of a certificate, as [CertExtension](crate::repository::x509::CertExtension), whose parts are borrowed
+/// from the octets that it was read from.
 #[derive(Debug, Drop)]
 pub struct ExtensionView<'a> {
     id: Oid<&'a [u8]>,
@@ -29,7 +29,8 @@ impl<'a> Model for ExtensionView<'a> {
 
 impl<'a> ExtensionView<'a> {
     /// An extension, with the grammar and the errors of
-    /// [CertExtension::take_from](crate::repository::x509::CertExtension::take_from), but for `OutOfMemory`. Allocates nothing.
+    /// [CertExtension::take_from](crate::repository::x509::CertExtension::take_from), but for `OutOfMemory`. Allocates
+    /// nothing.
     pub fn take_from(cons: &mut Constructed<'a>) -> Result<ExtensionView<'a>, DecodeError>
         ensures { Reads (λ x. x) SpellsExtension IsCertExtensionFault (left cons.old) (left cons.new) result }
     {
