@@ -23,6 +23,16 @@ def filled(size):
     return b"\xA5" * (size - 1) + b"\x80" if size else b""
 
 
+def path_of(size):
+    """A path of so many octets, of segments of 255 octets at most."""
+    return (b"a" * 255 + b"/") * (size // 256) + b"a" * (size % 256)
+
+
+# The longest rsync URI that is read has 3,071 octets after `rsync://`, and the longest that is joined 3,071 in all.
+RSYNC_SIZES = [0, 1, 127, 128, 255, 256, 3_071 - len(b"host/module/")]
+MOST_JOINED = 3_071 - len(b"rsync://host/module/")
+
+
 def values():
     """Values of so many octets, members and levels, and how many headers they have."""
     for size in SIZES:
@@ -61,6 +71,23 @@ def reading():
     for size in SIZES[1:]:
         repeated = on_value("captured", "repeated", NULL, made(NULL * size), True, words=[str(size)])
         yield f"{size} values", repeated
+
+
+def keeping():
+    """Calls that keep contents, numbers in a list, and the URIs of general names."""
+    for size in SIZES:
+        for call in [
+            *both_cursors("take_octets", tlv(0x04, filled(size)) + NULL, made(filled(size)), NULL),
+            *both_cursors("take_numbers", b"\x02\x01\x05" * size, made(b"\x05" * size)),
+        ]:
+            yield f"{size} octets or numbers", call
+        text = b"https://host/" + b"a" * size
+        for call in both_cursors("take_https_name", tlv(0x86, text) + NULL, made(text), NULL):
+            yield f"path of {size} octets", call
+    for size in RSYNC_SIZES:
+        text = b"rsync://host/module/" + path_of(size)
+        for call in both_cursors("take_rsync_name", tlv(0x86, text) + NULL, made(text), NULL):
+            yield f"path of {size} octets", call
 
 
 def bit_string_calls():
@@ -187,11 +214,6 @@ def extensions():
                 yield f"identifier of {size} octets", call
 
 
-def path_of(size):
-    """A path of so many octets, of segments of 255 octets at most."""
-    return (b"a" * 255 + b"/") * (size // 256) + b"a" * (size % 256)
-
-
 def text_calls(group, text):
     """Calls that read a text as a URI, and that need its text alone."""
     for call in ["from_bytes", "from_slice", "from_string", "from_str"]:
@@ -199,11 +221,6 @@ def text_calls(group, text):
     yield on_uri(group, "clone", text, made(text), False)
     yield on_uri(group, "unshare", text, b"done", True)
     yield on_uri(group, "path_into_dir", text, b"done", True, after=text if text.endswith(b"/") else text + b"/")
-
-
-# The longest rsync URI that is read has 3,071 octets after `rsync://`, and the longest that is joined 3,071 in all.
-RSYNC_SIZES = [0, 1, 127, 128, 255, 256, 3_071 - len(b"host/module/")]
-MOST_JOINED = 3_071 - len(b"rsync://host/module/")
 
 
 def rsync_uris():
@@ -324,7 +341,7 @@ def under_shim(programs, rows):
 
 def sizes_of_values(programs):
     """Any values."""
-    return (yield from under_shim(programs, chain(reading(), bit_string_calls())))
+    return (yield from under_shim(programs, chain(reading(), keeping(), bit_string_calls())))
 
 
 def sizes_of_signed_data(programs):

@@ -7,6 +7,7 @@ use crate::report::Report;
 use bytes::Bytes;
 use rpki::der::{Constructed, DecodeError, Steps, index_octets, walk_octets};
 use rpki::repository::x509::{CertExtension, Name, SignedData};
+use rpki::uri::{Https, Rsync};
 use std::alloc::Global;
 use std::io;
 
@@ -55,6 +56,10 @@ fn index(alloc: Global, octets: &[u8]) -> Outcome {
 fn take_value(alloc: Global, call: &str, cursor: &mut Constructed<'_>) -> Outcome {
     match call {
         "take_bit_string" => Ok(Made::Bits(readers::bits(alloc, cursor)?)),
+        "take_octets" => Ok(Made::Octets(readers::octets(alloc, cursor)?)),
+        "take_numbers" => Ok(Made::Data(readers::numbers(alloc, cursor)?)),
+        "take_rsync_name" => Ok(Made::Rsync(Rsync::take_general_name(alloc, cursor)?)),
+        "take_https_name" => Ok(Made::Https(Https::take_general_name(alloc, cursor)?)),
         "take_key" => Ok(Made::Key(readers::key(alloc, cursor)?)),
         "take_name" => Ok(Made::Name(Name::take_from(alloc, cursor)?)),
         "take_signed" => Ok(Made::Signed(SignedData::take_from(alloc, cursor)?)),

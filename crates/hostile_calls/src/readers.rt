@@ -2,7 +2,7 @@
 
 use bytes::Bytes;
 use rpki::crypto::PublicKey;
-use rpki::der::{BitString, Constructed, DecodeError};
+use rpki::der::{BitString, Constructed, DecodeError, Tag};
 use std::alloc::Global;
 
 /// A cursor on octets that it borrows: what a reader keeps of them is a copy.
@@ -13,6 +13,16 @@ pub fn on_slice(octets: &[u8]) -> Constructed<'_> {
 /// Reads a bit string.
 pub fn bits(alloc: Global, cursor: &mut Constructed<'_>) -> Result<BitString, DecodeError> {
     cursor.take_bit_string(alloc)
+}
+
+/// Reads the contents of an OCTET STRING, and keeps them.
+pub fn octets(alloc: Global, cursor: &mut Constructed<'_>) -> Result<Bytes, DecodeError> {
+    cursor.take_primitive_bytes_if(alloc, Tag::OCTET_STRING)
+}
+
+/// Reads numbers of an octet until nothing is left.
+pub fn numbers(alloc: Global, cursor: &mut Constructed<'_>) -> Result<Vec<u8>, DecodeError> {
+    cursor.take_each(alloc, |rest| rest.take_u8())
 }
 
 /// Reads a public key.
