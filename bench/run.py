@@ -56,7 +56,8 @@ def certificate():
     """Signed data of the size and shape of a certificate; and the headers of what is signed."""
     name = value(0x30, value(0x31, value(0x30, value(0x06, b"\x55\x04\x03") + value(0x13, b"A" * 40))))
     key = value(0x30, ALGORITHM + value(0x03, b"\x00" + b"\x55" * 270))
-    extensions = b"".join(value(0x30, value(0x06, b"\x55\x1d\x0e") + value(0x04, b"\x04\x14" + b"\x11" * 20)) for _ in range(10))
+    extension = value(0x30, value(0x06, b"\x55\x1d\x0e") + value(0x04, b"\x04\x14" + b"\x11" * 20))
+    extensions = extension * 10
     inner = value(0x30, value(0x02, b"\x01") + ALGORITHM + name + name + key + value(0xA3, value(0x30, extensions)))
     return signed(inner), 1 + 1 + 3 + 2 * 5 + 1 + 3 + 1 + 2 + 10 * 3
 
@@ -86,7 +87,8 @@ def measure(launcher, commands, path):
     best = [[float("inf"), float("inf")] for _ in commands]
     for _ in range(RUNS):
         for place, command in enumerate(commands):
-            told = subprocess.run([launcher, path, f"{path}.{place}"] + command, check=True, capture_output=True, text=True).stdout
+            words = [launcher, path, f"{path}.{place}"] + command
+            told = subprocess.run(words, check=True, capture_output=True, text=True).stdout
             micros, kilobytes = map(int, told.split())
             best[place] = [min(best[place][0], micros / 1e6), min(best[place][1], kilobytes * 1024)]
     if not same(f"{path}.0", f"{path}.1"):
@@ -99,9 +101,11 @@ def main():
         sys.exit("build the program first: in crates/rpkibasic, `rt run`")
     with tempfile.TemporaryDirectory() as folder:
         for name in ["plain", "measure"]:
-            subprocess.run(["rustc", "-O", "--edition", "2024", "-o", os.path.join(folder, name), os.path.join(TOP, "bench", name + ".rs")], check=True)
+            source, target = os.path.join(TOP, "bench", name + ".rs"), os.path.join(folder, name)
+            subprocess.run(["rustc", "-O", "--edition", "2024", "-o", target, source], check=True)
         print(f"{os.cpu_count()} cores, {time.strftime('%Y-%m-%d')}, smallest of {RUNS} runs")
-        print(f"{'input':24}{'octets':>10}{'headers':>10}  {'program':8}{'seconds':>9}{'ns/header':>11}{'MB/s':>8}{'peak MB':>9}{'x input':>9}{'x plain':>9}")
+        print(f"{'input':24}{'octets':>10}{'headers':>10}  {'program':8}{'seconds':>9}{'ns/header':>11}{'MB/s':>8}"
+              f"{'peak MB':>9}{'x input':>9}{'x plain':>9}")
         for name, make in INPUTS.items():
             octets, headers = make()
             size = len(octets)
@@ -109,11 +113,13 @@ def main():
             with open(path, "wb") as target:
                 target.write(octets)
             del octets
-            results = measure(os.path.join(folder, "measure"), [[PROGRAM, "again"], [os.path.join(folder, "plain")]], path)
+            commands = [[PROGRAM, "again"], [os.path.join(folder, "plain")]]
+            results = measure(os.path.join(folder, "measure"), commands, path)
             for place, program in enumerate(["again", "plain"]):
                 seconds, memory = results[place]
                 print(f"{name:24}{size:>10}{headers:>10}  {program:8}{seconds:>9.4f}{seconds * 1e9 / headers:>11.1f}"
-                      f"{size / 1e6 / seconds:>8.1f}{memory / 1e6:>9.1f}{memory / size:>9.2f}{seconds / results[1][0]:>9.2f}")
+                      f"{size / 1e6 / seconds:>8.1f}{memory / 1e6:>9.1f}{memory / size:>9.2f}"
+                      f"{seconds / results[1][0]:>9.2f}")
 
 
 if __name__ == "__main__":

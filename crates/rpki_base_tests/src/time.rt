@@ -648,7 +648,7 @@ fn slice_rows() -> &'static [(&'static str, &'static [u8], Result<u64, SerialSli
     SLICES
 }
 
-/// Whether the octets are this number, or are refused so.
+/// Whether the octets are this number, or are rejected so.
 fn is_serial(octets: &[u8], expected: Result<u64, SerialSliceError>) -> bool {
     match (Serial::from_slice(octets), expected) {
         (Ok(serial), Ok(number)) => serial == Serial::from(number),
@@ -677,7 +677,7 @@ fn array_rows() -> &'static [(&'static str, [u8; 20], bool)] {
     ARRAYS
 }
 
-/// Whether the octets are a serial number and are read back, or both ways to make one refuse them.
+/// Whether the octets are a serial number and are read back, or both ways to make one reject them.
 fn is_array(octets: [u8; 20], refused: bool) -> bool {
     match (Serial::from_array(octets), Serial::try_from(octets)) {
         (Ok(serial), Ok(other)) => {

@@ -9,7 +9,7 @@ use std::error::Error;
 use std::io;
 use std::test::Fail;
 
-/// What a text is decoded to: the octets, or why it is refused.
+/// What a text is decoded to: the octets, or why it is rejected.
 type Decoded = Result<&'static [u8], DecodeError>;
 
 /// Whether this is what was decoded.
@@ -222,7 +222,7 @@ fn long_encodings(rt: HostRuntime) -> Result<(), Fail> {
     Ok(())
 }
 
-/// Why a text is not decoded into a slice: it has no room there, or is refused.
+/// Why a text is not decoded into a slice: it has no room there, or is rejected.
 #[derive(Clone, Copy)]
 enum Refusal {
     NoRoom,

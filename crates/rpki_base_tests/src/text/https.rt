@@ -63,7 +63,7 @@ fn join(alloc: Global, base: &Https, path: &str) -> Result<Https, Error> {
     base.join(alloc, path.as_bytes())
 }
 
-/// Whether the path is joined to this text, or is refused with this error.
+/// Whether the path is joined to this text, or is rejected with this error.
 fn is_joined(
     alloc: Global,
     base: &str,

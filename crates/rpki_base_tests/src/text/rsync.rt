@@ -258,7 +258,7 @@ fn join(alloc: Global, base: &Rsync, path: &str) -> Result<Rsync, Error> {
     base.join(alloc, path.as_bytes())
 }
 
-/// Whether the path is joined to this text, or is refused with this error.
+/// Whether the path is joined to this text, or is rejected with this error.
 fn is_joined(
     alloc: Global,
     base: &str,
