@@ -1,9 +1,8 @@
 -- What the errors of the repository hold.
-use Rattle.std.specs.Prelude.{◌≡◌, ℕ, Bool, List, Option, Some, None, IsTrue}
-use Rattle.rpki_der.specs.ErrorText.{text_of}
+use Rattle.std.specs.Prelude.{◌≡◌, ℕ, Bool, List, Option, Some, IsTrue}
+use Rattle.rpki_der.specs.ErrorText.{text_of, error_text}
 use Rattle.rpki_der.specs.declared.error.ContentError.{ContentError}
 use Rattle.rpki_der.specs.declared.error.DecodeError.{DecodeError}
-use Rattle.rpki_der.specs.declared.error.DecodeError.TheVariants.{Truncated, BadTag, BadLength, Unexpected, Content, Trailing, OutOfMemory}
 use Rattle.rpki.specs.declared.repository.error.InspectionError.{InspectionError}
 use Rattle.rpki.specs.declared.repository.error.VerificationError.{VerificationError}
 use Rattle.rpki.specs.declared.repository.error.ValidationError.{ValidationError}
@@ -16,19 +15,9 @@ content_of e = e.inner
 abbrev pub verification_content : VerificationError → ContentError
 verification_content e = e.inner
 
--- the text of an error of contents; of the other errors nothing is said
-abbrev pub decode_text : DecodeError → Option (List ℕ)
-decode_text (Content e) = Some (text_of e)
-decode_text Truncated = None
-decode_text BadTag = None
-decode_text BadLength = None
-decode_text Unexpected = None
-decode_text Trailing = None
-decode_text OutOfMemory = None
-
--- the text that is passed on
+-- the text of what is inside
 abbrev pub validation_text : ValidationError → Option (List ℕ)
-validation_text (Decoding e) = decode_text e
+validation_text (Decoding e) = Some (error_text e)
 validation_text (Inspection e) = Some (text_of (content_of e))
 validation_text (Verification e) = Some (text_of (verification_content e))
 

@@ -2,7 +2,7 @@
 --
 -- A part by its place; parts of signed data and of extensions; the value at the front by its header: PartLaws,
 --   SuffixLaws, FrontLaws.
--- Parts of keys, moments of times, whole octets without allocation: KeyPlaceLaws, MomentLaws, WholeLaws.
+-- Parts of keys, moments of times, KeyPlaceLaws, MomentLaws.
 -- Signed data read in place: SignedReadingLaws.
 -- Any algorithm identifier; statuses of keys, of names, and of another algorithm: IdentifierLaws, KeyStatusLaws,
 --   NameStatusLaws, ElseLaws.
@@ -10,7 +10,6 @@
 
 mod SuffixLaws
 mod PartLaws
-mod WholeLaws
 mod FrontLaws
 mod KeyPlaceLaws
 mod KeyStatusLaws

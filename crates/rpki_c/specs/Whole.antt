@@ -3,6 +3,7 @@ use Rattle.std.specs.Prelude.{◌≡◌, ℕ, List, Result, Ok, Err, Option, Som
 use Rattle.rpki_der.specs.declared.error.DecodeError.{DecodeError}
 use Rattle.rpki_der.specs.Error.{error_number}
 use Rattle.rpki_der.specs.Reading.{SpellsNothing, UnlessMemory, Refusal, IsWholeFault, TakesNoMemory}
+pub use Rattle.rpki_der.specs.Reading.{NeverMemory}
 
 -- All of the octets were read as one value: unless allocation failed they are not in the grammar. The status is the
 -- number of the error, and K says which error it is.
@@ -32,8 +33,3 @@ pub record IsFrontRefused {V : Type 0} (G : V → List ℕ → Type 0) (K : List
   pub error : DecodeError
   pub number : status ≡ error_number error
   pub refusal : Refusal G K s s error
-
--- the error of a reader of whole octets that allocates nothing
-abbrev pub NeverMemory : {V : Type 0} → (V → List ℕ → Type 0) → (List ℕ → DecodeError → Type 0) → List ℕ → DecodeError
-    → Type 0
-NeverMemory G K = TakesNoMemory (IsWholeFault G K)

@@ -16,7 +16,7 @@ use crate::identifiers::begins_with_identifier;
 use crate::place::{Place, contents_of};
 use crate::status::OTHER_ALGORITHM;
 use rpki::crypto::{RpkiSignatureAlgorithm, SignatureAlgorithm};
-use rpki_der::{BitString, Constructed, ContentError, DecodeError, Steps, Tag, walk_octets};
+use rpki_der::{BitString, Constructed, DecodeError, Steps, Tag, walk_octets};
 use std::alloc::Global;
 
 /// The parts of signed data.
@@ -45,10 +45,10 @@ fn take_signature<'a>(cons: &mut Constructed<'a>) -> Result<&'a [u8], DecodeErro
     let mut after = *cons;
     let contents = after.take_primitive_if(Tag::BIT_STRING)?;
     let [unused, octets @ ..] = contents else {
-        return Err(DecodeError::Content(ContentError::from_static("malformed BIT STRING")));
+        return Err(DecodeError::content("malformed BIT STRING"));
     };
     if !BitString::is_legal(*unused, octets) {
-        return Err(DecodeError::Content(ContentError::from_static("malformed BIT STRING")));
+        return Err(DecodeError::content("malformed BIT STRING"));
     }
     *cons = after;
     Ok(octets)

@@ -2,13 +2,13 @@
 
 ghost use Rattle.std.specs.Prelude.{◌≡◌, IfOk, IfErr};
 ghost use Rattle.jiff.specs.Words.{civil_nanos};
-ghost use Rattle.rpki_der.specs.Reading.{Decodes, SpellsNothing, UnlessMemory};
+ghost use Rattle.rpki_der.specs.Reading.{SpellsNothing, UnlessMemory};
 ghost use Rattle.rpki_time.specs.Time.{IsFloorSecond};
 ghost use Rattle.rpki_time.specs.TimeValue.{SpellsTime};
 ghost use Rattle.rpki_time.specs.PeriodValue.{SpellsPeriod};
 ghost use Rattle.rpki_c.specs.Time.{HasMoment, HasMoments, IsWholeTimeFault, IsWholePeriodFault, IsTimeRead, IsValidityRead};
 
-use rpki_der::{Constructed, DecodeError};
+use rpki_der::DecodeError;
 use rpki_time::{Time, Validity};
 
 /// A moment in UTC.
@@ -29,13 +29,6 @@ pub struct Moment {
     pub minute: u32,
     /// The second, from 0 to 59.
     pub second: u32,
-}
-
-/// A time, and nothing else. Allocates nothing.
-fn whole_time(octets: &[u8]) -> Result<Time, DecodeError>
-    ensures { Decodes (λ t. t) SpellsTime IsWholeTimeFault octets.now result }
-{
-    Constructed::from_slice(octets).whole(|cons| Time::take_from(cons))
 }
 
 /// The moment of a time, without parts of a second.
@@ -62,7 +55,7 @@ fn read_time(octets: &[u8]) -> Result<Moment, DecodeError>
     ensures err { IfErr result (λ e. UnlessMemory e (SpellsNothing SpellsTime octets.now)
         × IsWholeTimeFault octets.now e) }
 {
-    match whole_time(octets) {
+    match Time::decode(octets) {
         Ok(time) => Ok(moment_of(time)),
         Err(e) => Err(e),
     }
@@ -94,20 +87,13 @@ pub struct Period {
     pub not_after: Moment,
 }
 
-/// A period of validity, and nothing else. Allocates nothing.
-fn whole_validity(octets: &[u8]) -> Result<Validity, DecodeError>
-    ensures { Decodes (λ p. p) SpellsPeriod IsWholePeriodFault octets.now result }
-{
-    Constructed::from_slice(octets).whole(|cons| Validity::take_from(cons))
-}
-
 /// The moments of the period that the octets are.
 fn read_validity(octets: &[u8]) -> Result<Period, DecodeError>
     ensures ok { IfOk result (λ m. HasMoments octets.now m) }
     ensures err { IfErr result (λ e. UnlessMemory e (SpellsNothing SpellsPeriod octets.now)
         × IsWholePeriodFault octets.now e) }
 {
-    match whole_validity(octets) {
+    match Validity::decode(octets) {
         Ok(period) => Ok(Period {
             not_before: moment_of(period.not_before()),
             not_after: moment_of(period.not_after()),

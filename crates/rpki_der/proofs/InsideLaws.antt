@@ -10,7 +10,7 @@ use Rattle.rpki_der.specs.Values.{SpellsContents, SpellsLeaf, IsContentsFault, G
 use Rattle.rpki_der.specs.Inside.{HasInside}
 use Rattle.rpki_der.specs.Composed.{Inside, NotInside, ReadsInside, ReadsAll, NotWhole, ReadsWhole}
 use Rattle.rpki_der.specs.Composed.NotWhole.{RefusedAll, Left}
-use Rattle.rpki_der.specs.Reading.{SpellsNothing, Decodes, IsWholeFault}
+use Rattle.rpki_der.specs.Reading.{SpellsNothing, Decodes, IsWholeFault, NeverMemory}
 use Rattle.rpki_der.specs.Composed.NotInside.{Outside, Refused, More}
 use Rattle.rpki_der.proofs.ReadingLaws.{UnlessMemory-weaker, UnlessMemory-from}
 use Rattle.rpki_der.proofs.LeavesLaws.{contents-no-memory}
@@ -145,3 +145,26 @@ module _ {X V : Type 0} (view : X → V) (G : V → List ℕ → Type 0) (K : Li
   read-whole s (Ok x) h =
       subst (λ q. G (view x) q × ((w : V) → G w q → w ≡ view x)) h.all (all-read G (left h.before) (view x) (left h.after) (law h.before h.after (Ok x) h.read) h.rest)
   read-whole s (Err e) h = not-whole s e h
+
+-- an error that is no allocation failure
+pub exactly : {V : Type 0} (G : V → List ℕ → Type 0) (K : List ℕ → DecodeError → Type 0) (s : List ℕ) (e : DecodeError) → e ≢ OutOfMemory
+    → UnlessMemory e (SpellsNothing G s) × IsWholeFault G K s e → UnlessMemory e (SpellsNothing G s) × NeverMemory G K s e
+exactly G K s e ne h = (h.0, record { other = ne; kind = h.1 })
+
+-- nor is Trailing
+pub trailing-exactly : {V : Type 0} (G : V → List ℕ → Type 0) (K : List ℕ → DecodeError → Type 0) (s : List ℕ)
+    → SpellsNothing G s × IsWholeFault G K s Trailing → SpellsNothing G s × NeverMemory G K s Trailing
+trailing-exactly G K s h = (h.0, record { other = λ z. cc; kind = h.1 })
+
+-- all of the octets, over a reader of a beginning that allocates nothing
+module _ {X V : Type 0} (view : X → V) (G : V → List ℕ → Type 0) (K : List ℕ → DecodeError → Type 0)
+    (never : (s : List ℕ) (e : DecodeError) → K s e → e ≢ OutOfMemory)
+    (reads : Constructed → Result X DecodeError → Constructed → Type 0)
+    (law : (b a : Constructed) (x : Result X DecodeError) → reads b x a → Reads view G K (left b) (left a) x) where
+  whole-never : (s : List ℕ) (e : DecodeError) → NotWhole Same reads s e → e ≢ OutOfMemory
+  whole-never s e (RefusedAll d h) = never (left h.before) e (law h.before h.after (Err e) h.read).kind
+  whole-never s e (Left x d h some same) = λ z. let k : Trailing ≡ OutOfMemory = sym same ∙ z in cc
+
+  pub read-whole-exactly : (s : List ℕ) (x : Result X DecodeError) → ReadsWhole Same reads s x → Decodes view G (NeverMemory G K) s x
+  read-whole-exactly s (Ok x) h = read-whole view G K reads law s (Ok x) h
+  read-whole-exactly s (Err e) h = exactly G K s e (whole-never s e h) (read-whole view G K reads law s (Err e) h)

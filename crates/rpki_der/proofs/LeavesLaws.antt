@@ -5,6 +5,8 @@ use Rattle.std.proofs.lemmas.Slice.{first_rest}
 use Rattle.rpki_der.specs.declared.error.DecodeError.{DecodeError}
 use Rattle.rpki_der.specs.declared.error.DecodeError.TheVariants.{Truncated, BadTag, BadLength, Unexpected, Content, Trailing, OutOfMemory}
 use Rattle.rpki_der.specs.declared.error.ContentError.{ContentError}
+use denote.Bor.{Bor}
+use Rattle.rpki_der.specs.ErrorText.{content_error}
 use Rattle.rpki_der.specs.TagName.{TagName}
 use Rattle.rpki_der.specs.Leaves.{Bits, AreBits, IsBits, bits_of, boolean_contents}
 use Rattle.rpki_der.specs.Reading.{Spells, Accepts, Refusal, OrMemoryWhere}
@@ -65,6 +67,11 @@ leaf-bad {V} t f C s c q r x same a none = record {
       none v (subst (λ (d : List ℕ). C v d) e.0 k.2);
   kind = (c, q, a.spells, none);
 }
+
+-- the same with an error of this text
+pub leaf-malformed : {V : Type 0} (t : TagName) (f : Bool) (C : V → List ℕ → Type 0) (s c q r : List ℕ) (e : DecodeError) (text : Bor (List ℕ)) → e ≡ content_error text → r ≡ s
+    → Accepts (SpellsContents t f) s c q → ((v : V) → C v c → ⊥) → Refusal (SpellsLeaf t f C) (IsLeafFault t f C) s r e
+leaf-malformed t f C s c q r e text is same a none = rw is (leaf-bad t f C s c q r _ same a none)
 
 -- ---- bit strings
 

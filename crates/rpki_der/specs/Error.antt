@@ -1,4 +1,5 @@
 use Rattle.std.specs.Prelude.{ℕ, ◌≡◌}
+use Rattle.rpki_der.specs.ErrorText.{text_of, error_text}
 use Rattle.rpki_der.specs.declared.error.ContentError.{ContentError}
 use Rattle.rpki_der.specs.declared.error.DecodeError.{DecodeError}
 use Rattle.rpki_der.specs.declared.error.DecodeError.TheVariants.{Truncated, BadTag, BadLength, Unexpected, Content, Trailing, OutOfMemory}
@@ -13,12 +14,12 @@ error_number (Content e) = 5
 error_number Trailing = 6
 error_number OutOfMemory = 7
 
--- the error of contents that is inside an error; of the other errors nothing is said
+-- the error of contents that has the text of an error: of one of contents, the one inside
 abbrev pub IsContentOf : DecodeError → ContentError → Type 0
 IsContentOf (Content inner) e = e ≡ inner
-IsContentOf Truncated e = Unit {0}
-IsContentOf BadTag e = Unit {0}
-IsContentOf BadLength e = Unit {0}
-IsContentOf Unexpected e = Unit {0}
-IsContentOf Trailing e = Unit {0}
-IsContentOf OutOfMemory e = Unit {0}
+IsContentOf Truncated e = text_of e ≡ error_text Truncated
+IsContentOf BadTag e = text_of e ≡ error_text BadTag
+IsContentOf BadLength e = text_of e ≡ error_text BadLength
+IsContentOf Unexpected e = text_of e ≡ error_text Unexpected
+IsContentOf Trailing e = text_of e ≡ error_text Trailing
+IsContentOf OutOfMemory e = text_of e ≡ error_text OutOfMemory

@@ -94,3 +94,8 @@ pub record IsWholeFault {V : Type 0} (G : V → List ℕ → Type 0) (K : List �
   pub trailing : (v : V) (b : ℕ) (more : List ℕ) → Spells G s v (b ∷ more) → UnlessMemory e (e ≡ Trailing)
   pub kind : Refuses G s → K s e
   pub memory : e ≡ OutOfMemory → K s OutOfMemory
+
+-- the error of a reader of whole octets that allocates nothing
+abbrev pub NeverMemory : {V : Type 0} → (V → List ℕ → Type 0) → (List ℕ → DecodeError → Type 0) → List ℕ → DecodeError
+    → Type 0
+NeverMemory G K = TakesNoMemory (IsWholeFault G K)

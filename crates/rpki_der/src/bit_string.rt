@@ -4,7 +4,7 @@ ghost use Rattle.std.specs.Prelude.{false, ◌≡◌, ◌<◌, ◌∷◌, length
 ghost use Rattle.rpki_der.specs.Leaves.{AreBits, bits_of};
 
 use crate::cursor::Constructed;
-use crate::error::{ContentError, DecodeError};
+use crate::error::DecodeError;
 use crate::tag::Tag;
 use bytes::Bytes;
 use std::alloc::{AllocError, Global};
@@ -168,10 +168,10 @@ impl<'a> Constructed<'a> {
         let mut after = *self;
         let contents = after.take_contents(Tag::BIT_STRING, false)?;
         let [unused, octets @ ..] = contents.rest() else {
-            return Err(DecodeError::Content(ContentError::from_static("malformed BIT STRING")));
+            return Err(DecodeError::content("malformed BIT STRING"));
         };
         if !BitString::is_legal(*unused, octets) {
-            return Err(DecodeError::Content(ContentError::from_static("malformed BIT STRING")));
+            return Err(DecodeError::content("malformed BIT STRING"));
         }
         *self = after;
         Ok(BitSlice {
@@ -192,10 +192,10 @@ impl<'a> Constructed<'a> {
         let mut after = *self;
         let contents = after.take_contents(Tag::BIT_STRING, false)?;
         let [unused, octets @ ..] = contents.rest() else {
-            return Err(DecodeError::Content(ContentError::from_static("malformed BIT STRING")));
+            return Err(DecodeError::content("malformed BIT STRING"));
         };
         if !BitString::is_legal(*unused, octets) {
-            return Err(DecodeError::Content(ContentError::from_static("malformed BIT STRING")));
+            return Err(DecodeError::content("malformed BIT STRING"));
         }
         let bytes = contents.split_at(1).1.to_bytes(alloc)?;
         *self = after;

@@ -8,7 +8,7 @@ ghost use Rattle.rpki_der.specs.Reading.{Reads};
 ghost use Rattle.rpki_der.specs.Values.{SpellsLeaf, IsLeafFault};
 
 use crate::cursor::Cursor;
-use crate::error::{ContentError, DecodeError};
+use crate::error::DecodeError;
 use crate::oid::is_oid;
 use crate::tag::Tag;
 use crate::text::{ia5_of, printable_of, utf8_of};
@@ -22,7 +22,7 @@ pub fn take_oid_contents<C: Cursor>(cursor: &mut C) -> Result<C, DecodeError>
     let mut after = *cursor;
     let contents = after.take_value_contents(Tag::OID, false)?;
     if !is_oid(contents.octets()) {
-        return Err(DecodeError::Content(ContentError::from_static("malformed object identifier")));
+        return Err(DecodeError::content("malformed object identifier"));
     }
     *cursor = after;
     Ok(contents)
@@ -42,7 +42,7 @@ pub fn take_printable_contents<C: Cursor>(cursor: &mut C) -> Result<C, DecodeErr
             *cursor = after;
             Ok(contents)
         }
-        None => Err(DecodeError::Content(ContentError::from_static("malformed PrintableString"))),
+        None => Err(DecodeError::content("malformed PrintableString")),
     }
 }
 
@@ -59,7 +59,7 @@ pub fn take_utf8_contents<C: Cursor>(cursor: &mut C) -> Result<C, DecodeError>
             *cursor = after;
             Ok(contents)
         }
-        None => Err(DecodeError::Content(ContentError::from_static("malformed UTF8String"))),
+        None => Err(DecodeError::content("malformed UTF8String")),
     }
 }
 
@@ -75,6 +75,6 @@ pub fn take_ia5_contents<C: Cursor>(cursor: &mut C) -> Result<C, DecodeError>
             *cursor = after;
             Ok(contents)
         }
-        None => Err(DecodeError::Content(ContentError::from_static("malformed IA5String"))),
+        None => Err(DecodeError::content("malformed IA5String")),
     }
 }

@@ -59,6 +59,15 @@ pub enum DecodeError {
 }
 
 impl DecodeError {
+    ghost use Rattle.rpki_der.specs.ErrorText.{content_error, error_text};
+
+    /// The error `Content` with this text.
+    pub fn content(text: &'static str) -> DecodeError
+        ensures { result ≡ content_error text.entry }
+    {
+        DecodeError::Content(ContentError { text })
+    }
+
     /// The number under which a program reports the error: 1 to 7, in the order of the variants.
     pub fn number(&self) -> u8
         ensures { result ≡ error_number self.now }
@@ -73,7 +82,37 @@ impl DecodeError {
             DecodeError::OutOfMemory => 7,
         }
     }
+
+    /// The text of the error.
+    fn text(&self) -> &'static str
+        ensures { result.now ≡ error_text self.now }
+    {
+        match self {
+            DecodeError::Content(inner) => inner.text,
+            DecodeError::Truncated => "truncated value",
+            DecodeError::BadTag => "malformed tag",
+            DecodeError::BadLength => "malformed length",
+            DecodeError::Unexpected => "unexpected value",
+            DecodeError::Trailing => "trailing data",
+            DecodeError::OutOfMemory => "out of memory",
+        }
+    }
 }
+
+/// What a person reads: of an error of contents its text, of the others the texts `truncated value`, `malformed tag`,
+/// `malformed length`, `unexpected value`, `trailing data` and `out of memory`.
+impl fmt::Display for DecodeError {
+    ghost use Rattle.std.specs.Prelude.{Some};
+    ghost use Rattle.rpki_der.specs.ErrorText.{error_text};
+
+    ghost output = { λ e. Some (error_text e) };
+
+    fn fmt<W: fmt::Write>(&self, f: &mut fmt::Formatter<W>) -> fmt::Result {
+        f.write_str(self.text())
+    }
+}
+
+impl Error for DecodeError {}
 
 impl From<AllocError> for DecodeError {
     ghost from_gives = { λ _ e. e ≡ OutOfMemory };
@@ -91,7 +130,7 @@ impl<T: Drop> From<AllocFailed<T>> for DecodeError {
     }
 }
 
-/// The inner error of [DecodeError::Content]; for the others a text of their own.
+/// The error with the same text: of an error of contents, the one inside.
 impl From<DecodeError> for ContentError {
     ghost use Rattle.rpki_der.specs.Error.{IsContentOf};
 
@@ -100,12 +139,7 @@ impl From<DecodeError> for ContentError {
     fn from(e: DecodeError) -> ContentError {
         match e {
             DecodeError::Content(inner) => inner,
-            DecodeError::Truncated => ContentError::from_static("truncated value"),
-            DecodeError::BadTag => ContentError::from_static("malformed tag"),
-            DecodeError::BadLength => ContentError::from_static("malformed length"),
-            DecodeError::Unexpected => ContentError::from_static("unexpected value"),
-            DecodeError::Trailing => ContentError::from_static("trailing data"),
-            DecodeError::OutOfMemory => ContentError::from_static("out of memory"),
+            other => ContentError { text: other.text() },
         }
     }
 }

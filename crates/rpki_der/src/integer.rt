@@ -5,7 +5,7 @@ ghost use Rattle.rpki_der.specs.Number.{number_of};
 ghost use Rattle.rpki_der.specs.Integer.{IsUnsigned, IsUnsignedBelow, IsMagnitude};
 
 use crate::cursor::Constructed;
-use crate::error::{ContentError, DecodeError};
+use crate::error::DecodeError;
 use crate::tag::Tag;
 use std::alloc::AllocError;
 use std::marker::Model;
@@ -169,7 +169,7 @@ impl<'a> Constructed<'a> {
                 *self = after;
                 Ok(number)
             }
-            None => Err(DecodeError::Content(ContentError::from_static("malformed INTEGER"))),
+            None => Err(DecodeError::content("malformed INTEGER")),
         }
     }
 
@@ -187,9 +187,7 @@ impl<'a> Constructed<'a> {
                 *self = after;
                 Ok(number)
             }
-            None => Err(DecodeError::Content(ContentError::from_static(
-                "malformed INTEGER, or one of 2^64 or more",
-            ))),
+            None => Err(DecodeError::content("malformed INTEGER, or one of 2^64 or more")),
         }
     }
 
@@ -207,9 +205,7 @@ impl<'a> Constructed<'a> {
                 *self = after;
                 Ok(number)
             }
-            None => Err(DecodeError::Content(ContentError::from_static(
-                "malformed INTEGER, or one of 2^8 or more",
-            ))),
+            None => Err(DecodeError::content("malformed INTEGER, or one of 2^8 or more")),
         }
     }
 }

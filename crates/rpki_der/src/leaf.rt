@@ -4,7 +4,7 @@ ghost use Rattle.std.specs.Prelude.{false, ◌≡◌, Bool, IfSome, IfNone};
 ghost use Rattle.rpki_der.specs.Leaves.{boolean_contents};
 
 use crate::cursor::Constructed;
-use crate::error::{ContentError, DecodeError};
+use crate::error::DecodeError;
 use crate::tag::Tag;
 
 /// The truth value of these contents, if they are one octet of equal bits (X.690 8.2.2, 11.1).
@@ -38,7 +38,7 @@ impl<'a> Constructed<'a> {
         let mut after = *self;
         let contents = after.take_contents(Tag::NULL, false)?;
         if !contents.is_empty() {
-            return Err(DecodeError::Content(ContentError::from_static("malformed NULL")));
+            return Err(DecodeError::content("malformed NULL"));
         }
         *self = after;
         Ok(())
@@ -72,7 +72,7 @@ impl<'a> Constructed<'a> {
                 *self = after;
                 Ok(value)
             }
-            None => Err(DecodeError::Content(ContentError::from_static("malformed BOOLEAN"))),
+            None => Err(DecodeError::content("malformed BOOLEAN")),
         }
     }
 
@@ -104,9 +104,7 @@ impl<'a> Constructed<'a> {
         let mut after = *self;
         let contents = after.take_contents(Tag::BOOLEAN, false)?;
         if !contents.rest_is(&[0xff]) {
-            return Err(DecodeError::Content(ContentError::from_static(
-                "malformed BOOLEAN DEFAULT FALSE",
-            )));
+            return Err(DecodeError::content("malformed BOOLEAN DEFAULT FALSE"));
         }
         *self = after;
         Ok(true)

@@ -4,7 +4,7 @@ ghost use Rattle.std.specs.Prelude.{false, ◌≡◌, ◌↔◌, IsTrue};
 ghost use Rattle.rpki_der.specs.Leaves.{IsOid};
 
 use crate::cursor::Constructed;
-use crate::error::{ContentError, DecodeError};
+use crate::error::DecodeError;
 use crate::tag::Tag;
 
 /// An object identifier by its contents octets (X.690 8.19). One that is read is valid; one made by hand may be
@@ -90,9 +90,7 @@ impl<'a> Constructed<'a> {
         let mut after = *self;
         let contents = after.take_contents(Tag::OID, false)?;
         if !is_oid(contents.rest()) {
-            return Err(DecodeError::Content(ContentError::from_static(
-                "malformed object identifier",
-            )));
+            return Err(DecodeError::content("malformed object identifier"));
         }
         *self = after;
         Ok(Oid(contents.rest()))
@@ -117,9 +115,7 @@ impl<'a> Constructed<'a> {
         let mut after = *self;
         let contents = after.take_contents(Tag::OID, false)?;
         if !contents.rest_is(expected) {
-            return Err(DecodeError::Content(ContentError::from_static(
-                "unexpected object identifier",
-            )));
+            return Err(DecodeError::content("unexpected object identifier"));
         }
         *self = after;
         Ok(())

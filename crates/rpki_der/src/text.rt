@@ -4,7 +4,7 @@ ghost use Rattle.std.specs.Prelude.{false, ◌≡◌, ◌↔◌, IsTrue, IfSome,
 ghost use Rattle.rpki_der.specs.Text.{is_printable, are_printable, IsPrintableText, IsUtf8Text, IsIa5Text};
 
 use crate::cursor::Constructed;
-use crate::error::{ContentError, DecodeError};
+use crate::error::DecodeError;
 use crate::tag::Tag;
 use std::marker::Model;
 
@@ -165,9 +165,7 @@ impl<'a> Constructed<'a> {
                 *self = after;
                 Ok(text)
             }
-            None => Err(DecodeError::Content(ContentError::from_static(
-                "malformed PrintableString",
-            ))),
+            None => Err(DecodeError::content("malformed PrintableString")),
         }
     }
 
@@ -186,7 +184,7 @@ impl<'a> Constructed<'a> {
                 *self = after;
                 Ok(text)
             }
-            None => Err(DecodeError::Content(ContentError::from_static("malformed UTF8String"))),
+            None => Err(DecodeError::content("malformed UTF8String")),
         }
     }
 
@@ -205,7 +203,7 @@ impl<'a> Constructed<'a> {
                 *self = after;
                 Ok(text)
             }
-            None => Err(DecodeError::Content(ContentError::from_static("malformed IA5String"))),
+            None => Err(DecodeError::content("malformed IA5String")),
         }
     }
 }

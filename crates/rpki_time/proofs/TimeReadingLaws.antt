@@ -1,5 +1,5 @@
 -- A time in a primitive value.
-use Rattle.std.proofs.Common.{◌≡◌, ℕ, Bool, true, false, List, inl, inr, refl, sym, ap, subst, ◌∙◌, arith}
+use Rattle.std.proofs.Common.{◌≡◌, ◌≢◌, ℕ, Bool, true, false, List, inl, inr, refl, sym, ap, subst, ◌∙◌, arith}
 use Rattle.std.specs.Prelude.{codes}
 use Rattle.jiff.specs.Types.{DateTime}
 use Rattle.rpki_der.specs.declared.error.ContentError.{ContentError}
@@ -41,6 +41,16 @@ primitive-fault s Unexpected h = h
 primitive-fault s (Content x) h = absurd h
 primitive-fault s Trailing h = h
 primitive-fault s OutOfMemory h = h
+
+-- a reader of a time allocates nothing
+pub time-exactly : (s : List ℕ) (e : DecodeError) → IsTimeFault s e → e ≢ OutOfMemory
+time-exactly s Truncated h z = cc
+time-exactly s BadTag h z = cc
+time-exactly s BadLength h z = cc
+time-exactly s Unexpected h z = cc
+time-exactly s (Content x) h z = cc
+time-exactly s Trailing h z = h
+time-exactly s OutOfMemory h z = h
 
 -- there is no primitive value
 pub primitive-refused : (s q : List ℕ) (e : DecodeError) → Refusal (SpellsWanted IsPrimitive) (IsWantedFault IsPrimitive) s q e → Refusal SpellsTime IsTimeFault s s e

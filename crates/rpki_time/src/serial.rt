@@ -9,7 +9,7 @@ ghost use Rattle.std.specs.Result.{OkIff};
 ghost use Rattle.std.proofs.Common.{rules, ap};
 ghost use Rattle.rpki_der.specs.Cursor.{left};
 ghost use Rattle.rpki_der.specs.Number.{number_of, low_octets};
-ghost use Rattle.rpki_der.specs.Reading.{Reads};
+ghost use Rattle.rpki_der.specs.Reading.{Reads, Decodes, NeverMemory};
 ghost use Rattle.rpki_der.specs.TagName.{integer};
 ghost use Rattle.rpki_time.specs.Serial.{IsLong, SpellsSerial, IsSerialFault, serial_contents};
 ghost use Rattle.rpki_time.specs.declared.serial.SerialSliceError.TheVariants.{Long};
@@ -72,7 +72,7 @@ impl From<SerialSliceError> for ContentError {
 
 /// The serial number of a certificate: a non-negative number below 2^159, so that its INTEGER has at most 20 contents
 /// octets (RFC 5280 4.1.2.2).
-#[derive(Clone, Copy)]
+#[derive(Clone, Copy, Debug)]
 pub struct Serial {
     octets: [u8; 20],
 }
@@ -146,6 +146,16 @@ impl Serial {
             start += 1;
         }
         &self.octets[start..]
+    }
+
+    /// A serial number: a non-negative INTEGER (X.690 8.3) of at most 20 contents octets, and nothing else. Allocates
+    /// nothing.
+    ///
+    /// The errors are those of [Serial::take_from]; then `Trailing` if something follows the number.
+    pub fn decode(octets: &[u8]) -> Result<Serial, DecodeError>
+        ensures { Decodes (λ n. n) SpellsSerial (NeverMemory SpellsSerial IsSerialFault) octets.now result }
+    {
+        Constructed::from_slice(octets).whole(|cons| Serial::take_from(cons))
     }
 
     /// Reads a serial number: a non-negative INTEGER (X.690 8.3) of at most 20 contents octets. Allocates nothing.

@@ -1,21 +1,13 @@
 //! Reading times.
 
-ghost use Rattle.std.specs.Prelude.{◌≡◌, ◌↔◌, codes, IsTrue, IfSome, IfNone};
+ghost use Rattle.std.specs.Prelude.{IfSome, IfNone};
 ghost use Rattle.jiff.specs.Types.{DateTime as Civil};
 ghost use Rattle.rpki_der.specs.Cursor.{left};
-ghost use Rattle.rpki_der.specs.ErrorText.{text_of};
-ghost use Rattle.rpki_der.specs.Reading.{Reads, ReadsWhere};
+ghost use Rattle.rpki_der.specs.Reading.{Reads, ReadsWhere, Decodes, NeverMemory};
 ghost use Rattle.rpki_time.specs.TimeValue.{ReadsAs, SpellsTime, IsTimeFault, HasTimeTag};
 
 use crate::time::Time;
-use rpki_der::{Class, Constructed, ContentError, DecodeError, Tag};
-
-/// The error of contents that are not a time.
-fn malformed() -> ContentError
-    ensures { text_of result ≡ codes "malformed time value" }
-{
-    ContentError::from_static("malformed time value")
-}
+use rpki_der::{Class, Constructed, DecodeError, Tag};
 
 /// The time that the text under this tag writes; None if the tag is neither of the two, or the text writes none.
 fn time_under(tag: Tag, text: &[u8]) -> Option<Time>
@@ -33,6 +25,15 @@ fn time_under(tag: Tag, text: &[u8]) -> Option<Time>
 }
 
 impl Time {
+    /// A time: UTC time or generalized time (X.690 11.7, 11.8; RFC 5280 4.1.2.5), and nothing else. Allocates nothing.
+    ///
+    /// The errors are those of [Time::take_from]; then `Trailing` if something follows the time.
+    pub fn decode(octets: &[u8]) -> Result<Time, DecodeError>
+        ensures { Decodes (λ t. t) SpellsTime (NeverMemory SpellsTime IsTimeFault) octets.now result }
+    {
+        Constructed::from_slice(octets).whole(|cons| Time::take_from(cons))
+    }
+
     /// Reads a time: UTC time or generalized time (X.690 11.7, 11.8; RFC 5280 4.1.2.5). Allocates nothing.
     ///
     /// The errors are those of a header; then `Unexpected` for the constructed form of any tag; then `Truncated`; then
@@ -51,7 +52,7 @@ impl Time {
                 *cons = after;
                 Ok(time)
             }
-            None => Err(DecodeError::Content(malformed())),
+            None => Err(DecodeError::content("malformed time value")),
         }
     }
 

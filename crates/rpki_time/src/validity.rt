@@ -5,7 +5,7 @@ ghost use Rattle.jiff.specs.Types.{DateTime as Civil};
 ghost use Rattle.jiff.specs.Words.{civil_nanos, signed_nanos};
 ghost use Rattle.rpki_time.specs.Time.{IsTimeNanos, seconds};
 ghost use Rattle.rpki_der.specs.Cursor.{left};
-ghost use Rattle.rpki_der.specs.Reading.{Reads};
+ghost use Rattle.rpki_der.specs.Reading.{Reads, Decodes, NeverMemory};
 ghost use Rattle.rpki_der.specs.FirstFault.{ReadsParts};
 ghost use Rattle.rpki_time.specs.PeriodValue.{IsPeriod, SpellsPeriod, IsTimesFault, IsPeriodFault, period_octets};
 ghost use Rattle.rpki_time.specs.Validity.{Period, AreTimeYears, HoldsAt, SpansBetween, IsTrimmed, cut_period};
@@ -167,6 +167,16 @@ impl Validity {
     {
         self.not_before.verify_not_before(now)?;
         self.not_after.verify_not_after(now)
+    }
+
+    /// A validity period: a SEQUENCE of two times, the start first (RFC 5280 4.1.2.5), and nothing after it. Allocates
+    /// nothing.
+    ///
+    /// The errors are those of [Validity::take_from]; then `Trailing` if something follows the period.
+    pub fn decode(octets: &[u8]) -> Result<Validity, DecodeError>
+        ensures { Decodes (λ p. p) SpellsPeriod (NeverMemory SpellsPeriod IsPeriodFault) octets.now result }
+    {
+        Constructed::from_slice(octets).whole(|cons| Validity::take_from(cons))
     }
 
     /// Reads a validity period: a SEQUENCE of two times and nothing else, the start first (RFC 5280 4.1.2.5). Allocates

@@ -144,7 +144,7 @@ pub enum ValidationError {
     Verification(VerificationError),
 }
 
-/// The text of what is inside: of an error of decoding, that of its [ContentError].
+/// The text of what is inside.
 impl fmt::Display for ValidationError {
     ghost use Rattle.rpki.specs.ErrorContent.{validation_text};
 
@@ -152,7 +152,7 @@ impl fmt::Display for ValidationError {
 
     fn fmt<W: fmt::Write>(&self, f: &mut fmt::Formatter<W>) -> fmt::Result {
         match self {
-            ValidationError::Decoding(inner) => ContentError::from(*inner).fmt(f),
+            ValidationError::Decoding(inner) => inner.fmt(f),
             ValidationError::Inspection(inner) => inner.fmt(f),
             ValidationError::Verification(inner) => inner.fmt(f),
         }

@@ -9,7 +9,7 @@ ghost use Rattle.rpki_text.specs.GeneralName.{IsRsyncText, IsHttpsText, IsNameFa
 
 use super::https::Https;
 use super::rsync::Rsync;
-use rpki_der::{Constructed, ContentError, DecodeError, Tag};
+use rpki_der::{Constructed, DecodeError, Tag};
 use std::alloc::Global;
 
 impl Rsync {
@@ -32,7 +32,7 @@ impl Rsync {
                 *cons = after;
                 Ok(uri)
             }
-            Err(_) => Err(DecodeError::Content(ContentError::from_static("malformed rsync URI"))),
+            Err(_) => Err(DecodeError::content("malformed rsync URI")),
         }
     }
 }
@@ -57,7 +57,7 @@ impl Https {
                 *cons = after;
                 Ok(uri)
             }
-            Err(_) => Err(DecodeError::Content(ContentError::from_static("malformed https URI"))),
+            Err(_) => Err(DecodeError::content("malformed https URI")),
         }
     }
 }

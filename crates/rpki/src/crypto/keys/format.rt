@@ -13,9 +13,7 @@ ghost use Rattle.rpki.specs.UnknownAlgorithm.{BeginsUnknown, NamesUnknown, IsRef
 use crate::crypto::algorithm_identifier::{is_named, take_null_or_nothing};
 use crate::crypto::{PublicKeyFormat, RpkiSignatureAlgorithm};
 use crate::oid;
-use rpki_der::{
-    ConstOid, Constructed, ContentError, DecodeError, Primitive, PrimitiveContent, Sequence, Values,
-};
+use rpki_der::{ConstOid, Constructed, DecodeError, Primitive, PrimitiveContent, Sequence, Values};
 
 /// An encoder for a format of keys: its object identifier, and then a NULL for RSA or the curve for P-256.
 pub type PublicKeyFormatEncoder = Sequence<
@@ -66,9 +64,7 @@ impl PublicKeyFormat {
                     contents.skip_oid_if(oid::SECP256R1)?;
                     Ok(PublicKeyFormat::EcdsaP256)
                 } else {
-                    Err(DecodeError::Content(ContentError::from_static(
-                        "invalid public key format",
-                    )))
+                    Err(DecodeError::content("invalid public key format"))
                 }
             },
         )

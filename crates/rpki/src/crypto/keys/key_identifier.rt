@@ -15,9 +15,7 @@ ghost use Rattle.rpki.specs.UnknownAlgorithm.{IsContentWith};
 ghost use Rattle.rpki.specs.AnyValue.{SpellsAny};
 ghost use Rattle.rpki.specs.KeyIdentifier.{IsKeyIdentifier, SpellsKeyIdentifier, IsIdentifierFault, identifier_error};
 
-use rpki_der::{
-    Constructed, Content, ContentError, DecodeError, PrimitiveContent, Tag, write_whole,
-};
+use rpki_der::{Constructed, Content, DecodeError, PrimitiveContent, Tag, write_whole};
 use rpki_text::util::hex;
 use std::error::Error;
 use std::io::Write;
@@ -137,7 +135,7 @@ fn key_identifier_of(octets: &[u8]) -> Result<KeyIdentifier, DecodeError>
 {
     match KeyIdentifier::try_from(octets) {
         Ok(identifier) => Ok(identifier),
-        Err(_) => Err(DecodeError::Content(ContentError::from_static("invalid key identifier"))),
+        Err(_) => Err(DecodeError::content("invalid key identifier")),
     }
 }
 

@@ -15,8 +15,7 @@ use super::RpkiSignatureAlgorithm;
 use crate::crypto::algorithm_identifier::{is_named, take_null_or_nothing};
 use crate::oid;
 use rpki_der::{
-    ConstOid, Constructed, ContentError, DecodeError, Oid, Primitive, PrimitiveContent, Sequence,
-    Values,
+    ConstOid, Constructed, DecodeError, Oid, Primitive, PrimitiveContent, Sequence, Values,
 };
 
 impl RpkiSignatureAlgorithm {
@@ -41,9 +40,7 @@ impl RpkiSignatureAlgorithm {
                 if is_cms_name(&identifier) {
                     take_null_or_nothing(contents)
                 } else {
-                    Err(DecodeError::Content(ContentError::from_static(
-                        "invalid signature algorithm",
-                    )))
+                    Err(DecodeError::content("invalid signature algorithm"))
                 }
             },
         )?;

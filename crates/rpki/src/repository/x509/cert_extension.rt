@@ -3,7 +3,7 @@
 ghost use Rattle.std.specs.Prelude.{◌≡◌, ◌<◌, ◌^◌, ◌↔◌, true, false, length, IfOk, IfSome, IfNone};
 ghost use Rattle.rpki_der.specs.Cursor.{left};
 ghost use Rattle.rpki_der.specs.TagName.{sequence};
-ghost use Rattle.rpki_der.specs.Reading.{Reads, ReadsWhere};
+ghost use Rattle.rpki_der.specs.Reading.{Reads, ReadsWhere, Decodes, IsWholeFault};
 ghost use Rattle.rpki_der.specs.Values.{HasTag};
 ghost use Rattle.rpki_der.specs.Leaves.{boolean_contents};
 ghost use Rattle.rpki.specs.Extension.{extension_octets};
@@ -15,6 +15,7 @@ mod view;
 
 use self::grammar::take_extension;
 pub use self::view::ExtensionView;
+use bytes::Bytes;
 use rpki_der::{
     Captured, Constructed, DecodeError, Oid, Primitive, PrimitiveContent, Sequence, Tag, Values,
 };
@@ -59,6 +60,15 @@ fn encode_parts<'a>(id: Oid<&'a [u8]>, critical: bool, octets: &'a [u8]) -> Exte
 }
 
 impl CertExtension {
+    /// An extension, and nothing else; it shares the octets.
+    ///
+    /// The errors are those of [CertExtension::take_from]; then `Trailing` if something follows the extension.
+    pub fn decode(alloc: Global, bytes: Bytes) -> Result<CertExtension, DecodeError>
+        ensures { Decodes (λ x. x) SpellsExtension (IsWholeFault SpellsExtension IsKeptExtensionFault) bytes result }
+    {
+        Constructed::new(&bytes).whole(|cons| CertExtension::take_from(alloc, cons))
+    }
+
     /// An extension: a SEQUENCE of an OBJECT IDENTIFIER, of a BOOLEAN that says whether it is critical, and of an OCTET
     /// STRING. The BOOLEAN may be left out, which is FALSE; a FALSE that is spelled is read too, although X.690 11.5
     /// forbids it.

@@ -1,15 +1,18 @@
 //! Names (RFC 5280 4.1.2.4, RFC 6487 4.4).
 
-ghost use Rattle.std.specs.Prelude.{◌≡◌, List, IsTrue, IsOk, IfOk, IfErr, MatchResult};
+ghost use Rattle.std.specs.Prelude.{◌≡◌, true, List, IsTrue, IsOk, IfOk, IfErr, MatchResult};
 ghost use Rattle.rpki_der.specs.ErrorText.{text_of};
 ghost use Rattle.rpki.specs.ErrorContent.{content_of};
 ghost use Rattle.rpki.specs.NameRule.{BreaksRpkiRule, BreaksRouterRule, rpki_text, router_text};
 ghost use Rattle.rpki.specs.declared.repository.x509.name.rule.NameRule.{NameRule};
 ghost use Rattle.rpki_der.specs.Cursor.{left};
-ghost use Rattle.rpki_der.specs.Reading.{Reads};
+ghost use Rattle.rpki_der.specs.Reading.{Reads, Decodes, IsWholeFault};
 ghost use Rattle.rpki_der.specs.Members.{IsValue};
-ghost use Rattle.rpki.specs.Name.{Attribute, IsName, SpellsName, SpellsNameOctets};
-ghost use Rattle.rpki.specs.NameFault.{IsNameFault};
+ghost use Rattle.rpki_der.specs.TagName.{sequence};
+ghost use Rattle.rpki_der.specs.Values.{SpellsLeaf};
+ghost use Rattle.rpki.specs.Name.{Attribute, IsName, SpellsSome, SpellsRelative, SpellsName, SpellsNameOctets};
+ghost use Rattle.rpki.specs.AnyValue.{SpellsAny};
+ghost use Rattle.rpki.specs.NameFault.{IsNameFault, IsWalkedNameFault};
 ghost use Rattle.rpki.specs.StrictName.{IsRpkiName, IsRouterName};
 ghost use Rattle.rpki.specs.StrictNameWithoutOrganization.{IsRpkiNameWithoutOrganization, IsRouterNameWithoutOrganization};
 
@@ -21,6 +24,7 @@ use self::grammar::skip_name;
 use self::inspection::Profile;
 pub use self::rule::NameRule;
 use crate::repository::error::InspectionError;
+use bytes::Bytes;
 use rpki_der::{Captured, Constructed, DecodeError};
 use std::alloc::{AllocError, Global};
 use std::marker::Model;
@@ -49,6 +53,25 @@ impl Name {
         ensures { result ≡ captured }
     {
         Name { captured }
+    }
+
+    /// A name, and nothing else; it shares the octets.
+    ///
+    /// The errors are those of [Name::take_from]; then `Trailing` if something follows the name.
+    pub fn decode(alloc: Global, bytes: Bytes) -> Result<Name, DecodeError>
+        ensures { Decodes (λ n. n) SpellsNameOctets (IsWholeFault SpellsNameOctets IsNameFault) bytes result }
+    {
+        Constructed::new(&bytes).whole(|cons| Name::take_from(alloc, cons))
+    }
+
+    /// Moves past a name, and keeps nothing of it. Allocates only for values in it that nest.
+    ///
+    /// The errors are those of [Name::take_from]. An error leaves the cursor where it was.
+    pub fn skip_in(alloc: Global, cons: &mut Constructed<'_>) -> Result<(), DecodeError>
+        ensures { Reads (λ _. tt) (SpellsLeaf sequence true (SpellsAny (SpellsSome SpellsRelative))) IsWalkedNameFault
+            (left cons.old) (left cons.new) result }
+    {
+        skip_name(alloc, cons)
     }
 
     /// A name: a SEQUENCE of one relative distinguished name at least, each a SET of one attribute at least, each a

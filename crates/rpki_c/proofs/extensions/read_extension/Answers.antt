@@ -3,7 +3,7 @@ use Rattle.rpki_der.proofs.ComposedLaws.{all-read, more-left, not-read}
 use Rattle.rpki.specs.ExtensionValue.{SpellsExtension}
 use Rattle.rpki.specs.ExtensionFault.{IsCertExtensionFault}
 use Rattle.rpki.proofs.ExtensionFaultLaws.{extension-outer}
-use Rattle.rpki_c.proofs.WholeLaws.{exactly, trailing-exactly}
+use Rattle.rpki_der.proofs.InsideLaws.{exactly, trailing-exactly}
 use Rattle.rpki_c.proofs.extensions.read_extension.Goals as goal
 
 pub returns-in_err-found : goal.returns-in_err-found

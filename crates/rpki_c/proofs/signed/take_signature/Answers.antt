@@ -22,14 +22,14 @@ returns-in_default c =
     let o = c.in_ok-contents.contents.now in
     let a = c.in_ok-contents.ensures in
     let none : (b : Bits) → IsBits b o → ⊥ = bits-empty o c.in_default.len_below in
-    record { unchanged = refl; refuses = bad-bits (left c.args.cons.now) o _ a none; kind = (o, _, a.spells, none) }
+    rw c.content.ensures (record { unchanged = refl; refuses = bad-bits (left c.args.cons.now) o _ a none; kind = (o, _, a.spells, none) })
 
 pub returns-then-not-is_legal : goal.returns-then-not-is_legal
 returns-then-not-is_legal c =
     let o = c.in_ok-contents.contents.now in
     let a = c.in_ok-contents.ensures in
     let none : (b : Bits) → IsBits b o → ⊥ = bits-unread o o refl c.in-len1-up.len_at_least (iff_false c.is_legal.ensures c.if-not-is_legal.true) in
-    record { unchanged = refl; refuses = bad-bits (left c.args.cons.now) o _ a none; kind = (o, _, a.spells, none) }
+    rw c.content-then-not-is_legal.ensures (record { unchanged = refl; refuses = bad-bits (left c.args.cons.now) o _ a none; kind = (o, _, a.spells, none) })
 
 pub returns : goal.returns
 returns c =

@@ -10,7 +10,7 @@ ghost use Rattle.rpki.specs.Name.{attribute_of, IsIdentifierThen, IsAttribute, S
 ghost use Rattle.rpki.specs.AnyValue.{SpellsAny};
 ghost use Rattle.rpki.specs.NameFault.{IsAttributePartsFault, IsAttributeFault, IsAttributesFault, IsRelativeFault, IsRelativesFault, IsWalkedNameFault};
 
-use rpki_der::{Constructed, ContentError, Cursor, DecodeError, Tag, take_oid_contents};
+use rpki_der::{Constructed, Cursor, DecodeError, Tag, take_oid_contents};
 use std::alloc::Global;
 
 /// The contents of an attribute's identifier, and a cursor on the rest of the SEQUENCE.
@@ -38,7 +38,7 @@ fn skip_attribute(alloc: Global, cons: &mut Constructed<'_>) -> Result<(), Decod
             contents.take_oid()?;
             match contents.skip_one(alloc)? {
                 Some(()) => Ok(()),
-                None => Err(DecodeError::Content(ContentError::from_static("invalid name"))),
+                None => Err(DecodeError::content("invalid name")),
             }
         },
     )
@@ -50,9 +50,7 @@ fn skip_attributes(alloc: Global, contents: &mut Constructed<'_>) -> Result<(), 
         (left contents.new) result }
 {
     if contents.is_empty() {
-        return Err(DecodeError::Content(ContentError::from_static(
-            "empty relative distinguished name",
-        )));
+        return Err(DecodeError::content("empty relative distinguished name"));
     }
     'attributes: while !contents.is_empty() {
         skip_attribute(alloc, contents)?;
@@ -74,7 +72,7 @@ fn skip_rdns(alloc: Global, contents: &mut Constructed<'_>) -> Result<(), Decode
         (left contents.new) result }
 {
     if contents.is_empty() {
-        return Err(DecodeError::Content(ContentError::from_static("empty distinguished name")));
+        return Err(DecodeError::content("empty distinguished name"));
     }
     'relatives: while !contents.is_empty() {
         skip_rdn(alloc, contents)?;

@@ -6,7 +6,7 @@ use Rattle.rpki_der.specs.Reading.{Finds}
 use Rattle.rpki_der.specs.TagName.{bit_string}
 use Rattle.rpki_der.specs.Values.{IsLeafFault, SpellsLeaf}
 use Rattle.rpki_der.proofs.ReadingLaws.{Refusal-or-memory-where}
-use Rattle.rpki_der.proofs.LeavesLaws.{leaf-refused, leaf-accepted, leaf-bad, bits-one, bits-empty, bits-unread, bits-read}
+use Rattle.rpki_der.proofs.LeavesLaws.{leaf-refused, leaf-accepted, leaf-malformed, bits-one, bits-empty, bits-unread, bits-read}
 use Rattle.rpki_der.proofs.TriedLaws.{tried-refused}
 use Rattle.rpki_der.proofs.cursor.Constructed.take_bit_string.Goals as goal
 
@@ -16,13 +16,13 @@ returns-in_err-contents c = tried-refused _ _ _ _ _ _ _ c.from_residual.ensures 
 pub returns-in_default : goal.returns-in_default
 returns-in_default c =
     Refusal-or-memory-where (Finds (SpellsLeaf bit_string false IsBits)) (IsLeafFault bit_string false IsBits) _ _ _ (λ z. absurd z)
-    (leaf-bad bit_string false IsBits _ (left c.in_ok-contents.contents) _ _ c.from_static.result refl c.in_ok-contents.ensures
+    (leaf-malformed bit_string false IsBits _ (left c.in_ok-contents.contents) _ _ _ _ c.content.ensures refl c.in_ok-contents.ensures
     (bits-empty (left c.in_ok-contents.contents) (rw (← c.rest.ensures) c.in_default.len_below)))
 
 pub returns-then-not-is_legal : goal.returns-then-not-is_legal
 returns-then-not-is_legal c =
     Refusal-or-memory-where (Finds (SpellsLeaf bit_string false IsBits)) (IsLeafFault bit_string false IsBits) _ _ _ (λ z. absurd z)
-    (leaf-bad bit_string false IsBits _ (left c.in_ok-contents.contents) _ _ c.from_static-then-not-is_legal.result refl c.in_ok-contents.ensures
+    (leaf-malformed bit_string false IsBits _ (left c.in_ok-contents.contents) _ _ _ _ c.content-then-not-is_legal.ensures refl c.in_ok-contents.ensures
     (bits-unread c.rest.result.now (left c.in_ok-contents.contents) c.rest.ensures c.in-len1-up.len_at_least (iff_false c.is_legal.ensures c.if-not-is_legal.true)))
 
 pub returns : goal.returns

@@ -4,7 +4,7 @@ use Rattle.std.proofs.lemmas.Result.{err_from_is_err_and}
 use Rattle.rpki_der.specs.Cursor.{left}
 use Rattle.rpki_der.specs.Leaves.{IsOnly, boolean_contents}
 use Rattle.rpki_der.specs.TagName.{boolean}
-use Rattle.rpki_der.proofs.LeavesLaws.{leaf-refused, leaf-accepted, leaf-bad}
+use Rattle.rpki_der.proofs.LeavesLaws.{leaf-refused, leaf-accepted, leaf-malformed}
 use Rattle.rpki_der.proofs.cursor.Constructed.take_bool_default_false.Goals as goal
 
 pub returns-in_err-contents : goal.returns-in_err-contents
@@ -14,7 +14,7 @@ returns-in_err-contents c =
 
 pub returns-then-not-rest_is : goal.returns-then-not-rest_is
 returns-then-not-rest_is c =
-    (c.has_tag.ensures.0 c.if-not-has_tag.false, leaf-bad boolean false (IsOnly (boolean_contents true)) _ (left c.in_ok-contents.contents) _ _ c.from_static.result refl c.in_ok-contents.ensures (λ v same. iff_false c.rest_is.ensures c.if-not-rest_is.true same))
+    (c.has_tag.ensures.0 c.if-not-has_tag.false, leaf-malformed boolean false (IsOnly (boolean_contents true)) _ (left c.in_ok-contents.contents) _ _ _ _ c.content.ensures refl c.in_ok-contents.ensures (λ v same. iff_false c.rest_is.ensures c.if-not-rest_is.true same))
 
 pub returns : goal.returns
 returns c =

@@ -2,7 +2,7 @@ use Rattle.std.proofs.Common.{false, refl, sym, ◌∙◌}
 use Rattle.rpki_der.specs.Cursor.{left}
 use Rattle.rpki_der.specs.Text.{IsIa5Text}
 use Rattle.rpki_der.specs.TagName.{ia5_string}
-use Rattle.rpki_der.proofs.LeavesLaws.{leaf-refused, leaf-accepted, leaf-bad}
+use Rattle.rpki_der.proofs.LeavesLaws.{leaf-refused, leaf-accepted, leaf-malformed}
 use Rattle.rpki_der.proofs.TriedLaws.{tried-refused}
 use Rattle.rpki_der.proofs.cursor.Constructed.take_ia5.Goals as goal
 
@@ -17,4 +17,4 @@ returns-in-Some c =
 pub returns-in-None : goal.returns-in-None
 returns-in-None c =
     let none = rw c.rest.ensures at c.in-None.ensures.none in
-    leaf-bad ia5_string false IsIa5Text _ (left c.in_ok-contents.contents) _ _ c.from_static.result refl c.in_ok-contents.ensures none
+    leaf-malformed ia5_string false IsIa5Text _ (left c.in_ok-contents.contents) _ _ _ _ c.content.ensures refl c.in_ok-contents.ensures none

@@ -3,7 +3,7 @@ use Rattle.std.proofs.lemmas.Bool.{iff_false}
 use Rattle.rpki_der.specs.Cursor.{left}
 use Rattle.rpki_der.specs.Leaves.{IsOidOf}
 use Rattle.rpki_der.specs.TagName.{oid}
-use Rattle.rpki_der.proofs.LeavesLaws.{leaf-refused, leaf-accepted, leaf-bad}
+use Rattle.rpki_der.proofs.LeavesLaws.{leaf-refused, leaf-accepted, leaf-malformed}
 use Rattle.rpki_der.proofs.TriedLaws.{tried-refused}
 use Rattle.rpki_der.proofs.cursor.Constructed.take_oid.Goals as goal
 
@@ -13,7 +13,7 @@ returns-in_err-contents c = tried-refused _ _ _ _ _ _ _ c.from_residual.ensures 
 pub returns-then-not-is_oid : goal.returns-then-not-is_oid
 returns-then-not-is_oid c =
     let none = rw c.rest.ensures at (iff_false c.is_oid.ensures c.if-not-is_oid.true) in
-    leaf-bad oid false IsOidOf _ (left c.in_ok-contents.contents) _ _ c.from_static.result refl c.in_ok-contents.ensures (λ v h. none h.1)
+    leaf-malformed oid false IsOidOf _ (left c.in_ok-contents.contents) _ _ _ _ c.content.ensures refl c.in_ok-contents.ensures (λ v h. none h.1)
 
 pub returns : goal.returns
 returns c =

@@ -2,7 +2,7 @@ use Rattle.std.proofs.Common.{false, refl, ◌^◌}
 use Rattle.rpki_der.specs.Cursor.{left}
 use Rattle.rpki_der.specs.Integer.{IsUnsignedBelow}
 use Rattle.rpki_der.specs.TagName.{integer}
-use Rattle.rpki_der.proofs.LeavesLaws.{leaf-refused, leaf-accepted, leaf-bad}
+use Rattle.rpki_der.proofs.LeavesLaws.{leaf-refused, leaf-accepted, leaf-malformed}
 use Rattle.rpki_der.proofs.IntegerLaws.{one-number}
 use Rattle.rpki_der.proofs.TriedLaws.{tried-refused}
 use Rattle.rpki_der.proofs.cursor.Constructed.take_u64.Goals as goal
@@ -18,4 +18,4 @@ returns-in-Some c =
 pub returns-in-None : goal.returns-in-None
 returns-in-None c =
     let none = rw c.rest.ensures at c.in-None.ensures.none in
-    leaf-bad integer false (IsUnsignedBelow (2 ^ 64)) _ (left c.in_ok-contents.contents) _ _ c.from_static.result refl c.in_ok-contents.ensures none
+    leaf-malformed integer false (IsUnsignedBelow (2 ^ 64)) _ (left c.in_ok-contents.contents) _ _ _ _ c.content.ensures refl c.in_ok-contents.ensures none

@@ -3,7 +3,7 @@ use Rattle.rpki_der.specs.TagName.{context_6}
 use Rattle.rpki_der.specs.Reading.{Finds}
 use Rattle.rpki_der.specs.Values.{SpellsContents, IsLeafFault}
 use Rattle.rpki_der.proofs.ReadingLaws.{Refusal-or-memory-where}
-use Rattle.rpki_der.proofs.LeavesLaws.{shared-refused, leaf-accepted, leaf-bad}
+use Rattle.rpki_der.proofs.LeavesLaws.{shared-refused, leaf-accepted, leaf-malformed}
 use Rattle.rpki_der.proofs.TriedLaws.{tried-refused}
 use Rattle.rpki_text.specs.GeneralName.{IsHttpsText}
 use Rattle.rpki_text.proofs.uri.https.Https.take_general_name.Goals as goal
@@ -22,4 +22,4 @@ pub returns-in-Err : goal.returns-in-Err
 returns-in-Err c =
     let why = c.in-Err.ensures in
     Refusal-or-memory-where (Finds (SpellsContents context_6 false)) (IsLeafFault context_6 false IsHttpsText) _ _ _ (λ z. absurd z)
-    (leaf-bad context_6 false IsHttpsText _ c.in_ok-bytes.bytes _ _ c.from_static.result refl c.in_ok-bytes.ensures (λ v h. let both = sym h.1 ∙ why in cc))
+    (leaf-malformed context_6 false IsHttpsText _ c.in_ok-bytes.bytes _ _ _ _ c.content.ensures refl c.in_ok-bytes.ensures (λ v h. let both = sym h.1 ∙ why in cc))

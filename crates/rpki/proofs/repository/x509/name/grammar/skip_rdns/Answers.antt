@@ -13,7 +13,7 @@ use Rattle.rpki.proofs.NameLaws.{nothing-spelled, remains-all, remains-then, rem
 use Rattle.rpki.proofs.repository.x509.name.grammar.skip_rdns.Goals as goal
 
 pub returns-then-is_empty : goal.returns-then-is_empty
-returns-then-is_empty c = (nothing-spelled set true (SpellsSome SpellsAttribute) (left c.args.contents.now) (at-end _ _ c.if-is_empty.true c.is_empty.ensures), inl (at-end _ _ c.if-is_empty.true c.is_empty.ensures, c.from_static.ensures))
+returns-then-is_empty c = rw c.content.ensures (nothing-spelled set true (SpellsSome SpellsAttribute) (left c.args.contents.now) (at-end _ _ c.if-is_empty.true c.is_empty.ensures), inl (at-end _ _ c.if-is_empty.true c.is_empty.ensures, refl))
 
 pub relatives-init : goal.relatives-init
 relatives-init c = remains-all set true (SpellsSome SpellsAttribute) (left c.args.contents.now)

@@ -98,10 +98,10 @@ pub returns-else-is_named-2 : goal.returns-else-is_named-2
 returns-else-is_named-2 c =
     let other : c.in_ok-identifier.identifier.0.now ≡ rsa_encryption → ⊥ = λ e. let h = c.is_named.ensures.1 e in let k = c.if-is_named.false in cc in
     let neither : c.in_ok-identifier.identifier.0.now ≡ ec_public_key → ⊥ = λ e. let h = c.is_named-else-is_named.ensures.1 e in let k = c.if-is_named-2.false in cc in
-    record {
+    rw c.content.ensures (record {
       reads = (
         other-format (left c.args.contents.now) _ _ c.in_ok-identifier.ensures other neither,
-        Later c.in_ok-identifier.identifier.0.now _ c.in_ok-identifier.ensures (inr (inr (unknown-format _ other neither, c.from_static.ensures))),
+        Later c.in_ok-identifier.identifier.0.now _ c.in_ok-identifier.ensures (inr (inr (unknown-format _ other neither, refl))),
       );
-      unknown = λ u. c.from_static.ensures;
-    }
+      unknown = λ u. refl;
+    })

@@ -1,4 +1,4 @@
-use Rattle.std.proofs.Common.{inl, inr}
+use Rattle.std.proofs.Common.{refl, inl, inr}
 use Rattle.rpki_der.specs.Cursor.{left}
 use Rattle.rpki_der.specs.FirstFault.FirstFault.{AtPart, Later}
 use Rattle.rpki_der.proofs.ReadingLaws.{UnlessMemory-weaker}
@@ -29,10 +29,10 @@ returns-then-is_cms_name c =
 pub returns-else-is_cms_name : goal.returns-else-is_cms_name
 returns-else-is_cms_name c =
     let none : IsCmsName c.in_ok-identifier.identifier.0.now → ⊥ = λ e. let h = c.is_cms_name.ensures.1 e in let k = c.if-is_cms_name.false in cc in
-    record {
+    rw c.content.ensures (record {
       reads = (
         other-cms (left c.args.contents.now) _ _ c.in_ok-identifier.ensures (λ e. none (inl e)) (λ e. none (inr e)),
-        Later c.in_ok-identifier.identifier.0.now _ c.in_ok-identifier.ensures (inr (none, c.from_static.ensures)),
+        Later c.in_ok-identifier.identifier.0.now _ c.in_ok-identifier.ensures (inr (none, refl)),
       );
-      unknown = λ u. c.from_static.ensures;
-    }
+      unknown = λ u. refl;
+    })

@@ -50,4 +50,4 @@ returns-in-None c =
     let m = left c.take_oid.new.self in
     let h = rw c.in-None.is at c.in_ok-skip_one.ensures.reads in
     let a = c.in_ok-take_oid.ensures in
-    (λ x k. no-value-where-nothing m h.0 tt (identified-value s m _ a k.0 k.1), Later _ m a (inl (is-nothing m h.0, c.from_static.ensures)))
+    rw c.content.ensures (λ x k. no-value-where-nothing m h.0 tt (identified-value s m _ a k.0 k.1), Later _ m a (inl (is-nothing m h.0, refl)))

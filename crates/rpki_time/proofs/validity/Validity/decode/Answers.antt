@@ -1,8 +1,8 @@
 use Rattle.std.proofs.Common.{rules}
+use Rattle.rpki_der.proofs.InsideLaws.{read-whole-exactly}
 use Rattle.rpki_time.specs.PeriodValue.{SpellsPeriod, IsPeriodFault}
 use Rattle.rpki_time.proofs.PeriodReadingLaws.{period-outer}
-use Rattle.rpki_c.proofs.WholeLaws.{read-whole-exactly}
-use Rattle.rpki_c.proofs.times.whole_validity.Goals as goal
+use Rattle.rpki_time.proofs.validity.Validity.decode.Goals as goal
 
 pub returns : goal.returns
 returns c =

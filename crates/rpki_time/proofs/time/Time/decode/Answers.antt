@@ -1,7 +1,8 @@
 use Rattle.std.proofs.Common.{rules}
+use Rattle.rpki_der.proofs.InsideLaws.{read-whole-exactly}
 use Rattle.rpki_time.specs.TimeValue.{SpellsTime, IsTimeFault}
-use Rattle.rpki_c.proofs.WholeLaws.{read-whole-exactly, time-exactly}
-use Rattle.rpki_c.proofs.times.whole_time.Goals as goal
+use Rattle.rpki_time.proofs.TimeReadingLaws.{time-exactly}
+use Rattle.rpki_time.proofs.time.Time.decode.Goals as goal
 
 pub returns : goal.returns
 returns c =
