@@ -1,11 +1,14 @@
 -- What an inspection of a name finds, attribute by attribute.
-use Rattle.std.proofs.Common.{◌≡◌, ◌≢◌, ℕ, ◌+◌, ◌≤◌, Bool, true, false, not, List, [], ◌∷◌, ◌++◌, cond, nat_eq, inl, inr, IsTrue, ◌↔◌, Result, Ok, Err, refl, sym, ap, subst, ◌∙◌, arith, append_assoc, append-nil}
-use Rattle.std.specs.Prelude.{IfOk, IfErr, MatchResult}
+use Rattle.std.proofs.Common.{suc, zero, lit<, if◌then◌else◌, ◌<◌, length, get_or, ◌≡◌, ◌≢◌, ℕ, ◌+◌, ◌≤◌, Bool, true, false, List, [], ◌∷◌, ◌++◌, cond, nat_eq, inl, inr, IsTrue, ◌↔◌, Result, Ok, Err, refl, sym, ap, subst, ◌∙◌, arith, append_assoc, append-nil}
+use Rattle.std.specs.Prelude.{MatchResult}
 use Rattle.std.specs.List.{All}
 use Rattle.std.specs.Cmp.Lexicographic.{pointwise, pointwise_decides}
 use Rattle.std.proofs.lemmas.Bool.Decides.{Decides-eqb}
 use Rattle.std.proofs.lemmas.List.Elements.{All-append, All-nil, All-cons, All-contains, Contains-push, Contains-append_left}
 use Rattle.std.proofs.lemmas.List.Sums.{sum_by-append}
+use Rattle.std.proofs.lemmas.List.{get_or-set_other}
+use Rattle.std.proofs.lemmas.Grind.{get_or-set_at}
+use Rattle.std.proofs.Math.ListN.{set}
 use Rattle.std.proofs.lemmas.Grind.{flat_map-append}
 use Rattle.rpki_der.specs.declared.error.DecodeError.{DecodeError}
 use Rattle.rpki_der.specs.declared.error.DecodeError.TheVariants.{Truncated, BadTag, BadLength, Unexpected, Content, Trailing, OutOfMemory}
@@ -14,13 +17,16 @@ use Rattle.rpki_der.specs.Reading.{Spells, Accepts, Refuses, Refusal, UnlessMemo
 use Rattle.rpki_der.specs.Values.{SpellsContents, SpellsLeaf, IsContentsFault, IsLeafFault, IsOuterFault}
 use Rattle.rpki_der.proofs.LeavesLaws.{leaf-value, leaf-no-memory, contents-no-memory}
 use Rattle.rpki_der.proofs.ComposedLaws.{all-read, nothing-whole, spelled-whole}
-use Rattle.rpki.specs.Oids.{common_name, serial_number, organization_name}
+use Rattle.rpki.specs.Oids.{common_name}
 use Rattle.rpki.specs.Name.{Attribute, IsIdentifierThen, SpellsAttribute, SpellsEach, SpellsName, IsName}
-use Rattle.rpki.specs.StrictName.{has_identifier, count_of, IsKnown, IsStrict, attributes, IsNameOf}
-use Rattle.rpki.specs.Findings.{Findings, IsFound}
+use Rattle.rpki.specs.NameTable.{Row, row_at, HasRow, name_table}
+use Rattle.rpki.specs.StrictName.{has_identifier, count_of, IsString, IsPermitted, IsStrict, attributes, IsNameOf}
+use Rattle.rpki.specs.Findings.{IsFound}
 use Rattle.rpki.specs.NameRule.{BreaksAt, FirstBreaks, BreaksRule}
+use Rattle.rpki.specs.declared.repository.x509.name.table.Strings.{Strings}
+use Rattle.rpki.proofs.NameTableLaws.{Distinct}
 use Rattle.rpki.specs.declared.repository.x509.name.rule.NameRule.{NameRule}
-use Rattle.rpki.specs.declared.repository.x509.name.rule.NameRule.TheVariants.{MissingCommonName, SecondCommonName, SecondSerialNumber, SecondOrganizationName, OtherString, OtherAttribute}
+use Rattle.rpki.specs.declared.repository.x509.name.rule.NameRule.TheVariants.{MissingCommonName, OtherString, OtherAttribute}
 use Rattle.rpki.proofs.NameLaws.{attribute-identified}
 
 -- ---- errors of readers that allocate nothing
@@ -54,48 +60,35 @@ count-append o xs ys = sum_by-append (λ a. cond (has_identifier o a) 1 0) xs ys
 count-one : (o : List ℕ) (a : Attribute) → count_of o (a ∷ []) ≡ cond (has_identifier o a) 1 0
 count-one o a = omega arith
 
+unnamed : (o : List ℕ) (a : Attribute) → (a.identifier ≡ o → ⊥) → has_identifier o a ≡ false
+unnamed o a differs = of (has_identifier o a) refl
+  where
+    of : (b : Bool) → has_identifier o a ≡ b → has_identifier o a ≡ false
+    of true e = absurd (differs (same-octets a.identifier o e))
+    of false e = e
+
 all-one : (P : Attribute → Type 0) (a : Attribute) → P a → All P (a ∷ [])
 all-one P a h = All-cons P a [] h (All-nil P)
 
-found-more : (P : List ℕ → Type 0) (x y : Findings) (before : List Attribute) (a : Attribute) → IsFound P x before
-    → cond y.common 1 0 ≡ cond x.common 1 0 + cond (has_identifier common_name a) 1 0
-    → cond y.serial 1 0 ≡ cond x.serial 1 0 + cond (has_identifier serial_number a) 1 0
-    → cond y.organization 1 0 ≡ cond x.organization 1 0 + cond (has_identifier organization_name a) 1 0
-    → IsKnown a → P a.value → IsFound P y (before ++ a ∷ [])
-found-more P x y before a h c s o known permitted = record {
-  common = count-append common_name before (a ∷ []) ∙ omega (arith, h.common, count-one common_name a, c);
-  serial = count-append serial_number before (a ∷ []) ∙ omega (arith, h.serial, count-one serial_number a, s);
-  organization = count-append organization_name before (a ∷ []) ∙ omega (arith, h.organization, count-one organization_name a, o);
-  known = All-append IsKnown before (a ∷ []) h.known (all-one IsKnown a known);
-  strings = All-append (λ b. P b.value) before (a ∷ []) h.strings (all-one (λ b. P b.value) a permitted);
-}
-
-pub found-common : (P : List ℕ → Type 0) (x : Findings) (before : List Attribute) (a : Attribute) → IsFound P x before → x.common ≡ false → pointwise nat_eq a.identifier common_name ≡ true → P a.value
-    → IsFound P (record { common = true; serial = x.serial; organization = x.organization }) (before ++ a ∷ [])
-found-common P x before a h none is permitted =
-    let name : a.identifier ≡ common_name = same-octets a.identifier common_name is in
-    let serial : has_identifier serial_number a ≡ false = rw name refl in
-    let organization : has_identifier organization_name a ≡ false = rw name refl in
-    found-more P x (record { common = true; serial = x.serial; organization = x.organization }) before a h
-    (rw (none, is) refl) (rw serial (omega arith)) (rw organization (omega arith)) (inl name) permitted
-
-pub found-serial : (P : List ℕ → Type 0) (x : Findings) (before : List Attribute) (a : Attribute) → IsFound P x before → x.serial ≡ false → pointwise nat_eq a.identifier serial_number ≡ true → P a.value
-    → IsFound P (record { common = x.common; serial = true; organization = x.organization }) (before ++ a ∷ [])
-found-serial P x before a h none is permitted =
-    let name : a.identifier ≡ serial_number = same-octets a.identifier serial_number is in
-    let common : has_identifier common_name a ≡ false = rw name refl in
-    let organization : has_identifier organization_name a ≡ false = rw name refl in
-    found-more P x (record { common = x.common; serial = true; organization = x.organization }) before a h
-    (rw common (omega arith)) (rw (none, is) refl) (rw organization (omega arith)) (inr (inl name)) permitted
-
-pub found-organization : (P : List ℕ → Type 0) (x : Findings) (before : List Attribute) (a : Attribute) → IsFound P x before → x.organization ≡ false → pointwise nat_eq a.identifier organization_name ≡ true → P a.value
-    → IsFound P (record { common = x.common; serial = x.serial; organization = true }) (before ++ a ∷ [])
-found-organization P x before a h none is permitted =
-    let name : a.identifier ≡ organization_name = same-octets a.identifier organization_name is in
-    let common : has_identifier common_name a ≡ false = rw name refl in
-    let serial : has_identifier serial_number a ≡ false = rw name refl in
-    found-more P x (record { common = x.common; serial = x.serial; organization = true }) before a h
-    (rw common (omega arith)) (rw serial (omega arith)) (rw (none, is) refl) (inr (inr name)) permitted
+-- an attribute that the table permits, the first of its row
+pub found-more : (T : List Row) (S : Row → Strings) (x : List Bool) (before : List Attribute) (a : Attribute) (n : ℕ) → Distinct T → IsFound T S x before → n < length x
+    → HasRow T n a.identifier → get_or x n false ≡ false → IsString (S (row_at T n)) a.value → IsFound T S (set x n true) (before ++ a ∷ [])
+found-more T S x before a n distinct f inside h first string = record {
+  counted = λ k below. count-append (row_at T k).identifier before (a ∷ []) ∙ omega (arith, f.counted k below, count-one (row_at T k).identifier a, step k below);
+  permitted = All-append (IsPermitted T S) before (a ∷ []) f.permitted (all-one (IsPermitted T S) a (record { number = n; has = h; string = string }));
+} where
+  step : (k : ℕ) → k < length T → cond (get_or (set x n true) k false) 1 0 ≡ cond (get_or x k false) 1 0 + cond (has_identifier (row_at T k).identifier a) 1 0
+  step k below = at (nat_eq k n) refl
+    where
+      at : (b : Bool) → nat_eq k n ≡ b → cond (get_or (set x n true) k false) 1 0 ≡ cond (get_or x k false) 1 0 + cond (has_identifier (row_at T k).identifier a) 1 0
+      at true e =
+          let same : k ≡ n = (Decides-eqb k n).0 e in
+          let is : has_identifier (row_at T k).identifier a ≡ true = (pointwise_decides Decides-eqb a.identifier (row_at T k).identifier).1 (sym (subst (λ (m : ℕ). (row_at T m).identifier ≡ a.identifier) (sym same) h.same)) in
+          rw (is, get_or-set_at x n k true false same inside, same, first) refl
+      at false e =
+          let other : k ≢ n = λ z. let y = (Decides-eqb k n).1 z in cc in
+          let not : has_identifier (row_at T k).identifier a ≡ false = unnamed (row_at T k).identifier a (λ z. other (distinct k n below h.below (sym z ∙ sym h.same))) in
+          rw (not, get_or-set_other x n k true false other) (omega arith)
 
 -- ---- an attribute that breaks a rule after those that were found
 
@@ -113,75 +106,49 @@ two-of o before rest a seen is strict =
     omega (arith, count-with o before rest a, seen, again, strict)
 
 -- the attribute is the last
-breaks-last : (P : List ℕ → Type 0) (rule : NameRule) (x : Findings) (before : List Attribute) (a : Attribute) → IsFound P x before → BreaksAt P rule before a → FirstBreaks P rule (before ++ a ∷ [])
-breaks-last P rule x before a f broken = record { before = before; attribute = a; after = []; parts = sym (append-nil (before ++ a ∷ [])); fine = (x, f); broken = broken }
+breaks-last : (T : List Row) (S : Row → Strings) (rule : NameRule) (x : List Bool) (before : List Attribute) (a : Attribute) → IsFound T S x before → BreaksAt T S rule before a → FirstBreaks T S rule (before ++ a ∷ [])
+breaks-last T S rule x before a f broken = record { before = before; attribute = a; after = []; parts = sym (append-nil (before ++ a ∷ [])); fine = (x, f); broken = broken }
 
-pub second-common : (P : List ℕ → Type 0) (x : Findings) (before : List Attribute) (a : Attribute) → IsFound P x before → x.common ≡ true → pointwise nat_eq a.identifier common_name ≡ true
-    → FirstBreaks P SecondCommonName (before ++ a ∷ [])
-second-common P x before a f one is = breaks-last P SecondCommonName x before a f (let g = rw one at f.common in g, same-octets a.identifier common_name is)
+-- how many of its row there were
+seen-before : (T : List Row) (S : Row → Strings) (x : List Bool) (before : List Attribute) (a : Attribute) (n : ℕ) (b : Bool) → IsFound T S x before → HasRow T n a.identifier → get_or x n false ≡ b
+    → count_of a.identifier before ≡ cond b 1 0
+seen-before T S x before a n b f h e =
+    subst (λ (o : List ℕ). count_of o before ≡ cond b 1 0) h.same (f.counted n h.below ∙ ap (λ (c : Bool). cond c 1 0) e)
 
-pub second-serial : (P : List ℕ → Type 0) (x : Findings) (before : List Attribute) (a : Attribute) → IsFound P x before → x.serial ≡ true → pointwise nat_eq a.identifier serial_number ≡ true
-    → FirstBreaks P SecondSerialNumber (before ++ a ∷ [])
-second-serial P x before a f one is = breaks-last P SecondSerialNumber x before a f (let g = rw one at f.serial in g, same-octets a.identifier serial_number is)
+pub second-attribute : (T : List Row) (S : Row → Strings) (rule : NameRule) (x : List Bool) (before : List Attribute) (a : Attribute) (n : ℕ) → IsFound T S x before → HasRow T n a.identifier → get_or x n false ≡ true
+    → rule ≡ (row_at T n).second → FirstBreaks T S rule (before ++ a ∷ [])
+second-attribute T S rule x before a n f h one is =
+    breaks-last T S rule x before a f (inl (record { number = n; has = h; rule_is = is; seen = seen-before T S x before a n true f h one }))
 
-pub second-organization : (P : List ℕ → Type 0) (x : Findings) (before : List Attribute) (a : Attribute) → IsFound P x before → x.organization ≡ true → pointwise nat_eq a.identifier organization_name ≡ true
-    → FirstBreaks P SecondOrganizationName (before ++ a ∷ [])
-second-organization P x before a f one is =
-    breaks-last P SecondOrganizationName x before a f (let g = rw one at f.organization in g, same-octets a.identifier organization_name is)
+pub other-string : (T : List Row) (S : Row → Strings) (x : List Bool) (before : List Attribute) (a : Attribute) (n : ℕ) → IsFound T S x before → HasRow T n a.identifier → get_or x n false ≡ false
+    → (IsString (S (row_at T n)) a.value → ⊥) → FirstBreaks T S OtherString (before ++ a ∷ [])
+other-string T S x before a n f h first none =
+    breaks-last T S OtherString x before a f (inr (inl (record { number = n; has = h; rule_is = refl; first = seen-before T S x before a n false f h first; other = none })))
 
-not-of : (o : List ℕ) (a : Attribute) → pointwise nat_eq a.identifier o ≡ false → a.identifier ≡ o → ⊥
-not-of o a differs e = let same : pointwise nat_eq a.identifier o ≡ true = (pointwise_decides Decides-eqb a.identifier o).1 e in let both = sym same ∙ differs in absurd (cc)
-
-pub other-attribute : (P : List ℕ → Type 0) (x : Findings) (before : List Attribute) (a : Attribute) → IsFound P x before → pointwise nat_eq a.identifier common_name ≡ false
-    → pointwise nat_eq a.identifier serial_number ≡ false → pointwise nat_eq a.identifier organization_name ≡ false → FirstBreaks P OtherAttribute (before ++ a ∷ [])
-other-attribute P x before a f common serial organization =
-    breaks-last P OtherAttribute x before a f (λ known. elim known [
-      | inl e ↦ not-of common_name a common e
-      | inr (inl e) ↦ not-of serial_number a serial e
-      | inr (inr e) ↦ not-of organization_name a organization e
-    ])
-
-pub other-common : (P : List ℕ → Type 0) (x : Findings) (before : List Attribute) (a : Attribute) → IsFound P x before → x.common ≡ false → pointwise nat_eq a.identifier common_name ≡ true → (P a.value → ⊥)
-    → FirstBreaks P OtherString (before ++ a ∷ [])
-other-common P x before a f one is none =
-    let name : a.identifier ≡ common_name = same-octets a.identifier common_name is in
-    breaks-last P OtherString x before a f (inl name, rw name (let g = rw one at f.common in g), none)
-
-pub other-serial : (P : List ℕ → Type 0) (x : Findings) (before : List Attribute) (a : Attribute) → IsFound P x before → x.serial ≡ false → pointwise nat_eq a.identifier serial_number ≡ true → (P a.value → ⊥)
-    → FirstBreaks P OtherString (before ++ a ∷ [])
-other-serial P x before a f one is none =
-    let name : a.identifier ≡ serial_number = same-octets a.identifier serial_number is in
-    breaks-last P OtherString x before a f (inr (inl name), rw name (let g = rw one at f.serial in g), none)
-
-pub other-organization : (P : List ℕ → Type 0) (x : Findings) (before : List Attribute) (a : Attribute) → IsFound P x before → x.organization ≡ false → pointwise nat_eq a.identifier organization_name ≡ true → (P a.value → ⊥)
-    → FirstBreaks P OtherString (before ++ a ∷ [])
-other-organization P x before a f one is none =
-    let name : a.identifier ≡ organization_name = same-octets a.identifier organization_name is in
-    breaks-last P OtherString x before a f (inr (inr name), rw name (let g = rw one at f.organization in g), none)
+pub other-attribute : (T : List Row) (S : Row → Strings) (x : List Bool) (before : List Attribute) (a : Attribute) → IsFound T S x before → ((n : ℕ) → HasRow T n a.identifier → ⊥) → FirstBreaks T S OtherAttribute (before ++ a ∷ [])
+other-attribute T S x before a f none = breaks-last T S OtherAttribute x before a f (inr (inr (record { rule_is = refl; none = none })))
 
 -- ---- what is broken is not strict
 
-two-named : (o : List ℕ) (before rest : List Attribute) (a : Attribute) → count_of o before ≡ 1 → a.identifier ≡ o → count_of o ((before ++ a ∷ []) ++ rest) ≤ 1 → ⊥
-two-named o before rest a seen is strict = two-of o before rest a seen ((pointwise_decides Decides-eqb a.identifier o).1 is) strict
+breaks-not : (T : List Row) (S : Row → Strings) (rule : NameRule) (before rest : List Attribute) (a : Attribute) → Distinct T → BreaksAt T S rule before a → IsStrict T S ((before ++ a ∷ []) ++ rest) → ⊥
+breaks-not T S rule before rest a distinct (inl h) strict =
+    two-of a.identifier before rest a h.seen ((pointwise_decides Decides-eqb a.identifier a.identifier).1 refl) (subst (λ (o : List ℕ). count_of o ((before ++ a ∷ []) ++ rest) ≤ 1) h.has.same (strict.once h.number h.has.below))
+breaks-not T S rule before rest a distinct (inr (inl h)) strict =
+    let k = all-with (IsPermitted T S) before rest a strict.permitted in
+    let same : k.number ≡ h.number = distinct k.number h.number k.has.below h.has.below (k.has.same ∙ sym h.has.same) in
+    h.other (subst (λ (m : ℕ). IsString (S (row_at T m)) a.value) same k.string)
+breaks-not T S rule before rest a distinct (inr (inr h)) strict = let k = all-with (IsPermitted T S) before rest a strict.permitted in h.none k.number k.has
 
-breaks-not : (P : List ℕ → Type 0) (rule : NameRule) (before rest : List Attribute) (a : Attribute) → BreaksAt P rule before a → IsStrict P ((before ++ a ∷ []) ++ rest) → ⊥
-breaks-not P MissingCommonName before rest a b strict = b
-breaks-not P SecondCommonName before rest a b strict = two-named common_name before rest a b.0 b.1 (let h = strict.common in omega (arith, h))
-breaks-not P SecondSerialNumber before rest a b strict = two-named serial_number before rest a b.0 b.1 strict.serial
-breaks-not P SecondOrganizationName before rest a b strict = two-named organization_name before rest a b.0 b.1 strict.organization
-breaks-not P OtherString before rest a b strict = b.2 (all-with (λ c. P c.value) before rest a strict.strings)
-breaks-not P OtherAttribute before rest a b strict = b (all-with IsKnown before rest a strict.known)
+first-not : (T : List Row) (S : Row → Strings) (rule : NameRule) (xs : List Attribute) → Distinct T → FirstBreaks T S rule xs → IsStrict T S xs → ⊥
+first-not T S rule xs distinct h strict = breaks-not T S rule h.before h.after h.attribute distinct h.broken (subst (IsStrict T S) h.parts strict)
 
-first-not : (P : List ℕ → Type 0) (rule : NameRule) (xs : List Attribute) → FirstBreaks P rule xs → IsStrict P xs → ⊥
-first-not P rule xs h strict = breaks-not P rule h.before h.after h.attribute h.broken (subst (IsStrict P) h.parts strict)
-
-pub rule-not : (P : List ℕ → Type 0) (rule : NameRule) (xs : List Attribute) → BreaksRule P rule xs → IsStrict P xs → ⊥
-rule-not P rule xs (inl h) strict = first-not P rule xs h strict
-rule-not P rule xs (inr h) strict = let none = h.1.1 in omega (arith, none, strict.common)
+pub rule-not : (T : List Row) (S : Row → Strings) (rule : NameRule) (xs : List Attribute) → Distinct T → BreaksRule T S rule xs → IsStrict T S xs → ⊥
+rule-not T S rule xs distinct (inl h) strict = first-not T S rule xs distinct h strict
+rule-not T S rule xs distinct (inr h) strict = let none = h.1.1 in omega (arith, none, strict.common)
 
 -- and stays so, whatever follows
-more-after : (P : List ℕ → Type 0) (rule : NameRule) (xs ys : List Attribute) → FirstBreaks P rule xs → FirstBreaks P rule (xs ++ ys)
-more-after P rule xs ys h = record {
+more-after : (T : List Row) (S : Row → Strings) (rule : NameRule) (xs ys : List Attribute) → FirstBreaks T S rule xs → FirstBreaks T S rule (xs ++ ys)
+more-after T S rule xs ys h = record {
   before = h.before;
   attribute = h.attribute;
   after = h.after ++ ys;
@@ -206,30 +173,30 @@ pub one-relative : (xs : List Attribute) → attributes (xs ∷ []) ≡ xs
 one-relative xs = append-nil xs
 
 -- of the values that were spelled, those in which y was found, and those that m spells
-pub record Middle {V : Type 0} (G : V → List ℕ → Type 0) (join : List V → List Attribute) (P : List ℕ → Type 0) (x y : Findings) (vs : List V) (m : List ℕ) : Type 0 where
+pub record Middle {V : Type 0} (G : V → List ℕ → Type 0) (join : List V → List Attribute) (T : List Row) (S : Row → Strings) (x y : List Bool) (vs : List V) (m : List ℕ) : Type 0 where
   pub done : List V
   pub todo : List V
   pub split : vs ≡ done ++ todo
   pub following : SpellsEach G todo m
-  pub found : (before : List Attribute) → IsFound P x before → IsFound P y (before ++ join done)
+  pub found : (before : List Attribute) → IsFound T S x before → IsFound T S y (before ++ join done)
 
-abbrev pub Through : {V : Type 0} → (V → List ℕ → Type 0) → (List V → List Attribute) → (List ℕ → Type 0) → Findings → Findings → List ℕ → List ℕ → Type 0
-Through {V} G join P x y c m = (vs : List V) → SpellsEach G vs c → Middle G join P x y vs m
+abbrev pub Through : {V : Type 0} → (V → List ℕ → Type 0) → (List V → List Attribute) → List Row → (Row → Strings) → List Bool → List Bool → List ℕ → List ℕ → Type 0
+Through {V} G join T S x y c m = (vs : List V) → SpellsEach G vs c → Middle G join T S x y vs m
 
-pub through-nothing : {V : Type 0} (G : V → List ℕ → Type 0) (join : List V → List Attribute) (P : List ℕ → Type 0) (x : Findings) (c : List ℕ) → IsJoin join → Through G join P x x c c
-through-nothing G join P x c j vs h = record {
+pub through-nothing : {V : Type 0} (G : V → List ℕ → Type 0) (join : List V → List Attribute) (T : List Row) (S : Row → Strings) (x : List Bool) (c : List ℕ) → IsJoin join → Through G join T S x x c c
+through-nothing G join T S x c j vs h = record {
   done = [];
   todo = vs;
   split = refl;
   following = h;
-  found = λ before f. subst (IsFound P x) (sym (ap (λ (l : List Attribute). before ++ l) j.none ∙ append-nil before)) f;
+  found = λ before f. subst (IsFound T S x) (sym (ap (λ (l : List Attribute). before ++ l) j.none ∙ append-nil before)) f;
 }
 
-pub through-more : {V : Type 0} (G : V → List ℕ → Type 0) (join : List V → List Attribute) (P : List ℕ → Type 0) (x y z : Findings) (c m r : List ℕ) → IsJoin join → (m ≡ [] → ⊥) → Through G join P x y c m
-    → ((v : V) (q : List ℕ) → Spells G m v q → (q ≡ r) × ((before : List Attribute) → IsFound P y before → IsFound P z (before ++ join (v ∷ [])))) → Through G join P x z c r
-through-more {V} G join P x y z c m r j some t step vs h = let g = t vs h in next g.done g.todo g.split g.following g.found
+pub through-more : {V : Type 0} (G : V → List ℕ → Type 0) (join : List V → List Attribute) (T : List Row) (S : Row → Strings) (x y z : List Bool) (c m r : List ℕ) → IsJoin join → (m ≡ [] → ⊥) → Through G join T S x y c m
+    → ((v : V) (q : List ℕ) → Spells G m v q → (q ≡ r) × ((before : List Attribute) → IsFound T S y before → IsFound T S z (before ++ join (v ∷ [])))) → Through G join T S x z c r
+through-more {V} G join T S x y z c m r j some t step vs h = let g = t vs h in next g.done g.todo g.split g.following g.found
   where
-    next : (done todo : List V) → vs ≡ done ++ todo → SpellsEach G todo m → ((before : List Attribute) → IsFound P x before → IsFound P y (before ++ join done)) → Middle G join P x z vs r
+    next : (done todo : List V) → vs ≡ done ++ todo → SpellsEach G todo m → ((before : List Attribute) → IsFound T S x before → IsFound T S y (before ++ join done)) → Middle G join T S x z vs r
     next done [] split following found = absurd (some following)
     next done (v ∷ ws) split following found =
         let k = step v following.0 following.1 in
@@ -239,30 +206,30 @@ through-more {V} G join P x y z c m r j some t step vs h = let g = t vs h in nex
           split = split ∙ sym (append_assoc done (v ∷ []) ws);
           following = subst (SpellsEach G ws) k.0 following.2;
           found = λ before f.
-              subst (IsFound P z) (append_assoc before (join done) (join (v ∷ [])) ∙ ap (λ (l : List Attribute). before ++ l) (sym (j.more done (v ∷ [])))) (k.1 (before ++ join done) (found before f));
+              subst (IsFound T S z) (append_assoc before (join done) (join (v ∷ [])) ∙ ap (λ (l : List Attribute). before ++ l) (sym (j.more done (v ∷ [])))) (k.1 (before ++ join done) (found before f));
         }
 
 regroup : (a b d e : List Attribute) → a ++ (b ++ (d ++ e)) ≡ ((a ++ b) ++ d) ++ e
 regroup a b d e = simp append_assoc
 
-pub through-refused : {V : Type 0} (G : V → List ℕ → Type 0) (join : List V → List Attribute) (P : List ℕ → Type 0) (rule : NameRule) (x y : Findings) (c m : List ℕ) → IsJoin join → (m ≡ [] → ⊥) → Through G join P x y c m
-    → ((v : V) (q : List ℕ) → Spells G m v q → (before : List Attribute) → IsFound P y before → FirstBreaks P rule (before ++ join (v ∷ [])))
-    → (vs : List V) → SpellsEach G vs c → (before : List Attribute) → IsFound P x before → FirstBreaks P rule (before ++ join vs)
-through-refused {V} G join P rule x y c m j some t refused vs h before f = let g = t vs h in next g.done g.todo g.split g.following (g.found before f)
+pub through-refused : {V : Type 0} (G : V → List ℕ → Type 0) (join : List V → List Attribute) (T : List Row) (S : Row → Strings) (rule : NameRule) (x y : List Bool) (c m : List ℕ) → IsJoin join → (m ≡ [] → ⊥) → Through G join T S x y c m
+    → ((v : V) (q : List ℕ) → Spells G m v q → (before : List Attribute) → IsFound T S y before → FirstBreaks T S rule (before ++ join (v ∷ [])))
+    → (vs : List V) → SpellsEach G vs c → (before : List Attribute) → IsFound T S x before → FirstBreaks T S rule (before ++ join vs)
+through-refused {V} G join T S rule x y c m j some t refused vs h before f = let g = t vs h in next g.done g.todo g.split g.following (g.found before f)
   where
-    next : (done todo : List V) → vs ≡ done ++ todo → SpellsEach G todo m → IsFound P y (before ++ join done) → FirstBreaks P rule (before ++ join vs)
+    next : (done todo : List V) → vs ≡ done ++ todo → SpellsEach G todo m → IsFound T S y (before ++ join done) → FirstBreaks T S rule (before ++ join vs)
     next done [] split following found = absurd (some following)
     next done (v ∷ ws) split following found =
         let joined : join vs ≡ join done ++ (join (v ∷ []) ++ join ws) = ap join split ∙ j.more done (v ∷ ws) ∙ ap (λ (l : List Attribute). join done ++ l) (j.more (v ∷ []) ws) in
-        subst (FirstBreaks P rule) (sym (ap (λ (l : List Attribute). before ++ l) joined ∙ regroup before (join done) (join (v ∷ [])) (join ws)))
-        (more-after P rule ((before ++ join done) ++ join (v ∷ [])) (join ws) (refused v following.0 following.1 (before ++ join done) found))
+        subst (FirstBreaks T S rule) (sym (ap (λ (l : List Attribute). before ++ l) joined ∙ regroup before (join done) (join (v ∷ [])) (join ws)))
+        (more-after T S rule ((before ++ join done) ++ join (v ∷ [])) (join ws) (refused v following.0 following.1 (before ++ join done) found))
 
-pub through-all : {V : Type 0} (G : V → List ℕ → Type 0) (join : List V → List Attribute) (P : List ℕ → Type 0) (x y : Findings) (c m : List ℕ) → ((v : V) (q : List ℕ) → Spells G m v q → ⊥) → Through G join P x y c m
-    → (vs : List V) → SpellsEach G vs c → (before : List Attribute) → IsFound P x before → IsFound P y (before ++ join vs)
-through-all {V} G join P x y c m nowhere t vs h before f = let g = t vs h in next g.done g.todo g.split g.following (g.found before f)
+pub through-all : {V : Type 0} (G : V → List ℕ → Type 0) (join : List V → List Attribute) (T : List Row) (S : Row → Strings) (x y : List Bool) (c m : List ℕ) → ((v : V) (q : List ℕ) → Spells G m v q → ⊥) → Through G join T S x y c m
+    → (vs : List V) → SpellsEach G vs c → (before : List Attribute) → IsFound T S x before → IsFound T S y (before ++ join vs)
+through-all {V} G join T S x y c m nowhere t vs h before f = let g = t vs h in next g.done g.todo g.split g.following (g.found before f)
   where
-    next : (done todo : List V) → vs ≡ done ++ todo → SpellsEach G todo m → IsFound P y (before ++ join done) → IsFound P y (before ++ join vs)
-    next done [] split following found = subst (λ (l : List V). IsFound P y (before ++ join l)) (sym (split ∙ append-nil done)) found
+    next : (done todo : List V) → vs ≡ done ++ todo → SpellsEach G todo m → IsFound T S y (before ++ join done) → IsFound T S y (before ++ join vs)
+    next done [] split following found = subst (λ (l : List V). IsFound T S y (before ++ join l)) (sym (split ∙ append-nil done)) found
     next done (v ∷ ws) split following found = absurd (nowhere v following.0 following.1)
 
 -- ---- an attribute at the front
@@ -288,42 +255,60 @@ these-contents t C m r c h v q g =
 
 -- ---- the whole name
 
-pub nothing-found : (P : List ℕ → Type 0) → IsFound P (record { common = false; serial = false; organization = false }) []
-nothing-found P = record { common = refl; serial = refl; organization = refl; known = All-nil IsKnown; strings = All-nil (λ a. P a.value) }
+-- of no attribute one was found
+pub record AreUnseen (x : List Bool) : Type 0 where
+  pub unseen : (n : ℕ) → get_or x n false ≡ false
 
-pub first-rule : (P : List ℕ → Type 0) (rule : NameRule) (xs : List Attribute)
-    → ((before : List Attribute) → IsFound P (record { common = false; serial = false; organization = false }) before → FirstBreaks P rule (before ++ xs)) → BreaksRule P rule xs
-first-rule P rule xs h = inl (h [] (nothing-found P))
+-- whether one was found of some
+unfoldable pub has_seen : List Bool → Bool
+has_seen [] = false
+has_seen (b ∷ rest) = if b then true else has_seen rest
 
-pub is-not : (b : Bool) → not b ≡ true → b ≡ false
-is-not true e = sym e
-is-not false e = refl
+seen-later : (b c : Bool) → (if b then true else c) ≡ false → (b ≡ false) × (c ≡ false)
+seen-later true c h = absurd (cc)
+seen-later false c h = (refl, h)
 
-pub is-so : (b : Bool) → not b ≡ false → b ≡ true
-is-so true e = refl
-is-so false e = sym e
+not-seen : (x : List Bool) → has_seen x ≡ false → (n : ℕ) → get_or x n false ≡ false
+unfolding has_seen
+not-seen [] h n = refl
+not-seen (b ∷ rest) h zero = (seen-later b (has_seen rest) h).0
+not-seen (b ∷ rest) h (suc n) = not-seen rest (seen-later b (has_seen rest) h).1 n
 
-pub found-nameless : (P : List ℕ → Type 0) (x : Findings) (xs : List Attribute) → IsFound P x xs → x.common ≡ false → BreaksRule P MissingCommonName xs
-found-nameless P x xs f none = inr (refl, ((x, f), let g = rw none at f.common in g))
+pub unseen : (x : List Bool) → has_seen x ≡ false → AreUnseen x
+unseen x h = record { unseen = not-seen x h }
+
+pub first-is-common : HasRow name_table 0 common_name
+first-is-common = record { below = lit< tt; same = refl }
+
+pub nothing-found : (T : List Row) (S : Row → Strings) (x : List Bool) → AreUnseen x → IsFound T S x []
+nothing-found T S x none = record { counted = λ n below. rw (none.unseen n) refl; permitted = All-nil (IsPermitted T S) }
+
+pub first-rule : (T : List Row) (S : Row → Strings) (rule : NameRule) (x : List Bool) (xs : List Attribute) → AreUnseen x → ((before : List Attribute) → IsFound T S x before → FirstBreaks T S rule (before ++ xs)) → BreaksRule T S rule xs
+first-rule T S rule x xs none h = inl (h [] (nothing-found T S x none))
+
+-- whether there is a common name, by the flag of its row
+common-seen : (T : List Row) (S : Row → Strings) (x : List Bool) (xs : List Attribute) (n : ℕ) (b : Bool) → IsFound T S x xs → HasRow T n common_name → get_or x n false ≡ b → count_of common_name xs ≡ cond b 1 0
+common-seen T S x xs n b f h e = subst (λ (o : List ℕ). count_of o xs ≡ cond b 1 0) h.same (f.counted n h.below ∙ ap (λ (c : Bool). cond c 1 0) e)
+
+pub found-nameless : (T : List Row) (S : Row → Strings) (x : List Bool) (xs : List Attribute) (n : ℕ) → IsFound T S x xs → HasRow T n common_name → get_or x n false ≡ false → BreaksRule T S MissingCommonName xs
+found-nameless T S x xs n f h none = inr (refl, ((x, f), common-seen T S x xs n false f h none))
 
 at-most-one : (b : Bool) → cond b 1 0 ≤ 1
 at-most-one true = omega arith
 at-most-one false = omega arith
 
-pub found-strict : (P : List ℕ → Type 0) (x : Findings) (xs : List Attribute) → IsFound P x xs → x.common ≡ true → IsStrict P xs
-found-strict P x xs f one = record {
-  common = let g = rw one at f.common in g;
-  serial = omega (arith, f.serial, at-most-one x.serial);
-  organization = omega (arith, f.organization, at-most-one x.organization);
-  known = f.known;
-  strings = f.strings;
+pub found-strict : (T : List Row) (S : Row → Strings) (x : List Bool) (xs : List Attribute) (n : ℕ) → IsFound T S x xs → HasRow T n common_name → get_or x n false ≡ true → IsStrict T S xs
+found-strict T S x xs n f h one = record {
+  common = common-seen T S x xs n true f h one;
+  once = λ k below. omega (arith, f.counted k below, at-most-one (get_or x k false));
+  permitted = f.permitted;
 }
 
 -- ---- what the public calls say
 
 -- of a name that has been read
-pub inspected : (P : List ℕ → Type 0) (octets : List ℕ) (r : Result (Unit {0}) NameRule) → IsName octets
-    → ((parts : List (List Attribute)) → SpellsName parts octets → MatchResult r (λ u. IsStrict P (attributes parts)) (λ rule. BreaksRule P rule (attributes parts)))
-    → MatchResult r (λ u. IsNameOf (IsStrict P) octets) (λ rule. IsNameOf (BreaksRule P rule) octets)
-inspected P octets (Ok u) n h = (n.0, n.1, h n.0 n.1)
-inspected P octets (Err rule) n h = (n.0, n.1, h n.0 n.1)
+pub inspected : (T : List Row) (S : Row → Strings) (octets : List ℕ) (r : Result (Unit {0}) NameRule) → IsName octets
+    → ((parts : List (List Attribute)) → SpellsName parts octets → MatchResult r (λ u. IsStrict T S (attributes parts)) (λ rule. BreaksRule T S rule (attributes parts)))
+    → MatchResult r (λ u. IsNameOf (IsStrict T S) octets) (λ rule. IsNameOf (BreaksRule T S rule) octets)
+inspected T S octets (Ok u) n h = (n.0, n.1, h n.0 n.1)
+inspected T S octets (Err rule) n h = (n.0, n.1, h n.0 n.1)

@@ -27,6 +27,7 @@ pub mod MemoryLaws
 pub mod SignedFaultLaws
 pub mod NameLaws
 pub mod NameFaultLaws
+pub mod NameTableLaws
 pub mod InspectionLaws
 pub mod WithoutOrganizationLaws
 pub mod OneNameLaws

@@ -1,23 +1,20 @@
 -- Lists of values, one after another, as a reader of one after another finds them; and what names are.
 use Rattle.std.proofs.Common.{◌≡◌, ◌≢◌, ◌↔◌, IsTrue, ℕ, ◌+◌, ◌<◌, ◌≤◌, Bool, true, false, List, [], ◌∷◌, ◌++◌, length, refl, sym, ap, subst, ◌∙◌, append_assoc, arith, length-append}
 use Rattle.std.proofs.lemmas.List.{append-nil}
-use Rattle.rpki_der.specs.declared.error.DecodeError.{DecodeError}
 use Rattle.rpki_der.specs.TagName.{TagName, sequence, set, oid}
-use Rattle.rpki_der.specs.Reading.{Spells, Accepts, Refuses, Refusal, SpellsNothing, OrMemoryWhere}
-use Rattle.rpki_der.specs.Values.{SpellsContents, SpellsLeaf, GivesOuterFault}
+use Rattle.rpki_der.specs.Reading.{Spells, Accepts, Refuses, SpellsNothing}
+use Rattle.rpki_der.specs.Values.{SpellsContents, SpellsLeaf}
 use Rattle.rpki_der.specs.Leaves.{IsOidOf}
 use Rattle.rpki_der.specs.Members.{IsValue, IsValueList, SpellsValue}
 use Rattle.rpki_der.proofs.MembersLaws.{value-some}
-use Rattle.rpki_der.specs.Walk.{SpellsAnyValue, HasEither}
+use Rattle.rpki_der.specs.Walk.{SpellsAnyValue}
 use Rattle.rpki_der.specs.ValueListLaws.{values_append, no_values}
-use Rattle.rpki_der.proofs.ReadingLaws.{UnlessMemory-weaker}
 use Rattle.rpki_der.proofs.EncodeLaws.{tlv-at-least}
 use Rattle.rpki_der.proofs.LeafValueLaws.{leaf-value-alone, composed-value-alone}
 use Rattle.rpki_der.proofs.LeavesLaws.{leaf-value}
 use Rattle.rpki.specs.Name.{Attribute, attribute_of, IsIdentifierThen, IsAttribute, SpellsAttribute, SpellsEach, SpellsSome, SpellsRelative, SpellsName, IsName, SpellsNameOctets}
 use Rattle.rpki.specs.AnyValue.{SpellsAny}
 use Rattle.rpki.specs.NameValue.{HasAfter, HasAttributeValue, HasRelativeValue, HasNameValue}
-use Rattle.rpki_der.proofs.InsideLaws.{part-memory}
 use Rattle.rpki.proofs.MemoryLaws.{value-either}
 
 -- ---- whichever value is spelled

@@ -1,5 +1,5 @@
 -- The errors of signed data: where allocation may fail, and where there is no SEQUENCE.
-use Rattle.std.proofs.Common.{◌≡◌, ℕ, true, List, refl, subst}
+use Rattle.std.proofs.Common.{ℕ, true, List, refl, subst}
 use Rattle.rpki_der.specs.declared.error.DecodeError.{DecodeError}
 use Rattle.rpki_der.specs.declared.error.DecodeError.TheVariants.{OutOfMemory}
 use Rattle.rpki_der.specs.TagName.{sequence}

@@ -1,5 +1,5 @@
 -- The name of a subject is a strict name.
-use Rattle.std.proofs.Common.{◌≡◌, ℕ, suc, zero, true, false, ◌<◌, ◌/◌, ◌%◌, List, [], ◌∷◌, length, refl, ap, sym, arith, ◌^◌, lit<, append-nil, inl}
+use Rattle.std.proofs.Common.{◌≡◌, ◌≤◌, ℕ, Bool, suc, zero, true, false, ◌<◌, ◌/◌, ◌%◌, List, [], ◌∷◌, length, refl, ap, sym, arith, ◌^◌, lit<, append-nil, inl}
 use Rattle.std.proofs.lemmas.List.Elements.{All-from_recursion}
 use Rattle.rpki_der.specs.TagName.{sequence, set, oid, printable_string, IsTag}
 use Rattle.rpki_der.specs.Header.{tlv}
@@ -11,7 +11,10 @@ use Rattle.rpki_der.proofs.EncodeLaws.{leaf-legal, tlv_at_most}
 use Rattle.rpki.specs.AlgorithmOctetsLaws.{oid-legal}
 use Rattle.rpki.specs.Oids.{common_name}
 use Rattle.rpki.specs.Name.{Attribute, attribute_of, IsAttribute, SpellsAttribute, SpellsSome, SpellsRelative, SpellsName}
-use Rattle.rpki.specs.StrictName.{IsPrintable, IsPrintableOrUtf8, IsKnown, IsStrict, attributes, IsRpkiName, IsRouterName}
+use Rattle.rpki.specs.NameTable.{Row, row_at, name_table}
+use Rattle.rpki.specs.StrictName.{has_identifier, count_of, IsPrintable, IsString, IsPermitted, IsStrict, attributes, rpki_strings, router_strings, IsRpkiName, IsRouterName}
+use Rattle.rpki.specs.declared.repository.x509.name.table.Strings.{Strings}
+use Rattle.rpki.proofs.InspectionLaws.{first-is-common}
 use Rattle.rpki.specs.SubjectName.{attribute_contents, subject_octets}
 use Rattle.rpki.proofs.NamedLaws.{plain-oid}
 use Rattle.rpki.proofs.SubjectLaws.{digits-short, attribute-short, name-short, set-short}
@@ -81,20 +84,26 @@ subject-spelled k size =
 digits-printable : (k : List ℕ) → length k ≡ 20 → are_printable (hex_text k) ≡ true → IsPrintable (digits_value k)
 digits-printable k size digits = (hex_text k, leaf-legal printable_string false IsPrintableText (hex_text k) (hex_text k) printable-legal (digits-short k size) (refl, digits))
 
-strict-subject : (P : List ℕ → Type 0) (k : List ℕ) → P (digits_value k) → IsStrict P (attributes (subject_parts k))
-strict-subject P k permitted = record {
+-- of one attribute there are not two
+one-at-most : (o : List ℕ) (a : Attribute) → count_of o (a ∷ []) ≤ 1
+one-at-most o a = at (has_identifier o a) refl
+  where
+    at : (b : Bool) → has_identifier o a ≡ b → count_of o (a ∷ []) ≤ 1
+    at true e = rw e (omega arith)
+    at false e = rw e (omega arith)
+
+strict-subject : (S : Row → Strings) (k : List ℕ) → IsString (S (row_at name_table 0)) (digits_value k) → IsStrict name_table S (attributes (subject_parts k))
+strict-subject S k permitted = record {
   common = refl;
-  serial = omega arith;
-  organization = omega arith;
-  known = All-from_recursion IsKnown (attribute_of common_name (digits_value k) ∷ []) (inl refl, tt);
-  strings = All-from_recursion (λ a. P a.value) (attribute_of common_name (digits_value k) ∷ []) (permitted, tt);
+  once = λ n below. one-at-most (row_at name_table n).identifier (attribute_of common_name (digits_value k));
+  permitted = All-from_recursion (IsPermitted name_table S) (attribute_of common_name (digits_value k) ∷ []) (record { number = 0; has = first-is-common; string = permitted }, tt);
 }
 
 pub subject-strict : (k : List ℕ) → length k ≡ 20 → are_printable (hex_text k) ≡ true → IsRpkiName (subject_octets k) × IsRouterName (subject_octets k)
 subject-strict k size digits =
     let permitted = digits-printable k size digits in (
-      (subject_parts k, subject-spelled k size, strict-subject IsPrintable k permitted),
-      (subject_parts k, subject-spelled k size, strict-subject IsPrintableOrUtf8 k (inl permitted)),
+      (subject_parts k, subject-spelled k size, strict-subject rpki_strings k permitted),
+      (subject_parts k, subject-spelled k size, strict-subject router_strings k (inl permitted)),
     )
 
 pub subject-fits : (k : List ℕ) → length k ≡ 20 → length (subject_octets k) < 2 ^ 63

@@ -1,20 +1,15 @@
 -- What an inspection of a name has seen, attribute by attribute.
-use Rattle.std.specs.Prelude.{◌≡◌, ℕ, Bool, List, cond}
+use Rattle.std.specs.Prelude.{◌≡◌, ◌<◌, ℕ, Bool, false, List, length, slice_index_or, cond}
 use Rattle.std.specs.List.{All}
-use Rattle.rpki.specs.Oids.{common_name, serial_number, organization_name}
 use Rattle.rpki.specs.Name.{Attribute}
-use Rattle.rpki.specs.StrictName.{count_of, IsKnown}
+use Rattle.rpki.specs.NameTable.{Row, row_at}
+use Rattle.rpki.specs.StrictName.{count_of, IsPermitted}
+use Rattle.rpki.specs.declared.repository.x509.name.table.Strings.{Strings}
 
--- whether there was a common name, a serial number, and an organization name
-pub record Findings : Type 0 where
-  pub common : Bool
-  pub serial : Bool
-  pub organization : Bool
-
--- in these attributes was what was found, and nothing that a strict name has not
-pub record IsFound (IsPermitted : List ℕ → Type 0) (x : Findings) (xs : List Attribute) : Type 0 where
-  pub common : count_of common_name xs ≡ cond x.common 1 0
-  pub serial : count_of serial_number xs ≡ cond x.serial 1 0
-  pub organization : count_of organization_name xs ≡ cond x.organization 1 0
-  pub known : All IsKnown xs
-  pub strings : All (λ a. IsPermitted a.value) xs
+-- Of these attributes the table permits each; of each row one was there if `found` says so at its number, and none
+-- else.
+pub record IsFound (table : List Row) (strings : Row → Strings) (found : List Bool) (xs : List Attribute) : Type 0
+  where
+    pub counted : (n : ℕ) → n < length table
+        → count_of (row_at table n).identifier xs ≡ cond (slice_index_or found n false) 1 0
+    pub permitted : All (IsPermitted table strings) xs

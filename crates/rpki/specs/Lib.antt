@@ -22,6 +22,7 @@ pub mod ExtensionValue
 pub mod ExtensionEqual
 pub mod Name
 pub mod NameValue
+pub mod NameTable
 pub mod StrictName
 pub mod StrictNameWithoutOrganization
 pub mod Findings

@@ -1,49 +1,69 @@
 -- Which rule of its profile a name breaks first, from the left (RFC 6487 4.4, RFC 8209 3.1.1).
-use Rattle.std.specs.Prelude.{◌≡◌, ◌⊎◌, ℕ, List, [], ◌∷◌, ◌++◌, codes}
-use Rattle.rpki.specs.Oids.{common_name, serial_number, organization_name}
+use Rattle.std.specs.Prelude.{◌≡◌, ◌⊎◌, ℕ, Bool, List, [], ◌∷◌, ◌++◌, codes}
+use Rattle.rpki.specs.Oids.{common_name}
 use Rattle.rpki.specs.Name.{Attribute}
-use Rattle.rpki.specs.StrictName.{count_of, IsKnown, IsNameOf, IsPrintable, IsPrintableOrUtf8}
-use Rattle.rpki.specs.Findings.{Findings, IsFound}
+use Rattle.rpki.specs.NameTable.{Row, row_at, HasRow, name_table}
+use Rattle.rpki.specs.StrictName.{count_of, IsString, IsNameOf, rpki_strings, router_strings}
+use Rattle.rpki.specs.Findings.{IsFound}
+use Rattle.rpki.specs.declared.repository.x509.name.table.Strings.{Strings}
 use Rattle.rpki.specs.declared.repository.x509.name.rule.NameRule.{NameRule}
 use Rattle.rpki.specs.declared.repository.x509.name.rule.NameRule.TheVariants.{MissingCommonName, SecondCommonName, SecondSerialNumber, SecondOrganizationName, OtherString, OtherAttribute}
 
 -- no rule is broken by these attributes, unless by what they lack
-abbrev pub AreFine : (List ℕ → Type 0) → List Attribute → Type 0
-AreFine P xs = (x : Findings) × IsFound P x xs
+abbrev pub AreFine : List Row → (Row → Strings) → List Attribute → Type 0
+AreFine table strings xs = (found : List Bool) × IsFound table strings found xs
+
+-- the attribute is the second of its row
+pub record IsSecond (table : List Row) (rule : NameRule) (before : List Attribute) (a : Attribute) : Type 0 where
+  pub number : ℕ
+  pub has : HasRow table number a.identifier
+  pub rule_is : rule ≡ (row_at table number).second
+  pub seen : count_of a.identifier before ≡ 1
+
+-- it is the first of its row, and its value is no string that the row permits
+pub record HasOtherString (table : List Row) (strings : Row → Strings) (rule : NameRule) (before : List Attribute)
+    (a : Attribute) : Type 0 where
+  pub number : ℕ
+  pub has : HasRow table number a.identifier
+  pub rule_is : rule ≡ OtherString
+  pub first : count_of a.identifier before ≡ 0
+  pub other : IsString (strings (row_at table number)) a.value → ⊥
+
+-- it has no row
+pub record HasNoRow (table : List Row) (rule : NameRule) (a : Attribute) : Type 0 where
+  pub rule_is : rule ≡ OtherAttribute
+  pub none : (n : ℕ) → HasRow table n a.identifier → ⊥
 
 -- this attribute breaks the rule, after attributes that break none
-abbrev pub BreaksAt : (List ℕ → Type 0) → NameRule → List Attribute → Attribute → Type 0
-BreaksAt P MissingCommonName before a = ⊥
-BreaksAt P SecondCommonName before a = (count_of common_name before ≡ 1) × (a.identifier ≡ common_name)
-BreaksAt P SecondSerialNumber before a = (count_of serial_number before ≡ 1) × (a.identifier ≡ serial_number)
-BreaksAt P SecondOrganizationName before a =
-    (count_of organization_name before ≡ 1) × (a.identifier ≡ organization_name)
-BreaksAt P OtherString before a = IsKnown a × (count_of a.identifier before ≡ 0) × (P a.value → ⊥)
-BreaksAt P OtherAttribute before a = IsKnown a → ⊥
+abbrev pub BreaksAt : List Row → (Row → Strings) → NameRule → List Attribute → Attribute → Type 0
+BreaksAt table strings rule before a =
+    IsSecond table rule before a ⊎ HasOtherString table strings rule before a ⊎ HasNoRow table rule a
 
 -- the first attribute that breaks a rule breaks this one
-pub record FirstBreaks (P : List ℕ → Type 0) (rule : NameRule) (xs : List Attribute) : Type 0 where
-  pub before : List Attribute
-  pub attribute : Attribute
-  pub after : List Attribute
-  pub parts : xs ≡ (before ++ attribute ∷ []) ++ after
-  pub fine : AreFine P before
-  pub broken : BreaksAt P rule before attribute
+pub record FirstBreaks (table : List Row) (strings : Row → Strings) (rule : NameRule) (xs : List Attribute) : Type 0
+  where
+    pub before : List Attribute
+    pub attribute : Attribute
+    pub after : List Attribute
+    pub parts : xs ≡ (before ++ attribute ∷ []) ++ after
+    pub fine : AreFine table strings before
+    pub broken : BreaksAt table strings rule before attribute
 
 -- the attributes lack a common name, and break no rule beside that
-abbrev pub LackCommonName : (List ℕ → Type 0) → List Attribute → Type 0
-LackCommonName P xs = AreFine P xs × (count_of common_name xs ≡ 0)
+abbrev pub LackCommonName : List Row → (Row → Strings) → List Attribute → Type 0
+LackCommonName table strings xs = AreFine table strings xs × (count_of common_name xs ≡ 0)
 
 -- the rule that the attributes of a name break first
-abbrev pub BreaksRule : (List ℕ → Type 0) → NameRule → List Attribute → Type 0
-BreaksRule P rule xs = FirstBreaks P rule xs ⊎ ((rule ≡ MissingCommonName) × LackCommonName P xs)
+abbrev pub BreaksRule : List Row → (Row → Strings) → NameRule → List Attribute → Type 0
+BreaksRule table strings rule xs =
+    FirstBreaks table strings rule xs ⊎ ((rule ≡ MissingCommonName) × LackCommonName table strings xs)
 
 -- a name that breaks the rule first, of those of the RPKI and of those of routers
 abbrev pub BreaksRpkiRule : NameRule → List ℕ → Type 0
-BreaksRpkiRule rule = IsNameOf (BreaksRule IsPrintable rule)
+BreaksRpkiRule rule = IsNameOf (BreaksRule name_table rpki_strings rule)
 
 abbrev pub BreaksRouterRule : NameRule → List ℕ → Type 0
-BreaksRouterRule rule = IsNameOf (BreaksRule IsPrintableOrUtf8 rule)
+BreaksRouterRule rule = IsNameOf (BreaksRule name_table router_strings rule)
 
 -- the texts of the errors
 abbrev pub rpki_text : NameRule → List ℕ

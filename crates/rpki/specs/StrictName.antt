@@ -1,13 +1,16 @@
 -- Names as certificates of the RPKI and of its routers have them (RFC 6487 4.4, RFC 8209 3.1.1); an organization name
 -- is permitted beside what these documents name.
-use Rattle.std.specs.Prelude.{◌≡◌, ◌≤◌, ◌⊎◌, ℕ, Bool, false, List, nat_eq}
+use Rattle.std.specs.Prelude.{◌≡◌, ◌<◌, ◌≤◌, ◌⊎◌, ℕ, Bool, false, List, length, nat_eq}
 use Rattle.std.specs.List.{All, count_by, flat_map}
 use Rattle.std.specs.Cmp.Lexicographic.{pointwise}
 use Rattle.rpki_der.specs.TagName.{printable_string, utf8_string}
 use Rattle.rpki_der.specs.Values.{SpellsLeaf}
 use Rattle.rpki_der.specs.Text.{IsPrintableText, IsUtf8Text}
-use Rattle.rpki.specs.Oids.{common_name, serial_number, organization_name}
+use Rattle.rpki.specs.Oids.{common_name}
 use Rattle.rpki.specs.Name.{Attribute, SpellsName}
+use Rattle.rpki.specs.NameTable.{Row, row_at, HasRow, name_table}
+use Rattle.rpki.specs.declared.repository.x509.name.table.Strings.{Strings}
+use Rattle.rpki.specs.declared.repository.x509.name.table.Strings.TheVariants.{Printable, PrintableOrUtf8}
 
 -- the attribute has this identifier
 abbrev pub has_identifier : List ℕ → Attribute → Bool
@@ -16,10 +19,6 @@ has_identifier identifier a = pointwise nat_eq a.identifier identifier
 -- how many of the attributes have it
 abbrev pub count_of : List ℕ → List Attribute → ℕ
 count_of identifier xs = count_by (has_identifier identifier) xs
-
--- common name, serial number or organization name
-abbrev pub IsKnown : Attribute → Type 0
-IsKnown a = (a.identifier ≡ common_name) ⊎ (a.identifier ≡ serial_number) ⊎ (a.identifier ≡ organization_name)
 
 -- a PrintableString
 abbrev pub IsPrintable : List ℕ → Type 0
@@ -33,14 +32,22 @@ IsUtf8String value = (text : List ℕ) × SpellsLeaf utf8_string false IsUtf8Tex
 abbrev pub IsPrintableOrUtf8 : List ℕ → Type 0
 IsPrintableOrUtf8 value = IsPrintable value ⊎ IsUtf8String value
 
--- one common name, at most one serial number, at most one organization name, and nothing else; and each value is a
--- permitted string
-pub record IsStrict (IsPermitted : List ℕ → Type 0) (xs : List Attribute) : Type 0 where
+-- a string of this kind
+abbrev pub IsString : Strings → List ℕ → Type 0
+IsString Printable = IsPrintable
+IsString PrintableOrUtf8 = IsPrintableOrUtf8
+
+-- the attribute has a row in the table, and its value is a string that the row permits
+pub record IsPermitted (table : List Row) (strings : Row → Strings) (a : Attribute) : Type 0 where
+  pub number : ℕ
+  pub has : HasRow table number a.identifier
+  pub string : IsString (strings (row_at table number)) a.value
+
+-- one common name, none of the table's attributes twice, and no attribute that the table does not permit
+pub record IsStrict (table : List Row) (strings : Row → Strings) (xs : List Attribute) : Type 0 where
   pub common : count_of common_name xs ≡ 1
-  pub serial : count_of serial_number xs ≤ 1
-  pub organization : count_of organization_name xs ≤ 1
-  pub known : All IsKnown xs
-  pub strings : All (λ a. IsPermitted a.value) xs
+  pub once : (n : ℕ) → n < length table → count_of (row_at table n).identifier xs ≤ 1
+  pub permitted : All (IsPermitted table strings) xs
 
 -- the attributes of a name, in order
 abbrev pub attributes : List (List Attribute) → List Attribute
@@ -50,10 +57,17 @@ attributes parts = flat_map (λ x. x) parts
 abbrev pub IsNameOf : (List Attribute → Type 0) → List ℕ → Type 0
 IsNameOf P octets = (parts : List (List Attribute)) × SpellsName parts octets × P (attributes parts)
 
--- a name of the RPKI: its strings are PrintableStrings
-abbrev pub IsRpkiName : List ℕ → Type 0
-IsRpkiName = IsNameOf (IsStrict IsPrintable)
+-- the strings of names of the RPKI, and of names of routers
+abbrev pub rpki_strings : Row → Strings
+rpki_strings r = r.rpki
 
--- a name of a router: its strings are PrintableStrings or UTF8Strings
+abbrev pub router_strings : Row → Strings
+router_strings r = r.router
+
+-- a name of the RPKI
+abbrev pub IsRpkiName : List ℕ → Type 0
+IsRpkiName = IsNameOf (IsStrict name_table rpki_strings)
+
+-- a name of a router
 abbrev pub IsRouterName : List ℕ → Type 0
-IsRouterName = IsNameOf (IsStrict IsPrintableOrUtf8)
+IsRouterName = IsNameOf (IsStrict name_table router_strings)

@@ -19,6 +19,7 @@ ghost use Rattle.rpki.specs.StrictNameWithoutOrganization.{IsRpkiNameWithoutOrga
 mod grammar;
 mod inspection;
 mod rule;
+mod table;
 
 use self::grammar::skip_name;
 use self::inspection::Profile;

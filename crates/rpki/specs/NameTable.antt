@@ -1,0 +1,41 @@
+-- Tables of the attributes that names may have. A table is a list of rows; the number of a row is its place there.
+use Rattle.std.specs.Prelude.{◌≡◌, ◌<◌, ℕ, List, [], ◌∷◌, ◌++◌, length, slice_index_or}
+use Rattle.rpki.specs.Oids.{common_name, serial_number, organization_name}
+use Rattle.rpki.specs.declared.repository.x509.name.rule.NameRule.{NameRule}
+use Rattle.rpki.specs.declared.repository.x509.name.rule.NameRule.TheVariants.{SecondCommonName, SecondSerialNumber, SecondOrganizationName}
+use Rattle.rpki.specs.declared.repository.x509.name.table.Strings.{Strings}
+use Rattle.rpki.specs.declared.repository.x509.name.table.Strings.TheVariants.{Printable, PrintableOrUtf8}
+
+-- an attribute that names may have, once at most: the contents of its identifier, its strings in a name of the RPKI and
+-- in one of a router, and the rule that a second one breaks
+pub record Row : Type 0 where
+  pub identifier : List ℕ
+  pub rpki : Strings
+  pub router : Strings
+  pub second : NameRule
+
+abbrev pub row : List ℕ → Strings → Strings → NameRule → Row
+row identifier rpki router second = record { identifier = identifier; rpki = rpki; router = router; second = second }
+
+-- the row of this number, where the table has one
+abbrev pub row_at : List Row → ℕ → Row
+row_at table n = slice_index_or table n (row [] Printable Printable SecondCommonName)
+
+-- the row of this number is that of the identifier
+pub record HasRow (table : List Row) (n : ℕ) (identifier : List ℕ) : Type 0 where
+  pub below : n < length table
+  pub same : (row_at table n).identifier ≡ identifier
+
+-- the attributes that RFC 6487 4.4 and RFC 8209 3.1.1 name
+abbrev pub table_without_organization : List Row
+table_without_organization =
+    row common_name Printable PrintableOrUtf8 SecondCommonName
+    ∷ row serial_number Printable PrintableOrUtf8 SecondSerialNumber ∷ []
+
+-- the attribute that is permitted beside them
+abbrev pub organization_row : Row
+organization_row = row organization_name Printable PrintableOrUtf8 SecondOrganizationName
+
+-- the attributes that names may have
+abbrev pub name_table : List Row
+name_table = table_without_organization ++ organization_row ∷ []
