@@ -1,25 +1,25 @@
 -- The errors of names: where allocation may fail, and where there is no SEQUENCE.
-use Rattle.std.proofs.Common.{◌≡◌, inl, inr, ℕ, true, false, List, [], ◌∷◌, ◌++◌, refl, sym, ap, subst, ◌∙◌, append_assoc}
+use Rattle.std.proofs.Common.{◌≡◌, ◌⊎◌, inl, inr, ℕ, true, false, List, [], ◌∷◌, ◌++◌, refl, sym, ap, ◌∙◌, append_assoc, Result}
 use Rattle.rpki_der.specs.declared.error.DecodeError.{DecodeError}
 use Rattle.rpki_der.specs.declared.error.DecodeError.TheVariants.{Truncated, BadTag, BadLength, Unexpected, Content, Trailing, OutOfMemory}
 use Rattle.rpki_der.specs.TagName.{TagName, oid, sequence, set}
-use Rattle.rpki_der.specs.Reading.{Accepts, Refusal, UnlessMemory, OrMemoryWhere}
+use Rattle.rpki_der.specs.Reading.{Accepts, Reads, Finds, OrMemoryWhere}
 use Rattle.rpki_der.specs.Values.{SpellsLeaf, GivesOuterFault}
 use Rattle.rpki_der.specs.Leaves.{IsOidOf}
-use Rattle.rpki_der.specs.Members.{SpellsValue}
-use Rattle.rpki_der.specs.Walk.{HasEither}
+use Rattle.rpki_der.specs.Members.{IsValueList}
+use Rattle.rpki_der.specs.Capture.{SpellsKept, IsCapturedFault}
 use Rattle.rpki_der.specs.Inside.{HasInside}
 use Rattle.rpki_der.specs.FirstFault.{RepeatedFault, IsInsideFault}
 use Rattle.rpki_der.specs.FirstFault.FirstFault.{AtPart, Later}
 use Rattle.rpki_der.specs.FirstFault.RepeatedFault.{AtMember, AfterMember}
-use Rattle.rpki_der.proofs.ReadingLaws.{UnlessMemory-weaker}
 use Rattle.rpki_der.proofs.LeavesLaws.{leaf-no-memory, contents-no-memory}
-use Rattle.rpki_der.proofs.FirstFaultLaws.{memory-where, end-no-memory, inside-outer}
-use Rattle.rpki.specs.Name.{IsAttribute, SpellsSome, SpellsAttribute, SpellsRelative, SpellsNameOctets}
+use Rattle.rpki_der.proofs.CaptureLaws.{reads-as, or-memory-from}
+use Rattle.rpki_der.proofs.FirstFaultLaws.{end-no-memory, inside-outer}
+use Rattle.rpki.specs.Name.{IsAttribute, SpellsSome, SpellsAttribute, SpellsRelative, IsName, SpellsNameOctets}
 use Rattle.rpki.specs.AnyValue.{SpellsAny}
 use Rattle.rpki.specs.NameValue.{HasAfter, IdentifiesValue, HasAttributeValue, HasRelativeValue, HasNameValue}
 use Rattle.rpki.specs.NameFault.{IsAttributePartsFault, IsAttributeFault, IsAttributesFault, IsRelativeFault, IsRelativesFault, IsWalkedNameFault, IsNameFault}
-use Rattle.rpki.proofs.NameLaws.{Passed, AnyName, any-leaf, octets-any, octets-value, any-captured, name-found, identified}
+use Rattle.rpki.proofs.NameLaws.{Passed, AnyName, any-leaf, leaf-any, name-of, name-value, name-found, identified}
 use Rattle.rpki.proofs.NameLaws.Passed.{Here, Next}
 
 -- ---- the loop of a reader of many parts
@@ -74,31 +74,25 @@ name-memory s = inside-memory sequence IsRelativesFault (HasAfter SpellsRelative
 
 -- ---- a name, captured
 
-pub name-refused : (s r : List ℕ) (e : DecodeError) → Refusal AnyName IsWalkedNameFault s r e → Refusal SpellsNameOctets IsNameFault s s e
-name-refused s r e h = record {
-  unchanged = refl;
-  refuses = UnlessMemory-weaker e (λ none v q k. none tt q (octets-any s v q k)) h.refuses;
-  kind = memory-where HasNameValue IsWalkedNameFault s e (λ z. name-memory s (subst (IsWalkedNameFault s) z h.kind)) h.kind;
-}
+octets-of : (v p : List ℕ) → SpellsKept AnyName v p → SpellsNameOctets v p
+octets-of v p h = record { same = h.same; named = name-of v h.spelled }
 
-memory-only : (P : List ℕ → Type 0) (K : List ℕ → DecodeError → Type 0) (s : List ℕ) (e : DecodeError) → UnlessMemory e ⊥ → P s → OrMemoryWhere P K s e
-memory-only P K s Truncated h p = absurd h
-memory-only P K s BadTag h p = absurd h
-memory-only P K s BadLength h p = absurd h
-memory-only P K s Unexpected h p = absurd h
-memory-only P K s (Content x) h p = absurd h
-memory-only P K s Trailing h p = absurd h
-memory-only P K s OutOfMemory h p = p
+any-of : (v p : List ℕ) → SpellsNameOctets v p → SpellsKept AnyName v p
+any-of v p h = record { same = h.same; value = tt; spelled = leaf-any sequence true (SpellsSome SpellsRelative) h.named.0 v h.named.1 }
 
-pub name-uncaptured : (K : List ℕ → DecodeError → Type 0) (s r q : List ℕ) (e : DecodeError) → Accepts AnyName s tt r → Refusal SpellsValue (OrMemoryWhere HasEither K) s q e
-    → Refusal SpellsNameOctets IsNameFault s q e
-name-uncaptured K s r q e a h = record {
-  unchanged = h.unchanged;
-  refuses = UnlessMemory-weaker e (λ none v p k. none v p (octets-value s v p k)) h.refuses;
-  kind =
-      let g = any-captured s r a.spells in
-      memory-only HasNameValue IsWalkedNameFault s e (UnlessMemory-weaker e (λ none. none g.0 r g.1) h.refuses) (name-found s r a.spells);
-}
+pub name-values : (u : Unit {0}) (p : List ℕ) → AnyName u p → IsValueList p
+name-values u p h = let g = name-of p h in (1, name-value g.0 p g.1)
+
+pub name-kept : (s r : List ℕ) (x : Result (List ℕ) DecodeError) → Reads (λ c. c) (SpellsKept AnyName) (IsCapturedFault AnyName IsWalkedNameFault) s r x → Reads (λ n. n) SpellsNameOctets IsNameFault s r x
+name-kept s r x h =
+    reads-as (λ n. n) (SpellsKept AnyName) SpellsNameOctets (IsCapturedFault AnyName IsWalkedNameFault) IsNameFault s r x octets-of any-of
+    (λ e. or-memory-from (λ q. IsWalkedNameFault q OutOfMemory ⊎ Finds AnyName q) HasNameValue IsWalkedNameFault s e (λ m. elim m [
+      | inl k ↦ name-memory s k
+      | inr k ↦ name-found s k.1 k.2
+    ])) h
+
+pub kept-named : (s r c : List ℕ) → Accepts (SpellsKept AnyName) s c r → IsName c
+kept-named s r c h = (octets-of c h.spells.front h.spells.spelled).named
 
 -- ---- the error of the SEQUENCE, where that isn't there
 

@@ -5,14 +5,14 @@ use Rattle.rpki_der.specs.TagName.{TagName, sequence, set, oid}
 use Rattle.rpki_der.specs.Reading.{Spells, Accepts, Refuses, SpellsNothing}
 use Rattle.rpki_der.specs.Values.{SpellsContents, SpellsLeaf}
 use Rattle.rpki_der.specs.Leaves.{IsOidOf}
-use Rattle.rpki_der.specs.Members.{IsValue, IsValueList, SpellsValue}
+use Rattle.rpki_der.specs.Members.{IsValue, IsValueList}
 use Rattle.rpki_der.proofs.MembersLaws.{value-some}
 use Rattle.rpki_der.specs.Walk.{SpellsAnyValue}
 use Rattle.rpki_der.specs.ValueListLaws.{values_append, no_values}
 use Rattle.rpki_der.proofs.EncodeLaws.{tlv-at-least}
 use Rattle.rpki_der.proofs.LeafValueLaws.{leaf-value-alone, composed-value-alone}
 use Rattle.rpki_der.proofs.LeavesLaws.{leaf-value}
-use Rattle.rpki.specs.Name.{Attribute, attribute_of, IsIdentifierThen, IsAttribute, SpellsAttribute, SpellsEach, SpellsSome, SpellsRelative, SpellsName, IsName, SpellsNameOctets}
+use Rattle.rpki.specs.Name.{Attribute, attribute_of, IsIdentifierThen, IsAttribute, SpellsAttribute, SpellsEach, SpellsSome, SpellsRelative, SpellsName, IsName}
 use Rattle.rpki.specs.AnyValue.{SpellsAny}
 use Rattle.rpki.specs.NameValue.{HasAfter, HasAttributeValue, HasRelativeValue, HasNameValue}
 use Rattle.rpki.proofs.MemoryLaws.{value-either}
@@ -177,28 +177,8 @@ name-value parts p h = composed-value-alone sequence (SpellsSome SpellsRelative)
 abbrev pub AnyName : Unit {0} → List ℕ → Type 0
 AnyName = SpellsLeaf sequence true (SpellsAny (SpellsSome SpellsRelative))
 
-name-of : (p : List ℕ) → AnyName tt p → IsName p
+pub name-of : (p : List ℕ) → AnyName tt p → IsName p
 name-of p h = any-leaf sequence true (SpellsSome SpellsRelative) p h
-
-pub octets-any : (s v r : List ℕ) → Spells SpellsNameOctets s v r → Spells AnyName s tt r
-octets-any s v r h =
-    let g = h.spelled.named in
-    record { front = h.front; parts = h.parts; spelled = rw h.spelled.same (leaf-any sequence true (SpellsSome SpellsRelative) g.0 v g.1) }
-
-pub octets-value : (s v r : List ℕ) → Spells SpellsNameOctets s v r → Spells SpellsValue s v r
-octets-value s v r h = let g = h.spelled.named in record { front = h.front; parts = h.parts; spelled = record { same = h.spelled.same; value = name-value g.0 v g.1 } }
-
-pub any-captured : (s r : List ℕ) → Spells AnyName s tt r → (v : List ℕ) × Spells SpellsValue s v r × IsName v
-any-captured s r h = let g = name-of h.front h.spelled in (h.front, record { front = h.front; parts = h.parts; spelled = record { same = refl; value = name-value g.0 h.front g.1 } }, g)
-
-pub captured-name : (s r v q : List ℕ) → Accepts AnyName s tt r → Accepts SpellsValue s v q → IsName v
-captured-name s r v q a b = let g = any-captured s r a.spells in subst IsName (b.only g.0 r g.1).0 g.2
-
-pub name-captured : (s r v q : List ℕ) → Accepts AnyName s tt r → Accepts SpellsValue s v q → Accepts SpellsNameOctets s v q
-name-captured s r v q a b = record {
-  spells = record { front = b.spells.front; parts = b.spells.parts; spelled = record { same = b.spells.spelled.same; named = captured-name s r v q a b } };
-  only = λ w p h. b.only w p (octets-value s w p h);
-}
 
 -- a name has an attribute, which has a value
 

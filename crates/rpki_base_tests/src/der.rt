@@ -1,5 +1,6 @@
 //! Worked cases: expected octets and errors come from X.690 and from worked examples.
 
+mod capture;
 mod composed;
 mod contents;
 mod encoders;

@@ -496,6 +496,49 @@ enum Written {
     Period(Parts, Parts),
 }
 
+/// What the reader of whole octets returns.
+fn read_whole(reader: Reader, octets: &[u8]) -> Found {
+    match reader {
+        Reader::Serial => match Serial::decode(octets) {
+            Ok(serial) => Found::Serial(serial.into_array()),
+            Err(e) => refusal(&e),
+        },
+        Reader::Time | Reader::OptionalTime => match Time::decode(octets) {
+            Ok(time) => Found::Time(parts_of(time)),
+            Err(e) => refusal(&e),
+        },
+        Reader::Period => match Validity::decode(octets) {
+            Ok(period) => Found::Period(
+                parts_of(period.not_before()),
+                parts_of(period.not_after()),
+            ),
+            Err(e) => refusal(&e),
+        },
+    }
+}
+
+/// What a reader of whole octets returns where a reader of their beginning returns this and leaves so many.
+fn of_whole(found: Found, left: usize) -> Found {
+    match found {
+        Found::Serial(_) | Found::Time(_) | Found::Period(_, _) if left > 0 => Found::Refused(
+            Kind::Trailing,
+        ),
+        _ => found,
+    }
+}
+
+#[test]
+fn whole_values_are_read(rt: HostRuntime) {
+    for (name, reader, octets, (found, left)) in read_rows() {
+        if *found != Found::Nothing {
+            assert!(rt;
+                read_whole(*reader, octets) == of_whole(*found, *left),
+                "{name}"
+            );
+        }
+    }
+}
+
 /// Captures values that fit, and writes them to the writer too.
 fn put<V: Values>(alloc: Global, out: &mut FailsOnce, values: &V) -> io::Result<Captured> {
     if !values.fits() {

@@ -62,6 +62,8 @@ pub mod FrontLaws
 pub mod FirstFaultLaws
 pub mod HashLaws
 pub mod EachLaws
+pub mod ListFaultLaws
+pub mod CaptureLaws
 pub mod PartsLaws
 mod SomeFaultLaws
 mod ShortestLaws

@@ -29,7 +29,7 @@ pub Refusal-weaker : {V W : Type 0} {G : V → List ℕ → Type 0} {H : W → L
     → (Refuses G s → Refuses H s) → (K s e → L s e) → Refusal G K s r e → Refusal H L s r e
 Refusal-weaker {e = e} f g h = record { unchanged = h.unchanged; refuses = UnlessMemory-weaker e f h.refuses; kind = g h.kind }
 
-or-memory-where : (P : List ℕ → Type 0) (K : List ℕ → DecodeError → Type 0) (s : List ℕ) (e : DecodeError) → (K s OutOfMemory → P s) → K s e → OrMemoryWhere P K s e
+pub or-memory-where : (P : List ℕ → Type 0) (K : List ℕ → DecodeError → Type 0) (s : List ℕ) (e : DecodeError) → (K s OutOfMemory → P s) → K s e → OrMemoryWhere P K s e
 or-memory-where P K s Truncated f h = h
 or-memory-where P K s BadTag f h = h
 or-memory-where P K s BadLength f h = h

@@ -38,6 +38,7 @@ pub mod Inside
 pub mod Composed
 pub mod FirstFault
 pub mod Each
+pub mod Capture
 pub mod Parts
 pub mod DefaultFalse
 -- Lemmas, which the prover checks: ghost items of impls cite them.

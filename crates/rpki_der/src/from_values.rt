@@ -1,10 +1,12 @@
 //! Captured values from encoders.
 
-ghost use Rattle.std.specs.Prelude.{◌≡◌, ◌<◌, ◌^◌, length, IfOk};
+ghost use Rattle.std.specs.Prelude.{◌≡◌, ◌<◌, ◌^◌, length, IfOk, IfErr};
+ghost use Rattle.rpki_der.specs.Members.{IsValueList};
 ghost use Rattle.rpki_der.specs.Index.{IsIndex};
 
 use crate::captured::Captured;
 use crate::encode::Values;
+use crate::error::DecodeError;
 use crate::index::HeaderEntry;
 use crate::tag::Steps;
 use crate::walk::walk_value;
@@ -24,15 +26,19 @@ impl Captured {
             Ok(()) => {}
             Err(_) => return Err(AllocError),
         }
-        let index = index_values(alloc, &octets)?;
+        let index = match index_values(alloc, &octets) {
+            Ok(index) => index,
+            Err(_) => return Err(AllocError),
+        };
         Ok(Captured::of_index(Bytes::from_vec(octets)?, index))
     }
 }
 
-/// The index of octets that are values. Returns `AllocError` if allocation fails.
-fn index_values(alloc: Global, octets: &[u8]) -> Result<Vec<HeaderEntry>, AllocError>
+/// The index of octets that are values. Of values the one error is `OutOfMemory`, if allocation fails.
+pub(crate) fn index_values(alloc: Global, octets: &[u8]) -> Result<Vec<HeaderEntry>, DecodeError>
     requires { length octets.now < 2 ^ 63 }
-    ensures { IfOk result (λ index. IsIndex octets.now index.items) }
+    ensures index { IfOk result (λ index. IsIndex octets.now index.items) }
+    ensures refused { IfErr result (λ e. IsValueList octets.now → e ≡ DecodeError.OutOfMemory) }
 {
     let mut index = Vec::new(alloc);
     let mut place = 0;
@@ -46,7 +52,7 @@ fn index_values(alloc: Global, octets: &[u8]) -> Result<Vec<HeaderEntry>, AllocE
             &mut Steps::new(),
         ) {
             Ok(size) => place += size,
-            Err(_) => return Err(AllocError),
+            Err(e) => return Err(e),
         }
     }
     Ok(index)

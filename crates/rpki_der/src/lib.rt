@@ -8,6 +8,7 @@
 #![tactic(auto)]
 
 mod bit_string;
+mod capture;
 mod captured;
 mod composed;
 mod contents;

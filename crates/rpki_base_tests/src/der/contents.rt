@@ -309,26 +309,36 @@ fn printable_characters(rt: HostRuntime) -> Result<(), Fail> {
     Ok(())
 }
 
-fn numbered() -> [(DecodeError, u8); 7] {
+fn errors() -> [(DecodeError, u8, &'static str); 7] {
     [
-        (DecodeError::Truncated, 1),
-        (DecodeError::BadTag, 2),
-        (DecodeError::BadLength, 3),
-        (DecodeError::Unexpected, 4),
+        (DecodeError::Truncated, 1, "truncated value"),
+        (DecodeError::BadTag, 2, "malformed tag"),
+        (DecodeError::BadLength, 3, "malformed length"),
+        (DecodeError::Unexpected, 4, "unexpected value"),
         (
-            DecodeError::Content(ContentError::from_static("malformed time value")),
+            DecodeError::content("malformed time value"),
             5,
+            "malformed time value",
         ),
-        (DecodeError::Trailing, 6),
-        (DecodeError::OutOfMemory, 7),
+        (DecodeError::Trailing, 6, "trailing data"),
+        (DecodeError::OutOfMemory, 7, "out of memory"),
     ]
 }
 
+fn told(alloc: Global, error: DecodeError) -> Result<String, Fail> {
+    Ok(format!(in alloc; "{error}")?)
+}
+
 #[test]
-fn refusals_have_numbers(rt: HostRuntime) {
-    for (refusal, number) in numbered() {
-        assert!(rt; refusal.number() == number, "{number}");
+fn errors_have_numbers_and_texts(rt: HostRuntime) -> Result<(), Fail> {
+    for (error, number, text) in errors() {
+        assert!(rt; error.number() == number, "{text}");
+        let words = told(rt.alloc(), error)?;
+        assert!(rt; words.as_str() == text, "{text}");
+        let inner = shown(rt.alloc(), ContentError::from(error))?;
+        assert!(rt; inner.as_str() == text, "{text}");
     }
+    Ok(())
 }
 
 #[test]
@@ -336,19 +346,12 @@ fn errors_are_kept(rt: HostRuntime) {
     let inner = ContentError::from_static("malformed time value");
     let kept = ContentError::from(DecodeError::Content(inner));
     assert!(rt; kept == inner);
+    assert!(rt; DecodeError::content("malformed time value") == DecodeError::Content(inner));
     assert!(rt; inner != ContentError::from_static("malformed"));
 }
 
 fn shown(alloc: Global, error: ContentError) -> Result<String, Fail> {
     Ok(format!(in alloc; "{error}")?)
-}
-
-#[test]
-fn errors_of_content_have_texts(rt: HostRuntime) -> Result<(), Fail> {
-    let inner = ContentError::from_static("malformed time value");
-    let text = shown(rt.alloc(), ContentError::from(DecodeError::Content(inner)))?;
-    assert!(rt; text.as_str() == "malformed time value");
-    Ok(())
 }
 
 #[test]

@@ -184,6 +184,15 @@ fn extensions_are_read(rt: HostRuntime) -> Result<(), Fail> {
     Ok(())
 }
 
+#[test]
+fn whole_extensions_are_read(rt: HostRuntime) -> Result<(), Fail> {
+    for row in &READ {
+        let extension = CertExtension::decode(rt.alloc(), Bytes::from_static(row.octets))?;
+        assert!(rt; is_read(rt.alloc(), &extension, row), "{}", row.name);
+    }
+    Ok(())
+}
+
 /// A copy of the extension that these octets begin with.
 fn copy_of(alloc: Global, octets: &'static [u8]) -> Result<CertExtension, DecodeError> {
     Ok(extension_of(alloc, octets)?.clone()?)

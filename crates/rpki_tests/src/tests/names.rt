@@ -1,6 +1,6 @@
 //! Names, and their inspections.
 
-use super::written;
+use super::{Outcome, outcome_of, written};
 use bytes::Bytes;
 use rpki::repository::error::InspectionError;
 use rpki::repository::x509::*;
@@ -358,4 +358,41 @@ fn names_are_read_one_by_one(rt: HostRuntime) -> Result<(), Fail> {
     }
     assert_eq!(rt; cons.rest(), [0x05, 0x00].as_slice());
     Ok(())
+}
+
+/// A name, the octets, how a reader of whole octets ends on them, and how many octets are left behind a name.
+const WHOLE: [(&str, &[u8], Outcome, usize); 4] = [
+    ("a name", &NAME, Outcome::Read, 0),
+    (
+        "a name, and a NULL",
+        &[
+            0x30, 0x0c, 0x31, 0x0a, 0x30, 0x08, 0x06, 0x03, 0x55, 0x04, 0x03, 0x13, 0x01, 0x41,
+            0x05, 0x00,
+        ],
+        Outcome::Trailing,
+        2,
+    ),
+    ("an empty name", &[0x30, 0x00], Outcome::Content, 2),
+    (
+        "a name cut short",
+        &[0x30, 0x0c, 0x31, 0x0a, 0x30],
+        Outcome::Truncated,
+        5,
+    ),
+];
+
+/// How the reader of whole octets ends, and how many octets are left behind a name.
+fn whole(alloc: Global, octets: &'static [u8]) -> (Outcome, usize) {
+    let mut cons = Constructed::from_slice(octets);
+    // The name is kept by the other reader: here only the place of the cursor tells.
+    let _ = Name::skip_in(alloc, &mut cons);
+    let outcome = outcome_of(Name::decode(alloc, Bytes::from_static(octets)));
+    (outcome, cons.rest().len())
+}
+
+#[test]
+fn whole_names_are_read(rt: HostRuntime) {
+    for (name, octets, expected, left) in WHOLE {
+        assert_eq!(rt; whole(rt.alloc(), octets), (expected, left), "{name}");
+    }
 }

@@ -85,9 +85,7 @@ impl Name {
     pub fn take_from(alloc: Global, cons: &mut Constructed<'_>) -> Result<Name, DecodeError>
         ensures { Reads (λ n. n) SpellsNameOctets IsNameFault (left cons.old) (left cons.new) result }
     {
-        let mut after = *cons;
-        skip_name(alloc, &mut after)?;
-        let captured = cons.capture_one(alloc)?;
+        let captured = cons.capture(alloc, |cons| skip_name(alloc, cons))?;
         Ok(Name { captured })
     }
 

@@ -1,7 +1,9 @@
-use Rattle.std.proofs.Common.{◌≡◌, ◌-◌, ℕ, List, refl, arith, take, drop, length, length-drop}
+use Rattle.std.proofs.Common.{inl, inr, subst, ◌≡◌, ◌-◌, ℕ, List, refl, arith, take, drop, length, length-drop}
 use Rattle.std.proofs.lemmas.List.{length-take-le, take_all}
+use Rattle.rpki_der.specs.NestedFault.{IsNestedFault}
 use Rattle.rpki_der.proofs.MembersLaws.{value-some}
 use Rattle.rpki_der.proofs.IndexLaws.{indexed-rest}
+use Rattle.rpki_der.proofs.ListFaultLaws.{no-list}
 use Rattle.rpki_der.proofs.from_values.index_values.Goals as goal
 
 pub values-smaller : goal.values-smaller
@@ -16,3 +18,13 @@ values-preserved c =
     let rest : take (length c.args.octets.now - c.values.place) (drop c.values.place c.args.octets.now) ≡ drop c.values.place c.args.octets.now =
     take_all (length c.args.octets.now - c.values.place) (drop c.values.place c.args.octets.now) (omega (arith, length-drop c.values.place c.args.octets.now)) in
     indexed-rest c.in-Ok.size _ rest c.values.invariant h.within (h.kept refl)
+
+pub returns-in-Err-clause-refused : goal.returns-in-Err-clause-refused
+returns-in-Err-clause-refused c =
+    let rest : take (length c.args.octets.now - c.values.place) (drop c.values.place c.args.octets.now) ≡ drop c.values.place c.args.octets.now =
+    take_all (length c.args.octets.now - c.values.place) (drop c.values.place c.args.octets.now) (omega (arith, length-drop c.values.place c.args.octets.now)) in
+    λ list.
+    elim c.in-Err.ensures.refused [
+      | inl h ↦ h.0
+      | inr f ↦ absurd (no-list c.args.octets.now c.values.place _ _ c.values.invariant c.values-test.true (subst (λ (o : List ℕ). IsNestedFault o c.in-Err.e) rest f) list)
+    ]

@@ -1,4 +1,4 @@
-use Rattle.std.proofs.Common.{◌≡◌, ◌<◌, List, ℕ, length, arith, sym, subst}
+use Rattle.std.proofs.Common.{◌≡◌, ◌<◌, List, length, arith, sym, subst}
 use Rattle.rpki_der.specs.Index.{Entry}
 use Rattle.rpki_der.specs.IndexOrder.{HasEnd}
 use Rattle.rpki_der.specs.MembersLeft.{numbers_left}

@@ -1,8 +1,5 @@
-use Rattle.std.proofs.Common.{◌≡◌, ◌∙◌, Option, Some, None, List, ℕ, ap, sym, subst}
-use Rattle.std.specs.List.{AllByRecursion}
-use Rattle.rpki_der.specs.Index.{Entry}
-use Rattle.rpki_der.specs.IndexMembers.{member_numbers, HasEntry}
-use Rattle.rpki_der.specs.MembersLeft.{numbers_left}
+use Rattle.std.proofs.Common.{Some, None, ap}
+use Rattle.rpki_der.specs.IndexMembers.{member_numbers}
 use Rattle.rpki_der.proofs.IndexLaws.{one-index}
 use Rattle.rpki_der.proofs.MemberLaws.{members-within}
 use Rattle.rpki_der.proofs.captured.Captured.members.Goals as goal

@@ -1,4 +1,4 @@
-use Rattle.std.proofs.Common.{◌-◌, ◌+◌, ◌/◌, ◌≡◌, ◌≤◌, ◌<◌, ℕ, Option, List, length, drop, arith, subst}
+use Rattle.std.proofs.Common.{◌-◌, ◌+◌, ◌/◌, ◌≡◌, ℕ, Option, drop, arith, subst}
 use Rattle.rpki_der.specs.IndexMembers.{numbers_from}
 use Rattle.rpki_der.proofs.IndexOrderLaws.{siblings-apart}
 use Rattle.rpki_der.proofs.members.Members.after.Goals as goal

@@ -1,0 +1,125 @@
+//! Octets that a reader reads, kept.
+
+use crate::kinds::{Kind, kind_of};
+use rpki_der::*;
+use std::alloc::Global;
+
+/// What the reader does.
+#[derive(Clone, Copy)]
+enum Reader {
+    /// It reads that many small numbers.
+    Numbers(usize),
+    /// It reads a SEQUENCE of small numbers.
+    Sequence,
+    /// It reads one header, and no contents.
+    Header,
+    /// It goes on with two NULLs elsewhere.
+    Elsewhere,
+}
+
+fn read(alloc: Global, reader: Reader, cons: &mut Constructed<'_>) -> Result<(), DecodeError> {
+    match reader {
+        Reader::Numbers(count) => {
+            for _ in 0..count {
+                cons.take_u8()?;
+            }
+        }
+        Reader::Sequence => {
+            cons.in_sequence(|contents| contents.take_each(alloc, |cons| cons.take_u8()))?;
+        }
+        Reader::Header => {
+            cons.take_header(&mut Steps::new())?;
+        }
+        Reader::Elsewhere => *cons = Constructed::from_slice(&[5, 0, 5, 0]),
+    }
+    Ok(())
+}
+
+/// A name, the octets, the reader, what is kept with the count of its headers, and how many octets are left.
+type Row = (
+    &'static str,
+    &'static [u8],
+    Reader,
+    Result<(&'static [u8], usize), Kind>,
+    usize,
+);
+
+const ROWS: &[Row] = &[
+    ("nothing", &[2, 1, 7], Reader::Numbers(0), Ok((&[], 0)), 3),
+    (
+        "two of three numbers",
+        &[2, 1, 7, 2, 1, 8, 2, 1, 9],
+        Reader::Numbers(2),
+        Ok((&[2, 1, 7, 2, 1, 8], 2)),
+        3,
+    ),
+    (
+        "a SEQUENCE, and an octet",
+        &[0x30, 6, 2, 1, 7, 2, 1, 8, 5],
+        Reader::Sequence,
+        Ok((&[0x30, 6, 2, 1, 7, 2, 1, 8], 3)),
+        1,
+    ),
+    (
+        "a second value of another tag",
+        &[2, 1, 7, 4, 0],
+        Reader::Numbers(2),
+        Err(Kind::Unexpected),
+        5,
+    ),
+    (
+        "a header without its contents",
+        &[4, 2, 7, 8],
+        Reader::Header,
+        Err(Kind::Truncated),
+        4,
+    ),
+    (
+        "a header of no contents",
+        &[5, 0, 5],
+        Reader::Header,
+        Ok((&[5, 0], 1)),
+        1,
+    ),
+    (
+        "more than there was",
+        &[5, 0],
+        Reader::Elsewhere,
+        Err(Kind::Trailing),
+        2,
+    ),
+];
+
+fn rows() -> &'static [Row] {
+    ROWS
+}
+
+fn is_kept(
+    alloc: Global,
+    cursor: &mut Constructed<'_>,
+    reader: Reader,
+    expected: Result<(&[u8], usize), Kind>,
+) -> bool {
+    match (
+        cursor.capture(alloc, |cons| read(alloc, reader, cons)),
+        expected,
+    ) {
+        (Ok(kept), Ok((octets, headers))) => {
+            kept.as_slice() == octets && kept.headers().len() == headers
+        }
+        (Err(e), Err(kind)) => kind_of(&e) == kind,
+        _ => false,
+    }
+}
+
+#[test]
+fn what_is_read_is_kept(rt: HostRuntime) {
+    for (name, octets, reader, expected, left) in rows() {
+        let mut cursor = Constructed::from_slice(octets);
+        assert!(rt;
+            is_kept(rt.alloc(), &mut cursor, *reader, *expected),
+            "{name}"
+        );
+        assert!(rt; cursor.rest().len() == *left, "{name}");
+    }
+}
