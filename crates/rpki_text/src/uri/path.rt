@@ -74,7 +74,11 @@ impl<'a> Iterator for Segments<'a> {
 }
 
 /// Tests the length of a path, and its segments from the left.
-pub(super) fn check_path(path: &[u8]) -> Result<(), Error>
+///
+/// Returns the first of these errors that applies: `Error::LongUri` for 3,072 octets or more; then, of the pieces
+/// between slashes from the left, the first that is `.` or `..` (`Error::DotSegments`), has 256 octets or more
+/// (`Error::LongSegments`), or is empty and not the last (`Error::EmptySegments`).
+pub fn check_path(path: &[u8]) -> Result<(), Error>
     ensures { MatchResult result (λ _. path_refusal path.now ≡ None)
         (λ e. path_refusal path.now ≡ Some e) }
 {
@@ -88,10 +92,10 @@ pub(super) fn check_path(path: &[u8]) -> Result<(), Error>
 }
 
 /// The rest of a path that is the base or lies below it: what comes after the base's octets and a slash. A slash at the
-/// end of the base doesn't count, and every path lies below an empty one.
-pub(super) fn path_below<'a>(path: &'a [u8], base: &[u8]) -> Option<&'a [u8]>
-    requires { names_refusal (segments base.now) ≡ None }
-    ensures below { option_copied result ≡ path_left path.now (segments base.now) }
+/// end of the base doesn't count, and every path lies below an empty one. The base is the path of a URI.
+pub fn path_below<'a>(path: &'a [u8], base: &[u8]) -> Option<&'a [u8]>
+    ensures below { names_refusal (segments base.now) ≡ None
+        → option_copied result ≡ path_left path.now (segments base.now) }
     ensures tail { IfSome result (λ p. (n : ℕ) × (p.now ≡ drop n path.now)) }
 {
     if base.is_empty() {
@@ -118,8 +122,8 @@ fn after_last_slash(text: &[u8]) -> usize
     end
 }
 
-/// How much of the path stands before its last segment.
-pub(super) fn parent_len(path: &[u8]) -> Option<usize>
+/// How much of the path of an rsync URI stands before its last segment; `None` if the path is empty.
+pub fn parent_len(path: &[u8]) -> Option<usize>
     ensures none { IfNone result (path.now ≡ []) }
     ensures some { IfSome result (λ n. IsParentLen path.now n) }
 {
@@ -142,8 +146,9 @@ fn without_last_slash(path: &[u8]) -> &[u8]
     if *last == b'/' { front } else { path }
 }
 
-/// How much of an https path stands above it, if anything does.
-pub(super) fn len_above(path: &[u8]) -> Option<usize>
+/// How much of the path of an https URI stands above it, if anything does: one last slash dropped, and then everything
+/// after the last slash that is left.
+pub fn len_above(path: &[u8]) -> Option<usize>
     ensures none { IfNone result (path_above path.now ≡ None) }
     ensures some { IfSome result (λ n. path_above path.now ≡ Some (take n path.now)) }
     ensures within { IfSome result (λ n. n ≤ length path.now) }

@@ -260,7 +260,7 @@ impl<'a> RsyncView<'a> {
 }
 
 /// Writes the base, perhaps a slash, and the path to the front of a buffer that has room for them.
-fn write_joined(base: &[u8], slash: bool, path: &[u8], buffer: &mut [u8])
+pub fn write_joined(base: &[u8], slash: bool, path: &[u8], buffer: &mut [u8])
     requires { length base.now + (if slash then 1 else 0) + length path.now ≤ length buffer.old }
     ensures { buffer.new ≡ ((if slash then base.now ++ 47 ∷ [] else base.now) ++ path.now)
         ++ drop (length base.now + (if slash then 1 else 0) + length path.now) buffer.old }
