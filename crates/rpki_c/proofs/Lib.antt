@@ -7,6 +7,7 @@
 -- Any algorithm identifier; statuses of keys, of names, and of another algorithm: IdentifierLaws, KeyStatusLaws,
 --   NameStatusLaws, ElseLaws.
 -- Where octets go wrong: FaultLaws.
+-- Parts of parsed URIs, by their places: RsyncPlacesLaws, HttpsPlacesLaws.
 
 mod SuffixLaws
 mod PartLaws
@@ -19,3 +20,5 @@ mod IdentifierLaws
 mod ElseLaws
 mod FaultLaws
 mod NameStatusLaws
+mod RsyncPlacesLaws
+mod HttpsPlacesLaws

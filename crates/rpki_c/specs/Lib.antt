@@ -2,6 +2,9 @@
 pub mod Status
 pub mod Place
 pub mod Uri
+pub mod Stored
+pub mod RsyncPlaces
+pub mod RsyncCut
 pub mod Whole
 pub mod Identifier
 pub mod Key
@@ -9,6 +12,8 @@ pub mod Serial
 pub mod Time
 pub mod Names
 pub mod HttpsUri
+pub mod HttpsPlaces
+pub mod HttpsCut
 pub mod Header
 pub mod Walk
 pub mod Fault

@@ -19,6 +19,10 @@ no_profile = 12
 abbrev pub other_algorithm : ℕ
 other_algorithm = 13
 
+-- the places are not laid out as those of the parts of a text are
+abbrev pub other_parts : ℕ
+other_parts = 14
+
 -- a name breaks this rule of the profile
 abbrev pub rule_number : NameRule → ℕ
 rule_number MissingCommonName = 32

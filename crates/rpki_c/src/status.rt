@@ -12,6 +12,9 @@ pub(crate) const NO_PROFILE: u8 = 12;
 /// An algorithm identifier is there, and not one of those that are read.
 pub(crate) const OTHER_ALGORITHM: u8 = 13;
 
+/// The places are not laid out as those of the parts of a text are.
+pub(crate) const OTHER_PARTS: u8 = 14;
+
 /// A name has no common name.
 pub(crate) const MISSING_COMMON_NAME: u8 = 32;
 
