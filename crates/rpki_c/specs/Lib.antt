@@ -10,6 +10,7 @@ pub mod Identifier
 pub mod Key
 pub mod Serial
 pub mod Time
+pub mod Made
 pub mod Names
 pub mod HttpsUri
 pub mod HttpsPlaces

@@ -3,6 +3,14 @@ use Rattle.std.specs.Prelude.{ℕ}
 use Rattle.rpki.specs.declared.repository.x509.name.rule.NameRule.{NameRule}
 use Rattle.rpki.specs.declared.repository.x509.name.rule.NameRule.TheVariants.{MissingCommonName, SecondCommonName, SecondSerialNumber, SecondOrganizationName, OtherString, OtherAttribute}
 
+-- the contents are not those of the type
+abbrev pub content : ℕ
+content = 5
+
+-- allocation failed
+abbrev pub out_of_memory : ℕ
+out_of_memory = 7
+
 -- the caller's array or buffer has no room
 abbrev pub too_small : ℕ
 too_small = 9

@@ -7,6 +7,7 @@
 #![tactic(auto)]
 
 mod digests;
+mod digits;
 mod extensions;
 mod faults;
 mod headers;
@@ -20,10 +21,12 @@ mod place;
 mod ranges;
 mod rsync;
 mod rsync_parts;
+mod serial_writing;
 mod serials;
 mod signed;
 mod status;
 mod stored;
+mod time_writing;
 mod times;
 mod version;
 mod walks;

@@ -1,5 +1,11 @@
 //! The statuses of the library itself, beside 0 and the numbers of the layer's errors.
 
+/// The contents are not those of the type: the number of `DecodeError::Content`.
+pub(crate) const CONTENT: u8 = 5;
+
+/// Allocation failed: the number of `DecodeError::OutOfMemory`.
+pub(crate) const OUT_OF_MEMORY: u8 = 7;
+
 /// The caller's array or buffer has no room.
 pub(crate) const TOO_SMALL: u8 = 9;
 

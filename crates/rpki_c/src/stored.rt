@@ -1,11 +1,14 @@
 //! What is written to the front of the caller's buffer.
 
-ghost use Rattle.std.specs.Prelude.{◌≡◌, ◌≤◌, ◌++◌, ◌∷◌, [], length, take, drop, if◌then◌else◌};
+ghost use Rattle.std.specs.Prelude.{◌≡◌, ◌≤◌, ◌<◌, ◌^◌, ◌++◌, ◌∷◌, [], IfSome, length, take, drop, if◌then◌else◌};
 ghost use Rattle.rpki_text.specs.UriText.{lowercase};
 ghost use Rattle.rpki_c.specs.Stored.{IsStored};
+ghost use Rattle.rpki_c.specs.Made.{IsMade};
 
-use crate::status::TOO_SMALL;
+use crate::status::{OUT_OF_MEMORY, TOO_SMALL};
+use rpki_der::Values;
 use rpki_text::uri::write_joined;
+use std::alloc::Global;
 
 /// Writes the octets, perhaps a slash, and the end to the front of the buffer, and tells how many octets these are.
 ///
@@ -45,4 +48,49 @@ pub(crate) fn store_lower(octets: &[u8], lower: usize, out: &mut [u8], written: 
     out[..len].copy_from_slice(octets);
     out[..lower].make_ascii_lowercase();
     0
+}
+
+/// Writes the octets to the front of the buffer, and tells how many they are.
+///
+/// The status is as that of [store_joined].
+pub(crate) fn store(octets: &[u8], out: &mut [u8], written: &mut usize) -> u8
+    ensures { IsStored octets.now result out.old out.new written.new }
+{
+    let len = octets.len();
+    *written = len;
+    if out.len() < len {
+        return TOO_SMALL;
+    }
+    out[..len].copy_from_slice(octets);
+    0
+}
+
+/// The octets of the values; `None` where allocation fails.
+fn octets_of<V: Values>(alloc: Global, values: &V) -> Option<Vec<u8>>
+    requires { V.is_short values.now × (length (V.encoded values.now) < 2 ^ 63) }
+    ensures { IfSome result (λ v. v.items ≡ V.encoded values.now) }
+{
+    let mut octets = Vec::new(alloc);
+    match values.write_encoded(&mut octets) {
+        Ok(()) => Some(octets),
+        Err(_) => None,
+    }
+}
+
+/// Writes the values, which fit, to the front of the buffer, and tells how many octets they are.
+///
+/// The status is as that of [store_joined], or `OUT_OF_MEMORY` where allocation fails; then nothing is written.
+pub(crate) fn store_values<V: Values>(
+    alloc: Global,
+    values: &V,
+    out: &mut [u8],
+    written: &mut usize,
+) -> u8
+    requires { V.is_short values.now × (length (V.encoded values.now) < 2 ^ 63) }
+    ensures { IsMade (V.encoded values.now) result out.old out.new written.old written.new }
+{
+    match octets_of(alloc, values) {
+        Some(octets) => store(octets.as_slice(), out, written),
+        None => OUT_OF_MEMORY,
+    }
 }

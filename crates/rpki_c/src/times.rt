@@ -32,7 +32,7 @@ pub struct Moment {
 }
 
 /// The moment of a time, without parts of a second.
-fn moment_of(time: Time) -> Moment
+pub(crate) fn moment_of(time: Time) -> Moment
     ensures since { IsFloorSecond (civil_nanos time) result.seconds }
     ensures date { (result.year ≡ time.date.year) × (result.month ≡ time.date.month) × (result.day ≡ time.date.day) }
     ensures clock { (result.hour ≡ time.time.hour) × (result.minute ≡ time.time.minute)

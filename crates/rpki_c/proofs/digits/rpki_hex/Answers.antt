@@ -1,0 +1,15 @@
+use Rattle.std.proofs.Common.{◌≡◌, ◌*◌, ◌++◌, length, drop, refl, inl, inr, sym, ap, ◌∙◌, arith}
+use Rattle.rpki_text.specs.HexText.{hex_text}
+use Rattle.rpki_text.proofs.HexLaws.{length-hex_text}
+use Rattle.rpki_c.proofs.digits.rpki_hex.Goals as goal
+
+pub returns-then-len-out : goal.returns-then-len-out
+returns-then-len-out c =
+    let size = length-hex_text c.args.octets.now in
+    inr (refl, record { short = omega (arith, size); buffer = refl; size = sym size })
+
+pub returns : goal.returns
+returns c =
+    let size = length-hex_text c.args.octets.now in
+    let buffer = c.write_digits.ensures ∙ ap (λ n. hex_text c.args.octets.now ++ drop n c.args.out.now) (sym size) in
+    inl (refl, record { room = omega (arith, size); buffer = buffer; size = sym size })
