@@ -6,6 +6,7 @@
 -- Signed data read in place: SignedReadingLaws.
 -- Any algorithm identifier; statuses of keys, of names, and of another algorithm: IdentifierLaws, KeyStatusLaws,
 --   NameStatusLaws, ElseLaws.
+-- What is made on a condition: MadeLaws.
 -- Where octets go wrong: FaultLaws.
 -- Parts of parsed URIs, by their places: RsyncPlacesLaws, HttpsPlacesLaws.
 
@@ -22,3 +23,4 @@ mod FaultLaws
 mod NameStatusLaws
 mod RsyncPlacesLaws
 mod HttpsPlacesLaws
+mod MadeLaws

@@ -11,6 +11,7 @@ pub mod Key
 pub mod Serial
 pub mod Time
 pub mod Made
+pub mod MadeValues
 pub mod Names
 pub mod HttpsUri
 pub mod HttpsPlaces

@@ -31,6 +31,10 @@ other_algorithm = 13
 abbrev pub other_parts : ℕ
 other_parts = 14
 
+-- contents would have 2^32 octets or more, or numbers have more octets than a key may have
+abbrev pub too_long : ℕ
+too_long = 15
+
 -- a name breaks this rule of the profile
 abbrev pub rule_number : NameRule → ℕ
 rule_number MissingCommonName = 32

@@ -38,7 +38,7 @@ fn format_number(format: PublicKeyFormat) -> u8
 }
 
 /// A public key, and nothing else.
-fn read_key(alloc: Global, octets: &[u8]) -> Result<PublicKey, DecodeError>
+pub(crate) fn read_key(alloc: Global, octets: &[u8]) -> Result<PublicKey, DecodeError>
     ensures { Decodes (λ k. k) SpellsKey IsWholeKeyFault octets.now result }
 {
     let mut cons = Constructed::from_slice(octets);
@@ -70,7 +70,7 @@ fn is_other_key(octets: &[u8]) -> bool
 }
 
 /// The status of octets that were rejected with this error.
-fn key_status(octets: &[u8], e: DecodeError) -> u8
+pub(crate) fn key_status(octets: &[u8], e: DecodeError) -> u8
     ensures { IsKeyStatus octets.now e result }
 {
     if is_other_key(octets) {

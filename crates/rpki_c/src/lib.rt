@@ -15,6 +15,7 @@ mod https;
 mod https_parts;
 mod identifiers;
 mod index;
+mod key_writing;
 mod keys;
 mod names;
 mod place;

@@ -21,6 +21,9 @@ pub(crate) const OTHER_ALGORITHM: u8 = 13;
 /// The places are not laid out as those of the parts of a text are.
 pub(crate) const OTHER_PARTS: u8 = 14;
 
+/// Contents would have 2^32 octets or more, or numbers have more octets than a key may have.
+pub(crate) const TOO_LONG: u8 = 15;
+
 /// A name has no common name.
 pub(crate) const MISSING_COMMON_NAME: u8 = 32;
 

@@ -4,8 +4,9 @@ ghost use Rattle.std.specs.Prelude.{◌≡◌, ◌≤◌, ◌<◌, ◌^◌, ◌+
 ghost use Rattle.rpki_text.specs.UriText.{lowercase};
 ghost use Rattle.rpki_c.specs.Stored.{IsStored};
 ghost use Rattle.rpki_c.specs.Made.{IsMade};
+ghost use Rattle.rpki_c.specs.MadeValues.{IsMadeIf};
 
-use crate::status::{OUT_OF_MEMORY, TOO_SMALL};
+use crate::status::{OUT_OF_MEMORY, TOO_LONG, TOO_SMALL};
 use rpki_der::Values;
 use rpki_text::uri::write_joined;
 use std::alloc::Global;
@@ -93,4 +94,22 @@ pub(crate) fn store_values<V: Values>(
         Some(octets) => store(octets.as_slice(), out, written),
         None => OUT_OF_MEMORY,
     }
+}
+
+/// Writes the values to the front of the buffer, and tells how many octets they are.
+///
+/// The status is as that of [store_values], or `TOO_LONG` where they don't fit; then nothing is written.
+pub(crate) fn store_if_short<V: Values>(
+    alloc: Global,
+    values: &V,
+    out: &mut [u8],
+    written: &mut usize,
+) -> u8
+    ensures { IsMadeIf (V.is_short values.now × (length (V.encoded values.now) < 2 ^ 63)) (V.encoded values.now) result
+        out.old out.new written.old written.new }
+{
+    if !values.fits() {
+        return TOO_LONG;
+    }
+    store_values(alloc, values, out, written)
 }

@@ -1,0 +1,112 @@
+//! Public keys, written.
+
+ghost use Rattle.rpki_c.specs.MadeValues.{IsKeyWritten, IsRsaWritten, IsBitsWritten, IsNameWritten};
+
+use crate::digests::Digests;
+use crate::keys::{key_status, read_key};
+use crate::status::{CONTENT, OUT_OF_MEMORY, TOO_LONG};
+use crate::stored::{store, store_if_short};
+use bytes::Bytes;
+use rpki::crypto::PublicKey;
+use rpki::repository::x509::Name;
+use rpki_der::InvalidInteger;
+use std::alloc::Global;
+
+/// The most octets that the two numbers of an RSA key have.
+const MOST: usize = 1 << 31;
+
+/// Writes the public key (SubjectPublicKeyInfo, RFC 5280 4.1) that the octets are as it is written, with NULL for the
+/// parameters of RSA, to the front of the buffer.
+///
+/// The status is 0; `TOO_SMALL` where the buffer is shorter, and nothing is written to it; in both cases `written` is
+/// the count of the octets. `TOO_LONG` where its contents would have 2^32 octets or more. Else it is that of
+/// `rpki_public_key`. Unless it is 0 or `TOO_SMALL`, nothing is written.
+#[unsafe(no_mangle)]
+pub extern "C" fn rpki_public_key_write(
+    alloc: Global,
+    octets: &[u8],
+    out: &mut [u8],
+    written: &mut usize,
+) -> u8
+    ensures { IsKeyWritten octets.now result out.old out.new written.old written.new }
+{
+    match read_key(alloc, octets) {
+        Ok(key) => store_if_short(alloc, &key.encode_ref(), out, written),
+        Err(e) => key_status(octets, e),
+    }
+}
+
+/// Writes the RSA key of the two numbers, the most significant octet first, as a public key (SubjectPublicKeyInfo) to
+/// the front of the buffer. Leading zeros are left out.
+///
+/// The status is 0; `TOO_SMALL` where the buffer is shorter, and nothing is written to it; in both cases `written` is
+/// the count of the octets. `CONTENT` where one of them has no octets; `TOO_LONG` where they have more than 2^31 octets
+/// together; `OUT_OF_MEMORY`. Unless it is 0 or `TOO_SMALL`, nothing is written.
+#[unsafe(no_mangle)]
+pub extern "C" fn rpki_rsa_key_write(
+    alloc: Global,
+    modulus: &[u8],
+    exponent: &[u8],
+    out: &mut [u8],
+    written: &mut usize,
+) -> u8
+    ensures { IsRsaWritten modulus.now exponent.now result out.old out.new written.old written.new }
+{
+    if modulus.len() + exponent.len() > MOST {
+        return TOO_LONG;
+    }
+    match PublicKey::rsa_from_components(alloc, modulus, exponent) {
+        Ok(key) => store_if_short(alloc, &key.encode_ref(), out, written),
+        Err(InvalidInteger::Empty) => CONTENT,
+        Err(InvalidInteger::OutOfMemory) => OUT_OF_MEMORY,
+    }
+}
+
+/// Writes the RSA key with these bits, a SEQUENCE of two non-negative INTEGERs and nothing else, as a public key
+/// (SubjectPublicKeyInfo) to the front of the buffer.
+///
+/// The status is 0; `TOO_SMALL` where the buffer is shorter, and nothing is written to it; in both cases `written` is
+/// the count of the octets. `TOO_LONG` as in [rpki_public_key_write]; `OUT_OF_MEMORY`; else it is the number of the
+/// error. Unless it is 0 or `TOO_SMALL`, nothing is written.
+#[unsafe(no_mangle)]
+pub extern "C" fn rpki_rsa_key_of_bits(
+    alloc: Global,
+    bits: &[u8],
+    out: &mut [u8],
+    written: &mut usize,
+) -> u8
+    ensures { IsBitsWritten bits.now result out.old out.new written.old written.new }
+{
+    let Ok(bytes) = Bytes::copy_from_slice(alloc, bits) else {
+        return OUT_OF_MEMORY;
+    };
+    match PublicKey::rsa_from_bits_bytes(bytes) {
+        Ok(key) => store_if_short(alloc, &key.encode_ref(), out, written),
+        Err(e) => e.number(),
+    }
+}
+
+/// Writes the name of the subject with the public key that the octets are (RFC 6487 4.5): one common name, the digits
+/// of its key identifier, to the front of the buffer.
+///
+/// The status is 0; `TOO_SMALL` where the buffer is shorter, and nothing is written to it; in both cases `written` is
+/// the count of the octets. `OUT_OF_MEMORY`; else it is that of `rpki_public_key`. Unless it is 0 or `TOO_SMALL`,
+/// nothing is written.
+#[unsafe(no_mangle)]
+pub extern "C" fn rpki_name_of_key(
+    alloc: Global,
+    octets: &[u8],
+    out: &mut [u8],
+    written: &mut usize,
+) -> u8
+    ensures { IsNameWritten octets.now result out.old out.new written.old written.new }
+{
+    let key = match read_key(alloc, octets) {
+        Ok(key) => key,
+        Err(e) => return key_status(octets, e),
+    };
+    match Name::from_pub_key(alloc, &Digests, &key) {
+        Ok(name) => store(name.encode_ref().as_slice(), out, written),
+        Err(_) => OUT_OF_MEMORY,
+    }
+}
