@@ -6,11 +6,13 @@
  * from call to call, nothing has to be freed, and no call writes to its input. Parts of the input are told as places
  * (struct rpki_place): where they start, counted from the first octet that was passed, and how many octets they have.
  *
- * Where the status is not 0, `out` is left as it was; only `*count` of rpki_index is written with RPKI_TOO_SMALL too.
+ * Where the status is not 0, `out` is left as it was; only `*count` of rpki_index, and `*written` of the calls that say
+ * so, are written with RPKI_TOO_SMALL too.
  *
  * What a call takes of memory it frees before it returns. Those that take none, and so never return
- * RPKI_OUT_OF_MEMORY, are rpki_header, rpki_serial, rpki_time, rpki_validity, rpki_extension, rpki_version and the
- * calls on URIs. The others, at the peak:
+ * RPKI_OUT_OF_MEMORY, are rpki_header, rpki_serial, rpki_time, rpki_validity, rpki_extension, rpki_time_years_on,
+ * rpki_hex, rpki_version and the calls on URIs. Those that write keys, names, serial numbers and times take copies of
+ * what they read and of what they write. The others, at the peak:
  *  - each takes up to 24 octets for each level of nesting, and 64 more;
  *  - rpki_index and rpki_name_inspect take up to 96 octets for each header beside that, and 256 more (of which they
  *    keep up to 64 a header until they return);
@@ -116,6 +118,10 @@ enum {
     RPKI_NOT_OF_PROFILE = 11,  /* no call returns it: one of the statuses 32 to 37 says which rule is broken */
     RPKI_NO_PROFILE = 12,      /* no profile has this number */
     RPKI_OTHER_ALGORITHM = 13, /* an algorithm identifier, but of none of the algorithms that the call reads */
+    RPKI_OTHER_PARTS = 14,     /* the places are not laid out as those of the parts of a text of this size: one is
+                                  outside of it, or they don't follow each other to its end */
+    RPKI_TOO_LONG = 15,        /* what is written would have contents of 2^32 octets or more, or numbers have more
+                                  octets than a key may have */
 
     /* Calls on two texts add this to the number of what is wrong with the second. */
     RPKI_SECOND = 16,
@@ -458,6 +464,150 @@ rpki_status rpki_rsync_parent(const uint8_t *text, size_t size, size_t *out);
  */
 rpki_status rpki_https_parse(const uint8_t *text, size_t size, struct rpki_https_parts *out);
 
+/* ---- URIs that were read before ---- */
+
+/*
+ * The calls below take the text of a URI and the parts that rpki_rsync_parse or rpki_https_parse found in it, and read
+ * the text no second time. They are safe with any parts: where the places are not laid out as those of a text of this
+ * size, the status is RPKI_OTHER_PARTS, and nothing is written. With other parts that are laid out so, nothing is
+ * promised of the answer.
+ *
+ * The calls that make a URI tell its text alone: its parts are those of the first URI, but `path.length` becomes the
+ * size of the new text less `path.start`.
+ */
+
+/* As rpki_rsync_relative_to, with no RPKI_URI_ number. */
+rpki_status rpki_rsync_parts_relative_to(const uint8_t *uri, size_t uri_size, const struct rpki_rsync_parts *parts,
+                                         const uint8_t *base, size_t base_size,
+                                         const struct rpki_rsync_parts *base_parts, struct rpki_place *out);
+
+/* Whether both are the same URI: they differ at most in the case of the scheme and of the authority. */
+rpki_status rpki_rsync_parts_equal(const uint8_t *uri, size_t uri_size, const struct rpki_rsync_parts *parts,
+                                   const uint8_t *other, size_t other_size, const struct rpki_rsync_parts *other_parts,
+                                   bool *out);
+
+/* Whether `other` lies below `uri`: in the same module, with more segments, of which the first are those of `uri`. */
+rpki_status rpki_rsync_parts_is_parent_of(const uint8_t *uri, size_t uri_size, const struct rpki_rsync_parts *parts,
+                                          const uint8_t *other, size_t other_size,
+                                          const struct rpki_rsync_parts *other_parts, bool *out);
+
+/* Whether both are in the same module and have the same segments, with a slash last or without. */
+rpki_status rpki_rsync_parts_is_identical_to(const uint8_t *uri, size_t uri_size, const struct rpki_rsync_parts *parts,
+                                             const uint8_t *other, size_t other_size,
+                                             const struct rpki_rsync_parts *other_parts, bool *out);
+
+/*
+ * Writes the text with its scheme and its authority in lower case to the front of `out`, which has room for `capacity`
+ * octets. Two URIs are the same exactly where these texts are: so it serves to hash them. `*written` becomes the count
+ * of the octets, which is `size`.
+ *
+ * RPKI_TOO_SMALL: the text is longer than `capacity`. Nothing is written to `out`, and `*written` is the count too.
+ */
+rpki_status rpki_rsync_parts_canonical(const uint8_t *text, size_t size, const struct rpki_rsync_parts *parts,
+                                       uint8_t *out, size_t capacity, size_t *written);
+
+/* As rpki_rsync_parent, with no RPKI_URI_ number. */
+rpki_status rpki_rsync_parts_parent(const uint8_t *text, size_t size, const struct rpki_rsync_parts *parts,
+                                    size_t *out);
+
+/*
+ * Writes `base` with `path` after it to `out`, as rpki_rsync_join. RPKI_TOO_SMALL: as of rpki_rsync_parts_canonical. An
+ * RPKI_URI_ number: what is wrong with `path`, or last RPKI_URI_LONG_URI of the text.
+ */
+rpki_status rpki_rsync_parts_join(const uint8_t *base, size_t base_size, const struct rpki_rsync_parts *parts,
+                                  const uint8_t *path, size_t path_size, uint8_t *out, size_t capacity,
+                                  size_t *written);
+
+/*
+ * Writes the text to `out`, with a slash last unless its path is empty or has one. It may have one octet more than is
+ * read again. RPKI_TOO_SMALL: as of rpki_rsync_parts_canonical.
+ */
+rpki_status rpki_rsync_parts_into_dir(const uint8_t *text, size_t size, const struct rpki_rsync_parts *parts,
+                                      uint8_t *out, size_t capacity, size_t *written);
+
+/* Whether both are the same https URI: they differ at most in the case of the scheme and of the authority. */
+rpki_status rpki_https_parts_equal(const uint8_t *uri, size_t uri_size, const struct rpki_https_parts *parts,
+                                   const uint8_t *other, size_t other_size, const struct rpki_https_parts *other_parts,
+                                   bool *out);
+
+/* As rpki_rsync_parts_canonical. */
+rpki_status rpki_https_parts_canonical(const uint8_t *text, size_t size, const struct rpki_https_parts *parts,
+                                       uint8_t *out, size_t capacity, size_t *written);
+
+/*
+ * The URI above is the first `*out` octets of the text: one last slash of the path dropped, and then everything after
+ * the last slash that is left. RPKI_NO_ANSWER: nothing is left.
+ */
+rpki_status rpki_https_parts_parent(const uint8_t *text, size_t size, const struct rpki_https_parts *parts,
+                                    size_t *out);
+
+/*
+ * Writes `base` with `path` after it to `out`, and a slash between them where the path of `base` is empty or ends with
+ * none. RPKI_TOO_SMALL: as of rpki_rsync_parts_canonical. RPKI_URI_INVALID_CHARACTERS: of `path`.
+ */
+rpki_status rpki_https_parts_join(const uint8_t *base, size_t base_size, const struct rpki_https_parts *parts,
+                                  const uint8_t *path, size_t path_size, uint8_t *out, size_t capacity,
+                                  size_t *written);
+
+/* As rpki_rsync_parts_into_dir. */
+rpki_status rpki_https_parts_into_dir(const uint8_t *text, size_t size, const struct rpki_https_parts *parts,
+                                      uint8_t *out, size_t capacity, size_t *written);
+
+/* ---- What is written ---- */
+
+/*
+ * The calls below write to the front of `out`, which has room for `capacity` octets, and `*written` becomes the count
+ * of the octets. What is after them in `out` stays.
+ *
+ * RPKI_TOO_SMALL: there are more than `capacity`. Nothing is written to `out`, and `*written` is the count too. With
+ * another status neither is written. RPKI_OUT_OF_MEMORY: malloc or realloc returned NULL; rpki_hex takes no memory.
+ */
+
+/* The octets in hexadecimal digits, in upper case: two for each (RFC 4648 8). */
+rpki_status rpki_hex(const uint8_t *octets, size_t size, uint8_t *out, size_t capacity, size_t *written);
+
+/* The INTEGER of a serial number, of at most 22 octets. RPKI_CONTENT: the first bit is set. */
+rpki_status rpki_serial_write(const uint8_t serial[20], uint8_t *out, size_t capacity, size_t *written);
+
+/*
+ * The value of a time, of at most 17 octets: UTC time in the years 1950 to 2049, generalized time in the others (RFC
+ * 5280 4.1.2.5). `moment->seconds` is not looked at. RPKI_CONTENT: the years 0 to 9999 have no such moment.
+ */
+rpki_status rpki_time_write(const struct rpki_moment *moment, uint8_t *out, size_t capacity, size_t *written);
+
+/*
+ * The moment so many years later, or earlier, on the same day at the same time; 29 February becomes 28 February.
+ * `moment->seconds` is not looked at. Takes no memory. `out` is written where the status is RPKI_OK.
+ *
+ * RPKI_CONTENT: the years 0 to 9999 have no such moment. RPKI_NO_ANSWER: its year is not of these.
+ */
+rpki_status rpki_time_years_on(const struct rpki_moment *moment, int32_t years, struct rpki_moment *out);
+
+/*
+ * The public key that the octets are, as it is written: with NULL for the parameters of RSA. The statuses are those of
+ * rpki_public_key too. RPKI_TOO_LONG: its contents would have 2^32 octets or more.
+ */
+rpki_status rpki_public_key_write(const uint8_t *octets, size_t size, uint8_t *out, size_t capacity, size_t *written);
+
+/*
+ * The RSA key of two numbers, the most significant octet first, as a public key. Leading zeros are left out.
+ * RPKI_CONTENT: one of them has no octets. RPKI_TOO_LONG: they have more than 2^31 octets together.
+ */
+rpki_status rpki_rsa_key_write(const uint8_t *modulus, size_t modulus_size, const uint8_t *exponent,
+                               size_t exponent_size, uint8_t *out, size_t capacity, size_t *written);
+
+/*
+ * The RSA key with these bits, as a public key: a SEQUENCE of two INTEGERs that are not negative, and nothing else. The
+ * statuses are those of the calls that read values. RPKI_TOO_LONG: as of rpki_public_key_write.
+ */
+rpki_status rpki_rsa_key_of_bits(const uint8_t *bits, size_t size, uint8_t *out, size_t capacity, size_t *written);
+
+/*
+ * The name of the subject with the public key that the octets are, of 53 octets: one common name, the digits of its key
+ * identifier (RFC 6487 4.5). The statuses are those of rpki_public_key too.
+ */
+rpki_status rpki_name_of_key(const uint8_t *octets, size_t size, uint8_t *out, size_t capacity, size_t *written);
+
 /* ---- In this header alone: nothing below is in the library, and nothing below is proved ---- */
 
 /* What kind of call a status is of. */
@@ -485,6 +635,7 @@ static inline const char *rpki_status_text(int kind, rpki_status status) {
         case RPKI_URI_LONG_SEGMENTS: return "one or more segments are longer than 255 characters";
         case RPKI_URI_OUT_OF_MEMORY: return "out of memory";
         case RPKI_NO_ANSWER: return "no such path";
+        case RPKI_OTHER_PARTS: return "other parts";
         default: break;
         }
     } else {
@@ -500,6 +651,7 @@ static inline const char *rpki_status_text(int kind, rpki_status status) {
         case RPKI_NOT_OF_PROFILE: return "name not of the profile";
         case RPKI_NO_PROFILE: return "no such profile";
         case RPKI_OTHER_ALGORITHM: return "another algorithm";
+        case RPKI_TOO_LONG: return "too long to be written";
         case RPKI_MISSING_COMMON_NAME: return "missing common name";
         case RPKI_SECOND_COMMON_NAME: return "multiple common names";
         case RPKI_SECOND_SERIAL_NUMBER: return "multiple serial numbers";
