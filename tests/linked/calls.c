@@ -6,6 +6,7 @@
  * usage: calls ROWS
  */
 #include "memory.h"
+#include "parts.h"
 #include "rows.h"
 
 #include <inttypes.h>
@@ -840,6 +841,11 @@ int main(int count, char **words) {
     judge_alone("object identifiers", identifiers());
     judge_alone("texts of statuses", texts_differ(RPKI_OF_DER) && texts_differ(RPKI_OF_URI));
     judge_alone("refused allocations", refusals > 0);
+    judge_alone("parsed rsync URIs", parsed_rsync_uris());
+    judge_alone("parsed https URIs", parsed_https_uris());
+    judge_alone("other parts", other_parts());
+    judge_alone("what is written", written_values());
+    judge_alone("refused allocations of what is written", refused_writing());
     printf("%u rows, %zu refused allocations: %u passed, %u failed\n", rows, refusals, passed, failed);
     return failed ? 1 : 0;
 }

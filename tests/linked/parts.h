@@ -1,0 +1,15 @@
+/* The calls on URIs that were parsed before, and those that write values. */
+#ifndef PARTS_H
+#define PARTS_H
+
+#include <stdbool.h>
+#include <stddef.h>
+
+/* Each makes its calls, and says whether all of them returned what was expected; it names those that did not. */
+bool parsed_rsync_uris(void);
+bool parsed_https_uris(void);
+bool other_parts(void);
+bool written_values(void);
+bool refused_writing(void);
+
+#endif

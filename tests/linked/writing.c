@@ -1,0 +1,215 @@
+/* Calls that write values. What is expected is of X.690, RFC 5280 and RFC 4648. */
+#include "memory.h"
+#include "parts.h"
+#include "stores.h"
+
+#include <stdio.h>
+#include <stdlib.h>
+#include <string.h>
+
+#define LENGTH(table) (sizeof(table) / sizeof(table)[0])
+
+/* Octets, or two of them, that a call takes. */
+struct given {
+    struct octets one, two;
+};
+
+static rpki_status hex(const void *of, uint8_t *out, size_t capacity, size_t *written) {
+    const struct given *given = of;
+    return rpki_hex(given->one.at, given->one.size, out, capacity, written);
+}
+
+static rpki_status serial_write(const void *of, uint8_t *out, size_t capacity, size_t *written) {
+    return rpki_serial_write(((const struct given *)of)->one.at, out, capacity, written);
+}
+
+static rpki_status time_write(const void *of, uint8_t *out, size_t capacity, size_t *written) {
+    return rpki_time_write(of, out, capacity, written);
+}
+
+static rpki_status key_write(const void *of, uint8_t *out, size_t capacity, size_t *written) {
+    const struct given *given = of;
+    return rpki_public_key_write(given->one.at, given->one.size, out, capacity, written);
+}
+
+static rpki_status rsa_write(const void *of, uint8_t *out, size_t capacity, size_t *written) {
+    const struct given *given = of;
+    return rpki_rsa_key_write(given->one.at, given->one.size, given->two.at, given->two.size, out, capacity, written);
+}
+
+static rpki_status bits_write(const void *of, uint8_t *out, size_t capacity, size_t *written) {
+    const struct given *given = of;
+    return rpki_rsa_key_of_bits(given->one.at, given->one.size, out, capacity, written);
+}
+
+static rpki_status name_write(const void *of, uint8_t *out, size_t capacity, size_t *written) {
+    const struct given *given = of;
+    return rpki_name_of_key(given->one.at, given->one.size, out, capacity, written);
+}
+
+/* A key of RSA whose bits are `abc`, with NULL and without; the algorithm identifier is rsaEncryption. */
+#define RSA "06 09 2A 86 48 86 F7 0D 01 01 01"
+#define KEY "30 15 30 0D " RSA " 05 00 03 04 00 \"abc\""
+#define BARE_KEY "30 13 30 0B " RSA " 03 04 00 \"abc\""
+/* The name of its subject: the digits of SHA-1 of `abc` (FIPS 180-4). */
+#define NAME "30 33 31 31 30 2F 06 03 55 04 03 13 28 \"A9993E364706816ABA3E25717850C26C9CD0D89D\""
+#define LARGE "128*AB 128*CD"
+
+/* A call, what it is given, and what it stores, or the status where that is NULL. */
+static const struct {
+    store *call;
+    const char *one, *two, *stored;
+    rpki_status status;
+} ROWS[] = {
+    {hex, "AB 01", "", "\"AB01\"", RPKI_OK},
+    {hex, "", "", "", RPKI_OK},
+    {hex, "00 09 0A 0F 10 7F 80 FF", "", "\"00090A0F107F80FF\"", RPKI_OK},
+    {serial_write, "17*00 81 02 03", "", "02 04 00 81 02 03", RPKI_OK},
+    {serial_write, "20*00", "", "02 01 00", RPKI_OK},
+    {serial_write, "19*00 80", "", "02 02 00 80", RPKI_OK},
+    {serial_write, "7F 19*FF", "", "02 14 7F 19*FF", RPKI_OK},
+    {serial_write, "80 19*00", "", NULL, RPKI_CONTENT},
+    {key_write, KEY, "", KEY, RPKI_OK},
+    {key_write, BARE_KEY, "", KEY, RPKI_OK},
+    {key_write, KEY " 00", "", NULL, RPKI_TRAILING},
+    {key_write, "31 00", "", NULL, RPKI_UNEXPECTED},
+    {key_write, "30 09 30 04 06 02 2A 03 03 01 00", "", NULL, RPKI_OTHER_ALGORITHM},
+    {rsa_write, "00 80", "01 00 01", "30 1D 30 0D " RSA " 05 00 03 0C 00 30 09 02 02 00 80 02 03 01 00 01", RPKI_OK},
+    {rsa_write, "00", "03", "30 1A 30 0D " RSA " 05 00 03 09 00 30 06 02 01 00 02 01 03", RPKI_OK},
+    {rsa_write, LARGE, "01 00 01",
+     "30 82 01 22 30 0D " RSA " 05 00 03 82 01 0F 00 30 82 01 0A 02 82 01 01 00 " LARGE " 02 03 01 00 01", RPKI_OK},
+    {rsa_write, "", "03", NULL, RPKI_CONTENT},
+    {rsa_write, "03", "", NULL, RPKI_CONTENT},
+    {bits_write, "30 06 02 01 00 02 01 03", "", "30 1A 30 0D " RSA " 05 00 03 09 00 30 06 02 01 00 02 01 03", RPKI_OK},
+    {bits_write, "30 03 02 01 00", "", NULL, RPKI_TRUNCATED},
+    {bits_write, "30 06 02 01 80 02 01 03", "", NULL, RPKI_CONTENT},
+    {bits_write, "30 06 02 01 00 02 01 03 00", "", NULL, RPKI_TRAILING},
+    {name_write, KEY, "", NAME, RPKI_OK},
+    {name_write, BARE_KEY, "", NAME, RPKI_OK},
+    {name_write, "31 00", "", NULL, RPKI_UNEXPECTED},
+};
+
+static bool row_stores(size_t row) {
+    struct given given;
+    struct octets stored = octets_of(ROWS[row].stored ? ROWS[row].stored : "");
+    bool well;
+    given.one = octets_of(ROWS[row].one);
+    given.two = octets_of(ROWS[row].two);
+    well = ROWS[row].stored ? stores(ROWS[row].call, &given, stored.at, stored.size)
+                            : refuses(ROWS[row].call, &given, ROWS[row].status);
+    free(given.one.at);
+    free(given.two.at);
+    free(stored.at);
+    return told(well, ROWS[row].one, ROWS[row].stored ? ROWS[row].stored : "refused");
+}
+
+/* The parts of a moment, and the value of its time, or NULL where there is none. */
+static const struct {
+    struct rpki_moment moment;
+    const char *stored;
+} TIMES[] = {
+    {{0, 1950, 1, 1, 0, 0, 0}, "17 0D \"500101000000Z\""},
+    {{0, 2049, 12, 31, 23, 59, 59}, "17 0D \"491231235959Z\""},
+    {{-5, 2050, 1, 1, 0, 0, 0}, "18 0F \"20500101000000Z\""},
+    {{0, 1949, 12, 31, 23, 59, 59}, "18 0F \"19491231235959Z\""},
+    {{0, 0, 2, 29, 0, 0, 0}, "18 0F \"00000229000000Z\""},
+    {{0, 9999, 12, 31, 23, 59, 59}, "18 0F \"99991231235959Z\""},
+    {{0, 10000, 1, 1, 0, 0, 0}, NULL},
+    {{0, -1, 1, 1, 0, 0, 0}, NULL},
+    {{0, 1900, 2, 29, 0, 0, 0}, NULL},
+    {{0, 2020, 13, 1, 0, 0, 0}, NULL},
+    {{0, 2020, 0, 1, 0, 0, 0}, NULL},
+    {{0, 2020, 1, 0, 0, 0, 0}, NULL},
+    {{0, 2020, 1, 1, 24, 0, 0}, NULL},
+    {{0, 2020, 1, 1, 0, 60, 0}, NULL},
+    {{0, 2020, 1, 1, 0, 0, 60}, NULL},
+    {{0, 2020, 257, 1, 0, 0, 0}, NULL},
+    {{0, INT32_MIN, 1, 1, 0, 0, 0}, NULL},
+};
+
+static bool time_stores(size_t row) {
+    struct octets stored = octets_of(TIMES[row].stored ? TIMES[row].stored : "");
+    struct rpki_moment later, read;
+    bool well = TIMES[row].stored ? stores(time_write, &TIMES[row].moment, stored.at, stored.size)
+                                  : refuses(time_write, &TIMES[row].moment, RPKI_CONTENT);
+    rpki_status status = rpki_time_years_on(&TIMES[row].moment, 0, &later);
+    /* No years on is the moment that is read of what is written, but for a leap day. */
+    if (TIMES[row].stored && TIMES[row].moment.day != 29) {
+        well = well && rpki_time(stored.at, stored.size, &read) == RPKI_OK && status == RPKI_OK;
+        well = well && !memcmp(&read, &later, sizeof read);
+    } else {
+        well = well && status == (TIMES[row].stored ? RPKI_OK : RPKI_CONTENT);
+    }
+    free(stored.at);
+    return told(well, "a time", TIMES[row].stored ? TIMES[row].stored : "refused");
+}
+
+/* Years on from 2020-02-29 16:39:57: the year, or -1 where there is none. Seconds are of RFC 3339's calendar. */
+static const struct {
+    int32_t years, year;
+    int64_t seconds;
+} YEARS[] = {
+    {4, 2024, 1709138397},    {10, 2030, 1898527197},     {-50, 1970, 5071197},
+    {-2020, 0, -62162148003}, {7979, 9999, 253375835997}, {7980, -1, 0},
+    {-2021, -1, 0},           {INT32_MAX, -1, 0},         {INT32_MIN, -1, 0},
+};
+
+static bool years_on(size_t row) {
+    static const struct rpki_moment leap = {0, 2020, 2, 29, 16, 39, 57};
+    struct rpki_moment later = {NOTHING, NOTHING, 0, 0, 0, 0, 0};
+    rpki_status status = rpki_time_years_on(&leap, YEARS[row].years, &later);
+    bool well;
+    if (YEARS[row].year < 0) {
+        well = status == RPKI_NO_ANSWER && later.seconds == NOTHING && later.year == NOTHING;
+    } else {
+        well = status == RPKI_OK && later.year == YEARS[row].year && later.month == 2 && later.day == 28;
+        well = well && later.hour == 16 && later.minute == 39 && later.second == 57;
+        well = well && later.seconds == YEARS[row].seconds;
+    }
+    if (!well) printf("%d years on: %d, %lld seconds\n", (int)YEARS[row].years, (int)status, (long long)later.seconds);
+    return well;
+}
+
+bool written_values(void) {
+    size_t row;
+    bool well = true;
+    for (row = 0; row < LENGTH(ROWS); row++) well = row_stores(row) && well;
+    for (row = 0; row < LENGTH(TIMES); row++) well = time_stores(row) && well;
+    for (row = 0; row < LENGTH(YEARS); row++) well = years_on(row) && well;
+    return well;
+}
+
+/* Each allocation of each row refused in turn: out of memory, nothing written, and all that was given freed. */
+static bool row_without_memory(size_t row) {
+    struct given given;
+    uint8_t out[512];
+    bool well = true, all_freed;
+    size_t refused, asked = 1, written, place;
+    given.one = octets_of(ROWS[row].one);
+    given.two = octets_of(ROWS[row].two);
+    for (refused = 0; refused < asked; refused++) {
+        rpki_status status;
+        memset(out, 0x5A, sizeof out);
+        written = NOTHING;
+        count_allocations(refused);
+        status = ROWS[row].call(&given, out, sizeof out, &written);
+        asked = allocations(&all_freed);
+        if (refused < asked) {
+            well = well && all_freed && status == RPKI_OUT_OF_MEMORY && written == NOTHING;
+            for (place = 0; place < sizeof out; place++) well = well && out[place] == 0x5A;
+        } else {
+            well = well && all_freed && status == ROWS[row].status;
+        }
+    }
+    count_allocations(NONE_REFUSED);
+    free(given.one.at);
+    free(given.two.at);
+    return told(well, "without memory", ROWS[row].one);
+}
+
+bool refused_writing(void) {
+    size_t row;
+    bool well = true;
+    for (row = 0; row < LENGTH(ROWS); row++) well = row_without_memory(row) && well;
+    return well;
+}
