@@ -3,9 +3,8 @@
 //!
 //! usage: certificate FILE
 
-use rpki_proved::{
-    Class, Entry, Extension, Index, KeyFormat, Name, Profile, PublicKey, Serial, SignedData,
-    Validity,
+use rpki_proved::view::{
+    Class, Entry, Extension, Index, KeyFormat, Name, Profile, PublicKey, Serial, SignedData, Validity,
 };
 use std::error::Error;
 
@@ -52,16 +51,8 @@ fn print_key(octets: &[u8]) -> Result<(), Box<dyn Error>> {
 
 fn print_extension(octets: &[u8]) -> Result<(), Box<dyn Error>> {
     let extension = Extension::decode(octets)?;
-    let critical = if extension.is_critical() {
-        "critical"
-    } else {
-        "not critical"
-    };
-    println!(
-        "extension {}: {critical}, {} octets",
-        extension.id(),
-        extension.octets().len()
-    );
+    let critical = if extension.is_critical() { "critical" } else { "not critical" };
+    println!("extension {}: {critical}, {} octets", extension.id(), extension.octets().len());
     Ok(())
 }
 
@@ -103,35 +94,15 @@ fn main() -> Result<(), Box<dyn Error>> {
     let octets = std::fs::read(path)?;
     let signed = SignedData::decode(&octets)?;
     let index = Index::of(&octets)?;
-    println!(
-        "certificate: {} octets, {} headers",
-        octets.len(),
-        index.len()
-    );
+    println!("certificate: {} octets, {} headers", octets.len(), index.len());
     print_signed(part(index.root(), 0)?)?;
 
     // The parts are slices of the octets: where one stands is how far it is from their front.
     let place = |part: &[u8]| part.as_ptr() as usize - octets.as_ptr() as usize;
-    let with = if signed.has_parameters() {
-        "with"
-    } else {
-        "without"
-    };
+    let with = if signed.has_parameters() { "with" } else { "without" };
     println!("to verify:");
-    println!(
-        "signed: {} octets at {}",
-        signed.data().len(),
-        place(signed.data())
-    );
-    println!(
-        "algorithm: {} octets at {}, {with} parameters",
-        signed.algorithm().len(),
-        place(signed.algorithm())
-    );
-    println!(
-        "signature: {} octets at {}",
-        signed.signature().len(),
-        place(signed.signature())
-    );
+    println!("signed: {} octets at {}", signed.data().len(), place(signed.data()));
+    println!("algorithm: {} octets at {}, {with} parameters", signed.algorithm().len(), place(signed.algorithm()));
+    println!("signature: {} octets at {}", signed.signature().len(), place(signed.signature()));
     Ok(())
 }

@@ -7,8 +7,10 @@
 /// What a call returns: 0, or the number of what is wrong.
 pub(crate) type Status = u8;
 
+pub(crate) const CONTENT: Status = 5;
 pub(crate) const TOO_SMALL: Status = 9;
 pub(crate) const NO_ANSWER: Status = 10;
+pub(crate) const TOO_LONG: Status = 15;
 pub(crate) const SECOND: Status = 16;
 pub(crate) const NO_PARENT: usize = usize::MAX;
 
@@ -23,6 +25,11 @@ impl Place {
     /// The part of the octets that is at this place.
     pub(crate) fn of<'a>(&self, octets: &'a [u8]) -> &'a [u8] {
         &octets[self.start..][..self.length]
+    }
+
+    /// The octets at this place, as a range.
+    pub(crate) fn range(&self) -> std::ops::Range<usize> {
+        self.start..self.start + self.length
     }
 
     /// The part of the text that is at this place.
@@ -161,6 +168,128 @@ extern "C" {
     ) -> Status;
     fn rpki_rsync_parent(text: *const u8, size: usize, out: *mut usize) -> Status;
     fn rpki_https_parse(text: *const u8, size: usize, out: *mut HttpsParts) -> Status;
+    fn rpki_rsync_parts_relative_to(
+        uri: *const u8,
+        uri_size: usize,
+        parts: *const RsyncParts,
+        base: *const u8,
+        base_size: usize,
+        base_parts: *const RsyncParts,
+        out: *mut Place,
+    ) -> Status;
+    fn rpki_rsync_parts_equal(
+        uri: *const u8,
+        uri_size: usize,
+        parts: *const RsyncParts,
+        other: *const u8,
+        other_size: usize,
+        other_parts: *const RsyncParts,
+        out: *mut bool,
+    ) -> Status;
+    fn rpki_rsync_parts_is_parent_of(
+        uri: *const u8,
+        uri_size: usize,
+        parts: *const RsyncParts,
+        other: *const u8,
+        other_size: usize,
+        other_parts: *const RsyncParts,
+        out: *mut bool,
+    ) -> Status;
+    fn rpki_rsync_parts_is_identical_to(
+        uri: *const u8,
+        uri_size: usize,
+        parts: *const RsyncParts,
+        other: *const u8,
+        other_size: usize,
+        other_parts: *const RsyncParts,
+        out: *mut bool,
+    ) -> Status;
+    fn rpki_rsync_parts_canonical(
+        text: *const u8,
+        size: usize,
+        parts: *const RsyncParts,
+        out: *mut u8,
+        capacity: usize,
+        written: *mut usize,
+    ) -> Status;
+    fn rpki_rsync_parts_parent(text: *const u8, size: usize, parts: *const RsyncParts, out: *mut usize) -> Status;
+    fn rpki_rsync_parts_join(
+        base: *const u8,
+        base_size: usize,
+        parts: *const RsyncParts,
+        path: *const u8,
+        path_size: usize,
+        out: *mut u8,
+        capacity: usize,
+        written: *mut usize,
+    ) -> Status;
+    fn rpki_rsync_parts_into_dir(
+        text: *const u8,
+        size: usize,
+        parts: *const RsyncParts,
+        out: *mut u8,
+        capacity: usize,
+        written: *mut usize,
+    ) -> Status;
+    fn rpki_https_parts_equal(
+        uri: *const u8,
+        uri_size: usize,
+        parts: *const HttpsParts,
+        other: *const u8,
+        other_size: usize,
+        other_parts: *const HttpsParts,
+        out: *mut bool,
+    ) -> Status;
+    fn rpki_https_parts_canonical(
+        text: *const u8,
+        size: usize,
+        parts: *const HttpsParts,
+        out: *mut u8,
+        capacity: usize,
+        written: *mut usize,
+    ) -> Status;
+    fn rpki_https_parts_parent(text: *const u8, size: usize, parts: *const HttpsParts, out: *mut usize) -> Status;
+    fn rpki_https_parts_join(
+        base: *const u8,
+        base_size: usize,
+        parts: *const HttpsParts,
+        path: *const u8,
+        path_size: usize,
+        out: *mut u8,
+        capacity: usize,
+        written: *mut usize,
+    ) -> Status;
+    fn rpki_https_parts_into_dir(
+        text: *const u8,
+        size: usize,
+        parts: *const HttpsParts,
+        out: *mut u8,
+        capacity: usize,
+        written: *mut usize,
+    ) -> Status;
+    fn rpki_hex(octets: *const u8, size: usize, out: *mut u8, capacity: usize, written: *mut usize) -> Status;
+    fn rpki_serial_write(serial: *const [u8; 20], out: *mut u8, capacity: usize, written: *mut usize) -> Status;
+    fn rpki_time_write(moment: *const Moment, out: *mut u8, capacity: usize, written: *mut usize) -> Status;
+    fn rpki_time_years_on(moment: *const Moment, years: i32, out: *mut Moment) -> Status;
+    fn rpki_public_key_write(
+        octets: *const u8,
+        size: usize,
+        out: *mut u8,
+        capacity: usize,
+        written: *mut usize,
+    ) -> Status;
+    fn rpki_rsa_key_write(
+        modulus: *const u8,
+        modulus_size: usize,
+        exponent: *const u8,
+        exponent_size: usize,
+        out: *mut u8,
+        capacity: usize,
+        written: *mut usize,
+    ) -> Status;
+    fn rpki_rsa_key_of_bits(bits: *const u8, size: usize, out: *mut u8, capacity: usize, written: *mut usize)
+        -> Status;
+    fn rpki_name_of_key(octets: *const u8, size: usize, out: *mut u8, capacity: usize, written: *mut usize) -> Status;
     fn rpki_version() -> u32;
 }
 
@@ -255,4 +384,240 @@ pub(crate) fn rsync_join(base: &[u8], path: &[u8], out: &mut [u8]) -> Result<usi
         0 => Ok(written),
         status => Err(status),
     }
+}
+
+/// Octets that a call stores, which is told a buffer and its capacity, and tells how many they are; first with room for
+/// `guess` octets.
+///
+/// # Safety
+/// Where the call returns 0, it has written to the front of the buffer as many octets as it tells, and no more than the
+/// capacity; where it returns `TOO_SMALL`, it tells more than the capacity.
+unsafe fn stored(guess: usize, call: impl Fn(*mut u8, usize, *mut usize) -> Status) -> Result<Vec<u8>, Status> {
+    let mut octets = Vec::with_capacity(guess);
+    loop {
+        let mut written = 0;
+        match call(octets.as_mut_ptr(), octets.capacity(), &mut written) {
+            0 => {
+                // SAFETY: so many octets of the buffer were written, which has at least that capacity.
+                unsafe { octets.set_len(written) };
+                return Ok(octets);
+            }
+            TOO_SMALL => octets.reserve_exact(written),
+            status => return Err(status),
+        }
+    }
+}
+
+/// A value that a call tells by one place to write to.
+fn told<T: Default>(call: impl FnOnce(&mut T) -> Status) -> Result<T, Status> {
+    let mut out = T::default();
+    match call(&mut out) {
+        0 => Ok(out),
+        status => Err(status),
+    }
+}
+
+/// A text with places of its parts.
+#[derive(Clone, Copy)]
+pub(crate) struct Parsed<'a, P> {
+    pub(crate) text: &'a [u8],
+    pub(crate) parts: &'a P,
+}
+
+// SAFETY of the calls below: pointers and sizes are those of slices, which are borrowed for the call, as are the parts;
+// what is written to is the function's own. A buffer has the capacity that is passed, and `written` is apart from it.
+// Each call stores as `stored` asks, by its contract. No call trusts the parts.
+
+impl Parsed<'_, RsyncParts> {
+    pub(crate) fn relative_to(self, base: Parsed<RsyncParts>) -> Result<Place, Status> {
+        let (u, v) = (self.text, base.text);
+        // SAFETY: as above.
+        told(|out| unsafe {
+            rpki_rsync_parts_relative_to(u.as_ptr(), u.len(), self.parts, v.as_ptr(), v.len(), base.parts, out)
+        })
+    }
+
+    pub(crate) fn equal(self, other: Parsed<RsyncParts>) -> Result<bool, Status> {
+        let (u, v) = (self.text, other.text);
+        // SAFETY: as above.
+        told(|out| unsafe {
+            rpki_rsync_parts_equal(u.as_ptr(), u.len(), self.parts, v.as_ptr(), v.len(), other.parts, out)
+        })
+    }
+
+    pub(crate) fn is_parent_of(self, other: Parsed<RsyncParts>) -> Result<bool, Status> {
+        let (u, v) = (self.text, other.text);
+        // SAFETY: as above.
+        told(|out| unsafe {
+            rpki_rsync_parts_is_parent_of(u.as_ptr(), u.len(), self.parts, v.as_ptr(), v.len(), other.parts, out)
+        })
+    }
+
+    pub(crate) fn is_identical_to(self, other: Parsed<RsyncParts>) -> Result<bool, Status> {
+        let (u, v) = (self.text, other.text);
+        // SAFETY: as above.
+        told(|out| unsafe {
+            rpki_rsync_parts_is_identical_to(u.as_ptr(), u.len(), self.parts, v.as_ptr(), v.len(), other.parts, out)
+        })
+    }
+
+    pub(crate) fn canonical(self) -> Result<Vec<u8>, Status> {
+        let Parsed { text, parts } = self;
+        // SAFETY: as above.
+        unsafe {
+            stored(text.len(), |out, capacity, written| {
+                rpki_rsync_parts_canonical(text.as_ptr(), text.len(), parts, out, capacity, written)
+            })
+        }
+    }
+
+    pub(crate) fn parent(self) -> Result<usize, Status> {
+        // SAFETY: as above.
+        told(|out| unsafe { rpki_rsync_parts_parent(self.text.as_ptr(), self.text.len(), self.parts, out) })
+    }
+
+    /// The text of this with the path joined to it; `guess` is how many octets that has.
+    pub(crate) fn join(self, path: &[u8], guess: usize) -> Result<Vec<u8>, Status> {
+        let Parsed { text, parts } = self;
+        // SAFETY: as above.
+        unsafe {
+            stored(guess, |out, capacity, written| {
+                let (base, base_size) = (text.as_ptr(), text.len());
+                rpki_rsync_parts_join(base, base_size, parts, path.as_ptr(), path.len(), out, capacity, written)
+            })
+        }
+    }
+
+    pub(crate) fn into_dir(self) -> Result<Vec<u8>, Status> {
+        let Parsed { text, parts } = self;
+        // SAFETY: as above.
+        unsafe {
+            stored(text.len() + 1, |out, capacity, written| {
+                rpki_rsync_parts_into_dir(text.as_ptr(), text.len(), parts, out, capacity, written)
+            })
+        }
+    }
+}
+
+impl Parsed<'_, HttpsParts> {
+    pub(crate) fn equal(self, other: Parsed<HttpsParts>) -> Result<bool, Status> {
+        let (u, v) = (self.text, other.text);
+        // SAFETY: as above.
+        told(|out| unsafe {
+            rpki_https_parts_equal(u.as_ptr(), u.len(), self.parts, v.as_ptr(), v.len(), other.parts, out)
+        })
+    }
+
+    pub(crate) fn canonical(self) -> Result<Vec<u8>, Status> {
+        let Parsed { text, parts } = self;
+        // SAFETY: as above.
+        unsafe {
+            stored(text.len(), |out, capacity, written| {
+                rpki_https_parts_canonical(text.as_ptr(), text.len(), parts, out, capacity, written)
+            })
+        }
+    }
+
+    pub(crate) fn parent(self) -> Result<usize, Status> {
+        // SAFETY: as above.
+        told(|out| unsafe { rpki_https_parts_parent(self.text.as_ptr(), self.text.len(), self.parts, out) })
+    }
+
+    /// The text of this with the path joined to it; `guess` is how many octets that has.
+    pub(crate) fn join(self, path: &[u8], guess: usize) -> Result<Vec<u8>, Status> {
+        let Parsed { text, parts } = self;
+        // SAFETY: as above.
+        unsafe {
+            stored(guess, |out, capacity, written| {
+                let (base, base_size) = (text.as_ptr(), text.len());
+                rpki_https_parts_join(base, base_size, parts, path.as_ptr(), path.len(), out, capacity, written)
+            })
+        }
+    }
+
+    pub(crate) fn into_dir(self) -> Result<Vec<u8>, Status> {
+        let Parsed { text, parts } = self;
+        // SAFETY: as above.
+        unsafe {
+            stored(text.len() + 1, |out, capacity, written| {
+                rpki_https_parts_into_dir(text.as_ptr(), text.len(), parts, out, capacity, written)
+            })
+        }
+    }
+}
+
+/// A call that takes octets and stores others.
+type Writer = unsafe extern "C" fn(*const u8, usize, *mut u8, usize, *mut usize) -> Status;
+
+/// What a writer stores; first with room for `guess` octets.
+///
+/// # Safety
+/// The writer is one of those above.
+unsafe fn write(writer: Writer, octets: &[u8], guess: usize) -> Result<Vec<u8>, Status> {
+    // SAFETY: pointer and size are those of one slice, which is borrowed for the call; the rest is of `stored`.
+    unsafe { stored(guess, |out, capacity, written| writer(octets.as_ptr(), octets.len(), out, capacity, written)) }
+}
+
+/// The octets in hexadecimal digits.
+pub(crate) fn hex(octets: &[u8]) -> Result<Vec<u8>, Status> {
+    // SAFETY: the call is one of those above.
+    unsafe { write(rpki_hex, octets, 2 * octets.len()) }
+}
+
+/// Writes the digits to the front of the buffer, and says how many they are.
+pub(crate) fn hex_into(octets: &[u8], out: &mut [u8]) -> Result<usize, Status> {
+    let mut written = 0;
+    // SAFETY: pointers and sizes are those of slices, which are borrowed for the call, the second for writing alone;
+    // `written` is this function's own.
+    match unsafe { rpki_hex(octets.as_ptr(), octets.len(), out.as_mut_ptr(), out.len(), &mut written) } {
+        0 => Ok(written),
+        status => Err(status),
+    }
+}
+
+/// The INTEGER of a serial number, which has at most 22 octets.
+pub(crate) fn serial_write(serial: &[u8; 20]) -> Result<Vec<u8>, Status> {
+    // SAFETY: the octets are borrowed for the call; the rest is of `stored`.
+    unsafe { stored(22, |out, capacity, written| rpki_serial_write(serial, out, capacity, written)) }
+}
+
+/// The value of a time, which has at most 17 octets.
+pub(crate) fn time_write(moment: &Moment) -> Result<Vec<u8>, Status> {
+    // SAFETY: the moment is borrowed for the call; the rest is of `stored`.
+    unsafe { stored(17, |out, capacity, written| rpki_time_write(moment, out, capacity, written)) }
+}
+
+/// The moment so many years on.
+pub(crate) fn time_years_on(moment: &Moment, years: i32) -> Result<Moment, Status> {
+    // SAFETY: the moment is borrowed for the call, and apart from `out`, which is the function's own.
+    told(|out| unsafe { rpki_time_years_on(moment, years, out) })
+}
+
+/// The public key that the octets are, as it is written: at most two octets more, and the headers'.
+pub(crate) fn public_key_write(octets: &[u8]) -> Result<Vec<u8>, Status> {
+    // SAFETY: the call is one of those above.
+    unsafe { write(rpki_public_key_write, octets, octets.len()) }
+}
+
+/// The RSA key of two numbers.
+pub(crate) fn rsa_key_write(modulus: &[u8], exponent: &[u8]) -> Result<Vec<u8>, Status> {
+    // SAFETY: pointers and sizes are those of slices, which are borrowed for the call; the rest is of `stored`.
+    unsafe {
+        stored(modulus.len().saturating_add(exponent.len()).min(1 << 16) + 40, |out, capacity, written| {
+            let (m, e) = (modulus.as_ptr(), exponent.as_ptr());
+            rpki_rsa_key_write(m, modulus.len(), e, exponent.len(), out, capacity, written)
+        })
+    }
+}
+
+/// The RSA key with these bits.
+pub(crate) fn rsa_key_of_bits(bits: &[u8]) -> Result<Vec<u8>, Status> {
+    // SAFETY: the call is one of those above.
+    unsafe { write(rpki_rsa_key_of_bits, bits, bits.len().min(1 << 16) + 24) }
+}
+
+/// The name of the subject with the key that the octets are, which has 53 octets.
+pub(crate) fn name_of_key(octets: &[u8]) -> Result<Vec<u8>, Status> {
+    // SAFETY: the call is one of those above.
+    unsafe { write(rpki_name_of_key, octets, 53) }
 }

@@ -1,220 +1,540 @@
-//! URIs.
+//! URIs: rsync (RFC 5781) and https.
+//!
+//! A URI keeps the text that it was read from, and shares it with its copies, its parents and the octets that it came
+//! from. It is read once: every later question is answered by where its parts stand.
 
-use crate::error::{JoinError, UriError};
-use crate::ffi;
+use crate::ffi::{self, Parsed};
+use crate::view::UriError;
+use bytes::Bytes;
+use std::borrow::Cow;
 use std::fmt;
+use std::hash::{Hash, Hasher};
+use std::str::FromStr;
+
+pub use crate::view::UriError as Error;
 
 /// The text of octets that a call has accepted: they are characters of ASCII alone.
-fn text_of(octets: &[u8]) -> Result<&str, UriError> {
-    std::str::from_utf8(octets).map_err(|_| UriError::InvalidCharacters)
+fn text_of(octets: &[u8]) -> &str {
+    std::str::from_utf8(octets).expect("URIs have characters of ASCII alone")
 }
 
-/// The most octets that an rsync URI has, or a joined one.
-const LONGEST: usize = 3_079;
-
-/// The error of a call on two texts of which the first is a URI.
-fn error_of_second(status: ffi::Status) -> UriError {
-    UriError::from_status(status.wrapping_sub(ffi::SECOND))
+/// What a call on the parts of a URI tells, whose parts are its own.
+fn known<T>(answer: Result<T, ffi::Status>) -> T {
+    answer.unwrap_or_else(|status| unreachable!("the parts are those of the URI, but the status is {status}"))
 }
 
-/// An rsync URI, `rsync://AUTHORITY/MODULE/PATH` (RFC 5781), as it is spelled. No segment of it is `.`, `..` or, but
-/// for the last, empty: so its path stays in its module.
+/// The octets of a string, or of octets.
+fn is_dir(path: &str) -> bool {
+    path.is_empty() || path.ends_with('/')
+}
+
+/// Tests that each octet is a character that a URI may have: `!`, `$` to `;`, `=`, `A` to `Z`, `_`, `a` to `z`, `~`.
+///
+/// # Errors
+/// `InvalidCharacters`.
+pub fn check_uri_ascii<S: AsRef<[u8]>>(slice: S) -> Result<(), Error> {
+    let is_one = |octet: &u8| matches!(octet, b'!' | b'$'..=b';' | b'=' | b'A'..=b'Z' | b'_' | b'a'..=b'z' | b'~');
+    if slice.as_ref().iter().all(is_one) {
+        Ok(())
+    } else {
+        Err(Error::InvalidCharacters)
+    }
+}
+
+/// Whether these octets are the text, but for the case of its first `front` octets.
+fn is_text(text: &[u8], front: usize, octets: &[u8]) -> bool {
+    octets.len() == text.len()
+        && octets[..front].eq_ignore_ascii_case(&text[..front])
+        && octets[front..] == text[front..]
+}
+
+/// A part of the canonical text, borrowed from the text as it is spelled where both are the same.
+fn canonical_part(canonical: Vec<u8>, spelled: &str, start: usize) -> Cow<'_, str> {
+    let part = &canonical[start..start + spelled.len()];
+    if part == spelled.as_bytes() {
+        Cow::Borrowed(spelled)
+    } else {
+        Cow::Owned(text_of(part).into())
+    }
+}
+
+/// An rsync URI, `rsync://AUTHORITY/MODULE/PATH` (RFC 5781). No segment of it is `.`, `..` or, but for the last, empty:
+/// so its path stays in its module.
+///
+/// Two URIs are equal, and hashed alike, where they differ at most in the case of the scheme and the authority.
 ///
 /// ```
-/// use rpki_proved::{Rsync, UriError};
+/// use rpki_proved::uri::{Error, Rsync};
 ///
-/// let manifest = Rsync::parse("rsync://rpki.example/repository/ca/ca.mft")?;
-/// assert_eq!((manifest.authority(), manifest.module_name()), ("rpki.example", "repository"));
+/// let manifest = Rsync::from_slice(b"rsync://rpki.example/repository/ca/ca.mft")?;
 /// let folder = manifest.parent().unwrap();
-/// assert_eq!(folder.as_str(), "rsync://rpki.example/repository/ca/");
-/// assert_eq!(folder.join("ca.crl")?, "rsync://rpki.example/repository/ca/ca.crl");
-/// assert_eq!(folder.join("../other/ca.crl").unwrap_err(), UriError::DotSegments);
+/// assert_eq!(folder, "rsync://RPKI.example/repository/ca/");
+/// assert_eq!(folder.join(b"ca.crl")?.to_string(), "rsync://rpki.example/repository/ca/ca.crl");
+/// assert_eq!(folder.join(b"../other/ca.crl").unwrap_err(), Error::DotSegments);
 /// assert_eq!(manifest.relative_to(&folder), Some("ca.mft"));
-/// # Ok::<(), UriError>(())
+/// # Ok::<(), Error>(())
 /// ```
-#[derive(Clone, Copy, Debug)]
-pub struct Rsync<'a> {
-    text: &'a str,
-    authority: &'a str,
-    module_name: &'a str,
-    path: &'a str,
+#[derive(Clone)]
+pub struct Rsync {
+    bytes: Bytes,
+    parts: ffi::RsyncParts,
 }
 
-impl<'a> Rsync<'a> {
-    /// Reads an rsync URI. The scheme may be in upper case.
+impl Rsync {
+    /// Reads a URI from a copy of the octets.
     ///
     /// # Errors
     /// The first that is wrong of `InvalidCharacters`, `BadScheme`, `LongUri`, then from the left `DotSegments`,
     /// `LongSegments` and `EmptySegments`, then `BadUri`.
-    pub fn parse(text: &'a str) -> Result<Rsync<'a>, UriError> {
-        let found = ffi::rsync_parse(text.as_bytes()).map_err(UriError::from_status)?;
-        Ok(Rsync::of(text, &found))
+    pub fn from_slice(slice: &[u8]) -> Result<Self, Error> {
+        let parts = ffi::rsync_parse(slice).map_err(UriError::from_status)?;
+        Ok(Rsync { bytes: Bytes::copy_from_slice(slice), parts })
     }
 
-    /// The same of octets that need not be a text.
+    /// Reads a URI from a text, whose memory it keeps.
     ///
     /// # Errors
-    /// Those of [`Rsync::parse`].
-    pub fn from_octets(octets: &'a [u8]) -> Result<Rsync<'a>, UriError> {
-        let found = ffi::rsync_parse(octets).map_err(UriError::from_status)?;
-        Ok(Rsync::of(text_of(octets)?, &found))
+    /// Those of [`Rsync::from_slice`].
+    pub fn from_string(s: String) -> Result<Self, Error> {
+        Rsync::from_bytes(Bytes::from(s))
     }
 
-    /// The URI of a text that was read, by the places of its parts.
-    fn of(text: &'a str, found: &ffi::RsyncParts) -> Rsync<'a> {
-        Rsync {
-            text,
-            authority: found.authority.of_text(text),
-            module_name: found.module_name.of_text(text),
-            path: found.path.of_text(text),
-        }
+    /// Reads a URI from octets, which it shares.
+    ///
+    /// # Errors
+    /// Those of [`Rsync::from_slice`].
+    pub fn from_bytes(bytes: Bytes) -> Result<Self, Error> {
+        let parts = ffi::rsync_parse(&bytes).map_err(UriError::from_status)?;
+        Ok(Rsync { bytes, parts })
+    }
+
+    /// Moves the text to memory that nothing else shares.
+    pub fn unshare(&mut self) {
+        self.bytes = Bytes::copy_from_slice(&self.bytes);
+    }
+
+    fn parsed(&self) -> Parsed<'_, ffi::RsyncParts> {
+        Parsed { text: &self.bytes, parts: &self.parts }
+    }
+
+    /// The URI of a text that has this one's parts, but for its end.
+    fn with_end(&self, bytes: Bytes) -> Rsync {
+        let mut parts = self.parts;
+        parts.path.length = bytes.len() - parts.path.start;
+        Rsync { bytes, parts }
+    }
+
+    /// The text, in octets.
+    pub fn as_slice(&self) -> &[u8] {
+        &self.bytes
     }
 
     /// The text.
-    pub fn as_str(&self) -> &'a str {
-        self.text
+    pub fn as_str(&self) -> &str {
+        text_of(&self.bytes)
     }
 
-    /// The authority: a host, perhaps with a port. Not empty.
-    pub fn authority(&self) -> &'a str {
-        self.authority
+    /// The text, in octets that share its memory.
+    pub fn to_bytes(&self) -> Bytes {
+        self.bytes.clone()
+    }
+
+    /// The authority: a host, perhaps with a port, as it is spelled. Not empty.
+    pub fn authority(&self) -> &str {
+        text_of(self.parts.authority.of(&self.bytes))
+    }
+
+    /// The authority in lower case.
+    pub fn canonical_authority(&self) -> Cow<'_, str> {
+        canonical_part(known(self.parsed().canonical()), self.authority(), self.parts.authority.start)
     }
 
     /// The name of the module. Not empty.
-    pub fn module_name(&self) -> &'a str {
-        self.module_name
+    pub fn module_name(&self) -> &str {
+        text_of(self.parts.module_name.of(&self.bytes))
+    }
+
+    /// The text up to the path: the scheme, the authority and the module, with the slash after it.
+    pub fn module(&self) -> &str {
+        text_of(&self.bytes[..self.parts.path.start])
+    }
+
+    /// The text up to the path, with the scheme and the authority in lower case.
+    pub fn canonical_module(&self) -> Cow<'_, str> {
+        canonical_part(known(self.parsed().canonical()), self.module(), 0)
     }
 
     /// The path: what follows the slash after the module. May be empty.
-    pub fn path(&self) -> &'a str {
-        self.path
+    pub fn path(&self) -> &str {
+        text_of(self.parts.path.of(&self.bytes))
+    }
+
+    /// The path, in octets.
+    pub fn path_bytes(&self) -> &[u8] {
+        self.parts.path.of(&self.bytes)
+    }
+
+    /// Whether the path is empty or ends with a slash.
+    pub fn path_is_dir(&self) -> bool {
+        is_dir(self.path())
+    }
+
+    /// Puts a slash last, unless the path is empty or has one. The text may become too long to be read again.
+    pub fn path_into_dir(&mut self) {
+        if !self.path_is_dir() {
+            *self = self.with_end(Bytes::from(known(self.parsed().into_dir())));
+        }
+    }
+
+    /// Whether the path ends with this text.
+    pub fn ends_with(&self, end: &str) -> bool {
+        self.path().ends_with(end)
+    }
+
+    /// The URI without its last segment, with the slash before that; `None` where the path is empty. It shares this
+    /// one's text.
+    pub fn parent(&self) -> Option<Self> {
+        match self.parsed().parent() {
+            Ok(size) => Some(self.with_end(self.bytes.slice(..size))),
+            Err(ffi::NO_ANSWER) => None,
+            Err(status) => known(Err(status)),
+        }
+    }
+
+    /// The URI with the path after it, with a slash between them where this one ends with none; a copy where the path
+    /// is empty.
+    ///
+    /// # Errors
+    /// The first that is wrong with the path of `InvalidCharacters`, `LongUri`, then from the left `DotSegments`,
+    /// `LongSegments` and `EmptySegments`; then `LongUri` where the text would have 3,072 octets or more.
+    pub fn join(&self, path: &[u8]) -> Result<Self, Error> {
+        if path.is_empty() {
+            return Ok(self.clone());
+        }
+        // No text has as many octets.
+        let size = (self.bytes.len() + usize::from(!self.path_is_dir()) + path.len()).min(3_072);
+        let text = self.parsed().join(path, size).map_err(UriError::from_status)?;
+        Ok(self.with_end(Bytes::from(text)))
     }
 
     /// The path that leads from the other URI to this one: its segments after those of the other, with the last slash.
     /// `None` where they are in two modules or the other's segments do not begin this one's. Authorities are compared
     /// without regard to case, all else exactly.
-    pub fn relative_to(&self, base: &Rsync) -> Option<&'a str> {
-        match ffi::rsync_relative_to(self.text.as_bytes(), base.text.as_bytes()) {
-            Ok(place) => Some(place.of_text(self.text)),
+    pub fn relative_to(&self, other: &Rsync) -> Option<&str> {
+        match self.parsed().relative_to(other.parsed()) {
+            Ok(place) => Some(text_of(place.of(&self.bytes))),
             Err(ffi::NO_ANSWER) => None,
-            Err(status) => unreachable!("both are URIs, but the status is {status}"),
+            Err(status) => known(Err(status)),
         }
     }
 
-    /// The URI without its last segment, with the slash before that; `None` where the path is empty.
-    pub fn parent(&self) -> Option<Rsync<'a>> {
-        match ffi::rsync_parent(self.text.as_bytes()) {
-            Ok(size) => Some(Rsync {
-                text: &self.text[..size],
-                path: &self.path[..self.path.len() - (self.text.len() - size)],
-                ..*self
-            }),
-            Err(ffi::NO_ANSWER) => None,
-            Err(status) => unreachable!("this is a URI, but the status is {status}"),
-        }
+    /// Whether the other URI lies below this one: in the same module, with more segments that begin with this one's.
+    pub fn is_parent_of(&self, other: &Self) -> bool {
+        known(self.parsed().is_parent_of(other.parsed()))
     }
 
-    /// The text of this URI with the path after it, with a slash between them where this one ends with none; this text
-    /// itself where the path is empty.
-    ///
-    /// # Errors
-    /// The first that is wrong with the path of `InvalidCharacters`, `LongUri`, then from the left `DotSegments`,
-    /// `LongSegments` and `EmptySegments`; then `LongUri` where the text would have 3,072 octets or more.
-    pub fn join(&self, path: impl AsRef<[u8]>) -> Result<String, UriError> {
-        let path = path.as_ref();
-        let mut room = vec![0; LONGEST.min(self.text.len() + 1 + path.len())];
-        let size = ffi::rsync_join(self.text.as_bytes(), path, &mut room).map_err(error_of_second)?;
-        room.truncate(size);
-        String::from_utf8(room).map_err(|_| UriError::InvalidCharacters)
-    }
-
-    /// The same, written to the front of a buffer. Nothing is written where it fails.
-    ///
-    /// ```
-    /// # use rpki_proved::{JoinError, Rsync};
-    /// let folder = Rsync::parse("rsync://host/module/")?;
-    /// let mut buffer = [0; 32];
-    /// assert_eq!(folder.join_into("ca.mft", &mut buffer)?, "rsync://host/module/ca.mft");
-    /// assert_eq!(folder.join_into("ca.mft", &mut buffer[..25]).unwrap_err(), JoinError::TooSmall);
-    /// # Ok::<(), JoinError>(())
-    /// ```
-    ///
-    /// # Errors
-    /// Those of [`Rsync::join`], and `TooSmall` where the text is longer than the buffer.
-    pub fn join_into<'b>(&self, path: impl AsRef<[u8]>, buffer: &'b mut [u8]) -> Result<&'b str, JoinError> {
-        match ffi::rsync_join(self.text.as_bytes(), path.as_ref(), buffer) {
-            Ok(size) => Ok(text_of(&buffer[..size])?),
-            Err(ffi::TOO_SMALL) => Err(JoinError::TooSmall),
-            Err(status) => Err(JoinError::Uri(error_of_second(status))),
-        }
+    /// Whether both are in the same module and have the same segments, with a slash last or without.
+    pub fn is_identical_to(&self, other: &Self) -> bool {
+        known(self.parsed().is_identical_to(other.parsed()))
     }
 }
 
-impl fmt::Display for Rsync<'_> {
-    fn fmt(&self, f: &mut fmt::Formatter) -> fmt::Result {
-        f.write_str(self.text)
+impl PartialEq for Rsync {
+    fn eq(&self, other: &Self) -> bool {
+        known(self.parsed().equal(other.parsed()))
     }
 }
 
-/// An https URI, as it is spelled. Its segments and its length are free.
+impl Eq for Rsync {}
+
+impl Hash for Rsync {
+    /// Hashes the text in canonical form.
+    fn hash<H: Hasher>(&self, state: &mut H) {
+        known(self.parsed().canonical()).hash(state)
+    }
+}
+
+/// An https URI. Its segments and its length are free.
+///
+/// Two URIs are equal, and hashed alike, where they differ at most in the case of the scheme and the authority.
 ///
 /// ```
-/// use rpki_proved::Https;
+/// use rpki_proved::uri::Https;
 ///
-/// let uri = Https::parse("https://rrdp.example/notification.xml")?;
+/// let uri: Https = "https://rrdp.example/notification.xml".parse()?;
 /// assert_eq!((uri.authority(), uri.path()), ("rrdp.example", "/notification.xml"));
-/// # Ok::<(), rpki_proved::UriError>(())
+/// assert_eq!(uri.parent().unwrap().join(b"snapshot.xml")?, "https://rrdp.example/snapshot.xml");
+/// # Ok::<(), rpki_proved::uri::Error>(())
 /// ```
-#[derive(Clone, Copy, Debug)]
-pub struct Https<'a> {
-    text: &'a str,
-    authority: &'a str,
-    path: &'a str,
+#[derive(Clone)]
+pub struct Https {
+    bytes: Bytes,
+    parts: ffi::HttpsParts,
 }
 
-impl<'a> Https<'a> {
-    /// Reads an https URI. The scheme may be in upper case.
+impl Https {
+    /// Reads a URI from a copy of the octets.
     ///
     /// # Errors
     /// The first that is wrong of `InvalidCharacters`, `BadScheme`, and `BadUri` for an authority of 256 octets or
     /// more.
-    pub fn parse(text: &'a str) -> Result<Https<'a>, UriError> {
-        let found = ffi::https_parse(text.as_bytes()).map_err(UriError::from_status)?;
-        Ok(Https::of(text, &found))
+    pub fn from_slice(slice: &[u8]) -> Result<Self, Error> {
+        let parts = ffi::https_parse(slice).map_err(UriError::from_status)?;
+        Ok(Https { bytes: Bytes::copy_from_slice(slice), parts })
     }
 
-    /// The same of octets that need not be a text.
+    /// Reads a URI from a text, whose memory it keeps.
     ///
     /// # Errors
-    /// Those of [`Https::parse`].
-    pub fn from_octets(octets: &'a [u8]) -> Result<Https<'a>, UriError> {
-        let found = ffi::https_parse(octets).map_err(UriError::from_status)?;
-        Ok(Https::of(text_of(octets)?, &found))
+    /// Those of [`Https::from_slice`].
+    pub fn from_string(s: String) -> Result<Self, Error> {
+        Https::from_bytes(Bytes::from(s))
     }
 
-    /// The URI of a text that was read, by the places of its parts.
-    fn of(text: &'a str, found: &ffi::HttpsParts) -> Https<'a> {
-        Https { text, authority: found.authority.of_text(text), path: found.path.of_text(text) }
+    /// Reads a URI from octets, which it shares.
+    ///
+    /// # Errors
+    /// Those of [`Https::from_slice`].
+    pub fn from_bytes(bytes: Bytes) -> Result<Self, Error> {
+        let parts = ffi::https_parse(&bytes).map_err(UriError::from_status)?;
+        Ok(Https { bytes, parts })
+    }
+
+    /// Moves the text to memory that nothing else shares.
+    pub fn unshare(&mut self) {
+        self.bytes = Bytes::copy_from_slice(&self.bytes);
+    }
+
+    fn parsed(&self) -> Parsed<'_, ffi::HttpsParts> {
+        Parsed { text: &self.bytes, parts: &self.parts }
+    }
+
+    /// The URI of a text that has this one's parts, but for its end.
+    fn with_end(&self, bytes: Bytes) -> Https {
+        let mut parts = self.parts;
+        parts.path.length = bytes.len() - parts.path.start;
+        Https { bytes, parts }
+    }
+
+    /// The text, in octets.
+    pub fn as_slice(&self) -> &[u8] {
+        &self.bytes
     }
 
     /// The text.
-    pub fn as_str(&self) -> &'a str {
-        self.text
+    pub fn as_str(&self) -> &str {
+        text_of(&self.bytes)
     }
 
-    /// The authority, which may be empty.
-    pub fn authority(&self) -> &'a str {
-        self.authority
+    /// The scheme, which is https.
+    pub fn scheme(&self) -> Scheme {
+        Scheme::Https
+    }
+
+    /// The authority as it is spelled, which may be empty.
+    pub fn authority(&self) -> &str {
+        text_of(self.parts.authority.of(&self.bytes))
+    }
+
+    /// The authority in lower case.
+    pub fn canonical_authority(&self) -> Cow<'_, str> {
+        canonical_part(known(self.parsed().canonical()), self.authority(), self.parts.authority.start)
+    }
+
+    /// Whether both have the same authority, without regard to case.
+    pub fn eq_authority(&self, other: &Self) -> bool {
+        self.canonical_authority() == other.canonical_authority()
     }
 
     /// The path: empty, or with its slash in front.
-    pub fn path(&self) -> &'a str {
-        self.path
+    pub fn path(&self) -> &str {
+        text_of(self.parts.path.of(&self.bytes))
+    }
+
+    /// Whether the path is empty or ends with a slash.
+    pub fn path_is_dir(&self) -> bool {
+        is_dir(self.path())
+    }
+
+    /// Puts a slash last, unless the path is empty or has one.
+    pub fn path_into_dir(&mut self) {
+        if !self.path_is_dir() {
+            *self = self.with_end(Bytes::from(known(self.parsed().into_dir())));
+        }
+    }
+
+    /// The URI above: one last slash of the path dropped, and then everything after the last slash that is left; `None`
+    /// where nothing is left. It shares this one's text.
+    pub fn parent(&self) -> Option<Self> {
+        match self.parsed().parent() {
+            Ok(size) => Some(self.with_end(self.bytes.slice(..size))),
+            Err(ffi::NO_ANSWER) => None,
+            Err(status) => known(Err(status)),
+        }
+    }
+
+    /// The URI with the path after it, with a slash between them where this one's path is empty or ends with none.
+    ///
+    /// # Errors
+    /// `InvalidCharacters`.
+    pub fn join(&self, path: &[u8]) -> Result<Self, Error> {
+        let size = self.bytes.len() + usize::from(!self.path().ends_with('/')) + path.len();
+        let text = self.parsed().join(path, size).map_err(UriError::from_status)?;
+        Ok(self.with_end(Bytes::from(text)))
     }
 }
 
-impl fmt::Display for Https<'_> {
+impl PartialEq for Https {
+    fn eq(&self, other: &Self) -> bool {
+        known(self.parsed().equal(other.parsed()))
+    }
+}
+
+impl Eq for Https {}
+
+impl Hash for Https {
+    /// Hashes the text in canonical form.
+    fn hash<H: Hasher>(&self, state: &mut H) {
+        known(self.parsed().canonical()).hash(state)
+    }
+}
+
+/// The conversions that both kinds of URIs have, of which the scheme and the authority end at a place.
+macro_rules! conversions {
+    ($uri:ident) => {
+        impl FromStr for $uri {
+            type Err = Error;
+
+            fn from_str(s: &str) -> Result<Self, Error> {
+                $uri::from_slice(s.as_bytes())
+            }
+        }
+
+        impl TryFrom<String> for $uri {
+            type Error = Error;
+
+            fn try_from(s: String) -> Result<Self, Error> {
+                $uri::from_string(s)
+            }
+        }
+
+        impl TryFrom<Bytes> for $uri {
+            type Error = Error;
+
+            fn try_from(bytes: Bytes) -> Result<Self, Error> {
+                $uri::from_bytes(bytes)
+            }
+        }
+
+        impl AsRef<Bytes> for $uri {
+            fn as_ref(&self) -> &Bytes {
+                &self.bytes
+            }
+        }
+
+        impl AsRef<[u8]> for $uri {
+            fn as_ref(&self) -> &[u8] {
+                self.as_slice()
+            }
+        }
+
+        impl AsRef<str> for $uri {
+            fn as_ref(&self) -> &str {
+                self.as_str()
+            }
+        }
+
+        impl fmt::Display for $uri {
+            fn fmt(&self, f: &mut fmt::Formatter) -> fmt::Result {
+                f.pad(self.as_str())
+            }
+        }
+
+        impl fmt::Debug for $uri {
+            fn fmt(&self, f: &mut fmt::Formatter) -> fmt::Result {
+                f.debug_tuple(stringify!($uri)).field(&self.as_str()).finish()
+            }
+        }
+
+        /// Whether these octets are the text, but for the case of its scheme and its authority.
+        impl PartialEq<[u8]> for $uri {
+            fn eq(&self, other: &[u8]) -> bool {
+                let authority = &self.parts.authority;
+                is_text(&self.bytes, authority.start + authority.length, other)
+            }
+        }
+
+        equal_to!($uri: &[u8], str, &str, String, Vec<u8>, Bytes);
+
+        #[cfg(feature = "serde")]
+        impl serde::Serialize for $uri {
+            /// The text as it is spelled.
+            fn serialize<S: serde::Serializer>(&self, serializer: S) -> Result<S::Ok, S::Error> {
+                serializer.serialize_str(self.as_str())
+            }
+        }
+
+        #[cfg(feature = "serde")]
+        impl<'de> serde::Deserialize<'de> for $uri {
+            fn deserialize<D: serde::Deserializer<'de>>(deserializer: D) -> Result<Self, D::Error> {
+                $uri::from_string(crate::texts::string(deserializer)?).map_err(serde::de::Error::custom)
+            }
+        }
+    };
+}
+
+/// Equality with what has octets, by that with the octets.
+macro_rules! equal_to {
+    ($uri:ident: $($other:ty),*) => {
+        $(impl PartialEq<$other> for $uri {
+            fn eq(&self, other: &$other) -> bool {
+                let octets: &[u8] = other.as_ref();
+                *self == *octets
+            }
+        })*
+    };
+}
+
+conversions!(Rsync);
+conversions!(Https);
+
+/// The scheme of a URI.
+#[derive(Clone, Copy, Debug, PartialEq, Eq)]
+pub enum Scheme {
+    /// `https`.
+    Https,
+    /// `rsync`.
+    Rsync,
+}
+
+impl Scheme {
+    /// Whether this is `https`.
+    pub fn is_https(self) -> bool {
+        self == Scheme::Https
+    }
+
+    /// Whether this is `rsync`.
+    pub fn is_rsync(self) -> bool {
+        self == Scheme::Rsync
+    }
+
+    /// The scheme: `https` or `rsync`.
+    pub fn as_str(self) -> &'static str {
+        match self {
+            Scheme::Https => "https",
+            Scheme::Rsync => "rsync",
+        }
+    }
+
+    /// The scheme, a colon and two slashes.
+    pub fn into_string(self) -> String {
+        self.to_string()
+    }
+}
+
+impl fmt::Display for Scheme {
+    /// The scheme, a colon and two slashes.
     fn fmt(&self, f: &mut fmt::Formatter) -> fmt::Result {
-        f.write_str(self.text)
+        write!(f, "{}://", self.as_str())
     }
 }

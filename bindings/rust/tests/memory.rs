@@ -1,6 +1,6 @@
 //! Where memory ends, an index says so and ends nothing.
 
-use rpki_proved::{walk, DecodeError, Index};
+use rpki_proved::view::{walk, DecodeError, Index};
 use std::process::Command;
 
 /// A SEQUENCE of so many NULLs, 4,000,000 or more and fewer than 8,388,608.

@@ -1,6 +1,6 @@
 //! Makes the calls of `rows.txt`, and compares what they return with what the rows say.
 
-use rpki_proved::*;
+use rpki_proved::view::*;
 use std::collections::HashMap;
 use std::fmt::Write;
 

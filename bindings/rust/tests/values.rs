@@ -1,6 +1,6 @@
 //! What the rows don't see of the values that this package makes: texts, bounds, and octets around values.
 
-use rpki_proved::*;
+use rpki_proved::view::*;
 use std::error::Error;
 
 /// A period has both of its ends (RFC 5280 4.1.2.5): from 1970-01-01 00:00:00 to 1970-01-01 00:00:09.
@@ -167,5 +167,5 @@ fn errors_have_texts() {
 /// The library that is linked is of this package's version.
 #[test]
 fn the_version_is_the_packages() {
-    assert_eq!(library_version().to_string(), env!("CARGO_PKG_VERSION"));
+    assert_eq!(rpki_proved::library_version().to_string(), env!("CARGO_PKG_VERSION"));
 }

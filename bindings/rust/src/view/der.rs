@@ -1,7 +1,7 @@
 //! Headers and walks.
 
-use crate::error::DecodeError;
 use crate::ffi;
+use crate::view::error::DecodeError;
 
 /// The class of a tag (X.690 8.1.2.2).
 #[derive(Clone, Copy, Debug, PartialEq, Eq, Hash)]
@@ -31,7 +31,7 @@ impl Class {
 /// The header of a value: its identifier octets and its length octets (X.690 8.1.2, 8.1.3).
 ///
 /// ```
-/// use rpki_proved::{Class, DecodeError, Header};
+/// use rpki_proved::view::{Class, DecodeError, Header};
 ///
 /// let header = Header::read(b"\x30\x82\x01\x00 and 254 octets more")?;
 /// assert_eq!((header.class(), header.number()), (Class::Universal, 16));
@@ -114,9 +114,9 @@ impl<'a> Walked<'a> {
 /// contents of a primitive value are not looked at.
 ///
 /// ```
-/// let walked = rpki_proved::walk(b"\x30\x06\x30\x04\x30\x02\x30\x00 and more")?;
+/// let walked = rpki_proved::view::walk(b"\x30\x06\x30\x04\x30\x02\x30\x00 and more")?;
 /// assert_eq!((walked.octets().len(), walked.headers()), (8, 4));
-/// # Ok::<(), rpki_proved::DecodeError>(())
+/// # Ok::<(), rpki_proved::view::DecodeError>(())
 /// ```
 ///
 /// # Errors
@@ -132,8 +132,8 @@ pub fn walk(octets: &[u8]) -> Result<Walked<'_>, DecodeError> {
 ///
 /// ```
 /// // A SEQUENCE of two values, of which the second has no header.
-/// assert_eq!(rpki_proved::fault(b"\x30\x04\x05\x00\x1f\x1e"), Ok(Some(4)));
-/// assert_eq!(rpki_proved::fault(b"\x30\x02\x05\x00"), Ok(None));
+/// assert_eq!(rpki_proved::view::fault(b"\x30\x04\x05\x00\x1f\x1e"), Ok(Some(4)));
+/// assert_eq!(rpki_proved::view::fault(b"\x30\x02\x05\x00"), Ok(None));
 /// ```
 ///
 /// # Errors

@@ -1,7 +1,7 @@
 //! Public keys.
 
-use crate::error::DecodeError;
 use crate::ffi;
+use crate::view::error::DecodeError;
 use std::fmt;
 
 /// The format of a public key.
@@ -16,7 +16,7 @@ pub enum KeyFormat {
 /// A public key, a SubjectPublicKeyInfo (RFC 5280 4.1.2.7).
 ///
 /// ```
-/// use rpki_proved::{DecodeError, KeyFormat, PublicKey};
+/// use rpki_proved::view::{DecodeError, KeyFormat, PublicKey};
 ///
 /// // An RSA key whose bits are `abc`.
 /// let octets = b"\x30\x15\x30\x0d\x06\x09\x2a\x86\x48\x86\xf7\x0d\x01\x01\x01\x05\x00\x03\x04\x00abc";

@@ -1,7 +1,7 @@
 //! Signed data.
 
-use crate::error::DecodeError;
 use crate::ffi;
+use crate::view::error::DecodeError;
 
 /// Signed data of the RPKI (RFC 5280 4.1), as a certificate or a revocation list: one value, the algorithm identifier
 /// sha256WithRSAEncryption with NULL for parameters or with none, and a signature.

@@ -1,13 +1,13 @@
 //! The index of a value's headers.
 
-use crate::der::Class;
-use crate::error::DecodeError;
 use crate::ffi;
+use crate::view::der::Class;
+use crate::view::error::DecodeError;
 
 /// A value and all that is nested in it, to any depth, by its headers: an entry for each, in order of place.
 ///
 /// ```
-/// use rpki_proved::{DecodeError, Index};
+/// use rpki_proved::view::{DecodeError, Index};
 ///
 /// // A SEQUENCE of an INTEGER and a SEQUENCE of a NULL.
 /// let index = Index::of(b"\x30\x07\x02\x01\x2a\x30\x02\x05\x00")?;
@@ -28,7 +28,7 @@ impl<'a> Index<'a> {
     /// value. Takes 40 octets a header, and up to 96 more while it is made; nothing where there is no value.
     ///
     /// # Errors
-    /// Those of [`walk`](crate::walk); `OutOfMemory` also where there is no room for the entries.
+    /// Those of [`walk`](crate::view::walk); `OutOfMemory` also where there is no room for the entries.
     pub fn of(octets: &'a [u8]) -> Result<Index<'a>, DecodeError> {
         let walked = ffi::walk(octets).map_err(DecodeError::from_status)?;
         let octets = &octets[..walked.size];

@@ -1,7 +1,7 @@
 //! Times and periods of validity.
 
-use crate::error::DecodeError;
 use crate::ffi;
+use crate::view::error::DecodeError;
 use std::fmt;
 
 /// A time of a certificate, to the second, in UTC: of a year from 0 to 9999. Times are ordered as they follow each
@@ -22,11 +22,11 @@ impl Time {
     /// 4.1.2.5).
     ///
     /// ```
-    /// # use rpki_proved::Time;
+    /// # use rpki_proved::view::Time;
     /// let time = Time::decode(b"\x17\x0d801001163015Z")?;
     /// assert_eq!(time.to_string(), "1980-10-01T16:30:15Z");
     /// assert_eq!(time.seconds(), 339_265_815);
-    /// # Ok::<(), rpki_proved::DecodeError>(())
+    /// # Ok::<(), rpki_proved::view::DecodeError>(())
     /// ```
     ///
     /// # Errors

@@ -1,7 +1,7 @@
 //! Names, serial numbers, extensions and object identifiers.
 
-use crate::error::{DecodeError, InspectError};
 use crate::ffi;
+use crate::view::error::{DecodeError, InspectError};
 use std::fmt;
 
 /// A profile of names.
@@ -16,13 +16,13 @@ pub enum Profile {
 /// A name (RFC 5280 4.1.2.4).
 ///
 /// ```
-/// use rpki_proved::{InspectError, Name, Profile};
+/// use rpki_proved::view::{InspectError, Name, Profile};
 ///
 /// // One common name, A, as a UTF8String: a router's name may be that, a resource certificate's may not.
 /// let name = Name::decode(b"\x30\x0c\x31\x0a\x30\x08\x06\x03\x55\x04\x03\x0c\x01A")?;
 /// assert_eq!(name.inspect(Profile::Router), Ok(()));
 /// assert_eq!(name.inspect(Profile::Rpki), Err(InspectError::StringNotPermitted));
-/// # Ok::<(), rpki_proved::DecodeError>(())
+/// # Ok::<(), rpki_proved::view::DecodeError>(())
 /// ```
 #[derive(Clone, Copy, Debug)]
 pub struct Name<'a> {
@@ -65,7 +65,7 @@ impl Serial {
     /// Reads a serial number, an INTEGER, that is all of the octets.
     ///
     /// ```
-    /// # use rpki_proved::{DecodeError, Serial};
+    /// # use rpki_proved::view::{DecodeError, Serial};
     /// assert_eq!(Serial::decode(b"\x02\x02\x00\x80")?.to_string(), "80");
     /// assert_eq!(Serial::decode(b"\x02\x01\x80").unwrap_err(), DecodeError::Content);
     /// # Ok::<(), DecodeError>(())
@@ -100,14 +100,14 @@ impl fmt::Debug for Serial {
 /// An extension of a certificate (RFC 5280 4.1).
 ///
 /// ```
-/// use rpki_proved::Extension;
+/// use rpki_proved::view::Extension;
 ///
 /// // Basic constraints, critical: an empty SEQUENCE.
 /// let extension = Extension::decode(b"\x30\x0c\x06\x03\x55\x1d\x13\x01\x01\xff\x04\x02\x30\x00")?;
 /// assert_eq!(extension.id().to_string(), "2.5.29.19");
 /// assert!(extension.is_critical());
 /// assert_eq!(extension.octets(), b"\x30\x00");
-/// # Ok::<(), rpki_proved::DecodeError>(())
+/// # Ok::<(), rpki_proved::view::DecodeError>(())
 /// ```
 #[derive(Clone, Copy, Debug)]
 pub struct Extension<'a> {
@@ -161,23 +161,28 @@ impl<'a> ObjectIdentifier<'a> {
 impl fmt::Display for ObjectIdentifier<'_> {
     /// Arcs of 2^121 or more are shown as `?`.
     fn fmt(&self, f: &mut fmt::Formatter) -> fmt::Result {
-        let mut arc: Option<u128> = Some(0);
-        let mut first = true;
-        for octet in self.0 {
-            arc = arc.filter(|arc| *arc < 1 << 114).map(|arc| arc * 128 + u128::from(octet & 0x7F));
-            if octet & 0x80 != 0 {
-                continue;
-            }
-            match arc {
-                Some(arc) if first => write!(f, "{}.{}", arc.min(80) / 40, arc - arc.min(80) / 40 * 40)?,
-                Some(arc) => write!(f, ".{arc}")?,
-                None => f.write_str(if first { "2.?" } else { ".?" })?,
-            }
-            first = false;
-            arc = Some(0);
-        }
-        Ok(())
+        dotted(self.0, f)
     }
+}
+
+/// Shows the contents octets of an object identifier in dotted form. Arcs of 2^121 or more are shown as `?`.
+pub(crate) fn dotted(octets: &[u8], f: &mut fmt::Formatter) -> fmt::Result {
+    let mut arc: Option<u128> = Some(0);
+    let mut first = true;
+    for octet in octets {
+        arc = arc.filter(|arc| *arc < 1 << 114).map(|arc| arc * 128 + u128::from(octet & 0x7F));
+        if octet & 0x80 != 0 {
+            continue;
+        }
+        match arc {
+            Some(arc) if first => write!(f, "{}.{}", arc.min(80) / 40, arc - arc.min(80) / 40 * 40)?,
+            Some(arc) => write!(f, ".{arc}")?,
+            None => f.write_str(if first { "2.?" } else { ".?" })?,
+        }
+        first = false;
+        arc = Some(0);
+    }
+    Ok(())
 }
 
 impl fmt::Debug for ObjectIdentifier<'_> {

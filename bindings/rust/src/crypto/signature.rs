@@ -1,0 +1,128 @@
+//! Signatures.
+
+use crate::crypto::keys::PublicKeyFormat;
+use bytes::Bytes;
+use std::error::Error;
+use std::fmt;
+
+/// What makes the checks of signatures: a library for RSA and for ECDSA, or what stands for one.
+///
+/// The package computes no signature. It asks the right question: the bits of the key, exactly the octets that were
+/// signed, and the octets of the signature. `examples/verify.rs` has one over OpenSSL.
+pub trait Provider {
+    /// Whether the signature is by this RSA key over this message (RSASSA-PKCS1-v1_5 with SHA-256). The bits are those
+    /// of an RSAPublicKey (RFC 8017 A.1.1).
+    fn rsa_check(&self, bits: &[u8], message: &[u8], signature: &[u8]) -> bool;
+
+    /// Whether the signature is by this key over this message (ECDSA on P-256 with SHA-256). The bits are those of a
+    /// point (RFC 5480 2.2). False where this isn't written over.
+    fn ecdsa_check(&self, bits: &[u8], message: &[u8], signature: &[u8]) -> bool {
+        let _ = (bits, message, signature);
+        false
+    }
+}
+
+/// A signature is not by the key over the message.
+#[derive(Clone, Copy, Debug, PartialEq, Eq)]
+pub struct SignatureVerificationError(pub(crate) ());
+
+impl fmt::Display for SignatureVerificationError {
+    fn fmt(&self, f: &mut fmt::Formatter) -> fmt::Result {
+        f.write_str("signature verification failed")
+    }
+}
+
+impl Error for SignatureVerificationError {}
+
+/// How something is signed.
+#[derive(Clone, Copy, Debug, PartialEq, Eq)]
+#[non_exhaustive]
+pub enum SigningAlgorithm {
+    /// RSASSA-PKCS1-v1_5 with SHA-256 (RFC 7935 2).
+    RsaSha256,
+    /// ECDSA on P-256 with SHA-256 (RFC 8608 2).
+    EcdsaP256Sha256,
+}
+
+impl SigningAlgorithm {
+    /// The format of its keys.
+    pub fn public_key_format(self) -> PublicKeyFormat {
+        match self {
+            SigningAlgorithm::RsaSha256 => PublicKeyFormat::Rsa,
+            SigningAlgorithm::EcdsaP256Sha256 => PublicKeyFormat::EcdsaP256,
+        }
+    }
+}
+
+/// The algorithm of a signature.
+pub trait SignatureAlgorithm: Sized {
+    /// How it signs.
+    fn signing_algorithm(&self) -> SigningAlgorithm;
+
+    /// The format of its keys.
+    fn public_key_format(&self) -> PublicKeyFormat {
+        self.signing_algorithm().public_key_format()
+    }
+}
+
+/// The signature algorithm of the RPKI, RSA with SHA-256 (RFC 7935 2). It remembers whether its identifier had
+/// parameters.
+#[derive(Clone, Copy, Debug, PartialEq, Eq, Hash)]
+pub struct RpkiSignatureAlgorithm {
+    pub(crate) has_parameters: bool,
+}
+
+impl Default for RpkiSignatureAlgorithm {
+    /// With parameters, as it is written.
+    fn default() -> Self {
+        RpkiSignatureAlgorithm { has_parameters: true }
+    }
+}
+
+impl SignatureAlgorithm for RpkiSignatureAlgorithm {
+    fn signing_algorithm(&self) -> SigningAlgorithm {
+        SigningAlgorithm::RsaSha256
+    }
+}
+
+/// The signature algorithm of BGPsec, ECDSA on P-256 with SHA-256 (RFC 8608 2).
+#[derive(Clone, Copy, Debug, Default, PartialEq, Eq)]
+pub struct BgpsecSignatureAlgorithm(());
+
+impl SignatureAlgorithm for BgpsecSignatureAlgorithm {
+    fn signing_algorithm(&self) -> SigningAlgorithm {
+        SigningAlgorithm::EcdsaP256Sha256
+    }
+}
+
+/// The octets of a signature, and its algorithm.
+#[derive(Clone, Debug, PartialEq, Eq)]
+pub struct Signature<Alg> {
+    algorithm: Alg,
+    value: Bytes,
+}
+
+/// A signature of the RPKI.
+pub type RpkiSignature = Signature<RpkiSignatureAlgorithm>;
+
+impl<Alg> Signature<Alg> {
+    /// The signature of this algorithm with these octets.
+    pub fn new(algorithm: Alg, value: Bytes) -> Self {
+        Signature { algorithm, value }
+    }
+
+    /// The algorithm.
+    pub fn algorithm(&self) -> &Alg {
+        &self.algorithm
+    }
+
+    /// The octets.
+    pub fn value(&self) -> &Bytes {
+        &self.value
+    }
+
+    /// The algorithm and the octets.
+    pub fn unwrap(self) -> (Alg, Bytes) {
+        (self.algorithm, self.value)
+    }
+}

@@ -1,0 +1,96 @@
+//! Signed data.
+
+use crate::crypto::keys::PublicKey;
+use crate::crypto::signature::{
+    Provider, RpkiSignature, RpkiSignatureAlgorithm, Signature, SignatureVerificationError,
+};
+use crate::ffi;
+use crate::repository::x509::value;
+use crate::view::DecodeError;
+use bytes::Bytes;
+
+/// The algorithm identifier sha256WithRSAEncryption with NULL for parameters (RFC 7935 2).
+const ALGORITHM: &[u8] = b"\x30\x0d\x06\x09\x2a\x86\x48\x86\xf7\x0d\x01\x01\x0b\x05\x00";
+
+/// Signed data of the RPKI (RFC 5280 4.1), as a certificate or a revocation list: one value, and a signature over
+/// exactly its octets. It shares the octets that it was read from.
+///
+/// ```
+/// use rpki_proved::repository::x509::SignedData;
+///
+/// // An empty SEQUENCE, sha256WithRSAEncryption without parameters, and a signature of the octet AA.
+/// let signed = SignedData::decode(
+///     &b"\x30\x13\x30\x00\x30\x0b\x06\x09\x2a\x86\x48\x86\xf7\x0d\x01\x01\x0b\x03\x02\x00\xaa"[..],
+/// )?;
+/// assert_eq!(signed.data(), &b"\x30\x00"[..]);
+/// assert_eq!(
+///     signed.to_bytes(),
+///     &b"\x30\x15\x30\x00\x30\x0d\x06\x09\x2a\x86\x48\x86\xf7\x0d\x01\x01\x0b\x05\x00\x03\x02\x00\xaa"[..],
+/// );
+/// # Ok::<(), rpki_proved::DecodeError>(())
+/// ```
+#[derive(Clone, Debug, PartialEq, Eq)]
+pub struct SignedData {
+    data: Bytes,
+    signature: RpkiSignature,
+}
+
+impl SignedData {
+    /// The value, and a signature over it.
+    ///
+    /// # Errors
+    /// The octets are not exactly one value, with all that is nested in it.
+    pub fn new(data: impl Into<Bytes>, signature: RpkiSignature) -> Result<Self, DecodeError> {
+        let data = data.into();
+        let walked = ffi::walk(&data).map_err(DecodeError::from_status)?;
+        if walked.size < data.len() {
+            return Err(DecodeError::Trailing);
+        }
+        Ok(SignedData { data, signature })
+    }
+
+    /// Reads signed data that is all of the octets.
+    ///
+    /// # Errors
+    /// `OtherAlgorithm` where all is well formed as far as the algorithm identifier, and that is another one;
+    /// `Trailing` where octets follow signed data, `OutOfMemory`, and else why no beginning of the octets is any.
+    pub fn decode(octets: impl Into<Bytes>) -> Result<Self, DecodeError> {
+        let octets = octets.into();
+        let found = ffi::signed_data(&octets).map_err(DecodeError::from_status)?;
+        let algorithm = RpkiSignatureAlgorithm { has_parameters: found.has_parameters };
+        let signature = Signature::new(algorithm, octets.slice(found.signature.range()));
+        Ok(SignedData { data: octets.slice(found.data.range()), signature })
+    }
+
+    /// The value, as exactly the octets that are signed.
+    pub fn data(&self) -> &Bytes {
+        &self.data
+    }
+
+    /// The signature.
+    pub fn signature(&self) -> &RpkiSignature {
+        &self.signature
+    }
+
+    /// Checks that the signature is by this key over exactly the signed octets, as the provider says.
+    ///
+    /// # Errors
+    /// The key is of another format, or the provider says no.
+    pub fn verify_signature(
+        &self,
+        provider: &impl Provider,
+        key: &PublicKey,
+    ) -> Result<(), SignatureVerificationError> {
+        key.verify(provider, &self.data, &self.signature)
+    }
+
+    /// The signed data as it is written: exactly the signed octets, the algorithm with parameters, and the signature
+    /// with no unused bits.
+    ///
+    /// # Panics
+    /// If it would have contents of 2^32 octets or more.
+    pub fn to_bytes(&self) -> Bytes {
+        let bits = value(0x03, &[b"\x00", &self.signature.value()[..]].concat());
+        value(0x30, &[&self.data[..], ALGORITHM, &bits].concat()).into()
+    }
+}

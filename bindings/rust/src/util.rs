@@ -1,0 +1,4 @@
+//! Texts of octets.
+
+pub mod base64;
+pub mod hex;
