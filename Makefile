@@ -45,7 +45,7 @@ endif
 # Its names are those that the header declares, and no others.
 $(SHARED): $(ARCHIVE) include/rpki.h
 	mkdir -p $(BUILD)
-	{ echo '{ global:'; sed -nE 's/^[a-z0-9_]+ (rpki_[a-z_]+)\(.*/    \1;/p' include/rpki.h; echo 'local: *; };'; } \
+	{ echo '{ global:'; sed -nE 's/^[a-z0-9_]+ (rpki_[a-z0-9_]+)\(.*/    \1;/p' include/rpki.h; echo 'local: *; };'; } \
 	    > $(BUILD)/rpki.map
 	$(CC) -shared -Wl,-soname,librpki.so.$(MAJOR) -Wl,--version-script=$(BUILD)/rpki.map -Wl,-z,relro,-z,now,-z,defs \
 	    $(LDFLAGS) -o $@ -Wl,--whole-archive $(ARCHIVE) -Wl,--no-whole-archive

@@ -12,6 +12,7 @@ pub mod Serial
 pub mod Time
 pub mod Made
 pub mod MadeValues
+pub mod Base64
 pub mod Names
 pub mod HttpsUri
 pub mod HttpsPlaces

@@ -6,6 +6,7 @@
 //! allocator is no parameter.
 #![tactic(auto)]
 
+mod base_64;
 mod digests;
 mod digits;
 mod extensions;

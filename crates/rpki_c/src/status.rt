@@ -42,5 +42,17 @@ pub(crate) const STRING_NOT_PERMITTED: u8 = 36;
 /// A name has an attribute that the profile doesn't permit.
 pub(crate) const ATTRIBUTE_NOT_PERMITTED: u8 = 37;
 
+/// A text in base 64 has an octet that is no symbol.
+pub(crate) const INVALID_SYMBOL: u8 = 40;
+
+/// A text in base 64 has a length that none has.
+pub(crate) const INVALID_LENGTH: u8 = 41;
+
+/// The last symbol of a text in base 64 has bits that stand for nothing.
+pub(crate) const INVALID_LAST_SYMBOL: u8 = 42;
+
+/// A text in base 64 has other padding.
+pub(crate) const INVALID_PADDING: u8 = 43;
+
 /// What is added to the number of an error of the second of two texts.
 pub(crate) const SECOND: u8 = 16;

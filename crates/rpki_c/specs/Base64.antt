@@ -1,0 +1,52 @@
+-- What a status says of texts in base 64 (RFC 4648 4 and 5).
+use Rattle.std.specs.Prelude.{◌≡◌, ◌⊎◌, ℕ, zero, suc, Bool, true, false, List, length}
+use Rattle.std.specs.declared.result.Result.{Result}
+use Rattle.std.specs.declared.result.Result.TheVariants.{Ok, Err}
+use Rattle.base64.specs.declared.decode.DecodeError.{DecodeError}
+use Rattle.base64.specs.declared.decode.DecodeError.TheVariants.{InvalidByte, InvalidLength, InvalidLastSymbol, InvalidPadding}
+use Rattle.base64.specs.Engines.{standard, url_safe_no_pad_indifferent}
+use Rattle.base64.specs.GeneralPurpose.{encode_of, decode_of}
+use Rattle.rpki_text.specs.Base64Text.{xml_bytes_decode_of}
+use Rattle.rpki_c.specs.Status.{out_of_memory}
+use Rattle.rpki_c.specs.Made.{IsMade}
+use Rattle.rpki_c.specs.Uri.{IsUnwritten}
+
+-- the text of octets
+abbrev pub encoded_of : Bool → List ℕ → List ℕ
+encoded_of true octets = encode_of url_safe_no_pad_indifferent octets
+encoded_of false octets = encode_of standard octets
+
+-- The text is made. 7: allocation failed, and nothing was written.
+abbrev pub IsEncoded : List ℕ → Bool → ℕ → List ℕ → List ℕ → ℕ → ℕ → Type 0
+IsEncoded octets url_safe status old new before after =
+    IsMade (encoded_of url_safe octets) status old new before after
+
+-- what a text stands for in a flavour: of XML documents, of serialized values, or of SLURM files
+abbrev pub decoded_of : ℕ → List ℕ → Result (List ℕ) DecodeError
+decoded_of zero text = xml_bytes_decode_of text
+decoded_of (suc zero) text = decode_of standard text
+decoded_of (suc (suc n)) text = decode_of url_safe_no_pad_indifferent text
+
+-- how an error is passed
+abbrev pub base64_number : DecodeError → ℕ
+base64_number (InvalidByte at octet) = 40
+base64_number (InvalidLength at) = 41
+base64_number (InvalidLastSymbol at octet value) = 42
+base64_number InvalidPadding = 43
+
+-- where it is, in a text of this length
+abbrev pub base64_place : DecodeError → ℕ → ℕ
+base64_place (InvalidByte at octet) size = at
+base64_place (InvalidLength at) size = at
+base64_place (InvalidLastSymbol at octet value) size = at
+base64_place InvalidPadding size = size
+
+-- The octets are made. Or the text is not base 64, and the status and `at` say why and where. 7: allocation failed.
+-- Unless they are made, nothing was written to the buffer.
+abbrev pub IsDecoded : List ℕ → ℕ → ℕ → List ℕ → List ℕ → ℕ → ℕ → ℕ → ℕ → Type 0
+IsDecoded text flavour status old new before after at_old at_new =
+    ((octets : List ℕ) × (decoded_of flavour text ≡ Ok octets) × IsMade octets status old new before after
+    × (at_new ≡ at_old))
+    ⊎ ((e : DecodeError) × (decoded_of flavour text ≡ Err e) × (status ≡ base64_number e)
+    × (at_new ≡ base64_place e (length text)) × IsUnwritten old new before after)
+    ⊎ ((status ≡ out_of_memory) × IsUnwritten old new before after × (at_new ≡ at_old))
