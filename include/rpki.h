@@ -11,8 +11,8 @@
  *
  * What a call takes of memory it frees before it returns. Those that take none, and so never return
  * RPKI_OUT_OF_MEMORY, are rpki_header, rpki_serial, rpki_time, rpki_validity, rpki_extension, rpki_time_years_on,
- * rpki_hex, rpki_version and the calls on URIs. Those that write keys, names, serial numbers and times take copies of
- * what they read and of what they write. The others, at the peak:
+ * rpki_hex, rpki_version and the calls on URIs. Those that write or read base 64, keys, names, serial numbers and times
+ * take copies of what they read and of what they write. The others, at the peak:
  *  - each takes up to 24 octets for each level of nesting, and 64 more;
  *  - rpki_index and rpki_name_inspect take up to 96 octets for each header beside that, and 256 more (of which they
  *    keep up to 64 a header until they return);
@@ -122,6 +122,12 @@ enum {
                                   outside of it, or they don't follow each other to its end */
     RPKI_TOO_LONG = 15,        /* what is written would have contents of 2^32 octets or more, or numbers have more
                                   octets than a key may have */
+
+    /* Of rpki_base64_read: why the text is not base 64. */
+    RPKI_INVALID_SYMBOL = 40,      /* an octet that is no symbol, or padding that is not at the end */
+    RPKI_INVALID_LENGTH = 41,      /* no octets have a text of this length */
+    RPKI_INVALID_LAST_SYMBOL = 42, /* the last symbol has bits that stand for nothing */
+    RPKI_INVALID_PADDING = 43,     /* padding is missing, or there is too much of it */
 
     /* Calls on two texts add this to the number of what is wrong with the second. */
     RPKI_SECOND = 16,
@@ -584,6 +590,29 @@ rpki_status rpki_time_write(const struct rpki_moment *moment, uint8_t *out, size
 rpki_status rpki_time_years_on(const struct rpki_moment *moment, int32_t years, struct rpki_moment *out);
 
 /*
+ * The text of the octets in base 64: with the standard alphabet and padding (RFC 4648 4), or, where `url_safe` is true,
+ * with the one that is safe in URLs, and none (RFC 4648 5).
+ */
+rpki_status rpki_base64_write(const uint8_t *octets, size_t size, bool url_safe, uint8_t *out, size_t capacity,
+                              size_t *written);
+
+/*
+ * The octets of a text in base 64. `flavour` is one of the three below; another number is RPKI_BASE64_SLURM.
+ *
+ * RPKI_INVALID_SYMBOL to RPKI_INVALID_PADDING: the text is not base 64 of the flavour, and `*at` becomes the place of
+ * the octet that is wrong, or that where the symbols end, or the size of the text for its padding. In the flavour of
+ * XML it counts without white space, but for octets that are not UTF-8. Any other status leaves `*at`.
+ */
+enum {
+    RPKI_BASE64_XML = 0,  /* the standard alphabet with padding; space, tab, line feed, form feed and carriage return
+                             anywhere */
+    RPKI_BASE64_SERDE = 1, /* the standard alphabet with padding */
+    RPKI_BASE64_SLURM = 2  /* the alphabet that is safe in URLs, with padding or without (RFC 8416) */
+};
+rpki_status rpki_base64_read(const uint8_t *text, size_t size, uint8_t flavour, uint8_t *out, size_t capacity,
+                             size_t *written, size_t *at);
+
+/*
  * The public key that the octets are, as it is written: with NULL for the parameters of RSA. The statuses are those of
  * rpki_public_key too. RPKI_TOO_LONG: its contents would have 2^32 octets or more.
  */
@@ -652,6 +681,10 @@ static inline const char *rpki_status_text(int kind, rpki_status status) {
         case RPKI_NO_PROFILE: return "no such profile";
         case RPKI_OTHER_ALGORITHM: return "another algorithm";
         case RPKI_TOO_LONG: return "too long to be written";
+        case RPKI_INVALID_SYMBOL: return "no symbol of base 64";
+        case RPKI_INVALID_LENGTH: return "no length of base 64";
+        case RPKI_INVALID_LAST_SYMBOL: return "no last symbol of base 64";
+        case RPKI_INVALID_PADDING: return "other padding of base 64";
         case RPKI_MISSING_COMMON_NAME: return "missing common name";
         case RPKI_SECOND_COMMON_NAME: return "multiple common names";
         case RPKI_SECOND_SERIAL_NUMBER: return "multiple serial numbers";

@@ -19,6 +19,23 @@ static rpki_status hex(const void *of, uint8_t *out, size_t capacity, size_t *wr
     return rpki_hex(given->one.at, given->one.size, out, capacity, written);
 }
 
+static rpki_status base64_write(const void *of, uint8_t *out, size_t capacity, size_t *written) {
+    const struct given *given = of;
+    return rpki_base64_write(given->one.at, given->one.size, given->two.size > 0, out, capacity, written);
+}
+
+/* The flavour is the count of the second octets. An error is told at the place of the last octet. */
+static rpki_status base64_read(const void *of, uint8_t *out, size_t capacity, size_t *written) {
+    const struct given *given = of;
+    size_t at = NOTHING;
+    rpki_status status =
+        rpki_base64_read(given->one.at, given->one.size, (uint8_t)given->two.size, out, capacity, written, &at);
+    bool is_wrong = status >= RPKI_INVALID_SYMBOL && status <= RPKI_INVALID_PADDING;
+    size_t place =
+        status == RPKI_INVALID_PADDING || status == RPKI_INVALID_LENGTH ? given->one.size : given->one.size - 1;
+    return is_wrong ? (at == place ? status : RPKI_TRAILING) : (at == NOTHING ? status : RPKI_TRAILING);
+}
+
 static rpki_status serial_write(const void *of, uint8_t *out, size_t capacity, size_t *written) {
     return rpki_serial_write(((const struct given *)of)->one.at, out, capacity, written);
 }
@@ -64,6 +81,21 @@ static const struct {
     {hex, "AB 01", "", "\"AB01\"", RPKI_OK},
     {hex, "", "", "", RPKI_OK},
     {hex, "00 09 0A 0F 10 7F 80 FF", "", "\"00090A0F107F80FF\"", RPKI_OK},
+    {base64_write, "", "", "", RPKI_OK},
+    {base64_write, "\"f\"", "", "\"Zg==\"", RPKI_OK},
+    {base64_write, "\"fo\"", "", "\"Zm8=\"", RPKI_OK},
+    {base64_write, "\"foobar\"", "", "\"Zm9vYmFy\"", RPKI_OK},
+    {base64_write, "FB FF", "", "\"+/8=\"", RPKI_OK},
+    {base64_write, "FB FF", "00", "\"-_8\"", RPKI_OK},
+    {base64_read, "\"Zm9v\" 0A 20 09 0C 0D \"YmFy\"", "", "\"foobar\"", RPKI_OK},
+    {base64_read, "\"Zm9vYg==\"", "00", "\"foob\"", RPKI_OK},
+    {base64_read, "\"Zm9vYg\"", "00 00", "\"foob\"", RPKI_OK},
+    {base64_read, "\"-_8=\"", "00 00", "FB FF", RPKI_OK},
+    {base64_read, "\"Zg\"", "", NULL, RPKI_INVALID_PADDING},
+    {base64_read, "\"Zg\"", "00", NULL, RPKI_INVALID_PADDING},
+    {base64_read, "\"Zm9v \"", "00", NULL, RPKI_INVALID_SYMBOL},
+    {base64_read, "\"Zm9v+\"", "00 00", NULL, RPKI_INVALID_SYMBOL},
+    {base64_read, "\"Zh\"", "00 00", NULL, RPKI_INVALID_LAST_SYMBOL},
     {serial_write, "17*00 81 02 03", "", "02 04 00 81 02 03", RPKI_OK},
     {serial_write, "20*00", "", "02 01 00", RPKI_OK},
     {serial_write, "19*00 80", "", "02 02 00 80", RPKI_OK},
@@ -194,7 +226,8 @@ static bool row_without_memory(size_t row) {
         count_allocations(refused);
         status = ROWS[row].call(&given, out, sizeof out, &written);
         asked = allocations(&all_freed);
-        if (refused < asked) {
+        /* Room that is asked for ahead, of a text without its white space, may be refused: it is asked for again. */
+        if (refused < asked && !(ROWS[row].call == base64_read && status == ROWS[row].status)) {
             well = well && all_freed && status == RPKI_OUT_OF_MEMORY && written == NOTHING;
             for (place = 0; place < sizeof out; place++) well = well && out[place] == 0x5A;
         } else {

@@ -12,6 +12,10 @@ pub(crate) const TOO_SMALL: Status = 9;
 pub(crate) const NO_ANSWER: Status = 10;
 pub(crate) const TOO_LONG: Status = 15;
 pub(crate) const SECOND: Status = 16;
+pub(crate) const INVALID_SYMBOL: Status = 40;
+pub(crate) const INVALID_LENGTH: Status = 41;
+pub(crate) const INVALID_LAST_SYMBOL: Status = 42;
+pub(crate) const INVALID_PADDING: Status = 43;
 pub(crate) const NO_PARENT: usize = usize::MAX;
 
 #[repr(C)]
@@ -271,6 +275,23 @@ extern "C" {
     fn rpki_serial_write(serial: *const [u8; 20], out: *mut u8, capacity: usize, written: *mut usize) -> Status;
     fn rpki_time_write(moment: *const Moment, out: *mut u8, capacity: usize, written: *mut usize) -> Status;
     fn rpki_time_years_on(moment: *const Moment, years: i32, out: *mut Moment) -> Status;
+    fn rpki_base64_write(
+        octets: *const u8,
+        size: usize,
+        url_safe: bool,
+        out: *mut u8,
+        capacity: usize,
+        written: *mut usize,
+    ) -> Status;
+    fn rpki_base64_read(
+        text: *const u8,
+        size: usize,
+        flavour: u8,
+        out: *mut u8,
+        capacity: usize,
+        written: *mut usize,
+        at: *mut usize,
+    ) -> Status;
     fn rpki_public_key_write(
         octets: *const u8,
         size: usize,
@@ -573,6 +594,29 @@ pub(crate) fn hex_into(octets: &[u8], out: &mut [u8]) -> Result<usize, Status> {
         0 => Ok(written),
         status => Err(status),
     }
+}
+
+/// The text of the octets in base 64.
+pub(crate) fn base64_write(octets: &[u8], url_safe: bool) -> Result<Vec<u8>, Status> {
+    // SAFETY: pointer and size are those of one slice, which is borrowed for the call; the rest is of `stored`.
+    unsafe {
+        stored(octets.len().div_euclid(3) * 4 + 4, |out, capacity, written| {
+            rpki_base64_write(octets.as_ptr(), octets.len(), url_safe, out, capacity, written)
+        })
+    }
+}
+
+/// The octets of a text in base 64 of this flavour; else why it is none, and where.
+pub(crate) fn base64_read(text: &[u8], flavour: u8) -> Result<Vec<u8>, (Status, usize)> {
+    let at = std::cell::Cell::new(0);
+    // SAFETY: pointer and size are those of one slice, which is borrowed for the call; `at` is this function's own, and
+    // nothing else looks at it during the call; the rest is of `stored`.
+    let octets = unsafe {
+        stored(text.len().div_euclid(4) * 3 + 3, |out, capacity, written| {
+            rpki_base64_read(text.as_ptr(), text.len(), flavour, out, capacity, written, at.as_ptr())
+        })
+    };
+    octets.map_err(|status| (status, at.get()))
 }
 
 /// The INTEGER of a serial number, which has at most 22 octets.

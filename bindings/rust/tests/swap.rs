@@ -570,7 +570,17 @@ fn base_64() {
         assert!(base64::Serde.decode(text).is_err(), "{text}");
     }
     assert_eq!(base64::Serde.decode("Zm9v*"), Err(base64::DecodeError::InvalidByte(4, b'*')));
-    assert!(["+/8", "Zg=", "Zh", "Z"].iter().all(|text| base64::Slurm.decode(text).is_err()));
+    assert_eq!(base64::Xml.decode("Zm 9v\n*"), Err(base64::DecodeError::InvalidByte(4, b'*')));
+    assert_eq!(base64::Xml.decode_bytes(b"Zm 9v\xff"), Err(base64::DecodeError::InvalidByte(5, 0xff)));
+    assert_eq!(base64::Slurm.decode("Zh"), Err(base64::DecodeError::InvalidLastSymbol(1, b'h')));
+    for size in [0, 1, 127, 128, 255, 256, 65_535, 65_536, 1_000_000] {
+        let octets: Vec<u8> = (0..size).map(|place: u32| (place * 7 % 256) as u8).collect();
+        assert!(base64::Xml.decode(&base64::Xml.encode(&octets)) == Ok(octets.clone()), "{size}");
+        assert!(base64::Slurm.decode(&base64::Slurm.encode(&octets)) == Ok(octets), "{size}");
+    }
+    // Of padding there may be less (the crate base64, `DecodePaddingMode::Indifferent`).
+    assert_eq!(base64::Slurm.decode("Zg=").as_deref(), Ok(&b"f"[..]));
+    assert!(["+/8", "Zg===", "Zh", "Z"].iter().all(|text| base64::Slurm.decode(text).is_err()));
     let all: Vec<u8> = (0..=255).collect();
     assert_eq!(base64::Serde.decode(&base64::Serde.encode(&all)), Ok(all));
 }

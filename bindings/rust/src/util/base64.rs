@@ -9,17 +9,19 @@
 //! # Ok::<(), rpki_proved::util::base64::DecodeError>(())
 //! ```
 
+use crate::crypto::keys::known;
+use crate::ffi;
 use std::error::Error;
 use std::fmt;
 
-/// Why a text is not base 64. Places count the octets of the text.
+/// Why a text is not base 64, and the place in the text.
 #[derive(Clone, Copy, Debug, PartialEq, Eq)]
 #[non_exhaustive]
 pub enum DecodeError {
-    /// The octet at this place is not of the alphabet.
+    /// The octet at this place is no symbol of the alphabet, or padding that is not at the end.
     InvalidByte(usize, u8),
-    /// No octets have a text of this length.
-    InvalidLength,
+    /// No octets have a text of this length: the symbols end here.
+    InvalidLength(usize),
     /// The last symbol, at this place, has bits that stand for nothing.
     InvalidLastSymbol(usize, u8),
     /// Padding is missing, or there is too much of it.
@@ -29,8 +31,8 @@ pub enum DecodeError {
 impl fmt::Display for DecodeError {
     fn fmt(&self, f: &mut fmt::Formatter) -> fmt::Result {
         match self {
-            DecodeError::InvalidByte(at, octet) => write!(f, "Invalid byte {octet}, offset {at}."),
-            DecodeError::InvalidLength => f.write_str("Encoded text cannot have a 6-bit remainder."),
+            DecodeError::InvalidByte(at, octet) => write!(f, "Invalid symbol {octet}, offset {at}."),
+            DecodeError::InvalidLength(at) => write!(f, "Invalid input length: {at}"),
             DecodeError::InvalidLastSymbol(at, octet) => write!(f, "Invalid last symbol {octet}, offset {at}."),
             DecodeError::InvalidPadding => f.write_str("Invalid padding"),
         }
@@ -39,72 +41,24 @@ impl fmt::Display for DecodeError {
 
 impl Error for DecodeError {}
 
-/// The alphabet: its last two symbols are of the flavour.
-const LETTERS: &[u8; 62] = b"ABCDEFGHIJKLMNOPQRSTUVWXYZabcdefghijklmnopqrstuvwxyz0123456789";
+/// The numbers of the flavours.
+const XML: u8 = 0;
+const SERDE: u8 = 1;
+const SLURM: u8 = 2;
 
-/// The symbol for six bits.
-fn symbol(bits: u8, last: [u8; 2]) -> char {
-    char::from(match bits {
-        62 | 63 => last[usize::from(bits - 62)],
-        _ => LETTERS[usize::from(bits)],
+fn encoded(octets: &[u8], url_safe: bool) -> String {
+    String::from_utf8(known(ffi::base64_write(octets, url_safe))).expect("symbols of ASCII")
+}
+
+/// The octets of a text. Places count in `bare`, which is the text without what the flavour does not count.
+fn decoded(text: &[u8], flavour: u8, bare: impl FnOnce(usize) -> u8) -> Result<Vec<u8>, DecodeError> {
+    ffi::base64_read(text, flavour).map_err(|(status, at)| match status {
+        ffi::INVALID_SYMBOL => DecodeError::InvalidByte(at, bare(at)),
+        ffi::INVALID_LENGTH => DecodeError::InvalidLength(at),
+        ffi::INVALID_LAST_SYMBOL => DecodeError::InvalidLastSymbol(at, bare(at)),
+        ffi::INVALID_PADDING => DecodeError::InvalidPadding,
+        status => known(Err(status)),
     })
-}
-
-/// The six bits of a symbol.
-fn bits(symbol: u8, last: [u8; 2]) -> Option<u8> {
-    match symbol {
-        b'A'..=b'Z' => Some(symbol - b'A'),
-        b'a'..=b'z' => Some(symbol - b'a' + 26),
-        b'0'..=b'9' => Some(symbol - b'0' + 52),
-        _ if symbol == last[0] => Some(62),
-        _ if symbol == last[1] => Some(63),
-        _ => None,
-    }
-}
-
-fn encoded(octets: &[u8], last: [u8; 2], padding: bool) -> String {
-    let mut text = String::with_capacity(octets.len() / 3 * 4 + 4);
-    for chunk in octets.chunks(3) {
-        let group = chunk.iter().fold(0u32, |group, octet| group << 8 | u32::from(*octet)) << (8 * (3 - chunk.len()));
-        for place in 0..=chunk.len() {
-            text.push(symbol((group >> (18 - 6 * place) & 63) as u8, last));
-        }
-        if padding {
-            text.extend(std::iter::repeat('=').take(3 - chunk.len()));
-        }
-    }
-    text
-}
-
-/// The octets of a text; padding has to be there, or need not.
-fn decoded(text: &[u8], last: [u8; 2], padding: bool) -> Result<Vec<u8>, DecodeError> {
-    let size = text.iter().position(|octet| *octet == b'=').unwrap_or(text.len());
-    let (symbols, pads) = text.split_at(size);
-    let mut octets = Vec::with_capacity(size / 4 * 3 + 3);
-    for (number, chunk) in symbols.chunks(4).enumerate() {
-        let mut group = 0;
-        for (place, octet) in chunk.iter().enumerate() {
-            let found = bits(*octet, last).ok_or(DecodeError::InvalidByte(4 * number + place, *octet))?;
-            group |= u32::from(found) << (18 - 6 * place);
-        }
-        if chunk.len() == 1 {
-            return Err(DecodeError::InvalidLength);
-        }
-        let kept = chunk.len() - 1;
-        if group & ((1 << (24 - 8 * kept)) - 1) != 0 {
-            return Err(DecodeError::InvalidLastSymbol(size - 1, symbols[size - 1]));
-        }
-        octets.extend(&group.to_be_bytes()[1..=kept]);
-    }
-    if pads.iter().any(|octet| *octet != b'=') {
-        return Err(DecodeError::InvalidByte(size, b'='));
-    }
-    let wanted = (4 - size % 4) % 4;
-    if pads.len() == wanted || (!padding && pads.is_empty()) {
-        Ok(octets)
-    } else {
-        Err(DecodeError::InvalidPadding)
-    }
 }
 
 /// Base 64 in XML documents: the standard alphabet with padding, and white space anywhere: space, tab, line feed, form
@@ -116,6 +70,9 @@ impl Xml {
     ///
     /// # Errors
     /// The rest is not base 64.
+    ///
+    /// # Panics
+    /// If allocation fails, as all calls of this module.
     pub fn decode(self, input: &str) -> Result<Vec<u8>, DecodeError> {
         self.decode_bytes(input.as_bytes())
     }
@@ -125,13 +82,15 @@ impl Xml {
     /// # Errors
     /// Those of [`Xml::decode`].
     pub fn decode_bytes(self, input: &[u8]) -> Result<Vec<u8>, DecodeError> {
-        let bare: Vec<u8> = input.iter().copied().filter(|octet| !octet.is_ascii_whitespace()).collect();
-        decoded(&bare, *b"+/", true)
+        decoded(input, XML, |at| match std::str::from_utf8(input) {
+            Ok(_) => input.iter().copied().filter(|octet| !octet.is_ascii_whitespace()).nth(at).unwrap_or_default(),
+            Err(_) => input[at],
+        })
     }
 
     /// The text of octets.
     pub fn encode(self, data: &[u8]) -> String {
-        encoded(data, *b"+/", true)
+        encoded(data, false)
     }
 }
 
@@ -144,12 +103,12 @@ impl Serde {
     /// # Errors
     /// It is not base 64 with its padding.
     pub fn decode(self, input: &str) -> Result<Vec<u8>, DecodeError> {
-        decoded(input.as_bytes(), *b"+/", true)
+        decoded(input.as_bytes(), SERDE, |at| input.as_bytes()[at])
     }
 
     /// The text of octets.
     pub fn encode(self, data: &[u8]) -> String {
-        encoded(data, *b"+/", true)
+        encoded(data, false)
     }
 }
 
@@ -163,12 +122,12 @@ impl Slurm {
     /// # Errors
     /// It is not base 64 of this alphabet.
     pub fn decode(self, input: &str) -> Result<Vec<u8>, DecodeError> {
-        decoded(input.as_bytes(), *b"-_", false)
+        decoded(input.as_bytes(), SLURM, |at| input.as_bytes()[at])
     }
 
     /// The text of octets.
     pub fn encode(self, data: &[u8]) -> String {
-        encoded(data, *b"-_", false)
+        encoded(data, true)
     }
 
     /// Writes the text of octets.
