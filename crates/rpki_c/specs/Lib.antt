@@ -22,4 +22,5 @@ pub mod Walk
 pub mod Fault
 pub mod Index
 pub mod Signed
+pub mod MadeSigned
 pub mod Extension

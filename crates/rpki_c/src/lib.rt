@@ -26,6 +26,7 @@ mod rsync_parts;
 mod serial_writing;
 mod serials;
 mod signed;
+mod signed_writing;
 mod status;
 mod stored;
 mod time_writing;

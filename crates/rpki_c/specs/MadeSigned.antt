@@ -1,0 +1,36 @@
+-- What is made of signed data, and written to the caller's buffer.
+use Rattle.std.specs.Prelude.{◌≡◌, ◌⊎◌, ◌<◌, ◌^◌, ℕ, Bool, true, List, length}
+use Rattle.rpki_der.specs.declared.error.DecodeError.{DecodeError}
+use Rattle.rpki_der.specs.Reading.{IsWholeFault}
+use Rattle.rpki.specs.Oids.{sha256_with_rsa_encryption}
+use Rattle.rpki.specs.Algorithm.{SpellsAlgorithm}
+use Rattle.rpki.specs.AlgorithmFault.{IsAlgorithmFault}
+use Rattle.rpki.specs.AlgorithmOctets.{algorithm_octets}
+use Rattle.rpki.specs.SignedData.{SignedParts, written_contents, written_signed}
+use Rattle.rpki.specs.SignedFault.{IsSignedFault}
+use Rattle.rpki_c.specs.Signed.{SpellsRpki}
+use Rattle.rpki_c.specs.MadeValues.{IsMadeIf}
+use Rattle.rpki_c.specs.Uri.{IsUnwritten}
+use Rattle.rpki_c.specs.Whole.{IsRefused}
+
+-- the error of a reader of signed data of the RPKI and of nothing else
+abbrev pub IsWholeDataFault : List ℕ → DecodeError → Type 0
+IsWholeDataFault = IsWholeFault SpellsRpki
+    (IsSignedFault (SpellsAlgorithm sha256_with_rsa_encryption) (IsAlgorithmFault sha256_with_rsa_encryption))
+
+-- how the algorithm is written: with parameters
+abbrev pub rpki_algorithm : Bool → List ℕ
+rpki_algorithm has_parameters = algorithm_octets sha256_with_rsa_encryption true
+
+-- the value has contents of fewer than 2^32 octets
+abbrev pub IsShortSigned : SignedParts Bool → Type 0
+IsShortSigned x =
+    (length (written_contents rpki_algorithm x) < 2 ^ 32) × (length (written_signed rpki_algorithm x) < 2 ^ 63)
+
+-- The signed data that the octets are, as it is written, is made. Else the number of the error. Unless it is made,
+-- nothing was written.
+abbrev pub IsSignedWritten : List ℕ → ℕ → List ℕ → List ℕ → ℕ → ℕ → Type 0
+IsSignedWritten s status old new before after =
+    ((x : SignedParts Bool) × SpellsRpki x s
+    × IsMadeIf (IsShortSigned x) (written_signed rpki_algorithm x) status old new before after)
+    ⊎ (IsRefused SpellsRpki IsWholeDataFault s status × IsUnwritten old new before after)
