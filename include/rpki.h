@@ -11,8 +11,8 @@
  *
  * What a call takes of memory it frees before it returns. Those that take none, and so never return
  * RPKI_OUT_OF_MEMORY, are rpki_header, rpki_serial, rpki_time, rpki_validity, rpki_extension, rpki_time_years_on,
- * rpki_hex, rpki_version and the calls on URIs. Those that write or read base 64, keys, names, serial numbers and times
- * take copies of what they read and of what they write. The others, at the peak:
+ * rpki_hex, rpki_version and the calls on URIs. Those that write, and rpki_base64_read, take copies of what they read
+ * and of what they write, and for signed data an index of its headers. The others, at the peak:
  *  - each takes up to 24 octets for each level of nesting, and 64 more;
  *  - rpki_index and rpki_name_inspect take up to 96 octets for each header beside that, and 256 more (of which they
  *    keep up to 64 a header until they return);
@@ -611,6 +611,14 @@ enum {
 };
 rpki_status rpki_base64_read(const uint8_t *text, size_t size, uint8_t flavour, uint8_t *out, size_t capacity,
                              size_t *written, size_t *at);
+
+/*
+ * The signed data of the RPKI that the octets are, in its normal form: exactly the octets that are signed, the
+ * algorithm identifier with NULL for parameters, and the signature with no unused bits. The statuses are those of
+ * rpki_signed_data too, but the number of an error in place of RPKI_OTHER_ALGORITHM. RPKI_TOO_LONG: its contents would
+ * have 2^32 octets or more.
+ */
+rpki_status rpki_signed_data_write(const uint8_t *octets, size_t size, uint8_t *out, size_t capacity, size_t *written);
 
 /*
  * The public key that the octets are, as it is written: with NULL for the parameters of RSA. The statuses are those of

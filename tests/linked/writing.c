@@ -44,6 +44,11 @@ static rpki_status time_write(const void *of, uint8_t *out, size_t capacity, siz
     return rpki_time_write(of, out, capacity, written);
 }
 
+static rpki_status signed_write(const void *of, uint8_t *out, size_t capacity, size_t *written) {
+    const struct given *given = of;
+    return rpki_signed_data_write(given->one.at, given->one.size, out, capacity, written);
+}
+
 static rpki_status key_write(const void *of, uint8_t *out, size_t capacity, size_t *written) {
     const struct given *given = of;
     return rpki_public_key_write(given->one.at, given->one.size, out, capacity, written);
@@ -68,6 +73,11 @@ static rpki_status name_write(const void *of, uint8_t *out, size_t capacity, siz
 #define RSA "06 09 2A 86 48 86 F7 0D 01 01 01"
 #define KEY "30 15 30 0D " RSA " 05 00 03 04 00 \"abc\""
 #define BARE_KEY "30 13 30 0B " RSA " 03 04 00 \"abc\""
+/* Signed data: sha256WithRSAEncryption with NULL and without, and with a count of unused bits. */
+#define SHA "06 09 2A 86 48 86 F7 0D 01 01 0B"
+#define SIGNED "30 15 30 00 30 0D " SHA " 05 00 03 02 00 AA"
+#define BARE_SIGNED "30 13 30 00 30 0B " SHA " 03 02 00 AA"
+#define BITS_SIGNED "30 15 30 00 30 0D " SHA " 05 00 03 02 01 AA"
 /* The name of its subject: the digits of SHA-1 of `abc` (FIPS 180-4). */
 #define NAME "30 33 31 31 30 2F 06 03 55 04 03 13 28 \"A9993E364706816ABA3E25717850C26C9CD0D89D\""
 #define LARGE "128*AB 128*CD"
@@ -106,6 +116,12 @@ static const struct {
     {key_write, KEY " 00", "", NULL, RPKI_TRAILING},
     {key_write, "31 00", "", NULL, RPKI_UNEXPECTED},
     {key_write, "30 09 30 04 06 02 2A 03 03 01 00", "", NULL, RPKI_OTHER_ALGORITHM},
+    {signed_write, SIGNED, "", SIGNED, RPKI_OK},
+    {signed_write, BARE_SIGNED, "", SIGNED, RPKI_OK},
+    {signed_write, BITS_SIGNED, "", SIGNED, RPKI_OK},
+    {signed_write, SIGNED " 00", "", NULL, RPKI_TRAILING},
+    {signed_write, "30 17 30 02 04 05 30 0D " SHA " 05 00 03 02 00 AA", "", NULL, RPKI_TRUNCATED},
+    {signed_write, "30 0A 30 00 30 04 06 02 2A 03 03 00", "", NULL, RPKI_CONTENT},
     {rsa_write, "00 80", "01 00 01", "30 1D 30 0D " RSA " 05 00 03 0C 00 30 09 02 02 00 80 02 03 01 00 01", RPKI_OK},
     {rsa_write, "00", "03", "30 1A 30 0D " RSA " 05 00 03 09 00 30 06 02 01 00 02 01 03", RPKI_OK},
     {rsa_write, LARGE, "01 00 01",

@@ -292,6 +292,13 @@ extern "C" {
         written: *mut usize,
         at: *mut usize,
     ) -> Status;
+    fn rpki_signed_data_write(
+        octets: *const u8,
+        size: usize,
+        out: *mut u8,
+        capacity: usize,
+        written: *mut usize,
+    ) -> Status;
     fn rpki_public_key_write(
         octets: *const u8,
         size: usize,
@@ -635,6 +642,12 @@ pub(crate) fn time_write(moment: &Moment) -> Result<Vec<u8>, Status> {
 pub(crate) fn time_years_on(moment: &Moment, years: i32) -> Result<Moment, Status> {
     // SAFETY: the moment is borrowed for the call, and apart from `out`, which is the function's own.
     told(|out| unsafe { rpki_time_years_on(moment, years, out) })
+}
+
+/// The signed data that the octets are, in its normal form: at most two octets more, and the headers'.
+pub(crate) fn signed_data_write(octets: &[u8]) -> Result<Vec<u8>, Status> {
+    // SAFETY: the call is one of those above.
+    unsafe { write(rpki_signed_data_write, octets, octets.len()) }
 }
 
 /// The public key that the octets are, as it is written: at most two octets more, and the headers'.

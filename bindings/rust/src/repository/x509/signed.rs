@@ -1,6 +1,6 @@
 //! Signed data.
 
-use crate::crypto::keys::PublicKey;
+use crate::crypto::keys::{known, PublicKey};
 use crate::crypto::signature::{
     Provider, RpkiSignature, RpkiSignatureAlgorithm, Signature, SignatureVerificationError,
 };
@@ -29,24 +29,40 @@ const ALGORITHM: &[u8] = b"\x30\x0d\x06\x09\x2a\x86\x48\x86\xf7\x0d\x01\x01\x0b\
 /// );
 /// # Ok::<(), rpki_proved::DecodeError>(())
 /// ```
-#[derive(Clone, Debug, PartialEq, Eq)]
+#[derive(Clone, Debug)]
 pub struct SignedData {
+    /// All of the octets, as they were read or made.
+    octets: Bytes,
     data: Bytes,
     signature: RpkiSignature,
 }
+
+/// Two values are equal where their signed octets and their signatures are.
+impl PartialEq for SignedData {
+    fn eq(&self, other: &Self) -> bool {
+        self.data == other.data && self.signature == other.signature
+    }
+}
+
+impl Eq for SignedData {}
 
 impl SignedData {
     /// The value, and a signature over it.
     ///
     /// # Errors
     /// The octets are not exactly one value, with all that is nested in it.
+    ///
+    /// # Panics
+    /// If it would have contents of 2^32 octets or more.
     pub fn new(data: impl Into<Bytes>, signature: RpkiSignature) -> Result<Self, DecodeError> {
         let data = data.into();
         let walked = ffi::walk(&data).map_err(DecodeError::from_status)?;
         if walked.size < data.len() {
             return Err(DecodeError::Trailing);
         }
-        Ok(SignedData { data, signature })
+        let bits = value(0x03, &[b"\x00", &signature.value()[..]].concat());
+        let octets = value(0x30, &[&data[..], ALGORITHM, &bits].concat()).into();
+        Ok(SignedData { octets, data, signature })
     }
 
     /// Reads signed data that is all of the octets.
@@ -59,7 +75,7 @@ impl SignedData {
         let found = ffi::signed_data(&octets).map_err(DecodeError::from_status)?;
         let algorithm = RpkiSignatureAlgorithm { has_parameters: found.has_parameters };
         let signature = Signature::new(algorithm, octets.slice(found.signature.range()));
-        Ok(SignedData { data: octets.slice(found.data.range()), signature })
+        Ok(SignedData { data: octets.slice(found.data.range()), signature, octets })
     }
 
     /// The value, as exactly the octets that are signed.
@@ -88,9 +104,8 @@ impl SignedData {
     /// with no unused bits.
     ///
     /// # Panics
-    /// If it would have contents of 2^32 octets or more.
+    /// If allocation fails.
     pub fn to_bytes(&self) -> Bytes {
-        let bits = value(0x03, &[b"\x00", &self.signature.value()[..]].concat());
-        value(0x30, &[&self.data[..], ALGORITHM, &bits].concat()).into()
+        known(ffi::signed_data_write(&self.octets)).into()
     }
 }
