@@ -29,8 +29,9 @@ impl Provider for OpenSsl {
 
 fn main() -> Result<(), Box<dyn Error>> {
     let words: Vec<String> = std::env::args().collect();
-    let [_, certificate, key] = &words[..] else {
-        return Err("usage: verify CERTIFICATE KEY".into());
+    let (certificate, key) = match &words[..] {
+        [_, certificate, key] => (certificate, key),
+        _ => return Err("usage: verify CERTIFICATE KEY".into()),
     };
     let signed = SignedData::decode(read(certificate)?)?;
     let key = PublicKey::decode(read(key)?)?;

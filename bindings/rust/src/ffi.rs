@@ -2,7 +2,7 @@
 //!
 //! This is the only module with `unsafe`. Each call is given slices, whose pointer is never null and whose octets
 //! nobody writes to while they are borrowed, and places to write to that are borrowed for the call alone and so apart
-//! from everything else: that is all that the header asks for.
+//! from everything else: that is all that the header asks for. Miri runs no foreign functions, and so none of this.
 
 /// What a call returns: 0, or the number of what is wrong.
 pub(crate) type Status = u8;
