@@ -35,7 +35,7 @@
  * not grow with the input, however deeply values are nested.
  *
  * Link with librpki.a, or with librpki.so: -lrpki, or what `pkg-config --cflags --libs rpki` says. The library needs
- * malloc, realloc, free, memcpy and memmove alone. Each call of librpki.a is a section of its own: with
+ * malloc, realloc, free, memcpy, memmove and memset alone. Each call of librpki.a is a section of its own: with
  * -Wl,--gc-sections a program holds those that it makes, 2 KB in place of 38 where that is rpki_header.
  *
  * The processor is the one that the library was built for, and no call checks it. librpki.a and librpki.so of a package
