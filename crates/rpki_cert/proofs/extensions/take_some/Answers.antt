@@ -1,0 +1,37 @@
+use Rattle.std.proofs.Common.{sym, ◌∙◌}
+use Rattle.std.proofs.lemmas.Bool.{iff_false}
+use Rattle.rpki_der.specs.Cursor.{left}
+use Rattle.rpki_der.proofs.ReadingLaws.{UnlessMemory-weaker}
+use Rattle.rpki_der.proofs.FirstFaultLaws.{tried-parts}
+use Rattle.rpki_cert.specs.Cert.{AreExtensions}
+use Rattle.rpki_cert.specs.CertFault.{AreExtensionsFault}
+use Rattle.rpki_cert.specs.CertFault.AreExtensionsFault.{NoExtension, NotExtensions, Repeated}
+use Rattle.rpki_cert.proofs.ExtensionListLaws.{none-there, are-extensions, repeated, not-true}
+use Rattle.rpki_cert.proofs.extensions.take_some.Goals as goal
+
+pub returns-then-is_empty : goal.returns-then-is_empty
+returns-then-is_empty c =
+    let end = c.is_empty.ensures.0 c.if-is_empty.true in
+    (none-there (left c.args.contents.now) end, NoExtension end c.from_static.ensures)
+
+pub returns-in_err-all : goal.returns-in_err-all
+returns-in_err-all c =
+    let e = c.in_err-all.field-0.0 in
+    let h = c.in_err-all.ensures.reads in
+    let some = iff_false c.is_empty.ensures c.if-is_empty.false in
+    tried-parts (λ v. v.items) AreExtensions AreExtensionsFault (left c.args.contents.now) _ e _ c.from_residual.ensures
+    (UnlessMemory-weaker e (λ none xs k. none xs k.some.each) h.0, NotExtensions some h.1)
+
+pub returns-then-not-are_unique : goal.returns-then-not-are_unique
+returns-then-not-are_unique c =
+    let one = c.in_ok-all.ensures.reads.0 c.in_ok-all.ensures.end in
+    let is = rw c.as_slice.ensures.value at c.are_unique.ensures in
+    let twice = not-true _ (sym is ∙ c.if-not-are_unique.true) in
+    (repeated (left c.args.contents.now) c.in_ok-all.all.items one twice, Repeated c.in_ok-all.all.items one.0 twice c.from_static-then-not-are_unique.ensures)
+
+pub returns : goal.returns
+returns c =
+    let some = iff_false c.is_empty.ensures c.if-is_empty.false in
+    let one = c.in_ok-all.ensures.reads.0 c.in_ok-all.ensures.end in
+    let is = rw c.as_slice.ensures.value at c.are_unique.ensures in
+    (λ end. are-extensions (left c.args.contents.now) c.in_ok-all.all.items some one (sym is ∙ c.if-not-are_unique.false), λ more. absurd (more c.in_ok-all.ensures.end))

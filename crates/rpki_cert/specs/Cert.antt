@@ -1,0 +1,110 @@
+-- Certificates (RFC 5280 4.1, in the profile of RFC 6487 4).
+use Rattle.std.specs.Prelude.{◌≡◌, ℕ, Bool, true, false, not, ◌&&◌, List, [], ◌∷◌, Option, Some, None, IsTrue, bytes_eq, if◌then◌else◌}
+use Rattle.rpki_der.specs.declared.tag.Class.TheVariants.{Context}
+use Rattle.rpki_der.specs.TagName.{TagName, tag_of, integer, sequence}
+use Rattle.rpki_der.specs.Values.{SpellsLeaf}
+use Rattle.rpki_der.specs.Leaves.{IsOnly}
+use Rattle.rpki_der.specs.Parts.{Then}
+use Rattle.rpki_der.specs.Each.{SpellsSome}
+use Rattle.rpki_time.specs.Serial.{SpellsSerial}
+use Rattle.rpki_time.specs.Validity.{Period}
+use Rattle.rpki_time.specs.PeriodValue.{SpellsPeriod}
+use Rattle.rpki.specs.Oids.{sha256_with_rsa_encryption}
+use Rattle.rpki.specs.Algorithm.{SpellsAlgorithm}
+use Rattle.rpki.specs.Name.{SpellsNameOctets}
+use Rattle.rpki.specs.PublicKey.{KeyParts, SpellsKey}
+use Rattle.rpki.specs.ExtensionValue.{ExtensionParts, SpellsExtension}
+use Rattle.rpki.specs.SignedData.{SignedParts, SpellsSigned}
+
+-- what is signed of a certificate; of the algorithm, whether its parameters are there
+pub record TbsParts : Type 0 where
+  pub serial : ℕ
+  pub algorithm : Bool
+  pub issuer : List ℕ
+  pub validity : Period
+  pub subject : List ℕ
+  pub key : KeyParts
+  pub extensions : List ExtensionParts
+
+-- ---- the version: v3(2), under the explicit tag 0 (RFC 5280 4.1.2.1, RFC 6487 4.1)
+
+abbrev pub version_tag : TagName
+version_tag = tag_of Context 0
+
+-- the contents octets of the INTEGER 2 (X.690 8.3)
+abbrev pub two : List ℕ
+two = 2 ∷ []
+
+abbrev pub SpellsTwo : Unit {0} → List ℕ → Type 0
+SpellsTwo = SpellsLeaf integer false (IsOnly two)
+
+abbrev pub SpellsVersion : Unit {0} → List ℕ → Type 0
+SpellsVersion = SpellsLeaf version_tag true SpellsTwo
+
+-- ---- the extensions, under the explicit tag 3 (RFC 5280 4.1.2.9, 4.2)
+
+abbrev pub extensions_tag : TagName
+extensions_tag = tag_of Context 3
+
+-- the first extension of this identifier
+abbrev pub find : List ℕ → List ExtensionParts → Option ExtensionParts
+find id [] = None
+find id (x ∷ xs) = if bytes_eq x.identifier id then Some x else find id xs
+
+abbrev pub is_there : Option ExtensionParts → Bool
+is_there None = false
+is_there (Some x) = true
+
+-- no two extensions have the same identifier (RFC 5280 4.2)
+abbrev pub are_unique : List ExtensionParts → Bool
+are_unique [] = true
+are_unique (x ∷ xs) = not (is_there (find x.identifier xs)) && are_unique xs
+
+-- one extension at least, and each identifier once
+pub record AreExtensions (xs : List ExtensionParts) (c : List ℕ) : Type 0 where
+  pub some : SpellsSome SpellsExtension xs c
+  pub unique : IsTrue (are_unique xs)
+
+abbrev pub SpellsExtensionList : List ExtensionParts → List ℕ → Type 0
+SpellsExtensionList = SpellsLeaf sequence true AreExtensions
+
+abbrev pub SpellsExtensions : List ExtensionParts → List ℕ → Type 0
+SpellsExtensions = SpellsLeaf extensions_tag true SpellsExtensionList
+
+-- ---- TBSCertificate (RFC 5280 4.1)
+
+-- the algorithm of the RPKI, with parameters or without
+abbrev pub SpellsRpkiAlgorithm : Bool → List ℕ → Type 0
+SpellsRpkiAlgorithm = SpellsAlgorithm sha256_with_rsa_encryption
+
+-- the fields, in order
+abbrev pub Fields : Type 0
+Fields = Unit {0} × (ℕ × (Bool × (List ℕ × (Period × (List ℕ × (KeyParts × List ExtensionParts))))))
+
+abbrev pub fields_of : TbsParts → Fields
+fields_of x = (tt, (x.serial, (x.algorithm, (x.issuer, (x.validity, (x.subject, (x.key, x.extensions)))))))
+
+abbrev pub AreFields : Fields → List ℕ → Type 0
+AreFields =
+    Then SpellsVersion (Then SpellsSerial (Then SpellsRpkiAlgorithm (Then SpellsNameOctets (Then SpellsPeriod
+    (Then SpellsNameOctets (Then SpellsKey SpellsExtensions))))))
+
+-- a SEQUENCE of the fields, and nothing after them; neither issuerUniqueID nor subjectUniqueID (RFC 6487 4)
+abbrev pub SpellsTbs : TbsParts → List ℕ → Type 0
+SpellsTbs x p = SpellsLeaf sequence true AreFields (fields_of x) p
+
+-- ---- a certificate
+
+-- what is signed, as octets, its algorithm and signature; and what the signed octets are
+pub record CertParts : Type 0 where
+  pub signed : SignedParts Bool
+  pub tbs : TbsParts
+
+abbrev pub cert_parts : SignedParts Bool → TbsParts → CertParts
+cert_parts signed tbs = record { signed = signed; tbs = tbs }
+
+-- signed data whose signed octets are a TBSCertificate that names the same algorithm (RFC 5280 4.1.1.2)
+pub record SpellsCert (x : CertParts) (p : List ℕ) : Type 0 where
+  pub signed : SpellsSigned SpellsRpkiAlgorithm x.signed p
+  pub tbs : SpellsTbs x.tbs x.signed.signed
+  pub same : x.tbs.algorithm ≡ x.signed.algorithm

@@ -1,0 +1,3 @@
+-- Definitions: what the contracts say. They are trusted, and read against the standards.
+pub mod Cert
+pub mod CertFault

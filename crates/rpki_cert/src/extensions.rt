@@ -1,0 +1,98 @@
+//! The extensions of a certificate, as a list (RFC 5280 4.1.2.9, 4.2).
+
+ghost use Rattle.std.specs.Prelude.{◌≡◌, [], None, Some, IfOk, IfSome, IfNone};
+ghost use Rattle.rpki_der.specs.Cursor.{left};
+ghost use Rattle.rpki_der.specs.Reading.{Reads};
+ghost use Rattle.rpki_der.specs.FirstFault.{ReadsParts};
+ghost use Rattle.rpki_der.specs.Each.{SpellsEach, IsEachFault};
+ghost use Rattle.rpki.specs.ExtensionValue.{SpellsExtension};
+ghost use Rattle.rpki.specs.ExtensionFault.{IsKeptExtensionFault};
+ghost use Rattle.rpki_cert.specs.Cert.{find, are_unique, AreExtensions, SpellsExtensionList, SpellsExtensions};
+ghost use Rattle.rpki_cert.specs.CertFault.{AreExtensionsFault, IsExtensionListFault, IsExtensionsFault};
+
+use rpki::der::{Class, Constructed, ContentError, DecodeError, Oid, Tag};
+use rpki::repository::x509::CertExtension;
+use std::alloc::Global;
+
+/// The first extension of this identifier.
+pub fn find<'a>(all: &'a [CertExtension], id: Oid<&[u8]>) -> Option<&'a CertExtension>
+    ensures some { IfSome result (λ x. find id.entry.0.now all.now ≡ Some x.now) }
+    ensures none { IfNone result (find id.entry.0.now all.now ≡ None) }
+{
+    'extensions: for extension in all {
+        if extension.id() == id {
+            return Some(extension);
+        }
+    }
+    None
+}
+
+/// Whether no two extensions have the same identifier.
+fn are_unique(all: &[CertExtension]) -> bool
+    ensures { result ≡ are_unique all.now }
+{
+    let mut rest = all;
+    'extensions: while let Some((first, following)) = rest.split_first() {
+        if find(following, first.id()).is_some() {
+            return false;
+        }
+        rest = following;
+    }
+    true
+}
+
+/// The extensions that these contents are, one after another.
+fn take_each(
+    alloc: Global,
+    contents: &mut Constructed<'_>,
+) -> Result<Vec<CertExtension>, DecodeError>
+    ensures reads { ReadsParts (λ v. v.items) (SpellsEach SpellsExtension)
+        (IsEachFault SpellsExtension IsKeptExtensionFault) (left contents.old) (left contents.new) result }
+    ensures end { IfOk result (λ _. left contents.new ≡ []) }
+{
+    contents.take_each(alloc, |rest| CertExtension::take_from(alloc, rest))
+}
+
+/// The extensions that these contents are: one at least, and each identifier once.
+fn take_some(
+    alloc: Global,
+    contents: &mut Constructed<'_>,
+) -> Result<Vec<CertExtension>, DecodeError>
+    ensures { ReadsParts (λ v. v.items) AreExtensions AreExtensionsFault (left contents.old) (left contents.new)
+        result }
+{
+    if contents.is_empty() {
+        return Err(DecodeError::Content(ContentError::from_static("no extensions")));
+    }
+    let all = take_each(alloc, contents)?;
+    if !are_unique(all.as_slice()) {
+        return Err(DecodeError::Content(ContentError::from_static("duplicate extension")));
+    }
+    Ok(all)
+}
+
+/// A SEQUENCE of extensions.
+fn take_list(alloc: Global, cons: &mut Constructed<'_>) -> Result<Vec<CertExtension>, DecodeError>
+    ensures { Reads (λ v. v.items) SpellsExtensionList IsExtensionListFault (left cons.old) (left cons.new) result }
+{
+    cons.in_sequence(|contents| take_some(alloc, contents))
+}
+
+/// The extensions of a certificate: a SEQUENCE of one at least, under the explicit tag 3, and each identifier once
+/// (RFC 5280 4.1.2.9, 4.2).
+///
+/// The errors are those of a constructed value of the tag; then those of a SEQUENCE; then `Content` with the text `no
+/// extensions` for an empty one, that of the first extension that isn't one, `Content` with the text `duplicate
+/// extension` where two have the same identifier; then `Trailing` for octets that follow; and `OutOfMemory` if
+/// allocation fails, only where an extension is there.
+pub fn take_extensions(
+    alloc: Global,
+    cons: &mut Constructed<'_>,
+) -> Result<Vec<CertExtension>, DecodeError>
+    ensures { Reads (λ v. v.items) SpellsExtensions IsExtensionsFault (left cons.old) (left cons.new) result }
+{
+    cons.in_constructed(
+        Tag::new(Class::Context, 3),
+        |contents| take_list(alloc, contents),
+    )
+}

@@ -1,0 +1,37 @@
+//! Parts of one value.
+
+ghost use Rattle.std.specs.Prelude.{◌≡◌, ◌↔◌, IsTrue, false};
+ghost use Rattle.rpki_der.specs.Cursor.{left};
+ghost use Rattle.rpki_der.specs.Reading.{Reads};
+ghost use Rattle.rpki_der.specs.Values.{SpellsLeaf, IsLeafFault};
+ghost use Rattle.rpki_der.specs.Leaves.{IsOnly};
+
+use rpki::der::{Constructed, ContentError, DecodeError, Tag};
+
+/// Whether these are the same octets.
+fn are_same(one: &[u8], other: &[u8]) -> bool
+    ensures { IsTrue result ↔ (one.now ≡ other.now) }
+{
+    one == other
+}
+
+/// Moves past a primitive value of this tag with exactly these contents.
+///
+/// The errors are those of a header; then `Unexpected` for another tag or form; then `Truncated`; then `Content` for
+/// other contents.
+pub fn skip_primitive(
+    cons: &mut Constructed<'_>,
+    tag: Tag,
+    expected: &[u8],
+) -> Result<(), DecodeError>
+    ensures { Reads (λ _. tt) (SpellsLeaf tag false (IsOnly expected.now)) (IsLeafFault tag false (IsOnly expected.now))
+        (left cons.old) (left cons.new) result }
+{
+    let mut after = *cons;
+    let contents = after.take_primitive_if(tag)?;
+    if !are_same(contents, expected) {
+        return Err(DecodeError::Content(ContentError::from_static("unexpected value")));
+    }
+    *cons = after;
+    Ok(())
+}
