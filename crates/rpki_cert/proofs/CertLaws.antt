@@ -70,6 +70,18 @@ reads-tbs K s r (Ok x) h = record {
 }
 reads-tbs K s r (Err e) h = record { unchanged = h.unchanged; refuses = UnlessMemory-weaker e (λ none x q k. none (fields_of x) q (as-fields s x q k)) h.refuses; kind = h.kind }
 
+-- the same of any reader of a grammar whose values are others by another name
+module _ {V W : Type 0} (f : V → W) (back : W → V) (same : (v : V) → back (f v) ≡ v) (G : W → List ℕ → Type 0) where
+  spelled-as : (s : List ℕ) (v : V) (r : List ℕ) → Spells (λ (v : V). G (f v)) s v r → Spells G s (f v) r
+  spelled-as s v r h = record { front = h.front; parts = h.parts; spelled = h.spelled }
+
+  pub reads-as : (K : List ℕ → DecodeError → Type 0) (s r : List ℕ) (x : Result V DecodeError) → Reads f G K s r x → Reads (λ v. v) (λ (v : V). G (f v)) K s r x
+  reads-as K s r (Ok x) h = record {
+    spells = record { front = h.spells.front; parts = h.spells.parts; spelled = h.spells.spelled };
+    only = λ w q k. let e = h.only (f w) q (spelled-as s w q k) in (sym (same w) ∙ ap back e.0 ∙ same x, e.1);
+  }
+  reads-as K s r (Err e) h = record { unchanged = h.unchanged; refuses = UnlessMemory-weaker e (λ none x q k. none (f x) q (spelled-as s x q k)) h.refuses; kind = h.kind }
+
 -- ---- a certificate
 
 abbrev Signed : SignedParts Bool → List ℕ → Type 0

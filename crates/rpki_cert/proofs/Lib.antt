@@ -1,6 +1,10 @@
 -- Which lemma file answers which question.
 --
--- Lists of extensions: ExtensionListLaws. What is signed, and a certificate around it: CertLaws.
+-- Values, one at least; lists of extensions: SomeLaws, ExtensionListLaws.
+-- What is signed, and a certificate around it: CertLaws. What an extension says: KnownLaws, PolicyLaws.
 
+pub mod SomeLaws
 pub mod ExtensionListLaws
 pub mod CertLaws
+pub mod KnownLaws
+pub mod PolicyLaws

@@ -1,3 +1,5 @@
 -- Definitions: what the contracts say. They are trusted, and read against the standards.
 pub mod Cert
 pub mod CertFault
+pub mod Known
+pub mod ExtensionContent

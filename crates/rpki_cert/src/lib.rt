@@ -4,10 +4,18 @@
 #![tactic(auto)]
 
 mod cert;
+mod contents;
 mod extensions;
+mod key_usage;
+mod known;
 mod part;
+mod policy;
+mod purposes;
 mod tbs;
+mod understood;
 mod version;
 
 pub use cert::Cert;
+pub use key_usage::KeyUsage;
+pub use policy::Overclaim;
 pub use tbs::TbsCert;

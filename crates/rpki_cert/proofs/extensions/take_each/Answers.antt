@@ -3,7 +3,7 @@ use Rattle.rpki_der.specs.TagName.{sequence}
 use Rattle.rpki_der.proofs.EachLaws.{read-each-itself, leaf-some}
 use Rattle.rpki.specs.ExtensionValue.{IsExtensionContents, SpellsExtension}
 use Rattle.rpki.specs.ExtensionFault.{IsKeptExtensionFault}
-use Rattle.rpki_cert.proofs.ExtensionListLaws.{each-end}
+use Rattle.rpki_cert.proofs.SomeLaws.{each-end}
 use Rattle.rpki_cert.proofs.extensions.take_each.Goals as goal
 
 pub returns : goal.returns

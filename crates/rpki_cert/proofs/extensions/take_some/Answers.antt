@@ -6,7 +6,8 @@ use Rattle.rpki_der.proofs.FirstFaultLaws.{tried-parts}
 use Rattle.rpki_cert.specs.Cert.{AreExtensions}
 use Rattle.rpki_cert.specs.CertFault.{AreExtensionsFault}
 use Rattle.rpki_cert.specs.CertFault.AreExtensionsFault.{NoExtension, NotExtensions, Repeated}
-use Rattle.rpki_cert.proofs.ExtensionListLaws.{none-there, are-extensions, repeated, not-true}
+use Rattle.rpki_cert.proofs.ExtensionListLaws.{none-there, are-extensions, repeated}
+use Rattle.rpki_cert.proofs.SomeLaws.{not-true}
 use Rattle.rpki_cert.proofs.extensions.take_some.Goals as goal
 
 pub returns-then-is_empty : goal.returns-then-is_empty

@@ -1,0 +1,7 @@
+use Rattle.std.proofs.Common.{rules}
+use Rattle.rpki_der.proofs.InsideLaws.{read-whole}
+use Rattle.rpki_cert.specs.ExtensionContent.{SpellsConstraints, IsConstraintsFault}
+use Rattle.rpki_cert.proofs.known.constraints_of.Goals as goal
+
+pub returns : goal.returns
+returns c = read-whole (λ _. tt) SpellsConstraints IsConstraintsFault _ (λ b a x h. search rules) _ _ (rw c.cursor.ensures at c.whole.ensures)

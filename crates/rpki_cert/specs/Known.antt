@@ -1,0 +1,105 @@
+-- Extensions by their identifiers (RFC 6487 4.8).
+use Rattle.std.specs.Prelude.{◌≡◌, ℕ, Bool, true, false, not, ◌||◌, ◌&&◌, List, [], ◌∷◌, Option, Some, None, bytes_eq}
+use Rattle.rpki.specs.ExtensionValue.{ExtensionParts}
+use Rattle.rpki_der.specs.Reading.{UnlessMemory}
+use Rattle.rpki.specs.declared.repository.error.ValidationError.{ValidationError}
+use Rattle.rpki.specs.declared.repository.error.ValidationError.TheVariants.{Decoding, Inspection, Verification}
+use Rattle.rpki_cert.specs.Cert.{find}
+
+-- ---- their identifiers, by their contents octets (X.690 8.19)
+
+-- 2.5.29.14 (RFC 5280 4.2.1.2)
+abbrev pub subject_key_identifier : List ℕ
+subject_key_identifier = 85 ∷ 29 ∷ 14 ∷ []
+
+-- 2.5.29.15 (RFC 5280 4.2.1.3)
+abbrev pub key_usage : List ℕ
+key_usage = 85 ∷ 29 ∷ 15 ∷ []
+
+-- 2.5.29.19 (RFC 5280 4.2.1.9)
+abbrev pub basic_constraints : List ℕ
+basic_constraints = 85 ∷ 29 ∷ 19 ∷ []
+
+-- 2.5.29.31 (RFC 5280 4.2.1.13)
+abbrev pub crl_distribution_points : List ℕ
+crl_distribution_points = 85 ∷ 29 ∷ 31 ∷ []
+
+-- 2.5.29.32 (RFC 5280 4.2.1.4)
+abbrev pub certificate_policies : List ℕ
+certificate_policies = 85 ∷ 29 ∷ 32 ∷ []
+
+-- 2.5.29.35 (RFC 5280 4.2.1.1)
+abbrev pub authority_key_identifier : List ℕ
+authority_key_identifier = 85 ∷ 29 ∷ 35 ∷ []
+
+-- 2.5.29.37 (RFC 5280 4.2.1.12)
+abbrev pub extended_key_usage : List ℕ
+extended_key_usage = 85 ∷ 29 ∷ 37 ∷ []
+
+-- 1.3.6.1.5.5.7.1.1 (RFC 5280 4.2.2.1)
+abbrev pub authority_info_access : List ℕ
+authority_info_access = 43 ∷ 6 ∷ 1 ∷ 5 ∷ 5 ∷ 7 ∷ 1 ∷ 1 ∷ []
+
+-- 1.3.6.1.5.5.7.1.7 and, with validation reconsidered, 1.3.6.1.5.5.7.1.28 (RFC 3779 2.2.1, RFC 8360 4.2.2.1)
+abbrev pub ip_addr_blocks : List ℕ
+ip_addr_blocks = 43 ∷ 6 ∷ 1 ∷ 5 ∷ 5 ∷ 7 ∷ 1 ∷ 7 ∷ []
+
+abbrev pub ip_addr_blocks_v2 : List ℕ
+ip_addr_blocks_v2 = 43 ∷ 6 ∷ 1 ∷ 5 ∷ 5 ∷ 7 ∷ 1 ∷ 28 ∷ []
+
+-- 1.3.6.1.5.5.7.1.8 and, with validation reconsidered, 1.3.6.1.5.5.7.1.29 (RFC 3779 3.2.1, RFC 8360 4.2.2.3)
+abbrev pub autonomous_sys_ids : List ℕ
+autonomous_sys_ids = 43 ∷ 6 ∷ 1 ∷ 5 ∷ 5 ∷ 7 ∷ 1 ∷ 8 ∷ []
+
+abbrev pub autonomous_sys_ids_v2 : List ℕ
+autonomous_sys_ids_v2 = 43 ∷ 6 ∷ 1 ∷ 5 ∷ 5 ∷ 7 ∷ 1 ∷ 29 ∷ []
+
+-- 1.3.6.1.5.5.7.1.11 (RFC 5280 4.2.2.2)
+abbrev pub subject_info_access : List ℕ
+subject_info_access = 43 ∷ 6 ∷ 1 ∷ 5 ∷ 5 ∷ 7 ∷ 1 ∷ 11 ∷ []
+
+-- ---- what an extension says
+
+-- The extension of this identifier is as critical as it has to be, and its octets spell the value in G; or there is no
+-- such extension.
+abbrev pub HasExtension : {V : Type 0} → List ℕ → Bool → (V → List ℕ → Type 0) → List ExtensionParts → Option V
+    → Type 0
+HasExtension id critical G xs None = find id xs ≡ None
+HasExtension id critical G xs (Some v) =
+    (x : ExtensionParts) × (find id xs ≡ Some x) × (x.critical ≡ critical) × G v x.content
+
+-- this value, and no other
+abbrev pub HasOnly : {V : Type 0} → List ℕ → Bool → (V → List ℕ → Type 0) → List ExtensionParts → Option V → Type 0
+HasOnly {V} id critical G xs v =
+    HasExtension id critical G xs v × ((w : Option V) → HasExtension id critical G xs w → w ≡ v)
+
+-- the extension is there, and is another: malformed, or not as critical as it has to be
+abbrev pub HasNone : {V : Type 0} → List ℕ → Bool → (V → List ℕ → Type 0) → List ExtensionParts → Type 0
+HasNone {V} id critical G xs = (v : Option V) → HasExtension id critical G xs v → ⊥
+
+-- a fact for each error but allocation failure
+abbrev pub UnlessNoMemory : ValidationError → Type 0 → Type 0
+UnlessNoMemory (Decoding e) P = UnlessMemory e P
+UnlessNoMemory (Inspection e) P = P
+UnlessNoMemory (Verification e) P = P
+
+-- the value of an extension that says nothing but that it is there
+abbrev pub present : Bool → Option (Unit {0})
+present true = Some tt
+present false = None
+
+-- ---- critical extensions
+
+-- the extensions of certificates of the RPKI (RFC 6487 4.8, RFC 8360 4.2)
+abbrev pub is_known : List ℕ → Bool
+is_known id =
+    bytes_eq id subject_key_identifier || bytes_eq id key_usage || bytes_eq id basic_constraints
+    || bytes_eq id crl_distribution_points || bytes_eq id certificate_policies
+    || bytes_eq id authority_key_identifier || bytes_eq id extended_key_usage || bytes_eq id authority_info_access
+    || bytes_eq id ip_addr_blocks || bytes_eq id ip_addr_blocks_v2 || bytes_eq id autonomous_sys_ids
+    || bytes_eq id autonomous_sys_ids_v2 || bytes_eq id subject_info_access
+
+-- every critical extension is a known one (RFC 5280 4.2)
+abbrev pub are_understood : List ExtensionParts → Bool
+are_understood [] = true
+are_understood (x ∷ xs) = (not x.critical || is_known x.identifier) && are_understood xs

@@ -1,0 +1,41 @@
+//! The octets of extensions (RFC 6487 4.8).
+
+ghost use Rattle.rpki_der.specs.Cursor.{left};
+ghost use Rattle.rpki_der.specs.Reading.{Reads};
+ghost use Rattle.rpki_cert.specs.ExtensionContent.{SpellsConstraints, IsConstraintsFault, SpellsTagged, IsTaggedFault, SpellsAuthority, IsAuthorityFault};
+
+use crate::part::skip_primitive;
+use rpki::crypto::KeyIdentifier;
+use rpki::der::{Class, Constructed, ContentError, DecodeError, Tag};
+
+/// Moves past the basic constraints of a certification authority: a SEQUENCE of TRUE (RFC 6487 4.8.1).
+pub fn skip_constraints(cons: &mut Constructed<'_>) -> Result<(), DecodeError>
+    ensures { Reads (λ _. tt) SpellsConstraints IsConstraintsFault (left cons.old) (left cons.new) result }
+{
+    cons.in_sequence(|contents| skip_primitive(contents, Tag::BOOLEAN, &[0xff]))
+}
+
+/// A key identifier under the tag 0.
+fn take_tagged(cons: &mut Constructed<'_>) -> Result<KeyIdentifier, DecodeError>
+    ensures { Reads (λ k. k) SpellsTagged IsTaggedFault (left cons.old) (left cons.new) result }
+{
+    let mut after = *cons;
+    let octets = match after.take_primitive_if(Tag::new(Class::Context, 0)) {
+        Ok(octets) => octets,
+        Err(e) => return Err(e),
+    };
+    match KeyIdentifier::try_from(octets) {
+        Ok(identifier) => {
+            *cons = after;
+            Ok(identifier)
+        }
+        Err(_) => Err(DecodeError::Content(ContentError::from_static("invalid key identifier"))),
+    }
+}
+
+/// The identifier of an issuer's key: a SEQUENCE of it alone, under the tag 0 (RFC 6487 4.8.3).
+pub fn take_authority(cons: &mut Constructed<'_>) -> Result<KeyIdentifier, DecodeError>
+    ensures { Reads (λ k. k) SpellsAuthority IsAuthorityFault (left cons.old) (left cons.new) result }
+{
+    cons.in_sequence(|contents| take_tagged(contents))
+}

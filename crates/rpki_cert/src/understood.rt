@@ -1,0 +1,46 @@
+//! Whether every critical extension is a known one (RFC 5280 4.2).
+
+ghost use Rattle.std.specs.Prelude.{◌≡◌, ◌||◌, not};
+ghost use Rattle.rpki_cert.specs.Known.{is_known, are_understood};
+
+use rpki::der::Oid;
+use rpki::oid;
+use rpki::repository::x509::CertExtension;
+
+/// Whether certificates of the RPKI have extensions of this identifier (RFC 6487 4.8, RFC 8360 4.2).
+fn is_known(id: Oid<&[u8]>) -> bool
+    ensures { result ≡ is_known id.entry.0.now }
+{
+    id == oid::CE_SUBJECT_KEY_IDENTIFIER
+        || id == oid::CE_KEY_USAGE
+        || id == oid::CE_BASIC_CONSTRAINTS
+        || id == oid::CE_CRL_DISTRIBUTION_POINTS
+        || id == oid::CE_CERTIFICATE_POLICIES
+        || id == oid::CE_AUTHORITY_KEY_IDENTIFIER
+        || id == oid::CE_EXTENDED_KEY_USAGE
+        || id == oid::PE_AUTHORITY_INFO_ACCESS
+        || id == oid::PE_IP_ADDR_BLOCK
+        || id == oid::PE_IP_ADDR_BLOCK_V2
+        || id == oid::PE_AUTONOMOUS_SYS_IDS
+        || id == oid::PE_AUTONOMOUS_SYS_IDS_V2
+        || id == oid::PE_SUBJECT_INFO_ACCESS
+}
+
+/// Whether an extension is known or not critical.
+fn is_understood(extension: &CertExtension) -> bool
+    ensures { result ≡ (not extension.now.critical || is_known extension.now.identifier) }
+{
+    !extension.critical() || is_known(extension.id())
+}
+
+/// Whether every critical extension is a known one (RFC 5280 4.2).
+pub fn are_understood(all: &[CertExtension]) -> bool
+    ensures { result ≡ are_understood all.now }
+{
+    'extensions: for extension in all {
+        if !is_understood(extension) {
+            return false;
+        }
+    }
+    true
+}
