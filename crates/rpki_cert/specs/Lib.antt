@@ -3,3 +3,4 @@ pub mod Cert
 pub mod CertFault
 pub mod Known
 pub mod ExtensionContent
+pub mod Access

@@ -23,7 +23,7 @@ use rpki::repository::x509::CertExtension;
 use std::alloc::Global;
 
 /// The extension of this identifier, which has to be critical or not.
-fn find_as<'a>(
+pub fn find_as<'a>(
     all: &'a [CertExtension],
     id: ConstOid,
     critical: bool,

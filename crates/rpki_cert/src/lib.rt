@@ -3,6 +3,7 @@
 //! `Cert::decode` reads one.
 #![tactic(auto)]
 
+mod access;
 mod cert;
 mod contents;
 mod extensions;
@@ -13,6 +14,7 @@ mod policy;
 mod purposes;
 mod tbs;
 mod understood;
+mod uris;
 mod version;
 
 pub use cert::Cert;

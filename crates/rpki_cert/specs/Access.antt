@@ -1,0 +1,170 @@
+-- The URIs of certificates: CRL distribution points, and authority and subject information access (RFC 6487 4.8.6 to
+-- 4.8.8, RFC 8182 3.2).
+use Rattle.std.specs.Prelude.{◌≡◌, ◌≢◌, ◌⊎◌, ℕ, Bool, true, false, List, [], ◌∷◌, Option, Some, None, bytes_eq, codes, if◌then◌else◌}
+use Rattle.std.specs.Option.{is_some}
+use Rattle.rpki_der.specs.declared.error.DecodeError.{DecodeError}
+use Rattle.rpki_der.specs.declared.tag.Class.TheVariants.{Context}
+use Rattle.rpki_der.specs.TagName.{TagName, tag_of, context_6, oid, sequence}
+use Rattle.rpki_der.specs.Reading.{Finds, OrMemoryWhere}
+use Rattle.rpki_der.specs.Values.{SpellsContents, SpellsLeaf, HasTag, IsContentsFault, IsLeafFault}
+use Rattle.rpki_der.specs.WantedValue.{SpellsWanted, IsAnyTag, IsWantedFault}
+use Rattle.rpki_der.specs.Leaves.{IsOid}
+use Rattle.rpki_der.specs.Parts.{Then}
+use Rattle.rpki_der.specs.Each.{SpellsSome, IsEachFault}
+use Rattle.rpki_der.specs.FirstFault.{FirstFault, IsEndFault, IsInsideFault}
+use Rattle.rpki_text.specs.RsyncText.{rsync_refusal}
+use Rattle.rpki_text.specs.HttpsText.{https_refusal}
+use Rattle.rpki.specs.UnknownAlgorithm.{IsContentWith}
+use Rattle.rpki.specs.ExtensionValue.{ExtensionParts}
+use Rattle.rpki_cert.specs.Known.{HasOnly}
+
+-- what f makes of some value that is spelled
+abbrev pub Through : {V W : Type 0} → (W → V) → (W → List ℕ → Type 0) → V → List ℕ → Type 0
+Through {V} {W} f G v p = (w : W) × G w p × (v ≡ f w)
+
+-- ---- values of one type, one at least, that are kept while they are read
+
+abbrev pub IsSomeFault : {V : Type 0} → (V → List ℕ → Type 0) → (List ℕ → DecodeError → Type 0) → List ℕ → DecodeError
+    → Type 0
+IsSomeFault G K s e =
+    ((s ≡ []) × IsContentWith (codes "empty SEQUENCE") e) ⊎ ((s ≢ []) × IsEachFault G K s e)
+
+-- the same, and memory is taken of what was read
+abbrev pub IsKeptFault : {V : Type 0} → (V → List ℕ → Type 0) → (List ℕ → DecodeError → Type 0) → List ℕ → DecodeError
+    → Type 0
+IsKeptFault G K = OrMemoryWhere (λ s. s ≢ []) (IsSomeFault G K)
+
+-- ---- general names (RFC 5280 4.2.1.6)
+
+-- the text of a URI, under the tag 6; or a value of another tag, which stands for None
+abbrev pub SpellsName : Option (List ℕ) → List ℕ → Type 0
+SpellsName (Some text) p = SpellsContents context_6 false text p
+SpellsName None p = (x : TagName × Bool × List ℕ) × SpellsWanted IsAnyTag x p × (x.0 ≢ context_6)
+
+abbrev pub IsUriFault : List ℕ → DecodeError → Type 0
+IsUriFault = OrMemoryWhere (Finds (SpellsContents context_6 false)) (IsContentsFault context_6 false)
+
+abbrev pub IsNameFault : List ℕ → DecodeError → Type 0
+IsNameFault s e =
+    (HasTag context_6 s × IsUriFault s e) ⊎ ((HasTag context_6 s → ⊥) × IsWantedFault IsAnyTag s e)
+
+-- a URI
+abbrev pub SpellsUri : Option (List ℕ) → List ℕ → Type 0
+SpellsUri = Through (λ text. Some text) (SpellsContents context_6 false)
+
+-- the first text that is an rsync URI; that is an https URI
+abbrev pub first_rsync : List (Option (List ℕ)) → Option (List ℕ)
+first_rsync [] = None
+first_rsync (None ∷ xs) = first_rsync xs
+first_rsync (Some text ∷ xs) = if is_some (rsync_refusal text) then first_rsync xs else Some text
+
+abbrev pub first_https : List (Option (List ℕ)) → Option (List ℕ)
+first_https [] = None
+first_https (None ∷ xs) = first_https xs
+first_https (Some text ∷ xs) = if is_some (https_refusal text) then first_https xs else Some text
+
+-- ---- access descriptions: a SEQUENCE of a method and of a general name (RFC 5280 4.2.2.1, 4.2.2.2)
+
+-- an object identifier, and whether it is this one
+abbrev pub IsOidAs : List ℕ → Bool → List ℕ → Type 0
+IsOidAs expected same c = IsOid c × (same ≡ bytes_eq c expected)
+
+abbrev pub SpellsOidAs : List ℕ → Bool → List ℕ → Type 0
+SpellsOidAs expected = SpellsLeaf oid false (IsOidAs expected)
+
+abbrev pub IsOidAsFault : List ℕ → List ℕ → DecodeError → Type 0
+IsOidAsFault expected = IsLeafFault oid false (IsOidAs expected)
+
+-- the name of a description of this method; of another there is None
+abbrev pub chosen : Bool × Option (List ℕ) → Option (List ℕ)
+chosen (true, name) = name
+chosen (false, name) = None
+
+abbrev pub IsAccess : List ℕ → Option (List ℕ) → List ℕ → Type 0
+IsAccess method = Through chosen (Then (SpellsOidAs method) SpellsName)
+
+abbrev pub SpellsAccess : List ℕ → Option (List ℕ) → List ℕ → Type 0
+SpellsAccess method = SpellsLeaf sequence true (IsAccess method)
+
+abbrev pub IsAccessPartsFault : List ℕ → List ℕ → DecodeError → Type 0
+IsAccessPartsFault method =
+    FirstFault (SpellsOidAs method) (IsOidAsFault method) (λ same. FirstFault SpellsName IsNameFault (λ name. IsEndFault))
+
+abbrev pub IsAccessFault : List ℕ → List ℕ → DecodeError → Type 0
+IsAccessFault method = IsInsideFault sequence true (IsAccessPartsFault method)
+
+-- one description at least: the first rsync URI of this method; the first https URI
+abbrev pub SpellsRsyncAccess : List ℕ → Option (List ℕ) → List ℕ → Type 0
+SpellsRsyncAccess method = SpellsLeaf sequence true (Through first_rsync (SpellsSome (SpellsAccess method)))
+
+abbrev pub SpellsHttpsAccess : List ℕ → Option (List ℕ) → List ℕ → Type 0
+SpellsHttpsAccess method = SpellsLeaf sequence true (Through first_https (SpellsSome (SpellsAccess method)))
+
+abbrev pub AreAccessesFault : List ℕ → List ℕ → DecodeError → Type 0
+AreAccessesFault method = IsKeptFault (SpellsAccess method) (IsAccessFault method)
+
+abbrev pub IsAccessesFault : List ℕ → List ℕ → DecodeError → Type 0
+IsAccessesFault method = IsInsideFault sequence true (AreAccessesFault method)
+
+-- ---- CRL distribution points: exactly one, of which there is exactly a full name (RFC 5280 4.2.1.13)
+
+abbrev pub context_0 : TagName
+context_0 = tag_of Context 0
+
+-- general names, each a URI: the first that is an rsync URI
+abbrev pub SpellsFullName : Option (List ℕ) → List ℕ → Type 0
+SpellsFullName = SpellsLeaf context_0 true (Through first_rsync (SpellsSome SpellsUri))
+
+abbrev pub IsFullNameFault : List ℕ → DecodeError → Type 0
+IsFullNameFault = IsInsideFault context_0 true (IsKeptFault SpellsUri IsUriFault)
+
+abbrev pub SpellsPointName : Option (List ℕ) → List ℕ → Type 0
+SpellsPointName = SpellsLeaf context_0 true SpellsFullName
+
+abbrev pub IsPointNameFault : List ℕ → DecodeError → Type 0
+IsPointNameFault = IsInsideFault context_0 true (FirstFault SpellsFullName IsFullNameFault (λ name. IsEndFault))
+
+abbrev pub SpellsPoint : Option (List ℕ) → List ℕ → Type 0
+SpellsPoint = SpellsLeaf sequence true SpellsPointName
+
+abbrev pub IsPointFault : List ℕ → DecodeError → Type 0
+IsPointFault = IsInsideFault sequence true (FirstFault SpellsPointName IsPointNameFault (λ name. IsEndFault))
+
+abbrev pub SpellsPoints : Option (List ℕ) → List ℕ → Type 0
+SpellsPoints = SpellsLeaf sequence true SpellsPoint
+
+abbrev pub IsPointsFault : List ℕ → DecodeError → Type 0
+IsPointsFault = IsInsideFault sequence true (FirstFault SpellsPoint IsPointFault (λ point. IsEndFault))
+
+-- ---- the methods (RFC 5280 4.2.2.1, 4.2.2.2, RFC 6487 4.8.8, RFC 8182 3.2)
+
+-- 1.3.6.1.5.5.7.48.2
+abbrev pub ca_issuers : List ℕ
+ca_issuers = 43 ∷ 6 ∷ 1 ∷ 5 ∷ 5 ∷ 7 ∷ 48 ∷ 2 ∷ []
+
+-- 1.3.6.1.5.5.7.48.5
+abbrev pub ca_repository : List ℕ
+ca_repository = 43 ∷ 6 ∷ 1 ∷ 5 ∷ 5 ∷ 7 ∷ 48 ∷ 5 ∷ []
+
+-- 1.3.6.1.5.5.7.48.10
+abbrev pub rpki_manifest : List ℕ
+rpki_manifest = 43 ∷ 6 ∷ 1 ∷ 5 ∷ 5 ∷ 7 ∷ 48 ∷ 10 ∷ []
+
+-- 1.3.6.1.5.5.7.48.11
+abbrev pub signed_object : List ℕ
+signed_object = 43 ∷ 6 ∷ 1 ∷ 5 ∷ 5 ∷ 7 ∷ 48 ∷ 11 ∷ []
+
+-- 1.3.6.1.5.5.7.48.13
+abbrev pub rpki_notify : List ℕ
+rpki_notify = 43 ∷ 6 ∷ 1 ∷ 5 ∷ 5 ∷ 7 ∷ 48 ∷ 13 ∷ []
+
+-- ---- what a certificate says
+
+abbrev pub flat : Option (Option (List ℕ)) → Option (List ℕ)
+flat None = None
+flat (Some uri) = uri
+
+-- The URI that the extension of this identifier has, in G: none where the extension isn't there, or where it has no URI
+-- of the scheme.
+abbrev pub HasUri : List ℕ → (Option (List ℕ) → List ℕ → Type 0) → List ExtensionParts → Option (List ℕ) → Type 0
+HasUri id G xs uri = (v : Option (Option (List ℕ))) × HasOnly id false G xs v × (uri ≡ flat v)
