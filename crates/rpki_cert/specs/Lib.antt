@@ -4,3 +4,4 @@ pub mod CertFault
 pub mod Known
 pub mod ExtensionContent
 pub mod Access
+pub mod Valid

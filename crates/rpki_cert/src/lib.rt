@@ -15,6 +15,7 @@ mod purposes;
 mod tbs;
 mod understood;
 mod uris;
+mod verify;
 mod version;
 
 pub use cert::Cert;

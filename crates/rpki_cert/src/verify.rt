@@ -1,0 +1,196 @@
+//! Whether certificates are valid at a moment (RFC 5280 6.1.3, RFC 6487 7.2), but for their resources.
+
+ghost use Rattle.std.specs.Prelude.{◌≡◌, ◌↔◌, ◌⊎◌, false, None, Option, IsOk, IsTrue};
+ghost use Rattle.rpki.specs.KeyIdentifier.{SpellsKeyIdentifier};
+ghost use Rattle.rpki_time.specs.Validity.{HoldsAt};
+ghost use Rattle.rpki.specs.Provider.{Verifies};
+ghost use Rattle.rpki_cert.specs.Cert.{find};
+ghost use Rattle.rpki_cert.specs.Known.{subject_key_identifier, authority_key_identifier, HasExtension, are_understood};
+ghost use Rattle.rpki_cert.specs.ExtensionContent.{SpellsAuthority};
+ghost use Rattle.rpki_cert.specs.Valid.{IsSigned, HasAuthority, IsIssued, IsAnchor};
+
+use crate::cert::Cert;
+use crate::extensions::find;
+use crate::tbs::TbsCert;
+use crate::understood::are_understood;
+use rpki::crypto::{KeyIdentifier, Provider, PublicKey, PublicKeyFormat};
+use rpki::der::ContentError;
+use rpki::oid;
+use rpki::repository::error::{ValidationError, VerificationError};
+use rpki::repository::x509::{Name, SignedData, Time};
+
+/// The error of this text.
+fn unverified(text: &'static str) -> ValidationError {
+    ValidationError::Verification(VerificationError::new(ContentError::from_static(text)))
+}
+
+/// Whether the key identifier is there and is this one.
+fn is_there(found: Option<KeyIdentifier>, wanted: KeyIdentifier) -> bool
+    ensures { IsTrue result ↔ (found ≡ Option.Some wanted) }
+{
+    match found {
+        Some(found) => found == wanted,
+        None => false,
+    }
+}
+
+/// Whether the names have the same octets.
+fn is_named(name: &Name, wanted: &Name) -> bool
+    ensures { IsTrue result ↔ (name.now ≡ wanted.now) }
+{
+    *name == *wanted
+}
+
+impl TbsCert {
+    /// Whether the identifier of the issuer's key is there and is this one.
+    fn verify_authority(&self, wanted: KeyIdentifier) -> Result<(), ValidationError>
+        ensures { IsOk result ↔ HasAuthority wanted self.now }
+    {
+        match self.authority_key_identifier() {
+            Ok(found) => {
+                if is_there(found, wanted) {
+                    return Ok(());
+                }
+                Err(unverified("authority key identifier mismatch"))
+            }
+            Err(e) => Err(e),
+        }
+    }
+
+    /// Whether the identifier of the issuer's key isn't there, or is this one.
+    fn verify_own_authority(&self, wanted: KeyIdentifier) -> Result<(), ValidationError>
+        ensures { IsOk result ↔ (find authority_key_identifier self.now.extensions ≡ None)
+            ⊎ HasAuthority wanted self.now }
+    {
+        match find(self.extensions(), oid::CE_AUTHORITY_KEY_IDENTIFIER) {
+            Some(_) => self.verify_authority(wanted),
+            None => Ok(()),
+        }
+    }
+
+    /// Whether the identifier of the subject's key is there and is this one.
+    fn verify_subject(&self, wanted: KeyIdentifier) -> Result<(), ValidationError>
+        ensures { IsOk result ↔ HasExtension subject_key_identifier false SpellsKeyIdentifier self.now.extensions
+            (Option.Some wanted) }
+    {
+        match self.subject_key_identifier() {
+            Ok(found) => {
+                if is_there(found, wanted) {
+                    return Ok(());
+                }
+                Err(unverified("subject key identifier mismatch"))
+            }
+            Err(e) => Err(e),
+        }
+    }
+
+    /// Whether every critical extension is a known one.
+    fn verify_critical(&self) -> Result<(), ValidationError>
+        ensures { IsOk result ↔ IsTrue (are_understood self.now.extensions) }
+    {
+        if are_understood(self.extensions()) {
+            return Ok(());
+        }
+        Err(unverified("unknown critical extension"))
+    }
+
+    /// Whether the issuer has this name.
+    fn verify_issuer(&self, issuer: &Name) -> Result<(), ValidationError>
+        ensures { IsOk result ↔ (self.now.issuer ≡ issuer.now) }
+    {
+        if is_named(self.issuer(), issuer) {
+            return Ok(());
+        }
+        Err(unverified("issuer name mismatch"))
+    }
+
+    /// Whether the period holds at the moment.
+    fn verify_period(&self, at: Time) -> Result<(), ValidationError>
+        ensures { IsOk result ↔ HoldsAt self.now.validity at }
+    {
+        match self.validity().verify_at(at) {
+            Ok(()) => Ok(()),
+            Err(e) => Err(ValidationError::Verification(VerificationError::from(e))),
+        }
+    }
+}
+
+/// Whether the key has signed the data.
+fn verify_signature<P: Provider>(
+    signed: &SignedData,
+    provider: &P,
+    key: &PublicKey,
+) -> Result<(), ValidationError>
+    ensures { IsOk result ↔ Verifies (P.rsa_of provider.now) (P.ecdsa_of provider.now) PublicKeyFormat.Rsa
+        key.now.format key.now.bits.octets signed.now.signed signed.now.value }
+{
+    match signed.verify_signature(provider, key) {
+        Ok(()) => Ok(()),
+        Err(_) => Err(unverified("signature verification failed")),
+    }
+}
+
+impl Cert {
+    /// Whether this key has signed the certificate, and it is valid at the moment, the key identifier of the issuer
+    /// aside.
+    fn verify_signed<P: Provider>(
+        &self,
+        provider: &P,
+        issuer: &Name,
+        issuer_key: &PublicKey,
+        at: Time,
+    ) -> Result<(), ValidationError>
+        ensures { IsOk result ↔ IsSigned (P.rsa_of provider.now) (P.ecdsa_of provider.now) (P.sha1_of provider.now)
+            issuer.now issuer_key.now at self.now }
+    {
+        verify_signature(self.signed_data(), provider, issuer_key)?;
+        self.tbs().verify_period(at)?;
+        self.tbs().verify_issuer(issuer)?;
+        self.tbs().verify_critical()?;
+        let subject = self
+            .tbs()
+            .subject_public_key_info()
+            .key_identifier(provider);
+        self.tbs().verify_subject(subject)
+    }
+
+    /// Whether the issuer has signed the certificate, and it is valid at the moment: the signature, the period, the
+    /// issuer's name, and both key identifiers (RFC 6487 7.2). Whether the certificates have their profiles, and the
+    /// resources, are not looked at. Allocates nothing.
+    ///
+    /// The error is that of the first of: the signature, the period, the issuer's name, an unknown critical extension,
+    /// the identifier of the subject's key, that of the issuer's.
+    pub fn verify_issued<P: Provider>(
+        &self,
+        provider: &P,
+        issuer: &TbsCert,
+        at: Time,
+    ) -> Result<(), ValidationError>
+        ensures { IsOk result ↔ IsIssued (P.rsa_of provider.now) (P.ecdsa_of provider.now) (P.sha1_of provider.now)
+            issuer.now at self.now }
+    {
+        self.verify_signed(
+            provider,
+            issuer.subject(),
+            issuer.subject_public_key_info(),
+            at,
+        )?;
+        let authority = issuer.subject_public_key_info().key_identifier(provider);
+        self.tbs().verify_authority(authority)
+    }
+
+    /// Whether the certificate is a trust anchor that is valid at the moment: its own key has signed it, its issuer is
+    /// its subject, and the identifier of the issuer's key is left out, or is that of its own (RFC 6487 4.8.3).
+    /// Allocates nothing.
+    ///
+    /// The errors are those of [Cert::verify_issued].
+    pub fn verify_ta<P: Provider>(&self, provider: &P, at: Time) -> Result<(), ValidationError>
+        ensures { IsOk result ↔ IsAnchor (P.rsa_of provider.now) (P.ecdsa_of provider.now) (P.sha1_of provider.now) at
+            self.now }
+    {
+        let own = self.tbs();
+        self.verify_signed(provider, own.subject(), own.subject_public_key_info(), at)?;
+        let authority = own.subject_public_key_info().key_identifier(provider);
+        own.verify_own_authority(authority)
+    }
+}
