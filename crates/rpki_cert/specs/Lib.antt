@@ -5,3 +5,4 @@ pub mod Known
 pub mod ExtensionContent
 pub mod Access
 pub mod Valid
+pub mod Profile

@@ -11,6 +11,7 @@ mod key_usage;
 mod known;
 mod part;
 mod policy;
+mod profile;
 mod purposes;
 mod tbs;
 mod understood;

@@ -1,0 +1,127 @@
+-- The profiles of certificates: trust anchors, certification authorities and end entities (RFC 6487 4), and BGPsec
+-- routers (RFC 8209 3.1). A name is held to its profile where this is asked for.
+use Rattle.std.specs.Prelude.{◌≡◌, ◌<◌, ◌||◌, ◌&&◌, not, ℕ, Bool, true, false, List, Option, Some, None, IsTrue, Result, MatchResult}
+use Rattle.rpki.specs.declared.crypto.keys.PublicKeyFormat.TheVariants.{Rsa, EcdsaP256}
+use Rattle.rpki.specs.KeyIdentifier.{SpellsKeyIdentifier}
+use Rattle.rpki.specs.StrictName.{IsRpkiName, IsRouterName}
+use Rattle.rpki.specs.ExtensionValue.{ExtensionParts}
+use Rattle.rpki.specs.declared.repository.error.ValidationError.{ValidationError}
+use Rattle.rpki_cert.specs.declared.key_usage.KeyUsage.TheVariants.{Ca, Ee}
+use Rattle.rpki_cert.specs.Cert.{TbsParts, find, is_there}
+use Rattle.rpki_cert.specs.Known.{subject_key_identifier, key_usage, basic_constraints, crl_distribution_points, certificate_policies, authority_key_identifier, extended_key_usage, authority_info_access, subject_info_access, ip_addr_blocks, ip_addr_blocks_v2, autonomous_sys_ids, autonomous_sys_ids_v2, HasExtension, UnlessNoMemory, are_understood}
+use Rattle.rpki_cert.specs.ExtensionContent.{SpellsConstraints, SpellsAuthority, SpellsUsage, SpellsPurposes, SpellsPolicies}
+use Rattle.rpki_cert.specs.Access.{SpellsRsyncAccess, SpellsPoints, HasUri, ca_issuers, ca_repository, rpki_manifest, signed_object}
+
+-- ---- a check
+
+-- Ok exactly where P holds, allocation failure aside
+abbrev pub Checks : Type 0 → Result (Unit {0}) ValidationError → Type 0
+Checks P r = MatchResult r (λ _. P) (λ e. UnlessNoMemory e (P → ⊥))
+
+-- ---- what is there
+
+-- the extension of this identifier is there, in this form and as critical as it has to be
+abbrev pub HasSome : {V : Type 0} → List ℕ → Bool → (V → List ℕ → Type 0) → List ExtensionParts → Type 0
+HasSome {V} id critical G xs = (v : V) × HasExtension id critical G xs (Some v)
+
+-- it isn't there
+abbrev pub HasNot : List ℕ → List ExtensionParts → Type 0
+HasNot id xs = find id xs ≡ None
+
+-- it is there, and has a URI of the scheme
+abbrev pub HasSomeUri : List ℕ → (Option (List ℕ) → List ℕ → Type 0) → List ExtensionParts → Type 0
+HasSomeUri id G xs = (uri : List ℕ) × HasUri id G xs (Some uri)
+
+-- ---- resources, which are not read (RFC 6487 4.8.10, 4.8.11, RFC 8360 4.2.2)
+
+abbrev pub has_addresses : List ExtensionParts → Bool
+has_addresses xs = is_there (find ip_addr_blocks xs) || is_there (find ip_addr_blocks_v2 xs)
+
+abbrev pub has_numbers : List ExtensionParts → Bool
+has_numbers xs = is_there (find autonomous_sys_ids xs) || is_there (find autonomous_sys_ids_v2 xs)
+
+-- critical, or not there
+abbrev pub is_critical : Option ExtensionParts → Bool
+is_critical None = true
+is_critical (Some x) = x.critical
+
+-- addresses or numbers are there, and each extension that has them is critical
+abbrev pub has_resources : List ExtensionParts → Bool
+has_resources xs =
+    (has_addresses xs || has_numbers xs) && is_critical (find ip_addr_blocks xs)
+    && is_critical (find ip_addr_blocks_v2 xs) && is_critical (find autonomous_sys_ids xs)
+    && is_critical (find autonomous_sys_ids_v2 xs)
+
+-- ---- what certificates have in common
+
+-- the serial number is positive (RFC 5280 4.1.2.2); every critical extension is known; the issuer has a name of the
+-- RPKI; the subject key identifier, the policy and resources are there (RFC 6487 4.2, 4.4, 4.8)
+pub record IsBasic (strict : Bool) (t : TbsParts) : Type 0 where
+  pub serial : 0 < t.serial
+  pub understood : IsTrue (are_understood t.extensions)
+  pub issuer : IsTrue strict → IsRpkiName t.issuer
+  pub identifier : HasSome subject_key_identifier false SpellsKeyIdentifier t.extensions
+  pub policy : HasSome certificate_policies true SpellsPolicies t.extensions
+  pub resources : IsTrue (has_resources t.extensions)
+
+-- a subject with a name of the RPKI and an RSA key (RFC 6487 4.5, RFC 7935 3), for no extended purpose (RFC 6487 4.8.5)
+pub record IsOrdinary (strict : Bool) (t : TbsParts) : Type 0 where
+  pub basic : IsBasic strict t
+  pub subject : IsTrue strict → IsRpkiName t.subject
+  pub key : t.key.format ≡ Rsa
+  pub purposes : HasNot extended_key_usage t.extensions
+
+-- a certification authority: cA is TRUE, and its key signs certificates and revocation lists (RFC 6487 4.8.1, 4.8.4)
+pub record IsAuthority (xs : List ExtensionParts) : Type 0 where
+  pub constraints : HasExtension basic_constraints true SpellsConstraints xs (Some tt)
+  pub usage : HasExtension key_usage true SpellsUsage xs (Some Ca)
+
+-- an end entity: there are no basic constraints, and its key signs objects
+pub record IsEnd (xs : List ExtensionParts) : Type 0 where
+  pub constraints : HasNot basic_constraints xs
+  pub usage : HasExtension key_usage true SpellsUsage xs (Some Ee)
+
+-- where an authority publishes (RFC 6487 4.8.8.1)
+pub record HasRepository (xs : List ExtensionParts) : Type 0 where
+  pub repository : HasSomeUri subject_info_access (SpellsRsyncAccess ca_repository) xs
+  pub manifest : HasSomeUri subject_info_access (SpellsRsyncAccess rpki_manifest) xs
+
+-- issued by another: its key identifier, its revocation list and its certificate (RFC 6487 4.8.3, 4.8.6, 4.8.7)
+pub record HasIssuer (xs : List ExtensionParts) : Type 0 where
+  pub identifier : HasSome authority_key_identifier false SpellsAuthority xs
+  pub revocation : HasSomeUri crl_distribution_points SpellsPoints xs
+  pub certificate : HasSomeUri authority_info_access (SpellsRsyncAccess ca_issuers) xs
+
+-- ---- the profiles
+
+-- a trust anchor: without a revocation list and a certificate of the issuer
+pub record IsTaProfile (strict : Bool) (t : TbsParts) : Type 0 where
+  pub ordinary : IsOrdinary strict t
+  pub authority : IsAuthority t.extensions
+  pub repository : HasRepository t.extensions
+  pub revocation : HasNot crl_distribution_points t.extensions
+  pub certificate : HasNot authority_info_access t.extensions
+
+pub record IsCaProfile (strict : Bool) (t : TbsParts) : Type 0 where
+  pub ordinary : IsOrdinary strict t
+  pub authority : IsAuthority t.extensions
+  pub repository : HasRepository t.extensions
+  pub issuer : HasIssuer t.extensions
+
+-- an end entity, which says where the object is that its key signs (RFC 6487 4.8.8.2)
+pub record IsEeProfile (strict : Bool) (t : TbsParts) : Type 0 where
+  pub ordinary : IsOrdinary strict t
+  pub end : IsEnd t.extensions
+  pub object : HasSomeUri subject_info_access (SpellsRsyncAccess signed_object) t.extensions
+  pub issuer : HasIssuer t.extensions
+
+-- a router: a P-256 key for a router's purpose, numbers without addresses, and no access information of the subject
+pub record IsRouterProfile (strict : Bool) (t : TbsParts) : Type 0 where
+  pub basic : IsBasic strict t
+  pub subject : IsTrue strict → IsRouterName t.subject
+  pub key : t.key.format ≡ EcdsaP256
+  pub end : IsEnd t.extensions
+  pub purpose : HasExtension extended_key_usage false SpellsPurposes t.extensions (Some true)
+  pub numbers : IsTrue (has_numbers t.extensions && not (has_addresses t.extensions))
+  pub access : HasNot subject_info_access t.extensions
+  pub issuer : HasIssuer t.extensions
