@@ -88,7 +88,8 @@ SpellsAccess method = SpellsLeaf sequence true (IsAccess method)
 
 abbrev pub IsAccessPartsFault : List ℕ → List ℕ → DecodeError → Type 0
 IsAccessPartsFault method =
-    FirstFault (SpellsOidAs method) (IsOidAsFault method) (λ same. FirstFault SpellsName IsNameFault (λ name. IsEndFault))
+    FirstFault (SpellsOidAs method) (IsOidAsFault method) (λ same.
+    FirstFault SpellsName IsNameFault (λ name. IsEndFault))
 
 abbrev pub IsAccessFault : List ℕ → List ℕ → DecodeError → Type 0
 IsAccessFault method = IsInsideFault sequence true (IsAccessPartsFault method)

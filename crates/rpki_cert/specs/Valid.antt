@@ -35,4 +35,5 @@ pub record IsIssued (rsa ecdsa : Check) (sha1 : List ℕ → List ℕ) (issuer :
 -- a trust anchor: its own key has signed it, and the authority key identifier is left out, or is that of its key
 pub record IsAnchor (rsa ecdsa : Check) (sha1 : List ℕ → List ℕ) (at : DateTime) (x : CertParts) : Type 0 where
   pub signed : IsSigned rsa ecdsa sha1 x.tbs.subject x.tbs.key at x
-  pub authority : (find authority_key_identifier x.tbs.extensions ≡ None) ⊎ HasAuthority (sha1 x.tbs.key.bits.octets) x.tbs
+  pub authority : (find authority_key_identifier x.tbs.extensions ≡ None)
+      ⊎ HasAuthority (sha1 x.tbs.key.bits.octets) x.tbs

@@ -149,8 +149,8 @@ fn take_some_rsync(
     contents: &mut Constructed<'_>,
     method: ConstOid,
 ) -> Result<Option<Rsync>, DecodeError>
-    ensures { ReadsParts (λ u. u) (Through first_rsync (SpellsSome (SpellsAccess method.entry.0.now))) (IsKeptFault (SpellsAccess method.entry.0.now) (IsAccessFault method.entry.0.now)) (left contents.old)
-        (left contents.new) result }
+    ensures { ReadsParts (λ u. u) (Through first_rsync (SpellsSome (SpellsAccess method.entry.0.now)))
+        (AreAccessesFault method.entry.0.now) (left contents.old) (left contents.new) result }
 {
     if contents.is_empty() {
         return Err(DecodeError::Content(ContentError::from_static("empty SEQUENCE")));
@@ -168,8 +168,8 @@ fn take_some_https(
     contents: &mut Constructed<'_>,
     method: ConstOid,
 ) -> Result<Option<Https>, DecodeError>
-    ensures { ReadsParts (λ u. u) (Through first_https (SpellsSome (SpellsAccess method.entry.0.now))) (IsKeptFault (SpellsAccess method.entry.0.now) (IsAccessFault method.entry.0.now)) (left contents.old)
-        (left contents.new) result }
+    ensures { ReadsParts (λ u. u) (Through first_https (SpellsSome (SpellsAccess method.entry.0.now)))
+        (AreAccessesFault method.entry.0.now) (left contents.old) (left contents.new) result }
 {
     if contents.is_empty() {
         return Err(DecodeError::Content(ContentError::from_static("empty SEQUENCE")));
@@ -186,8 +186,8 @@ fn take_some_uri(
     alloc: Global,
     contents: &mut Constructed<'_>,
 ) -> Result<Option<Rsync>, DecodeError>
-    ensures { ReadsParts (λ u. u) (Through first_rsync (SpellsSome SpellsUri)) (IsKeptFault SpellsUri IsUriFault) (left contents.old)
-        (left contents.new) result }
+    ensures { ReadsParts (λ u. u) (Through first_rsync (SpellsSome SpellsUri)) (IsKeptFault SpellsUri IsUriFault)
+        (left contents.old) (left contents.new) result }
 {
     if contents.is_empty() {
         return Err(DecodeError::Content(ContentError::from_static("empty SEQUENCE")));

@@ -1,6 +1,8 @@
-//! Resource certificates (RFC 5280 4.1, in the profile of RFC 6487).
+//! Resource certificates (RFC 5280 4.1, in the profiles of RFC 6487 and RFC 8209).
 //!
-//! `Cert::decode` reads one.
+//! `Cert::decode` reads one, and `tbs()` of it says what the extensions are. `inspect_ca` and its kin hold it to a
+//! profile, `verify_issued` and `verify_ta` to its issuer and a moment. Resources (RFC 3779) are octets of their
+//! extensions, which nothing here reads.
 #![tactic(auto)]
 
 mod access;

@@ -1,13 +1,12 @@
 //! Certificate policies (RFC 5280 4.2.1.4, RFC 6487 4.8.9).
 
-ghost use Rattle.std.specs.Prelude.{◌↔◌, IfSome, IfNone, IsTrue};
+ghost use Rattle.std.specs.Prelude.{false, IfSome, IfNone};
 ghost use Rattle.rpki_der.specs.Cursor.{left};
 ghost use Rattle.rpki_der.specs.Reading.{Reads};
 ghost use Rattle.rpki_der.specs.FirstFault.{ReadsParts};
 ghost use Rattle.rpki_der.specs.TagName.{ia5_string};
 ghost use Rattle.rpki_der.specs.Values.{IsLeafFault};
 ghost use Rattle.rpki_cert.specs.ExtensionContent.{IsPolicyName, SpellsPolicyName, IsPolicyNameFault, IsAnyIa5, SpellsStatement, AreQualifierParts, AreQualifierPartsFault, SpellsQualifier, IsQualifierFault, SpellsQualifiers, IsQualifiersFault, AreQualifiers, AreQualifiersFault, ArePolicyParts, ArePolicyPartsFault, SpellsPolicy, IsPolicyFault, SpellsPolicies, IsPoliciesFault};
-ghost use Rattle.std.specs.Prelude.{false};
 
 use crate::part::skip_primitive;
 use rpki::der::{Constructed, ContentError, DecodeError, Tag};

@@ -60,8 +60,9 @@ fn take_some(alloc: Global, contents: &mut Constructed<'_>) -> Result<bool, Deco
 /// Extended key usage: a SEQUENCE of the object identifiers of purposes, one at least. Returns whether one is that of a
 /// BGPsec router (RFC 8209 3.1.3.2).
 ///
-/// The errors are those of a SEQUENCE; then `Content` with the text `no key purposes` for an empty one; then that of the
-/// first purpose that isn't an object identifier; and `OutOfMemory` if allocation fails, only where a purpose is there.
+/// The errors are those of a SEQUENCE; then `Content` with the text `no key purposes` for an empty one; then that of
+/// the first purpose that isn't an object identifier; and `OutOfMemory` if allocation fails, only where a purpose is
+/// there.
 pub fn take_purposes(alloc: Global, cons: &mut Constructed<'_>) -> Result<bool, DecodeError>
     ensures { Reads (λ b. b) SpellsPurposes IsPurposesFault (left cons.old) (left cons.new) result }
 {

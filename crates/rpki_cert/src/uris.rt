@@ -116,7 +116,8 @@ impl TbsCert {
     /// fails.
     pub fn ca_issuer(&self, alloc: Global) -> Result<Option<Rsync>, ValidationError>
         ensures { MatchResult result (HasUri authority_info_access (SpellsRsyncAccess ca_issuers) self.now.extensions)
-            (λ e. UnlessNoMemory e (HasNone authority_info_access false (SpellsRsyncAccess ca_issuers) self.now.extensions)) }
+            (λ e. UnlessNoMemory e (HasNone authority_info_access false (SpellsRsyncAccess ca_issuers)
+            self.now.extensions)) }
     {
         rsync_at(
             alloc,
@@ -126,14 +127,15 @@ impl TbsCert {
         )
     }
 
-    /// Where the subject publishes: the first rsync URI of the method `id-ad-caRepository` in subject information access,
-    /// which is not critical (RFC 6487 4.8.8.1).
+    /// Where the subject publishes: the first rsync URI of the method `id-ad-caRepository` in subject information
+    /// access, which is not critical (RFC 6487 4.8.8.1).
     ///
     /// Returns `Inspection` if the extension is critical; `Decoding` if its octets are another value, or if allocation
     /// fails.
     pub fn ca_repository(&self, alloc: Global) -> Result<Option<Rsync>, ValidationError>
         ensures { MatchResult result (HasUri subject_info_access (SpellsRsyncAccess ca_repository) self.now.extensions)
-            (λ e. UnlessNoMemory e (HasNone subject_info_access false (SpellsRsyncAccess ca_repository) self.now.extensions)) }
+            (λ e. UnlessNoMemory e (HasNone subject_info_access false (SpellsRsyncAccess ca_repository)
+            self.now.extensions)) }
     {
         rsync_at(
             alloc,
@@ -150,7 +152,8 @@ impl TbsCert {
     /// fails.
     pub fn rpki_manifest(&self, alloc: Global) -> Result<Option<Rsync>, ValidationError>
         ensures { MatchResult result (HasUri subject_info_access (SpellsRsyncAccess rpki_manifest) self.now.extensions)
-            (λ e. UnlessNoMemory e (HasNone subject_info_access false (SpellsRsyncAccess rpki_manifest) self.now.extensions)) }
+            (λ e. UnlessNoMemory e (HasNone subject_info_access false (SpellsRsyncAccess rpki_manifest)
+            self.now.extensions)) }
     {
         rsync_at(
             alloc,
@@ -167,7 +170,8 @@ impl TbsCert {
     /// fails.
     pub fn signed_object(&self, alloc: Global) -> Result<Option<Rsync>, ValidationError>
         ensures { MatchResult result (HasUri subject_info_access (SpellsRsyncAccess signed_object) self.now.extensions)
-            (λ e. UnlessNoMemory e (HasNone subject_info_access false (SpellsRsyncAccess signed_object) self.now.extensions)) }
+            (λ e. UnlessNoMemory e (HasNone subject_info_access false (SpellsRsyncAccess signed_object)
+            self.now.extensions)) }
     {
         rsync_at(
             alloc,
@@ -184,7 +188,8 @@ impl TbsCert {
     /// fails.
     pub fn rpki_notify(&self, alloc: Global) -> Result<Option<Https>, ValidationError>
         ensures { MatchResult result (HasUri subject_info_access (SpellsHttpsAccess rpki_notify) self.now.extensions)
-            (λ e. UnlessNoMemory e (HasNone subject_info_access false (SpellsHttpsAccess rpki_notify) self.now.extensions)) }
+            (λ e. UnlessNoMemory e (HasNone subject_info_access false (SpellsHttpsAccess rpki_notify)
+            self.now.extensions)) }
     {
         https_at(
             alloc,
