@@ -1,17 +1,18 @@
 -- What the octets of the extensions are, each in the form of RFC 6487 4.8.
 use Rattle.rpki_der.specs.Parts.{Then}
-use Rattle.std.specs.Prelude.{codes, ◌≢◌, ◌≡◌, ◌⊎◌, ◌||◌, ℕ, Bool, true, false, List, [], ◌∷◌, bytes_eq}
+use Rattle.std.specs.Prelude.{codes, ◌≢◌, ◌≡◌, ◌⊎◌, ◌||◌, ℕ, Bool, true, false, List, [], ◌∷◌}
 use Rattle.rpki_der.specs.declared.error.DecodeError.{DecodeError}
 use Rattle.rpki_der.specs.declared.tag.Class.TheVariants.{Context}
 use Rattle.rpki_der.specs.TagName.{TagName, tag_of, sequence, bit_string, oid, ia5_string}
 use Rattle.rpki_der.specs.Values.{SpellsLeaf, IsLeafFault}
-use Rattle.rpki_der.specs.Leaves.{IsOnly, IsOid}
+use Rattle.rpki_der.specs.Leaves.{IsOnly}
 use Rattle.rpki_der.specs.DefaultFalse.{SpellsTrue, IsTrueFault}
 use Rattle.rpki_der.specs.Each.{SpellsSome, IsEachFault}
 use Rattle.rpki_der.specs.FirstFault.{FirstFault, IsEndFault, IsInsideFault}
 use Rattle.std.specs.Str.{IsAscii}
 use Rattle.rpki.specs.UnknownAlgorithm.{IsContentWith}
 use Rattle.rpki.specs.KeyIdentifier.{IsKeyIdentifier}
+use Rattle.rpki_cert.specs.Access.{SpellsOidAs, IsOidAsFault}
 use Rattle.rpki_cert.specs.declared.key_usage.KeyUsage.{KeyUsage}
 use Rattle.rpki_cert.specs.declared.key_usage.KeyUsage.TheVariants.{Ca, Ee}
 use Rattle.rpki_cert.specs.declared.policy.Overclaim.{Overclaim}
@@ -63,11 +64,8 @@ abbrev pub router_purpose : List ℕ
 router_purpose = 43 ∷ 6 ∷ 1 ∷ 5 ∷ 5 ∷ 7 ∷ 3 ∷ 30 ∷ []
 
 -- an object identifier, and whether it is this one
-abbrev pub IsPurpose : Bool → List ℕ → Type 0
-IsPurpose router c = IsOid c × (router ≡ bytes_eq c router_purpose)
-
 abbrev pub SpellsPurpose : Bool → List ℕ → Type 0
-SpellsPurpose = SpellsLeaf oid false IsPurpose
+SpellsPurpose = SpellsOidAs router_purpose
 
 -- one of them is
 abbrev pub has_router : List Bool → Bool
@@ -85,7 +83,7 @@ SpellsPurposes = SpellsLeaf sequence true ArePurposes
 
 -- no purpose; or one that isn't an object identifier; they are kept while they are read
 abbrev pub IsPurposeFault : List ℕ → DecodeError → Type 0
-IsPurposeFault = IsLeafFault oid false IsPurpose
+IsPurposeFault = IsOidAsFault router_purpose
 
 abbrev pub ArePurposesFault : List ℕ → DecodeError → Type 0
 ArePurposesFault s e =

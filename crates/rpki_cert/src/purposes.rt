@@ -7,7 +7,8 @@ ghost use Rattle.rpki_der.specs.FirstFault.{ReadsParts};
 ghost use Rattle.rpki_der.specs.Each.{SpellsEach, IsEachFault};
 ghost use Rattle.rpki_cert.specs.ExtensionContent.{SpellsPurpose, IsPurposeFault, has_router, ArePurposes, ArePurposesFault, SpellsPurposes, IsPurposesFault};
 
-use rpki::der::{Constructed, ContentError, DecodeError, Oid, Tag};
+use crate::access::take_oid_as;
+use rpki::der::{Constructed, ContentError, DecodeError};
 use rpki::oid;
 use std::alloc::Global;
 
@@ -23,27 +24,13 @@ fn has_router(all: &[bool]) -> bool
     false
 }
 
-/// Whether an object identifier is the purpose of a BGPsec router.
-fn take_purpose(cons: &mut Constructed<'_>) -> Result<bool, DecodeError>
-    ensures { Reads (λ b. b) SpellsPurpose IsPurposeFault (left cons.old) (left cons.new) result }
-{
-    let mut after = *cons;
-    let contents = after.take_primitive_if(Tag::OID)?;
-    let purpose = Oid(contents);
-    if !purpose.is_valid() {
-        return Err(DecodeError::Content(ContentError::from_static("malformed object identifier")));
-    }
-    *cons = after;
-    Ok(purpose == oid::KP_BGPSEC_ROUTER)
-}
-
 /// For each of the purposes that these contents are, whether it is that of a BGPsec router.
 fn take_each(alloc: Global, contents: &mut Constructed<'_>) -> Result<Vec<bool>, DecodeError>
     ensures reads { ReadsParts (λ v. v.items) (SpellsEach SpellsPurpose) (IsEachFault SpellsPurpose IsPurposeFault)
         (left contents.old) (left contents.new) result }
     ensures end { IfOk result (λ _. left contents.new ≡ []) }
 {
-    contents.take_each(alloc, |rest| take_purpose(rest))
+    contents.take_each(alloc, |rest| take_oid_as(rest, oid::KP_BGPSEC_ROUTER))
 }
 
 /// Whether a router's purpose is one of those that these contents are; there is one at least.

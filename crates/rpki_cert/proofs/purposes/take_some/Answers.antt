@@ -5,14 +5,15 @@ use Rattle.rpki_der.specs.TagName.{oid}
 use Rattle.rpki_der.proofs.ReadingLaws.{UnlessMemory-weaker}
 use Rattle.rpki_der.proofs.EachLaws.{leaf-some}
 use Rattle.rpki_der.proofs.FirstFaultLaws.{tried-parts}
-use Rattle.rpki_cert.specs.ExtensionContent.{IsPurpose, SpellsPurpose, has_router, ArePurposes, ArePurposesFault}
+use Rattle.rpki_cert.specs.ExtensionContent.{router_purpose, SpellsPurpose, has_router, ArePurposes, ArePurposesFault}
+use Rattle.rpki_cert.specs.Access.{IsOidAs}
 use Rattle.rpki_cert.proofs.SomeLaws.{none-some, some-there}
 use Rattle.rpki_cert.proofs.purposes.take_some.Goals as goal
 
 pub returns-then-is_empty : goal.returns-then-is_empty
 returns-then-is_empty c =
     let end = c.is_empty.ensures.0 c.if-is_empty.true in
-    (λ b k. none-some SpellsPurpose (leaf-some oid false IsPurpose) (left c.args.contents.now) end k.purposes k.some, inl (end, c.from_static.ensures))
+    (λ b k. none-some SpellsPurpose (leaf-some oid false (IsOidAs router_purpose)) (left c.args.contents.now) end k.purposes k.some, inl (end, c.from_static.ensures))
 
 pub returns-in_err-all : goal.returns-in_err-all
 returns-in_err-all c =
