@@ -1,5 +1,5 @@
 -- The entries in the middle of a walk: which are there, and which are still to come.
-use Rattle.std.proofs.Common.{◌≡◌, ℕ, zero, suc, ◌+◌, ◌-◌, ◌≤◌, Bool, true, false, not, List, [], ◌∷◌, ◌++◌, length, take, drop, reverse, Option, Some, None, refl, sym, ap, ◌∙◌, subst, arith, append_assoc, append-nil, length-append}
+use Rattle.std.proofs.Common.{◌≡◌, ℕ, zero, suc, ◌+◌, ◌-◌, ◌≤◌, Bool, true, false, not, List, [], ◌∷◌, ◌++◌, length, take, drop, reverse, Option, Some, None, refl, sym, ap, ◌∙◌, subst, arith, append_assoc, append-nil, length-append, take_at}
 use Rattle.std.specs.List.{between}
 use Rattle.std.specs.Prelude.{slice_get}
 use Rattle.std.proofs.lemmas.Option.{slice_get-get_or}
@@ -364,6 +364,34 @@ start-walking {keep} {b} {old} {s} {t} {f} {n} {k} j name after left form h fits
       opened = subst (λ (y : ℕ). Open s ends k y) (sym one) (open-first s t n k h' fits);
       listed = subst (λ (y : List ℕ). ListedWhere keep b old s y ends k left) order (subst (λ (y : List Entry). ListedWhere keep b old s (new ∷ []) ends k y) (sym all) listed);
     }
+
+-- ---- the innermost open value, in a variable, and those around it
+
+slice-last : {X : Type 0} (xs : List X) (x : X) → slice_get (xs ++ x ∷ []) (length (xs ++ x ∷ []) - 1) ≡ Some x
+slice-last xs x =
+    let n : length (xs ++ x ∷ []) - 1 ≡ length xs = omega (arith, length-append xs (x ∷ [])) in
+    rw n (get-last xs x)
+
+pub last-is : (names : List ℕ) (q : ℕ) → Innermost (names ++ q ∷ []) q
+last-is names q = record { last = slice-last names q }
+
+-- those around it
+pub around : (names : List ℕ) (q : ℕ) → names ≡ take (length (names ++ q ∷ []) - 1) (names ++ q ∷ [])
+around names q =
+    let n : length (names ++ q ∷ []) - 1 ≡ length names = omega (arith, length-append names (q ∷ [])) in
+    rw n (sym (take_at names (q ∷ []) (length names) refl))
+
+-- no value is around it
+pub none-around : (names : List ℕ) → length names ≡ 0 → slice_get names (length names - 1) ≡ None
+none-around [] z = refl
+none-around (x ∷ names) z = absurd (omega (arith, z))
+
+-- the end of a value that was noted, and of one that was noted before
+pub noted-end : {keep : Bool} {b : ℕ} {left : List Entry} {q e : ℕ} (es : List Entry) (x : Entry) → left ≡ es ++ noted keep x → q ≡ name_of keep (length es) e → x.past ≡ b + e → ReadEnd keep b left q e
+noted-end {keep} {b} {left} {q} {e} es x more named past = record { is = rw (more, named) (end-noted keep b es x e past) }
+
+pub kept-end : {keep : Bool} {b : ℕ} {es left : List Entry} {q e : ℕ} (x : Entry) → left ≡ es ++ noted keep x → ReadEnd keep b es q e → ReadEnd keep b left q e
+kept-end {keep} {b} {es} {left} {q} {e} x more h = record { is = rw more (end-more keep b es (noted keep x) q e h.is) }
 
 -- nothing is open any more
 pub record IsDone (keep : Bool) (b : ℕ) (old : List Entry) (s : List ℕ) (es : List Entry) (place n : ℕ) : Type 0 where

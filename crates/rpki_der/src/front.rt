@@ -19,6 +19,7 @@ use std::alloc::Global;
 /// The header at the front (X.690 8.1.2, 8.1.3), and how many octets it takes. Allocates nothing.
 ///
 /// The errors are those of [Constructed::take_header](crate::Constructed::take_header).
+#[inline(always)]
 pub fn read_header(octets: &[u8]) -> Result<(Header, usize), DecodeError>
     ensures within { IfOk result (λ x. x.1 ≤ length octets.now) }
     ensures ok { IfOk result (λ x. Accepts SpellsHeader octets.now x.0 (drop x.1 octets.now)) }

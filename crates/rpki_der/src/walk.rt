@@ -43,6 +43,14 @@ fn take_header_within(octets: &[u8], steps: &mut Steps) -> Result<(Header, usize
     Ok((found, octets.len() - following.len()))
 }
 
+/// For how many entries room is made at first, where a constructed value of so many octets begins: more than
+/// certificates have, one for eight octets, and no more than 256, since contents may be all in one primitive value.
+fn first_room(size: usize) -> usize
+    ensures { result ≤ 256 }
+{
+    if size < 2016 { size / 8 + 4 } else { 256 }
+}
+
 /// Adds the entry of a value, where entries are kept. Returns what identifies the value while it is open: the number of
 /// the entry, or the end of the value where no entries are kept.
 fn note(
@@ -59,6 +67,9 @@ fn note(
         return Ok(past);
     }
     let number = entries.len();
+    if number == 0 && entry.constructed() {
+        entries.reserve(first_room(past))?;
+    }
     entries.push(entry)?;
     Ok(number)
 }
@@ -75,9 +86,11 @@ fn end_of(entries: &[HeaderEntry], keep: bool, before: usize, name: usize) -> us
     }
 }
 
-/// How many octets the value at the front takes. Where entries are kept, those of all its headers are added. The values
-/// that are still open are on a stack, innermost last, each by the number of its entry, or by its end where no entries
-/// are kept. Places are counted from `before` octets in front.
+/// How many octets the value at the front takes. Where entries are kept, those of all its headers are added. Places are
+/// counted from `before` octets in front.
+///
+/// An open value is known by the number of its entry, or by its end where no entries are kept. The innermost one and
+/// its end are in variables, and those around it on a stack, outermost first.
 #[inline(always)]
 pub(crate) fn walk_value(
     alloc: Global,
@@ -110,12 +123,16 @@ pub(crate) fn walk_value(
         return Ok(past);
     }
     let mut open = Vec::new(alloc);
-    open.push(name)?;
+    let mut innermost = name;
+    let mut end = past;
     let mut place = size;
-    'values: while let Some(name) = open.last().copied() {
-        let end = end_of(entries.as_slice(), keep, before, name);
+    'values: loop {
         if place == end {
-            open.pop();
+            innermost = match open.pop() {
+                Some(outer) => outer,
+                None => return Ok(place),
+            };
+            end = end_of(entries.as_slice(), keep, before, innermost);
             continue;
         }
         let (found, size) = match take_header_within(&octets[place..end], steps) {
@@ -123,16 +140,17 @@ pub(crate) fn walk_value(
             Err(e) => return Err(e),
         };
         let past = place + size + found.length as usize;
-        let entry = HeaderEntry::new(before + place, size as u8, &found, Some(name));
+        let entry = HeaderEntry::new(before + place, size as u8, &found, Some(innermost));
         let inner = note(entries, keep, entry, past)?;
         if !found.constructed {
             place = past;
             continue;
         }
-        open.push(inner)?;
+        open.push(innermost)?;
+        innermost = inner;
+        end = past;
         place += size;
     }
-    Ok(place)
 }
 
 impl<'a> Constructed<'a> {

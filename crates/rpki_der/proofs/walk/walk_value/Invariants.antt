@@ -1,5 +1,5 @@
-use Rattle.std.proofs.Common.{◌+◌, ◌-◌, ◌*◌, ◌≤◌, length}
-use Rattle.rpki_der.proofs.IndexingLaws.{IsWalking}
+use Rattle.std.proofs.Common.{◌+◌, ◌-◌, ◌*◌, ◌≤◌, length, [], ◌∷◌, ◌++◌}
+use Rattle.rpki_der.proofs.IndexingLaws.{IsWalking, ReadEnd}
 use Rattle.rpki_der.proofs.walk.walk_value.Given as goal
 
 abbrev pub invariant-values : goal.invariant-values
@@ -7,7 +7,8 @@ invariant-values l = record {
   low : l.place ≤ length l.octets;
   raised : l.fn.steps ≤ l.steps;
   half : 2 * (l.steps - l.fn.steps) ≤ l.place;
-  within : IsWalking l.keep l.before l.fn.entries.items l.octets l.open.items l.entries.items l.place (l.steps - l.fn.steps);
+  ending : ReadEnd l.keep l.before l.entries.items l.innermost l.end;
+  within : IsWalking l.keep l.before l.fn.entries.items l.octets (l.open.items ++ l.innermost ∷ []) l.entries.items l.place (l.steps - l.fn.steps);
 }
 
 abbrev pub decreases-values : goal.decreases-values
