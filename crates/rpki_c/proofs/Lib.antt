@@ -7,7 +7,7 @@
 -- Any algorithm identifier; statuses of keys, of names, and of another algorithm: IdentifierLaws, KeyStatusLaws,
 --   NameStatusLaws, ElseLaws.
 -- What is made on a condition: MadeLaws.
--- Where octets go wrong: FaultLaws.
+-- Where octets go wrong: FaultLaws. The index, in the middle of its writing: FillingLaws.
 -- Parts of parsed URIs, by their places: RsyncPlacesLaws, HttpsPlacesLaws.
 
 mod SuffixLaws
@@ -20,6 +20,7 @@ mod SignedReadingLaws
 mod IdentifierLaws
 mod ElseLaws
 mod FaultLaws
+mod FillingLaws
 mod NameStatusLaws
 mod RsyncPlacesLaws
 mod HttpsPlacesLaws

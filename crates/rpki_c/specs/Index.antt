@@ -1,10 +1,11 @@
 -- What a status says of the index of the value at the front of octets.
-use Rattle.std.specs.Prelude.{◌≡◌, ◌≤◌, ◌<◌, ◌⊎◌, ◌++◌, ◌-◌, ◌^◌, ℕ, List, map, take, drop, length, Option, Some, None}
+use Rattle.std.specs.Prelude.{◌≡◌, ◌≤◌, ◌<◌, ◌⊎◌, ◌++◌, ◌-◌, ◌+◌, ◌^◌, ℕ, List, map, take, drop, length, Option, Some, None}
+use Rattle.rpki_der.specs.declared.tag.Header.{Header}
 use Rattle.rpki_der.specs.Header.{class_number}
 use Rattle.rpki_der.specs.Reading.{Accepts, OrMemoryWhere}
 use Rattle.rpki_der.specs.Members.{SpellsValue}
 use Rattle.rpki_der.specs.NestedFault.{IsCaptureFault}
-use Rattle.rpki_der.specs.Walk.{HasEither}
+use Rattle.rpki_der.specs.Walk.{HasConstructed}
 use Rattle.rpki_der.specs.Index.{Entry as IndexEntry, IsIndex}
 use Rattle.rpki_c.specs.declared.index.Entry.{Entry}
 use Rattle.rpki_c.specs.Status.{too_small}
@@ -25,6 +26,18 @@ passed e = record {
   number = e.tag.number;
   tag_class = class_number e.tag.class;
   constructed = e.constructed;
+}
+
+-- how the entry of a header of this size is passed, at this place, in the value whose entry has this number
+abbrev pub slot_at : ℕ → ℕ → Header → ℕ → Entry
+slot_at place size h parent = record {
+  start = place;
+  contents = place + size;
+  end = place + size + h.length;
+  parent = parent;
+  number = h.tag.number;
+  tag_class = class_number h.tag.class;
+  constructed = h.constructed;
 }
 
 -- a value begins s, and this is the index of exactly its octets
@@ -63,5 +76,5 @@ abbrev pub IsIndexed : List ℕ → ℕ → List Entry → List Entry → ℕ �
 IsIndexed s status old new before after =
     ((status ≡ 0) × IsIndexWritten s old new after)
     ⊎ ((status ≡ too_small) × IsIndexTooLong s old new after)
-    ⊎ (IsFrontRefused SpellsValue (OrMemoryWhere HasEither IsCaptureFault) s status
+    ⊎ (IsFrontRefused SpellsValue (OrMemoryWhere HasConstructed IsCaptureFault) s status
     × IsIndexUnwritten old new before after)

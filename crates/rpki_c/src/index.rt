@@ -1,11 +1,12 @@
 //! The index of headers.
 
-ghost use Rattle.std.specs.Prelude.{◌≡◌, ◌≤◌, ◌<◌, ◌++◌, true, false, map, take, drop, length};
-ghost use Rattle.rpki_c.specs.Index.{parent_number, passed, IsIndexed};
+ghost use Rattle.std.specs.Prelude.{◌≡◌, ◌≤◌, ◌<◌, ◌+◌, ◌^◌, ◌++◌, List, Some, map, drop, length, slice_get};
+ghost use Rattle.rpki_der.specs.Index.{Entry as IndexEntry, IsIndex};
+ghost use Rattle.rpki_c.specs.Index.{passed, slot_at, IsIndexed};
 
 use crate::headers::class_number;
 use crate::status::TOO_SMALL;
-use rpki_der::{HeaderEntry, index_octets};
+use rpki_der::{Header, Steps, read_header, walk_octets};
 use std::alloc::Global;
 
 /// An entry of the index of a value: a header, at any depth. Places are counted from the first of the octets.
@@ -28,45 +29,82 @@ pub struct Entry {
     pub constructed: bool,
 }
 
-/// The number of the parent, as it is passed.
-fn parent_number(parent: Option<usize>) -> usize
-    ensures { result ≡ parent_number parent }
+/// The entry of a header of this size, at this place, in the value whose entry has this number.
+#[inline(always)]
+fn entry_at(place: usize, size: usize, header: &Header, parent: usize) -> Entry
+    requires { place + size + header.now.length < 2 ^ 64 }
+    ensures { result ≡ slot_at place size header.now parent }
 {
-    match parent {
-        Some(number) => number,
-        None => usize::MAX,
-    }
-}
-
-/// An entry, as it is passed.
-fn passed(entry: &HeaderEntry) -> Entry
-    ensures { result ≡ passed entry.now }
-{
-    let tag = entry.tag();
     Entry {
-        start: entry.place(),
-        contents: entry.contents(),
-        end: entry.past(),
-        parent: parent_number(entry.parent()),
-        number: tag.number(),
-        tag_class: class_number(tag.class()),
-        constructed: entry.constructed(),
+        start: place,
+        contents: place + size,
+        end: place + size + header.length as usize,
+        parent,
+        number: header.tag.number(),
+        tag_class: class_number(header.tag.class()),
+        constructed: header.constructed,
     }
 }
 
-/// Writes the index to the front of the array, where there is room for all of it. Returns whether there is.
-fn write_index(index: &[HeaderEntry], entries: &mut [Entry]) -> bool
-    ensures room { result ≡ true → length index.now ≤ length entries.old }
-    ensures written { result ≡ true → entries.new ≡ map passed index.now ++ drop (length index.now) entries.old }
-    ensures none { result ≡ false → (length entries.old < length index.now) × (entries.new ≡ entries.old) }
+/// The entry of this number.
+#[inline(always)]
+fn entry_of(entries: &[Entry], number: usize) -> Entry
+    requires { number < length entries.now }
+    ensures { slice_get entries.now number ≡ Some result }
 {
-    if entries.len() < index.len() {
-        return false;
+    entries[number]
+}
+
+/// Where the innermost open value ends, of which this is the entry; all of the octets where none is open.
+#[inline(always)]
+fn end_of(octets: &[u8], entries: &[Entry], depth: usize, number: usize) -> usize
+    requires { 0 < depth → number < length entries.now }
+    ensures outer { depth ≡ 0 → result ≡ length octets.now }
+    ensures inner { (e : Entry) → 0 < depth → slice_get entries.now number ≡ Some e → result ≡ e.end }
+{
+    if depth == 0 {
+        octets.len()
+    } else {
+        entry_of(entries, number).end
     }
-    for i in 0..index.len() {
-        entries[i] = passed(&index[i]);
+}
+
+/// Writes the index of values that are all of the octets, and have so many headers, to the front of the array. It keeps
+/// no stack: the value around an open one is found by its entry.
+fn write_index(octets: &[u8], count: usize, entries: &mut [Entry])
+    requires values { (index : List IndexEntry) × IsIndex octets.now index × (length index ≡ count) }
+    requires room { count ≤ length entries.old }
+    ensures { (index : List IndexEntry) × IsIndex octets.now index × (length index ≡ count)
+        × (entries.new ≡ map passed index ++ drop count entries.old) }
+{
+    let mut place = 0;
+    let mut number = 0;
+    let mut parent = usize::MAX;
+    let mut depth = 0;
+    let mut end = octets.len();
+    'values: while number < count {
+        if place == end {
+            parent = entry_of(entries, parent).parent;
+            depth -= 1;
+            end = end_of(octets, entries, depth, parent);
+            continue;
+        }
+        let (found, size) = match read_header(&octets[place..end]) {
+            Ok(found) => found,
+            Err(_) => return,
+        };
+        entries[number] = entry_at(place, size, &found, parent);
+        let past = place + size + found.length as usize;
+        if found.constructed {
+            parent = number;
+            depth += 1;
+            end = past;
+            place += size;
+        } else {
+            place = past;
+        }
+        number += 1;
     }
-    true
 }
 
 /// Writes the index of the value at the front of the octets: an entry for each header, at every depth, in order of
@@ -74,7 +112,8 @@ fn write_index(index: &[HeaderEntry], entries: &mut [Entry]) -> bool
 ///
 /// The status is 0, and `count` says how many entries were written; the rest of the array is unchanged. It is 9 where
 /// the array has no room for all of them: `count` says how many there are, and no entry is written. Else it is the
-/// number of the error, the leftmost, and neither is written. Allocation can fail only if a value begins the octets.
+/// number of the error, the leftmost, and neither is written. Allocation can fail only if a constructed value begins
+/// the octets.
 #[unsafe(no_mangle)]
 pub extern "C" fn rpki_index(
     alloc: Global,
@@ -84,15 +123,16 @@ pub extern "C" fn rpki_index(
 ) -> u8
     ensures { IsIndexed octets.now result entries.old entries.new count.old count.new }
 {
-    match index_octets(alloc, octets) {
-        Ok((_, index)) => {
-            *count = index.len();
-            if write_index(&index, entries) {
-                0
-            } else {
-                TOO_SMALL
-            }
-        }
-        Err(e) => e.number(),
+    let mut steps = Steps::new();
+    let size = match walk_octets(alloc, octets, &mut steps) {
+        Ok(size) => size,
+        Err(e) => return e.number(),
+    };
+    let headers = steps.count() as usize;
+    *count = headers;
+    if entries.len() < headers {
+        return TOO_SMALL;
     }
+    write_index(&octets[..size], headers, entries);
+    0
 }

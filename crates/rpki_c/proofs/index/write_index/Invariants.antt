@@ -1,10 +1,9 @@
-use Rattle.std.proofs.Common.{◌≡◌, map, take, drop, length}
-use Rattle.rpki_c.specs.Index.{passed}
+use Rattle.rpki_c.proofs.FillingLaws.{IsFilling}
+use Rattle.std.proofs.Common.{◌+◌, ◌-◌, ◌*◌}
 use Rattle.rpki_c.proofs.index.write_index.Given as goal
 
-abbrev pub invariant-loop-i : goal.invariant-loop-i
-invariant-loop-i l = record {
-  size : length l.entries ≡ length l.initial.entries;
-  front : take l.i l.entries ≡ map passed (take l.i l.index);
-  rest : drop l.i l.entries ≡ drop l.i l.initial.entries;
-}
+abbrev pub invariant-values : goal.invariant-values
+invariant-values l = IsFilling l.octets l.count l.fn.entries l.entries l.place l.number l.parent l.depth l.end
+
+abbrev pub decreases-values : goal.decreases-values
+decreases-values l = 2 * (l.count - l.number) + l.depth
