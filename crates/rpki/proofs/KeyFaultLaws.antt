@@ -2,10 +2,11 @@
 use Rattle.std.proofs.Common.{ℕ, true, false, List, refl}
 use Rattle.rpki_der.specs.declared.error.DecodeError.{DecodeError}
 use Rattle.rpki_der.specs.declared.error.DecodeError.TheVariants.{OutOfMemory}
-use Rattle.rpki_der.specs.TagName.{sequence, integer}
+use Rattle.rpki_der.specs.TagName.{sequence, bit_string, integer}
 use Rattle.rpki_der.specs.Reading.{Finds, OrMemoryWhere, Refusal, UnlessMemory, SpellsNothing, TakesNoMemory, IsWholeFault}
 use Rattle.rpki_der.specs.Values.{SpellsLeaf, IsLeafFault, GivesOuterFault, IsOuterFault}
 use Rattle.rpki_der.specs.Integer.{IsUnsigned}
+use Rattle.rpki_der.specs.Leaves.{IsBits}
 use Rattle.rpki_der.specs.Inside.{HasInside}
 use Rattle.rpki_der.specs.FirstFault.{FirstFault, IsEndFault}
 use Rattle.rpki_der.specs.FirstFault.FirstFault.{AtPart, Later}
@@ -13,7 +14,9 @@ use Rattle.rpki_der.proofs.LeavesLaws.{leaf-no-memory}
 use Rattle.rpki_der.proofs.ComposedLaws.{not-read}
 use Rattle.rpki_der.proofs.FirstFaultLaws.{first-no-memory, end-no-memory, inside-outer-exactly, inside-outer-where}
 use Rattle.rpki.specs.PublicKey.{IsKeyContents, SpellsRsaBits}
-use Rattle.rpki.specs.KeyFault.{IsKeyPartsFault, IsKeyFault, IsRsaNumbersFault, IsRsaBitsFault}
+use Rattle.rpki.specs.KeyFormat.{SpellsFormat}
+use Rattle.rpki.specs.AlgorithmFault.{IsFormatFault}
+use Rattle.rpki.specs.KeyFault.{IsKeyPartsFault, IsKeyFault, IsKeyViewPartsFault, IsKeyViewFault, IsRsaNumbersFault, IsRsaBitsFault}
 use Rattle.rpki.proofs.PublicKeyLaws.{key-found}
 use Rattle.rpki.proofs.AlgorithmFaultLaws.{format-outer}
 
@@ -25,6 +28,17 @@ key-parts-memory c (Later f r a (Later b q d k)) = absurd (end-no-memory q k)
 -- allocation may fail only where both parts are there
 pub key-outer : (s : List ℕ) (e : DecodeError) → IsKeyFault s e → OrMemoryWhere (HasInside sequence (Finds IsKeyContents)) (GivesOuterFault sequence true) s e
 key-outer s e = inside-outer-where sequence (Finds IsKeyContents) IsKeyPartsFault s e key-parts-memory
+
+view-parts-never : (c : List ℕ) → IsKeyViewPartsFault c OutOfMemory → ⊥
+view-parts-never c =
+    let B = SpellsLeaf bit_string false IsBits in
+    let K : List ℕ → DecodeError → Type 0 = IsLeafFault bit_string false IsBits in
+    first-no-memory SpellsFormat IsFormatFault (λ f. FirstFault B K (λ b. IsEndFault)) c (λ h. (format-outer c OutOfMemory h).other refl)
+    (λ f r. first-no-memory B K (λ b. IsEndFault) r (λ h. leaf-no-memory bit_string false IsBits r OutOfMemory h refl) (λ b q. end-no-memory q))
+
+-- a key whose bits are borrowed allocates nothing
+pub view-outer : (s : List ℕ) (e : DecodeError) → IsKeyViewFault s e → IsOuterFault sequence true s e
+view-outer s e = inside-outer-exactly sequence true IsKeyViewPartsFault s e view-parts-never
 
 rsa-never : (c : List ℕ) → IsRsaNumbersFault c OutOfMemory → ⊥
 rsa-never c =

@@ -3,7 +3,7 @@ use Rattle.std.proofs.Common.{◌≡◌, ◌⊎◌, inl, inr, ℕ, true, false, 
 use Rattle.rpki_der.specs.declared.error.DecodeError.{DecodeError}
 use Rattle.rpki_der.specs.declared.error.DecodeError.TheVariants.{Truncated, BadTag, BadLength, Unexpected, Content, Trailing, OutOfMemory}
 use Rattle.rpki_der.specs.TagName.{TagName, oid, sequence, set}
-use Rattle.rpki_der.specs.Reading.{Accepts, Reads, Finds, OrMemoryWhere}
+use Rattle.rpki_der.specs.Reading.{Accepts, Refusal, Reads, Finds, UnlessMemory, OrMemoryWhere}
 use Rattle.rpki_der.specs.Values.{SpellsLeaf, GivesOuterFault}
 use Rattle.rpki_der.specs.Leaves.{IsOidOf}
 use Rattle.rpki_der.specs.Members.{IsValueList}
@@ -13,13 +13,14 @@ use Rattle.rpki_der.specs.FirstFault.{RepeatedFault, IsInsideFault}
 use Rattle.rpki_der.specs.FirstFault.FirstFault.{AtPart, Later}
 use Rattle.rpki_der.specs.FirstFault.RepeatedFault.{AtMember, AfterMember}
 use Rattle.rpki_der.proofs.LeavesLaws.{leaf-no-memory, contents-no-memory}
+use Rattle.rpki_der.proofs.ReadingLaws.{UnlessMemory-weaker}
 use Rattle.rpki_der.proofs.CaptureLaws.{reads-as, or-memory-from}
 use Rattle.rpki_der.proofs.FirstFaultLaws.{end-no-memory, inside-outer}
 use Rattle.rpki.specs.Name.{IsAttribute, SpellsSome, SpellsAttribute, SpellsRelative, IsName, SpellsNameOctets}
 use Rattle.rpki.specs.AnyValue.{SpellsAny}
 use Rattle.rpki.specs.NameValue.{HasAfter, IdentifiesValue, HasAttributeValue, HasRelativeValue, HasNameValue}
 use Rattle.rpki.specs.NameFault.{IsAttributePartsFault, IsAttributeFault, IsAttributesFault, IsRelativeFault, IsRelativesFault, IsWalkedNameFault, IsNameFault}
-use Rattle.rpki.proofs.NameLaws.{Passed, AnyName, any-leaf, leaf-any, name-of, name-value, name-found, identified}
+use Rattle.rpki.proofs.NameLaws.{Passed, AnyName, any-leaf, leaf-any, octets-any, name-of, name-value, name-found, identified}
 use Rattle.rpki.proofs.NameLaws.Passed.{Here, Next}
 
 -- ---- the loop of a reader of many parts
@@ -79,6 +80,10 @@ octets-of v p h = record { same = h.same; named = name-of v h.spelled }
 
 any-of : (v p : List ℕ) → SpellsNameOctets v p → SpellsKept AnyName v p
 any-of v p h = record { same = h.same; value = tt; spelled = leaf-any sequence true (SpellsSome SpellsRelative) h.named.0 v h.named.1 }
+
+-- a name whose octets are borrowed
+pub view-refused : (s r : List ℕ) (e : DecodeError) → Refusal AnyName IsWalkedNameFault s r e → Refusal SpellsNameOctets IsWalkedNameFault s s e
+view-refused s r e h = record { unchanged = refl; refuses = UnlessMemory-weaker e (λ none v q k. none tt q (octets-any s v q k)) h.refuses; kind = h.kind }
 
 pub name-values : (u : Unit {0}) (p : List ℕ) → AnyName u p → IsValueList p
 name-values u p h = let g = name-of p h in (1, name-value g.0 p g.1)

@@ -1,6 +1,6 @@
 -- Lists of values, one after another, as a reader of one after another finds them; and what names are.
-use Rattle.std.proofs.Common.{◌≡◌, ◌≢◌, ◌↔◌, IsTrue, ℕ, ◌+◌, ◌<◌, ◌≤◌, Bool, true, false, List, [], ◌∷◌, ◌++◌, length, refl, sym, ap, subst, ◌∙◌, append_assoc, arith, length-append}
-use Rattle.std.proofs.lemmas.List.{append-nil}
+use Rattle.std.proofs.Common.{◌≡◌, ◌≢◌, ◌↔◌, IsTrue, ℕ, ◌+◌, ◌<◌, ◌≤◌, Bool, true, false, List, [], ◌∷◌, ◌++◌, ◌-◌, take, length, refl, sym, ap, subst, ◌∙◌, append_assoc, arith, length-append}
+use Rattle.std.proofs.lemmas.List.{append-nil, take_at, append_cancel_right}
 use Rattle.rpki_der.specs.TagName.{TagName, sequence, set, oid}
 use Rattle.rpki_der.specs.Reading.{Spells, Accepts, Refuses, SpellsNothing}
 use Rattle.rpki_der.specs.Values.{SpellsContents, SpellsLeaf}
@@ -12,7 +12,7 @@ use Rattle.rpki_der.specs.ValueListLaws.{values_append, no_values}
 use Rattle.rpki_der.proofs.EncodeLaws.{tlv-at-least}
 use Rattle.rpki_der.proofs.LeafValueLaws.{leaf-value-alone, composed-value-alone}
 use Rattle.rpki_der.proofs.LeavesLaws.{leaf-value}
-use Rattle.rpki.specs.Name.{Attribute, attribute_of, IsIdentifierThen, IsAttribute, SpellsAttribute, SpellsEach, SpellsSome, SpellsRelative, SpellsName, IsName}
+use Rattle.rpki.specs.Name.{Attribute, attribute_of, IsIdentifierThen, IsAttribute, SpellsAttribute, SpellsEach, SpellsSome, SpellsRelative, SpellsName, IsName, SpellsNameOctets}
 use Rattle.rpki.specs.AnyValue.{SpellsAny}
 use Rattle.rpki.specs.NameValue.{HasAfter, HasAttributeValue, HasRelativeValue, HasNameValue}
 use Rattle.rpki.proofs.MemoryLaws.{value-either}
@@ -179,6 +179,34 @@ AnyName = SpellsLeaf sequence true (SpellsAny (SpellsSome SpellsRelative))
 
 pub name-of : (p : List ℕ) → AnyName tt p → IsName p
 name-of p h = any-leaf sequence true (SpellsSome SpellsRelative) p h
+
+pub octets-any : (s v r : List ℕ) → Spells SpellsNameOctets s v r → Spells AnyName s tt r
+octets-any s v r h =
+    let g = h.spelled.named in
+    record { front = h.front; parts = h.parts; spelled = rw h.spelled.same (leaf-any sequence true (SpellsSome SpellsRelative) g.0 v g.1) }
+
+-- ---- a name, whose octets are borrowed
+
+-- the octets in front of what is left
+front-of : (s f r o p : List ℕ) → s ≡ f ++ r → o ≡ s → p ≡ r → take (length o - length p) o ≡ f
+front-of s f r o p parts a b =
+    let n : length o - length p ≡ length f = omega (arith, ap length a, ap length b, ap length parts, length-append f r) in
+    rw n (rw a (rw parts (take_at f r (length f) refl)))
+
+pub borrowed-name : (s r o p : List ℕ) → Accepts AnyName s tt r → o ≡ s → p ≡ r → IsName (take (length o - length p) o)
+borrowed-name s r o p a x y = subst IsName (sym (front-of s a.spells.front r o p a.spells.parts x y)) (name-of a.spells.front a.spells.spelled)
+
+pub name-borrowed : (s r o p : List ℕ) → Accepts AnyName s tt r → o ≡ s → p ≡ r → Accepts SpellsNameOctets s (take (length o - length p) o) r
+name-borrowed s r o p a x y =
+    let f = a.spells.front in
+    let same : take (length o - length p) o ≡ f = front-of s f r o p a.spells.parts x y in
+    subst (λ (v : List ℕ). Accepts SpellsNameOctets s v r) (sym same) (record {
+      spells = record { front = f; parts = a.spells.parts; spelled = record { same = refl; named = name-of f a.spells.spelled } };
+      only = λ w q h.
+          let g = a.only tt q (octets-any s w q h) in
+          let whole : h.front ++ r ≡ f ++ r = ap (λ (l : List ℕ). h.front ++ l) (sym g.1) ∙ sym h.parts ∙ a.spells.parts in
+          (sym h.spelled.same ∙ append_cancel_right h.front f r whole, g.1);
+    })
 
 -- a name has an attribute, which has a value
 

@@ -23,6 +23,15 @@ IsKeyPartsFault = FirstFault SpellsFormat IsFormatFault
 abbrev pub IsKeyFault : List ℕ → DecodeError → Type 0
 IsKeyFault = IsInsideFault sequence true IsKeyPartsFault
 
+-- the same of a key whose bits are borrowed, which allocates nothing
+abbrev pub IsKeyViewPartsFault : List ℕ → DecodeError → Type 0
+IsKeyViewPartsFault = FirstFault SpellsFormat IsFormatFault
+    (λ format. FirstFault (SpellsLeaf bit_string false IsBits) (IsLeafFault bit_string false IsBits)
+    (λ bits. IsEndFault))
+
+abbrev pub IsKeyViewFault : List ℕ → DecodeError → Type 0
+IsKeyViewFault = IsInsideFault sequence true IsKeyViewPartsFault
+
 -- a non-negative INTEGER; then another; then nothing
 abbrev pub IsRsaNumbersFault : List ℕ → DecodeError → Type 0
 IsRsaNumbersFault = FirstFault (SpellsLeaf integer false IsUnsigned) (IsLeafFault integer false IsUnsigned)

@@ -11,7 +11,7 @@ pub mod signature;
 pub use digest::{DigestAlgorithm, sha1_digest};
 pub use keys::{
     KeyIdentifier, KeyIdentifierSliceError, ParseKeyIdentifierError, PublicKey, PublicKeyCn,
-    PublicKeyFormat, PublicKeyFormatEncoder, SignatureVerificationError,
+    PublicKeyFormat, PublicKeyFormatEncoder, PublicKeyView, SignatureVerificationError,
 };
 pub use signature::{
     BgpsecSignatureAlgorithm, RpkiSignature, RpkiSignatureAlgorithm, Signature, SignatureAlgorithm,

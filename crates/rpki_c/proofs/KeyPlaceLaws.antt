@@ -1,18 +1,11 @@
 -- Where the bits of a public key stand.
-use Rattle.std.proofs.Common.{◌≡◌, ◌-◌, ℕ, true, false, List, [], ◌∷◌, ◌++◌, length, slice_index_or, get_or, sym, ap, ◌∙◌, arith, le_refl, take_all, length-append}
+use Rattle.std.proofs.Common.{◌≡◌, ◌-◌, ℕ, true, false, List, [], ◌∷◌, ◌++◌, length, sym, ap, ◌∙◌, arith, le_refl, take_all, length-append}
 use Rattle.std.proofs.lemmas.List.{append_assoc}
-use Rattle.std.proofs.Math.Seq.{get_or-append_seam}
 use Rattle.rpki_der.specs.TagName.{sequence, bit_string}
 use Rattle.rpki_der.specs.Header.{identifier_octets, length_octets}
 use Rattle.rpki.specs.PublicKey.{KeyParts, SpellsKey}
 use Rattle.rpki_c.specs.Key.{format_number, HasKey}
 use Rattle.rpki_c.proofs.SuffixLaws.{suffix}
-
--- what stands before the end
-seam : (s f p : List ℕ) (u : ℕ) → s ≡ f ++ u ∷ p → get_or s (length s - length p - 1) 0 ≡ u
-seam s f p u e =
-    let n : length s - length p - 1 ≡ length f = omega (arith, ap length e, length-append f (u ∷ p)) in
-    rw n (rw e (get_or-append_seam f u p 0))
 
 -- a key ends with the count and its bits
 record Ends (k : KeyParts) (s : List ℕ) : Type 0 where
@@ -32,16 +25,16 @@ ends k s h =
       parts = h.value.octets ∙ ap (λ (x : List ℕ). outer ++ x) both ∙ sym (append_assoc outer (h.spelled.first ++ inner) v);
     }
 
-pub has-key : (s : List ℕ) (k : KeyParts) (b : List ℕ) (f : ℕ) → SpellsKey k s → b ≡ k.bits.octets → f ≡ format_number k.format
-    → HasKey s (record { format = f; unused = slice_index_or s (length s - length b - 1) 0; bits = record { start = length s - length b; length = length b } })
-has-key s k b f h is named =
+pub has-key : (s : List ℕ) (k : KeyParts) (b : List ℕ) (f u : ℕ) → SpellsKey k s → b ≡ k.bits.octets → f ≡ format_number k.format → u ≡ k.bits.unused
+    → HasKey s (record { format = f; unused = u; bits = record { start = length s - length b; length = length b } })
+has-key s k b f u h is named count =
     let e = ends k s h in
     let whole : s ≡ (e.front ++ k.bits.unused ∷ []) ++ k.bits.octets = e.parts ∙ sym (append_assoc e.front (k.bits.unused ∷ []) k.bits.octets) in
     rw is (record {
       key = k;
       spelled = h;
       format = named;
-      unused = seam s e.front k.bits.octets k.bits.unused e.parts;
+      unused = count;
       bits = record {
         within = omega (arith, ap length whole, length-append (e.front ++ k.bits.unused ∷ []) k.bits.octets);
         octets = rw (suffix s (e.front ++ k.bits.unused ∷ []) k.bits.octets whole) (take_all (length k.bits.octets) k.bits.octets (le_refl (length k.bits.octets)));

@@ -6,7 +6,7 @@ use Rattle.rpki_der.specs.Error.{error_number}
 use Rattle.rpki.specs.PublicKey.{SpellsKey, IsRsaKey}
 use Rattle.rpki.specs.KeyFault.{IsRsaBitsFault}
 use Rattle.rpki_c.specs.Whole.{NeverMemory}
-use Rattle.rpki_c.specs.Key.{IsWholeKeyFault, IsKeyStatus}
+use Rattle.rpki_c.specs.Key.{IsKeptKeyFault, IsKeyStatus}
 use Rattle.rpki_c.specs.Made.{IsMade}
 use Rattle.rpki_c.specs.MadeValues.{IsMadeIf, IsKeyWritten, IsNameWritten, IsBitsWritten}
 
@@ -17,12 +17,12 @@ made-if P Q a b status old new before after f g e (inl (p, m)) =
 made-if P Q a b status old new before after f g e (inr h) = inr (λ q. h.0 (g q), h.1, h.2)
 
 -- octets that are not a public key make nothing
-pub key-unwritten : (s : List ℕ) (e : DecodeError) (status : ℕ) (old : List ℕ) (before : ℕ) → UnlessMemory e (SpellsNothing SpellsKey s) × IsWholeKeyFault s e → IsKeyStatus s e status → IsKeyWritten s status old old before before
+pub key-unwritten : (s : List ℕ) (e : DecodeError) (status : ℕ) (old : List ℕ) (before : ℕ) → UnlessMemory e (SpellsNothing SpellsKey s) × IsKeptKeyFault s e → IsKeyStatus s e status → IsKeyWritten s status old old before before
 key-unwritten s e status old before k (inl h) = inr (inl (h.0, h.1, record { buffer = refl; size = refl }))
 key-unwritten s e status old before k (inr h) =
     inr (inr (h.1, record { error = e; number = h.0; nothing = k.0; kind = k.1 }, record { buffer = refl; size = refl }))
 
-pub name-unwritten : (s : List ℕ) (e : DecodeError) (status : ℕ) (old : List ℕ) (before : ℕ) → UnlessMemory e (SpellsNothing SpellsKey s) × IsWholeKeyFault s e → IsKeyStatus s e status → IsNameWritten s status old old before before
+pub name-unwritten : (s : List ℕ) (e : DecodeError) (status : ℕ) (old : List ℕ) (before : ℕ) → UnlessMemory e (SpellsNothing SpellsKey s) × IsKeptKeyFault s e → IsKeyStatus s e status → IsNameWritten s status old old before before
 name-unwritten s e status old before k (inl h) = inr (inl (h.0, h.1, record { buffer = refl; size = refl }))
 name-unwritten s e status old before k (inr h) =
     inr (inr (h.1, record { error = e; number = h.0; nothing = k.0; kind = k.1 }, record { buffer = refl; size = refl }))

@@ -6,18 +6,22 @@ use Rattle.rpki_der.specs.Error.{error_number}
 use Rattle.rpki_der.specs.Reading.{IsWholeFault}
 use Rattle.rpki.specs.PublicKey.{KeyParts, SpellsKey}
 use Rattle.rpki.specs.KeyFormat.{SpellsFormat}
-use Rattle.rpki.specs.KeyFault.{IsKeyFault}
+use Rattle.rpki.specs.KeyFault.{IsKeyFault, IsKeyViewFault}
 use Rattle.rpki.specs.declared.crypto.keys.PublicKeyFormat.{PublicKeyFormat}
 use Rattle.rpki.specs.declared.crypto.keys.PublicKeyFormat.TheVariants.{Rsa, EcdsaP256}
 use Rattle.rpki_c.specs.declared.keys.KeyParts.{KeyParts as Parts}
 use Rattle.rpki_c.specs.Place.{IsPlace}
 use Rattle.rpki_c.specs.Status.{other_algorithm}
 use Rattle.rpki_c.specs.Identifier.{IsOther, HoldsFirst}
-use Rattle.rpki_c.specs.Whole.{IsRefused}
+use Rattle.rpki_c.specs.Whole.{IsRefused, NeverMemory}
 
--- the error of a reader of one public key and of nothing else
+-- the error of a reader of one public key and of nothing else, which allocates nothing
 abbrev pub IsWholeKeyFault : List ℕ → DecodeError → Type 0
-IsWholeKeyFault = IsWholeFault SpellsKey IsKeyFault
+IsWholeKeyFault = NeverMemory SpellsKey IsKeyViewFault
+
+-- the same where the bits are kept
+abbrev pub IsKeptKeyFault : List ℕ → DecodeError → Type 0
+IsKeptKeyFault = IsWholeFault SpellsKey IsKeyFault
 
 -- a SEQUENCE that begins with the identifier of another algorithm than those of the formats; whatever follows
 abbrev pub IsOtherKey : List ℕ → Type 0

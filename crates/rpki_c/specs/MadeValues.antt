@@ -10,7 +10,7 @@ use Rattle.rpki_c.specs.Status.{content, other_algorithm, out_of_memory, too_lon
 use Rattle.rpki_c.specs.Made.{IsMade}
 use Rattle.rpki_c.specs.Uri.{IsUnwritten}
 use Rattle.rpki_c.specs.Whole.{IsRefused, NeverMemory}
-use Rattle.rpki_c.specs.Key.{IsWholeKeyFault, IsOtherKey}
+use Rattle.rpki_c.specs.Key.{IsKeptKeyFault, IsOtherKey}
 
 -- Where this condition holds, the octets are made. Else the status is 15, and nothing was written.
 abbrev pub IsMadeIf : Type 0 → List ℕ → ℕ → List ℕ → List ℕ → ℕ → ℕ → Type 0
@@ -28,7 +28,7 @@ abbrev pub IsKeyWritten : List ℕ → ℕ → List ℕ → List ℕ → ℕ →
 IsKeyWritten s status old new before after =
     ((k : KeyParts) × SpellsKey k s × IsMadeIf (IsShortKey k) (key_octets k) status old new before after)
     ⊎ ((status ≡ other_algorithm) × IsOtherKey s × IsUnwritten old new before after)
-    ⊎ ((IsOtherKey s → ⊥) × IsRefused SpellsKey IsWholeKeyFault s status × IsUnwritten old new before after)
+    ⊎ ((IsOtherKey s → ⊥) × IsRefused SpellsKey IsKeptKeyFault s status × IsUnwritten old new before after)
 
 -- an RSA key of these two numbers
 pub record IsRsaOf (modulus exponent : List ℕ) (k : KeyParts) : Type 0 where
@@ -59,4 +59,4 @@ abbrev pub IsNameWritten : List ℕ → ℕ → List ℕ → List ℕ → ℕ �
 IsNameWritten s status old new before after =
     ((k : KeyParts) × SpellsKey k s × IsMade (subject_octets (sha1 k.bits.octets)) status old new before after)
     ⊎ ((status ≡ other_algorithm) × IsOtherKey s × IsUnwritten old new before after)
-    ⊎ ((IsOtherKey s → ⊥) × IsRefused SpellsKey IsWholeKeyFault s status × IsUnwritten old new before after)
+    ⊎ ((IsOtherKey s → ⊥) × IsRefused SpellsKey IsKeptKeyFault s status × IsUnwritten old new before after)

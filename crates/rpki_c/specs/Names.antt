@@ -3,16 +3,16 @@ use Rattle.std.specs.Prelude.{◌≡◌, ◌⊎◌, ◌<◌, ℕ, zero, suc, Boo
 use Rattle.rpki_der.specs.declared.error.DecodeError.{DecodeError}
 use Rattle.rpki_der.specs.Reading.{IsWholeFault}
 use Rattle.rpki.specs.Name.{IsName, SpellsNameOctets}
-use Rattle.rpki.specs.NameFault.{IsNameFault}
+use Rattle.rpki.specs.NameFault.{IsWalkedNameFault}
 use Rattle.rpki.specs.StrictName.{IsRpkiName, IsRouterName}
 use Rattle.rpki.specs.NameRule.{BreaksRpkiRule, BreaksRouterRule}
 use Rattle.rpki.specs.declared.repository.x509.name.rule.NameRule.{NameRule}
 use Rattle.rpki_c.specs.Status.{rule_number, no_profile}
 use Rattle.rpki_c.specs.Whole.{IsRefused}
 
--- the error of a reader of one name, and of nothing else
+-- the error of a reader of one name, and of nothing else; allocation may fail where an attribute's value is constructed
 abbrev pub IsWholeNameFault : List ℕ → DecodeError → Type 0
-IsWholeNameFault = IsWholeFault SpellsNameOctets IsNameFault
+IsWholeNameFault = IsWholeFault SpellsNameOctets IsWalkedNameFault
 
 -- 0 is the profile of the RPKI, and any other number that of routers
 abbrev pub IsOfProfile : ℕ → List ℕ → Type 0

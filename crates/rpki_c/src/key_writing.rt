@@ -1,19 +1,29 @@
 //! Public keys, written.
 
+ghost use Rattle.rpki_der.specs.Reading.{Decodes};
+ghost use Rattle.rpki.specs.PublicKey.{SpellsKey};
+ghost use Rattle.rpki_c.specs.Key.{IsKeptKeyFault};
 ghost use Rattle.rpki_c.specs.MadeValues.{IsKeyWritten, IsRsaWritten, IsBitsWritten, IsNameWritten};
 
 use crate::digests::Digests;
-use crate::keys::{key_status, read_key};
+use crate::keys::key_status;
 use crate::status::{CONTENT, OUT_OF_MEMORY, TOO_LONG};
 use crate::stored::{store, store_if_short};
 use bytes::Bytes;
 use rpki::crypto::PublicKey;
 use rpki::repository::x509::Name;
-use rpki_der::InvalidInteger;
+use rpki_der::{Constructed, DecodeError, InvalidInteger};
 use std::alloc::Global;
 
 /// The most octets that the two numbers of an RSA key have.
 const MOST: usize = 1 << 31;
+
+/// A public key, and nothing else, whose bits are kept.
+fn kept_key(alloc: Global, octets: &[u8]) -> Result<PublicKey, DecodeError>
+    ensures { Decodes (λ k. k) SpellsKey IsKeptKeyFault octets.now result }
+{
+    Constructed::from_slice(octets).whole(|cons| PublicKey::take_from(alloc, cons))
+}
 
 /// Writes the public key (SubjectPublicKeyInfo, RFC 5280 4.1) that the octets are as it is written, with NULL for the
 /// parameters of RSA, to the front of the buffer.
@@ -30,7 +40,7 @@ pub extern "C" fn rpki_public_key_write(
 ) -> u8
     ensures { IsKeyWritten octets.now result out.old out.new written.old written.new }
 {
-    match read_key(alloc, octets) {
+    match kept_key(alloc, octets) {
         Ok(key) => store_if_short(alloc, &key.encode_ref(), out, written),
         Err(e) => key_status(octets, e),
     }
@@ -101,7 +111,7 @@ pub extern "C" fn rpki_name_of_key(
 ) -> u8
     ensures { IsNameWritten octets.now result out.old out.new written.old written.new }
 {
-    let key = match read_key(alloc, octets) {
+    let key = match kept_key(alloc, octets) {
         Ok(key) => key,
         Err(e) => return key_status(octets, e),
     };

@@ -11,9 +11,8 @@ use crate::digests::Digests;
 use crate::identifiers::begins_with_identifier;
 use crate::place::Place;
 use crate::status::OTHER_ALGORITHM;
-use rpki::crypto::{PublicKey, PublicKeyFormat};
+use rpki::crypto::{PublicKeyFormat, PublicKeyView};
 use rpki_der::{Constructed, DecodeError};
-use std::alloc::Global;
 
 /// The parts of a public key.
 #[repr(C)]
@@ -38,11 +37,11 @@ fn format_number(format: PublicKeyFormat) -> u8
 }
 
 /// A public key, and nothing else.
-pub(crate) fn read_key(alloc: Global, octets: &[u8]) -> Result<PublicKey, DecodeError>
+fn read_key(octets: &[u8]) -> Result<PublicKeyView<'_>, DecodeError>
     ensures { Decodes (λ k. k) SpellsKey IsWholeKeyFault octets.now result }
 {
     let mut cons = Constructed::from_slice(octets);
-    let key = PublicKey::take_from(alloc, &mut cons)?;
+    let key = PublicKeyView::take_from(&mut cons)?;
     cons.finish()?;
     Ok(key)
 }
@@ -81,7 +80,7 @@ pub(crate) fn key_status(octets: &[u8], e: DecodeError) -> u8
 }
 
 /// The parts of the key that the octets are.
-fn places_of(octets: &[u8], key: &PublicKey) -> KeyParts
+fn places_of(octets: &[u8], key: &PublicKeyView<'_>) -> KeyParts
     requires { SpellsKey key.now octets.now }
     ensures { HasKey octets.now result }
 {
@@ -89,7 +88,7 @@ fn places_of(octets: &[u8], key: &PublicKey) -> KeyParts
     let start = octets.len() - bits.len();
     KeyParts {
         format: format_number(key.algorithm()),
-        unused: octets[start - 1],
+        unused: key.unused(),
         bits: Place {
             start,
             length: bits.len(),
@@ -101,13 +100,12 @@ fn places_of(octets: &[u8], key: &PublicKey) -> KeyParts
 ///
 /// The status is 0. It is 13 where the algorithm identifier is another one, whatever follows it: a SEQUENCE of an
 /// object identifier and perhaps one value, that of neither format. Else it is the number of the error. `out` is
-/// unchanged where the status is not 0. Allocation can fail only if a SEQUENCE of a format and a BIT STRING begins the
-/// octets, or with octets after it.
+/// unchanged where the status is not 0. Nothing is allocated.
 #[unsafe(no_mangle)]
-pub extern "C" fn rpki_public_key(alloc: Global, octets: &[u8], out: &mut KeyParts) -> u8
+pub extern "C" fn rpki_public_key(octets: &[u8], out: &mut KeyParts) -> u8
     ensures { IsKeyRead octets.now result out.old out.new }
 {
-    match read_key(alloc, octets) {
+    match read_key(octets) {
         Ok(key) => {
             *out = places_of(octets, &key);
             0
@@ -118,12 +116,12 @@ pub extern "C" fn rpki_public_key(alloc: Global, octets: &[u8], out: &mut KeyPar
 
 /// Writes the identifier of the public key that the octets are: the SHA-1 digest of its bits (RFC 6487 4.8.2).
 ///
-/// The status is as that of [rpki_public_key].
+/// The status is as that of [rpki_public_key]. Nothing is allocated.
 #[unsafe(no_mangle)]
-pub extern "C" fn rpki_key_identifier(alloc: Global, octets: &[u8], out: &mut [u8; 20]) -> u8
+pub extern "C" fn rpki_key_identifier(octets: &[u8], out: &mut [u8; 20]) -> u8
     ensures { IsIdentified octets.now result out.old out.new }
 {
-    match read_key(alloc, octets) {
+    match read_key(octets) {
         Ok(key) => {
             *out = <[u8; 20]>::from(key.key_identifier(&Digests));
             0

@@ -10,18 +10,18 @@ use crate::status::{
     ATTRIBUTE_NOT_PERMITTED, MISSING_COMMON_NAME, NO_PROFILE, SECOND_COMMON_NAME,
     SECOND_ORGANIZATION_NAME, SECOND_SERIAL_NUMBER, STRING_NOT_PERMITTED,
 };
-use rpki::repository::x509::{Name, NameRule};
+use rpki::repository::x509::{NameRule, NameView};
 use rpki_der::{Constructed, DecodeError};
 use std::alloc::Global;
 
 /// A name, and nothing else.
-fn read_name(alloc: Global, octets: &[u8]) -> Result<Name, DecodeError>
+fn read_name(alloc: Global, octets: &[u8]) -> Result<NameView<'_>, DecodeError>
     ensures name { IfOk result (λ n. (n ≡ octets.now) × IsName octets.now) }
     ensures refused { IfErr result (λ e. UnlessMemory e (SpellsNothing SpellsNameOctets octets.now)
         × IsWholeNameFault octets.now e) }
 {
     let mut cons = Constructed::from_slice(octets);
-    let name = Name::take_from(alloc, &mut cons)?;
+    let name = NameView::take_from(alloc, &mut cons)?;
     cons.finish()?;
     Ok(name)
 }
@@ -41,7 +41,7 @@ fn rule_number(rule: NameRule) -> u8
 }
 
 /// Tests the name by the profile of this number; returns the rule that it breaks first.
-fn inspect(name: &Name, profile: u8) -> Result<(), NameRule>
+fn inspect(name: &NameView<'_>, profile: u8) -> Result<(), NameRule>
     requires { profile < 2 }
     ensures { MatchResult result (λ _. IsOfProfile profile name.now) (λ rule. BreaksProfile profile rule name.now) }
 {

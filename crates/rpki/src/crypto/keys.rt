@@ -6,12 +6,14 @@ mod key_identifier;
 mod public_key;
 mod rsa;
 mod verification;
+mod view;
 
 pub use common_name::PublicKeyCn;
 pub use format::PublicKeyFormatEncoder;
 pub use key_identifier::{KeyIdentifier, KeyIdentifierSliceError, ParseKeyIdentifierError};
 pub use public_key::PublicKey;
 pub use verification::SignatureVerificationError;
+pub use view::PublicKeyView;
 
 /// The format of a public key: what its bits are (RFC 7935 3.1, RFC 8608 3.1).
 #[derive(Clone, Copy, Debug, PartialEq, Eq)]

@@ -20,10 +20,12 @@ mod grammar;
 mod inspection;
 mod rule;
 mod table;
+mod view;
 
 use self::grammar::skip_name;
 use self::inspection::Profile;
 pub use self::rule::NameRule;
+pub use self::view::NameView;
 use crate::repository::error::InspectionError;
 use bytes::Bytes;
 use rpki_der::{Captured, Constructed, DecodeError};

@@ -3,8 +3,8 @@ use Rattle.rpki_c.specs.Names.{BreaksProfile}
 use Rattle.rpki_c.proofs.NameStatusLaws.{not-of}
 use Rattle.rpki_c.proofs.names.rpki_name_inspect.Goals as goal
 
-pub returns : goal.returns
-returns c =
+pub returns-in-Err-inspect : goal.returns-in-Err-inspect
+returns-in-Err-inspect c =
     let s = c.args.octets.now in
     let rule = c.in-Err-inspect.rule in
     let below : c.args.profile < 2 = omega (arith, c.if-profile-gt1.false) in

@@ -1,0 +1,76 @@
+//! Names, read in place (RFC 5280 4.1.2.4, RFC 6487 4.4).
+
+ghost use Rattle.std.specs.Prelude.{◌≡◌, MatchResult};
+ghost use Rattle.rpki_der.specs.Cursor.{left};
+ghost use Rattle.rpki_der.specs.Reading.{Reads};
+ghost use Rattle.rpki.specs.Name.{IsName, SpellsNameOctets};
+ghost use Rattle.rpki.specs.NameFault.{IsWalkedNameFault};
+ghost use Rattle.rpki.specs.NameRule.{BreaksRpkiRule, BreaksRouterRule};
+ghost use Rattle.rpki.specs.StrictName.{IsRpkiName, IsRouterName};
+
+use super::grammar::skip_name;
+use super::inspection::Profile;
+use super::rule::NameRule;
+use rpki_der::{Constructed, DecodeError};
+use std::alloc::Global;
+use std::marker::Model;
+
+/// A name, as [Name](crate::repository::x509::Name), whose octets are borrowed from those that it was read from.
+#[derive(Debug, Drop)]
+pub struct NameView<'a> {
+    octets: &'a [u8],
+}
+
+impl<'a> Model for NameView<'a> {
+    ghost use Rattle.std.specs.Prelude.{ℕ, List};
+    ghost use Rattle.rpki.specs.Name.{IsName};
+
+    ghost Value = { List ℕ };
+
+    ghost view = { λ x. x.octets.now };
+
+    ghost invariant = { λ x. IsName x.octets.now };
+}
+
+impl<'a> NameView<'a> {
+    /// A name, with the grammar and the errors of [Name::take_from](crate::repository::x509::Name::take_from), but that
+    /// allocation can fail only where the value of an attribute is constructed.
+    pub fn take_from(alloc: Global, cons: &mut Constructed<'a>) -> Result<NameView<'a>, DecodeError>
+        ensures { Reads (λ n. n) SpellsNameOctets IsWalkedNameFault (left cons.old) (left cons.new) result }
+    {
+        let mut after = *cons;
+        skip_name(alloc, &mut after)?;
+        let octets = cons.rest();
+        let size = octets.len() - after.rest().len();
+        *cons = after;
+        Ok(NameView {
+            octets: &octets[..size],
+        })
+    }
+
+    /// The octets of the name.
+    pub fn octets(&self) -> &'a [u8]
+        ensures octets { result.now ≡ self.now }
+        ensures named { IsName result.now }
+    {
+        self.octets
+    }
+
+    /// Tests that the name is one of a certificate of the RPKI, as
+    /// [Name::test_rpki](crate::repository::x509::Name::test_rpki) does; returns the rule that it breaks first, from
+    /// the left. Allocates nothing.
+    pub fn test_rpki(&self) -> Result<(), NameRule>
+        ensures { MatchResult result (λ _. IsRpkiName self.now) (λ rule. BreaksRpkiRule rule self.now) }
+    {
+        Profile::Rpki.inspect(Constructed::from_slice(self.octets))
+    }
+
+    /// Tests that the name is one of a router's certificate, as
+    /// [Name::test_router](crate::repository::x509::Name::test_router) does; returns the rule that it breaks first,
+    /// from the left. Allocates nothing.
+    pub fn test_router(&self) -> Result<(), NameRule>
+        ensures { MatchResult result (λ _. IsRouterName self.now) (λ rule. BreaksRouterRule rule self.now) }
+    {
+        Profile::Router.inspect(Constructed::from_slice(self.octets))
+    }
+}
