@@ -1,6 +1,6 @@
 /*
- * Times the calls of the C library in one process, beside a plain loop over headers and, where it is there, beside
- * libcrypto: processor time, in turn, the smallest of nine rounds.
+ * Times the calls of the C library in one process, beside plain C with the same checks (plain.c) and, where they are
+ * there, beside libcrypto and mbedtls: processor time, in turn, the smallest of 31 rounds.
  *
  * usage: linked CERTIFICATE
  */
@@ -15,17 +15,23 @@
 #include <openssl/asn1.h>
 #include <openssl/x509.h>
 #endif
+#ifdef WITH_MBEDTLS
+#include <mbedtls/asn1.h>
+#include <mbedtls/x509_crt.h>
+#endif
 
+#include "plain.h"
 #include "rpki.h"
 
-enum { ROUNDS = 9, SMALL = 1 << 20, LEVELS = 1000000, ROOM = 8 << 20 };
+enum { ROUNDS = 31, SMALL = 1 << 20, LEVELS = 1000000, NULLS = 10 << 20, ROOM = 21 << 20, CONTENDERS = 6 };
 
+/* Octets, and what a call on them has to find: a number of headers, or 1. */
 struct input {
     const char *name;
     const uint8_t *octets;
     size_t size;
     size_t repeats; /* calls a round */
-    size_t headers;
+    size_t found;
     struct rpki_entry *entries;
 };
 
@@ -34,100 +40,38 @@ static void stop(const char *why) {
     exit(1);
 }
 
-/* ---- A plain loop ---- */
+/* ---- Plain C ---- */
 
-/* Where the contents begin of the header at the front, or 0; its length and form. */
-static size_t plain_header(const uint8_t *at, size_t size, size_t *length, bool *constructed) {
-    size_t place = 1, count;
-    if (size < 2) return 0;
-    *constructed = at[0] & 0x20;
-    if ((at[0] & 0x1F) == 0x1F) {
-        uint32_t number = 0;
-        do {
-            if (place == size || place > 4) return 0;
-            number = number << 7 | (at[place] & 0x7F);
-            if (number == 0) return 0;
-        } while (at[place++] & 0x80);
-        if (number < 31 || place == size) return 0;
-    } else if ((at[0] & 0xDF) == 0) {
-        return 0;
-    }
-    *length = at[place++];
-    if (*length < 0x80) return place;
-    count = *length & 0x7F;
-    if (count == 0 || count > 4 || size - place < count || at[place] == 0) return 0;
-    for (*length = 0; count > 0; count--) *length = *length << 8 | at[place++];
-    return *length < 0x80 ? 0 : place;
-}
-
-/* Ends of the values that a walk is inside of. */
-struct ends {
-    size_t count, room;
-    size_t *items;
-};
-
-static void push(struct ends *ends, size_t end) {
-    if (ends->count == ends->room) {
-        ends->room = ends->room ? 2 * ends->room : 32;
-        ends->items = realloc(ends->items, ends->room * sizeof *ends->items);
-        if (!ends->items) stop("no memory");
-    }
-    ends->items[ends->count++] = end;
-}
-
-/* How many headers the value at the front has, and how many octets; writes entries where there is an array. */
-static size_t plain_walk(const uint8_t *octets, size_t size, struct rpki_entry *entries, size_t *taken) {
-    struct ends ends = {0, 0, NULL};
-    size_t place = 0, end = size, headers = 0, parent = RPKI_NO_PARENT;
-    do {
-        size_t length = 0, contents;
-        bool constructed = false;
-        contents = plain_header(octets + place, end - place, &length, &constructed);
-        if (contents == 0 || end - place - contents < length) break;
-        contents += place;
-        if (entries) {
-            struct rpki_entry *entry = entries + headers;
-            entry->start = place;
-            entry->contents = contents;
-            entry->end = contents + length;
-            entry->parent = parent;
-            entry->number = octets[place] & 0x1F;
-            entry->tag_class = octets[place] >> 6;
-            entry->constructed = constructed;
-        }
-        if (constructed) {
-            push(&ends, entries ? headers : contents + length);
-            parent = headers;
-            place = contents;
-            end = contents + length;
-        } else {
-            place = contents + length;
-        }
-        headers++;
-        while (ends.count > 0 && place == end) {
-            ends.count--;
-            if (ends.count == 0) {
-                free(ends.items);
-                *taken = place;
-                return headers;
-            }
-            parent = entries ? ends.items[ends.count - 1] : 0;
-            end = entries ? entries[parent].end : ends.items[ends.count - 1];
-        }
-    } while (ends.count > 0);
-    free(ends.items);
-    *taken = place;
-    return ends.count ? 0 : headers;
-}
-
-static size_t plain(const struct input *input) {
+static size_t walk_plainly(const struct input *input) {
     size_t taken;
-    return plain_walk(input->octets, input->size, NULL, &taken);
+    return plain_walk(input->octets, input->size, &taken);
 }
 
-static size_t plain_index(const struct input *input) {
+static size_t index_plainly(const struct input *input) {
     size_t taken;
-    return plain_walk(input->octets, input->size, input->entries, &taken);
+    return plain_index(input->octets, input->size, input->entries, input->found, &taken);
+}
+
+static size_t serial_plainly(const struct input *input) {
+    uint8_t serial[20];
+    return plain_serial(input->octets, input->size, serial);
+}
+
+static size_t time_plainly(const struct input *input) {
+    struct rpki_moment moment;
+    return plain_time(input->octets, input->size, &moment);
+}
+
+static size_t key_plainly(const struct input *input) {
+    struct rpki_key_parts key;
+    return plain_key(input->octets, input->size, &key);
+}
+
+static size_t name_plainly(const struct input *input) { return plain_name(input->octets, input->size); }
+
+static size_t extension_plainly(const struct input *input) {
+    struct rpki_extension_parts parts;
+    return plain_extension(input->octets, input->size, &parts);
 }
 
 /* ---- The library ---- */
@@ -139,46 +83,181 @@ static size_t walk(const struct input *input) {
 
 static size_t indexed(const struct input *input) {
     size_t count;
-    return rpki_index(input->octets, input->size, input->entries, input->headers, &count) == RPKI_OK ? count : 0;
+    return rpki_index(input->octets, input->size, input->entries, input->found, &count) == RPKI_OK ? count : 0;
+}
+
+static size_t counted(const struct input *input) {
+    size_t count;
+    return rpki_index(input->octets, input->size, input->entries, 0, &count) == RPKI_TOO_SMALL ? count : 0;
 }
 
 static size_t signed_data(const struct input *input) {
     struct rpki_signed_parts parts;
-    return rpki_signed_data(input->octets, input->size, &parts) == RPKI_OK ? input->headers : 0;
+    return rpki_signed_data(input->octets, input->size, &parts) == RPKI_OK ? input->found : 0;
 }
 
-/* ---- libcrypto ---- */
+static size_t serial(const struct input *input) {
+    uint8_t out[20];
+    return rpki_serial(input->octets, input->size, out) == RPKI_OK;
+}
 
-#ifdef WITH_LIBCRYPTO
-static size_t libcrypto_walk(const struct input *input) {
+static size_t moment(const struct input *input) {
+    struct rpki_moment out;
+    return rpki_time(input->octets, input->size, &out) == RPKI_OK;
+}
+
+static size_t key(const struct input *input) {
+    struct rpki_key_parts out;
+    return rpki_public_key(input->octets, input->size, &out) == RPKI_OK;
+}
+
+static size_t name(const struct input *input) {
+    return rpki_name_inspect(input->octets, input->size, RPKI_PROFILE_RPKI, true) == RPKI_OK;
+}
+
+static size_t extension(const struct input *input) {
+    struct rpki_extension_parts out;
+    return rpki_extension(input->octets, input->size, &out) == RPKI_OK;
+}
+
+/* The octets of an entry's value. */
+static struct input part(const struct input *whole, size_t number) {
+    struct input made = {NULL, whole->octets + whole->entries[number].start, 0, 20000, 1, NULL};
+    made.size = whole->entries[number].end - whole->entries[number].start;
+    return made;
+}
+
+/* The parts of a certificate of version 3 that are read on: the numbers of their entries. */
+enum { SERIAL, ISSUER, VALIDITY, SUBJECT, KEY, EXTENSIONS, PARTS };
+
+static void find_parts(const struct rpki_entry *entries, size_t count, size_t numbers[PARTS]) {
+    size_t number = rpki_next_sibling(entries, count, rpki_first_child(entries, count, 1));
+    size_t place;
+    numbers[SERIAL] = number;
+    number = rpki_next_sibling(entries, count, number); /* the algorithm */
+    for (place = ISSUER; place <= EXTENSIONS; place++) {
+        number = rpki_next_sibling(entries, count, number);
+        numbers[place] = number;
+    }
+    if (number == RPKI_NO_ENTRY) stop("no certificate");
+    numbers[EXTENSIONS] = rpki_first_child(entries, count, number);
+}
+
+/* A whole certificate: its signed data, its index, its serial number, both names, validity, key and each extension. */
+static size_t whole(const struct input *input) {
+    size_t count, numbers[PARTS], number;
+    struct rpki_signed_parts parts;
+    struct rpki_period period;
+    struct input each;
+    if (rpki_signed_data(input->octets, input->size, &parts) != RPKI_OK) return 0;
+    if (rpki_index(input->octets, input->size, input->entries, input->found, &count) != RPKI_OK) return 0;
+    find_parts(input->entries, count, numbers);
+    each = part(input, numbers[SERIAL]);
+    if (!serial(&each)) return 0;
+    each = part(input, numbers[ISSUER]);
+    if (!name(&each)) return 0;
+    each = part(input, numbers[SUBJECT]);
+    if (!name(&each)) return 0;
+    each = part(input, numbers[VALIDITY]);
+    if (rpki_validity(each.octets, each.size, &period) != RPKI_OK) return 0;
+    each = part(input, numbers[KEY]);
+    if (!key(&each)) return 0;
+    number = rpki_first_child(input->entries, count, numbers[EXTENSIONS]);
+    for (; number != RPKI_NO_ENTRY; number = rpki_next_sibling(input->entries, count, number)) {
+        each = part(input, number);
+        if (!extension(&each)) return 0;
+    }
+    return count;
+}
+
+/* ---- libcrypto, mbedtls ---- */
+
+#if defined(WITH_LIBCRYPTO) || defined(WITH_MBEDTLS)
+/* Ends of the values that a walk is inside of. */
+struct ends {
+    size_t count, room;
+    const uint8_t **items;
+};
+
+static void push(struct ends *ends, const uint8_t *end) {
+    if (ends->count == ends->room) {
+        ends->room = ends->room ? 2 * ends->room : 32;
+        ends->items = realloc(ends->items, ends->room * sizeof *ends->items);
+        if (!ends->items) stop("no memory");
+    }
+    ends->items[ends->count++] = end;
+}
+
+/* A walk by a function that reads a header: it moves past it, or returns a form below 0. */
+static inline size_t walk_by(const struct input *input,
+                             int (*header)(const uint8_t **at, const uint8_t *end, size_t *length)) {
     struct ends ends = {0, 0, NULL};
     const uint8_t *at = input->octets, *end = at + input->size;
     size_t headers = 0;
     do {
-        long length;
-        int tag, tag_class, form = ASN1_get_object(&at, &length, &tag, &tag_class, end - at);
-        if (form & 0x80) break;
+        size_t length;
+        int form = header(&at, end, &length);
+        if (form < 0) break;
         headers++;
-        if (form & V_ASN1_CONSTRUCTED) {
+        if (form > 0) {
             end = at + length;
-            push(&ends, (size_t)(end - input->octets));
+            push(&ends, end);
         } else {
             at += length;
         }
         while (ends.count > 0 && at == end) {
             ends.count--;
-            if (ends.count > 0) end = input->octets + ends.items[ends.count - 1];
+            if (ends.count > 0) end = ends.items[ends.count - 1];
         }
     } while (ends.count > 0);
     free(ends.items);
     return ends.count ? 0 : headers;
 }
+#endif
 
-static size_t libcrypto_x509(const struct input *input) {
+#ifdef WITH_LIBCRYPTO
+static int libcrypto_header(const uint8_t **at, const uint8_t *end, size_t *length) {
+    long found;
+    int tag, tag_class, form = ASN1_get_object(at, &found, &tag, &tag_class, end - *at);
+    *length = (size_t)found;
+    return form & 0x80 ? -1 : form & V_ASN1_CONSTRUCTED;
+}
+
+static size_t libcrypto_walk(const struct input *input) { return walk_by(input, libcrypto_header); }
+
+static size_t libcrypto_whole(const struct input *input) {
     const uint8_t *at = input->octets;
     X509 *certificate = d2i_X509(NULL, &at, (long)input->size);
     X509_free(certificate);
-    return certificate ? input->headers : 0;
+    return certificate ? input->found : 0;
+}
+#endif
+
+#ifdef WITH_MBEDTLS
+static int mbedtls_header(const uint8_t **at, const uint8_t *end, size_t *length) {
+    unsigned char *behind = (unsigned char *)*at + 1;
+    int form = *at < end ? **at & MBEDTLS_ASN1_CONSTRUCTED : -1;
+    if (form < 0 || mbedtls_asn1_get_len(&behind, end, length) != 0) return -1;
+    *at = behind;
+    return form;
+}
+
+static size_t mbedtls_walk(const struct input *input) { return walk_by(input, mbedtls_header); }
+
+/* Any other extension will do, critical or not. */
+static int any_extension(void *context, const mbedtls_x509_crt *certificate, const mbedtls_x509_buf *identifier,
+                         int critical, const unsigned char *at, const unsigned char *end) {
+    (void)context, (void)certificate, (void)identifier, (void)critical, (void)at, (void)end;
+    return 0;
+}
+
+static size_t mbedtls_whole(const struct input *input) {
+    mbedtls_x509_crt certificate;
+    int status;
+    mbedtls_x509_crt_init(&certificate);
+    status = mbedtls_x509_crt_parse_der_with_ext_cb(&certificate, input->octets, input->size, 0, any_extension, NULL);
+    mbedtls_x509_crt_free(&certificate);
+    return status == 0 ? input->found : 0;
 }
 #endif
 
@@ -219,35 +298,46 @@ static struct input nested(size_t levels) {
     return input;
 }
 
-/* Signed data of about 1 MB, nearly all of it short values three deep. */
-static struct input small_values(void) {
-    static const uint8_t unit[] = {0x30, 0x10, 0x06, 0x03, 0x55, 0x04, 0x03, 0x31, 0x09,
-                                   0x13, 0x04, 'n',  'a',  'm',  'e',  0x02, 0x01, 0x01};
-    struct input input = {"1 MB of small values", NULL, 0, 10, 0, NULL};
+/* Signed data of units, one after the other. */
+static struct input units(const char *name, const uint8_t *unit, size_t unit_size, size_t count, size_t headers) {
+    struct input input = {name, NULL, 0, 1, 0, NULL};
     uint8_t *room = new_room();
-    size_t units = SMALL / sizeof unit, size = sizeof ending, unit_count;
-    for (unit_count = 0; unit_count < units; unit_count++) {
-        size += sizeof unit;
-        memcpy(room + ROOM - size, unit, sizeof unit);
+    size_t size = sizeof ending, place;
+    for (place = 0; place < count; place++) {
+        size += unit_size;
+        memcpy(room + ROOM - size, unit, unit_size);
     }
     /* The header of what is signed goes in front of the units alone, so the ending is left out of its length. */
     size = put_header(room - sizeof ending, size - sizeof ending, 0x30) + sizeof ending;
     size = put_header(room, size, 0x30);
     input.octets = room + ROOM - size;
     input.size = size;
-    input.headers = 6 + 5 * units;
+    input.found = 6 + headers * count;
     return input;
 }
 
+static struct input small_values(void) {
+    static const uint8_t unit[] = {0x30, 0x10, 0x06, 0x03, 0x55, 0x04, 0x03, 0x31, 0x09,
+                                   0x13, 0x04, 'n',  'a',  'm',  'e',  0x02, 0x01, 0x01};
+    struct input input = units("1 MB of small values", unit, sizeof unit, SMALL / sizeof unit, 5);
+    input.repeats = 5;
+    return input;
+}
+
+static struct input nulls(void) {
+    static const uint8_t unit[] = {0x05, 0x00};
+    return units("20 MB of NULLs", unit, sizeof unit, NULLS, 1);
+}
+
 static struct input certificate(const char *path) {
-    struct input input = {"a certificate", NULL, 0, 20000, 0, NULL};
+    struct input input = {"a certificate", NULL, 0, 5000, 0, NULL};
     uint8_t *room = new_room();
     FILE *file = fopen(path, "rb");
     if (!file) stop(path);
     input.octets = room;
     input.size = fread(room, 1, ROOM, file);
     fclose(file);
-    input.headers = plain(&input);
+    input.found = walk_plainly(&input);
     return input;
 }
 
@@ -256,25 +346,7 @@ static struct input certificate(const char *path) {
 struct contender {
     const char *name;
     size_t (*call)(const struct input *input);
-    int beside; /* which contender the ratio is to */
-    bool certificates_only;
 };
-
-static const struct contender contenders[] = {
-    {"plain loop", plain, 0, false},
-    {"rpki_walk", walk, 0, false},
-#ifdef WITH_LIBCRYPTO
-    {"ASN1_get_object in a loop", libcrypto_walk, 0, false},
-#endif
-    {"plain loop with entries", plain_index, 0, false},
-    {"rpki_index", indexed, 0, false},
-    {"rpki_signed_data", signed_data, 0, false},
-#ifdef WITH_LIBCRYPTO
-    {"d2i_X509 and X509_free", libcrypto_x509, 0, true},
-#endif
-};
-
-enum { CONTENDERS = sizeof contenders / sizeof contenders[0] };
 
 static double now(void) {
     struct timespec time;
@@ -286,31 +358,83 @@ static double once(const struct input *input, const struct contender *contender)
     size_t repeat;
     double start = now();
     for (repeat = 0; repeat < input->repeats; repeat++) {
-        if (contender->call(input) != input->headers) stop(contender->name);
+        if (contender->call(input) != input->found) stop(contender->name);
     }
     return (now() - start) / (double)input->repeats;
 }
 
-static void measure(struct input input, bool is_certificate) {
-    double best[CONTENDERS];
+/* Times the contenders in turn, and prints each over the first. */
+static void measure(const struct input *input, const struct contender *contenders) {
+    double best[CONTENDERS] = {0};
     size_t round, place;
-    input.entries = malloc(input.headers * sizeof *input.entries);
-    if (!input.entries) stop("no memory");
     for (round = 0; round <= ROUNDS; round++) {
-        for (place = 0; place < CONTENDERS; place++) {
-            double took;
-            if (contenders[place].certificates_only && !is_certificate) continue;
-            took = once(&input, &contenders[place]);
+        for (place = 0; place < CONTENDERS && contenders[place].name; place++) {
+            double took = once(input, &contenders[place]);
             /* The first round warms up. */
             if (round <= 1 || took < best[place]) best[place] = took;
         }
     }
-    printf("\n%s: %zu octets, %zu headers\n", input.name, input.size, input.headers);
-    printf("%-28s%14s%12s%14s\n", "", "us a call", "ns/header", "x plain loop");
-    for (place = 0; place < CONTENDERS; place++) {
-        if (contenders[place].certificates_only && !is_certificate) continue;
-        printf("%-28s%14.3f%12.2f%14.2f\n", contenders[place].name, 1e6 * best[place],
-               1e9 * best[place] / (double)input.headers, best[place] / best[contenders[place].beside]);
+    for (place = 0; place < CONTENDERS && contenders[place].name; place++) {
+        printf("%-34s%14.1f%12.2f%14.2f\n", contenders[place].name, 1e9 * best[place],
+               1e9 * best[place] / (double)input->found, best[place] / best[0]);
+    }
+}
+
+static void measure_walks(struct input input, bool is_certificate) {
+    static const struct contender walks[CONTENDERS] = {
+        {"walk: plain C", walk_plainly},
+        {"rpki_walk", walk},
+        {"rpki_index, capacity 0", counted},
+        {"rpki_signed_data", signed_data},
+#ifdef WITH_MBEDTLS
+        {"mbedtls_asn1_get_len in a loop", mbedtls_walk},
+#endif
+#ifdef WITH_LIBCRYPTO
+        {"ASN1_get_object in a loop", libcrypto_walk},
+#endif
+    };
+    static const struct contender indexes[CONTENDERS] = {{"index: plain C", index_plainly}, {"rpki_index", indexed}};
+    static const struct contender wholes[CONTENDERS] = {
+        {"a whole certificate", whole},
+#ifdef WITH_MBEDTLS
+        {"mbedtls_x509_crt_parse_der", mbedtls_whole},
+#endif
+#ifdef WITH_LIBCRYPTO
+        {"d2i_X509 and X509_free", libcrypto_whole},
+#endif
+    };
+    input.entries = malloc(input.found * sizeof *input.entries);
+    if (!input.entries) stop("no memory");
+    printf("\n%s: %zu octets, %zu headers\n", input.name, input.size, input.found);
+    printf("%-34s%14s%12s%14s\n", "", "ns a call", "ns/header", "x plain C");
+    measure(&input, walks);
+    measure(&input, indexes);
+    if (is_certificate) measure(&input, wholes);
+    free(input.entries);
+}
+
+/* Readers of small values, on those of a certificate. */
+static void measure_readers(struct input input) {
+    static const struct contender readers[][CONTENDERS] = {
+        {{"serial number: plain C", serial_plainly}, {"rpki_serial", serial}},
+        {{"time: plain C", time_plainly}, {"rpki_time", moment}},
+        {{"name, strict: plain C", name_plainly}, {"rpki_name_inspect", name}},
+        {{"public key: plain C", key_plainly}, {"rpki_public_key", key}},
+        {{"extension: plain C", extension_plainly}, {"rpki_extension", extension}},
+    };
+    size_t numbers[PARTS], wanted[5], place;
+    input.entries = malloc(input.found * sizeof *input.entries);
+    if (!input.entries || indexed(&input) == 0) stop("no index");
+    find_parts(input.entries, input.found, numbers);
+    wanted[0] = numbers[SERIAL];
+    wanted[1] = rpki_first_child(input.entries, input.found, numbers[VALIDITY]);
+    wanted[2] = numbers[ISSUER];
+    wanted[3] = numbers[KEY];
+    wanted[4] = rpki_first_child(input.entries, input.found, numbers[EXTENSIONS]);
+    printf("\nparts of the certificate\n%-34s%14s%12s%14s\n", "", "ns a call", "", "x plain C");
+    for (place = 0; place < 5; place++) {
+        struct input each = part(&input, wanted[place]);
+        measure(&each, readers[place]);
     }
     free(input.entries);
 }
@@ -320,8 +444,10 @@ int main(int count, char **words) {
         fprintf(stderr, "usage: linked CERTIFICATE\n");
         return 2;
     }
-    measure(certificate(words[1]), true);
-    measure(small_values(), false);
-    measure(nested(LEVELS), false);
+    measure_walks(certificate(words[1]), true);
+    measure_readers(certificate(words[1]));
+    measure_walks(small_values(), false);
+    measure_walks(nested(LEVELS), false);
+    measure_walks(nulls(), false);
     return 0;
 }

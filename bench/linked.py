@@ -1,7 +1,8 @@
 #!/usr/bin/env python3
-"""Times the calls of the C library in one process (bench/linked.c) beside a plain loop and, where its header is there,
-libcrypto; and walks and signed data from Rust (bench/peers) beside the crates bcder and asn1, where Debian's packages
-of them (librust-bcder-dev, librust-asn1-dev) are there.
+"""Times the calls of the C library in one process (bench/linked.c) beside plain C with the same checks (bench/plain.c)
+and, where their headers are there, libcrypto and mbedtls (Debian's libssl-dev, libmbedtls-dev); and walks and signed
+data from Rust (bench/peers) beside the crates bcder and asn1, where Debian's packages of them (librust-bcder-dev,
+librust-asn1-dev) are there.
 
 usage: bench/linked.py            (after bindings/archive)"""
 import os
@@ -20,12 +21,27 @@ FROM_REGISTRY = ["--offline", "--config", 'source.crates-io.replace-with="debian
 FROM_REGISTRY += ["--config", f'source.debian.directory="{REGISTRY}"']
 
 
-def has_libcrypto(folder):
-    """Whether a program with libcrypto compiles and links here."""
-    path = os.path.join(folder, "libcrypto.c")
+# Libraries that are timed too: the macro that asks for each, a program that needs it, and the words that link it.
+BESIDE = {
+    "libcrypto": (
+        "WITH_LIBCRYPTO",
+        "#include <openssl/x509.h>\nint main(void) { return X509_new() == 0; }\n",
+        ["-lcrypto"],
+    ),
+    "mbedtls": (
+        "WITH_MBEDTLS",
+        "#include <mbedtls/x509_crt.h>\nint main(void) { mbedtls_x509_crt a; mbedtls_x509_crt_init(&a); return 0; }\n",
+        ["-lmbedx509", "-lmbedcrypto"],
+    ),
+}
+
+
+def links(folder, text, words):
+    """Whether this program compiles and links here."""
+    path = os.path.join(folder, "program.c")
     with open(path, "w") as source:
-        source.write("#include <openssl/x509.h>\nint main(void) { return X509_new() == 0; }\n")
-    return subprocess.run([*COMPILER, path, "-lcrypto", "-o", path + ".out"], capture_output=True).returncode == 0
+        source.write(text)
+    return subprocess.run([*COMPILER, path, *words, "-o", path + ".out"], capture_output=True).returncode == 0
 
 
 def cargo(words, folder, **options):
@@ -47,15 +63,16 @@ def main():
         sys.exit("make the archive first: bindings/archive")
     with tempfile.TemporaryDirectory() as folder:
         program = os.path.join(folder, "linked")
-        libcrypto = has_libcrypto(folder)
-        words = ["-DWITH_LIBCRYPTO"] if libcrypto else []
-        words += [os.path.join(TOP, "bench", "linked.c"), ARCHIVE, *(["-lcrypto"] if libcrypto else []), "-o", program]
-        subprocess.run([*COMPILER, *words], check=True)
+        found = [name for name, (_, text, words) in BESIDE.items() if links(folder, text, words)]
+        words = [f"-D{BESIDE[name][0]}" for name in found]
+        words += [os.path.join(TOP, "bench", "linked.c"), os.path.join(TOP, "bench", "plain.c"), ARCHIVE]
+        words += [word for name in found for word in BESIDE[name][2]]
+        subprocess.run([*COMPILER, *words, "-o", program], check=True)
         peers = has_peers(folder)
         if peers:
             cargo(["build", "--release", "--quiet"], folder, check=True)
-        beside = ["with" if there else "without" for there in [libcrypto, peers]]
-        print(f"{os.cpu_count()} cores, {time.strftime('%Y-%m-%d')}, {beside[0]} libcrypto, {beside[1]} bcder and asn1")
+        found += ["bcder and asn1"] if peers else []
+        print(f"{os.cpu_count()} cores, {time.strftime('%Y-%m-%d')}, beside {', '.join(found) or 'plain C alone'}")
         sys.stdout.flush()
         subprocess.run([program, CERTIFICATE], check=True)
         if peers:

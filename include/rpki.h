@@ -9,14 +9,11 @@
  * Where the status is not 0, `out` is left as it was; only `*count` of rpki_index, and `*written` of the calls that say
  * so, are written with RPKI_TOO_SMALL too.
  *
- * What a call takes of memory it frees before it returns. Those that take none, and so never return
- * RPKI_OUT_OF_MEMORY, are rpki_header, rpki_serial, rpki_time, rpki_validity, rpki_extension, rpki_time_years_on,
- * rpki_hex, rpki_version and the calls on URIs. Those that write, and rpki_base64_read, take copies of what they read
- * and of what they write, and for signed data an index of its headers. The others, at the peak:
- *  - each takes up to 24 octets for each level of nesting, and 64 more;
- *  - rpki_index and rpki_name_inspect take up to 96 octets for each header beside that, and 256 more (of which they
- *    keep up to 64 a header until they return);
- *  - rpki_name_inspect, rpki_public_key and rpki_key_identifier take a copy of their octets.
+ * What a call takes of memory it frees before it returns. At the peak rpki_walk, rpki_index, rpki_fault and
+ * rpki_signed_data take up to 24 octets for each level of nesting, and 64 more; rpki_name_inspect takes the same of a
+ * constructed value of an attribute. Those that write values or base 64, and rpki_base64_read, take copies of what they
+ * read and of what they write, and for signed data an index of its headers. All others take none (rpki_time_years_on,
+ * rpki_hex and the calls on URIs too), and so never return RPKI_OUT_OF_MEMORY.
  * So bound the size of what strangers send before you hand it in.
  *
  * What the caller owes, which no call can check:
@@ -336,8 +333,8 @@ rpki_status rpki_walk(const uint8_t *octets, size_t size, struct rpki_walked *ou
  * itself, and the values in a value follow its entry. `entries` has room for `capacity` entries.
  *
  * RPKI_OK: `*count` entries were written, and the rest of the array is as it was. RPKI_TOO_SMALL: `*count` is how many
- * entries there are, and none was written. The others are those of rpki_walk, and then neither is written; the call
- * takes memory for each header, and so may return RPKI_OUT_OF_MEMORY for any value.
+ * entries there are, and none was written. The others are those of rpki_walk, and then neither is written. The entries
+ * go straight to the array: beside that the call takes no more memory than rpki_walk.
  */
 rpki_status rpki_index(const uint8_t *octets, size_t size, struct rpki_entry *entries, size_t capacity, size_t *count);
 

@@ -1,0 +1,27 @@
+/* Plain C with the same checks as the library's calls: what its times are compared with (plain.c). */
+#ifndef PLAIN_H
+#define PLAIN_H
+
+#include <stdbool.h>
+#include <stddef.h>
+#include <stdint.h>
+
+#include "rpki.h"
+
+/* How many headers the value at the front has, and how many octets; 0 where none begins the octets. */
+size_t plain_walk(const uint8_t *octets, size_t size, size_t *taken);
+
+/* The same, and an entry of each header; 0 also where the array is too small. It writes entries before it knows whether
+ * a value is there, which rpki_index does not. */
+size_t plain_index(const uint8_t *octets, size_t size, struct rpki_entry *entries, size_t capacity, size_t *taken);
+
+/* One value and nothing else, as the calls of the same names read it; whether it is there. */
+bool plain_serial(const uint8_t *octets, size_t size, uint8_t out[20]);
+bool plain_time(const uint8_t *octets, size_t size, struct rpki_moment *out);
+bool plain_key(const uint8_t *octets, size_t size, struct rpki_key_parts *out);
+bool plain_extension(const uint8_t *octets, size_t size, struct rpki_extension_parts *out);
+
+/* A name that is strict as the profile of the RPKI wants it. */
+bool plain_name(const uint8_t *octets, size_t size);
+
+#endif
