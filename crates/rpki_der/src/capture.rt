@@ -16,10 +16,11 @@ impl<'a> Constructed<'a> {
     /// Returns the error of `op`. Where `op` succeeds, returns `Trailing` if it leaves more octets than there were, the
     /// error of the first of the octets that is no value if they are not values, and `OutOfMemory` if allocation fails.
     /// An error leaves the cursor where it was.
-    pub fn capture<
-        E: Drop + From<DecodeError>,
-        F: FnOnce(&mut Constructed<'a>) -> Result<(), E>,
-    >(&mut self, alloc: Global, op: F) -> Result<Captured, E>
+    pub fn capture<E: Drop + From<DecodeError>, F: FnOnce(&mut Constructed<'a>) -> Result<(), E>>(
+        &mut self,
+        alloc: Global,
+        op: F,
+    ) -> Result<Captured, E>
         requires { F.IsAlwaysCallable op }
         ensures { Captures (λ c e. E.from_gives c e) (FnOnceReturnsAtMut F.FnOnce op) (left self.old) (left self.new)
             result }
