@@ -6,7 +6,7 @@
 -- Keys and key identifiers; errors of keys: PublicKeyLaws, KeyIdentifierLaws, KeyFaultLaws.
 -- Extensions; their errors: ExtensionLaws, ExtensionIndexLaws, ExtensionFaultLaws.
 -- Names; their errors, and the rules of profiles: NameLaws, OneNameLaws, NameFaultLaws, RuleLaws, InspectionLaws,
---   WithoutOrganizationLaws, SubjectLaws, StrictSubjectLaws.
+--   NameTableLaws, WithoutOrganizationLaws, SubjectLaws, StrictSubjectLaws.
 
 pub mod AlgorithmLaws
 pub mod TwoPartsLaws

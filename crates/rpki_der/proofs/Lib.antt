@@ -1,12 +1,13 @@
 -- Which lemma file answers which question.
 --
 -- Crates above rest on ReadingLaws, LeavesLaws, ComposedLaws, InsideLaws, TriedLaws, FirstFaultLaws, PartsLaws,
--- EachLaws, EncodeLaws, WritingLaws and IntegerLaws: their names and statements stay.
+-- EachLaws, CaptureLaws, EncodeLaws, WritingLaws and IntegerLaws: their names and statements stay.
 --
 -- How readings are put together, whatever the grammar: ReadingLaws, StepLaws.
 -- A leaf over its contents; a value over the reader of its contents: LeavesLaws, ComposedLaws, InsideLaws.
 -- What a reader returns where a `?` ends it: TriedLaws.
 -- Parts in order, the first of which may be left out; a list of values: PartsLaws, EachLaws.
+-- Octets that a reader reads, kept; lists of values that are cut short: CaptureLaws, ListFaultLaws.
 -- The error of the leftmost part that isn't there: FirstFaultLaws.
 -- Values of a wanted tag; values by their headers: WantedLaws, ValuesLaws.
 -- The members of a value by number; the value at the front: MemberLaws, FrontLaws.
