@@ -8,6 +8,7 @@
 //! for `bench/uris.py`.
 #![tactic(auto)]
 
+mod certificates;
 mod cursors;
 mod encoders;
 mod made;
@@ -56,6 +57,7 @@ fn tell_of(
         "rsync" => uris::tell_rsync(alloc, report, call, path, octets),
         "https" => uris::tell_https(alloc, report, call, path, octets),
         "text" => texts::tell(alloc, report, call, octets),
+        "certificate" => certificates::tell(alloc, report, (call, path), octets),
         "write" => encoders::tell(alloc, report, call, octets),
         _ => Err(Failure::Usage),
     }

@@ -1,4 +1,8 @@
-//! A provider of digests.
+//! Providers of digests.
+
+ghost use Rattle.std.specs.Prelude.{◌≡◌, nat_eq};
+ghost use Rattle.std.specs.Cmp.Lexicographic.{pointwise};
+ghost use Rattle.sha2.specs.Sha256.{sha256};
 
 use rpki::crypto::Provider;
 use sha1::Sha1;
@@ -35,5 +39,48 @@ impl Provider for Digests {
 
     fn ecdsa_check(&self, _bits: &[u8], _message: &[u8], _signature: &[u8]) -> bool {
         false
+    }
+}
+
+/// Finds a signature good where it is the digest by SHA-256 of what is signed, whatever the key: tests make them so.
+#[derive(Clone, Copy)]
+pub struct Stamps;
+
+/// Whether the signature is that digest.
+fn is_stamp(message: &[u8], signature: &[u8]) -> bool
+    ensures { result ≡ pointwise nat_eq signature.now (sha256 message.now) }
+{
+    let digest: [u8; 32] = Sha256::digest(message);
+    signature == digest.as_slice()
+}
+
+impl Provider for Stamps {
+    ghost use Rattle.std.specs.Prelude.{nat_eq};
+    ghost use Rattle.std.specs.Cmp.Lexicographic.{pointwise};
+    ghost use Rattle.sha1.specs.Sha1.{sha1};
+    ghost use Rattle.sha2.specs.Sha256.{sha256};
+
+    ghost sha1_of = { λ _ octets. sha1 octets };
+
+    ghost sha256_of = { λ _ octets. sha256 octets };
+
+    ghost rsa_of = { λ _ _ message signature. pointwise nat_eq signature (sha256 message) };
+
+    ghost ecdsa_of = { λ _ _ message signature. pointwise nat_eq signature (sha256 message) };
+
+    fn sha1(&self, octets: &[u8]) -> [u8; 20] {
+        Sha1::digest(octets)
+    }
+
+    fn sha256(&self, octets: &[u8]) -> [u8; 32] {
+        Sha256::digest(octets)
+    }
+
+    fn rsa_check(&self, _bits: &[u8], message: &[u8], signature: &[u8]) -> bool {
+        is_stamp(message, signature)
+    }
+
+    fn ecdsa_check(&self, _bits: &[u8], message: &[u8], signature: &[u8]) -> bool {
+        is_stamp(message, signature)
     }
 }

@@ -4,8 +4,8 @@ use crate::made::{Made, Outcome};
 use crate::refusal::Refusal;
 use rpki::der::{Header, Values};
 use rpki::util::hex::encode_u8;
-use std::io;
 use std::io::{ErrorKind, Stdout, Write};
+use std::{fmt, io};
 
 /// How many octets are written in one piece, as digits.
 const PIECE: usize = 2_048;
@@ -50,6 +50,12 @@ impl Report {
     pub fn words(&self, words: &str) -> io::Result<()> {
         let mut out = self.out;
         writeln!(out, "{words}")
+    }
+
+    /// A line of a word and what is shown of a value.
+    pub fn shown<T: fmt::Display>(&self, word: &str, value: &T) -> io::Result<()> {
+        let mut out = self.out;
+        writeln!(out, "{word} {value}")
     }
 
     /// A line of a word and a number.

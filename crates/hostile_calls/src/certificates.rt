@@ -1,0 +1,179 @@
+//! Calls on resource certificates.
+
+use crate::provider::Stamps;
+use crate::refusal::{Failure, Refusal};
+use crate::report::Report;
+use bytes::Bytes;
+use rpki::repository::error::ValidationError;
+use rpki::repository::x509::Time;
+use rpki_cert::{Cert, KeyUsage, Overclaim, TbsCert};
+use rpki_der::{Constructed, DecodeError};
+use std::alloc::Global;
+use std::{fmt, io};
+
+/// The line of a value that may be there, or of the error.
+fn tell_part<T: fmt::Display + Drop>(
+    report: Report,
+    word: &str,
+    part: Result<Option<T>, ValidationError>,
+) -> io::Result<()> {
+    match part {
+        Ok(Some(value)) => report.shown(word, &value),
+        Ok(None) => report.shown(word, &"none"),
+        Err(e) => tell_error(report, word, e),
+    }
+}
+
+/// The line of an error.
+fn tell_error(report: Report, word: &str, error: ValidationError) -> io::Result<()> {
+    match error {
+        ValidationError::Decoding(DecodeError::OutOfMemory) => report.words("out of memory"),
+        e => report.shown(word, &e),
+    }
+}
+
+/// The line of a test.
+fn tell_test(report: Report, word: &str, test: Result<(), ValidationError>) -> io::Result<()> {
+    match test {
+        Ok(()) => report.shown(word, &"ok"),
+        Err(e) => tell_error(report, word, e),
+    }
+}
+
+/// Whether it is a certification authority's, as a part.
+fn constraints_part(tbs: &TbsCert) -> Result<Option<bool>, ValidationError> {
+    match tbs.basic_ca() {
+        Ok(ca) => Ok(Some(ca)),
+        Err(e) => Err(e),
+    }
+}
+
+/// Whether the key usage is that of a certification authority.
+fn usage_part(tbs: &TbsCert) -> Result<Option<bool>, ValidationError> {
+    match tbs.key_usage() {
+        Ok(Some(KeyUsage::Ca)) => Ok(Some(true)),
+        Ok(Some(KeyUsage::Ee)) => Ok(Some(false)),
+        Ok(None) => Ok(None),
+        Err(e) => Err(e),
+    }
+}
+
+/// Whether resources that the issuer has not are trimmed.
+fn overclaim_part(tbs: &TbsCert) -> Result<Option<bool>, ValidationError> {
+    match tbs.overclaim() {
+        Ok(Some(Overclaim::Trim)) => Ok(Some(true)),
+        Ok(Some(Overclaim::Refuse)) => Ok(Some(false)),
+        Ok(None) => Ok(None),
+        Err(e) => Err(e),
+    }
+}
+
+/// How many extensions there are.
+fn tell_count(report: Report, tbs: &TbsCert) -> io::Result<()> {
+    report.number("extensions", tbs.extensions().len() as u64)
+}
+
+/// The line of the subject key identifier.
+fn tell_subject_key(report: Report, tbs: &TbsCert) -> io::Result<()> {
+    match tbs.subject_key_identifier() {
+        Ok(Some(found)) => report.shown("subject_key_identifier", &found),
+        Ok(None) => report.shown("subject_key_identifier", &"none"),
+        Err(e) => tell_error(report, "subject_key_identifier", e),
+    }
+}
+
+/// The line of the authority key identifier.
+fn tell_authority_key(report: Report, tbs: &TbsCert) -> io::Result<()> {
+    match tbs.authority_key_identifier() {
+        Ok(Some(found)) => report.shown("authority_key_identifier", &found),
+        Ok(None) => report.shown("authority_key_identifier", &"none"),
+        Err(e) => tell_error(report, "authority_key_identifier", e),
+    }
+}
+
+/// Lines of the other extensions that allocate nothing.
+fn tell_flags(report: Report, tbs: &TbsCert) -> io::Result<()> {
+    tell_part(report, "basic_ca", constraints_part(tbs))?;
+    tell_part(report, "key_usage_of_ca", usage_part(tbs))?;
+    tell_part(report, "overclaim_trims", overclaim_part(tbs))
+}
+
+/// Lines of the others.
+fn tell_located(alloc: Global, report: Report, tbs: &TbsCert) -> io::Result<()> {
+    tell_part(report, "extended_key_usage", tbs.extended_key_usage(alloc))?;
+    tell_part(report, "crl_uri", tbs.crl_uri(alloc))?;
+    tell_part(report, "ca_issuer", tbs.ca_issuer(alloc))?;
+    tell_part(report, "ca_repository", tbs.ca_repository(alloc))?;
+    tell_part(report, "rpki_manifest", tbs.rpki_manifest(alloc))?;
+    tell_part(report, "signed_object", tbs.signed_object(alloc))?;
+    tell_part(report, "rpki_notify", tbs.rpki_notify(alloc))
+}
+
+/// Lines of the inspections.
+fn tell_inspections(alloc: Global, report: Report, tbs: &TbsCert) -> io::Result<()> {
+    tell_test(report, "inspect_ta", tbs.inspect_ta(alloc, true))?;
+    tell_test(report, "inspect_ca", tbs.inspect_ca(alloc, true))?;
+    tell_test(report, "inspect_ee", tbs.inspect_ee(alloc, true))?;
+    tell_test(report, "inspect_router", tbs.inspect_router(alloc, true))
+}
+
+/// The certificate that the octets are, and what it says.
+fn tell_read(alloc: Global, report: Report, octets: Vec<u8>) -> Result<(), Failure> {
+    match Cert::decode(alloc, Bytes::from_vec(octets)?) {
+        Ok(cert) => {
+            let tbs = cert.tbs();
+            tell_count(report, tbs)?;
+            tell_subject_key(report, tbs)?;
+            tell_authority_key(report, tbs)?;
+            tell_flags(report, tbs)?;
+            tell_located(alloc, report, tbs)?;
+            tell_inspections(alloc, report, tbs)?;
+        }
+        Err(DecodeError::OutOfMemory) => report.words("out of memory")?,
+        Err(e) => report.shown("rejected", &e)?,
+    }
+    Ok(())
+}
+
+/// The first of the certificates that are left.
+fn next(alloc: Global, cursor: &mut Constructed<'_>) -> Result<Cert, Refusal> {
+    Ok(Cert::take_from(alloc, cursor)?)
+}
+
+/// Whether the first certificate is a trust anchor at this moment, and each later one is issued by the one before it.
+fn tell_chain(alloc: Global, report: Report, moment: &str, octets: Vec<u8>) -> Result<(), Failure> {
+    let Ok(at) = moment.parse::<Time>() else {
+        return Err(Failure::Usage);
+    };
+    let source = Bytes::from_vec(octets)?;
+    let mut cursor = Constructed::new(&source);
+    let mut issuer = next(alloc, &mut cursor)?;
+    tell_test(report, "verify_ta", issuer.verify_ta(&Stamps, at))?;
+    for _ in 0..source.len() {
+        if cursor.is_empty() {
+            break;
+        }
+        let cert = next(alloc, &mut cursor)?;
+        tell_test(
+            report,
+            "verify_issued",
+            cert.verify_issued(&Stamps, issuer.tbs(), at),
+        )?;
+        issuer = cert;
+    }
+    Ok(())
+}
+
+/// Reports on a certificate, or on a chain of them at a moment.
+pub fn tell(
+    alloc: Global,
+    report: Report,
+    (call, moment): (&str, &str),
+    octets: Vec<u8>,
+) -> Result<(), Failure> {
+    match call {
+        "read" => tell_read(alloc, report, octets),
+        "chain" => tell_chain(alloc, report, moment, octets),
+        _ => Err(Failure::Usage),
+    }
+}

@@ -1,0 +1,470 @@
+"""Resource certificates: variants that use or break one rule of RFC 5280 4.1, RFC 6487 4 or RFC 8209 3.1 each, chains
+of certificates, changed octets, beginnings, and refused allocations.
+
+The variants are made of examples/certificate.der, which openssl made, by changes of its values. A signature that a test
+makes is the digest by SHA-256 of what is signed, which `hostile_calls certificate chain` finds good."""
+import hashlib
+import os
+
+from der import sequence, tlv
+from programs import TOP, run
+from shim import Shim
+
+with open(os.path.join(TOP, "examples", "certificate.der"), "rb") as file:
+    CERTIFICATE = file.read()
+
+
+class Value:
+    """A value of DER that can be changed: its identifier octet, and its contents or its members."""
+
+    def __init__(self, first, inside):
+        self.first, self.inside = first, inside
+
+    def octets(self):
+        inside = self.inside if isinstance(self.inside, bytes) else b"".join(value.octets() for value in self.inside)
+        return tlv(self.first, inside)
+
+
+def values_of(octets):
+    """The values that octets are: tags of one octet."""
+    found, place = [], 0
+    while place < len(octets):
+        count = octets[place + 1] - 0x80 if octets[place + 1] >= 0x80 else 0
+        head = place + 2 + count
+        length = int.from_bytes(octets[place + 2:head], "big") if count else octets[place + 1]
+        inside = octets[head:head + length]
+        found.append(Value(octets[place], values_of(inside) if octets[place] & 0x20 else inside))
+        place = head + length
+    return found
+
+
+def oid(text):
+    """The contents of an object identifier."""
+    first, second, *others = map(int, text.split("."))
+    octets = b""
+    for arc in [40 * first + second, *others]:
+        digits = [arc % 128]
+        while arc >= 128:
+            arc //= 128
+            digits.insert(0, 128 + arc % 128)
+        octets += bytes(digits)
+    return octets
+
+
+CONSTRAINTS, SUBJECT_KEY, AUTHORITY_KEY, USAGE = "2.5.29.19", "2.5.29.14", "2.5.29.35", "2.5.29.15"
+REVOCATION, POLICIES, PURPOSES = "2.5.29.31", "2.5.29.32", "2.5.29.37"
+AUTHORITY_ACCESS, SUBJECT_ACCESS = "1.3.6.1.5.5.7.1.1", "1.3.6.1.5.5.7.1.11"
+ADDRESSES, NUMBERS, UNKNOWN = "1.3.6.1.5.5.7.1.7", "1.3.6.1.5.5.7.1.8", "1.3.6.1.4.1.99999.1"
+CA_ISSUERS, OCSP, REPOSITORY = "1.3.6.1.5.5.7.48.2", "1.3.6.1.5.5.7.48.1", "1.3.6.1.5.5.7.48.5"
+MANIFEST, OBJECT = "1.3.6.1.5.5.7.48.10", "1.3.6.1.5.5.7.48.11"
+POLICY, POLICY_V2 = "1.3.6.1.5.5.7.14.2", "1.3.6.1.5.5.7.14.3"
+ROUTER, SERVER = "1.3.6.1.5.5.7.3.30", "1.3.6.1.5.5.7.3.1"
+END_ENTITY_USAGE = bytes.fromhex("03020780")
+POINT, SECURE = b"rsync://example.net/m/a.crl", b"https://example.net/a.crl"
+
+
+class Certificate:
+    """A certificate that can be changed."""
+
+    def __init__(self):
+        self.whole = values_of(CERTIFICATE)[0]
+        self.tbs, self.algorithm, self.signature = self.whole.inside
+        (self.version, self.serial, self.inner_algorithm, self.issuer, self.validity, self.subject, self.key,
+         self.context_3) = self.tbs.inside
+        self.list = self.context_3.inside[0]
+
+    def octets(self):
+        return self.whole.octets()
+
+    def extension(self, identifier):
+        return next(each for each in self.list.inside if each.inside[0].inside == oid(identifier))
+
+    def remove(self, *identifiers):
+        for identifier in identifiers:
+            self.list.inside.remove(self.extension(identifier))
+
+    def add(self, identifier, content, critical=False):
+        flag = [Value(1, b"\xff")] if critical else []
+        self.list.inside.append(Value(0x30, [Value(6, oid(identifier)), *flag, Value(4, content)]))
+
+    def put(self, identifier, content):
+        self.extension(identifier).inside[-1].inside = content
+
+    def turn(self, identifier):
+        """Makes a critical extension one that isn't, and the other way round."""
+        members = self.extension(identifier).inside
+        if members[1].first == 1:
+            del members[1]
+        else:
+            members.insert(1, Value(1, b"\xff"))
+
+    def stamp(self):
+        """Signs it as the tests do."""
+        self.signature.inside = b"\0" + hashlib.sha256(self.tbs.octets()).digest()
+        return self.octets()
+
+
+def names(*identifiers):
+    return sequence(*(tlv(6, oid(identifier)) for identifier in identifiers))
+
+
+def policies(*members):
+    return sequence(*members)
+
+
+def policy(identifier, *qualifiers):
+    return sequence(tlv(6, oid(identifier)), *([sequence(*qualifiers)] if qualifiers else []))
+
+
+STATEMENT = sequence(tlv(6, oid("1.3.6.1.5.5.7.2.1")), tlv(22, b"https://example.net/cps"))
+NOTICE = sequence(tlv(6, oid("1.3.6.1.5.5.7.2.2")), sequence())
+
+
+def point(*general_names, more=b""):
+    return sequence(tlv(0xa0, tlv(0xa0, b"".join(general_names))) + more)
+
+
+def uri(text):
+    return tlv(0x86, text)
+
+
+def accesses(*pairs):
+    return sequence(*(sequence(tlv(6, oid(method)), name) for method, name in pairs))
+
+
+# What is expected of an error, whatever its text.
+SOME_ERROR = "an error"
+NOT_AS_CRITICAL = "extension is not as critical as it has to be"
+
+
+def version(octet):
+    def change(it):
+        it.version.inside[0].inside = bytes([octet])
+    return change
+
+
+def serial(contents):
+    def change(it):
+        it.serial.inside = contents
+    return change
+
+
+def put(identifier, content):
+    return lambda it: it.put(identifier, content)
+
+
+def turn(identifier):
+    return lambda it: it.turn(identifier)
+
+
+def add(identifier, content, critical=False, times=1):
+    def change(it):
+        for _ in range(times):
+            it.add(identifier, content, critical)
+    return change
+
+
+def remove(*identifiers):
+    return lambda it: it.remove(*identifiers)
+
+
+def one_parameter_less(it):
+    it.inner_algorithm.inside = it.inner_algorithm.inside[:1]
+
+
+def no_version(it):
+    it.tbs.inside.remove(it.version)
+
+
+def no_extensions(it):
+    it.tbs.inside.remove(it.context_3)
+
+
+def empty_list(it):
+    it.list.inside = []
+
+
+def after_extensions(it):
+    it.tbs.inside.append(Value(5, b""))
+
+
+def after_list(it):
+    it.context_3.inside.append(Value(5, b""))
+
+
+def end_entity(it):
+    it.remove(CONSTRAINTS)
+    it.put(USAGE, END_ENTITY_USAGE)
+    it.put(SUBJECT_ACCESS, accesses((OBJECT, uri(b"rsync://example.net/m/o.roa"))))
+
+
+def anchor(it):
+    it.remove(REVOCATION, AUTHORITY_ACCESS)
+
+
+def router(it):
+    it.remove(CONSTRAINTS, SUBJECT_ACCESS, ADDRESSES)
+    it.put(USAGE, END_ENTITY_USAGE)
+    it.add(PURPOSES, names(ROUTER))
+    curve = [Value(6, oid("1.2.840.10045.2.1")), Value(6, oid("1.2.840.10045.3.1.7"))]
+    it.key.inside = [Value(0x30, curve), Value(3, b"\0\4" + bytes(64))]
+
+
+def router_with_addresses(it):
+    router(it)
+    it.add(ADDRESSES, sequence(), critical=True)
+
+
+# A name, the change, and the lines that are expected.
+VARIANTS = [
+    ("as it is", lambda it: None, {"inspect_ca": "ok", "basic_ca": "true", "extensions": "10"}),
+    ("version 2", version(1), {"rejected": SOME_ERROR}),
+    ("version 1", version(0), {"rejected": SOME_ERROR}),
+    ("no version", no_version, {"rejected": SOME_ERROR}),
+    ("serial number 0", serial(b"\x00"), {"inspect_ca": SOME_ERROR}),
+    ("serial number below 0", serial(b"\x80"), {"rejected": SOME_ERROR}),
+    ("serial number of 21 octets", serial(b"\x01" + bytes(20)), {"rejected": SOME_ERROR}),
+    ("algorithms that differ", one_parameter_less, {"rejected": "signature algorithms differ"}),
+    ("an empty list of extensions", empty_list, {"rejected": SOME_ERROR}),
+    ("no extensions", no_extensions, {"rejected": SOME_ERROR}),
+    ("a known extension twice", lambda it: it.list.inside.append(it.extension(SUBJECT_KEY)),
+     {"rejected": "duplicate extension"}),
+    ("an unknown extension twice", add(UNKNOWN, b"", times=2), {"rejected": "duplicate extension"}),
+    ("an unknown extension", add(UNKNOWN, b""), {"inspect_ca": "ok", "extensions": "11"}),
+    ("an unknown critical extension", add(UNKNOWN, b"", critical=True), {"inspect_ca": "unknown critical extension"}),
+    ("a value after the extensions", after_extensions, {"rejected": "trailing data"}),
+    ("a value after their list", after_list, {"rejected": "trailing data"}),
+    ("basic constraints, not critical", turn(CONSTRAINTS),
+     {"basic_ca": NOT_AS_CRITICAL, "inspect_ca": NOT_AS_CRITICAL}),
+    ("empty basic constraints", put(CONSTRAINTS, sequence()), {"inspect_ca": SOME_ERROR}),
+    ("a path length", put(CONSTRAINTS, bytes.fromhex("30060101ff020100")), {"inspect_ca": SOME_ERROR}),
+    ("FALSE, spelled", put(CONSTRAINTS, bytes.fromhex("3003010100")), {"inspect_ca": SOME_ERROR}),
+    ("no basic constraints", remove(CONSTRAINTS), {"basic_ca": "false", "inspect_ca": SOME_ERROR}),
+    ("a critical subject key identifier", turn(SUBJECT_KEY), {"subject_key_identifier": NOT_AS_CRITICAL}),
+    ("one of 19 octets", put(SUBJECT_KEY, tlv(4, bytes(19))), {"subject_key_identifier": "invalid key identifier"}),
+    ("no subject key identifier", remove(SUBJECT_KEY),
+     {"subject_key_identifier": "none", "inspect_ca": SOME_ERROR}),
+    ("an authority key identifier with a serial number",
+     put(AUTHORITY_KEY, sequence(tlv(0x80, bytes(20)), tlv(0x82, b"\x01"))),
+     {"authority_key_identifier": SOME_ERROR, "inspect_ca": SOME_ERROR}),
+    ("no authority key identifier", remove(AUTHORITY_KEY),
+     {"authority_key_identifier": "none", "inspect_ca": SOME_ERROR}),
+    ("the usage of an end entity", put(USAGE, END_ENTITY_USAGE),
+     {"key_usage_of_ca": "false", "inspect_ca": SOME_ERROR}),
+    ("a third usage", put(USAGE, bytes.fromhex("03020186")), {"key_usage_of_ca": SOME_ERROR}),
+    ("usage with bits after the last that is set", put(USAGE, bytes.fromhex("03020006")),
+     {"key_usage_of_ca": SOME_ERROR}),
+    ("usage, not critical", turn(USAGE), {"key_usage_of_ca": NOT_AS_CRITICAL}),
+    ("no usage", remove(USAGE), {"key_usage_of_ca": "none", "inspect_ca": SOME_ERROR}),
+    ("the purpose of a router", add(PURPOSES, names(ROUTER)),
+     {"extended_key_usage": "true", "inspect_ca": SOME_ERROR}),
+    ("another purpose", add(PURPOSES, names(SERVER)), {"extended_key_usage": "false"}),
+    ("two purposes", add(PURPOSES, names(SERVER, ROUTER)), {"extended_key_usage": "true"}),
+    ("no purpose", add(PURPOSES, sequence()), {"extended_key_usage": SOME_ERROR}),
+    ("the policy of RFC 8360", put(POLICIES, policies(policy(POLICY_V2))),
+     {"overclaim_trims": "true", "inspect_ca": "ok"}),
+    ("any policy", put(POLICIES, policies(policy("2.5.29.32.0"))), {"overclaim_trims": SOME_ERROR}),
+    ("two policies", put(POLICIES, policies(policy(POLICY), policy(POLICY_V2))), {"overclaim_trims": SOME_ERROR}),
+    ("no policy", put(POLICIES, policies()), {"overclaim_trims": SOME_ERROR}),
+    ("a practice statement", put(POLICIES, policies(policy(POLICY, STATEMENT))),
+     {"overclaim_trims": "false", "inspect_ca": "ok"}),
+    ("two statements", put(POLICIES, policies(policy(POLICY, STATEMENT, STATEMENT))), {"overclaim_trims": SOME_ERROR}),
+    ("a user notice", put(POLICIES, policies(policy(POLICY, NOTICE))), {"overclaim_trims": SOME_ERROR}),
+    ("policies, not critical", turn(POLICIES), {"overclaim_trims": NOT_AS_CRITICAL}),
+    ("no policies", remove(POLICIES), {"overclaim_trims": "none", "inspect_ca": SOME_ERROR}),
+    ("a point with an https URI first", put(REVOCATION, sequence(point(uri(SECURE), uri(POINT)))),
+     {"crl_uri": POINT.decode(), "inspect_ca": "ok"}),
+    ("a point with an https URI alone", put(REVOCATION, sequence(point(uri(SECURE)))),
+     {"crl_uri": "none", "inspect_ca": SOME_ERROR}),
+    ("two points", put(REVOCATION, sequence(point(uri(POINT)), point(uri(POINT)))), {"crl_uri": SOME_ERROR}),
+    ("a point with reasons", put(REVOCATION, sequence(point(uri(POINT), more=tlv(0x81, b"\x01\x02")))),
+     {"crl_uri": SOME_ERROR}),
+    ("a point of a host", put(REVOCATION, sequence(point(tlv(0x82, b"example.net")))), {"crl_uri": SOME_ERROR}),
+    ("no point", put(REVOCATION, sequence()), {"crl_uri": SOME_ERROR}),
+    ("critical points", turn(REVOCATION), {"crl_uri": NOT_AS_CRITICAL}),
+    ("other ways to the issuer", put(AUTHORITY_ACCESS, accesses(
+        (OCSP, uri(POINT)), (CA_ISSUERS, uri(SECURE)), (CA_ISSUERS, uri(b"rsync://example.net/m/b.cer")))),
+     {"ca_issuer": "rsync://example.net/m/b.cer", "inspect_ca": "ok"}),
+    ("no way to the issuer", put(AUTHORITY_ACCESS, accesses((OCSP, uri(POINT)))),
+     {"ca_issuer": "none", "inspect_ca": SOME_ERROR}),
+    ("an empty list of ways", put(AUTHORITY_ACCESS, sequence()), {"ca_issuer": SOME_ERROR}),
+    ("no access to the subject", remove(SUBJECT_ACCESS), {"ca_repository": "none", "inspect_ca": SOME_ERROR}),
+    ("no manifest", put(SUBJECT_ACCESS, accesses((REPOSITORY, uri(b"rsync://example.net/m/")))),
+     {"rpki_manifest": "none", "inspect_ca": SOME_ERROR}),
+    ("other names of the repository", put(SUBJECT_ACCESS, accesses(
+        (REPOSITORY, uri(SECURE)), (REPOSITORY, tlv(0x82, b"example.net")),
+        (REPOSITORY, uri(b"rsync://example.net/m/")), (MANIFEST, uri(b"rsync://example.net/m/m.mft")))),
+     {"ca_repository": "rsync://example.net/m/", "rpki_notify": "none", "inspect_ca": "ok"}),
+    ("addresses, not critical", turn(ADDRESSES), {"inspect_ca": SOME_ERROR}),
+    ("no resources", remove(ADDRESSES, NUMBERS), {"inspect_ca": SOME_ERROR}),
+    ("numbers alone", remove(ADDRESSES), {"inspect_ca": "ok"}),
+    ("addresses alone", remove(NUMBERS), {"inspect_ca": "ok"}),
+    ("an end entity", end_entity,
+     {"inspect_ee": "ok", "inspect_ca": SOME_ERROR, "signed_object": "rsync://example.net/m/o.roa"}),
+    ("a trust anchor", anchor, {"inspect_ta": "ok", "inspect_ca": SOME_ERROR}),
+    ("a router", router, {"inspect_router": "ok", "inspect_ee": SOME_ERROR}),
+    ("a router with addresses", router_with_addresses, {"inspect_router": SOME_ERROR}),
+]
+
+# What a line says where it says no error.
+PLAIN = {"ok", "none", "true", "false", "out of memory"}
+
+
+def told(octets, programs):
+    """The lines that are told of a certificate, by their first words."""
+    seen = run(programs.calls, ["certificate", "read"], octets)
+    assert seen.status == 0 and seen.faults == b"", seen
+    return dict(line.split(" ", 1) for line in seen.output.decode().splitlines())
+
+
+def as_expected(text, expected):
+    """The text, or that it is an error where one is expected."""
+    is_error = text is not None and text not in PLAIN and "://" not in text
+    return SOME_ERROR if expected == SOME_ERROR and is_error else text
+
+
+def certificate_variants(programs):
+    """Each variant is read, or says what is expected of it."""
+    for name, change, expected in VARIANTS:
+        it = Certificate()
+        change(it)
+        lines = told(it.octets(), programs)
+        yield name, {word: as_expected(lines.get(word), text) for word, text in expected.items()}, expected
+
+
+def certificate_beginnings(programs):
+    """Each proper beginning is truncated, and a certificate with another octet has trailing data."""
+    for count in range(len(CERTIFICATE)):
+        yield f"{count} octets", told(CERTIFICATE[:count], programs), {"rejected": "truncated value"}
+    yield "another octet", told(CERTIFICATE + b"\0", programs), {"rejected": "trailing data"}
+
+
+def named(text):
+    """A name of one common name."""
+    return Value(0x30, [Value(0x31, [Value(0x30, [Value(6, oid("2.5.4.3")), Value(0x13, text.encode())])])])
+
+
+def identifier_of(it):
+    """The key identifier (RFC 6487 4.8.2)."""
+    return hashlib.sha1(it.key.inside[1].inside[1:]).digest()
+
+
+def issued(name, octet, issuer=None):
+    """A certificate of a key of its own, issued by another, or by itself."""
+    it = Certificate()
+    bits = it.key.inside[1]
+    bits.inside = bits.inside[:20] + bytes([octet]) + bits.inside[21:]
+    around = issuer or it
+    it.tbs.inside[5] = it.subject = named(name)
+    it.tbs.inside[3] = it.issuer = around.subject
+    it.put(SUBJECT_KEY, tlv(4, identifier_of(it)))
+    it.put(AUTHORITY_KEY, sequence(tlv(0x80, identifier_of(around))))
+    return it
+
+
+def period_of(it, first, last):
+    it.validity.inside = [Value(0x17, first.encode()), Value(0x17, last.encode())]
+
+
+MOMENT = "2027-06-01T00:00:00Z"
+OK_ANCHOR, OK_ISSUED = "verify_ta ok", "verify_issued ok"
+
+
+def chain():
+    """An anchor, an authority, and an end entity, whose periods are the same."""
+    first = issued("anchor", 1)
+    second = issued("authority", 2, first)
+    third = issued("entity", 3, second)
+    for it in (first, second, third):
+        period_of(it, "270101000000Z", "280101000000Z")
+    return first, second, third
+
+
+def verified(programs, octets, moment=MOMENT):
+    """The lines that are told of a chain; an error is told as such."""
+    seen = run(programs.calls, ["certificate", "chain", moment], octets)
+    lines = seen.output.decode().splitlines()
+    return seen.status, [line if line.endswith(" ok") else line.split()[0] + " error" for line in lines]
+
+
+def authority_of(issuer):
+    def change(it):
+        it.put(AUTHORITY_KEY, sequence(tlv(0x80, identifier_of(issuer))))
+    return change
+
+
+def another_issuer(it):
+    it.tbs.inside[3] = named("another")
+
+
+# A name, what is changed of the last certificate before it is signed, and whether it is verified all the same.
+LINKS = [
+    ("as it is", lambda first, it: None, True),
+    ("another issuer's name", lambda first, it: another_issuer(it), False),
+    ("the anchor's key identifier", lambda first, it: authority_of(first)(it), False),
+    ("no authority key identifier", lambda first, it: it.remove(AUTHORITY_KEY), False),
+    ("another subject key identifier", lambda first, it: it.put(SUBJECT_KEY, tlv(4, bytes(20))), False),
+    ("no subject key identifier", lambda first, it: it.remove(SUBJECT_KEY), False),
+    ("an unknown critical extension", lambda first, it: it.add(UNKNOWN, b"", critical=True), False),
+    ("an unknown extension", lambda first, it: it.add(UNKNOWN, b""), True),
+    ("a period that is over", lambda first, it: period_of(it, "250101000000Z", "260101000000Z"), False),
+    ("a period to come", lambda first, it: period_of(it, "280101000000Z", "290101000000Z"), False),
+]
+
+# A name, a moment, and whether the chain, of the year 2027 to its first second after, is verified.
+MOMENTS = [
+    ("the second before", "2026-12-31T23:59:59Z", False),
+    ("the first second", "2027-01-01T00:00:00Z", True),
+    ("the last second", "2028-01-01T00:00:00Z", True),
+    ("the second after", "2028-01-01T00:00:01Z", False),
+]
+
+
+def certificate_chains(programs):
+    """A chain is verified exactly where each certificate is issued by the one before it, at this moment."""
+    first, second, third = (it.stamp() for it in chain())
+    yield "in order", verified(programs, first + second + third), (0, [OK_ANCHOR, OK_ISSUED, OK_ISSUED])
+    yield "one left out", verified(programs, first + third), (0, [OK_ANCHOR, "verify_issued error"])
+    yield "no anchor first", verified(programs, second), (0, ["verify_ta error"])
+    for name, moment, good in MOMENTS:
+        expected = [OK_ANCHOR, OK_ISSUED] if good else ["verify_ta error", "verify_issued error"]
+        yield name, verified(programs, first + second, moment), (0, expected)
+    for name, change, good in LINKS:
+        anchor_, authority, entity = chain()
+        change(anchor_, entity)
+        octets = anchor_.stamp() + authority.stamp() + entity.stamp()
+        last = OK_ISSUED if good else "verify_issued error"
+        yield name, verified(programs, octets), (0, [OK_ANCHOR, OK_ISSUED, last])
+
+
+def changed_certificates(programs):
+    """No change of one octet of what is signed, or of the signature, is verified."""
+    octets = chain()[0].stamp()
+    tbs = values_of(octets)[0].inside[0].octets()
+    start = octets.index(tbs)
+    places = [*range(start, start + len(tbs)), *range(len(octets) - 32, len(octets))]
+    for place in places:
+        changed = octets[:place] + bytes([octets[place] ^ 1]) + octets[place + 1:]
+        status, lines = verified(programs, changed)
+        yield f"octet {place}", (status in (0, 1), OK_ANCHOR in lines), (True, False)
+
+
+def refused_certificates(programs):
+    """With an allocation refused a line says what it says with memory, or that memory ran out."""
+    full = run(programs.calls, ["certificate", "read"], CERTIFICATE).output.splitlines()
+    with Shim() as shim:
+        refused = 0
+        for alone in (True, False):
+            for allocation, met, seen in shim.runs(programs.calls, ["certificate", "read"], CERTIFICATE, alone):
+                refused += met
+                lines = seen.output.splitlines()
+                pairs = zip(lines, full)
+                whole = len(lines) == len(full) and all(line in (b"out of memory", other) for line, other in pairs)
+                nothing = (seen.status, lines) in [(0, [b"out of memory"]), (1, [])]
+                yield f"allocation {allocation}, {alone}", whole or (met and nothing), True
+        return f"{refused} refused allocations"
+
+
+TABLES = [
+    certificate_variants, certificate_beginnings, certificate_chains, changed_certificates, refused_certificates,
+]
