@@ -9,7 +9,7 @@ use std::alloc::Global;
 enum Reader {
     /// It reads that many small numbers.
     Numbers(usize),
-    /// It reads a SEQUENCE of small numbers.
+    /// It reads a SEQUENCE of two small numbers.
     Sequence,
     /// It reads one header, and no contents.
     Header,
@@ -17,7 +17,15 @@ enum Reader {
     Elsewhere,
 }
 
-fn read(alloc: Global, reader: Reader, cons: &mut Constructed<'_>) -> Result<(), DecodeError> {
+fn read_header(cons: &mut Constructed<'_>) -> Result<(), DecodeError> {
+    let mut steps = Steps::new();
+    match cons.take_header(&mut steps) {
+        Ok(_) => Ok(()),
+        Err(e) => Err(e),
+    }
+}
+
+fn read(reader: Reader, cons: &mut Constructed<'_>) -> Result<(), DecodeError> {
     match reader {
         Reader::Numbers(count) => {
             for _ in 0..count {
@@ -25,11 +33,12 @@ fn read(alloc: Global, reader: Reader, cons: &mut Constructed<'_>) -> Result<(),
             }
         }
         Reader::Sequence => {
-            cons.in_sequence(|contents| contents.take_each(alloc, |cons| cons.take_u8()))?;
+            let mut contents = cons.take_sequence()?;
+            contents.take_u8()?;
+            contents.take_u8()?;
+            contents.finish()?;
         }
-        Reader::Header => {
-            cons.take_header(&mut Steps::new())?;
-        }
+        Reader::Header => read_header(cons)?,
         Reader::Elsewhere => *cons = Constructed::from_slice(&[5, 0, 5, 0]),
     }
     Ok(())
@@ -100,10 +109,7 @@ fn is_kept(
     reader: Reader,
     expected: Result<(&[u8], usize), Kind>,
 ) -> bool {
-    match (
-        cursor.capture(alloc, |cons| read(alloc, reader, cons)),
-        expected,
-    ) {
+    match (cursor.capture(alloc, |cons| read(reader, cons)), expected) {
         (Ok(kept), Ok((octets, headers))) => {
             kept.as_slice() == octets && kept.headers().len() == headers
         }
