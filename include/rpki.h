@@ -12,8 +12,8 @@
  * What a call takes of memory it frees before it returns. At the peak rpki_walk, rpki_index, rpki_fault and
  * rpki_signed_data take up to 24 octets for each level of nesting, and 64 more; rpki_name_inspect takes the same of a
  * constructed value of an attribute. Those that write values or base 64, and rpki_base64_read, take copies of what they
- * read and of what they write, and for signed data an index of its headers. All others take none (rpki_time_years_on,
- * rpki_hex and the calls on URIs too), and so never return RPKI_OUT_OF_MEMORY.
+ * read and of what they write, and for signed data an index of its headers. All others take none (rpki_hex,
+ * rpki_serial_decimal, those that count times on, and the calls on URIs too), and so never return RPKI_OUT_OF_MEMORY.
  * So bound the size of what strangers send before you hand it in.
  *
  * What the caller owes, which no call can check:
@@ -126,6 +126,28 @@ enum {
     RPKI_INVALID_LAST_SYMBOL = 42, /* the last symbol has bits that stand for nothing */
     RPKI_INVALID_PADDING = 43,     /* padding is missing, or there is too much of it */
 
+    /* Of rpki_validity_at: why a period doesn't hold at a moment. */
+    RPKI_TOO_NEW = 50, /* the period begins after the moment */
+    RPKI_TOO_OLD = 51, /* the period ended before the moment */
+
+    /* Of rpki_certificate: the part that is wrong. */
+    RPKI_PART_CERTIFICATE = 64,           /* the SEQUENCE around all: it isn't there, or something follows it */
+    RPKI_PART_SIGNED = 65,                /* what is signed is no value, with everything nested in it */
+    RPKI_PART_ALGORITHM = 66,             /* the algorithm identifier behind it is not that of RSA with SHA-256 */
+    RPKI_PART_SIGNATURE = 67,             /* the signature: it is no BIT STRING, or something follows it */
+    RPKI_PART_TBS = 68,                   /* what is signed is no SEQUENCE */
+    RPKI_PART_VERSION = 69,               /* the version is not v3 */
+    RPKI_PART_SERIAL_NUMBER = 70,         /* the serial number is no unsigned INTEGER of at most 20 octets */
+    RPKI_PART_TBS_ALGORITHM = 71,         /* the algorithm identifier in what is signed */
+    RPKI_PART_ISSUER = 72,                /* the issuer is no name */
+    RPKI_PART_VALIDITY = 73,              /* the period of validity */
+    RPKI_PART_SUBJECT = 74,               /* the subject is no name */
+    RPKI_PART_PUBLIC_KEY = 75,            /* the subject's key */
+    RPKI_PART_EXTENSIONS = 76,            /* the extensions: there are none, one is malformed, or something follows */
+    RPKI_PART_EXTENSION_COUNT = 77,       /* there are more extensions than RPKI_MOST_EXTENSIONS */
+    RPKI_PART_EXTENSION_IDENTIFIERS = 78, /* two extensions have the same identifier */
+    RPKI_PART_SAME_ALGORITHM = 79,        /* the two algorithm identifiers differ in their parameters */
+
     /* Calls on two texts add this to the number of what is wrong with the second. */
     RPKI_SECOND = 16,
 
@@ -235,6 +257,25 @@ struct rpki_extension_parts {
     bool critical;            /* false where there is no BOOLEAN */
 };
 
+/* How many extensions of a certificate rpki_certificate compares with one another at most. */
+#define RPKI_MOST_EXTENSIONS 64
+
+/* The parts of a certificate (RFC 5280 4.1). Names and the key have their headers, for the calls that read them. */
+struct rpki_certificate_parts {
+    struct rpki_place data;       /* what is signed: a SEQUENCE, its header included */
+    struct rpki_place algorithm;  /* the algorithm identifier behind it, its header included */
+    struct rpki_place signature;  /* the octets of the signature's bits */
+    struct rpki_place issuer;     /* the issuer's name, its header included */
+    struct rpki_place subject;    /* the subject's name, its header included */
+    struct rpki_place public_key; /* the subject's key, its header included */
+    struct rpki_place extensions; /* the extensions, one after another, each with its header */
+    struct rpki_period validity;  /* the period of validity */
+    uint8_t serial_number[20];    /* the serial number, with zeros in front */
+    uint8_t key_format;           /* RPKI_RSA or RPKI_ECDSA_P256 */
+    uint8_t key_unused;           /* how many bits of the key's last octet are unused: 0 to 7 */
+    bool has_parameters;          /* whether the algorithm identifiers have parameters, a NULL */
+};
+
 /* The parts of an rsync URI, rsync://AUTHORITY/MODULE/PATH (RFC 5781). */
 struct rpki_rsync_parts {
     struct rpki_place authority;   /* not empty; a port stands in it */
@@ -298,6 +339,19 @@ RPKI_ASSERT(extension_parts, sizeof(struct rpki_extension_parts) == 40);
 RPKI_ASSERT_AT(extension_parts, id, 0);
 RPKI_ASSERT_AT(extension_parts, octets, 16);
 RPKI_ASSERT_AT(extension_parts, critical, 32);
+RPKI_ASSERT(certificate_parts, sizeof(struct rpki_certificate_parts) == 200);
+RPKI_ASSERT_AT(certificate_parts, data, 0);
+RPKI_ASSERT_AT(certificate_parts, algorithm, 16);
+RPKI_ASSERT_AT(certificate_parts, signature, 32);
+RPKI_ASSERT_AT(certificate_parts, issuer, 48);
+RPKI_ASSERT_AT(certificate_parts, subject, 64);
+RPKI_ASSERT_AT(certificate_parts, public_key, 80);
+RPKI_ASSERT_AT(certificate_parts, extensions, 96);
+RPKI_ASSERT_AT(certificate_parts, validity, 112);
+RPKI_ASSERT_AT(certificate_parts, serial_number, 176);
+RPKI_ASSERT_AT(certificate_parts, key_format, 196);
+RPKI_ASSERT_AT(certificate_parts, key_unused, 197);
+RPKI_ASSERT_AT(certificate_parts, has_parameters, 198);
 RPKI_ASSERT(rsync_parts, sizeof(struct rpki_rsync_parts) == 48);
 RPKI_ASSERT_AT(rsync_parts, authority, 0);
 RPKI_ASSERT_AT(rsync_parts, module_name, 16);
@@ -419,6 +473,21 @@ rpki_status rpki_validity(const uint8_t *octets, size_t size, struct rpki_period
  * STRING. A BOOLEAN that is FALSE, which DER leaves out, is read. What is in the OCTET STRING is not looked at.
  */
 rpki_status rpki_extension(const uint8_t *octets, size_t size, struct rpki_extension_parts *out);
+
+/* ---- Certificates: all of the octets are one ---- */
+
+/*
+ * Reads a resource certificate (RFC 5280 4.1, in the form of RFC 6487 4), and says what its parts are and where they
+ * stand: signed data of RSA with SHA-256; version 3; each extension's identifier once; and what is signed names the
+ * same algorithm. Names have attributes with any values; rpki_name_inspect holds them to a profile. The extensions are
+ * read one after another with rpki_header and rpki_extension. Whether they are those of a profile, and whether the
+ * signature is that of a key, is not looked at. Takes no memory.
+ *
+ * Where a status is not 0, it is an RPKI_PART_ number: from 64 to 67 the part of the signed data that is wrong, the
+ * leftmost; else from 68 to 78 the part of what is signed, the leftmost; else 79. RPKI_PART_EXTENSION_COUNT says
+ * nothing else of the octets: the certificate may be well-formed. No certificate of the RPKI has so many.
+ */
+rpki_status rpki_certificate(const uint8_t *octets, size_t size, struct rpki_certificate_parts *out);
 
 /* ---- URIs ---- */
 
@@ -618,6 +687,15 @@ rpki_status rpki_base64_read(const uint8_t *text, size_t size, uint8_t flavour, 
 rpki_status rpki_signed_data_write(const uint8_t *octets, size_t size, uint8_t *out, size_t capacity, size_t *written);
 
 /*
+ * Signed data of the RPKI (RFC 5280 4.1, RFC 7935 2): exactly the octets of the value, sha256WithRSAEncryption with
+ * NULL for parameters, and the signature with no unused bits. The statuses are those of the calls that read values,
+ * where the octets are not one value, with all that is nested in it, and nothing else. RPKI_TOO_LONG: its contents
+ * would have 2^32 octets or more.
+ */
+rpki_status rpki_signed_data_make(const uint8_t *value, size_t size, const uint8_t *signature, size_t signature_size,
+                                  uint8_t *out, size_t capacity, size_t *written);
+
+/*
  * The public key that the octets are, as it is written: with NULL for the parameters of RSA. The statuses are those of
  * rpki_public_key too. RPKI_TOO_LONG: its contents would have 2^32 octets or more.
  */
@@ -641,6 +719,83 @@ rpki_status rpki_rsa_key_of_bits(const uint8_t *bits, size_t size, uint8_t *out,
  * identifier (RFC 6487 4.5). The statuses are those of rpki_public_key too.
  */
 rpki_status rpki_name_of_key(const uint8_t *octets, size_t size, uint8_t *out, size_t capacity, size_t *written);
+
+/*
+ * The extension of a certificate (RFC 5280 4.1) with these contents octets of its identifier, which are not looked at,
+ * and an OCTET STRING of the octets. Where it is not critical the BOOLEAN is left out. RPKI_TOO_LONG: as of
+ * rpki_public_key_write.
+ */
+rpki_status rpki_extension_write(const uint8_t *id, size_t id_size, bool critical, const uint8_t *octets, size_t size,
+                                 uint8_t *out, size_t capacity, size_t *written);
+
+/* ---- Digits ---- */
+
+/*
+ * The decimal digits of a serial number, at most 48, without zeros in front. Written as above; takes no memory.
+ * RPKI_CONTENT: the first bit is set.
+ */
+rpki_status rpki_serial_decimal(const uint8_t serial[20], uint8_t *out, size_t capacity, size_t *written);
+
+/*
+ * The twenty octets of the serial number that decimal digits write, of which any number of zeros may stand in front.
+ * RPKI_CONTENT: there are none, another octet is among them, or the number is 2^159 or more.
+ */
+rpki_status rpki_serial_of_decimal(const uint8_t *text, size_t size, uint8_t out[20]);
+
+/*
+ * The twenty octets of the serial number that the octets write, the most significant first. RPKI_CONTENT: there are
+ * none, more than twenty, or twenty of which the first bit is set.
+ */
+rpki_status rpki_serial_of_octets(const uint8_t *octets, size_t size, uint8_t out[20]);
+
+/*
+ * The twenty octets of a key identifier that is all of the octets: an OCTET STRING of twenty (RFC 6487 4.8.2). The
+ * statuses are those of the calls that read values; RPKI_CONTENT: another number of octets.
+ */
+rpki_status rpki_key_identifier_read(const uint8_t *octets, size_t size, uint8_t out[20]);
+
+/*
+ * The twenty octets of the key identifier that forty hexadecimal digits of either case write; rpki_hex writes them.
+ * RPKI_CONTENT: the text is not forty of them.
+ */
+rpki_status rpki_key_identifier_of_hex(const uint8_t *text, size_t size, uint8_t out[20]);
+
+/* ---- Times and periods ---- */
+
+/* Of a moment that is passed to these calls the seconds are not looked at. */
+
+/* As rpki_time_write, but UTC time in any year, with its last two digits (X.690 11.8): 15 octets. */
+rpki_status rpki_time_write_utc(const struct rpki_moment *moment, uint8_t *out, size_t capacity, size_t *written);
+
+/* As rpki_time_write, but generalized time in any year (X.690 11.7): 17 octets. */
+rpki_status rpki_time_write_generalized(const struct rpki_moment *moment, uint8_t *out, size_t capacity,
+                                        size_t *written);
+
+/*
+ * The moment so many seconds later, or earlier, every day with 86,400. Takes no memory. `out` is written where the
+ * status is RPKI_OK. RPKI_CONTENT and RPKI_NO_ANSWER: as of rpki_time_years_on.
+ */
+rpki_status rpki_time_seconds_on(const struct rpki_moment *moment, int64_t seconds, struct rpki_moment *out);
+
+/*
+ * The value of a period of validity, of at most 36 octets: a SEQUENCE of two times, each as rpki_time_write writes it.
+ * RPKI_CONTENT: the years 0 to 9999 have no such moment as one of the two.
+ */
+rpki_status rpki_validity_write(const struct rpki_period *period, uint8_t *out, size_t capacity, size_t *written);
+
+/*
+ * Whether the period holds at the moment; it does at both of its ends (RFC 5280 4.1.2.5). Takes no memory.
+ * RPKI_TOO_NEW: it begins after the moment. Else RPKI_TOO_OLD: it ended before the moment. RPKI_CONTENT: the years 0 to
+ * 9999 have no such moment as one of the three.
+ */
+rpki_status rpki_validity_at(const struct rpki_period *period, const struct rpki_moment *moment);
+
+/*
+ * The period that holds exactly where both do: from the later start to the earlier end. Takes no memory. RPKI_CONTENT:
+ * the years 0 to 9999 have no such moment as one of the four; then `out` is left as it was.
+ */
+rpki_status rpki_validity_trim(const struct rpki_period *period, const struct rpki_period *other,
+                               struct rpki_period *out);
 
 /* ---- In this header alone: nothing below is in the library, and nothing below is proved ---- */
 
@@ -690,6 +845,24 @@ static inline const char *rpki_status_text(int kind, rpki_status status) {
         case RPKI_INVALID_LENGTH: return "no length of base 64";
         case RPKI_INVALID_LAST_SYMBOL: return "no last symbol of base 64";
         case RPKI_INVALID_PADDING: return "other padding of base 64";
+        case RPKI_TOO_NEW: return "object is not yet valid";
+        case RPKI_TOO_OLD: return "object has expired";
+        case RPKI_PART_CERTIFICATE: return "not a certificate";
+        case RPKI_PART_SIGNED: return "malformed signed data";
+        case RPKI_PART_ALGORITHM: return "malformed signature algorithm";
+        case RPKI_PART_SIGNATURE: return "malformed signature";
+        case RPKI_PART_TBS: return "malformed certificate";
+        case RPKI_PART_VERSION: return "other version";
+        case RPKI_PART_SERIAL_NUMBER: return "malformed serial number";
+        case RPKI_PART_TBS_ALGORITHM: return "malformed algorithm";
+        case RPKI_PART_ISSUER: return "malformed issuer";
+        case RPKI_PART_VALIDITY: return "malformed validity";
+        case RPKI_PART_SUBJECT: return "malformed subject";
+        case RPKI_PART_PUBLIC_KEY: return "malformed public key";
+        case RPKI_PART_EXTENSIONS: return "malformed extensions";
+        case RPKI_PART_EXTENSION_COUNT: return "too many extensions";
+        case RPKI_PART_EXTENSION_IDENTIFIERS: return "duplicate extension";
+        case RPKI_PART_SAME_ALGORITHM: return "signature algorithms differ";
         case RPKI_MISSING_COMMON_NAME: return "missing common name";
         case RPKI_SECOND_COMMON_NAME: return "multiple common names";
         case RPKI_SECOND_SERIAL_NUMBER: return "multiple serial numbers";

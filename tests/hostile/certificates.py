@@ -306,6 +306,88 @@ VARIANTS = [
     ("a router with addresses", router_with_addresses, {"inspect_router": SOME_ERROR}),
 ]
 
+# The status of rpki_certificate (include/rpki.h) for the variants of which a part is wrong; it is 0 for the others.
+WRONG_PARTS = {
+    "version 2": 69,
+    "version 1": 69,
+    "no version": 69,
+    "serial number below 0": 70,
+    "serial number of 21 octets": 70,
+    "algorithms that differ": 79,
+    "an empty list of extensions": 76,
+    "no extensions": 76,
+    "a known extension twice": 78,
+    "an unknown extension twice": 78,
+    "a value after the extensions": 76,
+    "a value after their list": 76,
+}
+
+
+def in_place(place, octets):
+    """Puts these octets in the place of a part of what is signed."""
+    def change(it):
+        it.tbs.inside[place] = values_of(octets)[0]
+    return change
+
+
+def other_signature(octets):
+    def change(it):
+        it.whole.inside[2] = it.signature = values_of(octets)[0]
+    return change
+
+
+def other_algorithm(it):
+    it.algorithm.inside[0].inside = oid("1.2.840.113549.1.1.5")
+
+
+def other_inner_algorithm(it):
+    it.inner_algorithm.inside[0].inside = oid("1.2.840.113549.1.1.5")
+
+
+def no_sequence(it):
+    it.tbs.first = 0x31
+
+
+def after_signature(it):
+    it.whole.inside.append(Value(5, b""))
+
+
+def many(count):
+    """Adds extensions of which no two have the same identifier, until there are so many."""
+    def change(it):
+        for number in range(count - len(it.list.inside)):
+            it.add(f"1.3.6.1.4.1.99999.{number}", b"")
+    return change
+
+
+# A name whose one attribute has this value.
+def with_attribute(value):
+    return sequence(tlv(0x31, sequence(tlv(6, oid("2.5.4.3")), value)))
+
+
+def cut_inside(it):
+    it.tbs.inside[5] = Value(0x30, with_attribute(tlv(0x30, b"\x30\x05"))[2:])
+
+
+# Changes that only rpki_certificate is asked about, and its status: a part that is wrong, or 0.
+OTHER_PARTS = [
+    ("another algorithm", other_algorithm, 66),
+    ("a signature with a count of 8", other_signature(bytes.fromhex("030208aa")), 67),
+    ("a value after the signature", after_signature, 67),
+    ("a SET in place of what is signed", no_sequence, 68),
+    ("another algorithm in what is signed", other_inner_algorithm, 71),
+    ("an empty issuer", in_place(3, sequence()), 72),
+    ("an attribute without a value", in_place(3, with_attribute(b"")), 72),
+    ("an attribute with two values", in_place(3, with_attribute(tlv(5, b"") * 2)), 72),
+    ("one time", in_place(4, sequence(tlv(0x17, b"270101000000Z"))), 73),
+    ("an empty subject", in_place(5, sequence()), 74),
+    ("an empty key", in_place(6, sequence()), 75),
+    ("an attribute whose value is nested", in_place(5, with_attribute(sequence(sequence(), tlv(5, b"")))), 0),
+    ("an attribute whose value is nested and cut", cut_inside, 65),
+    ("64 extensions", many(64), 0),
+    ("65 extensions", many(65), 77),
+]
+
 # What a line says where it says no error.
 PLAIN = {"ok", "none", "true", "false", "out of memory"}
 

@@ -32,8 +32,10 @@ def cut_values(programs):
     for value in VALUES:
         for cut in range(len(value)):
             beginning = value[:cut]
-            seen = run(programs.calls, ["cursor", "capture_one"], beginning)
-            yield f"{cut} octets of {value.hex()}", seen, lines("refused 1", 0, beginning, cut == 0, beginning)
+            for call in ["capture_one", "capture"]:
+                seen = run(programs.calls, ["cursor", call], beginning)
+                told = lines("refused 1", 0, beginning, cut == 0, beginning)
+                yield f"{call}: {cut} octets of {value.hex()}", seen, told
 
 
 def values_with_more(programs):
@@ -41,8 +43,10 @@ def values_with_more(programs):
     for value in VALUES:
         made = "made " + value.hex().upper()
         for more in [b"", b"\x00"]:
-            seen = run(programs.calls, ["cursor", "capture_one"], value + more)
-            yield f"{value.hex()} and {more.hex()}", seen, lines(made, 0, more, not more, value + more)
+            for call in ["capture_one", "capture"]:
+                seen = run(programs.calls, ["cursor", call], value + more)
+                told = lines(made, 0, more, not more, value + more)
+                yield f"{call}: {value.hex()} and {more.hex()}", seen, told
 
 
 # The octets that may be changed: the tag of the signed value (a primitive or constructed one of the low tag numbers,

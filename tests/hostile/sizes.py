@@ -60,6 +60,7 @@ def reading():
         whole = b"size %d" % len(value)
         for call in [
             *both_cursors("capture_one", value, made(value)),
+            *both_cursors("capture", value, made(value)),
             on_cursor("skip_one", value, b"done"),
             on_cursor("walk", value, b"done", counts=[headers]),
             on_cursor("walk_octets", value, whole, value, counts=[headers]),
@@ -173,6 +174,7 @@ def named(value):
 def name_calls(name):
     """Calls on a name."""
     yield from both_cursors("take_name", name + NULL, made(name), NULL)
+    yield on_octets("whole", "decode_name", name, made(name))
     yield on_value("name", "clone", name, made(name), False)
 
 
@@ -192,6 +194,7 @@ def names():
 def extension_calls(octets, written):
     """Calls on an extension, which is written so."""
     yield from both_cursors("take_extension", octets + NULL, made(written), NULL)
+    yield on_octets("whole", "decode_extension", octets, made(written))
     yield from both_cursors("take_opt_extension", octets + NULL, made(written), NULL)
     yield on_value("extension", "clone", octets, made(written), False, held=written)
 
@@ -307,7 +310,10 @@ def certificates():
     for path in CERTIFICATES:
         with open(os.path.join(TOP, path), "rb") as file:
             certificate = file.read()
-        for call in both_cursors("capture_one", certificate, made(certificate)):
+        for call in [
+            *both_cursors("capture_one", certificate, made(certificate)),
+            *both_cursors("capture", certificate, made(certificate)),
+        ]:
             yield path, call
         value, algorithm, signature = members(contents(certificate))
         assert algorithm == RSA_SIGNATURE and signature[4:5] == b"\x00"

@@ -851,6 +851,9 @@ int main(int count, char **words) {
     judge_alone("other parts", other_parts());
     judge_alone("what is written", written_values());
     judge_alone("refused allocations of what is written", refused_writing());
+    judge_alone("digits", digits());
+    judge_alone("times and periods", times_and_periods());
+    judge_alone("extensions that are written", written_extensions());
     printf("%u rows, %zu refused allocations: %u passed, %u failed\n", rows, refusals, passed, failed);
     return failed ? 1 : 0;
 }

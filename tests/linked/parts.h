@@ -1,4 +1,4 @@
-/* The calls on URIs that were parsed before, and those that write values. */
+/* The calls on URIs that were parsed before, those that write values, and those on digits and times. */
 #ifndef PARTS_H
 #define PARTS_H
 
@@ -11,5 +11,8 @@ bool parsed_https_uris(void);
 bool other_parts(void);
 bool written_values(void);
 bool refused_writing(void);
+bool digits(void);
+bool times_and_periods(void);
+bool written_extensions(void);
 
 #endif

@@ -49,6 +49,12 @@ static rpki_status signed_write(const void *of, uint8_t *out, size_t capacity, s
     return rpki_signed_data_write(given->one.at, given->one.size, out, capacity, written);
 }
 
+static rpki_status signed_make(const void *of, uint8_t *out, size_t capacity, size_t *written) {
+    const struct given *given = of;
+    return rpki_signed_data_make(given->one.at, given->one.size, given->two.at, given->two.size, out, capacity,
+                                 written);
+}
+
 static rpki_status key_write(const void *of, uint8_t *out, size_t capacity, size_t *written) {
     const struct given *given = of;
     return rpki_public_key_write(given->one.at, given->one.size, out, capacity, written);
@@ -122,6 +128,13 @@ static const struct {
     {signed_write, SIGNED " 00", "", NULL, RPKI_TRAILING},
     {signed_write, "30 17 30 02 04 05 30 0D " SHA " 05 00 03 02 00 AA", "", NULL, RPKI_TRUNCATED},
     {signed_write, "30 0A 30 00 30 04 06 02 2A 03 03 00", "", NULL, RPKI_CONTENT},
+    {signed_make, "30 00", "AA", SIGNED, RPKI_OK},
+    {signed_make, "05 00", "", "30 14 05 00 30 0D " SHA " 05 00 03 01 00", RPKI_OK},
+    {signed_make, "", "AA", NULL, RPKI_TRUNCATED},
+    {signed_make, "30 02 05", "AA", NULL, RPKI_TRUNCATED},
+    {signed_make, "05 00 05 00", "AA", NULL, RPKI_TRAILING},
+    {signed_make, "30 02 1F 00", "AA", NULL, RPKI_BAD_TAG},
+    {signed_make, "30 80", "AA", NULL, RPKI_BAD_LENGTH},
     {rsa_write, "00 80", "01 00 01", "30 1D 30 0D " RSA " 05 00 03 0C 00 30 09 02 02 00 80 02 03 01 00 01", RPKI_OK},
     {rsa_write, "00", "03", "30 1A 30 0D " RSA " 05 00 03 09 00 30 06 02 01 00 02 01 03", RPKI_OK},
     {rsa_write, LARGE, "01 00 01",

@@ -16,6 +16,8 @@ pub(crate) const INVALID_SYMBOL: Status = 40;
 pub(crate) const INVALID_LENGTH: Status = 41;
 pub(crate) const INVALID_LAST_SYMBOL: Status = 42;
 pub(crate) const INVALID_PADDING: Status = 43;
+pub(crate) const TOO_NEW: Status = 50;
+pub(crate) const TOO_OLD: Status = 51;
 pub(crate) const NO_PARENT: usize = usize::MAX;
 
 #[repr(C)]
@@ -118,6 +120,23 @@ pub(crate) struct ExtensionParts {
 
 #[repr(C)]
 #[derive(Clone, Copy, Default)]
+pub(crate) struct CertificateParts {
+    pub(crate) data: Place,
+    pub(crate) algorithm: Place,
+    pub(crate) signature: Place,
+    pub(crate) issuer: Place,
+    pub(crate) subject: Place,
+    pub(crate) public_key: Place,
+    pub(crate) extensions: Place,
+    pub(crate) validity: Period,
+    pub(crate) serial_number: [u8; 20],
+    pub(crate) key_format: u8,
+    pub(crate) key_unused: u8,
+    pub(crate) has_parameters: bool,
+}
+
+#[repr(C)]
+#[derive(Clone, Copy, Default)]
 pub(crate) struct RsyncParts {
     pub(crate) authority: Place,
     pub(crate) module_name: Place,
@@ -137,6 +156,7 @@ const _: () = assert!(size_of::<Walked>() == 16 && size_of::<Entry>() == 40 && s
 const _: () = assert!(size_of::<KeyParts>() == 24 && size_of::<Moment>() == 32 && size_of::<Period>() == 64);
 const _: () =
     assert!(size_of::<ExtensionParts>() == 40 && size_of::<RsyncParts>() == 48 && size_of::<HttpsParts>() == 32);
+const _: () = assert!(size_of::<CertificateParts>() == 200);
 
 use std::mem::size_of;
 
@@ -153,6 +173,7 @@ extern "C" {
     fn rpki_time(octets: *const u8, size: usize, out: *mut Moment) -> Status;
     fn rpki_validity(octets: *const u8, size: usize, out: *mut Period) -> Status;
     fn rpki_extension(octets: *const u8, size: usize, out: *mut ExtensionParts) -> Status;
+    fn rpki_certificate(octets: *const u8, size: usize, out: *mut CertificateParts) -> Status;
     fn rpki_rsync_parse(text: *const u8, size: usize, out: *mut RsyncParts) -> Status;
     fn rpki_rsync_relative_to(
         uri: *const u8,
@@ -299,6 +320,15 @@ extern "C" {
         capacity: usize,
         written: *mut usize,
     ) -> Status;
+    fn rpki_signed_data_make(
+        value: *const u8,
+        size: usize,
+        signature: *const u8,
+        signature_size: usize,
+        out: *mut u8,
+        capacity: usize,
+        written: *mut usize,
+    ) -> Status;
     fn rpki_public_key_write(
         octets: *const u8,
         size: usize,
@@ -318,6 +348,28 @@ extern "C" {
     fn rpki_rsa_key_of_bits(bits: *const u8, size: usize, out: *mut u8, capacity: usize, written: *mut usize)
         -> Status;
     fn rpki_name_of_key(octets: *const u8, size: usize, out: *mut u8, capacity: usize, written: *mut usize) -> Status;
+    fn rpki_extension_write(
+        id: *const u8,
+        id_size: usize,
+        critical: bool,
+        octets: *const u8,
+        size: usize,
+        out: *mut u8,
+        capacity: usize,
+        written: *mut usize,
+    ) -> Status;
+    fn rpki_serial_decimal(serial: *const [u8; 20], out: *mut u8, capacity: usize, written: *mut usize) -> Status;
+    fn rpki_serial_of_decimal(text: *const u8, size: usize, out: *mut [u8; 20]) -> Status;
+    fn rpki_serial_of_octets(octets: *const u8, size: usize, out: *mut [u8; 20]) -> Status;
+    fn rpki_key_identifier_read(octets: *const u8, size: usize, out: *mut [u8; 20]) -> Status;
+    fn rpki_key_identifier_of_hex(text: *const u8, size: usize, out: *mut [u8; 20]) -> Status;
+    fn rpki_time_write_utc(moment: *const Moment, out: *mut u8, capacity: usize, written: *mut usize) -> Status;
+    fn rpki_time_write_generalized(moment: *const Moment, out: *mut u8, capacity: usize, written: *mut usize)
+        -> Status;
+    fn rpki_time_seconds_on(moment: *const Moment, seconds: i64, out: *mut Moment) -> Status;
+    fn rpki_validity_write(period: *const Period, out: *mut u8, capacity: usize, written: *mut usize) -> Status;
+    fn rpki_validity_at(period: *const Period, moment: *const Moment) -> Status;
+    fn rpki_validity_trim(period: *const Period, other: *const Period, out: *mut Period) -> Status;
     fn rpki_version() -> u32;
 }
 
@@ -365,6 +417,11 @@ readers! {
     time(rpki_time) -> Moment;
     validity(rpki_validity) -> Period;
     extension(rpki_extension) -> ExtensionParts;
+    serial_of_decimal(rpki_serial_of_decimal) -> [u8; 20];
+    serial_of_octets(rpki_serial_of_octets) -> [u8; 20];
+    key_identifier_read(rpki_key_identifier_read) -> [u8; 20];
+    key_identifier_of_hex(rpki_key_identifier_of_hex) -> [u8; 20];
+    certificate(rpki_certificate) -> CertificateParts;
     rsync_parse(rpki_rsync_parse) -> RsyncParts;
     rsync_parent(rpki_rsync_parent) -> usize;
     https_parse(rpki_https_parse) -> HttpsParts;
@@ -650,6 +707,17 @@ pub(crate) fn signed_data_write(octets: &[u8]) -> Result<Vec<u8>, Status> {
     unsafe { write(rpki_signed_data_write, octets, octets.len()) }
 }
 
+/// The signed data of a value and a signature, of which the algorithm and the headers have at most 28 octets.
+pub(crate) fn signed_data_make(value: &[u8], signature: &[u8]) -> Result<Vec<u8>, Status> {
+    // SAFETY: pointers and sizes are those of slices, which are borrowed for the call; the rest is of `stored`.
+    unsafe {
+        stored(value.len() + signature.len() + 28, |out, capacity, written| {
+            let (v, s) = (value.as_ptr(), signature.as_ptr());
+            rpki_signed_data_make(v, value.len(), s, signature.len(), out, capacity, written)
+        })
+    }
+}
+
 /// The public key that the octets are, as it is written: at most two octets more, and the headers'.
 pub(crate) fn public_key_write(octets: &[u8]) -> Result<Vec<u8>, Status> {
     // SAFETY: the call is one of those above.
@@ -677,4 +745,60 @@ pub(crate) fn rsa_key_of_bits(bits: &[u8]) -> Result<Vec<u8>, Status> {
 pub(crate) fn name_of_key(octets: &[u8]) -> Result<Vec<u8>, Status> {
     // SAFETY: the call is one of those above.
     unsafe { write(rpki_name_of_key, octets, 53) }
+}
+
+/// The extension of these parts, of which the headers have at most 24 octets.
+pub(crate) fn extension_write(id: &[u8], critical: bool, octets: &[u8]) -> Result<Vec<u8>, Status> {
+    // SAFETY: pointers and sizes are those of slices, which are borrowed for the call; the rest is of `stored`.
+    unsafe {
+        stored(id.len() + octets.len() + 24, |out, capacity, written| {
+            let (i, o) = (id.as_ptr(), octets.as_ptr());
+            rpki_extension_write(i, id.len(), critical, o, octets.len(), out, capacity, written)
+        })
+    }
+}
+
+/// The decimal digits of a serial number, which are at most 48.
+pub(crate) fn serial_decimal(serial: &[u8; 20]) -> Result<Vec<u8>, Status> {
+    // SAFETY: the octets are borrowed for the call; the rest is of `stored`.
+    unsafe { stored(48, |out, capacity, written| rpki_serial_decimal(serial, out, capacity, written)) }
+}
+
+/// The value of a time as UTC time, which has 15 octets.
+pub(crate) fn time_write_utc(moment: &Moment) -> Result<Vec<u8>, Status> {
+    // SAFETY: the moment is borrowed for the call; the rest is of `stored`.
+    unsafe { stored(15, |out, capacity, written| rpki_time_write_utc(moment, out, capacity, written)) }
+}
+
+/// The value of a time as generalized time, which has 17 octets.
+pub(crate) fn time_write_generalized(moment: &Moment) -> Result<Vec<u8>, Status> {
+    // SAFETY: the moment is borrowed for the call; the rest is of `stored`.
+    unsafe { stored(17, |out, capacity, written| rpki_time_write_generalized(moment, out, capacity, written)) }
+}
+
+/// The moment so many seconds on.
+pub(crate) fn time_seconds_on(moment: &Moment, seconds: i64) -> Result<Moment, Status> {
+    // SAFETY: the moment is borrowed for the call, and apart from `out`, which is the function's own.
+    told(|out| unsafe { rpki_time_seconds_on(moment, seconds, out) })
+}
+
+/// The value of a period, which has at most 36 octets.
+pub(crate) fn validity_write(period: &Period) -> Result<Vec<u8>, Status> {
+    // SAFETY: the period is borrowed for the call; the rest is of `stored`.
+    unsafe { stored(36, |out, capacity, written| rpki_validity_write(period, out, capacity, written)) }
+}
+
+/// Whether the period holds at the moment, or why it does not.
+pub(crate) fn validity_at(period: &Period, moment: &Moment) -> Result<(), Status> {
+    // SAFETY: both are borrowed for the call, which writes nothing.
+    match unsafe { rpki_validity_at(period, moment) } {
+        0 => Ok(()),
+        status => Err(status),
+    }
+}
+
+/// The period that both have in common.
+pub(crate) fn validity_trim(period: &Period, other: &Period) -> Result<Period, Status> {
+    // SAFETY: both are borrowed for the call, and apart from `out`, which is the function's own.
+    told(|out| unsafe { rpki_validity_trim(period, other, out) })
 }

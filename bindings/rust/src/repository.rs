@@ -1,4 +1,5 @@
 //! What is kept in repositories of the RPKI.
 
+pub mod cert;
 pub mod error;
 pub mod x509;

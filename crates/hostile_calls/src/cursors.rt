@@ -74,6 +74,7 @@ fn take_value(alloc: Global, call: &str, cursor: &mut Constructed<'_>) -> Outcom
 fn take(alloc: Global, call: &str, cursor: &mut Constructed<'_>, steps: &mut Steps) -> Outcome {
     match call {
         "capture_one" => Ok(Made::Captured(cursor.capture_one(alloc)?)),
+        "capture" => Ok(Made::Captured(readers::kept(alloc, cursor)?)),
         "skip_one" => walked(cursor.skip_one(alloc)),
         "walk" => walk(alloc, cursor, steps),
         "index_octets" => index(alloc, cursor.rest()),

@@ -2,7 +2,7 @@
 
 use bytes::Bytes;
 use rpki::crypto::PublicKey;
-use rpki::der::{BitString, Constructed, DecodeError, Tag};
+use rpki::der::{BitString, Captured, Constructed, DecodeError, Tag};
 use std::alloc::Global;
 
 /// A cursor on octets that it borrows: what a reader keeps of them is a copy.
@@ -23,6 +23,19 @@ pub fn octets(alloc: Global, cursor: &mut Constructed<'_>) -> Result<Bytes, Deco
 /// Reads numbers of an octet until nothing is left.
 pub fn numbers(alloc: Global, cursor: &mut Constructed<'_>) -> Result<Vec<u8>, DecodeError> {
     cursor.take_each(alloc, |rest| rest.take_u8())
+}
+
+/// Moves past one value.
+fn pass_one(alloc: Global, cursor: &mut Constructed<'_>) -> Result<(), DecodeError> {
+    match cursor.skip_one(alloc)? {
+        Some(()) => Ok(()),
+        None => Err(DecodeError::Truncated),
+    }
+}
+
+/// Keeps the octets of one value, as those that a reader of it reads.
+pub fn kept(alloc: Global, cursor: &mut Constructed<'_>) -> Result<Captured, DecodeError> {
+    cursor.capture(alloc, |value| pass_one(alloc, value))
 }
 
 /// Reads a public key.

@@ -115,6 +115,8 @@ fn of_octets(alloc: Global, call: &str, octets: Bytes) -> Outcome {
     match call {
         "decode_signed" => Ok(Made::Signed(SignedData::decode(alloc, octets)?)),
         "decode_key" => Ok(Made::Key(readers::whole_key(alloc, octets)?)),
+        "decode_name" => Ok(Made::Name(Name::decode(alloc, octets)?)),
+        "decode_extension" => Ok(Made::Extension(CertExtension::decode(alloc, octets)?)),
         "rsa_from_components" => rsa_of(alloc, octets.as_slice(), &[1, 0, 1]),
         "rsa_of_exponent" => rsa_of(alloc, &[3], octets.as_slice()),
         "rsa_from_bits_bytes" => Ok(Made::Key(PublicKey::rsa_from_bits_bytes(octets)?)),

@@ -1,23 +1,22 @@
 -- The errors of extensions, from what the readers of their parts return.
-use Rattle.std.proofs.Common.{◌≡◌, ℕ, true, false, Option, Some, None, Ok, List, inl, inr, refl, subst}
+use Rattle.std.proofs.Common.{◌≡◌, ◌⊎◌, ℕ, true, false, Option, Some, None, Ok, List, inl, inr, refl, subst}
 use Rattle.rpki_der.specs.declared.error.DecodeError.{DecodeError}
 use Rattle.rpki_der.specs.declared.error.DecodeError.TheVariants.{Truncated, BadTag, BadLength, Unexpected, Content, Trailing, OutOfMemory}
 use Rattle.rpki_der.specs.TagName.{oid, boolean, octet_string, sequence}
 use Rattle.rpki_der.specs.Reading.{Accepts, Refusal, ReadsWhere, SpellsNothing, UnlessMemory, OrMemoryWhere, Finds}
 use Rattle.rpki_der.specs.Values.{SpellsContents, SpellsLeaf, HasTag, IsContentsFault, IsLeafFault, GivesOuterFault, IsOuterFault}
 use Rattle.rpki_der.specs.Leaves.{IsOidOf, IsBoolean}
-use Rattle.rpki_der.specs.Members.{SpellsValue}
-use Rattle.rpki_der.specs.Walk.{HasEither}
+use Rattle.rpki_der.specs.Capture.{SpellsKept, IsCapturedFault}
 use Rattle.rpki_der.specs.FirstFault.{OptionalFault, IsEndFault}
 use Rattle.rpki_der.specs.FirstFault.FirstFault.{AtPart, Later}
-use Rattle.rpki_der.proofs.ReadingLaws.{UnlessMemory-weaker}
+use Rattle.rpki_der.proofs.ReadingLaws.{UnlessMemory-weaker, Refusal-weaker, or-memory-kind}
+use Rattle.rpki_der.proofs.CaptureLaws.{or-memory-from}
 use Rattle.rpki_der.proofs.LeavesLaws.{leaf-no-memory, contents-no-memory}
 use Rattle.rpki_der.proofs.ComposedLaws.{outer-refused, inner-refused}
-use Rattle.rpki_der.proofs.InsideLaws.{no-memory}
 use Rattle.rpki_der.proofs.FirstFaultLaws.{first-no-memory, optional-no-memory, end-no-memory, inside-outer, inside-outer-exactly}
 use Rattle.rpki.specs.ExtensionValue.{ExtensionParts, IsExtensionContents, SpellsExtension}
 use Rattle.rpki.specs.ExtensionFault.{IsContentFault, IsExtensionPartsFault, IsCertExtensionFault, IsKeptExtensionFault}
-use Rattle.rpki.proofs.ExtensionLaws.{value-of}
+use Rattle.rpki.proofs.ExtensionLaws.{AnyExtension}
 
 -- what follows an optional part has the error
 pub behind-optional : {X V : Type 0} (B : List ℕ → Type 0) (view : X → V) (G : V → List ℕ → Type 0) (K L : List ℕ → DecodeError → Type 0) (s r : List ℕ) (p : Option X) (e : DecodeError)
@@ -39,18 +38,9 @@ parts-never c =
 pub extension-outer : (s : List ℕ) (e : DecodeError) → IsCertExtensionFault s e → IsOuterFault sequence true s e
 extension-outer s e = inside-outer-exactly sequence true IsExtensionPartsFault s e parts-never
 
-kept-kind : (P : List ℕ → Type 0) (K L : List ℕ → DecodeError → Type 0) (s : List ℕ) (e : DecodeError) → ((d : DecodeError) → K s d → L s d) → OrMemoryWhere P K s e → OrMemoryWhere P L s e
-kept-kind P K L s Truncated f h = f Truncated h
-kept-kind P K L s BadTag f h = f BadTag h
-kept-kind P K L s BadLength f h = f BadLength h
-kept-kind P K L s Unexpected f h = f Unexpected h
-kept-kind P K L s (Content x) f h = f (Content x) h
-kept-kind P K L s Trailing f h = f Trailing h
-kept-kind P K L s OutOfMemory f h = h
-
 -- where there is no SEQUENCE its error is the one of that
 pub kept-outer : (s : List ℕ) (e : DecodeError) → IsKeptExtensionFault s e → OrMemoryWhere (Finds SpellsExtension) (GivesOuterFault sequence true) s e
-kept-outer s e = kept-kind (Finds SpellsExtension) IsCertExtensionFault (GivesOuterFault sequence true) s e (λ d. inside-outer sequence true IsExtensionPartsFault s d)
+kept-outer s e = or-memory-kind (Finds SpellsExtension) IsCertExtensionFault (GivesOuterFault sequence true) s e (λ d. inside-outer sequence true IsExtensionPartsFault s d)
 
 -- the SEQUENCE isn't there
 pub no-sequence : (s q : List ℕ) (e : DecodeError) → Refusal (SpellsContents sequence true) (IsContentsFault sequence true) s q e → Refusal SpellsExtension IsCertExtensionFault s s e
@@ -61,27 +51,16 @@ pub no-parts : (s c q : List ℕ) (e : DecodeError) → Accepts (SpellsContents 
     → Refusal SpellsExtension IsCertExtensionFault s s e
 no-parts s c q e a h = record { unchanged = refl; refuses = (inner-refused sequence true IsExtensionContents s c q s e refl a h.0).refuses; kind = Later c q a h.1 }
 
+-- it isn't there
+pub passed-refused : (s q : List ℕ) (e : DecodeError) → Refusal SpellsExtension IsCertExtensionFault s q e → Refusal AnyExtension IsCertExtensionFault s q e
+passed-refused s q e h = Refusal-weaker (λ none u r k. none k.spelled.0 r (record { front = k.front; parts = k.parts; spelled = k.spelled.1 })) (λ k. k) h
+
 -- it isn't there, or could not be kept
-pub extension-refused : (s q r : List ℕ) (e : DecodeError) → r ≡ s → Refusal SpellsExtension IsCertExtensionFault s q e → Refusal SpellsExtension IsKeptExtensionFault s r e
-extension-refused s q r e same h = record {
-  unchanged = same;
-  refuses = h.refuses;
-  kind = no-memory (Finds SpellsExtension) IsCertExtensionFault s e (extension-outer s e h.kind).other h.kind;
-}
-
-uncaptured-kind : (P Q : List ℕ → Type 0) (K L : List ℕ → DecodeError → Type 0) (s : List ℕ) (e : DecodeError) → UnlessMemory e ⊥ → (P s → Q s) → OrMemoryWhere P K s e → OrMemoryWhere Q L s e
-uncaptured-kind P Q K L s Truncated n f h = absurd n
-uncaptured-kind P Q K L s BadTag n f h = absurd n
-uncaptured-kind P Q K L s BadLength n f h = absurd n
-uncaptured-kind P Q K L s Unexpected n f h = absurd n
-uncaptured-kind P Q K L s (Content x) n f h = absurd n
-uncaptured-kind P Q K L s Trailing n f h = absurd n
-uncaptured-kind P Q K L s OutOfMemory n f h = f h
-
-pub extension-uncaptured : (K : List ℕ → DecodeError → Type 0) (s r q : List ℕ) (x : ExtensionParts) (e : DecodeError) → Accepts SpellsExtension s x r → Refusal SpellsValue (OrMemoryWhere HasEither K) s q e
-    → Refusal SpellsExtension IsKeptExtensionFault s q e
-extension-uncaptured K s r q x e a h = record {
-  unchanged = h.unchanged;
-  refuses = UnlessMemory-weaker e (λ none y p k. none k.front p (value-of s y p k)) h.refuses;
-  kind = uncaptured-kind HasEither (Finds SpellsExtension) K IsCertExtensionFault s e (UnlessMemory-weaker e (λ none. none a.spells.front r (value-of s x r a.spells)) h.refuses) (λ v. (x, r, a.spells)) h.kind;
-}
+pub extension-unkept : (s r : List ℕ) (e : DecodeError) → Refusal (SpellsKept AnyExtension) (IsCapturedFault AnyExtension IsCertExtensionFault) s r e
+    → Refusal SpellsExtension IsKeptExtensionFault s r e
+extension-unkept s r e h =
+    Refusal-weaker (λ none w q k. none k.front q (record { front = k.front; parts = k.parts; spelled = record { same = refl; value = tt; spelled = (w, k.spelled) } }))
+    (or-memory-from (λ p. IsCertExtensionFault p OutOfMemory ⊎ Finds AnyExtension p) (Finds SpellsExtension) IsCertExtensionFault s e (λ m. elim m [
+      | inl k ↦ absurd ((extension-outer s OutOfMemory k).other refl)
+      | inr (u, q, k) ↦ (k.spelled.0, q, record { front = k.front; parts = k.parts; spelled = k.spelled.1 })
+    ])) h

@@ -15,6 +15,8 @@ use Rattle.rpki_der.proofs.LeafValueLaws.{composed-value-alone}
 use Rattle.rpki_der.proofs.LeavesLaws.{leaf-tag}
 use Rattle.rpki_der.proofs.ComposedLaws.{all-read}
 use Rattle.rpki_der.proofs.FrontLaws.{front_contents_of, after_front-of, contents-alone, nothing-after, one-tag, contents-tag}
+use Rattle.rpki_der.specs.Capture.{SpellsKept}
+use Rattle.rpki.specs.AnyValue.{SpellsAny}
 use Rattle.rpki.specs.Extension.{critical_octets, extension_contents}
 use Rattle.rpki.specs.ExtensionValue.{ExtensionParts, extension_parts, SpellsCritical, IsExtensionContents, SpellsExtension, written_extension, CanBeWritten, parts_in, parts_of_extension}
 
@@ -162,22 +164,37 @@ extension-value x p h = composed-value-alone sequence IsExtensionContents x p (c
 
 -- ---- an extension, captured
 
-pub value-of : (s : List ℕ) (x : ExtensionParts) (r : List ℕ) (h : Spells SpellsExtension s x r) → Spells SpellsValue s h.front r
-value-of s x r h = record { front = h.front; parts = h.parts; spelled = record { same = refl; value = extension-value x h.front h.spelled } }
+-- ---- an extension whose octets are kept
 
-pub captured-extension : (s r v q : List ℕ) (x : ExtensionParts) → Accepts SpellsExtension s x r → Accepts SpellsValue s v q → SpellsExtension x v
-captured-extension s r v q x a b = subst (SpellsExtension x) (b.only a.spells.front r (value-of s x r a.spells)).0 a.spells.spelled
+abbrev pub AnyExtension : Unit {0} → List ℕ → Type 0
+AnyExtension = SpellsAny SpellsExtension
 
-pub kept-extension : (s r v q : List ℕ) (x : ExtensionParts) → Accepts SpellsExtension s x r → Accepts SpellsValue s v q → SpellsExtension (parts_of_extension v) v
-kept-extension s r v q x a b =
-    let h = captured-extension s r v q x a b in
-    subst (λ (y : ExtensionParts). SpellsExtension y v) (sym (extension-is x v h)) h
+-- one that is passed over
+pub passed-extension : (s r : List ℕ) (x : ExtensionParts) → Accepts SpellsExtension s x r → Accepts AnyExtension s tt r
+passed-extension s r x a = record {
+  spells = record { front = a.spells.front; parts = a.spells.parts; spelled = (x, a.spells.spelled) };
+  only = λ w q k. (refl, (a.only k.spelled.0 q (record { front = k.front; parts = k.parts; spelled = k.spelled.1 })).1);
+}
 
-pub extension-captured : (s r v q : List ℕ) (x : ExtensionParts) → Accepts SpellsExtension s x r → Accepts SpellsValue s v q → Accepts SpellsExtension s (parts_of_extension v) q
-extension-captured s r v q x a b =
-    let h = captured-extension s r v q x a b in
-    subst (λ (y : ExtensionParts). Accepts SpellsExtension s y q) (sym (extension-is x v h))
-    (subst (λ (l : List ℕ). Accepts SpellsExtension s x l) (b.only a.spells.front r (value-of s x r a.spells)).1 a)
+pub extension-values : (u : Unit {0}) (p : List ℕ) → AnyExtension u p → IsValueList p
+extension-values u p h = (1, extension-value h.0 p h.1)
+
+pub kept-extension : (s r c : List ℕ) → Accepts (SpellsKept AnyExtension) s c r → SpellsExtension (parts_of_extension c) c
+kept-extension s r c h =
+    let k = h.spells.spelled.spelled in
+    subst (λ (y : ExtensionParts). SpellsExtension y c) (sym (extension-is k.0 c k.1)) k.1
+
+pub extension-kept : (s r c : List ℕ) → Accepts (SpellsKept AnyExtension) s c r → Accepts SpellsExtension s (parts_of_extension c) r
+extension-kept s r c h = record {
+  spells = record {
+    front = h.spells.front;
+    parts = h.spells.parts;
+    spelled = subst (SpellsExtension (parts_of_extension c)) (sym h.spells.spelled.same) (kept-extension s r c h);
+  };
+  only = λ w q k.
+      let e = h.only k.front q (record { front = k.front; parts = k.parts; spelled = record { same = refl; value = tt; spelled = (w, k.spelled) } }) in
+      (sym (extension-is w c (subst (SpellsExtension w) e.0 k.spelled)), e.1);
+}
 
 -- ---- what is written
 

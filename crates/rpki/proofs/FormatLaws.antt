@@ -20,7 +20,7 @@ use Rattle.rpki.specs.AlgorithmOctets.{parameters_octets, identified_octets}
 use Rattle.rpki.specs.AlgorithmOctetsLaws.{identified-short, oid-legal, null-legal}
 use Rattle.rpki.specs.KeyFormat.{IsFormatContents, SpellsFormat, format_contents, format_octets}
 use Rattle.rpki.specs.SignatureNames.{IsCmsContents}
-use Rattle.rpki.proofs.TwoPartsLaws.{both-read, no-first, no-second}
+use Rattle.rpki_der.proofs.PartsLaws.{both-read, no-first, no-second}
 use Rattle.rpki.proofs.NamedLaws.{plain-oid, named, one-name, other-name, no-name, identified-read, not-identified, no-parameters}
 
 rsa-valid : IsOid rsa_encryption

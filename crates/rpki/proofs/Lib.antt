@@ -1,6 +1,6 @@
 -- Which lemma file answers which question.
 --
--- Parts in order; which identifier; allocation failures: TwoPartsLaws, PartLaws, NamedLaws, MemoryLaws.
+-- Parts that may be left out; which identifier; allocation failures: PartLaws, NamedLaws, MemoryLaws.
 -- Algorithms, formats, digests; their errors: AlgorithmLaws, FormatLaws, DigestLaws, AlgorithmFaultLaws.
 -- Signed data; its errors: SigningLaws, SignedLaws, EqualLaws, SignedFaultLaws.
 -- Keys and key identifiers; errors of keys: PublicKeyLaws, KeyIdentifierLaws, KeyFaultLaws.
@@ -9,7 +9,6 @@
 --   NameTableLaws, WithoutOrganizationLaws, SubjectLaws, StrictSubjectLaws.
 
 pub mod AlgorithmLaws
-pub mod TwoPartsLaws
 pub mod NamedLaws
 pub mod PartLaws
 pub mod FormatLaws

@@ -5,7 +5,7 @@ use Rattle.rpki_der.specs.Reading.{Spells, Accepts}
 use Rattle.rpki_der.specs.Members.{IsValue, SpellsValue}
 use Rattle.rpki_der.specs.Walk.{HasEither}
 use Rattle.rpki_der.proofs.WalkLaws.{capture-memory}
-use Rattle.rpki.specs.TwoParts.{SpellsBoth}
+use Rattle.rpki_der.specs.Parts.{SpellsBoth}
 use Rattle.rpki.proofs.SignedLaws.{value-first}
 
 -- ---- what is found in front of what is left

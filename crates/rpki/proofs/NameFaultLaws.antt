@@ -13,7 +13,7 @@ use Rattle.rpki_der.specs.FirstFault.{RepeatedFault, IsInsideFault}
 use Rattle.rpki_der.specs.FirstFault.FirstFault.{AtPart, Later}
 use Rattle.rpki_der.specs.FirstFault.RepeatedFault.{AtMember, AfterMember}
 use Rattle.rpki_der.proofs.LeavesLaws.{leaf-no-memory, contents-no-memory}
-use Rattle.rpki_der.proofs.ReadingLaws.{UnlessMemory-weaker}
+use Rattle.rpki_der.proofs.ReadingLaws.{UnlessMemory-weaker, or-memory-kind}
 use Rattle.rpki_der.proofs.CaptureLaws.{reads-as, or-memory-from}
 use Rattle.rpki_der.proofs.FirstFaultLaws.{end-no-memory, inside-outer}
 use Rattle.rpki.specs.Name.{IsAttribute, SpellsSome, SpellsAttribute, SpellsRelative, IsName, SpellsNameOctets}
@@ -100,15 +100,6 @@ pub kept-named : (s r c : List ℕ) → Accepts (SpellsKept AnyName) s c r → I
 kept-named s r c h = (octets-of c h.spells.front h.spells.spelled).named
 
 -- ---- the error of the SEQUENCE, where that isn't there
-
-or-memory-kind : (P : List ℕ → Type 0) (K L : List ℕ → DecodeError → Type 0) (s : List ℕ) (e : DecodeError) → ((d : DecodeError) → K s d → L s d) → OrMemoryWhere P K s e → OrMemoryWhere P L s e
-or-memory-kind P K L s Truncated f h = f Truncated h
-or-memory-kind P K L s BadTag f h = f BadTag h
-or-memory-kind P K L s BadLength f h = f BadLength h
-or-memory-kind P K L s Unexpected f h = f Unexpected h
-or-memory-kind P K L s (Content x) f h = f (Content x) h
-or-memory-kind P K L s Trailing f h = f Trailing h
-or-memory-kind P K L s OutOfMemory f h = h
 
 pub name-outer : (s : List ℕ) (e : DecodeError) → IsNameFault s e → OrMemoryWhere HasNameValue (GivesOuterFault sequence true) s e
 name-outer s e = or-memory-kind HasNameValue IsWalkedNameFault (GivesOuterFault sequence true) s e (λ d. inside-outer sequence true IsRelativesFault s d)

@@ -10,7 +10,7 @@ use Rattle.rpki_der.proofs.MembersLaws.{value-some}
 use Rattle.rpki_der.specs.Walk.{SpellsAnyValue}
 use Rattle.rpki_der.specs.ValueListLaws.{values_append, no_values}
 use Rattle.rpki_der.proofs.EncodeLaws.{tlv-at-least}
-use Rattle.rpki_der.proofs.LeafValueLaws.{leaf-value-alone, composed-value-alone}
+use Rattle.rpki_der.proofs.LeafValueLaws.{leaf-value-alone, composed-value-alone, leaf-nowhere}
 use Rattle.rpki_der.proofs.LeavesLaws.{leaf-value}
 use Rattle.rpki.specs.Name.{Attribute, attribute_of, IsIdentifierThen, IsAttribute, SpellsAttribute, SpellsEach, SpellsSome, SpellsRelative, SpellsName, IsName, SpellsNameOctets}
 use Rattle.rpki.specs.AnyValue.{SpellsAny}
@@ -27,20 +27,6 @@ leaf-any t f C v p h = record { contents = h.contents; value = h.value; spelled 
 
 pub any-at : {V : Type 0} (t : TagName) (f : Bool) (C : V → List ℕ → Type 0) (s : List ℕ) (v : V) (r : List ℕ) → Spells (SpellsLeaf t f C) s v r → Spells (SpellsLeaf t f (SpellsAny C)) s tt r
 any-at t f C s v r h = record { front = h.front; parts = h.parts; spelled = leaf-any t f C v h.front h.spelled }
-
--- ---- a value takes octets
-
-pub leaf-some : {V : Type 0} (t : TagName) (f : Bool) (C : V → List ℕ → Type 0) (v : V) (p : List ℕ) → SpellsLeaf t f C v p → 2 ≤ length p
-leaf-some t f C v p h = omega (arith, ap length h.value.octets, tlv-at-least t f h.contents)
-
-pub leaf-shorter : {V : Type 0} (t : TagName) (f : Bool) (C : V → List ℕ → Type 0) (s : List ℕ) (v : V) (r : List ℕ) → Spells (SpellsLeaf t f C) s v r → length r < length s
-leaf-shorter t f C s v r h = omega (arith, leaf-some t f C v h.front h.spelled, ap length h.parts, length-append h.front r)
-
-pub contents-shorter : (t : TagName) (f : Bool) (s c r : List ℕ) → Spells (SpellsContents t f) s c r → length r < length s
-contents-shorter t f s c r h = omega (arith, ap length h.spelled.octets, tlv-at-least t f c, ap length h.parts, length-append h.front r)
-
-pub leaf-nowhere : {V : Type 0} (t : TagName) (f : Bool) (C : V → List ℕ → Type 0) (s : List ℕ) (v : V) (r : List ℕ) → s ≡ [] → Spells (SpellsLeaf t f C) s v r → ⊥
-leaf-nowhere t f C s v r e h = omega (arith, leaf-shorter t f C s v r h, ap length e)
 
 -- ---- a list of values of one tag and form
 
@@ -233,11 +219,3 @@ name-found s r h = let l = leaf-value sequence true (SpellsAny (SpellsSome Spell
 
 pub no-value-where-nothing : (s : List ℕ) → ((s ≡ [] → ⊥) → ⊥) → SpellsNothing SpellsAnyValue s
 no-value-where-nothing s h x v = h (λ e. omega (arith, value-some v, ap length e))
-
--- ---- what the test for an end says
-
-pub at-end : (b : Bool) (s : List ℕ) → b ≡ true → IsTrue b ↔ (s ≡ []) → s ≡ []
-at-end b s e h = h.0 e
-
-pub not-at-end : (b : Bool) (s : List ℕ) → b ≡ false → IsTrue b ↔ (s ≡ []) → s ≡ [] → ⊥
-not-at-end b s e h end = let yes = h.1 end in cc

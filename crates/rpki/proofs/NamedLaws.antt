@@ -8,8 +8,8 @@ use Rattle.rpki_der.specs.Values.{SpellsLeaf}
 use Rattle.rpki_der.specs.Leaves.{IsOid, IsOidOf, IsOnly}
 use Rattle.rpki_der.proofs.EncodeLaws.{tlv-same-then}
 use Rattle.rpki.specs.Algorithm.{IsIdentified, IsParameters}
-use Rattle.rpki.specs.TwoParts.{SpellsBoth}
-use Rattle.rpki.proofs.TwoPartsLaws.{both-read, no-first, no-second}
+use Rattle.rpki_der.specs.Parts.{SpellsBoth}
+use Rattle.rpki_der.proofs.PartsLaws.{both-read, no-first, no-second}
 
 -- ---- identifiers without an octet 80
 

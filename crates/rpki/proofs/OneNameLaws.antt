@@ -8,7 +8,7 @@ use Rattle.rpki_der.specs.Leaves.{IsOidOf}
 use Rattle.rpki_der.proofs.EncodeLaws.{tlv-same-then}
 use Rattle.rpki_der.proofs.ComposedLaws.{spelled-whole}
 use Rattle.rpki.specs.Name.{Attribute, attribute_of, IsAttribute, SpellsAttribute, SpellsEach, SpellsSome, SpellsRelative, SpellsName}
-use Rattle.rpki.proofs.NameLaws.{leaf-nowhere}
+use Rattle.rpki_der.proofs.LeafValueLaws.{leaf-nowhere}
 
 -- contents spell one value at most
 abbrev IsOne : {V : Type 0} → (V → List ℕ → Type 0) → Type 0

@@ -16,7 +16,7 @@ use Rattle.rpki_der.proofs.UnsignedLaws.{unsigned-spelled, unsigned-at-most, mag
 use Rattle.rpki.specs.declared.crypto.keys.PublicKeyFormat.{PublicKeyFormat}
 use Rattle.rpki.specs.declared.crypto.keys.PublicKeyFormat.TheVariants.{Rsa, EcdsaP256}
 use Rattle.rpki.specs.Oids.{rsa_encryption, ec_public_key, secp256r1}
-use Rattle.rpki.specs.TwoParts.{SpellsBoth}
+use Rattle.rpki_der.specs.Parts.{SpellsBoth}
 use Rattle.rpki.specs.KeyFormat.{SpellsFormat, format_contents, format_octets}
 use Rattle.rpki.specs.PublicKey.{KeyParts, key_of, IsKeyContents, SpellsKey, key_contents, key_octets, AreRsaNumbers, SpellsRsaNumbers, SpellsRsaBits, IsRsaKey}
 use Rattle.rpki.specs.KeyFault.{IsRsaBitsFault}

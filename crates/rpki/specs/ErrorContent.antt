@@ -33,3 +33,10 @@ HaveSameContent same (Inspection d) (Decoding e) = ⊥
 HaveSameContent same (Inspection d) (Verification e) = ⊥
 HaveSameContent same (Verification d) (Decoding e) = ⊥
 HaveSameContent same (Verification d) (Inspection e) = ⊥
+
+-- errors of inspection, and of verification, with the same text
+abbrev pub HaveSameText : InspectionError → InspectionError → Type 0
+HaveSameText d e = text_of (content_of d) ≡ text_of (content_of e)
+
+abbrev pub HaveSameReason : VerificationError → VerificationError → Type 0
+HaveSameReason d e = text_of (verification_content d) ≡ text_of (verification_content e)

@@ -54,3 +54,11 @@ parts_in c =
 
 unfoldable pub parts_of_extension : List ℕ → ExtensionParts
 parts_of_extension octets = parts_in (front_contents octets)
+
+-- a length announces the contents
+abbrev pub AreShort : ExtensionParts → Type 0
+AreShort x = length (extension_contents x.identifier x.critical x.content) < 2 ^ 32
+
+-- what is written is read as the same extension
+abbrev pub IsReadAgain : ExtensionParts → Type 0
+IsReadAgain x = CanBeWritten x → SpellsExtension x (written_extension x)

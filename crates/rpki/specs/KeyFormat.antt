@@ -9,7 +9,7 @@ use Rattle.rpki.specs.declared.crypto.keys.PublicKeyFormat.TheVariants.{Rsa, Ecd
 use Rattle.rpki.specs.Oids.{rsa_encryption, ec_public_key, secp256r1}
 use Rattle.rpki.specs.Algorithm.{IsIdentified}
 use Rattle.rpki.specs.AlgorithmOctets.{identified_octets}
-use Rattle.rpki.specs.TwoParts.{SpellsBoth}
+use Rattle.rpki_der.specs.Parts.{SpellsBoth}
 
 -- rsaEncryption, with a NULL or without (RFC 3279 2.3.1, RFC 7935 3.1); id-ecPublicKey and the curve P-256
 -- (RFC 5480 2.1.1, RFC 8608 3.1)

@@ -8,6 +8,7 @@ use Rattle.rpki_der.specs.TagName.{octet_string}
 use Rattle.rpki_der.specs.Values.{SpellsLeaf, IsLeafFault}
 use Rattle.rpki_der.specs.Number.{AreOctets}
 use Rattle.rpki_text.specs.HexText.{hex_text}
+use Rattle.rpki.specs.AnyValue.{SpellsAny}
 
 -- twenty octets (RFC 6487 4.8.2)
 pub record IsKeyIdentifier (k c : List ℕ) : Type 0 where
@@ -41,3 +42,10 @@ pub record IsHexOf (k text : List ℕ) : Type 0 where
   pub octets : AreOctets k
   pub size : length k ≡ 20
   pub digits : map to_ascii_uppercase text ≡ hex_text k
+
+-- any key identifier, and the error of its reader
+abbrev pub SpellsAnyIdentifier : Unit {0} → List ℕ → Type 0
+SpellsAnyIdentifier = SpellsLeaf octet_string false (SpellsAny IsKeyIdentifier)
+
+abbrev pub IsAnyIdentifierFault : List ℕ → DecodeError → Type 0
+IsAnyIdentifierFault = IsIdentifierFault (SpellsAny IsKeyIdentifier)

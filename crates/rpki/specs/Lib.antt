@@ -1,6 +1,5 @@
 -- Definitions: what the contracts say. They are trusted, and read against the standards.
 pub mod Oids
-pub mod TwoParts
 pub mod AnyValue
 pub mod Algorithm
 pub mod UnknownAlgorithm

@@ -2,6 +2,8 @@
 use Rattle.std.specs.Prelude.{ℕ, Bool, ◌≡◌, List, IsTrue}
 use Rattle.rpki.specs.declared.crypto.keys.PublicKeyFormat.{PublicKeyFormat}
 use Rattle.rpki.specs.declared.crypto.keys.PublicKeyFormat.TheVariants.{Rsa, EcdsaP256}
+use Rattle.rpki.specs.PublicKey.{KeyParts}
+use Rattle.rpki.specs.Signature.{SignatureParts}
 
 -- whether a signature verifies: of the key's bits, the message and the signature
 abbrev pub Check : Type 0
@@ -16,3 +18,9 @@ check_of rsa ecdsa EcdsaP256 = ecdsa
 abbrev pub Verifies : Check → Check → PublicKeyFormat → PublicKeyFormat → List ℕ → List ℕ → List ℕ → Type 0
 Verifies rsa ecdsa asked format bits message value =
     (format ≡ asked) × IsTrue (check_of rsa ecdsa format bits message value)
+
+-- The signature of the message is by this key: its algorithm has keys of the key's format, and verifies.
+abbrev pub VerifiesBy : {A : Type 0} → Check → Check → (A → PublicKeyFormat) → KeyParts → List ℕ → SignatureParts A
+    → Type 0
+VerifiesBy rsa ecdsa format key message signature =
+    Verifies rsa ecdsa (format signature.algorithm) key.format key.bits.octets message signature.value

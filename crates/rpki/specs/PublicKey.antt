@@ -1,5 +1,5 @@
 -- Public keys (SubjectPublicKeyInfo, RFC 5280 4.1 and 4.1.2.7).
-use Rattle.std.specs.Prelude.{◌≡◌, ℕ, true, false, List, ◌++◌}
+use Rattle.std.specs.Prelude.{◌≡◌, ◌↔◌, ◌<◌, ◌^◌, ℕ, true, false, List, ◌++◌, length}
 use Rattle.rpki_der.specs.TagName.{sequence, bit_string, integer}
 use Rattle.rpki_der.specs.Header.{tlv}
 use Rattle.rpki_der.specs.Values.{SpellsLeaf}
@@ -9,7 +9,7 @@ use Rattle.rpki_der.specs.Integer.{IsUnsigned}
 use Rattle.rpki.specs.declared.crypto.keys.PublicKeyFormat.{PublicKeyFormat}
 use Rattle.rpki.specs.declared.crypto.keys.PublicKeyFormat.TheVariants.{Rsa}
 use Rattle.rpki.specs.AnyValue.{SpellsAny}
-use Rattle.rpki.specs.TwoParts.{SpellsBoth}
+use Rattle.rpki_der.specs.Parts.{SpellsBoth}
 use Rattle.rpki.specs.KeyFormat.{SpellsFormat, format_octets}
 
 -- the format, and the bits of the key
@@ -51,3 +51,11 @@ pub record IsRsaKey (k : KeyParts) (p : List ℕ) : Type 0 where
   pub format : k.format ≡ Rsa
   pub bits : k.bits ≡ bits_of 0 p
   pub numbers : SpellsRsaBits tt p
+
+-- a length announces the contents
+abbrev pub IsShortKey : KeyParts → Type 0
+IsShortKey k = length (key_contents k) < 2 ^ 32
+
+-- other keys have the same encoding exactly where they are equal
+abbrev pub IsKeyApart : KeyParts → Type 0
+IsKeyApart k = (other : KeyParts) → IsShortKey k → IsShortKey other → (key_octets k ≡ key_octets other) ↔ (k ≡ other)

@@ -1,11 +1,12 @@
 -- Signed data: a SEQUENCE of one value, an algorithm identifier and a BIT STRING (RFC 5280 4.1).
-use Rattle.std.specs.Prelude.{◌≡◌, ℕ, true, false, List, ◌++◌, ◌∷◌}
+use Rattle.std.specs.Prelude.{◌≡◌, ◌↔◌, ◌<◌, ◌^◌, ℕ, Bool, true, false, IsTrue, List, ◌++◌, ◌∷◌, length}
 use Rattle.rpki_der.specs.TagName.{sequence, bit_string}
 use Rattle.rpki_der.specs.Header.{tlv}
 use Rattle.rpki_der.specs.Values.{SpellsLeaf}
 use Rattle.rpki_der.specs.Leaves.{IsBits, bits_of}
 use Rattle.rpki_der.specs.Contents.{bits_contents}
 use Rattle.rpki_der.specs.Members.{IsValue}
+use Rattle.rpki.specs.Signature.{SignatureParts, signature_of}
 
 -- what is signed, by which algorithm, and the signature
 pub record SignedParts (A : Type 0) : Type 0 where
@@ -33,6 +34,10 @@ pub record IsSignedContents {A : Type 0} (spells : A → List ℕ → Type 0) (x
 abbrev pub SpellsSigned : {A : Type 0} → (A → List ℕ → Type 0) → SignedParts A → List ℕ → Type 0
 SpellsSigned spells = SpellsLeaf sequence true (IsSignedContents spells)
 
+-- the algorithm and the octets of the signature
+abbrev pub signature_in : {A : Type 0} → SignedParts A → SignatureParts A
+signature_in x = signature_of x.algorithm x.value
+
 -- the BIT STRING of a signature, and signed data of these parts
 abbrev pub signature_octets : ℕ → List ℕ → List ℕ
 signature_octets unused value = tlv bit_string false (bits_contents (bits_of unused value))
@@ -58,3 +63,34 @@ pub record DifferInCount (value a b : List ℕ) : Type 0 where
   pub second : ℕ
   pub one : a ≡ front ++ first ∷ value
   pub other : b ≡ front ++ second ∷ value
+
+-- an algorithm has one spelling
+abbrev pub HasOneSpelling : {A : Type 0} → (A → List ℕ → Type 0) → A → Type 0
+HasOneSpelling spells a = (s t : List ℕ) → spells a s → spells a t → s ≡ t
+
+-- Signed data that stands in these octets is written as they are exactly where its algorithm is spelled there as it is
+-- written, and no bit is unused.
+abbrev pub IsWrittenAgain : {A : Type 0} → (A → List ℕ → Type 0) → (A → List ℕ) → SignedParts A → List ℕ → Type 0
+IsWrittenAgain spells written x octets = (text : List ℕ) (unused : ℕ) → spells x.algorithm text
+    → octets ≡ signed_octets x.signed text unused x.value
+    → (written_signed written x ≡ octets) ↔ ((text ≡ written x.algorithm) × (unused ≡ 0))
+
+-- where its algorithm has one spelling, all its octets differ from these in the count of unused bits alone
+abbrev pub DiffersInCountAlone : {A : Type 0} → (A → List ℕ → Type 0) → SignedParts A → List ℕ → Type 0
+DiffersInCountAlone spells x octets = (other : List ℕ) → SpellsSigned spells x other → HasOneSpelling spells x.algorithm
+    → DifferInCount x.value octets other
+
+-- a length announces what is written
+abbrev pub IsShortSigned : {A : Type 0} → (A → List ℕ) → SignedParts A → Type 0
+IsShortSigned written x = length (written_contents written x) < 2 ^ 32
+
+-- other signed data is written as this is exactly where the normal forms are equal
+abbrev pub IsWrittenApart : {A : Type 0} → (A → List ℕ) → (A → A) → SignedParts A → Type 0
+IsWrittenApart {A} written norm x = (other : SignedParts A) → IsValue other.signed → IsShortSigned written x
+    → IsShortSigned written other
+    → (written_signed written x ≡ written_signed written other) ↔ (normal_parts norm x ≡ normal_parts norm other)
+
+-- octets of signed data that is equal differ in the count of unused bits alone
+abbrev pub DifferWhereEqual : {A : Type 0} → (SignedParts A → SignedParts A → Bool) → (A → List ℕ → Type 0) → Type 0
+DifferWhereEqual {A} same spells = (v w : SignedParts A) (a b : List ℕ) → IsTrue (same v w) → SpellsSigned spells v a
+    → SpellsSigned spells w b → DifferInCount v.value a b

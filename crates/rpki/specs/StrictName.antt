@@ -71,3 +71,7 @@ IsRpkiName = IsNameOf (IsStrict name_table rpki_strings)
 -- a name of a router
 abbrev pub IsRouterName : List ℕ → Type 0
 IsRouterName = IsNameOf (IsStrict name_table router_strings)
+
+-- a name that passes both
+abbrev pub IsEitherName : List ℕ → Type 0
+IsEitherName octets = IsRpkiName octets × IsRouterName octets

@@ -5,19 +5,18 @@ ghost use Rattle.std.specs.Ordering.{nat_cmp};
 ghost use Rattle.std.specs.Cmp.Lexicographic.{slice_cmp};
 ghost use Rattle.rpki_der.specs.TagName.{octet_string};
 ghost use Rattle.rpki_der.specs.Header.{tlv};
-ghost use Rattle.rpki_der.specs.ErrorText.{text_of};
 ghost use Rattle.rpki_der.specs.declared.error.DecodeError.{DecodeError};
 ghost use Rattle.rpki.specs.Oids.{sha256_with_rsa_encryption, ecdsa_with_sha256};
 ghost use Rattle.rpki.specs.AlgorithmOctets.{algorithm_octets};
 ghost use Rattle.rpki.specs.SignatureNames.{bare_octets};
-ghost use Rattle.rpki.specs.SignedData.{SignedParts, SpellsSigned, DifferInCount};
+ghost use Rattle.rpki.specs.SignedData.{SignedParts, HasOneSpelling, DifferWhereEqual};
 ghost use Rattle.rpki.specs.KeyIdentifier.{SpellsKeyIdentifier};
 ghost use Rattle.rpki.specs.PublicKey.{KeyParts};
 ghost use Rattle.rpki.specs.StrictName.{IsRpkiName, IsRouterName};
 ghost use Rattle.rpki.specs.StrictNameWithoutOrganization.{IsRpkiNameWithoutOrganization, IsRouterNameWithoutOrganization};
 ghost use Rattle.rpki.specs.ExtensionValue.{ExtensionParts, SpellsExtension};
 ghost use Rattle.rpki.specs.Signature.{SignatureParts};
-ghost use Rattle.rpki.specs.ErrorContent.{content_of, verification_content, HaveSameContent};
+ghost use Rattle.rpki.specs.ErrorContent.{HaveSameContent, HaveSameText, HaveSameReason};
 ghost use Rattle.rpki.specs.declared.crypto.SigningAlgorithm.{SigningAlgorithm};
 ghost use Rattle.rpki.specs.declared.crypto.digest.DigestAlgorithm.{DigestAlgorithm};
 ghost use Rattle.rpki.specs.declared.crypto.keys.PublicKeyFormat.{PublicKeyFormat};
@@ -39,9 +38,7 @@ use std::hash::Hash;
 
 /// The algorithm of the RPKI has one spelling with parameters, and one without.
 pub fn rpki_algorithm_has_one_spelling()
-    ensures { (present : Bool) (s t : List ℕ)
-        → ⟦<RpkiSignatureAlgorithm as SignatureAlgorithm>⟧.spells present s
-        → ⟦<RpkiSignatureAlgorithm as SignatureAlgorithm>⟧.spells present t → s ≡ t }
+    ensures { (present : Bool) → HasOneSpelling ⟦<RpkiSignatureAlgorithm as SignatureAlgorithm>⟧.spells present }
 {}
 
 /// The algorithm of the RPKI has RSA keys, and that of BGPsec has P-256 keys, however they are spelled.
@@ -57,10 +54,8 @@ pub fn algorithms_are_written_apart<Alg: SignatureAlgorithm>()
 
 /// Two inputs of equal signed data of the RPKI are as long, and differ at most in the count of unused bits.
 pub fn equal_signed_data_differ_in_count()
-    ensures { (v w : SignedParts Bool) (a b : List ℕ)
-        → IsTrue (⟦<SignedData<RpkiSignatureAlgorithm> as PartialEq>⟧.eq v w)
-        → SpellsSigned ⟦<RpkiSignatureAlgorithm as SignatureAlgorithm>⟧.spells v a
-        → SpellsSigned ⟦<RpkiSignatureAlgorithm as SignatureAlgorithm>⟧.spells w b → DifferInCount v.value a b }
+    ensures { DifferWhereEqual (⟦<SignedData<RpkiSignatureAlgorithm> as PartialEq>⟧.eq)
+        ⟦<RpkiSignatureAlgorithm as SignatureAlgorithm>⟧.spells }
 {}
 
 /// Signed data of the RPKI is equal where the slices, the algorithms and the octets of the signatures are.
@@ -133,10 +128,10 @@ pub fn algorithms_are_compared_by_their_values()
 /// Errors are equal where they are of one kind and have the same text.
 pub fn equal_errors_have_equal_texts()
     ensures inspection { (d e : InspectionError)
-        → IsTrue (⟦<InspectionError as PartialEq>⟧.eq d e) ↔ (text_of (content_of d) ≡ text_of (content_of e)) }
+        → IsTrue (⟦<InspectionError as PartialEq>⟧.eq d e) ↔ HaveSameText d e }
     ensures verification { (d e : VerificationError)
         → IsTrue (⟦<VerificationError as PartialEq>⟧.eq d e)
-        ↔ (text_of (verification_content d) ≡ text_of (verification_content e)) }
+        ↔ HaveSameReason d e }
     ensures validation { (d e : ValidationError)
         → IsTrue (⟦<ValidationError as PartialEq>⟧.eq d e) ↔ HaveSameContent (⟦<DecodeError as PartialEq>⟧.eq) d e }
     ensures signature { (d e : SignatureVerificationError)

@@ -3,6 +3,7 @@
 //! A test is proved too, so each is one loop with a helper that makes the calls. A function hands out the rows of each
 //! table, since a proof about a loop over rows that it is told one by one takes long.
 
+mod decimal;
 mod failing;
 mod laws;
 mod periods;

@@ -6,9 +6,9 @@
 -- Signed data read in place: SignedReadingLaws.
 -- Any algorithm identifier; statuses of keys, of names, and of another algorithm: IdentifierLaws, KeyStatusLaws,
 --   NameStatusLaws, ElseLaws.
--- What is made on a condition: MadeLaws.
+-- What is made on a condition: MadeLaws. Hexadecimal digits: HexTextLaws.
 -- Where octets go wrong: FaultLaws. The index, in the middle of its writing: FillingLaws.
--- Parts of parsed URIs, by their places: RsyncPlacesLaws, HttpsPlacesLaws.
+-- Parts of parsed URIs, by their places: RsyncPlacesLaws, HttpsPlacesLaws. Parts of certificates: CertificateLaws.
 
 mod SuffixLaws
 mod PartLaws
@@ -25,3 +25,5 @@ mod NameStatusLaws
 mod RsyncPlacesLaws
 mod HttpsPlacesLaws
 mod MadeLaws
+pub mod CertificateLaws
+mod HexTextLaws

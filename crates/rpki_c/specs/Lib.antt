@@ -9,8 +9,12 @@ pub mod Whole
 pub mod Identifier
 pub mod Key
 pub mod Serial
+pub mod SerialText
+pub mod KeyIdentifier
 pub mod Time
 pub mod Made
+pub mod Moments
+pub mod Periods
 pub mod MadeValues
 pub mod Base64
 pub mod Names
@@ -24,3 +28,5 @@ pub mod Index
 pub mod Signed
 pub mod MadeSigned
 pub mod Extension
+pub mod Certificate
+pub mod MadeExtension

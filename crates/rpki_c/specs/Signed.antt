@@ -23,6 +23,10 @@ use Rattle.rpki_c.specs.Whole.{IsRefusedElse}
 abbrev pub SpellsRpki : SignedParts Bool → List ℕ → Type 0
 SpellsRpki = SpellsSigned (SpellsAlgorithm sha256_with_rsa_encryption)
 
+-- the three parts of it, and nothing else
+abbrev pub AreRpkiParts : SignedParts Bool → List ℕ → Type 0
+AreRpkiParts = IsSignedContents (SpellsAlgorithm sha256_with_rsa_encryption)
+
 -- the error of a value that is walked: allocation may fail where a constructed value begins
 abbrev pub IsWalkedFault : List ℕ → DecodeError → Type 0
 IsWalkedFault = OrMemoryWhere HasConstructed IsCaptureFault

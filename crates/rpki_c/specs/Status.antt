@@ -47,3 +47,11 @@ rule_number OtherAttribute = 37
 -- what is added to the number of an error of the second of two texts
 abbrev pub second : ℕ
 second = 16
+
+-- a period of validity begins after the moment
+abbrev pub too_new : ℕ
+too_new = 50
+
+-- a period of validity ended before the moment
+abbrev pub too_old : ℕ
+too_old = 51

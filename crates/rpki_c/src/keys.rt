@@ -27,7 +27,7 @@ pub struct KeyParts {
 }
 
 /// How a format is passed.
-fn format_number(format: PublicKeyFormat) -> u8
+pub(crate) fn format_number(format: PublicKeyFormat) -> u8
     ensures { result ≡ format_number format }
 {
     match format {

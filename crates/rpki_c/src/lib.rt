@@ -7,25 +7,32 @@
 #![tactic(auto)]
 
 mod base_64;
+mod certificate;
 mod digests;
 mod digits;
+mod extension_writing;
 mod extensions;
 mod faults;
 mod headers;
 mod https;
 mod https_parts;
+mod identifier_texts;
 mod identifiers;
 mod index;
 mod key_writing;
 mod keys;
+mod moments;
 mod names;
+mod periods;
 mod place;
 mod ranges;
 mod rsync;
 mod rsync_parts;
+mod serial_texts;
 mod serial_writing;
 mod serials;
 mod signed;
+mod signed_making;
 mod signed_writing;
 mod status;
 mod stored;

@@ -6,11 +6,9 @@ ghost use Rattle.rpki_der.specs.TagName.{bit_string};
 ghost use Rattle.rpki_der.specs.Reading.{Reads};
 ghost use Rattle.rpki_der.specs.Values.{IsLeafFault};
 ghost use Rattle.rpki_der.specs.Leaves.{IsBits};
-ghost use Rattle.rpki.specs.Oids.{sha256_with_rsa_encryption};
-ghost use Rattle.rpki.specs.Algorithm.{SpellsAlgorithm};
-ghost use Rattle.rpki.specs.SignedData.{parts_of, SpellsSignature, IsSignedContents};
+ghost use Rattle.rpki.specs.SignedData.{parts_of, SpellsSignature};
 ghost use Rattle.rpki_c.specs.Whole.{DecodesElse};
-ghost use Rattle.rpki_c.specs.Signed.{SpellsRpki, AreOtherParts, IsOtherSigned, IsAllPartsFault, IsWholeSignedFault, HasSigned, IsSignedRead};
+ghost use Rattle.rpki_c.specs.Signed.{SpellsRpki, AreOtherParts, IsOtherSigned, IsAllPartsFault, IsWholeSignedFault, HasSigned, IsSignedRead, AreRpkiParts};
 
 use crate::identifiers::begins_with_identifier;
 use crate::place::{Place, contents_of};
@@ -64,7 +62,7 @@ fn read_parts<'a>(
     contents: &'a [u8],
 ) -> Result<Option<(&'a [u8], bool, &'a [u8])>, DecodeError>
     ensures { DecodesElse AreOtherParts (λ x. parts_of x.0.now x.1 x.2.now)
-        (IsSignedContents (SpellsAlgorithm sha256_with_rsa_encryption)) IsAllPartsFault contents.now result }
+        AreRpkiParts IsAllPartsFault contents.now result }
 {
     let size = walk_octets(alloc, contents, &mut Steps::new())?;
     let (data, following) = contents.split_at(size);

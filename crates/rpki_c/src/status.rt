@@ -56,3 +56,9 @@ pub(crate) const INVALID_PADDING: u8 = 43;
 
 /// What is added to the number of an error of the second of two texts.
 pub(crate) const SECOND: u8 = 16;
+
+/// A period of validity begins after the moment.
+pub(crate) const TOO_NEW: u8 = 50;
+
+/// A period of validity ended before the moment.
+pub(crate) const TOO_OLD: u8 = 51;

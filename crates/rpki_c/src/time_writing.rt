@@ -10,7 +10,7 @@ use rpki_time::Time;
 use std::alloc::Global;
 
 /// The time of the parts of a moment; `None` where there is none. Its seconds since 1970 are not looked at.
-fn time_of(moment: &Moment) -> Option<Time>
+pub(crate) fn time_of(moment: &Moment) -> Option<Time>
     ensures succeeds { IsSome result ↔ IsPossible moment.now }
     ensures value { IfSome result (λ t. IsTimeOf moment.now t) }
 {

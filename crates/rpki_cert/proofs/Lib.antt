@@ -3,6 +3,8 @@
 -- Values, one at least; lists of extensions: SomeLaws, ExtensionListLaws.
 -- What is signed, and a certificate around it: CertLaws. What an extension says: KnownLaws, PolicyLaws, AccessLaws.
 -- Checks of profiles: ProfileLaws.
+-- Read in place: values, names, lists of extensions, fields, certificates: NestedLaws, NameViewLaws, ListedLaws,
+--   FieldsLaws, ViewLaws.
 
 pub mod SomeLaws
 pub mod ExtensionListLaws
@@ -11,3 +13,8 @@ pub mod KnownLaws
 pub mod PolicyLaws
 pub mod AccessLaws
 pub mod ProfileLaws
+pub mod NestedLaws
+pub mod NameViewLaws
+pub mod ListedLaws
+pub mod FieldsLaws
+pub mod ViewLaws

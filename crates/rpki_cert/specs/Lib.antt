@@ -4,5 +4,8 @@ pub mod CertFault
 pub mod Known
 pub mod ExtensionContent
 pub mod Access
+pub mod InPlace
+pub mod View
 pub mod Valid
 pub mod Profile
+pub mod Verified

@@ -33,7 +33,7 @@ impl Model for Cert {
 }
 
 /// Whether both have parameters, or neither.
-fn is_same(one: RpkiSignatureAlgorithm, other: RpkiSignatureAlgorithm) -> bool
+pub fn is_same(one: RpkiSignatureAlgorithm, other: RpkiSignatureAlgorithm) -> bool
     ensures { IsTrue result ↔ (one ≡ other) }
 {
     one.has_parameters() == other.has_parameters()

@@ -7,21 +7,33 @@
 
 mod access;
 mod cert;
+mod cert_part;
 mod contents;
 mod extensions;
+mod fields;
 mod key_usage;
 mod known;
+mod listed;
+mod names;
+mod nested;
 mod part;
 mod policy;
 mod profile;
 mod purposes;
+mod section;
 mod tbs;
 mod understood;
 mod uris;
+mod verified;
 mod verify;
 mod version;
+mod view;
 
 pub use cert::Cert;
+pub use cert_part::CertPart;
+pub use fields::{Keyed, Named, TbsView};
 pub use key_usage::KeyUsage;
 pub use policy::Overclaim;
+pub use section::Section;
 pub use tbs::TbsCert;
+pub use view::{CertView, Parts};

@@ -1,5 +1,5 @@
 -- What is left after a cursor.
-use Rattle.std.proofs.Common.{◌≡◌, ℕ, ◌+◌, ◌-◌, ◌≤◌, List, [], ◌++◌, length, take, drop, refl, sym, ap, ◌∙◌, arith, length-append}
+use Rattle.std.proofs.Common.{◌≡◌, ◌↔◌, IsTrue, Bool, true, false, ℕ, ◌+◌, ◌-◌, ◌≤◌, List, [], ◌++◌, length, take, drop, refl, sym, ap, ◌∙◌, arith, length-append}
 use Rattle.std.specs.Prelude.{slice_range}
 use Rattle.std.proofs.lemmas.List.{take-take, take_rest, drop_at, drop-take, drop-drop, length-take, length-take-le, length-drop}
 use Rattle.rpki_der.specs.declared.cursor.Source.{Source}
@@ -83,3 +83,11 @@ source-rest b place s front rest parts same =
     let back : drop (length front) s ≡ rest = ap (drop (length front)) parts ∙ drop_at front rest (length front) refl in
     let k = source-back b place (length front) s (omega arith) same in
     rw n (rw back at k)
+
+-- ---- what the test for an end says
+
+pub at-end : (b : Bool) (s : List ℕ) → b ≡ true → IsTrue b ↔ (s ≡ []) → s ≡ []
+at-end b s e h = h.0 e
+
+pub not-at-end : (b : Bool) (s : List ℕ) → b ≡ false → IsTrue b ↔ (s ≡ []) → s ≡ [] → ⊥
+not-at-end b s e h end = let yes = h.1 end in cc

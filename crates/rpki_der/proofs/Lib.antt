@@ -20,12 +20,14 @@
 -- A cursor: CursorLaws.
 -- Contents: numbers, identifiers, strings: IntegerLaws, UnsignedLaws, OidLaws, TextLaws.
 -- What is hashed of octets and numbers: HashLaws.
+-- Bits of the octets of headers: OctetBitLaws.
 -- Digits of numbers, and that they are the shortest: DigitLaws, ShortestLaws.
 -- What is written, and that it is read back: EncodeLaws, HeaderWritingLaws, WritingLaws, LeafWritingLaws,
 --   LeafValueLaws.
 
 pub mod StepLaws
 pub mod DigitLaws
+pub mod OctetBitLaws
 pub mod TagNumberLaws
 pub mod LengthLaws
 pub mod IdentifierLaws

@@ -48,35 +48,44 @@ pair-is x a b p q = λ i. (p i, q i)
 pub first-of : {A B : Type 0} {G : A → List ℕ → Type 0} {H : B → List ℕ → Type 0} {s : List ℕ} {a : A} {b : B} (h : SpellsBoth G H a b s) → Spells G s a h.second
 first-of h = record { front = h.first; parts = h.parts; spelled = h.one }
 
+-- no first part, and so no two
+pub no-first : {A B : Type 0} (G : A → List ℕ → Type 0) (H : B → List ℕ → Type 0) (s : List ℕ) → Refuses G s → (a : A) (b : B) → SpellsBoth G H a b s → ⊥
+no-first G H s none a b h = none a h.second (first-of h)
+
+-- a first part, and no second one after it
+pub no-second : {A B : Type 0} (G : A → List ℕ → Type 0) (H : B → List ℕ → Type 0) (s m : List ℕ) (a : A) → Accepts G s a m → SpellsNothing H m
+    → (x : A) (y : B) → SpellsBoth G H x y s → ⊥
+no-second G H s m a one none x y h = none y (subst (λ (l : List ℕ). H y l) (one.only x h.second (first-of h)).1 h.two)
+
+-- both parts, and no others
+pub both-read : {A B : Type 0} (G : A → List ℕ → Type 0) (H : B → List ℕ → Type 0) (s m : List ℕ) (a : A) (b : B) → Accepts G s a m → IsOnly H b m
+    → SpellsBoth G H a b s × ((x : A) (y : B) → SpellsBoth G H x y s → (x ≡ a) × (y ≡ b))
+both-read G H s m a b one two = (
+  record { first = one.spells.front; second = m; parts = one.spells.parts; one = one.spells.spelled; two = two.0 },
+  λ x y h. let e = one.only x h.second (first-of h) in (e.0, two.1 y (subst (λ (l : List ℕ). H y l) e.1 h.two)),
+)
+
+both : {A B : Type 0} {G : A → List ℕ → Type 0} (H : B → List ℕ → Type 0) (s m : List ℕ) (a : A) (b : B) → Accepts G s a m → IsOnly H b m
+    → IsOnly (Then G H) (a, b) s
+both {A} {B} {G} H s m a b one two =
+    let r = both-read G H s m a b one two in
+    (r.0, λ x h. let e = r.1 x.0 x.1 h in pair-is x a b e.0 e.1)
+
 module _ {A B : Type 0} {G : A → List ℕ → Type 0} (H : B → List ℕ → Type 0) where
-  no-first : (s : List ℕ) → Refuses G s → (a : A) (b : B) → SpellsBoth G H a b s → ⊥
-  no-first s none a b h = none a h.second (first-of h)
-
-  no-second : (s m : List ℕ) (a : A) → Accepts G s a m → SpellsNothing H m → (x : A) (y : B) → SpellsBoth G H x y s → ⊥
-  no-second s m a one none x y h = none y (subst (λ (l : List ℕ). H y l) (one.only x h.second (first-of h)).1 h.two)
-
-  both : (s m : List ℕ) (a : A) (b : B) → Accepts G s a m → IsOnly H b m → IsOnly (Then G H) (a, b) s
-  both s m a b one two = (
-    record { first = one.spells.front; second = m; parts = one.spells.parts; one = one.spells.spelled; two = two.0 },
-    λ x h.
-        let e = one.only x.0 h.second (first-of h) in
-        pair-is x a b e.0 (two.1 x.1 (subst (λ (l : List ℕ). H x.1 l) e.1 h.two)),
-  )
-
   module _ {K L : Kind} {s : List ℕ} where
     -- it isn't there
     pub first-refused : {r : List ℕ} {e : DecodeError} → Refusal G K s r e → Failed (Then G H) (FirstFault G K (λ a. L)) s e
-    first-refused {r} {e} h = (UnlessMemory-weaker e (λ none x k. no-first s none x.0 x.1 k) h.refuses, AtPart h.refuses h.kind)
+    first-refused {r} {e} h = (UnlessMemory-weaker e (λ none x k. no-first G H s none x.0 x.1 k) h.refuses, AtPart h.refuses h.kind)
 
     -- it is there, and one of the others isn't
     pub then-refused : {m : List ℕ} {a : A} {e : DecodeError} → Accepts G s a m → Failed H L m e → Failed (Then G H) (FirstFault G K (λ a. L)) s e
-    then-refused {m} {a} {e} one h = (UnlessMemory-weaker e (λ none x k. no-second s m a one none x.0 x.1 k) h.0, Later a m one h.1)
+    then-refused {m} {a} {e} one h = (UnlessMemory-weaker e (λ none x k. no-second G H s m a one none x.0 x.1 k) h.0, Later a m one h.1)
 
     -- it is there, and so are the others
     pub then-read : {m r : List ℕ} {a : A} {b : B} → Accepts G s a m → Returned H L m r b → Returned (Then G H) (FirstFault G K (λ a. L)) s r (a, b)
     then-read {m} {r} {a} {b} one h = (
-      λ end. both s m a b one (h.0 end),
-      λ some. let k = h.1 some in (λ x q. no-second s m a one k.0 x.0 x.1 q, Later a m one k.1),
+      λ end. both H s m a b one (h.0 end),
+      λ some. let k = h.1 some in (λ x q. no-second G H s m a one k.0 x.0 x.1 q, Later a m one k.1),
     )
 
 -- ---- a part that may be left out, in front of others that do not begin as it does

@@ -1,4 +1,4 @@
-use Rattle.std.specs.Prelude.{ℕ, ◌≡◌}
+use Rattle.std.specs.Prelude.{ℕ, ◌≡◌, List}
 use Rattle.rpki_der.specs.ErrorText.{text_of, error_text}
 use Rattle.rpki_der.specs.declared.error.ContentError.{ContentError}
 use Rattle.rpki_der.specs.declared.error.DecodeError.{DecodeError}
@@ -23,3 +23,11 @@ IsContentOf BadLength e = text_of e ≡ error_text BadLength
 IsContentOf Unexpected e = text_of e ≡ error_text Unexpected
 IsContentOf Trailing e = text_of e ≡ error_text Trailing
 IsContentOf OutOfMemory e = text_of e ≡ error_text OutOfMemory
+
+-- K says of no octets two errors of different kinds
+abbrev pub HasOneKind : (List ℕ → DecodeError → Type 0) → Type 0
+HasOneKind K = (s : List ℕ) (d e : DecodeError) → K s d → K s e → error_number d ≡ error_number e
+
+-- K says of no octets two errors
+abbrev pub HasOneError : (List ℕ → DecodeError → Type 0) → Type 0
+HasOneError K = (s : List ℕ) (d e : DecodeError) → K s d → K s e → d ≡ e

@@ -1,5 +1,6 @@
 -- How an index is made, and how its entries are kept.
 use Rattle.std.specs.Prelude.{◌≡◌, ℕ, ◌+◌, Bool, true, false, List, [], ◌∷◌, ◌++◌, length, Option, Some, None, slice_get}
+use Rattle.rpki_der.specs.declared.tag.Header.{Header}
 use Rattle.rpki_der.specs.Members.{Members, spell, HaveHeaders, count}
 use Rattle.rpki_der.specs.Index.{Entry, entries}
 
@@ -23,6 +24,19 @@ holder_of (Some n) = n
 abbrev pub is_held : Option ℕ → Bool
 is_held None = false
 is_held (Some n) = true
+
+-- the entry of a header of this size at this place
+abbrev pub entry_at : ℕ → ℕ → Header → Option ℕ → Entry
+entry_at place size h parent =
+    let contents = place + size in
+    record {
+      place = place;
+      contents = contents;
+      past = contents + h.length;
+      tag = h.tag;
+      constructed = h.constructed;
+      parent = parent;
+    }
 
 -- what is added of an entry, where entries are kept and where they are not
 abbrev pub noted : Bool → Entry → List Entry

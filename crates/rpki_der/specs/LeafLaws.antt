@@ -50,6 +50,10 @@ abbrev pub OctetsApart : Type 0
 OctetsApart = (a b : List ℕ) → length b < 2 ^ 32
     → (tlv octet_string false (octet_string_contents a) ≡ tlv octet_string false (octet_string_contents b)) ↔ (a ≡ b)
 
-abbrev pub BitsApart : Type 0
-BitsApart = (a b : Bits) → length b.octets + 1 < 2 ^ 32
+-- other bits have the same encoding exactly where they are the same
+abbrev pub AreBitsApart : Bits → Type 0
+AreBitsApart a = (b : Bits) → length (bits_contents b) < 2 ^ 32
     → (tlv bit_string false (bits_contents a) ≡ tlv bit_string false (bits_contents b)) ↔ (a ≡ b)
+
+abbrev pub BitsApart : Type 0
+BitsApart = (a : Bits) → AreBitsApart a

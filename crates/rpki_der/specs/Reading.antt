@@ -78,6 +78,11 @@ OrMemoryWhere P K s OutOfMemory = P s
 abbrev pub Finds : {V : Type 0} → (V → List ℕ → Type 0) → List ℕ → Type 0
 Finds {V} G s = (v : V) × (r : List ℕ) × Spells G s v r
 
+-- As Reads, for a reader that keeps what it finds: allocation fails only where a beginning of s is in the grammar.
+abbrev pub ReadsKept : {X V : Type 0} → (X → V) → (V → List ℕ → Type 0) → (List ℕ → DecodeError → Type 0) → List ℕ
+    → List ℕ → Result X DecodeError → Type 0
+ReadsKept view G K = Reads view G (OrMemoryWhere (Finds G) K)
+
 -- a kind of K, and never allocation failure
 pub record TakesNoMemory (K : List ℕ → DecodeError → Type 0) (s : List ℕ) (e : DecodeError) : Type 0 where
   pub other : e ≢ OutOfMemory

@@ -1,5 +1,5 @@
 -- What a tag is (X.690 8.1.2.2).
-use Rattle.std.specs.Prelude.{ℕ, ◌≡◌, ◌<◌, ◌^◌}
+use Rattle.std.specs.Prelude.{ℕ, ◌≡◌, ◌<◌, ◌^◌, List, [], ◌∷◌}
 use Rattle.rpki_der.specs.declared.tag.Class.{Class}
 use Rattle.rpki_der.specs.declared.tag.Class.TheVariants.{Universal, Context}
 
@@ -59,3 +59,8 @@ generalized_time = tag_of Universal 24
 -- the tag of a URI in a general name (RFC 5280 4.2.1.6)
 abbrev pub context_6 : TagName
 context_6 = tag_of Context 6
+
+-- the tags that have names (X.680 8.4; RFC 5280 4.2.1.6)
+abbrev pub named_tags : List TagName
+named_tags = boolean ∷ integer ∷ bit_string ∷ octet_string ∷ null ∷ oid ∷ utf8_string ∷ sequence ∷ set
+    ∷ printable_string ∷ ia5_string ∷ utc_time ∷ generalized_time ∷ context_6 ∷ []

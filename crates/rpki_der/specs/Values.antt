@@ -1,11 +1,11 @@
 -- Values by their header, and the first error of a reader of one.
-use Rattle.std.specs.Prelude.{◌≡◌, ℕ, Bool, ◌<◌, ◌^◌, ◌⊎◌, List, length}
+use Rattle.std.specs.Prelude.{◌≡◌, ℕ, Bool, false, ◌<◌, ◌^◌, ◌⊎◌, List, length, Result, Option}
 use Rattle.rpki_der.specs.declared.error.DecodeError.{DecodeError}
 use Rattle.rpki_der.specs.declared.error.DecodeError.TheVariants.{Truncated, BadTag, BadLength, Unexpected, Content, Trailing, OutOfMemory}
 use Rattle.rpki_der.specs.declared.tag.Header.{Header}
 use Rattle.rpki_der.specs.TagName.{TagName, IsTag}
 use Rattle.rpki_der.specs.Header.{identifier_octets, header_octets, IsHeader, tlv}
-use Rattle.rpki_der.specs.Reading.{Spells, Refuses, IsCut, TakesNoMemory}
+use Rattle.rpki_der.specs.Reading.{Spells, Refuses, IsCut, Reads, ReadsWhere, TakesNoMemory}
 
 -- identifier octets
 pub record SpellsIdentifier (i : TagName × Bool) (p : List ℕ) : Type 0 where
@@ -74,6 +74,16 @@ IsLeafFault {V} t f C s (Content e) =
     (c : List ℕ) × (r : List ℕ) × Spells (SpellsContents t f) s c r × ((v : V) → C v c → ⊥)
 IsLeafFault t f C s Trailing = ⊥
 IsLeafFault t f C s OutOfMemory = ⊥
+
+-- A reader of a primitive value of the tag, whose contents C spells, found s and left r.
+abbrev pub ReadsLeaf : {X V : Type 0} → (X → V) → TagName → (V → List ℕ → Type 0) → List ℕ → List ℕ
+    → Result X DecodeError → Type 0
+ReadsLeaf view t C = Reads view (SpellsLeaf t false C) (IsLeafFault t false C)
+
+-- The same for an optional reader, which returns None exactly where s does not begin with the tag.
+abbrev pub ReadsLeafWhere : {X V : Type 0} → (X → V) → TagName → (V → List ℕ → Type 0) → List ℕ → List ℕ
+    → Result (Option X) DecodeError → Type 0
+ReadsLeafWhere view t C = ReadsWhere (HasTag t) view (SpellsLeaf t false C) (IsLeafFault t false C)
 
 -- A composed reader of one value gives exactly the fault of that value where there is none; elsewhere any kind.
 abbrev pub GivesOuterFault : TagName → Bool → List ℕ → DecodeError → Type 0

@@ -153,17 +153,16 @@ impl<'a> BitSlice<'a> {
 impl<'a> Constructed<'a> {
     ghost use Rattle.rpki_der.specs.Cursor.{left};
     ghost use Rattle.rpki_der.specs.TagName.{bit_string};
-    ghost use Rattle.rpki_der.specs.Reading.{Reads, OrMemoryWhere, Finds};
-    ghost use Rattle.rpki_der.specs.Values.{SpellsLeaf, IsLeafFault};
+    ghost use Rattle.rpki_der.specs.Values.{SpellsLeaf, IsLeafFault, ReadsLeaf};
     ghost use Rattle.rpki_der.specs.Leaves.{IsBits};
+    ghost use Rattle.rpki_der.specs.Reading.{ReadsKept};
 
     /// A bit string (X.690 8.6, 11.2) that borrows its octets. Allocates nothing.
     ///
     /// The errors are those of a header; then `Unexpected` for another tag or form; then `Truncated`; then `Content`
     /// for contents that are not those of a bit string.
     pub fn take_bits(&mut self) -> Result<BitSlice<'a>, DecodeError>
-        ensures { Reads (λ b. b) (SpellsLeaf bit_string false IsBits) (IsLeafFault bit_string false IsBits)
-            (left self.old) (left self.new) result }
+        ensures { ReadsLeaf (λ b. b) bit_string IsBits (left self.old) (left self.new) result }
     {
         let mut after = *self;
         let contents = after.take_contents(Tag::BIT_STRING, false)?;
@@ -185,8 +184,7 @@ impl<'a> Constructed<'a> {
     /// The errors are those of a header; then `Unexpected` for another tag or form; then `Truncated`; then `Content`
     /// for contents that are not those of a bit string; then `OutOfMemory` if allocation fails.
     pub fn take_bit_string(&mut self, alloc: Global) -> Result<BitString, DecodeError>
-        ensures { Reads (λ b. b) (SpellsLeaf bit_string false IsBits)
-            (OrMemoryWhere (Finds (SpellsLeaf bit_string false IsBits)) (IsLeafFault bit_string false IsBits))
+        ensures { ReadsKept (λ b. b) (SpellsLeaf bit_string false IsBits) (IsLeafFault bit_string false IsBits)
             (left self.old) (left self.new) result }
     {
         let mut after = *self;

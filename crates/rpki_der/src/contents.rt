@@ -4,8 +4,7 @@ ghost use Rattle.std.specs.Prelude.{false};
 ghost use Rattle.rpki_der.specs.TagName.{oid, printable_string, utf8_string, ia5_string};
 ghost use Rattle.rpki_der.specs.Leaves.{IsOidOf};
 ghost use Rattle.rpki_der.specs.Text.{IsPrintableText, IsUtf8Text, IsIa5Text};
-ghost use Rattle.rpki_der.specs.Reading.{Reads};
-ghost use Rattle.rpki_der.specs.Values.{SpellsLeaf, IsLeafFault};
+ghost use Rattle.rpki_der.specs.Values.{ReadsLeaf};
 
 use crate::cursor::Cursor;
 use crate::error::DecodeError;
@@ -16,8 +15,7 @@ use crate::text::{ia5_of, printable_of, utf8_of};
 /// The contents of an object identifier (X.690 8.19), with the errors of
 /// [Constructed::take_oid](crate::Constructed::take_oid).
 pub fn take_oid_contents<C: Cursor>(cursor: &mut C) -> Result<C, DecodeError>
-    ensures { Reads C.octets_left (SpellsLeaf oid false IsOidOf) (IsLeafFault oid false IsOidOf)
-        (C.octets_left cursor.old) (C.octets_left cursor.new) result }
+    ensures { ReadsLeaf C.octets_left oid IsOidOf (C.octets_left cursor.old) (C.octets_left cursor.new) result }
 {
     let mut after = *cursor;
     let contents = after.take_value_contents(Tag::OID, false)?;
@@ -31,9 +29,7 @@ pub fn take_oid_contents<C: Cursor>(cursor: &mut C) -> Result<C, DecodeError>
 /// The contents of a PrintableString (X.690 8.23), with the errors of
 /// [Constructed::take_printable](crate::Constructed::take_printable).
 pub fn take_printable_contents<C: Cursor>(cursor: &mut C) -> Result<C, DecodeError>
-    ensures { Reads C.octets_left (SpellsLeaf printable_string false IsPrintableText)
-        (IsLeafFault printable_string false IsPrintableText) (C.octets_left cursor.old) (C.octets_left cursor.new)
-        result }
+    ensures { ReadsLeaf C.octets_left printable_string IsPrintableText (C.octets_left cursor.old) (C.octets_left cursor.new) result }
 {
     let mut after = *cursor;
     let contents = after.take_value_contents(Tag::PRINTABLE_STRING, false)?;
@@ -49,8 +45,7 @@ pub fn take_printable_contents<C: Cursor>(cursor: &mut C) -> Result<C, DecodeErr
 /// The contents of a UTF8String (X.690 8.23), with the errors of
 /// [Constructed::take_utf8](crate::Constructed::take_utf8).
 pub fn take_utf8_contents<C: Cursor>(cursor: &mut C) -> Result<C, DecodeError>
-    ensures { Reads C.octets_left (SpellsLeaf utf8_string false IsUtf8Text) (IsLeafFault utf8_string false IsUtf8Text)
-        (C.octets_left cursor.old) (C.octets_left cursor.new) result }
+    ensures { ReadsLeaf C.octets_left utf8_string IsUtf8Text (C.octets_left cursor.old) (C.octets_left cursor.new) result }
 {
     let mut after = *cursor;
     let contents = after.take_value_contents(Tag::UTF8_STRING, false)?;
@@ -65,8 +60,7 @@ pub fn take_utf8_contents<C: Cursor>(cursor: &mut C) -> Result<C, DecodeError>
 
 /// The contents of an IA5String (X.690 8.23), with the errors of [Constructed::take_ia5](crate::Constructed::take_ia5).
 pub fn take_ia5_contents<C: Cursor>(cursor: &mut C) -> Result<C, DecodeError>
-    ensures { Reads C.octets_left (SpellsLeaf ia5_string false IsIa5Text) (IsLeafFault ia5_string false IsIa5Text)
-        (C.octets_left cursor.old) (C.octets_left cursor.new) result }
+    ensures { ReadsLeaf C.octets_left ia5_string IsIa5Text (C.octets_left cursor.old) (C.octets_left cursor.new) result }
 {
     let mut after = *cursor;
     let contents = after.take_value_contents(Tag::IA5_STRING, false)?;

@@ -43,17 +43,9 @@ pub(crate) fn index_values(alloc: Global, octets: &[u8]) -> Result<Vec<HeaderEnt
     let mut index = Vec::new(alloc);
     let mut place = 0;
     'values: while place < octets.len() {
-        match walk_value(
-            alloc,
-            &octets[place..],
-            place,
-            true,
-            &mut index,
-            &mut Steps::new(),
-        ) {
-            Ok(size) => place += size,
-            Err(e) => return Err(e),
-        }
+        let left = &octets[place..];
+        let size = walk_value(alloc, left, place, true, &mut index, &mut Steps::new())?;
+        place += size;
     }
     Ok(index)
 }

@@ -25,8 +25,8 @@ fn tag_number(s: &[u8]) -> Result<(u32, &[u8]), DecodeError>
             return Err(DecodeError::Truncated);
         }
         let octet = s[i];
-        number = number * 128 + u32::from(octet % 128);
-        if octet < 128 {
+        number = number * 128 + u32::from(octet & 0x7f);
+        if octet & 0x80 == 0 {
             if number < 31 {
                 return Err(DecodeError::BadTag);
             }
@@ -49,11 +49,11 @@ fn identifier(s: &[u8]) -> Result<(Tag, bool, &[u8]), DecodeError>
     let [first, rest @ ..] = s else {
         return Err(DecodeError::Truncated);
     };
-    let class = class_of(*first / 64);
-    let constructed = *first / 32 % 2 == 1;
-    let low = u32::from(*first % 32);
+    let class = class_of(*first >> 6);
+    let constructed = *first >> 5 & 1 == 1;
+    let low = u32::from(*first & 0x1f);
     if low < 31 {
-        if *first / 64 == 0 && low == 0 {
+        if *first >> 6 == 0 && low == 0 {
             return Err(DecodeError::BadTag);
         }
         return Ok((Tag::new(class, low), constructed, rest));
@@ -85,13 +85,14 @@ fn length(s: &[u8]) -> Result<(u32, &[u8]), DecodeError>
     let [first, rest @ ..] = s else {
         return Err(DecodeError::Truncated);
     };
-    if *first < 128 {
+    if *first & 0x80 == 0 {
         return Ok((u32::from(*first), rest));
     }
-    if *first == 128 || *first > 132 {
+    let count = *first & 0x7f;
+    if count == 0 || count > 4 {
         return Err(DecodeError::BadLength);
     }
-    long_length(usize::from(*first) - 128, rest)
+    long_length(usize::from(count), rest)
 }
 
 /// A length in this many octets, most significant first (X.690 8.1.3.5), and the rest.

@@ -49,17 +49,12 @@ impl Model for HeaderEntry {
 }
 
 impl HeaderEntry {
+    ghost use Rattle.rpki_der.specs.IndexParts.{entry_at};
+
     /// The entry of a header of this size, at this place, in the value whose entry has this number.
     pub(crate) fn new(place: usize, size: u8, header: &Header, parent: Option<usize>) -> HeaderEntry
         requires { place + size + header.now.length < 2 ^ 64 }
-        ensures { result ≡ record {
-          place = place;
-          contents = place + size;
-          past = place + size + header.now.length;
-          tag = header.now.tag;
-          constructed = header.now.constructed;
-          parent = parent;
-        } }
+        ensures { result ≡ entry_at place size header.now parent }
     {
         HeaderEntry {
             place,

@@ -151,16 +151,14 @@ fn u8_of(contents: &[u8]) -> Option<u8>
 impl<'a> Constructed<'a> {
     ghost use Rattle.rpki_der.specs.Cursor.{left};
     ghost use Rattle.rpki_der.specs.TagName.{integer};
-    ghost use Rattle.rpki_der.specs.Reading.{Reads};
-    ghost use Rattle.rpki_der.specs.Values.{SpellsLeaf, IsLeafFault};
+    ghost use Rattle.rpki_der.specs.Values.{ReadsLeaf};
 
     /// A non-negative INTEGER (X.690 8.3).
     ///
     /// The errors are those of a header; then `Unexpected` for another tag or form; then `Truncated`; then `Content`
     /// for contents that are empty, negative or begin with nine equal bits.
     pub fn take_unsigned(&mut self) -> Result<Unsigned<'a>, DecodeError>
-        ensures { Reads number_of (SpellsLeaf integer false IsUnsigned) (IsLeafFault integer false IsUnsigned)
-            (left self.old) (left self.new) result }
+        ensures { ReadsLeaf number_of integer IsUnsigned (left self.old) (left self.new) result }
     {
         let mut after = *self;
         let contents = after.take_contents(Tag::INTEGER, false)?;
@@ -177,8 +175,7 @@ impl<'a> Constructed<'a> {
     ///
     /// The errors are those of [Constructed::take_unsigned]; `Content` also for a number of 2^64 or more.
     pub fn take_u64(&mut self) -> Result<u64, DecodeError>
-        ensures { Reads (λ n. n) (SpellsLeaf integer false (IsUnsignedBelow (2 ^ 64)))
-            (IsLeafFault integer false (IsUnsignedBelow (2 ^ 64))) (left self.old) (left self.new) result }
+        ensures { ReadsLeaf (λ n. n) integer (IsUnsignedBelow (2 ^ 64)) (left self.old) (left self.new) result }
     {
         let mut after = *self;
         let contents = after.take_contents(Tag::INTEGER, false)?;
@@ -195,8 +192,7 @@ impl<'a> Constructed<'a> {
     ///
     /// The errors are those of [Constructed::take_unsigned]; `Content` also for a number of 2^8 or more.
     pub fn take_u8(&mut self) -> Result<u8, DecodeError>
-        ensures { Reads (λ n. n) (SpellsLeaf integer false (IsUnsignedBelow (2 ^ 8)))
-            (IsLeafFault integer false (IsUnsignedBelow (2 ^ 8))) (left self.old) (left self.new) result }
+        ensures { ReadsLeaf (λ n. n) integer (IsUnsignedBelow (2 ^ 8)) (left self.old) (left self.new) result }
     {
         let mut after = *self;
         let contents = after.take_contents(Tag::INTEGER, false)?;

@@ -13,9 +13,9 @@ ghost use Rattle.rpki_der.specs.Leaves.{Bits, IsNull, IsBoolean, IsOidOf, IsBits
 ghost use Rattle.rpki_der.specs.Integer.{IsUnsigned, IsUnsignedBelow, unsigned_contents};
 ghost use Rattle.rpki_der.specs.Text.{IsPrintableText, IsUtf8Text, IsIa5Text};
 ghost use Rattle.rpki_der.specs.DefaultFalse.{IsTrueFault};
-ghost use Rattle.rpki_der.specs.Error.{error_number};
+ghost use Rattle.rpki_der.specs.Error.{HasOneKind, HasOneError};
 ghost use Rattle.std.specs.Prelude.{Bool, Option, false};
-ghost use Rattle.rpki_der.specs.TagName.{TagName, IsTag, boolean, integer, bit_string, octet_string, null, oid, utf8_string, sequence, set, printable_string, ia5_string, utc_time, generalized_time, context_6};
+ghost use Rattle.rpki_der.specs.TagName.{TagName, IsTag, boolean, integer, bit_string, octet_string, null, oid, utf8_string, printable_string, ia5_string, named_tags};
 ghost use Rattle.rpki_der.specs.Members.{Members, spell, HaveHeaders, IsValue, IsValueOf, SpellsValue};
 ghost use Rattle.rpki_der.specs.NestedFault.{IsNestedFault};
 ghost use Rattle.rpki_der.specs.declared.error.DecodeError.{DecodeError};
@@ -46,38 +46,25 @@ pub fn one_header()
 
 /// Octets that no header begins have one fault at most.
 pub fn one_fault()
-    ensures { (s : List ℕ) (d e : DecodeError) → IsHeaderFault s d → IsHeaderFault s e → d ≡ e }
+    ensures { HasOneError IsHeaderFault }
 {}
 
 /// Errors are unique: each reader of values by their tag and form, and each reader of leaves, has at most one error for
 /// given octets. For a leaf whose contents are malformed the kind is unique; its text is the reader's.
 pub fn one_refusal()
-    ensures values { (t : TagName) (f : Bool) (s : List ℕ) (d e : DecodeError) → IsContentsFault t f s d
-        → IsContentsFault t f s e → d ≡ e }
-    ensures flat { (s : List ℕ) (d e : DecodeError) → IsWantedFault IsAnyTag s d → IsWantedFault IsAnyTag s e → d ≡ e }
-    ensures tagged { (t : TagName) (s : List ℕ) (d e : DecodeError) → IsWantedFault (IsTagged t) s d
-        → IsWantedFault (IsTagged t) s e → d ≡ e }
-    ensures nulls { (s : List ℕ) (d e : DecodeError) → IsLeafFault null false IsNull s d
-        → IsLeafFault null false IsNull s e → error_number d ≡ error_number e }
-    ensures booleans { (s : List ℕ) (d e : DecodeError) → IsLeafFault boolean false IsBoolean s d
-        → IsLeafFault boolean false IsBoolean s e → error_number d ≡ error_number e }
-    ensures numbers { (s : List ℕ) (d e : DecodeError) → IsLeafFault integer false IsUnsigned s d
-        → IsLeafFault integer false IsUnsigned s e → error_number d ≡ error_number e }
-    ensures identifiers { (s : List ℕ) (d e : DecodeError) → IsLeafFault oid false IsOidOf s d
-        → IsLeafFault oid false IsOidOf s e → error_number d ≡ error_number e }
-    ensures bits { (s : List ℕ) (d e : DecodeError) → IsLeafFault bit_string false IsBits s d
-        → IsLeafFault bit_string false IsBits s e → error_number d ≡ error_number e }
-    ensures printable { (s : List ℕ) (d e : DecodeError) → IsLeafFault printable_string false IsPrintableText s d
-        → IsLeafFault printable_string false IsPrintableText s e → error_number d ≡ error_number e }
-    ensures utf8 { (s : List ℕ) (d e : DecodeError) → IsLeafFault utf8_string false IsUtf8Text s d
-        → IsLeafFault utf8_string false IsUtf8Text s e → error_number d ≡ error_number e }
-    ensures ia5 { (s : List ℕ) (d e : DecodeError) → IsLeafFault ia5_string false IsIa5Text s d
-        → IsLeafFault ia5_string false IsIa5Text s e → error_number d ≡ error_number e }
-    ensures small { (bound : ℕ) (s : List ℕ) (d e : DecodeError)
-        → IsLeafFault integer false (IsUnsignedBelow bound) s d → IsLeafFault integer false (IsUnsignedBelow bound) s e
-        → error_number d ≡ error_number e }
-    ensures written { (s : List ℕ) (d e : DecodeError) → IsTrueFault s d → IsTrueFault s e
-        → error_number d ≡ error_number e }
+    ensures values { (t : TagName) (f : Bool) → HasOneError (IsContentsFault t f) }
+    ensures flat { HasOneError (IsWantedFault IsAnyTag) }
+    ensures tagged { (t : TagName) → HasOneError (IsWantedFault (IsTagged t)) }
+    ensures nulls { HasOneKind (IsLeafFault null false IsNull) }
+    ensures booleans { HasOneKind (IsLeafFault boolean false IsBoolean) }
+    ensures numbers { HasOneKind (IsLeafFault integer false IsUnsigned) }
+    ensures identifiers { HasOneKind (IsLeafFault oid false IsOidOf) }
+    ensures bits { HasOneKind (IsLeafFault bit_string false IsBits) }
+    ensures printable { HasOneKind (IsLeafFault printable_string false IsPrintableText) }
+    ensures utf8 { HasOneKind (IsLeafFault utf8_string false IsUtf8Text) }
+    ensures ia5 { HasOneKind (IsLeafFault ia5_string false IsIa5Text) }
+    ensures small { (bound : ℕ) → HasOneKind (IsLeafFault integer false (IsUnsignedBelow bound)) }
+    ensures written { HasOneKind IsTrueFault }
 {}
 
 /// Octets are one list of members at most, at every depth.
@@ -97,7 +84,7 @@ pub fn two_octets_a_header()
 
 /// Octets have at most one fault.
 pub fn one_nested_fault()
-    ensures { (s : List ℕ) (d e : DecodeError) → IsNestedFault s d → IsNestedFault s e → d ≡ e }
+    ensures { HasOneError IsNestedFault }
 {}
 
 /// Octets that no value begins have a fault, where there are any.
@@ -148,8 +135,7 @@ pub fn leaves_written_the_same()
 
 /// The tags that have names are these (X.680 8.4; RFC 5280 4.2.1.6).
 pub fn tag_constants() -> [Tag; 14]
-    ensures { result ≡ boolean ∷ integer ∷ bit_string ∷ octet_string ∷ null ∷ oid ∷ utf8_string ∷ sequence ∷ set
-        ∷ printable_string ∷ ia5_string ∷ utc_time ∷ generalized_time ∷ context_6 ∷ [] }
+    ensures { result ≡ named_tags }
 {
     [
         Tag::BOOLEAN,

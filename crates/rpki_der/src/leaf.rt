@@ -23,7 +23,7 @@ impl<'a> Constructed<'a> {
     ghost use Rattle.rpki_der.specs.Cursor.{left};
     ghost use Rattle.rpki_der.specs.TagName.{null, boolean, octet_string};
     ghost use Rattle.rpki_der.specs.Reading.{Reads, ReadsWhere};
-    ghost use Rattle.rpki_der.specs.Values.{SpellsContents, SpellsLeaf, HasTag, IsContentsFault, IsLeafFault};
+    ghost use Rattle.rpki_der.specs.Values.{SpellsContents, HasTag, IsContentsFault, ReadsLeaf, ReadsLeafWhere};
     ghost use Rattle.rpki_der.specs.Leaves.{IsNull, IsBoolean};
     ghost use Rattle.rpki_der.specs.DefaultFalse.{SpellsTrue, IsTrueFault, written};
 
@@ -32,8 +32,7 @@ impl<'a> Constructed<'a> {
     /// The errors are those of a header; then `Unexpected` for another tag or form; then `Truncated`; then `Content`
     /// for contents that are not empty.
     pub fn take_null(&mut self) -> Result<(), DecodeError>
-        ensures { Reads (λ _. tt) (SpellsLeaf null false IsNull) (IsLeafFault null false IsNull) (left self.old)
-            (left self.new) result }
+        ensures { ReadsLeaf (λ _. tt) null IsNull (left self.old) (left self.new) result }
     {
         let mut after = *self;
         let contents = after.take_contents(Tag::NULL, false)?;
@@ -47,8 +46,7 @@ impl<'a> Constructed<'a> {
     /// As [Constructed::take_null] where what is left begins with the identifier octets of a NULL, in either form; else
     /// None.
     pub fn take_opt_null(&mut self) -> Result<Option<()>, DecodeError>
-        ensures { ReadsWhere (HasTag null) (λ _. tt) (SpellsLeaf null false IsNull) (IsLeafFault null false IsNull)
-            (left self.old) (left self.new) result }
+        ensures { ReadsLeafWhere (λ _. tt) null IsNull (left self.old) (left self.new) result }
     {
         if !self.has_tag(Tag::NULL) {
             return Ok(None);
@@ -62,8 +60,7 @@ impl<'a> Constructed<'a> {
     /// The errors are those of a header; then `Unexpected` for another tag or form; then `Truncated`; then `Content`
     /// for other contents.
     pub fn take_bool(&mut self) -> Result<bool, DecodeError>
-        ensures { Reads (λ b. b) (SpellsLeaf boolean false IsBoolean) (IsLeafFault boolean false IsBoolean)
-            (left self.old) (left self.new) result }
+        ensures { ReadsLeaf (λ b. b) boolean IsBoolean (left self.old) (left self.new) result }
     {
         let mut after = *self;
         let contents = after.take_contents(Tag::BOOLEAN, false)?;
@@ -79,8 +76,7 @@ impl<'a> Constructed<'a> {
     /// As [Constructed::take_bool] where what is left begins with the identifier octets of a BOOLEAN, in either form;
     /// else None.
     pub fn take_opt_bool(&mut self) -> Result<Option<bool>, DecodeError>
-        ensures { ReadsWhere (HasTag boolean) (λ b. b) (SpellsLeaf boolean false IsBoolean)
-            (IsLeafFault boolean false IsBoolean) (left self.old) (left self.new) result }
+        ensures { ReadsLeafWhere (λ b. b) boolean IsBoolean (left self.old) (left self.new) result }
     {
         if !self.has_tag(Tag::BOOLEAN) {
             return Ok(None);

@@ -3,7 +3,7 @@
 ghost use Rattle.std.specs.Prelude.{◌≡◌, ◌+◌, ◌<◌, ℕ, ⊤, Some, None, List, length, drop, IfSome, slice_get, slice_range};
 ghost use Rattle.std.specs.List.{AllByRecursion};
 ghost use Rattle.rpki_der.specs.Index.{Entry, IsIndex, StandsAt};
-ghost use Rattle.rpki_der.specs.IndexMembers.{numbers_from, member_numbers, HasEntry};
+ghost use Rattle.rpki_der.specs.IndexMembers.{member_numbers, HasEntry};
 ghost use Rattle.rpki_der.specs.IndexOrder.{AreInOrder, HasEnd};
 
 use crate::captured::Captured;
@@ -26,12 +26,13 @@ pub struct Members<'a> {
 }
 
 impl<'a> Members<'a> {
+    ghost use Rattle.rpki_der.specs.MembersLeft.{numbers_behind};
+
     /// The number of the first entry after this one, of a member, that does not begin in its value.
     fn after(&self, number: usize) -> usize
         requires within { number < length self.now.entries.now }
         requires member { (e : Entry) → slice_get self.now.entries.now number ≡ Some e → e.parent ≡ self.now.parent }
-        ensures { numbers_from (number + 1) self.now.parent (drop (number + 1) self.now.entries.now)
-            ≡ numbers_from result self.now.parent (drop result self.now.entries.now) }
+        ensures { numbers_behind self.now (number + 1) ≡ numbers_behind self.now result }
     {
         let value = entry_of(self.entries, number);
         let mut low = number + 1;

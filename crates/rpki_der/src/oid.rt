@@ -34,8 +34,7 @@ impl<'a> Oid<&'a [u8]> {
     ghost use Rattle.rpki_der.specs.Leaves.{IsOid, IsOidOf, IsAnyOid, IsOnly};
     ghost use Rattle.rpki_der.specs.Cursor.{left};
     ghost use Rattle.rpki_der.specs.TagName.{oid};
-    ghost use Rattle.rpki_der.specs.Reading.{Reads};
-    ghost use Rattle.rpki_der.specs.Values.{SpellsLeaf, IsLeafFault};
+    ghost use Rattle.rpki_der.specs.Values.{ReadsLeaf};
 
     /// Whether the octets are those of an object identifier: not empty, the top bit of the last octet clear, and no
     /// subidentifier begins with 80 (X.690 8.19.2).
@@ -47,16 +46,14 @@ impl<'a> Oid<&'a [u8]> {
 
     /// An object identifier, as [Constructed::take_oid].
     pub fn take_from(cons: &mut Constructed<'a>) -> Result<Oid<&'a [u8]>, DecodeError>
-        ensures { Reads (λ o. o.0.now) (SpellsLeaf oid false IsOidOf) (IsLeafFault oid false IsOidOf) (left cons.old)
-            (left cons.new) result }
+        ensures { ReadsLeaf (λ o. o.0.now) oid IsOidOf (left cons.old) (left cons.new) result }
     {
         cons.take_oid()
     }
 
     /// Moves past any object identifier. The errors are those of [Constructed::take_oid].
     pub fn skip_in(cons: &mut Constructed<'_>) -> Result<(), DecodeError>
-        ensures { Reads (λ _. tt) (SpellsLeaf oid false IsAnyOid) (IsLeafFault oid false IsAnyOid) (left cons.old)
-            (left cons.new) result }
+        ensures { ReadsLeaf (λ _. tt) oid IsAnyOid (left cons.old) (left cons.new) result }
     {
         cons.take_oid()?;
         Ok(())
@@ -64,8 +61,7 @@ impl<'a> Oid<&'a [u8]> {
 
     /// Moves past exactly this object identifier, as [Constructed::skip_oid_if].
     pub fn skip_if(&self, cons: &mut Constructed<'_>) -> Result<(), DecodeError>
-        ensures { Reads (λ _. tt) (SpellsLeaf oid false (IsOnly self.now.0.now))
-            (IsLeafFault oid false (IsOnly self.now.0.now)) (left cons.old) (left cons.new) result }
+        ensures { ReadsLeaf (λ _. tt) oid (IsOnly self.now.0.now) (left cons.old) (left cons.new) result }
     {
         cons.take_only_oid(self.0)
     }
@@ -74,8 +70,7 @@ impl<'a> Oid<&'a [u8]> {
 impl<'a> Constructed<'a> {
     ghost use Rattle.rpki_der.specs.Cursor.{left};
     ghost use Rattle.rpki_der.specs.TagName.{oid};
-    ghost use Rattle.rpki_der.specs.Reading.{Reads};
-    ghost use Rattle.rpki_der.specs.Values.{SpellsLeaf, IsLeafFault};
+    ghost use Rattle.rpki_der.specs.Values.{ReadsLeaf};
     ghost use Rattle.rpki_der.specs.Leaves.{IsOnly, IsOidOf};
 
     /// An object identifier (X.690 8.19): its contents octets.
@@ -84,8 +79,7 @@ impl<'a> Constructed<'a> {
     /// for contents that are not those of an object identifier: empty, cut within a subidentifier, or with a
     /// subidentifier that begins with 80.
     pub fn take_oid(&mut self) -> Result<Oid<&'a [u8]>, DecodeError>
-        ensures { Reads (λ o. o.0.now) (SpellsLeaf oid false IsOidOf) (IsLeafFault oid false IsOidOf) (left self.old)
-            (left self.new) result }
+        ensures { ReadsLeaf (λ o. o.0.now) oid IsOidOf (left self.old) (left self.new) result }
     {
         let mut after = *self;
         let contents = after.take_contents(Tag::OID, false)?;
@@ -101,16 +95,14 @@ impl<'a> Constructed<'a> {
     /// The errors are those of a header; then `Unexpected` for another tag or form; then `Truncated`; then `Content`
     /// for other contents.
     pub fn skip_oid_if(&mut self, expected: ConstOid) -> Result<(), DecodeError>
-        ensures { Reads (λ _. tt) (SpellsLeaf oid false (IsOnly expected.entry.0.now))
-            (IsLeafFault oid false (IsOnly expected.entry.0.now)) (left self.old) (left self.new) result }
+        ensures { ReadsLeaf (λ _. tt) oid (IsOnly expected.entry.0.now) (left self.old) (left self.new) result }
     {
         self.take_only_oid(expected.0)
     }
 
     /// Moves past an object identifier with these contents.
     fn take_only_oid(&mut self, expected: &[u8]) -> Result<(), DecodeError>
-        ensures { Reads (λ _. tt) (SpellsLeaf oid false (IsOnly expected.now))
-            (IsLeafFault oid false (IsOnly expected.now)) (left self.old) (left self.new) result }
+        ensures { ReadsLeaf (λ _. tt) oid (IsOnly expected.now) (left self.old) (left self.new) result }
     {
         let mut after = *self;
         let contents = after.take_contents(Tag::OID, false)?;

@@ -147,16 +147,14 @@ pub(crate) fn ia5_of(contents: &[u8]) -> Option<Ia5String<'_>>
 impl<'a> Constructed<'a> {
     ghost use Rattle.rpki_der.specs.Cursor.{left};
     ghost use Rattle.rpki_der.specs.TagName.{printable_string, utf8_string, ia5_string};
-    ghost use Rattle.rpki_der.specs.Reading.{Reads};
-    ghost use Rattle.rpki_der.specs.Values.{SpellsLeaf, IsLeafFault};
+    ghost use Rattle.rpki_der.specs.Values.{ReadsLeaf};
 
     /// A PrintableString (X.690 8.23, X.680 41.4).
     ///
     /// The errors are those of a header; then `Unexpected` for another tag or form; then `Truncated`; then `Content`
     /// for another character.
     pub fn take_printable(&mut self) -> Result<PrintableString<'a>, DecodeError>
-        ensures { Reads (λ p. p) (SpellsLeaf printable_string false IsPrintableText)
-            (IsLeafFault printable_string false IsPrintableText) (left self.old) (left self.new) result }
+        ensures { ReadsLeaf (λ p. p) printable_string IsPrintableText (left self.old) (left self.new) result }
     {
         let mut after = *self;
         let contents = after.take_contents(Tag::PRINTABLE_STRING, false)?;
@@ -174,8 +172,7 @@ impl<'a> Constructed<'a> {
     /// The errors are those of a header; then `Unexpected` for another tag or form; then `Truncated`; then `Content`
     /// for contents that are not UTF-8.
     pub fn take_utf8(&mut self) -> Result<Utf8String<'a>, DecodeError>
-        ensures { Reads (λ u. u) (SpellsLeaf utf8_string false IsUtf8Text) (IsLeafFault utf8_string false IsUtf8Text)
-            (left self.old) (left self.new) result }
+        ensures { ReadsLeaf (λ u. u) utf8_string IsUtf8Text (left self.old) (left self.new) result }
     {
         let mut after = *self;
         let contents = after.take_contents(Tag::UTF8_STRING, false)?;
@@ -193,8 +190,7 @@ impl<'a> Constructed<'a> {
     /// The errors are those of a header; then `Unexpected` for another tag or form; then `Truncated`; then `Content`
     /// for an octet of 128 or more.
     pub fn take_ia5(&mut self) -> Result<Ia5String<'a>, DecodeError>
-        ensures { Reads (λ s. s) (SpellsLeaf ia5_string false IsIa5Text) (IsLeafFault ia5_string false IsIa5Text)
-            (left self.old) (left self.new) result }
+        ensures { ReadsLeaf (λ s. s) ia5_string IsIa5Text (left self.old) (left self.new) result }
     {
         let mut after = *self;
         let contents = after.take_contents(Tag::IA5_STRING, false)?;

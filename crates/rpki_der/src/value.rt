@@ -45,15 +45,15 @@ impl<'a> Constructed<'a> {
     ghost use Rattle.rpki_der.specs.Cursor.{left};
     ghost use Rattle.rpki_der.specs.ContentView.{is_constructed, octets_of};
     ghost use Rattle.rpki_der.specs.TagName.{sequence, set};
-    ghost use Rattle.rpki_der.specs.Reading.{Reads, ReadsWhere, OrMemoryWhere, Finds};
+    ghost use Rattle.rpki_der.specs.Reading.{Reads, ReadsWhere, ReadsKept};
     ghost use Rattle.rpki_der.specs.Values.{SpellsContents, HasTag, IsContentsFault};
-    ghost use Rattle.rpki_der.specs.WantedValue.{SpellsWanted, IsWantedFault, IsAnyTag, IsPrimitive, IsTagged};
+    ghost use Rattle.rpki_der.specs.WantedValue.{IsAnyTag, IsPrimitive, IsTagged, ReadsWanted, ReadsTaggedWhere};
 
     /// A value that is wanted: its tag, its form and a cursor on its contents, which are not validated. Moves past the
     /// value.
     #[inline(always)]
     fn take_wanted(&mut self, wanted: Wanted) -> Result<(Tag, bool, Constructed<'a>), DecodeError>
-        ensures { Reads (λ x. (x.0, x.1, left x.2)) (SpellsWanted (IsWanted wanted)) (IsWantedFault (IsWanted wanted))
+        ensures { ReadsWanted (λ x. (x.0, x.1, left x.2)) (IsWanted wanted)
             (left self.old) (left self.new) result }
     {
         let (found, following) = match self.after_header() {
@@ -91,8 +91,7 @@ impl<'a> Constructed<'a> {
     ///
     /// The errors are those of a header, and `Truncated` if the contents are not all there.
     pub fn take_value(&mut self) -> Result<(Tag, Content<'a>), DecodeError>
-        ensures { Reads (λ x. (x.0, is_constructed x.1, octets_of x.1)) (SpellsWanted IsAnyTag)
-            (IsWantedFault IsAnyTag) (left self.old) (left self.new) result }
+        ensures { ReadsWanted (λ x. (x.0, is_constructed x.1, octets_of x.1)) IsAnyTag (left self.old) (left self.new) result }
     {
         match self.take_wanted(Wanted::Any) {
             Ok(found) => {
@@ -110,8 +109,8 @@ impl<'a> Constructed<'a> {
     ///
     /// The errors are those of a header; then `Unexpected` for another tag; then `Truncated`.
     pub fn take_value_if(&mut self, tag: Tag) -> Result<Content<'a>, DecodeError>
-        ensures { Reads (λ x. (tag, is_constructed x, octets_of x)) (SpellsWanted (IsTagged tag))
-            (IsWantedFault (IsTagged tag)) (left self.old) (left self.new) result }
+        ensures { ReadsWanted (λ x. (tag, is_constructed x, octets_of x)) (IsTagged tag) (left self.old)
+            (left self.new) result }
     {
         match self.take_wanted(Wanted::Tagged(tag)) {
             Ok(found) => {
@@ -128,8 +127,8 @@ impl<'a> Constructed<'a> {
     /// As [Constructed::take_value_if] where what is left begins with the identifier octets of this tag, in either
     /// form; else None.
     pub fn take_opt_value_if(&mut self, tag: Tag) -> Result<Option<Content<'a>>, DecodeError>
-        ensures { ReadsWhere (HasTag tag) (λ x. (tag, is_constructed x, octets_of x)) (SpellsWanted (IsTagged tag))
-            (IsWantedFault (IsTagged tag)) (left self.old) (left self.new) result }
+        ensures { ReadsTaggedWhere (λ x. (tag, is_constructed x, octets_of x)) tag (left self.old)
+            (left self.new) result }
     {
         if !self.has_tag(tag) {
             return Ok(None);
@@ -142,8 +141,7 @@ impl<'a> Constructed<'a> {
     ///
     /// The errors are those of a header; then `Unexpected` for the constructed form; then `Truncated`.
     pub fn take_primitive(&mut self) -> Result<(Tag, &'a [u8]), DecodeError>
-        ensures { Reads (λ x. (x.0, false, x.1.now)) (SpellsWanted IsPrimitive) (IsWantedFault IsPrimitive)
-            (left self.old) (left self.new) result }
+        ensures { ReadsWanted (λ x. (x.0, false, x.1.now)) IsPrimitive (left self.old) (left self.new) result }
     {
         match self.take_wanted(Wanted::Primitive) {
             Ok(found) => Ok((found.0, found.2.rest())),
@@ -168,8 +166,7 @@ impl<'a> Constructed<'a> {
     ///
     /// The errors are those of [Constructed::take_primitive_if]; then `OutOfMemory` if allocation fails.
     pub fn take_primitive_bytes_if(&mut self, alloc: Global, tag: Tag) -> Result<Bytes, DecodeError>
-        ensures { Reads (λ b. b) (SpellsContents tag false)
-            (OrMemoryWhere (Finds (SpellsContents tag false)) (IsContentsFault tag false)) (left self.old)
+        ensures { ReadsKept (λ b. b) (SpellsContents tag false) (IsContentsFault tag false) (left self.old)
             (left self.new) result }
     {
         let mut after = *self;

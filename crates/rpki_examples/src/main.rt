@@ -77,10 +77,7 @@ fn year_of_revocation() -> Result<i32, DecodeError> {
 fn greatest_number(alloc: Global) -> Result<(u8, Option<u64>), DecodeError> {
     let octets = Bytes::from_static(NUMBERS);
     let mut cons = Constructed::new(&octets);
-    let list = match NumberList::take_from(alloc, &mut cons) {
-        Ok(list) => list,
-        Err(e) => return Err(e),
-    };
+    let list = NumberList::take_from(alloc, &mut cons)?;
     Ok((list.version, list.numbers.iter().copied().max()))
 }
 

@@ -63,18 +63,9 @@ impl<'a> NumberList<'a> {
             |contents|
                 ensures { ReadsParts parts_of AreParts ArePartsFault (left contents.old) (left contents.new) result }
             {
-                let version = match take_version(contents) {
-                    Ok(version) => version,
-                    Err(e) => return Err(e),
-                };
-                let purpose = match contents.take_oid() {
-                    Ok(purpose) => purpose,
-                    Err(e) => return Err(e),
-                };
-                let numbers = match take_numbers(alloc, contents) {
-                    Ok(numbers) => numbers,
-                    Err(e) => return Err(e),
-                };
+                let version = take_version(contents)?;
+                let purpose = contents.take_oid()?;
+                let numbers = take_numbers(alloc, contents)?;
                 Ok(NumberList {
                     version,
                     purpose,

@@ -174,6 +174,10 @@ parent_uri u =
 unfoldable pub is_parent : RsyncUri → RsyncUri → Bool
 is_parent u v = is_some (relative v u) && nat_lt (length u.segments) (length v.segments)
 
+-- what the second is above, the first is above too
+abbrev pub IsAboveAllBelow : RsyncUri → RsyncUri → Type 0
+IsAboveAllBelow u v = (w : RsyncUri) → is_parent u v ≡ true → is_parent v w ≡ true → is_parent u w ≡ true
+
 -- the same module and the same segments, with any marks
 unfoldable pub is_identical : RsyncUri → RsyncUri → Bool
 is_identical u v = same_module u v && pointwise bytes_eq u.segments v.segments
@@ -212,3 +216,20 @@ canonical_module_of text = codes "rsync://" ++ lowercase (authority_of text) ++ 
 -- other octets are the text but for the case of its scheme and its authority
 unfoldable pub eq_rsync_bytes : List ℕ → List ℕ → Bool
 eq_rsync_bytes text bytes = same_text (8 + length (authority_of text)) text bytes
+
+-- the text, perhaps a slash, and the path
+abbrev pub joined_by : Bool → List ℕ → List ℕ → List ℕ
+joined_by slash base path = (if slash then base ++ 47 ∷ [] else base) ++ path
+
+abbrev pub size_joined_by : Bool → List ℕ → List ℕ → ℕ
+size_joined_by slash base path = length base + (if slash then 1 else 0) + length path
+
+-- two texts have the same authority, ignoring case, and the same module
+abbrev pub same_module_of : List ℕ → List ℕ → Bool
+same_module_of s t =
+    bytes_eq (lowercase (authority_of s)) (lowercase (authority_of t)) && bytes_eq (module_name_of s) (module_name_of t)
+
+-- the module name begins there, behind the authority, and the path behind the module name
+abbrev pub StartAt : List ℕ → ℕ → ℕ → Type 0
+StartAt text name path = (name ≡ 9 + position_or_len is_slash (drop 8 text))
+    × (path ≡ name + position_or_len is_slash (drop name text) + 1)

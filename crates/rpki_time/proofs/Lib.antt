@@ -1,12 +1,13 @@
 -- Which lemma file answers which question.
 --
--- Serial numbers: SerialLaws, SerialReadingLaws, OctetLaws, WritingLaws.
+-- Serial numbers: SerialLaws, SerialReadingLaws, OctetLaws, WritingLaws; in decimal digits, DecimalLaws.
 -- Times and validity periods: TimeLaws, TextLaws, TimeReadingLaws, TimeValueLaws, PeriodLaws, PeriodReadingLaws.
 -- What is hashed: HashLaws.
 -- What a reader returns where the octets are known: ReadBackLaws.
 
 pub mod OctetLaws
 pub mod SerialLaws
+pub mod DecimalLaws
 pub mod HashLaws
 pub mod WritingLaws
 pub mod ReadBackLaws

@@ -1,6 +1,7 @@
 -- What contracts see of a time: the civil date-time that jiff has, in the years 0 to 9999, and its nanoseconds.
-use Rattle.std.specs.Prelude.{◌≡◌, ℕ, ◌<◌, ◌≤◌, ◌&&◌, ◌==◌, if◌then◌else◌, ℤ, pos, ◌+ℤ◌, ◌*ℤ◌, ◌<ℤ◌, ◌≤ℤ◌}
+use Rattle.std.specs.Prelude.{◌≡◌, ℕ, ◌<◌, ◌≤◌, ◌&&◌, ◌==◌, if◌then◌else◌, ℤ, pos, ◌+ℤ◌, ◌*ℤ◌, ◌<ℤ◌, ◌≤ℤ◌, List, Result, Ok}
 use Rattle.std.proofs.Common.{lit<}
+use Rattle.rpki_der.specs.declared.error.DecodeError.{DecodeError}
 use Rattle.jiff.specs.Types.{DateTime}
 use Rattle.jiff.specs.Words.{IsBetween, civil_nanos, days_in_month}
 
@@ -51,6 +52,10 @@ cut t = record {
     subsec_in = lit< tt;
   };
 }
+
+-- a reader returned the time without its parts of a second, and left the rest
+abbrev pub ReadsCut : DateTime → List ℕ → Result DateTime DecodeError → List ℕ → Type 0
+ReadsCut t rest result left = (result ≡ Ok (cut t)) × (left ≡ rest)
 
 -- the day of the month, and 28 for 29 February
 abbrev pub common_day : ℕ → ℕ → ℕ

@@ -18,6 +18,10 @@ HoldsAt p m = (civil_nanos p.not_before ≤ℤ civil_nanos m) × (civil_nanos m 
 abbrev pub Spans : ℤ → ℤ → Period → Type 0
 Spans start end p = (civil_nanos p.not_before ≡ start) × (civil_nanos p.not_after ≡ end)
 
+-- two periods have the same ends
+abbrev pub HaveSameEnds : Period → Period → Type 0
+HaveSameEnds p q = (civil_nanos p.not_before ≡ civil_nanos q.not_before) × (civil_nanos p.not_after ≡ civil_nanos q.not_after)
+
 -- the period from the earlier of the two moments to the later
 abbrev pub SpansBetween : ℤ → ℤ → Period → Type 0
 SpansBetween a b = Spans (int_min a b) (int_max a b)

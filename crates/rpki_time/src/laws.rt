@@ -8,11 +8,11 @@ ghost use Rattle.rpki_der.specs.Cursor.{left};
 ghost use Rattle.rpki_der.specs.Integer.{IsUnsigned};
 ghost use Rattle.rpki_time.specs.PeriodValue.{period_octets};
 ghost use Rattle.rpki_time.specs.Serial.{IsSerialContents, serial_contents, serial_octets};
-ghost use Rattle.rpki_time.specs.Time.{IsTimeYear, cut};
+ghost use Rattle.rpki_time.specs.Time.{IsTimeYear, cut, ReadsCut};
 ghost use Rattle.rpki_time.specs.TimeText.{IsUtcYear, is_utc_year, utc_text, generalized_text, ReadsAsUtc, ReadsAsGeneralized};
 ghost use Rattle.rpki_time.specs.TimeValue.{time_octets, utc_octets, generalized_octets};
 ghost use Rattle.rpki_time.specs.declared.serial.SerialSliceError.{SerialSliceError as NoSerial};
-ghost use Rattle.rpki_time.specs.Validity.{Period, AreTimeYears, IsTrimmed, cut_period};
+ghost use Rattle.rpki_time.specs.Validity.{Period, AreTimeYears, HaveSameEnds, IsTrimmed, cut_period};
 
 use crate::serial::{Serial, SerialSliceError};
 use crate::time::Time;
@@ -85,13 +85,12 @@ pub fn texts_read_back()
 /// What is written of a time is read as the time without parts of a second, and what follows is left: always, where
 /// the year chooses the text; always, as generalized time; and as UTC time exactly in the years 1950 to 2049.
 pub fn times_read_back(cons: &mut Constructed<'_>) -> Result<Time, DecodeError>
-    ensures varied { (t : Civil) (rest : List ℕ) → IsTimeYear t.date.year → left cons.old ≡ time_octets t ++ rest
-        → (result ≡ Ok (cut t)) × (left cons.new ≡ rest) }
-    ensures generalized { (t : Civil) (rest : List ℕ) → IsTimeYear t.date.year
-        → left cons.old ≡ generalized_octets t ++ rest
-        → (result ≡ Ok (cut t)) × (left cons.new ≡ rest) }
-    ensures utc { (t : Civil) (rest : List ℕ) → left cons.old ≡ utc_octets t ++ rest
-        → ((result ≡ Ok (cut t)) × (left cons.new ≡ rest)) ↔ IsUtcYear t.date.year }
+    ensures varied { (t : Civil) (r : List ℕ) → IsTimeYear t.date.year → left cons.old ≡ time_octets t ++ r
+        → ReadsCut t r result (left cons.new) }
+    ensures generalized { (t : Civil) (r : List ℕ) → IsTimeYear t.date.year
+        → left cons.old ≡ generalized_octets t ++ r → ReadsCut t r result (left cons.new) }
+    ensures utc { (t : Civil) (r : List ℕ) → left cons.old ≡ utc_octets t ++ r
+        → ReadsCut t r result (left cons.new) ↔ IsUtcYear t.date.year }
 {
     Time::take_from(cons)
 }
@@ -136,9 +135,7 @@ pub fn equal_times_are_one()
 
 /// Periods are equal where the moments of their starts are one, and those of their ends.
 pub fn equal_periods_are_one()
-    ensures { (p q : Period) → IsTrue (⟦<Validity as PartialEq>⟧.eq p q)
-        ↔ ((civil_nanos p.not_before ≡ civil_nanos q.not_before)
-        × (civil_nanos p.not_after ≡ civil_nanos q.not_after)) }
+    ensures { (p q : Period) → IsTrue (⟦<Validity as PartialEq>⟧.eq p q) ↔ HaveSameEnds p q }
 {}
 
 /// Serial numbers are hashed as the same octets exactly where they are one.
@@ -156,8 +153,7 @@ pub fn times_are_hashed_by_moment()
 /// Periods are hashed as the same octets exactly where the moments of their starts are one, and those of their ends.
 pub fn periods_are_hashed_by_moments()
     ensures { (p q : Period) → (⟦<Validity as Hash>⟧.hash_input p ≡ ⟦<Validity as Hash>⟧.hash_input q)
-        ↔ ((civil_nanos p.not_before ≡ civil_nanos q.not_before)
-        × (civil_nanos p.not_after ≡ civil_nanos q.not_after)) }
+        ↔ HaveSameEnds p q }
 {}
 
 /// Errors of slices are equal where they are of one kind.

@@ -4,6 +4,7 @@
 //! `crates/rpki_examples/src/revoked.rt` reads the first two; docs/CALLING.md explains it.
 #![tactic(auto)]
 
+mod decimal;
 pub mod laws;
 mod serial;
 mod text;
@@ -12,6 +13,7 @@ mod time_encoder;
 mod time_reader;
 mod validity;
 
+pub use decimal::{RepresentationError, SerialText};
 pub use serial::{Serial, SerialSliceError};
 pub use time::{Time, TimeParseError};
 pub use time_encoder::{GeneralizedTime, UtcTime, VariedTime};

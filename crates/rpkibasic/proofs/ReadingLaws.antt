@@ -6,7 +6,7 @@ use Rattle.rpki_der.specs.declared.error.DecodeError.TheVariants.{Truncated, Bad
 use Rattle.rpki_der.specs.TagName.{sequence}
 use Rattle.rpki_der.specs.Reading.{Spells, Accepts, Refuses, Refusal}
 use Rattle.rpki.specs.ExtensionValue.{ExtensionParts, IsExtensionContents, SpellsExtension}
-use Rattle.rpki.proofs.NameLaws.{leaf-nowhere}
+use Rattle.rpki_der.proofs.LeafValueLaws.{leaf-nowhere}
 use Rattle.rpki.specs.ExtensionFault.{IsCertExtensionFault, IsKeptExtensionFault}
 use Rattle.rpkibasic.specs.Fault.{refusal}
 use Rattle.rpkibasic.specs.Run.{SpellsOnly, SpellsExtensions, StopsAt, IsExtensionFault, UnlessMemory}

@@ -1,5 +1,5 @@
 -- What a run returns, and what is seen of it.
-use Rattle.std.specs.Prelude.{◌≡◌, ◌≢◌, ◌⊎◌, ℕ, Bool, true, ◌<◌, ◌≤◌, ◌^◌, List, [], ◌∷◌, ◌++◌, length, Option, Some, None, Result, Ok, Err}
+use Rattle.std.specs.Prelude.{◌≡◌, ◌≢◌, ◌⊎◌, ℕ, Bool, true, ◌<◌, ◌≤◌, ◌^◌, List, [], ◌∷◌, ◌++◌, length, Option, Some, None, Result, Ok, Err, IfSome}
 use Rattle.std.specs.Io.KnownBytes.{Appends}
 use Rattle.std.specs.List.{flat_map}
 use Rattle.rpki_der.specs.declared.error.DecodeError.{DecodeError}
@@ -9,7 +9,7 @@ use Rattle.rpki_der.specs.Written.{AppendsCut}
 use Rattle.rpki.specs.Oids.{sha256_with_rsa_encryption}
 use Rattle.rpki.specs.Algorithm.{SpellsAlgorithm}
 use Rattle.rpki.specs.AlgorithmOctets.{algorithm_octets}
-use Rattle.rpki.specs.SignedData.{SignedParts, SpellsSigned, written_contents, written_signed}
+use Rattle.rpki.specs.SignedData.{SignedParts, SpellsSigned, written_contents, written_signed, IsShortSigned}
 use Rattle.rpki.specs.PublicKey.{KeyParts, SpellsKey}
 use Rattle.rpki.specs.Name.{SpellsEach, SpellsNameOctets}
 use Rattle.rpki.specs.AlgorithmFault.{IsAlgorithmFault}
@@ -24,6 +24,7 @@ use Rattle.rpki_text.specs.declared.uri.error.Error.{Error}
 use Rattle.rpkibasic.specs.UriLines.{without_last_line_feed, uri_refusal_of, uri_lines}
 use Rattle.rpkibasic.specs.NameLines.{AreNameLines}
 use Rattle.rpkibasic.specs.Input.{most_calls, most_octets}
+use Rattle.rpkibasic.specs.Command.{word_of}
 use Rattle.rpkibasic.specs.Fault.{usage_text, line, status_of}
 use Rattle.rpkibasic.specs.declared.fault.Fault.{Fault}
 use Rattle.rpkibasic.specs.declared.fault.Fault.TheVariants.{Usage, Refused, RefusedUri, TooLong, OutOfMemory, Input, Output}
@@ -74,6 +75,14 @@ IsAgain input text = (x : Signed) × SpellsOnly SpellsRpki x input
 abbrev pub IsTooLong : List ℕ → Type 0
 IsTooLong input = (x : Signed) × SpellsOnly SpellsRpki x input
     × (2 ^ 32 ≤ length (written_contents written_algorithm x))
+
+-- what is written of signed data: its normal form, where a length announces it; else there is no text
+abbrev pub IsWritten : Signed → List ℕ → Type 0
+IsWritten x text = IsShortSigned written_algorithm x × (text ≡ written_signed written_algorithm x)
+
+abbrev pub IsUnwritten : Signed → Fault → Type 0
+IsUnwritten x fault =
+    ((fault ≡ TooLong) × (2 ^ 32 ≤ length (written_contents written_algorithm x))) ⊎ (fault ≡ OutOfMemory)
 
 -- The input is signed data, and the text is the signed slice.
 abbrev pub IsSlice : List ℕ → List ℕ → Type 0
@@ -163,6 +172,13 @@ UnlessMemory Input P = P
 UnlessMemory Usage P = P
 UnlessMemory Output P = P
 
+-- nothing is wrong with the text, and these are its lines; or this is wrong with it first
+abbrev pub HasLines : (List ℕ → Option Error) → (List ℕ → List ℕ) → List ℕ → List ℕ → Type 0
+HasLines refusal lines text shown = (refusal text ≡ None) × (shown ≡ lines text)
+
+abbrev pub HasNoLines : (List ℕ → Option Error) → List ℕ → Fault → Type 0
+HasNoLines refusal text fault = UnlessMemory fault (IsRefusedText (refusal text) fault)
+
 -- the answer that is due to the whole input, or an allocation failure
 abbrev pub Answers : Command → List ℕ → Answer → Type 0
 Answers command input (Ok text) = IsDue command input (Ok text)
@@ -176,10 +192,23 @@ GaveUp a = (a ≡ Err OutOfMemory) ⊎ (a ≡ Err Input)
 abbrev pub Replies : Command → List ℕ → Answer → Type 0
 Replies command input a = (IsDue command input a × (length input ≤ most_octets most_calls)) ⊎ GaveUp a
 
+-- a command with this word has its reply from all that the input has
+abbrev pub GetReply : List (List ℕ) → Option (List ℕ) → (Answer → Type 0) → Type 0
+GetReply words input seen = (command : Command) → words ≡ word_of command ∷ []
+    → IfSome input (λ octets. (a : Answer) × Replies command octets a × seen a)
+
+-- no command has these words
+abbrev pub AreOtherWords : List (List ℕ) → Type 0
+AreOtherWords words = (command : Command) → words ≡ word_of command ∷ [] → ⊥
+
 -- without words, and with other words
 abbrev pub usage_answer : List (List ℕ) → Answer
 usage_answer [] = Ok usage_text
 usage_answer (word ∷ words) = Err Usage
+
+-- words of no command get the usage line
+abbrev pub GetUsage : List (List ℕ) → (Answer → Type 0) → Type 0
+GetUsage words seen = AreOtherWords words → seen (usage_answer words)
 
 -- ---- what is seen of it
 
@@ -195,3 +224,8 @@ Shows old new was is (Ok text) status =
     (Appends old new text × Appends was is [] × (status ≡ 0))
     ⊎ (AppendsCut old new text × IsTold was is Output × (status ≡ 1))
 Shows old new was is (Err fault) status = Appends old new [] × IsTold was is fault × (status ≡ status_of fault)
+
+-- the same of two writers, by what they hold
+abbrev pub Seen : {W F : Type 0} → (W → Option (List ℕ)) → (old new : W) → (F → Option (List ℕ)) → (was is : F) → ℕ
+    → Answer → Type 0
+Seen output old new faults was is status a = Shows (output old) (output new) (faults was) (faults is) a status

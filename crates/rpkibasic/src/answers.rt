@@ -1,10 +1,9 @@
 //! What each command returns.
 
 ghost use Rattle.std.specs.Prelude.{◌≡◌, ◌≢◌, ◌<◌, ◌≤◌, ◌^◌, ◌⊎◌, length, true, MatchResult, IfSome};
-ghost use Rattle.rpkibasic.specs.Run.{SpellsOnly, SpellsRpki, IsRpkiFault, IsFaultOf, UnlessMemory, Answers, written_algorithm};
+ghost use Rattle.rpkibasic.specs.Run.{SpellsOnly, SpellsRpki, IsRpkiFault, IsFaultOf, UnlessMemory, Answers, IsWritten, IsUnwritten};
 ghost use Rattle.rpkibasic.specs.View.{answer_of};
 ghost use Rattle.rpkibasic.specs.declared.command.Command.TheVariants.{Again, Data};
-ghost use Rattle.rpki.specs.SignedData.{written_contents, written_signed};
 
 use crate::fault::Fault;
 use bytes::Bytes;
@@ -28,11 +27,7 @@ fn decoded(alloc: Global, input: Vec<u8>) -> Result<RpkiSignedData, Fault>
 
 /// What is written of the signed data.
 fn written(alloc: Global, signed: &RpkiSignedData) -> Result<Vec<u8>, Fault>
-    ensures { MatchResult result
-        (λ text. (length (written_contents written_algorithm signed.now) < 2 ^ 32)
-        × (text.items ≡ written_signed written_algorithm signed.now))
-        (λ f. ((f ≡ Fault.TooLong) × (2 ^ 32 ≤ length (written_contents written_algorithm signed.now)))
-        ⊎ (f ≡ Fault.OutOfMemory)) }
+    ensures { MatchResult result (λ text. IsWritten signed.now text.items) (λ f. IsUnwritten signed.now f) }
 {
     let encoder = signed.encode_ref();
     if !encoder.fits() {

@@ -1,9 +1,7 @@
 //! A run: words and input in, output and faults out.
 
 ghost use Rattle.std.specs.Prelude.{◌≡◌, [], ◌∷◌, IfSome, IfOk, IfErr, MatchResult, map, string_bytes, Result, Ok, Err};
-ghost use Rattle.rpkibasic.specs.Fault.{usage_text};
-ghost use Rattle.rpkibasic.specs.Command.{word_of};
-ghost use Rattle.rpkibasic.specs.Run.{Answer, Replies, Shows, usage_answer};
+ghost use Rattle.rpkibasic.specs.Run.{Replies, Shows, GetReply, AreOtherWords, Seen, GetUsage};
 ghost use Rattle.rpkibasic.specs.View.{answer_of};
 ghost use Rattle.rpkibasic.specs.declared.command.Command.{Command as AnyCommand};
 
@@ -61,15 +59,12 @@ pub fn run<R: Read, W: Write, F: Write>(
     faults: &mut F,
 ) -> u8
     // A command has its result from the whole input, or the program gives up.
-    ensures replies { (command : AnyCommand) → map string_bytes words.now ≡ word_of command ∷ [] →
-        IfSome (R.remaining input.old) (λ octets. (a : Answer) × Replies command octets a
-        × Shows (W.contents output.old) (W.contents output.new) (F.contents faults.old)
-        (F.contents faults.new) a result) }
+    ensures reply { GetReply (map string_bytes words.now) (R.remaining input.old)
+        (Seen W.contents output.old output.new F.contents faults.old faults.new result) }
     // Other words get the usage line, and the input is unread.
-    ensures usage { ((command : AnyCommand) → map string_bytes words.now ≡ word_of command ∷ [] → ⊥)
-        → (input.new ≡ input.old)
-        × Shows (W.contents output.old) (W.contents output.new) (F.contents faults.old) (F.contents faults.new)
-        (usage_answer (map string_bytes words.now)) result }
+    ensures unread { AreOtherWords (map string_bytes words.now) → input.new ≡ input.old }
+    ensures usage { GetUsage (map string_bytes words.now)
+        (Seen W.contents output.old output.new F.contents faults.old faults.new result) }
 {
     match Command::of(words) {
         Some(command) => match answer(alloc, command, input) {

@@ -1,7 +1,7 @@
 //! The parts of a URI, a line each.
 
 ghost use Rattle.std.specs.Prelude.{◌≡◌, MatchResult, IfOk, None};
-ghost use Rattle.rpkibasic.specs.Run.{Answers, UnlessMemory, IsRefusedText};
+ghost use Rattle.rpkibasic.specs.Run.{Answers, HasLines, HasNoLines};
 ghost use Rattle.rpkibasic.specs.View.{answer_of};
 ghost use Rattle.rpkibasic.specs.UriLines.{without_last_line_feed, https_lines, rsync_lines};
 ghost use Rattle.rpkibasic.specs.declared.command.Command.TheVariants.{Uri};
@@ -50,8 +50,8 @@ fn lines_of_rsync(alloc: Global, uri: &Rsync) -> Result<Vec<u8>, AllocError>
 
 /// The lines of the https URI that the text is.
 fn https_lines(alloc: Global, text: Bytes) -> Result<Vec<u8>, Fault>
-    ensures { MatchResult result (λ lines. (https_refusal text ≡ None) × (lines.items ≡ https_lines text))
-        (λ f. UnlessMemory f (IsRefusedText (https_refusal text) f)) }
+    ensures { MatchResult result (λ lines. HasLines https_refusal https_lines text lines.items)
+        (λ f. HasNoLines https_refusal text f) }
 {
     let uri = Https::from_bytes(text)?;
     let lines = lines_of_https(alloc, &uri)?;
@@ -60,8 +60,8 @@ fn https_lines(alloc: Global, text: Bytes) -> Result<Vec<u8>, Fault>
 
 /// The lines of the rsync URI that the text is.
 fn rsync_lines(alloc: Global, text: Bytes) -> Result<Vec<u8>, Fault>
-    ensures { MatchResult result (λ lines. (rsync_refusal text ≡ None) × (lines.items ≡ rsync_lines text))
-        (λ f. UnlessMemory f (IsRefusedText (rsync_refusal text) f)) }
+    ensures { MatchResult result (λ lines. HasLines rsync_refusal rsync_lines text lines.items)
+        (λ f. HasNoLines rsync_refusal text f) }
 {
     let uri = Rsync::from_bytes(text)?;
     let lines = lines_of_rsync(alloc, &uri)?;

@@ -241,21 +241,7 @@ impl KeyIdentifier {
     /// # Errors
     /// `Content` where it has another size, `Unexpected` for another value, `Trailing`, and else why there is no value.
     pub fn decode(octets: &[u8]) -> Result<Self, DecodeError> {
-        let header = ffi::header(octets).map_err(DecodeError::from_status)?;
-        if (header.tag_class, header.number, header.constructed) != (0, 4, false) {
-            return Err(DecodeError::Unexpected);
-        }
-        let rest = &octets[header.size..];
-        match usize::try_from(header.length) {
-            Ok(length) if length <= rest.len() => {
-                let octets = KeyIdentifier::try_from(&rest[..length]).map_err(|_| DecodeError::Content)?;
-                if length < rest.len() {
-                    return Err(DecodeError::Trailing);
-                }
-                Ok(octets)
-            }
-            _ => Err(DecodeError::Truncated),
-        }
+        ffi::key_identifier_read(octets).map(KeyIdentifier).map_err(DecodeError::from_status)
     }
 
     /// The octets.
@@ -312,18 +298,7 @@ impl FromStr for KeyIdentifier {
     type Err = ParseKeyIdentifierError;
 
     fn from_str(s: &str) -> Result<Self, ParseKeyIdentifierError> {
-        let digit = |octet: u8| char::from(octet).to_digit(16).map(|digit| digit as u8);
-        let digits: Option<Vec<u8>> = s.bytes().map(digit).collect();
-        match digits {
-            Some(digits) if digits.len() == 40 => {
-                let mut octets = [0; 20];
-                for (octet, pair) in octets.iter_mut().zip(digits.chunks(2)) {
-                    *octet = 16 * pair[0] + pair[1];
-                }
-                Ok(KeyIdentifier(octets))
-            }
-            _ => Err(ParseKeyIdentifierError),
-        }
+        ffi::key_identifier_of_hex(s.as_bytes()).map(KeyIdentifier).map_err(|_| ParseKeyIdentifierError)
     }
 }
 

@@ -3,7 +3,7 @@
 ghost use Rattle.std.specs.Prelude.{◌≡◌, ℕ, List, Bool, true, false, ◌<◌, ◌^◌, ◌↔◌, length, IsTrue};
 ghost use Rattle.rpki_der.specs.TagName.{TagName, sequence, set, octet_string};
 ghost use Rattle.rpki_der.specs.Header.{tlv};
-ghost use Rattle.rpki_der.specs.Written.{Writes};
+ghost use Rattle.rpki_der.specs.Written.{Writes, FitInside};
 
 use super::header::{header_len, write_header};
 use super::values::Values;
@@ -16,8 +16,7 @@ use std::marker::Model;
 #[tactic(auto, using(crate::proofs::EncodeLaws::tlv_at_most))]
 fn fit_inside<V: Values>(values: &V) -> bool
     ensures { (t : TagName) (f : Bool) → IsTrue result
-        ↔ ((V.is_short values.now × (length (V.encoded values.now) < 2 ^ 32))
-        × (length (tlv t f (V.encoded values.now)) < 2 ^ 63)) }
+        ↔ FitInside (V.is_short values.now) (V.encoded values.now) t f }
 {
     values.fits() && values.encoded_len() < 1 << 32
 }

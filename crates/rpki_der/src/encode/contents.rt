@@ -1,11 +1,12 @@
 //! Contents of primitive values.
 
 ghost use Rattle.rpki_der.specs.TagName.{boolean, bit_string, octet_string, null, oid};
-ghost use Rattle.rpki_der.specs.Leaves.{Bits, boolean_contents};
+ghost use Rattle.rpki_der.specs.Leaves.{boolean_contents};
 ghost use Rattle.rpki_der.specs.Contents.{null_contents, oid_contents, octet_string_contents, bits_contents};
 ghost use Rattle.rpki_der.specs.Header.{tlv};
 ghost use Rattle.rpki_der.specs.Written.{Writes};
 ghost use Rattle.std.specs.Prelude.{◌≡◌, ◌<◌, ◌^◌, ◌↔◌, false, length};
+ghost use Rattle.rpki_der.specs.LeafLaws.{AreBitsApart};
 
 use super::primitive::{Primitive, PrimitiveContent};
 use super::values::Values;
@@ -162,9 +163,7 @@ impl BitString {
         ensures short { ⟦<Primitive<&'static BitString> as Values>⟧.is_short result
             ↔ (length (bits_contents self.now) < 2 ^ 32) }
         // Bit strings have the same encoding exactly where they are equal.
-        ensures same { (other : Bits) → length (bits_contents other) < 2 ^ 32
-            → (tlv bit_string false (bits_contents self.now) ≡ tlv bit_string false (bits_contents other))
-            ↔ (self.now ≡ other) }
+        ensures same { AreBitsApart self.now }
     {
         self.encode()
     }

@@ -168,7 +168,8 @@ fn written(alloc: Global, extension: &CertExtension) -> Result<Option<Captured>,
 fn is_read(alloc: Global, extension: &CertExtension, row: &Read) -> bool {
     let same = extension.id().0 == row.id
         && extension.critical() == row.critical
-        && extension.octets() == row.content;
+        && extension.octets() == row.content
+        && extension.cursor().rest() == row.content;
     match written(alloc, extension) {
         Ok(Some(octets)) => same && octets.as_slice() == row.written,
         _ => false,

@@ -9,7 +9,7 @@ ghost use Rattle.rpki_text.specs.SameUriLaws.{same_uri-hashed, texts_equiv, text
 ghost use Rattle.rpki_text.specs.Segments.{is_slash, is_dir, with_slash};
 ghost use Rattle.rpki_text.specs.UriText.{lowercase, is_uri_byte};
 ghost use Rattle.rpki_text.specs.Views.{rsync_text};
-ghost use Rattle.rpki_text.specs.RsyncText.{rsync_refusal, has_module, RsyncUri, IsRsyncUri, uri_of, Spells, relative, is_parent, is_identical, IsWayBack, IsParentText, IsRsync, parent_uri, parent_of, joined, joined_uri, join_refusal, same_uri, hashed, IsCut, authority_of, module_name_of, module_of, canonical_module_of, path_of, eq_rsync_bytes};
+ghost use Rattle.rpki_text.specs.RsyncText.{rsync_refusal, has_module, RsyncUri, IsRsyncUri, uri_of, Spells, relative, is_parent, is_identical, IsWayBack, IsParentText, IsRsync, parent_uri, parent_of, joined, joined_uri, join_refusal, same_uri, hashed, IsCut, authority_of, module_name_of, module_of, IsAboveAllBelow, canonical_module_of, path_of, eq_rsync_bytes};
 
 use super::characters::{
     has_no_capital, hash_in_lower_case, in_lower_case, same_but_case, uri_text,
@@ -337,8 +337,7 @@ impl Rsync {
     pub fn is_parent_of(&self, other: &Rsync) -> bool
         ensures value { result ≡ is_parent (uri_of self.now) (uri_of other.now) }
         ensures irreflexive { is_parent (uri_of self.now) (uri_of self.now) ≡ false }
-        ensures transitive { (w : RsyncUri) → is_parent (uri_of self.now) (uri_of other.now) ≡ true
-            → is_parent (uri_of other.now) w ≡ true → is_parent (uri_of self.now) w ≡ true }
+        ensures transitive { IsAboveAllBelow (uri_of self.now) (uri_of other.now) }
     {
         match other.view().path_from(&self.view()) {
             Some(path) => !path.is_empty(),

@@ -5,7 +5,7 @@ ghost use Rattle.std.specs.List.{position_or_len, list_all};
 ghost use Rattle.std.specs.Option.{option_copied};
 ghost use Rattle.rpki_text.specs.Segments.{is_slash, is_dir};
 ghost use Rattle.rpki_text.specs.UriText.{lowercase, is_uri_byte};
-ghost use Rattle.rpki_text.specs.RsyncText.{rsync_refusal, has_module, uri_of, relative, is_identical, IsWayBack, IsRsync, IsCut, authority_of, module_name_of, module_of, path_of, parent_of, joined, join_refusal};
+ghost use Rattle.rpki_text.specs.RsyncText.{rsync_refusal, has_module, uri_of, relative, is_identical, IsWayBack, IsRsync, IsCut, authority_of, module_name_of, module_of, path_of, parent_of, joined, join_refusal, joined_by, size_joined_by, same_module_of, StartAt};
 ghost use Rattle.rpki_text.specs.Places.{IsPartAt, IsRelativeAt};
 ghost use Rattle.rpki_text.specs.Buffer.{IsWritten};
 
@@ -250,9 +250,7 @@ impl<'a> RsyncView<'a> {
 
     /// Whether both have the same authority, ignoring case, and the same module.
     pub(super) fn has_module_of(&self, other: &RsyncView<'_>) -> bool
-        ensures { result ≡ (bytes_eq (lowercase (authority_of (rsync_text self.now)))
-            (lowercase (authority_of (rsync_text other.now)))
-            && bytes_eq (module_name_of (rsync_text self.now)) (module_name_of (rsync_text other.now))) }
+        ensures { result ≡ same_module_of (rsync_text self.now) (rsync_text other.now) }
     {
         self.authority().eq_ignore_ascii_case(other.authority())
             && self.module_name() == other.module_name()
@@ -261,9 +259,9 @@ impl<'a> RsyncView<'a> {
 
 /// Writes the base, perhaps a slash, and the path to the front of a buffer that has room for them.
 pub fn write_joined(base: &[u8], slash: bool, path: &[u8], buffer: &mut [u8])
-    requires { length base.now + (if slash then 1 else 0) + length path.now ≤ length buffer.old }
-    ensures { buffer.new ≡ ((if slash then base.now ++ 47 ∷ [] else base.now) ++ path.now)
-        ++ drop (length base.now + (if slash then 1 else 0) + length path.now) buffer.old }
+    requires { size_joined_by slash base.now path.now ≤ length buffer.old }
+    ensures { buffer.new ≡ joined_by slash base.now path.now
+        ++ drop (size_joined_by slash base.now path.now) buffer.old }
 {
     let (front, rest) = buffer.split_at_mut(base.len());
     front.copy_from_slice(base);
@@ -279,8 +277,7 @@ pub fn write_joined(base: &[u8], slash: bool, path: &[u8], buffer: &mut [u8])
 fn module_and_path(text: &[u8]) -> Option<Places>
     requires { 8 ≤ length text.now }
     ensures full { has_module text.now ≡ is_some result }
-    ensures starts { IfSome result (λ p. (p.module_start ≡ 9 + position_or_len is_slash (drop 8 text.now))
-        × (p.path_start ≡ p.module_start + position_or_len is_slash (drop p.module_start text.now) + 1)) }
+    ensures starts { IfSome result (λ p. StartAt text.now p.module_start p.path_start) }
 {
     let (_, rest) = text.split_at(SCHEME_LEN);
     let authority = slash_at(rest);

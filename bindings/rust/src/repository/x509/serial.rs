@@ -27,15 +27,11 @@ impl Serial {
     /// # Errors
     /// There are none, or more than 20, or 20 of which the first bit is set.
     pub fn from_slice(s: &[u8]) -> Result<Self, SerialSliceError> {
-        if s.is_empty() {
-            return Err(SerialSliceError::Empty);
+        match ffi::serial_of_octets(s) {
+            Ok(octets) => Ok(Serial(octets)),
+            Err(_) if s.is_empty() => Err(SerialSliceError::Empty),
+            Err(_) => Err(SerialSliceError::Long),
         }
-        if s.len() > 20 {
-            return Err(SerialSliceError::Long);
-        }
-        let mut octets = [0; 20];
-        octets[20 - s.len()..].copy_from_slice(s);
-        Serial::from_array(octets)
     }
 
     /// The number that the octets write, the most significant first.
@@ -43,11 +39,7 @@ impl Serial {
     /// # Errors
     /// The first bit is set.
     pub fn from_array(array: [u8; 20]) -> Result<Self, SerialSliceError> {
-        if array[0] >= 0x80 {
-            Err(SerialSliceError::Long)
-        } else {
-            Ok(Serial(array))
-        }
+        Serial::from_slice(&array)
     }
 
     /// The 20 octets of the number, the most significant first, with zeros in front.
@@ -70,31 +62,6 @@ impl Serial {
     /// If allocation fails.
     pub fn encode(self) -> Bytes {
         known(ffi::serial_write(&self.0)).into()
-    }
-
-    /// Divides the number by ten; returns the last digit.
-    fn next_digit(&mut self) -> u8 {
-        let mut rest = 0u32;
-        for octet in &mut self.0 {
-            let part = rest * 256 + u32::from(*octet);
-            *octet = (part / 10) as u8;
-            rest = part % 10;
-        }
-        rest as u8
-    }
-
-    /// Multiplies the number by ten, and adds a digit; `None` where that is 2^159 or more.
-    fn with_digit(mut self, digit: u8) -> Option<Self> {
-        let mut more = u32::from(digit);
-        for octet in self.0.iter_mut().rev() {
-            let part = u32::from(*octet) * 10 + more;
-            *octet = (part % 256) as u8;
-            more = part / 256;
-        }
-        if more > 0 {
-            return None;
-        }
-        Serial::from_array(self.0).ok()
     }
 }
 
@@ -145,17 +112,7 @@ impl FromStr for Serial {
     type Err = RepresentationError;
 
     fn from_str(s: &str) -> Result<Self, RepresentationError> {
-        if s.is_empty() {
-            return Err(RepresentationError(()));
-        }
-        let mut serial = Serial::default();
-        for octet in s.bytes() {
-            if !octet.is_ascii_digit() {
-                return Err(RepresentationError(()));
-            }
-            serial = serial.with_digit(octet - b'0').ok_or(RepresentationError(()))?;
-        }
-        Ok(serial)
+        ffi::serial_of_decimal(s.as_bytes()).map(Serial).map_err(|_| RepresentationError(()))
     }
 }
 
@@ -169,12 +126,7 @@ impl TryFrom<String> for Serial {
 
 impl fmt::Display for Serial {
     fn fmt(&self, f: &mut fmt::Formatter) -> fmt::Result {
-        let mut rest = *self;
-        let mut digits = Vec::with_capacity(48);
-        while rest != Serial::default() || digits.is_empty() {
-            digits.push(b'0' + rest.next_digit());
-        }
-        digits.reverse();
+        let digits = known(ffi::serial_decimal(&self.0));
         f.pad_integral(true, "", std::str::from_utf8(&digits).expect("digits"))
     }
 }

@@ -5,12 +5,8 @@ use crate::crypto::signature::{
     Provider, RpkiSignature, RpkiSignatureAlgorithm, Signature, SignatureVerificationError,
 };
 use crate::ffi;
-use crate::repository::x509::value;
 use crate::view::DecodeError;
 use bytes::Bytes;
-
-/// The algorithm identifier sha256WithRSAEncryption with NULL for parameters (RFC 7935 2).
-const ALGORITHM: &[u8] = b"\x30\x0d\x06\x09\x2a\x86\x48\x86\xf7\x0d\x01\x01\x0b\x05\x00";
 
 /// Signed data of the RPKI (RFC 5280 4.1), as a certificate or a revocation list: one value, and a signature over
 /// exactly its octets. It shares the octets that it was read from.
@@ -50,18 +46,17 @@ impl SignedData {
     /// The value, and a signature over it.
     ///
     /// # Errors
-    /// The octets are not exactly one value, with all that is nested in it.
+    /// The octets are not exactly one value, with all that is nested in it; `OutOfMemory`.
     ///
     /// # Panics
     /// If it would have contents of 2^32 octets or more.
     pub fn new(data: impl Into<Bytes>, signature: RpkiSignature) -> Result<Self, DecodeError> {
         let data = data.into();
-        let walked = ffi::walk(&data).map_err(DecodeError::from_status)?;
-        if walked.size < data.len() {
-            return Err(DecodeError::Trailing);
-        }
-        let bits = value(0x03, &[b"\x00", &signature.value()[..]].concat());
-        let octets = value(0x30, &[&data[..], ALGORITHM, &bits].concat()).into();
+        let octets = match ffi::signed_data_make(&data, signature.value()) {
+            Ok(octets) => octets.into(),
+            Err(ffi::TOO_LONG) => known(Err(ffi::TOO_LONG)),
+            Err(status) => return Err(DecodeError::from_status(status)),
+        };
         Ok(SignedData { octets, data, signature })
     }
 

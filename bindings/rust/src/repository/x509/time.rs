@@ -1,8 +1,7 @@
 //! Times and periods of validity.
 
 use crate::crypto::keys::known;
-use crate::ffi::{self, Moment};
-use crate::repository::x509::value;
+use crate::ffi::{self, Moment, Period};
 use crate::view::DecodeError;
 use bytes::Bytes;
 use std::cmp::Ordering;
@@ -32,18 +31,12 @@ pub struct Time {
     moment: Moment,
 }
 
-/// The year, month and day that are so many days after 1970-01-01, in the calendar of RFC 3339.
-fn date(days: i64) -> (i64, u32, u32) {
-    // Of a year that begins on 1 March each period of 400 years has the same days; here from 0000-03-01 on.
-    let days = days + 719_468;
-    let (period, day) = (days.div_euclid(146_097), days.rem_euclid(146_097));
-    let year = (day - day / 1_460 + day / 36_524 - day / 146_096) / 365;
-    let day = day - (365 * year + year / 4 - year / 100);
-    let month = (5 * day + 2) / 153;
-    let day = (day - (153 * month + 2) / 5 + 1) as u32;
-    let (month, next) = if month < 10 { (month + 3, 0) } else { (month - 9, 1) };
-    (400 * period + year + next, month as u32, day)
-}
+/// The first moment and the last. The library looks at their parts alone.
+const FIRST: Moment = Moment { seconds: 0, year: 0, month: 1, day: 1, hour: 0, minute: 0, second: 0 };
+const LAST: Moment = Moment { seconds: 0, year: 9999, month: 12, day: 31, hour: 23, minute: 59, second: 59 };
+
+/// 1970-01-01 00:00:00.
+const EPOCH: Moment = Moment { seconds: 0, year: 1970, month: 1, day: 1, hour: 0, minute: 0, second: 0 };
 
 impl Time {
     /// The time of these parts; `None` where the calendar or a clock has none, or the year is not of 0 to 9999.
@@ -67,9 +60,7 @@ impl Time {
     /// The time so many seconds after 1970-01-01 00:00:00, every day with 86,400; `None` where its year is not of 0 to
     /// 9999.
     pub fn from_timestamp(seconds: i64) -> Option<Self> {
-        let (year, month, day) = date(seconds.div_euclid(DAY));
-        let rest = seconds.rem_euclid(DAY) as u32;
-        Time::checked_utc(i32::try_from(year).ok()?, month, day, rest / 3_600, rest / 60 % 60, rest % 60)
+        Time { moment: EPOCH }.checked_add_secs(seconds)
     }
 
     /// The time of the machine's clock, without parts of a second.
@@ -132,7 +123,11 @@ impl Time {
 
     /// The time later by whole seconds; `None` where its year is not of 0 to 9999.
     pub fn checked_add_secs(self, seconds: i64) -> Option<Self> {
-        Time::from_timestamp(self.moment.seconds.checked_add(seconds)?)
+        match ffi::time_seconds_on(&self.moment, seconds) {
+            Ok(moment) => Some(Time { moment }),
+            Err(ffi::NO_ANSWER) => None,
+            Err(status) => known(Err(status)),
+        }
     }
 
     /// Reads a time that is all of the octets: UTC time, of the years 1950 to 2049, or generalized time (RFC 5280
@@ -156,18 +151,12 @@ impl Time {
 
     /// The value of the time as UTC time, with the last two digits of its year.
     pub fn encode_utc_time(self) -> Bytes {
-        value(0x17, format!("{:02}{}", self.year() % 100, self.digits()).as_bytes()).into()
+        known(ffi::time_write_utc(&self.moment)).into()
     }
 
     /// The value of the time as generalized time.
     pub fn encode_generalized_time(self) -> Bytes {
-        value(0x18, format!("{:04}{}", self.year(), self.digits()).as_bytes()).into()
-    }
-
-    /// The digits of all but the year, and a `Z`.
-    fn digits(self) -> String {
-        let Moment { month, day, hour, minute, second, .. } = self.moment;
-        format!("{month:02}{day:02}{hour:02}{minute:02}{second:02}Z")
+        known(ffi::time_write_generalized(&self.moment)).into()
     }
 
     /// The seconds since 1970-01-01 00:00:00, every day with 86,400; negative before.
@@ -215,11 +204,7 @@ impl Time {
     /// # Errors
     /// It is: too new.
     pub fn verify_not_before(self, now: Self) -> Result<(), ValidityPeriodError> {
-        if now < self {
-            Err(ValidityPeriodError { too_new: true })
-        } else {
-            Ok(())
-        }
+        Validity::new(self, Time { moment: LAST }).verify_at(now)
     }
 
     /// Checks that the moment is not after this time.
@@ -227,11 +212,7 @@ impl Time {
     /// # Errors
     /// It is: too old.
     pub fn verify_not_after(self, now: Self) -> Result<(), ValidityPeriodError> {
-        if now > self {
-            Err(ValidityPeriodError { too_new: false })
-        } else {
-            Ok(())
-        }
+        Validity::new(Time { moment: FIRST }, self).verify_at(now)
     }
 }
 
@@ -501,7 +482,7 @@ impl Validity {
 
     /// The period that both have in common: the later start and the earlier end.
     pub fn trim(self, other: Self) -> Self {
-        Validity::new(self.not_before.max(other.not_before), self.not_after.min(other.not_after))
+        known(ffi::validity_trim(&self.parts(), &other.parts())).into()
     }
 
     /// Reads a period that is all of the octets.
@@ -509,13 +490,12 @@ impl Validity {
     /// # Errors
     /// `Trailing` where octets follow a period, and else why no beginning of the octets is one.
     pub fn decode(octets: &[u8]) -> Result<Self, DecodeError> {
-        let found = ffi::validity(octets).map_err(DecodeError::from_status)?;
-        Ok(Validity::new(Time { moment: found.not_before }, Time { moment: found.not_after }))
+        ffi::validity(octets).map(Validity::from).map_err(DecodeError::from_status)
     }
 
     /// The value of the period: a SEQUENCE of two times.
     pub fn encode(self) -> Bytes {
-        value(0x30, &[self.not_before.encode_varied(), self.not_after.encode_varied()].concat()).into()
+        known(ffi::validity_write(&self.parts())).into()
     }
 
     /// Checks that now is in the period.
@@ -531,8 +511,23 @@ impl Validity {
     /// # Errors
     /// Too new; else too old.
     pub fn verify_at(self, now: Time) -> Result<(), ValidityPeriodError> {
-        self.not_before.verify_not_before(now)?;
-        self.not_after.verify_not_after(now)
+        match ffi::validity_at(&self.parts(), &now.moment) {
+            Ok(()) => Ok(()),
+            Err(ffi::TOO_NEW) => Err(ValidityPeriodError { too_new: true }),
+            Err(ffi::TOO_OLD) => Err(ValidityPeriodError { too_new: false }),
+            Err(status) => known(Err(status)),
+        }
+    }
+
+    /// The period as the library has it.
+    fn parts(self) -> Period {
+        Period { not_before: self.not_before.moment, not_after: self.not_after.moment }
+    }
+}
+
+impl From<Period> for Validity {
+    fn from(period: Period) -> Self {
+        Validity::new(Time { moment: period.not_before }, Time { moment: period.not_after })
     }
 }
 

@@ -8,12 +8,11 @@ ghost use Rattle.rpki_der.specs.Number.{AreOctets};
 ghost use Rattle.rpki_der.specs.ContentView.{is_constructed, octets_of};
 ghost use Rattle.rpki_der.specs.TagName.{octet_string};
 ghost use Rattle.rpki_der.specs.Reading.{Reads, ReadsWhere};
-ghost use Rattle.rpki_der.specs.Values.{SpellsLeaf, HasTag};
+ghost use Rattle.rpki_der.specs.Values.{HasTag};
 ghost use Rattle.rpki_der.specs.declared.error.DecodeError.TheVariants.{Unexpected};
 ghost use Rattle.rpki_text.specs.HexText.{hex_digit, hex_text};
 ghost use Rattle.rpki.specs.UnknownAlgorithm.{IsContentWith};
-ghost use Rattle.rpki.specs.AnyValue.{SpellsAny};
-ghost use Rattle.rpki.specs.KeyIdentifier.{IsKeyIdentifier, SpellsKeyIdentifier, IsIdentifierFault, identifier_error};
+ghost use Rattle.rpki.specs.KeyIdentifier.{IsKeyIdentifier, SpellsKeyIdentifier, IsIdentifierFault, identifier_error, SpellsAnyIdentifier, IsAnyIdentifierFault};
 
 use rpki_der::{Constructed, Content, DecodeError, PrimitiveContent, Tag, write_whole};
 use rpki_text::util::hex;
@@ -99,9 +98,8 @@ impl KeyIdentifier {
 
     /// Moves past a key identifier where [KeyIdentifier::take_opt_from] reads one; else None. The errors are the same.
     pub fn skip_opt_in(cons: &mut Constructed<'_>) -> Result<Option<()>, DecodeError>
-        ensures { ReadsWhere (HasTag octet_string) (λ _. tt)
-            (SpellsLeaf octet_string false (SpellsAny IsKeyIdentifier))
-            (IsIdentifierFault (SpellsAny IsKeyIdentifier)) (left cons.old) (left cons.new) result }
+        ensures { ReadsWhere (HasTag octet_string) (λ _. tt) SpellsAnyIdentifier IsAnyIdentifierFault (left cons.old)
+            (left cons.new) result }
     {
         match KeyIdentifier::take_opt_from(cons) {
             Ok(None) => Ok(None),
@@ -164,7 +162,6 @@ impl TryFrom<&[u8]> for KeyIdentifier {
     type Error = KeyIdentifierSliceError;
 
     ghost use Rattle.std.specs.Prelude.{◌≢◌, MatchResult, length};
-    ghost use Rattle.rpki.specs.AnyValue.{SpellsAny};
     ghost use Rattle.rpki.specs.KeyIdentifier.{IsKeyIdentifier};
 
     ghost try_from_gives = { λ octets r. MatchResult r (λ k. IsKeyIdentifier k octets.now)
@@ -183,7 +180,6 @@ impl FromStr for KeyIdentifier {
     type Err = ParseKeyIdentifierError;
 
     ghost use Rattle.std.specs.Prelude.{ℕ, List, MatchResult};
-    ghost use Rattle.rpki.specs.AnyValue.{SpellsAny};
     ghost use Rattle.rpki.specs.KeyIdentifier.{IsHexOf};
 
     ghost from_str_gives = { λ text r. MatchResult r (λ k. IsHexOf k text) (λ _. (k : List ℕ) → IsHexOf k text → ⊥) };

@@ -5,7 +5,7 @@ ghost use Rattle.rpki_der.specs.Cursor.{left};
 ghost use Rattle.rpki_der.specs.Reading.{Reads, Decodes, IsWholeFault};
 ghost use Rattle.rpki_der.specs.FirstFault.{ReadsParts};
 ghost use Rattle.rpki_der.specs.Leaves.{AreBits, bits_of};
-ghost use Rattle.rpki.specs.PublicKey.{KeyParts, key_of, IsKeyContents, SpellsKey, key_contents, key_octets};
+ghost use Rattle.rpki.specs.PublicKey.{KeyParts, key_of, IsKeyContents, SpellsKey, key_octets, IsShortKey, IsKeyApart};
 ghost use Rattle.rpki.specs.KeyFault.{IsKeyPartsFault, IsKeyFault};
 
 use super::{KeyIdentifier, PublicKeyFormat, PublicKeyFormatEncoder};
@@ -144,12 +144,11 @@ impl PublicKey {
         ensures octets { ⟦<PublicKeyEncoder<BitString> as Values>⟧.encoded result ≡ key_octets self }
         // It fits exactly where its contents have fewer than 2^32 octets.
         ensures short { ⟦<PublicKeyEncoder<BitString> as Values>⟧.is_short result
-            ↔ (length (key_contents self) < 2 ^ 32) }
+            ↔ IsShortKey self }
         // What is written is read as the key.
-        ensures read_back { length (key_contents self) < 2 ^ 32 → SpellsKey self (key_octets self) }
+        ensures read_back { IsShortKey self → SpellsKey self (key_octets self) }
         // Keys have the same encoding exactly where they are equal.
-        ensures same { (other : KeyParts) → length (key_contents self) < 2 ^ 32
-            → length (key_contents other) < 2 ^ 32 → (key_octets self ≡ key_octets other) ↔ (self ≡ other) }
+        ensures same { IsKeyApart self }
     {
         let PublicKey { algorithm, bits } = self;
         Sequence::new((algorithm.encode(), bits.encode()))
@@ -160,12 +159,11 @@ impl PublicKey {
         ensures octets { ⟦<PublicKeyEncoder<&'static BitString> as Values>⟧.encoded result ≡ key_octets self.now }
         // It fits exactly where its contents have fewer than 2^32 octets.
         ensures short { ⟦<PublicKeyEncoder<&'static BitString> as Values>⟧.is_short result
-            ↔ (length (key_contents self.now) < 2 ^ 32) }
+            ↔ IsShortKey self.now }
         // What is written is read as the key.
-        ensures read_back { length (key_contents self.now) < 2 ^ 32 → SpellsKey self.now (key_octets self.now) }
+        ensures read_back { IsShortKey self.now → SpellsKey self.now (key_octets self.now) }
         // Keys have the same encoding exactly where they are equal.
-        ensures same { (other : KeyParts) → length (key_contents self.now) < 2 ^ 32
-            → length (key_contents other) < 2 ^ 32 → (key_octets self.now ≡ key_octets other) ↔ (self.now ≡ other) }
+        ensures same { IsKeyApart self.now }
     {
         Sequence::new((self.algorithm.encode(), self.bits.encode_ref()))
     }
@@ -174,7 +172,7 @@ impl PublicKey {
     ///
     /// Returns `AllocError` if allocation fails.
     pub fn to_info_bytes(&self, alloc: Global) -> Result<Bytes, AllocError>
-        requires { length (key_contents self.now) < 2 ^ 32 }
+        requires { IsShortKey self.now }
         ensures { IfOk result (λ b. b ≡ key_octets self.now) }
     {
         let key = Captured::from_values(alloc, &self.encode_ref())?;

@@ -1,7 +1,7 @@
 //! Verification of signatures.
 
 ghost use Rattle.std.specs.Prelude.{◌↔◌, IsOk};
-ghost use Rattle.rpki.specs.Provider.{Verifies};
+ghost use Rattle.rpki.specs.Provider.{VerifiesBy};
 
 use super::{PublicKey, PublicKeyFormat};
 use crate::crypto::{Provider, Signature, SignatureAlgorithm};
@@ -19,8 +19,8 @@ impl PublicKey {
         message: &[u8],
         signature: &Signature<Alg>,
     ) -> Result<(), SignatureVerificationError>
-        ensures { IsOk result ↔ Verifies (P.rsa_of provider.now) (P.ecdsa_of provider.now)
-            (Alg.format signature.now.algorithm) self.now.format self.now.bits.octets message.now signature.now.value }
+        ensures { IsOk result ↔ VerifiesBy (P.rsa_of provider.now) (P.ecdsa_of provider.now) Alg.format self.now
+            message.now signature.now }
     {
         let format = self.algorithm();
         if signature.algorithm().public_key_format() != format {

@@ -13,7 +13,7 @@ ghost use Rattle.rpki.specs.ExtensionFault.{IsKeptExtensionFault};
 mod grammar;
 mod view;
 
-use self::grammar::take_extension;
+use self::grammar::skip_extension;
 pub use self::view::ExtensionView;
 use bytes::Bytes;
 use rpki_der::{
@@ -82,9 +82,7 @@ impl CertExtension {
         ensures { Reads (λ x. x) SpellsExtension IsKeptExtensionFault
             (left cons.old) (left cons.new) result }
     {
-        let mut after = *cons;
-        take_extension(&mut after)?;
-        let captured = cons.capture_one(alloc)?;
+        let captured = cons.capture(alloc, |cons| skip_extension(cons))?;
         Ok(CertExtension { captured })
     }
 

@@ -1,8 +1,8 @@
 //! Extensions of certificates, written (RFC 5280 4.1).
 
-ghost use Rattle.std.specs.Prelude.{◌≡◌, ◌<◌, ◌^◌, ◌↔◌, length};
-ghost use Rattle.rpki.specs.Extension.{extension_contents, extension_octets};
-ghost use Rattle.rpki.specs.ExtensionValue.{extension_parts, SpellsExtension, CanBeWritten};
+ghost use Rattle.std.specs.Prelude.{◌≡◌, ◌↔◌};
+ghost use Rattle.rpki.specs.Extension.{extension_octets};
+ghost use Rattle.rpki.specs.ExtensionValue.{extension_parts, AreShort, IsReadAgain};
 
 use rpki_der::{ConstOid, Primitive, PrimitiveContent, Sequence, Values, Wrapped};
 
@@ -16,11 +16,9 @@ pub fn encode_extension<V: Values>(oid: ConstOid, critical: bool, content: V) ->
         ≡ extension_octets oid.entry.0.now critical (V.encoded content) }
     // It fits exactly where the content does and the contents have fewer than 2^32 octets.
     ensures short { ⟦<Extension<V> as Values>⟧.is_short result
-        ↔ (V.is_short content × (length (extension_contents oid.entry.0.now critical (V.encoded content)) < 2 ^ 32)) }
+        ↔ (V.is_short content × AreShort (extension_parts oid.entry.0.now critical (V.encoded content))) }
     // Where it fits, the encoding with a valid identifier is read as the extension of these parts.
-    ensures read_back { CanBeWritten (extension_parts oid.entry.0.now critical (V.encoded content))
-        → SpellsExtension (extension_parts oid.entry.0.now critical (V.encoded content))
-        (extension_octets oid.entry.0.now critical (V.encoded content)) }
+    ensures read_back { IsReadAgain (extension_parts oid.entry.0.now critical (V.encoded content)) }
 {
     let critical = if critical { Some(true.encode()) } else { None };
     Sequence::new((oid.encode(), critical, Wrapped::new(content)))

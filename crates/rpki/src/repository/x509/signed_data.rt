@@ -6,10 +6,9 @@ ghost use Rattle.rpki_der.specs.Reading.{Reads, Decodes, IsWholeFault};
 ghost use Rattle.rpki_der.specs.Members.{AreValues, IsValue};
 ghost use Rattle.rpki_der.specs.Contents.{bits_contents};
 ghost use Rattle.rpki_der.specs.Leaves.{bits_of};
-ghost use Rattle.rpki_der.specs.Written.{Writes};
-ghost use Rattle.rpki.specs.Provider.{Verifies};
+ghost use Rattle.rpki.specs.Provider.{VerifiesBy};
 ghost use Rattle.rpki.specs.Signature.{signature_of};
-ghost use Rattle.rpki.specs.SignedData.{SignedParts, parts_of, SpellsSignature, IsSignedContents, SpellsSigned, signed_octets, written_contents, written_signed, normal_parts, DifferInCount};
+ghost use Rattle.rpki.specs.SignedData.{SignedParts, parts_of, SpellsSignature, IsSignedContents, SpellsSigned, written_signed, normal_parts, IsWrittenAgain, DiffersInCountAlone, IsShortSigned, IsWrittenApart, signature_in};
 ghost use Rattle.rpki.specs.KeyFault.{IsBitsFault};
 ghost use Rattle.rpki.specs.SignedFault.{IsSignedPartsFault, IsSignedFault};
 
@@ -111,13 +110,9 @@ impl<Alg: SignatureAlgorithm + Drop> SignedData<Alg> {
         ensures decodes { Decodes (λ x. x) (SpellsSigned Alg.spells)
             (IsWholeFault (SpellsSigned Alg.spells) (IsSignedFault Alg.spells Alg.fault)) bytes result }
         // It is written as it was read exactly where its algorithm was spelled as it is written, and no bit was unused.
-        ensures again { IfOk result (λ v. (text : List ℕ) (unused : ℕ) → Alg.spells v.algorithm text
-            → bytes ≡ signed_octets v.signed text unused v.value →
-            (written_signed Alg.written v ≡ bytes) ↔ ((text ≡ Alg.written v.algorithm) × (unused ≡ 0))) }
+        ensures again { IfOk result (λ v. IsWrittenAgain Alg.spells Alg.written v bytes) }
         // Where the algorithm has one spelling, all inputs of this value differ in the count of unused bits alone.
-        ensures one_count { IfOk result (λ v. (other : List ℕ) → SpellsSigned Alg.spells v other →
-            ((s t : List ℕ) → Alg.spells v.algorithm s → Alg.spells v.algorithm t → s ≡ t)
-            → DifferInCount v.value bytes other) }
+        ensures one_count { IfOk result (λ v. DiffersInCountAlone Alg.spells v bytes) }
     {
         let mut cons = Constructed::new(&bytes);
         let found = SignedData::take_from(alloc, &mut cons)?;
@@ -139,16 +134,12 @@ impl<Alg: SignatureAlgorithm + 'static> SignedData<Alg> {
             ≡ written_signed Alg.written self.now }
         // It fits exactly where its contents have fewer than 2^32 octets.
         ensures short { ⟦<SignedDataEncoder<'static, Alg, Alg::Encoder> as Values>⟧.is_short result
-            ↔ (length (written_contents Alg.written self.now) < 2 ^ 32) }
+            ↔ IsShortSigned Alg.written self.now }
         // The encoding is read as the normal form.
-        ensures read_back { length (written_contents Alg.written self.now) < 2 ^ 32
+        ensures read_back { IsShortSigned Alg.written self.now
             → SpellsSigned Alg.spells (normal_parts Alg.norm self.now) (written_signed Alg.written self.now) }
         // Two values have the same encoding exactly where their normal forms are equal.
-        ensures same { (other : SignedParts Alg) → IsValue other.signed
-            → length (written_contents Alg.written self.now) < 2 ^ 32
-            → length (written_contents Alg.written other) < 2 ^ 32 →
-            (written_signed Alg.written self.now ≡ written_signed Alg.written other)
-            ↔ (normal_parts Alg.norm self.now ≡ normal_parts Alg.norm other) }
+        ensures same { IsWrittenApart Alg.written Alg.norm self.now }
     {
         let signature = SignatureValueContent {
             signature: &self.signature,
@@ -170,8 +161,8 @@ impl<Alg: SignatureAlgorithm> SignedData<Alg> {
         provider: &P,
         key: &PublicKey,
     ) -> Result<(), SignatureVerificationError>
-        ensures { IsOk result ↔ Verifies (P.rsa_of provider.now) (P.ecdsa_of provider.now)
-            (Alg.format self.now.algorithm) key.now.format key.now.bits.octets self.now.signed self.now.value }
+        ensures { IsOk result ↔ VerifiesBy (P.rsa_of provider.now) (P.ecdsa_of provider.now) Alg.format key.now
+            self.now.signed (signature_in self.now) }
     {
         key.verify(provider, self.signed.as_slice(), &self.signature)
     }

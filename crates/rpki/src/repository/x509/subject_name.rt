@@ -3,7 +3,7 @@
 ghost use Rattle.std.specs.Prelude.{◌≡◌, ◌<◌, ◌^◌, true, length, IfOk};
 ghost use Rattle.rpki_der.specs.TagName.{sequence};
 ghost use Rattle.rpki_der.specs.Header.{tlv};
-ghost use Rattle.rpki.specs.StrictName.{IsRpkiName, IsRouterName};
+ghost use Rattle.rpki.specs.StrictName.{IsRpkiName, IsRouterName, IsEitherName};
 ghost use Rattle.rpki.specs.SubjectName.{attribute_contents, subject_octets};
 
 use super::name::Name;
@@ -26,8 +26,7 @@ impl PublicKey {
         ensures short { ⟦<SubjectName as Values>⟧.is_short result }
         ensures size { length (subject_octets (P.sha1_of provider.now self.now.bits.octets)) < 2 ^ 63 }
         // The encoding is a name that passes both strict inspections.
-        ensures strict { IsRpkiName (subject_octets (P.sha1_of provider.now self.now.bits.octets))
-            × IsRouterName (subject_octets (P.sha1_of provider.now self.now.bits.octets)) }
+        ensures strict { IsEitherName (subject_octets (P.sha1_of provider.now self.now.bits.octets)) }
     {
         let name = common_name(self.key_identifier(provider));
         Sequence::new(Set::new(name))
@@ -41,7 +40,7 @@ fn common_name(identifier: KeyIdentifier) -> Sequence<(Primitive<ConstOid>, Prim
         ≡ tlv sequence true (attribute_contents identifier) }
     ensures short { ⟦<Sequence<(Primitive<ConstOid>, Primitive<PublicKeyCn>)> as Values>⟧.is_short result }
     ensures size { length (subject_octets identifier) < 2 ^ 63 }
-    ensures strict { IsRpkiName (subject_octets identifier) × IsRouterName (subject_octets identifier) }
+    ensures strict { IsEitherName (subject_octets identifier) }
 {
     let attribute = oid::AT_COMMON_NAME.encode();
     let name = PublicKeyCn::new(identifier).encode();

@@ -1,6 +1,5 @@
 use Rattle.std.proofs.Common.{◌≡◌, ◌+ℤ◌, ℤ, true, false, refl, inl, inr, sym, subst, w32}
 use Rattle.std.proofs.lemmas.Int.{to_z-of_z}
-use Rattle.jiff.specs.Types.{DateTime}
 use Rattle.rpki_time.specs.Time.{IsTimeYear, IsYearsOn}
 use Rattle.rpki_c.proofs.MomentLaws.{is-moment}
 use Rattle.rpki_c.proofs.time_writing.rpki_time_years_on.Goals as goal

@@ -2,7 +2,7 @@ use Rattle.std.proofs.Common.{List, sym, subst}
 use Rattle.std.proofs.lemmas.Result.{err_from_is_err_and}
 use Rattle.rpki_der.specs.Cursor.{left}
 use Rattle.rpki.specs.ExtensionValue.{ExtensionParts}
-use Rattle.rpki.proofs.NameLaws.{at-end, not-at-end}
+use Rattle.rpki_der.proofs.CursorLaws.{at-end, not-at-end}
 use Rattle.rpkibasic.proofs.ReadingLaws.{HaveRead, one-more, all-extensions, extension-fault}
 use Rattle.rpkibasic.proofs.extensions.extensions.Goals as goal
 

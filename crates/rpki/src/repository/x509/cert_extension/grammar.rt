@@ -2,6 +2,7 @@
 
 ghost use Rattle.rpki_der.specs.Cursor.{left};
 ghost use Rattle.rpki_der.specs.Reading.{Reads, Decodes};
+ghost use Rattle.rpki.specs.AnyValue.{SpellsAny};
 ghost use Rattle.rpki.specs.ExtensionValue.{extension_parts, IsExtensionContents, SpellsExtension};
 ghost use Rattle.rpki.specs.ExtensionFault.{IsExtensionPartsFault, IsCertExtensionFault};
 
@@ -33,4 +34,12 @@ pub(super) fn take_extension<'a>(
     let parts = take_parts(contents)?;
     *cons = after;
     Ok(parts)
+}
+
+/// Moves past an extension.
+pub(super) fn skip_extension(cons: &mut Constructed<'_>) -> Result<(), DecodeError>
+    ensures { Reads (λ _. tt) (SpellsAny SpellsExtension) IsCertExtensionFault (left cons.old) (left cons.new) result }
+{
+    take_extension(cons)?;
+    Ok(())
 }

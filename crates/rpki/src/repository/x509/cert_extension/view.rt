@@ -34,14 +34,12 @@ impl<'a> ExtensionView<'a> {
     pub fn take_from(cons: &mut Constructed<'a>) -> Result<ExtensionView<'a>, DecodeError>
         ensures { Reads (λ x. x) SpellsExtension IsCertExtensionFault (left cons.old) (left cons.new) result }
     {
-        match take_extension(cons) {
-            Ok((id, critical, octets)) => Ok(ExtensionView {
-                id,
-                critical,
-                octets,
-            }),
-            Err(e) => Err(e),
-        }
+        let (id, critical, octets) = take_extension(cons)?;
+        Ok(ExtensionView {
+            id,
+            critical,
+            octets,
+        })
     }
 
     /// The identifier.

@@ -6,7 +6,7 @@ ghost use Rattle.rpki_der.specs.TagName.{sequence, set};
 ghost use Rattle.rpki_der.specs.Reading.{Reads};
 ghost use Rattle.rpki_der.specs.FirstFault.{ReadsParts};
 ghost use Rattle.rpki_der.specs.Values.{SpellsLeaf, IsOuterFault};
-ghost use Rattle.rpki.specs.Name.{attribute_of, IsIdentifierThen, IsAttribute, SpellsAttribute, SpellsSome, SpellsRelative};
+ghost use Rattle.rpki.specs.Name.{IsAttribute, SpellsAttribute, SpellsSome, SpellsRelative, SpellsIdentifierThen, attribute_left};
 ghost use Rattle.rpki.specs.AnyValue.{SpellsAny};
 ghost use Rattle.rpki.specs.NameFault.{IsAttributePartsFault, IsAttributeFault, IsAttributesFault, IsRelativeFault, IsRelativesFault, IsWalkedNameFault};
 
@@ -15,8 +15,8 @@ use std::alloc::Global;
 
 /// The contents of an attribute's identifier, and a cursor on the rest of the SEQUENCE.
 pub(super) fn take_attribute_type<C: Cursor>(cons: &mut C) -> Result<(C, C), DecodeError>
-    ensures { Reads (λ x. attribute_of (C.octets_left x.0) (C.octets_left x.1)) (SpellsLeaf sequence true
-        IsIdentifierThen) (IsOuterFault sequence true) (C.octets_left cons.old) (C.octets_left cons.new) result }
+    ensures { Reads (attribute_left C.octets_left) SpellsIdentifierThen
+        (IsOuterFault sequence true) (C.octets_left cons.old) (C.octets_left cons.new) result }
 {
     let mut after = *cons;
     let mut contents = after.take_value_contents(Tag::SEQUENCE, true)?;

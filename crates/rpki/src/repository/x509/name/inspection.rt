@@ -3,9 +3,8 @@
 ghost use Rattle.std.specs.Prelude.{◌≡◌, ◌↔◌, ◌<◌, IsTrue, List, [], ◌∷◌, length, MatchResult};
 ghost use Rattle.rpki.specs.Name.{Attribute, attribute_of, SpellsAttribute, SpellsSome, SpellsRelative, SpellsName};
 ghost use Rattle.rpki.specs.NameTable.{name_table, row_at};
-ghost use Rattle.rpki.specs.StrictName.{attributes, IsPrintable, IsUtf8String, IsString, IsStrict};
-ghost use Rattle.rpki.specs.NameRule.{BreaksRule};
-ghost use Rattle.rpki.specs.InspectionView.{Finds, strings_of};
+ghost use Rattle.rpki.specs.StrictName.{attributes, IsPrintable, IsUtf8String, IsString};
+ghost use Rattle.rpki.specs.InspectionView.{strings_of, FindsBy, Inspects};
 
 use super::grammar::take_attribute_type;
 use super::rule::NameRule;
@@ -77,7 +76,7 @@ impl Profile {
         identifier: Oid<&[u8]>,
         value: C,
     ) -> Result<Found, NameRule>
-        ensures { Finds name_table (strings_of self) found
+        ensures { FindsBy self found
             (attribute_of identifier.entry.0.now (C.octets_left value) ∷ []) result }
     {
         let Some(number) = NameAttribute::number_of(identifier) else {
@@ -97,7 +96,7 @@ impl Profile {
     /// What is found in these attributes, after what was found before; or the rule that is broken first.
     fn add_attributes<C: Cursor>(self, found: Found, contents: C) -> Result<Found, NameRule>
         ensures { (xs : List Attribute) → SpellsSome SpellsAttribute xs (C.octets_left contents)
-            → Finds name_table (strings_of self) found xs result }
+            → FindsBy self found xs result }
     {
         let mut rest = contents;
         let mut all = found;
@@ -114,7 +113,7 @@ impl Profile {
     /// The same for relative distinguished names.
     fn add_rdns<C: Cursor>(self, found: Found, contents: C) -> Result<Found, NameRule>
         ensures { (parts : List (List Attribute)) → SpellsSome SpellsRelative parts (C.octets_left contents)
-            → Finds name_table (strings_of self) found (attributes parts) result }
+            → FindsBy self found (attributes parts) result }
     {
         let mut rest = contents;
         let mut all = found;
@@ -131,8 +130,7 @@ impl Profile {
     /// Tests a name; returns the rule that it breaks first.
     pub(super) fn inspect<C: Cursor>(self, name: C) -> Result<(), NameRule>
         ensures { (parts : List (List Attribute)) → SpellsName parts (C.octets_left name)
-            → MatchResult result (λ _. IsStrict name_table (strings_of self) (attributes parts))
-            (λ rule. BreaksRule name_table (strings_of self) rule (attributes parts)) }
+            → Inspects self (attributes parts) result }
     {
         let mut name = name;
         let contents = match name.take_value_contents(Tag::SEQUENCE, true) {

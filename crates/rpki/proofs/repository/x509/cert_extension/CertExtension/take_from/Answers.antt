@@ -1,20 +1,18 @@
-use Rattle.std.proofs.Common.{refl}
-use Rattle.rpki_der.specs.NestedFault.{IsCaptureFault}
+use Rattle.std.proofs.Common.{rules, Ok, Err}
+use Rattle.rpki_der.proofs.CaptureLaws.{read-captured}
 use Rattle.rpki_der.proofs.TriedLaws.{tried-refused}
-use Rattle.rpki.proofs.ExtensionLaws.{kept-extension, extension-captured}
-use Rattle.rpki.proofs.ExtensionFaultLaws.{extension-refused, extension-uncaptured}
+use Rattle.rpki.specs.ExtensionFault.{IsCertExtensionFault}
+use Rattle.rpki.proofs.ExtensionLaws.{AnyExtension, extension-values, kept-extension, extension-kept}
+use Rattle.rpki.proofs.ExtensionFaultLaws.{extension-unkept}
 use Rattle.rpki.proofs.repository.x509.cert_extension.CertExtension.take_from.Goals as goal
-
-pub returns-in_err-take_extension : goal.returns-in_err-take_extension
-returns-in_err-take_extension c = tried-refused _ _ _ _ _ _ _ c.from_residual.ensures (extension-refused _ _ _ _ refl c.in_err-take_extension.ensures)
-
-pub invariant_of-result : goal.invariant_of-result
-invariant_of-result c = kept-extension _ _ _ _ _ c.in_ok-take_extension.ensures c.in_ok-captured.ensures.reads
-
-pub returns : goal.returns
-returns c = extension-captured _ _ _ _ _ c.in_ok-take_extension.ensures c.in_ok-captured.ensures.reads
 
 pub returns-in_err-captured : goal.returns-in_err-captured
 returns-in_err-captured c =
-    tried-refused _ _ _ _ _ _ _ c.from_residual-in_err-captured.ensures
-    (extension-uncaptured IsCaptureFault _ _ _ _ _ c.in_ok-take_extension.ensures c.in_err-captured.ensures.reads)
+    tried-refused _ _ _ _ _ _ _ c.from_residual.ensures
+    (extension-unkept _ _ _ (read-captured {X = Unit {0}} (λ u. tt) AnyExtension IsCertExtensionFault extension-values _ (λ b a x h. search rules) _ _ (Err c.in_err-captured.field-0.0) c.in_err-captured.ensures))
+
+pub invariant_of-result : goal.invariant_of-result
+invariant_of-result c = kept-extension _ _ _ (read-captured {X = Unit {0}} (λ u. tt) AnyExtension IsCertExtensionFault extension-values _ (λ b a x h. search rules) _ _ (Ok c.in_ok-captured.captured) c.in_ok-captured.ensures)
+
+pub returns : goal.returns
+returns c = extension-kept _ _ _ (read-captured {X = Unit {0}} (λ u. tt) AnyExtension IsCertExtensionFault extension-values _ (λ b a x h. search rules) _ _ (Ok c.in_ok-captured.captured) c.in_ok-captured.ensures)

@@ -9,7 +9,8 @@ use Rattle.rpki.specs.Name.{IsAttribute, SpellsAttribute, SpellsSome}
 use Rattle.rpki.specs.AnyValue.{SpellsAny}
 use Rattle.rpki.specs.NameFault.{IsAttributeFault, IsAttributesFault}
 use Rattle.rpki.proofs.NameFaultLaws.{passed-fault}
-use Rattle.rpki.proofs.NameLaws.{nothing-spelled, remains-all, remains-then, remains-refused, remains-nothing, at-end, not-at-end}
+use Rattle.rpki.proofs.NameLaws.{nothing-spelled, remains-all, remains-then, remains-refused, remains-nothing}
+use Rattle.rpki_der.proofs.CursorLaws.{at-end, not-at-end}
 use Rattle.rpki.proofs.repository.x509.name.grammar.skip_attributes.Goals as goal
 
 pub returns-then-is_empty : goal.returns-then-is_empty

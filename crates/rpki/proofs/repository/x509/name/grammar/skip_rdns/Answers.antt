@@ -9,7 +9,9 @@ use Rattle.rpki.specs.Name.{SpellsSome, SpellsAttribute, SpellsRelative}
 use Rattle.rpki.specs.AnyValue.{SpellsAny}
 use Rattle.rpki.specs.NameFault.{IsRelativeFault, IsRelativesFault}
 use Rattle.rpki.proofs.NameFaultLaws.{passed-fault}
-use Rattle.rpki.proofs.NameLaws.{nothing-spelled, remains-all, remains-then, remains-refused, remains-nothing, leaf-shorter, at-end, not-at-end}
+use Rattle.rpki.proofs.NameLaws.{nothing-spelled, remains-all, remains-then, remains-refused, remains-nothing}
+use Rattle.rpki_der.proofs.CursorLaws.{at-end, not-at-end}
+use Rattle.rpki_der.proofs.LeafValueLaws.{leaf-shorter}
 use Rattle.rpki.proofs.repository.x509.name.grammar.skip_rdns.Goals as goal
 
 pub returns-then-is_empty : goal.returns-then-is_empty

@@ -12,7 +12,7 @@ use Rattle.rpki_der.proofs.FirstFaultLaws.{tried-parts, at-second, after-second}
 use Rattle.rpki.specs.AnyValue.{SpellsAny}
 use Rattle.rpki.specs.PublicKey.{AreRsaNumbers}
 use Rattle.rpki.specs.KeyFault.{IsRsaNumbersFault}
-use Rattle.rpki.proofs.TwoPartsLaws.{both-read, no-first, no-second}
+use Rattle.rpki_der.proofs.PartsLaws.{both-read, no-first, no-second}
 use Rattle.rpki.proofs.crypto.keys.rsa.fn.take_rsa_bits.in_sequence.Goals as goal
 
 abbrev U : ℕ → List ℕ → Type 0

@@ -6,7 +6,8 @@ use Rattle.rpki.specs.NameRule.{FirstBreaks}
 use Rattle.rpki.specs.Findings.{IsFound}
 use Rattle.rpki.specs.NameTable.{name_table}
 use Rattle.rpki.specs.InspectionView.{strings_of}
-use Rattle.rpki.proofs.NameLaws.{leaf-shorter, leaf-nowhere, at-end, not-at-end}
+use Rattle.rpki_der.proofs.CursorLaws.{at-end, not-at-end}
+use Rattle.rpki_der.proofs.LeafValueLaws.{leaf-shorter, leaf-nowhere}
 use Rattle.rpki.proofs.InspectionLaws.{join-attributes, through-nothing, through-more, through-refused, through-all, no-attribute, this-attribute}
 use Rattle.rpki.proofs.repository.x509.name.inspection.Profile.add_attributes.Goals as goal
 

@@ -7,7 +7,8 @@ use Rattle.rpki.specs.NameRule.{FirstBreaks}
 use Rattle.rpki.specs.Findings.{IsFound}
 use Rattle.rpki.specs.NameTable.{name_table}
 use Rattle.rpki.specs.InspectionView.{strings_of}
-use Rattle.rpki.proofs.NameLaws.{leaf-nowhere, at-end, not-at-end, contents-shorter}
+use Rattle.rpki_der.proofs.CursorLaws.{at-end, not-at-end}
+use Rattle.rpki_der.proofs.LeafValueLaws.{leaf-nowhere, contents-shorter}
 use Rattle.rpki.proofs.InspectionLaws.{join-relatives, one-relative, through-nothing, through-more, through-refused, through-all, no-contents, these-contents}
 use Rattle.rpki.proofs.repository.x509.name.inspection.Profile.add_rdns.Goals as goal
 

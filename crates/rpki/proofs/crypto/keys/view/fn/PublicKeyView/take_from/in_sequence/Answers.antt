@@ -12,7 +12,7 @@ use Rattle.rpki.specs.KeyFormat.{SpellsFormat}
 use Rattle.rpki.specs.AlgorithmFault.{IsFormatFault}
 use Rattle.rpki.specs.PublicKey.{IsKeyContents}
 use Rattle.rpki.specs.KeyFault.{IsKeyViewPartsFault}
-use Rattle.rpki.proofs.TwoPartsLaws.{both-read, no-first, no-second}
+use Rattle.rpki_der.proofs.PartsLaws.{both-read, no-first, no-second}
 use Rattle.rpki.proofs.PublicKeyLaws.{only-key}
 use Rattle.rpki.proofs.crypto.keys.view.fn.PublicKeyView.take_from.in_sequence.Goals as goal
 

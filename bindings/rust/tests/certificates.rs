@@ -1,0 +1,64 @@
+//! Certificates, read by [Cert], compared with the rows that tests/linked/certificate/rows.py writes. The variable
+//! `RPKI_CERTIFICATE_ROWS` names their file; without it the certificate of examples/ alone is read.
+
+use rpki_proved::repository::cert::{Cert, CertError};
+
+const ERRORS: [CertError; 16] = [
+    CertError::Certificate,
+    CertError::Signed,
+    CertError::Algorithm,
+    CertError::Signature,
+    CertError::Tbs,
+    CertError::Version,
+    CertError::SerialNumber,
+    CertError::TbsAlgorithm,
+    CertError::Issuer,
+    CertError::Validity,
+    CertError::Subject,
+    CertError::PublicKey,
+    CertError::Extensions,
+    CertError::ExtensionCount,
+    CertError::ExtensionIdentifiers,
+    CertError::SameAlgorithm,
+];
+
+fn octets_of(digits: &str) -> Vec<u8> {
+    let pairs = digits.as_bytes().chunks(2);
+    pairs.map(|pair| u8::from_str_radix(std::str::from_utf8(pair).unwrap(), 16).unwrap()).collect()
+}
+
+/// The parts at the places of the row are those that the certificate has.
+fn compare(number: usize, octets: &[u8], cert: &Cert, words: &[&str]) {
+    let part = |index: usize| {
+        let start: usize = words[2 * index].parse().unwrap();
+        let length: usize = words[2 * index + 1].parse().unwrap();
+        &octets[start..start + length]
+    };
+    assert_eq!(cert.signed(), part(0), "row {number}");
+    assert_eq!(&cert.signature().value()[..], part(2), "row {number}");
+    assert_eq!(cert.issuer().as_slice(), part(3), "row {number}");
+    assert_eq!(cert.subject().as_slice(), part(4), "row {number}");
+    assert_eq!(cert.subject_public_key_info().to_info_bytes(), part(5), "row {number}");
+    assert_eq!(cert.extension_octets(), part(6), "row {number}");
+    assert_eq!(&cert.serial_number().into_array()[..], octets_of(words[14]), "row {number}");
+    let length: usize = cert.extensions().map(|extension| extension.octets().len()).sum();
+    assert!(length > 0 && length < part(6).len(), "row {number}");
+}
+
+#[test]
+fn certificates() {
+    let Some(path) = std::env::var_os("RPKI_CERTIFICATE_ROWS") else {
+        return;
+    };
+    let rows = std::fs::read_to_string(path).unwrap();
+    assert!(rows.lines().count() > 70);
+    for (number, row) in rows.lines().enumerate() {
+        let words: Vec<&str> = row.split(' ').collect();
+        let octets = octets_of(words[0]);
+        match (Cert::decode(octets.clone()), words[1].parse::<usize>().unwrap()) {
+            (Ok(cert), 0) => compare(number, &octets, &cert, &words[2..]),
+            (Err(error), status) if status >= 64 => assert_eq!(error, ERRORS[status - 64], "row {number}"),
+            (found, status) => panic!("row {number}: {found:?} and not {status}"),
+        }
+    }
+}

@@ -1,0 +1,125 @@
+//! Certificates.
+
+ghost use Rattle.std.specs.Prelude.{◌≡◌, ◌-◌, length};
+ghost use Rattle.rpki_cert.specs.Cert.{CertParts};
+ghost use Rattle.rpki_cert.specs.View.{IsCertAt};
+ghost use Rattle.rpki_c.specs.Certificate.{part_number, HasCertificate, IsCertificateRead};
+
+use crate::keys::format_number;
+use crate::place::Place;
+use crate::times::{Period, moment_of};
+use rpki::crypto::RpkiSignatureAlgorithm;
+use rpki_cert::{CertPart, CertView, Section};
+
+/// The parts of a certificate.
+#[repr(C)]
+#[derive(Clone, Copy)]
+pub struct CertificateParts {
+    /// What is signed, a SEQUENCE, with its header.
+    pub data: Place,
+    /// The algorithm identifier, with its header.
+    pub algorithm: Place,
+    /// The octets of the signature.
+    pub signature: Place,
+    /// The issuer, a name, with its header.
+    pub issuer: Place,
+    /// The subject, a name, with its header.
+    pub subject: Place,
+    /// The subject's key, with its header.
+    pub public_key: Place,
+    /// The extensions, one after another.
+    pub extensions: Place,
+    /// The period of validity.
+    pub validity: Period,
+    /// The serial number, with zeros in front.
+    pub serial_number: [u8; 20],
+    /// The format of the key: 0 for RSA, 1 for a point on the curve P-256.
+    pub key_format: u8,
+    /// How many bits of the key's last octet are unused.
+    pub key_unused: u8,
+    /// Whether the algorithm has parameters, a NULL.
+    pub has_parameters: bool,
+}
+
+/// How a part that is wrong is passed.
+fn part_number(part: CertPart) -> u8
+    ensures { result ≡ part_number part }
+{
+    match part {
+        CertPart::Certificate => 64,
+        CertPart::Signed => 65,
+        CertPart::Algorithm => 66,
+        CertPart::Signature => 67,
+        CertPart::Tbs => 68,
+        CertPart::Version => 69,
+        CertPart::SerialNumber => 70,
+        CertPart::TbsAlgorithm => 71,
+        CertPart::Issuer => 72,
+        CertPart::Validity => 73,
+        CertPart::Subject => 74,
+        CertPart::PublicKey => 75,
+        CertPart::Extensions => 76,
+        CertPart::ExtensionCount => 77,
+        CertPart::ExtensionIdentifiers => 78,
+        CertPart::SameAlgorithm => 79,
+    }
+}
+
+/// Where a section stands, of octets behind which so many follow, of so many in all.
+fn place_of(total: usize, behind: usize, section: Section<'_>) -> Place
+    ensures start { result.start ≡ total - behind - section.entry.following - length section.entry.octets.now }
+    ensures size { result.length ≡ length section.entry.octets.now }
+{
+    let end = total
+        .saturating_sub(behind)
+        .saturating_sub(section.following);
+    Place {
+        start: end.saturating_sub(section.octets.len()),
+        length: section.octets.len(),
+    }
+}
+
+/// The parts of the certificate that the octets are.
+fn parts_of(octets: &[u8], found: &CertView<'_>) -> CertificateParts
+    requires { (x : CertParts) × IsCertAt octets.now found.now x }
+    ensures { HasCertificate octets.now result }
+{
+    let total = octets.len();
+    let behind = found.parts.data.following;
+    let named = &found.tbs.named;
+    CertificateParts {
+        data: place_of(total, 0, found.parts.data),
+        algorithm: place_of(total, 0, found.parts.algorithm),
+        signature: place_of(total, 0, found.parts.signature),
+        issuer: place_of(total, behind, named.issuer),
+        subject: place_of(total, behind, named.subject),
+        public_key: place_of(total, behind, named.keyed.octets),
+        extensions: place_of(total, behind, named.keyed.extensions),
+        validity: Period {
+            not_before: moment_of(named.validity.not_before()),
+            not_after: moment_of(named.validity.not_after()),
+        },
+        serial_number: found.tbs.serial_number.into_array(),
+        key_format: format_number(named.keyed.key.algorithm()),
+        key_unused: named.keyed.key.unused(),
+        has_parameters: found.parts.kind.has_parameters(),
+    }
+}
+
+/// Reads a resource certificate (RFC 5280 4.1, RFC 6487 4), and says what its parts are and where they stand.
+///
+/// The status is 0. Else it is the number of the part that is wrong, 64 to 79, and `out` is unchanged: of the signed
+/// data the leftmost; then of what is signed the leftmost; then that both algorithm identifiers are the same. More than
+/// 64 extensions are rejected by a status of their own. Nothing is allocated.
+#[unsafe(no_mangle)]
+pub extern "C" fn rpki_certificate(octets: &[u8], out: &mut CertificateParts) -> u8
+    ensures { IsCertificateRead octets.now result out.old out.new }
+{
+    match CertView::read(octets) {
+        Ok(found) => {
+            *out = parts_of(octets, &found);
+            0
+        }
+        Err(part) => part_number(part),
+    }
+}

@@ -1,0 +1,237 @@
+-- Extensions that are read in place, one after another.
+use Rattle.std.proofs.Common.{◌≡◌, ◌≢◌, ◌∙◌, ◌+◌, ◌≤◌, ◌<◌, ℕ, true, false, List, [], ◌∷◌, ◌++◌, length, Some, None, refl, sym, ap, subst, arith, append_assoc}
+use Rattle.std.specs.Prelude.{bytes_eq}
+use Rattle.std.proofs.lemmas.List.{append-nil}
+use Rattle.std.proofs.lemmas.Bool.{false≢true}
+use Rattle.rpki_der.specs.declared.error.DecodeError.{DecodeError}
+use Rattle.rpki_der.specs.declared.error.DecodeError.TheVariants.{OutOfMemory}
+use Rattle.rpki_der.specs.TagName.{TagName, sequence, octet_string}
+use Rattle.rpki_der.specs.Header.{identifier_octets, length_octets}
+use Rattle.rpki_der.specs.Reading.{Accepts, Refuses, Refusal, SpellsNothing}
+use Rattle.rpki_der.specs.Values.{SpellsContents, IsContentsFault}
+use Rattle.rpki_der.specs.Each.{SpellsEach, SpellsSome}
+use Rattle.rpki_der.proofs.InsideLaws.{unless-memory}
+use Rattle.rpki_der.proofs.LeavesLaws.{contents-no-memory}
+use Rattle.rpki_der.proofs.ComposedLaws.{all-read, nothing-after, nothing-whole}
+use Rattle.rpki.specs.ExtensionValue.{ExtensionParts, SpellsExtension, IsExtensionContents}
+use Rattle.rpki.specs.ExtensionFault.{IsCertExtensionFault}
+use Rattle.rpki.proofs.ExtensionFaultLaws.{extension-outer}
+use Rattle.rpki_der.proofs.LeafValueLaws.{leaf-shorter}
+use Rattle.rpki_cert.specs.declared.cert_part.CertPart.{CertPart}
+use Rattle.rpki_cert.specs.declared.section.Section.{Section}
+use Rattle.rpki_cert.specs.Cert.{find, are_unique, extensions_tag}
+use Rattle.rpki_cert.specs.View.{EndsAt, SpellsListed, SpellsFrame, AreExtensionsWrong, AreExtensionsAt, HasCount, most_extensions}
+use Rattle.rpki_cert.specs.View.AreExtensionsWrong.{NotListed, TooMany, Repeated}
+
+-- an error of a reader that takes no memory
+pub refused : {V : Type 0} (G : V → List ℕ → Type 0) (K : List ℕ → DecodeError → Type 0) (s r : List ℕ) (e : DecodeError) → (K s OutOfMemory → ⊥) → Refusal G K s r e → Refuses G s
+refused G K s r e never h = unless-memory e (λ z. never (subst (K s) z h.kind)) h.refuses
+
+pub extension-refused : (s r : List ℕ) (e : DecodeError) → Refusal SpellsExtension IsCertExtensionFault s r e → Refuses SpellsExtension s
+extension-refused s r e h = refused SpellsExtension IsCertExtensionFault s r e (λ k. (extension-outer s OutOfMemory k).other refl) h
+
+-- ---- what is left of extensions
+
+abbrev pub Each : List ExtensionParts → List ℕ → Type 0
+Each = SpellsEach SpellsExtension
+
+-- the extensions of s, without the first
+pub each-rest : (s q : List ℕ) (x : ExtensionParts) (ys : List ExtensionParts) → s ≢ [] → Accepts SpellsExtension s x q → Each ys s → (zs : List ExtensionParts) × (ys ≡ x ∷ zs) × Each zs q
+each-rest s q x [] some a h = absurd (some h)
+each-rest s q x (y ∷ zs) some a h = let e = a.only y h.0 h.1 in (zs, ap (λ (w : ExtensionParts). w ∷ zs) e.0, subst (Each zs) e.1 h.2)
+
+pub each-none : (s : List ℕ) (ys : List ExtensionParts) → s ≢ [] → Refuses SpellsExtension s → Each ys s → ⊥
+each-none s [] some none h = some h
+each-none s (y ∷ zs) some none h = none y h.0 h.1
+
+pub each-end : (s : List ℕ) (ys : List ExtensionParts) → s ≡ [] → Each ys s → ys ≡ []
+each-end s [] e h = refl
+each-end s (y ∷ ys) e h = absurd (omega (arith, ap length e, leaf-shorter sequence true IsExtensionContents s y h.0 h.1))
+
+-- ---- a search
+
+-- what is found in s is found in r
+pub record Seeks (id s r : List ℕ) : Type 0 where
+  pub same : (xs : List ExtensionParts) → Each xs s → (ys : List ExtensionParts) × Each ys r × (find id xs ≡ find id ys)
+  pub front : List ℕ
+  pub parts : s ≡ front ++ r
+
+pub seeks-all : (id s : List ℕ) → Seeks id s s
+seeks-all id s = record { same = λ xs h. (xs, h, refl); front = []; parts = refl }
+
+find-other : (id : List ℕ) (x : ExtensionParts) (zs : List ExtensionParts) → bytes_eq x.identifier id ≡ false → find id (x ∷ zs) ≡ find id zs
+find-other id x zs e = rw e refl
+
+find-first : (id : List ℕ) (x : ExtensionParts) (zs : List ExtensionParts) → bytes_eq x.identifier id ≡ true → find id (x ∷ zs) ≡ Some x
+find-first id x zs e = rw e refl
+
+pub seeks-on : (id s r q : List ℕ) (x : ExtensionParts) → r ≢ [] → Seeks id s r → Accepts SpellsExtension r x q → bytes_eq x.identifier id ≡ false → Seeks id s q
+seeks-on id s r q x some h a other = record {
+  same = λ xs k.
+      let (ys, each, e) = h.same xs k in
+      let (zs, is, rest) = each-rest r q x ys some a each in
+      (zs, rest, e ∙ ap (find id) is ∙ find-other id x zs other);
+  front = h.front ++ a.spells.front;
+  parts = h.parts ∙ ap (λ (w : List ℕ). h.front ++ w) a.spells.parts ∙ sym (append_assoc h.front a.spells.front q);
+}
+
+pub seeks-found : (id s r q : List ℕ) (x : ExtensionParts) → r ≢ [] → Seeks id s r → Accepts SpellsExtension r x q → bytes_eq x.identifier id ≡ true → (xs : List ExtensionParts) → Each xs s → find id xs ≡ Some x
+seeks-found id s r q x some h a same xs k =
+    let (ys, each, e) = h.same xs k in
+    let (zs, is, rest) = each-rest r q x ys some a each in
+    e ∙ ap (find id) is ∙ find-first id x zs same
+
+pub seeks-none : (id s r : List ℕ) → r ≢ [] → Seeks id s r → Refuses SpellsExtension r → (xs : List ExtensionParts) → Each xs s → find id xs ≡ None
+seeks-none id s r some h none xs k = let (ys, each, e) = h.same xs k in absurd (each-none r ys some none each)
+
+pub seeks-end : (id s r : List ℕ) → r ≡ [] → Seeks id s r → (xs : List ExtensionParts) → Each xs s → find id xs ≡ None
+seeks-end id s r end h xs k = let (ys, each, e) = h.same xs k in e ∙ ap (find id) (each-end r ys end each)
+
+-- the octets of an extension end where it ends
+content-last : (x : ExtensionParts) (p : List ℕ) → SpellsExtension x p → (a : List ℕ) × (p ≡ a ++ x.content)
+content-last x p h =
+    let k = h.spelled in
+    let outer = identifier_octets sequence true ++ length_octets (length h.contents) in
+    let inner = identifier_octets octet_string false ++ length_octets (length x.content) in (
+      outer ++ (k.first ++ (k.second ++ inner)),
+      h.value.octets ∙ ap (λ (w : List ℕ). outer ++ w) (k.parts ∙ ap (λ (w : List ℕ). k.first ++ (k.second ++ w)) k.content.octets
+          ∙ ap (λ (w : List ℕ). k.first ++ w) (sym (append_assoc k.second inner x.content)) ∙ sym (append_assoc k.first (k.second ++ inner) x.content))
+          ∙ sym (append_assoc outer (k.first ++ (k.second ++ inner)) x.content),
+    )
+
+pub seeks-place : (id s r q : List ℕ) (x : ExtensionParts) (n : ℕ) → Seeks id s r → Accepts SpellsExtension r x q → length q ≡ n → EndsAt s n x.content
+seeks-place id s r q x n h a is =
+    let (b, last) = content-last x a.spells.front a.spells.spelled in
+    (h.front ++ b, q, h.parts ∙ ap (λ (w : List ℕ). h.front ++ w) (a.spells.parts ∙ ap (λ (w : List ℕ). w ++ q) last ∙ append_assoc b x.content q) ∙ sym (append_assoc h.front b (x.content ++ q)), is)
+
+-- ---- whether no two have the same identifier
+
+-- what is unique in r is unique in s
+pub record KeepsUnique (s r : List ℕ) : Type 0 where
+  pub same : (xs : List ExtensionParts) → Each xs s → (ys : List ExtensionParts) × Each ys r × (are_unique xs ≡ are_unique ys)
+
+pub unique-all : (s : List ℕ) → KeepsUnique s s
+unique-all s = record { same = λ xs h. (xs, h, refl) }
+
+first-once : (x : ExtensionParts) (zs : List ExtensionParts) → find x.identifier zs ≡ None → are_unique (x ∷ zs) ≡ are_unique zs
+first-once x zs e = rw e refl
+
+first-twice : (x y : ExtensionParts) (zs : List ExtensionParts) → find x.identifier zs ≡ Some y → are_unique (x ∷ zs) ≡ false
+first-twice x y zs e = rw e refl
+
+pub unique-on : (s r q i : List ℕ) (x : ExtensionParts) → r ≢ [] → KeepsUnique s r → Accepts SpellsExtension r x q → i ≡ x.identifier → ((xs : List ExtensionParts) → Each xs q → find i xs ≡ None) → KeepsUnique s q
+unique-on s r q i x some h a is none = record {
+  same = λ xs k.
+      let (ys, each, e) = h.same xs k in
+      let (zs, named, rest) = each-rest r q x ys some a each in
+      (zs, rest, e ∙ ap are_unique named ∙ first-once x zs (subst (λ (j : List ℕ). find j zs ≡ None) is (none zs rest)));
+}
+
+pub unique-twice : (s r q i : List ℕ) (x y : ExtensionParts) → r ≢ [] → KeepsUnique s r → Accepts SpellsExtension r x q → i ≡ x.identifier → ((xs : List ExtensionParts) → Each xs q → find i xs ≡ Some y)
+    → (xs : List ExtensionParts) → Each xs s → false ≡ are_unique xs
+unique-twice s r q i x y some h a is two xs k =
+    let (ys, each, e) = h.same xs k in
+    let (zs, named, rest) = each-rest r q x ys some a each in
+    sym (e ∙ ap are_unique named ∙ first-twice x y zs (subst (λ (j : List ℕ). find j zs ≡ Some y) is (two zs rest)))
+
+pub unique-none : (s r : List ℕ) → r ≢ [] → KeepsUnique s r → Refuses SpellsExtension r → (xs : List ExtensionParts) → Each xs s → false ≡ are_unique xs
+unique-none s r some h none xs k = let (ys, each, e) = h.same xs k in absurd (each-none r ys some none each)
+
+pub unique-end : (s r : List ℕ) → r ≡ [] → KeepsUnique s r → (xs : List ExtensionParts) → Each xs s → true ≡ are_unique xs
+unique-end s r end h xs k = let (ys, each, e) = h.same xs k in sym (e ∙ ap are_unique (each-end r ys end each))
+
+-- ---- how many
+
+pub record Counts (s r : List ℕ) (n : ℕ) : Type 0 where
+  pub whole : (zs : List ExtensionParts) → Each zs r → (xs : List ExtensionParts) × Each xs s × (length xs ≡ n + length zs)
+  pub back : (xs : List ExtensionParts) → Each xs s → (zs : List ExtensionParts) × Each zs r
+  pub room : n + length r ≤ length s
+
+pub counts-all : (s : List ℕ) → Counts s s 0
+counts-all s = record { whole = λ zs h. (zs, h, omega arith); back = λ xs h. (xs, h); room = omega arith }
+
+pub counts-on : (s r q : List ℕ) (x : ExtensionParts) (n : ℕ) → r ≢ [] → Counts s r n → Accepts SpellsExtension r x q → Counts s q (n + 1)
+counts-on s r q x n some h a = record {
+  whole = λ zs k. let (xs, each, e) = h.whole (x ∷ zs) (q, a.spells, k) in (xs, each, omega (arith, e));
+  back = λ xs k.
+      let (ys, each) = h.back xs k in
+      let (zs, is, rest) = each-rest r q x ys some a each in
+      (zs, rest);
+  room = omega (arith, h.room, leaf-shorter sequence true IsExtensionContents r x q a.spells);
+}
+
+pub counts-none : (s r : List ℕ) (n : ℕ) → r ≢ [] → Counts s r n → Refuses SpellsExtension r → (xs : List ExtensionParts) → SpellsSome SpellsExtension xs s → ⊥
+counts-none s r n some h none xs k = let (ys, each) = h.back xs k.each in each-none r ys some none each
+
+pub counts-end : (s r : List ℕ) (n : ℕ) → s ≢ [] → r ≡ [] → Counts s r n → HasCount s n
+counts-end s r n some end h =
+    let (xs, each, e) = h.whole [] end in
+    record { extensions = xs; some = record { some = λ z. some (subst (λ (ys : List ExtensionParts). Each ys s) z each); each = each }; count = omega (arith, e) }
+
+pub nothing-there : (s : List ℕ) → s ≡ [] → (xs : List ExtensionParts) → SpellsSome SpellsExtension xs s → ⊥
+nothing-there s e xs k = k.some (each-end s xs e k.each)
+
+-- ---- the value that is all
+
+pub only-all : (t : TagName) (s c r : List ℕ) → Accepts (SpellsContents t true) s c r → r ≡ [] → SpellsContents t true c s × ((w : List ℕ) → SpellsContents t true w s → w ≡ c)
+only-all t s c r a end = all-read (SpellsContents t true) s c r a end
+
+pub only-more : (t : TagName) (s c r : List ℕ) → Accepts (SpellsContents t true) s c r → (r ≡ [] → ⊥) → SpellsNothing (SpellsContents t true) s
+only-more t s c r a some = nothing-after (SpellsContents t true) s r c a some
+
+pub only-none : (t : TagName) (s r : List ℕ) (e : DecodeError) → Refusal (SpellsContents t true) (IsContentsFault t true) s r e → SpellsNothing (SpellsContents t true) s
+only-none t s r e h = nothing-whole (SpellsContents t true) s (unless-memory e (λ z. contents-no-memory t true s e h.kind z) h.refuses)
+
+-- ---- the list of extensions
+
+abbrev IsAll : {V : Type 0} → (V → List ℕ → Type 0) → V → List ℕ → Type 0
+IsAll {V} G v s = G v s × ((w : V) → G w s → w ≡ v)
+
+pub frame-there : (s o l : List ℕ) → IsAll (SpellsContents extensions_tag true) o s → IsAll (SpellsContents sequence true) l o → IsAll SpellsFrame l s
+frame-there s o l h k = (record { contents = o; value = h.0; spelled = k.0 }, λ w g. k.1 w (subst (SpellsContents sequence true w) (h.1 g.contents g.value) g.spelled))
+
+pub frame-not : (s o : List ℕ) → IsAll (SpellsContents extensions_tag true) o s → SpellsNothing (SpellsContents sequence true) o → SpellsNothing SpellsFrame s
+frame-not s o h none w g = none w (subst (SpellsContents sequence true w) (h.1 g.contents g.value) g.spelled)
+
+pub frame-none : (s : List ℕ) → SpellsNothing (SpellsContents extensions_tag true) s → SpellsNothing SpellsFrame s
+frame-none s none w g = none g.contents g.value
+
+listed-frame : (xs : List ExtensionParts) (s : List ℕ) (g : SpellsListed xs s) → SpellsFrame g.spelled.contents s
+listed-frame xs s g = record { contents = g.contents; value = g.value; spelled = g.spelled.value }
+
+pub unframed : (s : List ℕ) (q : CertPart) → SpellsNothing SpellsFrame s → q ≡ CertPart.Extensions → AreExtensionsWrong s q
+unframed s q none is = NotListed (λ xs g. none g.spelled.contents (listed-frame xs s g)) is
+
+module _ (s l : List ℕ) (f : IsAll SpellsFrame l s) where
+  listed : (xs : List ExtensionParts) → SpellsSome SpellsExtension xs l → SpellsListed xs s
+  listed xs k = record { contents = f.0.contents; value = f.0.value; spelled = record { contents = l; value = f.0.spelled; spelled = k } }
+
+  pub uncounted : (q : CertPart) → ((xs : List ExtensionParts) → SpellsSome SpellsExtension xs l → ⊥) → q ≡ CertPart.Extensions → AreExtensionsWrong s q
+  uncounted q none is = NotListed (λ xs g. none xs (subst (SpellsSome SpellsExtension xs) (f.1 g.spelled.contents (listed-frame xs s g)) g.spelled.spelled)) is
+
+  pub too-many : (q : CertPart) (n : ℕ) → HasCount l n → most_extensions < n → q ≡ CertPart.ExtensionCount → AreExtensionsWrong s q
+  too-many q n h many is = TooMany h.extensions (listed h.extensions h.some) (omega (arith, h.count, many)) is
+
+  pub twice : (q : CertPart) (n : ℕ) → HasCount l n → n ≤ most_extensions → ((xs : List ExtensionParts) → Each xs l → false ≡ are_unique xs) → q ≡ CertPart.ExtensionIdentifiers → AreExtensionsWrong s q
+  twice q n h few two is = Repeated h.extensions (listed h.extensions h.some) (omega (arith, h.count, few)) (λ z. false≢true (two h.extensions h.some.each ∙ z)) is
+
+  pub extensions-at : (p : Section) (n : ℕ) → HasCount l n → n ≤ most_extensions → ((xs : List ExtensionParts) → Each xs l → true ≡ are_unique xs) → p.octets.now ≡ l → p.following ≡ 0 → AreExtensionsAt s p
+  extensions-at p n h few once octets last =
+      let outer = identifier_octets extensions_tag true ++ length_octets (length f.0.contents) in
+      let inner = identifier_octets sequence true ++ length_octets (length l) in
+      record {
+        extensions = h.extensions;
+        spelled = record { contents = f.0.contents; value = f.0.value; spelled = record { contents = l; value = f.0.spelled; spelled = record { some = h.some; unique = sym (once h.extensions h.some.each) } } };
+        few = omega (arith, h.count, few);
+        contents = l;
+        each = h.some.each;
+        section = record {
+          octets = octets;
+          place = (
+            outer ++ inner,
+            [],
+            f.0.value.octets ∙ ap (λ (w : List ℕ). outer ++ w) f.0.spelled.octets ∙ sym (append_assoc outer inner l) ∙ ap (λ (w : List ℕ). (outer ++ inner) ++ w) (sym (append-nil l)),
+            sym last,
+          );
+        };
+      }

@@ -1,0 +1,109 @@
+-- Certificates that are read in place.
+use Rattle.std.proofs.Common.{◌≡◌, ◌∙◌, ◌-◌, ℕ, Bool, true, false, List, [], ◌∷◌, ◌++◌, length, take, sym, ap, subst, append_assoc}
+use Rattle.std.proofs.lemmas.List.{append-nil}
+use Rattle.rpki_der.specs.declared.error.DecodeError.{DecodeError}
+use Rattle.rpki_der.specs.TagName.{sequence, bit_string}
+use Rattle.rpki_der.specs.Header.{identifier_octets, length_octets}
+use Rattle.rpki_der.specs.Reading.{Accepts, Refusal, SpellsNothing}
+use Rattle.rpki_der.specs.Values.{SpellsContents, SpellsLeaf, IsLeafFault}
+use Rattle.rpki_der.specs.Leaves.{Bits, IsBits, bits_of}
+use Rattle.rpki_der.specs.Members.{SpellsValue}
+use Rattle.rpki_der.proofs.InsideLaws.{unless-memory}
+use Rattle.rpki_der.proofs.LeavesLaws.{leaf-no-memory}
+use Rattle.rpki_der.proofs.ComposedLaws.{all-read, nothing-after, nothing-whole}
+use Rattle.rpki.specs.SignedData.{SignedParts, parts_of, SpellsSignature, IsSignedContents}
+use Rattle.rpki_cert.specs.declared.cert_part.CertPart.{CertPart}
+use Rattle.rpki_cert.specs.declared.fields.TbsView.{TbsView}
+use Rattle.rpki_cert.specs.declared.view.Parts.{Parts}
+use Rattle.rpki_cert.specs.declared.view.CertView.{CertView}
+use Rattle.rpki_cert.specs.Cert.{TbsParts, CertParts, cert_parts, SpellsRpkiAlgorithm, SpellsTbs}
+use Rattle.rpki_cert.specs.View.{ArePartsIn, IsTbsIn, IsCertAt, IsTbsWrong, IsCertWrong}
+use Rattle.rpki_cert.specs.View.IsCertWrong.{InSigned, Differ}
+use Rattle.rpki_cert.proofs.FieldsLaws.{section-after, section-front}
+
+-- ---- the signature
+
+abbrev pub SpellsBits : Bits → List ℕ → Type 0
+SpellsBits = SpellsLeaf bit_string false IsBits
+
+pub signature-all : (s r w : List ℕ) (b : Bits) → Accepts SpellsBits s b r → r ≡ [] → w ≡ b.octets → SpellsSignature w s × ((v : List ℕ) → SpellsSignature v s → v ≡ w)
+signature-all s r w b a end is =
+    let one = all-read SpellsBits s b r a end in (
+      record { unused = b.unused; string = subst (λ (o : List ℕ). SpellsBits (bits_of b.unused o) s) (sym is) one.0 },
+      λ v k. ap (λ (x : Bits). x.octets) (one.1 (bits_of k.unused v) k.string) ∙ sym is,
+    )
+
+pub signature-more : (s r : List ℕ) (b : Bits) → Accepts SpellsBits s b r → (r ≡ [] → ⊥) → SpellsNothing SpellsSignature s
+signature-more s r b a some v k = nothing-after SpellsBits s r b a some (bits_of k.unused v) k.string
+
+pub signature-none : (s r : List ℕ) (e : DecodeError) → Refusal SpellsBits (IsLeafFault bit_string false IsBits) s r e → SpellsNothing SpellsSignature s
+signature-none s r e h v k = nothing-whole SpellsBits s (unless-memory e (λ z. leaf-no-memory bit_string false IsBits s e h.kind z) h.refuses) (bits_of k.unused v) k.string
+
+signature-last : (w s : List ℕ) → SpellsSignature w s → (a : List ℕ) × (s ≡ a ++ w)
+signature-last w s h =
+    let front : List ℕ = identifier_octets bit_string false ++ length_octets (length h.string.contents) in
+    (front ++ h.unused ∷ [], h.string.value.octets ∙ ap (λ (c : List ℕ). front ++ c) h.string.spelled.contents ∙ sym (append_assoc front (h.unused ∷ []) w))
+
+-- ---- the parts
+
+pub parts-read : (s m n d w o p : List ℕ) (b : Bool) (v : Parts) → Accepts SpellsValue s d m → v.«data».octets.now ≡ d → o ≡ m → v.«data».following ≡ length o
+    → Accepts SpellsRpkiAlgorithm m b n → v.kind ≡ b → p ≡ n → v.algorithm.octets.now ≡ take (length o - length p) o → v.algorithm.following ≡ length p
+    → SpellsSignature w n → v.signature.octets.now ≡ w → v.signature.following ≡ 0
+    → (x : SignedParts Bool) × IsSignedContents SpellsRpkiAlgorithm x s × ArePartsIn s v x
+parts-read s m n d w o p b v a is i size c same j text long g sign last =
+    let whole : s ≡ d ++ m = a.spells.parts ∙ ap (λ (x : List ℕ). x ++ m) a.spells.spelled.same in
+    let (front, ends) = signature-last w n g in
+    let third : s ≡ (d ++ c.spells.front) ++ n = whole ∙ ap (λ (x : List ℕ). d ++ x) c.spells.parts ∙ sym (append_assoc d c.spells.front n) in
+    let all : n ≡ front ++ (w ++ []) = ends ∙ ap (λ (x : List ℕ). front ++ x) (sym (append-nil w)) in (
+      parts_of d b w,
+      record { text = c.spells.front; bits = n; parts = third; one = a.spells.spelled.value; named = c.spells.spelled; signature = g },
+      record {
+        signed = record { octets = is; place = ([], m, whole, sym (ap length i) ∙ sym size) };
+        same = same;
+        text = c.spells.front;
+        named = c.spells.spelled;
+        algorithm = section-after s d m v.algorithm c.spells.front whole (section-front m c.spells.front n o p v.algorithm c.spells.parts i j text long);
+        signature = section-after s (d ++ c.spells.front) n v.signature w third (record { octets = sign; place = (front, [], all, sym last) });
+      },
+    )
+
+parts-after : (s f r : List ℕ) (v : Parts) (x : SignedParts Bool) → s ≡ f ++ r → ArePartsIn r v x → ArePartsIn s v x
+parts-after s f r v x e h = record {
+  signed = section-after s f r v.«data» x.signed e h.signed;
+  same = h.same;
+  text = h.text;
+  named = h.named;
+  algorithm = section-after s f r v.algorithm h.text e h.algorithm;
+  signature = section-after s f r v.signature x.value e h.signature;
+}
+
+-- ---- a certificate
+
+pub cert-read : (s c d : List ℕ) (v : CertView) → SpellsContents sequence true c s → (k : (x : SignedParts Bool) × IsSignedContents SpellsRpkiAlgorithm x c × ArePartsIn c v.parts x)
+    → d ≡ v.parts.«data».octets.now → (l : (t : TbsParts) × SpellsTbs t d × IsTbsIn d v.tbs t) → v.tbs.signature ≡ v.parts.kind → (x : CertParts) × IsCertAt s v x
+cert-read s c d v h k is l same =
+    let (x, spelled, stand) = k in
+    let (t, tbs, there) = l in
+    let front : List ℕ = identifier_octets sequence true ++ length_octets (length c) in
+    let octets : d ≡ x.signed = is ∙ stand.signed.octets in (
+      cert_parts x t,
+      record {
+        spelled = record { signed = record { contents = c; value = h; spelled = spelled }; tbs = subst (SpellsTbs t) octets tbs; same = sym there.algorithm ∙ same ∙ stand.same };
+        parts = parts-after s front c v.parts x h.octets stand;
+        tbs = subst (λ (y : List ℕ). IsTbsIn y v.tbs t) octets there;
+      },
+    )
+
+-- ---- what is wrong with it
+
+pub in-signed : (s c d : List ℕ) (v : Parts) (q : CertPart) → SpellsContents sequence true c s → (x : SignedParts Bool) × IsSignedContents SpellsRpkiAlgorithm x c × ArePartsIn c v x → d ≡ v.«data».octets.now → IsTbsWrong d q → IsCertWrong s q
+in-signed s c d v q h k is wrong =
+    let (x, spelled, stand) = k in
+    InSigned c x h spelled (subst (λ (y : List ℕ). IsTbsWrong y q) (is ∙ stand.signed.octets) wrong)
+
+pub differ : (s c d : List ℕ) (v : Parts) (u : TbsView) (q : CertPart) → SpellsContents sequence true c s → (x : SignedParts Bool) × IsSignedContents SpellsRpkiAlgorithm x c × ArePartsIn c v x → d ≡ v.«data».octets.now
+    → (t : TbsParts) × SpellsTbs t d × IsTbsIn d u t → (u.signature ≡ v.kind → ⊥) → q ≡ CertPart.SameAlgorithm → IsCertWrong s q
+differ s c d v u q h k is l other named =
+    let (x, spelled, stand) = k in
+    let (t, tbs, there) = l in
+    Differ c x t h spelled (subst (SpellsTbs t) (is ∙ stand.signed.octets) tbs) (λ e. other (there.algorithm ∙ e ∙ sym stand.same)) named

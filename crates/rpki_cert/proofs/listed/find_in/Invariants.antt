@@ -1,0 +1,10 @@
+use Rattle.std.proofs.Common.{length}
+use Rattle.rpki_der.specs.Cursor.{left}
+use Rattle.rpki_cert.proofs.ListedLaws.{Seeks}
+use Rattle.rpki_cert.proofs.listed.find_in.Given as goal
+
+abbrev pub invariant-extensions : goal.invariant-extensions
+invariant-extensions l = Seeks l.id.0.now (left l.fn.list) (left l.rest)
+
+abbrev pub decreases-extensions : goal.decreases-extensions
+decreases-extensions l = length (left l.rest)

@@ -1,0 +1,12 @@
+use Rattle.std.proofs.lemmas.Bool.{iff_false}
+use Rattle.rpki_cert.proofs.ViewLaws.{signature-all, signature-more, signature-none}
+use Rattle.rpki_cert.proofs.view.read_signature.Goals as goal
+
+pub returns-then-is_empty : goal.returns-then-is_empty
+returns-then-is_empty c = signature-all _ _ _ _ c.in-Ok.ensures (c.is_empty.ensures.0 c.if-is_empty.true) c.octet_slice.ensures
+
+pub returns-else-is_empty : goal.returns-else-is_empty
+returns-else-is_empty c = signature-more _ _ _ c.in-Ok.ensures (iff_false c.is_empty.ensures c.if-is_empty.false)
+
+pub returns-in-Err : goal.returns-in-Err
+returns-in-Err c = signature-none _ _ c.in-Err.field-0 c.in-Err.ensures

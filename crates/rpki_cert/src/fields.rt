@@ -1,0 +1,167 @@
+//! What is signed of a certificate, read in place without memory (RFC 5280 4.1.2).
+
+ghost use Rattle.std.specs.Prelude.{◌≡◌, List, ℕ, IfOk, IfErr};
+ghost use Rattle.rpki_der.specs.Cursor.{left};
+ghost use Rattle.rpki_der.specs.Parts.{SpellsBoth};
+ghost use Rattle.rpki.specs.PublicKey.{KeyParts, SpellsKey};
+ghost use Rattle.rpki.specs.ExtensionValue.{ExtensionParts};
+ghost use Rattle.rpki_cert.specs.Cert.{TbsParts, SpellsExtensions, AreFields, fields_of, SpellsTbs};
+ghost use Rattle.rpki_cert.specs.View.{TakesName, IsKeyedIn, IsNamedIn, IsTbsIn, AreNamed, AreKeyedWrong, AreNamedWrong, AreFieldsWrong, IsTbsWrong};
+
+use crate::cert_part::CertPart;
+use crate::listed::{only_in, read_extensions};
+use crate::names::take_name;
+use crate::nested::front_of;
+use crate::section::Section;
+use crate::version::skip_version;
+use rpki::crypto::{PublicKeyView, RpkiSignatureAlgorithm, SignatureAlgorithm};
+use rpki::der::{Constructed, Tag};
+use rpki::repository::x509::{Serial, Validity};
+
+/// The subject's key, and the extensions.
+#[derive(Drop)]
+pub struct Keyed<'a> {
+    /// The key.
+    pub key: PublicKeyView<'a>,
+    /// The octets of the key.
+    pub octets: Section<'a>,
+    /// The extensions, one after another.
+    pub extensions: Section<'a>,
+}
+
+/// The fields from the issuer on.
+#[derive(Drop)]
+pub struct Named<'a> {
+    /// The issuer.
+    pub issuer: Section<'a>,
+    /// The period of validity.
+    pub validity: Validity,
+    /// The subject.
+    pub subject: Section<'a>,
+    /// The key and the extensions.
+    pub keyed: Keyed<'a>,
+}
+
+/// The fields of a TBSCertificate.
+#[derive(Drop)]
+pub struct TbsView<'a> {
+    /// The serial number.
+    pub serial_number: Serial,
+    /// The algorithm that the signature is said to have.
+    pub signature: RpkiSignatureAlgorithm,
+    /// The fields from the issuer on.
+    pub named: Named<'a>,
+}
+
+/// The key and the extensions, which are all that is left.
+fn read_keyed<'a>(fields: Constructed<'a>) -> Result<Keyed<'a>, CertPart>
+    ensures ok { IfOk result (λ k. (key : KeyParts) × (xs : List ExtensionParts)
+        × SpellsBoth SpellsKey SpellsExtensions key xs (left fields.entry) × IsKeyedIn (left fields.entry) k key xs) }
+    ensures err { IfErr result (λ q. AreKeyedWrong (left fields.entry) q) }
+{
+    let octets = fields.rest();
+    let mut rest = fields;
+    let key = match PublicKeyView::take_from(&mut rest) {
+        Ok(key) => key,
+        Err(_) => return Err(CertPart::PublicKey),
+    };
+    let extensions = match read_extensions(rest) {
+        Ok(extensions) => extensions,
+        Err(part) => return Err(part),
+    };
+    let following = rest.rest();
+    let octets = Section {
+        octets: front_of(octets, following),
+        following: following.len(),
+    };
+    Ok(Keyed {
+        key,
+        octets,
+        extensions,
+    })
+}
+
+/// A name, as the section of it.
+fn take_section<'a>(cons: &mut Constructed<'a>) -> Option<Section<'a>>
+    ensures { TakesName (left cons.old) (left cons.new) result }
+{
+    match take_name(cons) {
+        Some(octets) => Some(Section {
+            octets,
+            following: cons.rest().len(),
+        }),
+        None => None,
+    }
+}
+
+/// The fields from the issuer on, which are all that is left.
+fn read_named<'a>(fields: Constructed<'a>) -> Result<Named<'a>, CertPart>
+    ensures ok { IfOk result (λ n. (t : TbsParts) × AreNamed t (left fields.entry) × IsNamedIn (left fields.entry) n t) }
+    ensures err { IfErr result (λ q. AreNamedWrong (left fields.entry) q) }
+{
+    let mut rest = fields;
+    let issuer = match take_section(&mut rest) {
+        Some(issuer) => issuer,
+        None => return Err(CertPart::Issuer),
+    };
+    let validity = match Validity::take_from(&mut rest) {
+        Ok(validity) => validity,
+        Err(_) => return Err(CertPart::Validity),
+    };
+    let subject = match take_section(&mut rest) {
+        Some(subject) => subject,
+        None => return Err(CertPart::Subject),
+    };
+    match read_keyed(rest) {
+        Ok(keyed) => Ok(Named {
+            issuer,
+            validity,
+            subject,
+            keyed,
+        }),
+        Err(part) => Err(part),
+    }
+}
+
+/// The fields, which are all that is left.
+fn read_fields<'a>(fields: Constructed<'a>) -> Result<TbsView<'a>, CertPart>
+    ensures ok { IfOk result (λ v. (t : TbsParts) × AreFields (fields_of t) (left fields.entry)
+        × IsTbsIn (left fields.entry) v t) }
+    ensures err { IfErr result (λ q. AreFieldsWrong (left fields.entry) q) }
+{
+    let mut rest = fields;
+    match skip_version(&mut rest) {
+        Ok(()) => {}
+        Err(_) => return Err(CertPart::Version),
+    }
+    let serial_number = match Serial::take_from(&mut rest) {
+        Ok(serial) => serial,
+        Err(_) => return Err(CertPart::SerialNumber),
+    };
+    let signature = match RpkiSignatureAlgorithm::x509_take_from(&mut rest) {
+        Ok(signature) => signature,
+        Err(_) => return Err(CertPart::TbsAlgorithm),
+    };
+    match read_named(rest) {
+        Ok(named) => Ok(TbsView {
+            serial_number,
+            signature,
+            named,
+        }),
+        Err(part) => Err(part),
+    }
+}
+
+/// The TBSCertificate that these octets are; the sections stand in them.
+pub fn read_tbs<'a>(signed: Constructed<'a>) -> Result<TbsView<'a>, CertPart>
+    ensures ok { IfOk result (λ v. (t : TbsParts) × SpellsTbs t (left signed.entry) × IsTbsIn (left signed.entry) v t) }
+    ensures err { IfErr result (λ q. IsTbsWrong (left signed.entry) q) }
+{
+    match only_in(signed, Tag::SEQUENCE) {
+        Some(fields) => match read_fields(fields) {
+            Ok(view) => Ok(view),
+            Err(part) => Err(part),
+        },
+        None => Err(CertPart::Tbs),
+    }
+}

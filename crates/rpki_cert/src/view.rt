@@ -1,0 +1,120 @@
+//! Certificates, read in place without memory (RFC 5280 4.1).
+
+ghost use Rattle.std.specs.Prelude.{◌≡◌, List, ℕ, Bool, IfOk, IfErr};
+ghost use Rattle.rpki_der.specs.Cursor.{left};
+ghost use Rattle.rpki.specs.SignedData.{SignedParts, SpellsSignature, IsSignedContents};
+ghost use Rattle.rpki_cert.specs.Cert.{CertParts, SpellsRpkiAlgorithm};
+ghost use Rattle.rpki_cert.specs.View.{IsWholeOf, ArePartsIn, ArePartsWrong, IsCertAt, IsCertWrong};
+
+use crate::cert::is_same;
+use crate::cert_part::CertPart;
+use crate::fields::{TbsView, read_tbs};
+use crate::listed::only_in;
+use crate::nested::{front_of, take_nested};
+use crate::section::Section;
+use rpki::crypto::{RpkiSignatureAlgorithm, SignatureAlgorithm};
+use rpki::der::{Constructed, Tag};
+
+/// The parts of signed data.
+#[derive(Drop)]
+pub struct Parts<'a> {
+    /// The value that is signed.
+    pub data: Section<'a>,
+    /// The algorithm.
+    pub kind: RpkiSignatureAlgorithm,
+    /// The octets of the algorithm identifier.
+    pub algorithm: Section<'a>,
+    /// The octets of the signature.
+    pub signature: Section<'a>,
+}
+
+/// A certificate whose parts are borrowed from the octets that it was read from.
+#[derive(Drop)]
+pub struct CertView<'a> {
+    /// The parts of signed data.
+    pub parts: Parts<'a>,
+    /// What is signed; its sections stand in the octets that are signed.
+    pub tbs: TbsView<'a>,
+}
+
+/// The octets of the signature that is all that is left.
+fn read_signature<'a>(rest: Constructed<'a>) -> Option<&'a [u8]>
+    ensures { IsWholeOf (λ v. v.now) SpellsSignature (left rest.entry) result }
+{
+    let mut after = rest;
+    match after.take_bits() {
+        Ok(bits) => {
+            if after.is_empty() {
+                return Some(bits.octet_slice());
+            }
+            None
+        }
+        Err(_) => None,
+    }
+}
+
+/// The parts of signed data, which are all of these contents.
+fn read_parts<'a>(contents: Constructed<'a>) -> Result<Parts<'a>, CertPart>
+    ensures ok { IfOk result (λ v. (x : SignedParts Bool)
+        × IsSignedContents SpellsRpkiAlgorithm x (left contents.entry) × ArePartsIn (left contents.entry) v x) }
+    ensures err { IfErr result (λ q. ArePartsWrong (left contents.entry) q) }
+{
+    let mut rest = contents;
+    let data = match take_nested(&mut rest) {
+        Some(data) => data,
+        None => return Err(CertPart::Signed),
+    };
+    let behind = rest.rest();
+    let kind = match RpkiSignatureAlgorithm::x509_take_from(&mut rest) {
+        Ok(kind) => kind,
+        Err(_) => return Err(CertPart::Algorithm),
+    };
+    let last = rest.rest();
+    match read_signature(rest) {
+        Some(signature) => Ok(Parts {
+            data: Section {
+                octets: data,
+                following: behind.len(),
+            },
+            kind,
+            algorithm: Section {
+                octets: front_of(behind, last),
+                following: last.len(),
+            },
+            signature: Section {
+                octets: signature,
+                following: 0,
+            },
+        }),
+        None => Err(CertPart::Signature),
+    }
+}
+
+impl<'a> CertView<'a> {
+    /// A certificate, and nothing else, as [Cert::decode](crate::Cert::decode) reads it, of at most 64 extensions:
+    /// these are compared with one another in place. Allocates nothing.
+    ///
+    /// The error is the part that is wrong: of the signed data the leftmost; then of what is signed the leftmost; then
+    /// that both algorithm identifiers are the same.
+    pub fn read(octets: &'a [u8]) -> Result<CertView<'a>, CertPart>
+        ensures ok { IfOk result (λ v. (x : CertParts) × IsCertAt octets.now v x) }
+        ensures err { IfErr result (λ q. IsCertWrong octets.now q) }
+    {
+        let contents = match only_in(Constructed::from_slice(octets), Tag::SEQUENCE) {
+            Some(contents) => contents,
+            None => return Err(CertPart::Certificate),
+        };
+        let parts = match read_parts(contents) {
+            Ok(parts) => parts,
+            Err(part) => return Err(part),
+        };
+        let tbs = match read_tbs(Constructed::from_slice(parts.data.octets)) {
+            Ok(tbs) => tbs,
+            Err(part) => return Err(part),
+        };
+        if !is_same(tbs.signature, parts.kind) {
+            return Err(CertPart::SameAlgorithm);
+        }
+        Ok(CertView { parts, tbs })
+    }
+}

@@ -1,0 +1,4 @@
+use Rattle.rpkicert.proofs.shown.show.Goals as goal
+
+pub returns-in-Ok : goal.returns-in-Ok
+returns-in-Ok c = rw c.in-Ok.is c.good.ensures

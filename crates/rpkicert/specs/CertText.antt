@@ -1,0 +1,176 @@
+-- What is printed of a certificate.
+use Rattle.std.specs.Prelude.{◌≡◌, ◌⊎◌, ℕ, Bool, true, false, if◌then◌else◌, List, ◌++◌, codes, bytes_eq, Option, Some}
+use Rattle.std.specs.List.{flat_map}
+use Rattle.std.specs.Option.{option_map}
+use Rattle.sha1.specs.Sha1.{sha1}
+use Rattle.sha2.specs.Sha256.{sha256}
+use Rattle.rpki.specs.declared.crypto.keys.PublicKeyFormat.{PublicKeyFormat}
+use Rattle.rpki.specs.declared.crypto.keys.PublicKeyFormat.TheVariants.{Rsa, EcdsaP256}
+use Rattle.rpki.specs.KeyIdentifier.{SpellsKeyIdentifier}
+use Rattle.rpki.specs.ExtensionValue.{ExtensionParts}
+use Rattle.rpki_cert.specs.declared.key_usage.KeyUsage.{KeyUsage}
+use Rattle.rpki_cert.specs.declared.key_usage.KeyUsage.TheVariants.{Ca, Ee}
+use Rattle.rpki_cert.specs.declared.policy.Overclaim.{Overclaim}
+use Rattle.rpki_cert.specs.declared.policy.Overclaim.TheVariants.{Refuse, Trim}
+use Rattle.rpki_cert.specs.Cert.{TbsParts}
+use Rattle.rpki_cert.specs.Known.{subject_key_identifier, key_usage, basic_constraints, crl_distribution_points, certificate_policies, authority_key_identifier, extended_key_usage, authority_info_access, subject_info_access, ip_addr_blocks, ip_addr_blocks_v2, autonomous_sys_ids, autonomous_sys_ids_v2, HasOnly, HasNone}
+use Rattle.rpki_cert.specs.ExtensionContent.{SpellsConstraints, SpellsAuthority, SpellsUsage, SpellsPurposes, SpellsPolicies}
+use Rattle.rpki_cert.specs.Access.{SpellsRsyncAccess, SpellsHttpsAccess, SpellsPoints, HasUri, ca_issuers, ca_repository, rpki_manifest, signed_object, rpki_notify}
+use Rattle.rpkicert.specs.declared.field.Form.{Form}
+use Rattle.rpkicert.specs.Field.{field, field_if}
+use Rattle.rpkicert.specs.ValueText.{hex_digits, colon_digits, IsNumberText, time_text}
+use Rattle.rpkicert.specs.NameText.{IsNameText}
+
+-- ---- the fields that each certificate has (RFC 5280 4.1)
+
+-- version, serial number, signature algorithm and issuer
+abbrev pub IsHead : Form → TbsParts → List ℕ → Type 0
+IsHead form t text =
+    (serial : List ℕ) × (issuer : List ℕ) × IsNumberText t.serial serial × IsNameText t.issuer issuer
+    × (text ≡ field form (codes "Version") (codes "3") ++ field form (codes "Serial Number") serial
+    ++ field form (codes "Signature Algorithm") (codes "sha256WithRSAEncryption")
+    ++ field form (codes "Issuer") issuer)
+
+-- the period and the subject
+abbrev pub IsMiddle : Form → TbsParts → List ℕ → Type 0
+IsMiddle form t text =
+    (subject : List ℕ) × IsNameText t.subject subject
+    × (text ≡ field form (codes "Not Before") (time_text t.validity.not_before)
+    ++ field form (codes "Not After") (time_text t.validity.not_after) ++ field form (codes "Subject") subject)
+
+abbrev pub algorithm_text : PublicKeyFormat → List ℕ
+algorithm_text Rsa = codes "rsaEncryption"
+algorithm_text EcdsaP256 = codes "id-ecPublicKey prime256v1"
+
+-- the key: its algorithm, and the digest by SHA-1 of its bits (RFC 6487 4.8.2)
+abbrev pub key_text : Form → TbsParts → List ℕ
+key_text form t =
+    field form (codes "Public Key Algorithm") (algorithm_text t.key.format)
+    ++ field form (codes "Public Key SHA-1") (colon_digits (sha1 t.key.bits.octets))
+
+-- ---- what the extensions say (RFC 6487 4.8)
+
+-- What is shown of an extension: nothing where it isn't there; what its value is shown as; or that it is malformed, or
+-- not as critical as it has to be.
+abbrev pub Says : {V : Type 0} → (Option V → Type 0) → Type 0 → (V → List ℕ) → Option (List ℕ) → Type 0
+Says {V} Has Not show o =
+    ((v : Option V) × Has v × (o ≡ option_map show v)) ⊎ (Not × (o ≡ Some (codes "malformed")))
+
+abbrev pub authority_text : Unit {0} → List ℕ
+authority_text u = codes "CA:TRUE"
+
+abbrev pub usage_text : KeyUsage → List ℕ
+usage_text Ca = codes "Certificate Sign, CRL Sign"
+usage_text Ee = codes "Digital Signature"
+
+-- whether a router's purpose is among them
+abbrev pub purposes_text : Bool → List ℕ
+purposes_text router = if router then codes "BGPsec Router" else codes "other"
+
+abbrev pub policy_text : Overclaim → List ℕ
+policy_text Refuse = codes "ipAddr-asNumber"
+policy_text Trim = codes "ipAddr-asNumber-v2"
+
+-- the identifiers of the keys of the subject and of the issuer
+abbrev pub AreIdentifiers : Form → List ExtensionParts → List ℕ → Type 0
+AreIdentifiers form xs text =
+    (subject : Option (List ℕ)) × (authority : Option (List ℕ))
+    × Says (HasOnly subject_key_identifier false SpellsKeyIdentifier xs)
+    (HasNone subject_key_identifier false SpellsKeyIdentifier xs) colon_digits subject
+    × Says (HasOnly authority_key_identifier false SpellsAuthority xs)
+    (HasNone authority_key_identifier false SpellsAuthority xs) colon_digits authority
+    × (text ≡ field_if form (codes "Subject Key Identifier") subject
+    ++ field_if form (codes "Authority Key Identifier") authority)
+
+-- what the key is for
+abbrev pub AreUses : Form → List ExtensionParts → List ℕ → Type 0
+AreUses form xs text =
+    (constraints : Option (List ℕ)) × (usage : Option (List ℕ)) × (purposes : Option (List ℕ))
+    × (policies : Option (List ℕ))
+    × Says (HasOnly basic_constraints true SpellsConstraints xs) (HasNone basic_constraints true SpellsConstraints xs)
+    authority_text constraints
+    × Says (HasOnly key_usage true SpellsUsage xs) (HasNone key_usage true SpellsUsage xs) usage_text usage
+    × Says (HasOnly extended_key_usage false SpellsPurposes xs) (HasNone extended_key_usage false SpellsPurposes xs)
+    purposes_text purposes
+    × Says (HasOnly certificate_policies true SpellsPolicies xs) (HasNone certificate_policies true SpellsPolicies xs)
+    policy_text policies
+    × (text ≡ field_if form (codes "Basic Constraints") constraints ++ field_if form (codes "Key Usage") usage
+    ++ field_if form (codes "Extended Key Usage") purposes ++ field_if form (codes "Certificate Policies") policies)
+
+-- a URI as it is
+abbrev pub SaysUri : List ℕ → (Option (List ℕ) → List ℕ → Type 0) → List ExtensionParts → Option (List ℕ) → Type 0
+SaysUri id G xs o = Says (HasUri id G xs) (HasNone id false G xs) (λ uri. uri) o
+
+-- where the revocation list and the issuer's certificate are
+abbrev pub AreIssuerPlaces : Form → List ExtensionParts → List ℕ → Type 0
+AreIssuerPlaces form xs text =
+    (revocation : Option (List ℕ)) × (issuer : Option (List ℕ))
+    × SaysUri crl_distribution_points SpellsPoints xs revocation
+    × SaysUri authority_info_access (SpellsRsyncAccess ca_issuers) xs issuer
+    × (text ≡ field_if form (codes "CRL Distribution Points") revocation ++ field_if form (codes "CA Issuers") issuer)
+
+-- where the subject publishes
+abbrev pub AreSubjectPlaces : Form → List ExtensionParts → List ℕ → Type 0
+AreSubjectPlaces form xs text =
+    (repository : Option (List ℕ)) × (manifest : Option (List ℕ)) × (object : Option (List ℕ))
+    × (notify : Option (List ℕ))
+    × SaysUri subject_info_access (SpellsRsyncAccess ca_repository) xs repository
+    × SaysUri subject_info_access (SpellsRsyncAccess rpki_manifest) xs manifest
+    × SaysUri subject_info_access (SpellsRsyncAccess signed_object) xs object
+    × SaysUri subject_info_access (SpellsHttpsAccess rpki_notify) xs notify
+    × (text ≡ field_if form (codes "CA Repository") repository ++ field_if form (codes "RPKI Manifest") manifest
+    ++ field_if form (codes "Signed Object") object ++ field_if form (codes "RPKI Notify") notify)
+
+-- ---- the list of extensions
+
+-- the names of the identifiers below id-pe (RFC 5280 4.2.2, RFC 3779 2.2.1, 3.2.1, RFC 8360 4.2.2); of another its
+-- octets
+abbrev pub private_name : List ℕ → List ℕ
+private_name id =
+    if bytes_eq id authority_info_access then codes "authorityInfoAccess"
+    else if bytes_eq id subject_info_access then codes "subjectInfoAccess"
+    else if bytes_eq id ip_addr_blocks then codes "ipAddrBlocks"
+    else if bytes_eq id ip_addr_blocks_v2 then codes "ipAddrBlocks-v2"
+    else if bytes_eq id autonomous_sys_ids then codes "autonomousSysIds"
+    else if bytes_eq id autonomous_sys_ids_v2 then codes "autonomousSysIds-v2"
+    else codes "OID " ++ hex_digits id
+
+-- the name of an extension's identifier (RFC 5280 4.2.1)
+abbrev pub extension_name : List ℕ → List ℕ
+extension_name id =
+    if bytes_eq id subject_key_identifier then codes "subjectKeyIdentifier"
+    else if bytes_eq id authority_key_identifier then codes "authorityKeyIdentifier"
+    else if bytes_eq id basic_constraints then codes "basicConstraints"
+    else if bytes_eq id key_usage then codes "keyUsage"
+    else if bytes_eq id extended_key_usage then codes "extendedKeyUsage"
+    else if bytes_eq id crl_distribution_points then codes "cRLDistributionPoints"
+    else if bytes_eq id certificate_policies then codes "certificatePolicies"
+    else private_name id
+
+abbrev pub critical_text : Bool → List ℕ
+critical_text critical = if critical then codes "critical" else codes "not critical"
+
+abbrev pub extension_text : Form → ExtensionParts → List ℕ
+extension_text form x = field form (codes "Extension " ++ extension_name x.identifier) (critical_text x.critical)
+
+-- ---- all of it
+
+abbrev pub fingerprint_text : Form → List ℕ → List ℕ
+fingerprint_text form octets = field form (codes "SHA-256 Fingerprint") (colon_digits (sha256 octets))
+
+-- the fields of the certificate that these octets are, in order; the last is the digest of the octets by SHA-256
+pub record AreFields (form : Form) (octets : List ℕ) (t : TbsParts) (text : List ℕ) : Type 0 where
+  pub head : List ℕ
+  pub middle : List ℕ
+  pub identifiers : List ℕ
+  pub uses : List ℕ
+  pub issuer : List ℕ
+  pub subject : List ℕ
+  pub is_head : IsHead form t head
+  pub is_middle : IsMiddle form t middle
+  pub are_identifiers : AreIdentifiers form t.extensions identifiers
+  pub are_uses : AreUses form t.extensions uses
+  pub are_issuer : AreIssuerPlaces form t.extensions issuer
+  pub are_subject : AreSubjectPlaces form t.extensions subject
+  pub fields : text ≡ head ++ middle ++ key_text form t ++ identifiers ++ uses ++ issuer ++ subject
+      ++ flat_map (extension_text form) t.extensions ++ fingerprint_text form octets

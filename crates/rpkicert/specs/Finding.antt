@@ -1,0 +1,96 @@
+-- What is found of a file.
+use Rattle.std.specs.Prelude.{◌≡◌, ◌≢◌, ◌⊎◌, ◌<◌, ◌≤◌, ℕ, true, List, length, Option, Some, None, Result, Ok, Err}
+use Rattle.rpki_der.specs.declared.error.DecodeError.TheVariants as der
+use Rattle.rpki_der.specs.Reading.{SpellsNothing, IsWholeFault}
+use Rattle.rpki_cert.specs.Cert.{TbsParts, CertParts, SpellsCert}
+use Rattle.rpki_cert.specs.CertFault.{IsCertFault}
+use Rattle.rpki_cert.specs.Profile.{IsTaProfile, IsCaProfile, IsEeProfile, IsRouterProfile}
+use Rattle.rpkicert.specs.declared.profile.Profile.{Profile}
+use Rattle.rpkicert.specs.declared.profile.Profile.TheVariants.{Ta, Ca, Ee, Router}
+use Rattle.rpkicert.specs.declared.fault.Fault.{Fault}
+use Rattle.rpkicert.specs.declared.fault.Fault.TheVariants.{Unreadable, TooLarge, OutOfMemory, Malformed, Refused, Violated}
+use Rattle.rpkicert.specs.Pem.{octets_of}
+use Rattle.rpkicert.specs.Fault.{most_octets}
+
+-- the certificate has the profile, with the names that it wants (RFC 6487 4, RFC 8209 3.1)
+abbrev pub HasProfile : Profile → TbsParts → Type 0
+HasProfile Ta t = IsTaProfile true t
+HasProfile Ca t = IsCaProfile true t
+HasProfile Ee t = IsEeProfile true t
+HasProfile Router t = IsRouterProfile true t
+
+-- the same where a profile is asked for
+abbrev pub Meets : Option Profile → TbsParts → Type 0
+Meets None t = Unit {0}
+Meets (Some profile) t = HasProfile profile t
+
+-- a certificate and its octets, or a fault
+abbrev pub Finding : Type 0
+Finding = Result (List ℕ × CertParts) Fault
+
+-- the octets are this certificate, and no other
+abbrev pub IsCertificate : List ℕ → CertParts → Type 0
+IsCertificate octets c = SpellsCert c octets × ((d : CertParts) → SpellsCert d octets → d ≡ c)
+
+-- Why octets are no certificate; or allocation failed.
+abbrev pub IsRefusal : List ℕ → Fault → Type 0
+IsRefusal octets (Refused e) =
+    (e ≢ der.OutOfMemory) × SpellsNothing SpellsCert octets × IsWholeFault SpellsCert IsCertFault octets e
+IsRefusal octets OutOfMemory = Unit {0}
+IsRefusal octets Unreadable = ⊥
+IsRefusal octets TooLarge = ⊥
+IsRefusal octets Malformed = ⊥
+IsRefusal octets (Violated e) = ⊥
+
+-- What is found of octets: the certificate that they are, where it has the profile that is asked for; or why there is
+-- none, or it hasn't; or allocation failed.
+abbrev pub HoldsTo : Option Profile → List ℕ → Finding → Type 0
+HoldsTo profile octets (Ok found) =
+    (found.0 ≡ octets) × IsCertificate octets found.1 × Meets profile found.1.tbs
+HoldsTo profile octets (Err (Violated e)) =
+    (c : CertParts) × IsCertificate octets c × (Meets profile c.tbs → ⊥)
+HoldsTo profile octets (Err (Refused e)) = IsRefusal octets (Refused e)
+HoldsTo profile octets (Err OutOfMemory) = Unit {0}
+HoldsTo profile octets (Err Unreadable) = ⊥
+HoldsTo profile octets (Err TooLarge) = ⊥
+HoldsTo profile octets (Err Malformed) = ⊥
+
+-- The same of an input, which may be a text that stands for octets, or for none.
+abbrev pub FindsIn : Option Profile → List ℕ → Finding → Type 0
+FindsIn profile input finding =
+    ((octets : List ℕ) × (octets_of input ≡ Some octets) × HoldsTo profile octets finding)
+    ⊎ ((octets_of input ≡ None) × (finding ≡ Err Malformed)) ⊎ (finding ≡ Err OutOfMemory)
+
+-- The same of a file, which may not be there, or have too many octets.
+abbrev pub Finds : Option Profile → Option (List ℕ) → Finding → Type 0
+Finds profile None finding = (finding ≡ Err Unreadable) ⊎ (finding ≡ Err OutOfMemory)
+Finds profile (Some input) finding =
+    ((length input ≤ most_octets) × FindsIn profile input finding)
+    ⊎ ((most_octets < length input) × (finding ≡ Err TooLarge)) ⊎ (finding ≡ Err OutOfMemory)
+
+-- What reading a file gives: all of its octets, which are few enough; or why not.
+abbrev pub IsRead : Option (List ℕ) → Result (List ℕ) Fault → Type 0
+IsRead (Some octets) (Ok read) = (read ≡ octets) × (length octets ≤ most_octets)
+IsRead (Some octets) (Err Unreadable) = ⊥
+IsRead (Some octets) (Err TooLarge) = most_octets < length octets
+IsRead (Some octets) (Err OutOfMemory) = Unit {0}
+IsRead (Some octets) (Err Malformed) = ⊥
+IsRead (Some octets) (Err (Refused e)) = ⊥
+IsRead (Some octets) (Err (Violated e)) = ⊥
+IsRead None (Ok read) = ⊥
+IsRead None (Err Unreadable) = Unit {0}
+IsRead None (Err TooLarge) = ⊥
+IsRead None (Err OutOfMemory) = Unit {0}
+IsRead None (Err Malformed) = ⊥
+IsRead None (Err (Refused e)) = ⊥
+IsRead None (Err (Violated e)) = ⊥
+
+-- What reading to the end gives where these octets are left; a reader may fail.
+abbrev pub IsReadFrom : List ℕ → Result (List ℕ) Fault → Type 0
+IsReadFrom octets (Ok read) = (read ≡ octets) × (length octets ≤ most_octets)
+IsReadFrom octets (Err Unreadable) = Unit {0}
+IsReadFrom octets (Err TooLarge) = most_octets < length octets
+IsReadFrom octets (Err OutOfMemory) = Unit {0}
+IsReadFrom octets (Err Malformed) = ⊥
+IsReadFrom octets (Err (Refused e)) = ⊥
+IsReadFrom octets (Err (Violated e)) = ⊥

@@ -1,0 +1,16 @@
+-- Definitions: what the contracts say. They are trusted, and read against the standards.
+pub mod Field
+pub mod ValueText
+pub mod NameText
+pub mod CertText
+pub mod Memory
+pub mod Pem
+pub mod Fault
+pub mod Finding
+pub mod Shown
+pub mod Request
+pub mod Words
+pub mod View
+pub mod FindingView
+pub mod ShownView
+pub mod RequestView

@@ -1,0 +1,100 @@
+-- What is shown of a file, and of a run.
+use Rattle.std.specs.Prelude.{◌≡◌, ◌⊎◌, ℕ, nat_lt, nat_eq, ◌||◌, max, if◌then◌else◌, List, [], ◌∷◌, ◌++◌, codes, Option, Some, None, Result, Ok, Err}
+use Rattle.std.specs.Io.KnownBytes.{Appends}
+use Rattle.std.specs.List.{flat_map}
+use Rattle.rpki_der.specs.Written.{AppendsBeginning, AppendsCut}
+use Rattle.rpkicert.specs.declared.field.Form.{Form}
+use Rattle.rpkicert.specs.declared.field.Form.TheVariants.{Text, Json}
+use Rattle.rpkicert.specs.declared.profile.Profile.{Profile}
+use Rattle.rpkicert.specs.Field.{hex_pair, json_text, field}
+use Rattle.rpkicert.specs.CertText.{AreFields}
+use Rattle.rpkicert.specs.Fault.{fault_text, status_of}
+use Rattle.rpkicert.specs.Finding.{Finding, Finds}
+
+-- ---- a file
+
+-- an octet of a file's name: control characters and the reverse solidus as a reverse solidus and two hexadecimal
+-- digits, so that the name stays on its line
+abbrev pub name_octet : ℕ → List ℕ
+name_octet octet =
+    if nat_lt octet 32 || nat_eq octet 127 || nat_eq octet 92 then 92 ∷ hex_pair octet else octet ∷ []
+
+abbrev pub visible : List ℕ → List ℕ
+visible name = flat_map name_octet name
+
+-- a file's name and what is said of it
+abbrev pub line : List ℕ → List ℕ → List ℕ
+line name text = visible name ++ codes ": " ++ text ++ 10 ∷ []
+
+-- the fields of a certificate, after the name of its file: lines, or an object on a line
+abbrev pub whole : Form → List ℕ → List ℕ → List ℕ
+whole Text name fields = field Text (codes "File") (visible name) ++ fields
+whole Json name fields = codes "{\"File\":\"" ++ json_text name ++ 34 ∷ [] ++ fields ++ codes "}\n"
+
+-- what goes to the output, what goes to the faults, and the status
+pub record ShownParts : Type 0 where
+  pub output : List ℕ
+  pub faults : List ℕ
+  pub status : ℕ
+
+abbrev pub shown_parts : List ℕ → List ℕ → ℕ → ShownParts
+shown_parts output faults status = record { output = output; faults = faults; status = status }
+
+-- a certificate by its fields, a fault by a line among the faults; without a form a line for either
+abbrev pub IsShown : Option Form → List ℕ → Finding → ShownParts → Type 0
+IsShown None name (Ok found) s = s ≡ shown_parts (line name (codes "OK")) [] 0
+IsShown None name (Err fault) s = s ≡ shown_parts (line name (fault_text fault)) [] (status_of fault)
+IsShown (Some form) name (Ok found) s =
+    (fields : List ℕ) × AreFields form found.0 found.1.tbs fields × (s ≡ shown_parts (whole form name fields) [] 0)
+IsShown (Some form) name (Err fault) s =
+    s ≡ shown_parts [] (codes "rpkicert: " ++ line name (fault_text fault)) (status_of fault)
+
+abbrev pub memory_text : List ℕ
+memory_text = codes "rpkicert: out of memory\n"
+
+-- What is seen of a file: what was found, as it is shown; or that there was no memory to show it.
+abbrev pub IsSeen : Option Form → Option Profile → List ℕ → Option (List ℕ) → ShownParts → Type 0
+IsSeen form profile name source s =
+    ((finding : Finding) × Finds profile source finding × IsShown form name finding s)
+    ⊎ (s ≡ shown_parts [] memory_text 2)
+
+-- ---- a run
+
+-- what is seen of each file, in order
+abbrev pub AreSeen : (List ℕ → ShownParts → Type 0) → List (List ℕ) → List ShownParts → Type 0
+AreSeen P [] [] = Unit {0}
+AreSeen P [] (s ∷ ss) = ⊥
+AreSeen P (name ∷ names) [] = ⊥
+AreSeen P (name ∷ names) (s ∷ ss) = P name s × AreSeen P names ss
+
+abbrev pub outputs : List ShownParts → List ℕ
+outputs all = flat_map (λ s. s.output) all
+
+abbrev pub faults : List ShownParts → List ℕ
+faults all = flat_map (λ s. s.faults) all
+
+-- the greatest status
+abbrev pub worst : List ShownParts → ℕ
+worst [] = 0
+worst (s ∷ ss) = max s.status (worst ss)
+
+-- the output or the faults failed: a beginning was written, and not all
+abbrev pub AreCut : (old new was is : Option (List ℕ)) → (output faults : List ℕ) → Type 0
+AreCut old new was is output faults =
+    (AppendsCut old new output × AppendsBeginning was is faults) ⊎ (Appends old new output × AppendsCut was is faults)
+
+-- what is shown of a file is written, and the status is that; or a write failed
+abbrev pub WritesBoth : {E : Type 0} → (old new was is : Option (List ℕ)) → ShownParts → Result ℕ E → Type 0
+WritesBoth old new was is s (Ok status) =
+    Appends old new s.output × Appends was is s.faults × (status ≡ s.status)
+WritesBoth old new was is s (Err e) =
+    (AppendsCut old new s.output × Appends was is []) ⊎ (Appends old new s.output × AppendsCut was is s.faults)
+
+-- What is seen of these files, whose names P knows: of each, in order, and the greatest status; or the output or the
+-- faults failed at one of them, and the status is 2.
+pub data IsRun (P : List ℕ → ShownParts → Type 0) (names : List (List ℕ)) (old new was is : Option (List ℕ))
+    (status : ℕ) : Type 0 where
+  Whole : (all : List ShownParts) → AreSeen P names all → Appends old new (outputs all) → Appends was is (faults all)
+      → status ≡ worst all → IsRun P names old new was is status
+  Cut : (front rest : List (List ℕ)) → (all : List ShownParts) → names ≡ front ++ rest → AreSeen P front all
+      → AreCut old new was is (outputs all) (faults all) → status ≡ 2 → IsRun P names old new was is status

@@ -1,0 +1,216 @@
+//! What is printed of a certificate.
+
+ghost use Rattle.std.specs.Prelude.{◌≡◌, ◌++◌, OnOk, IfOk};
+ghost use Rattle.std.specs.List.{flat_map};
+ghost use Rattle.rpkicert.specs.CertText.{algorithm_text, IsHead, IsMiddle, key_text, extension_name, private_name, critical_text, extension_text, fingerprint_text, AreFields};
+
+use crate::extension_text::{identifiers, uses};
+use crate::field::{Form, push_field};
+use crate::name::{name_text, push_digits};
+use crate::place_text::{issuer_places, subject_places};
+use crate::value::{colon_digits, serial_text, time_text};
+use rpki::crypto::PublicKeyFormat;
+use rpki::der::Oid;
+use rpki::oid;
+use rpki::repository::x509::CertExtension;
+use rpki_cert::TbsCert;
+use sha1::Sha1;
+use sha2::{Digest, Sha256};
+use std::alloc::{AllocError, Global};
+
+/// Version, serial number, signature algorithm and issuer.
+fn head(alloc: Global, form: Form, tbs: &TbsCert) -> Result<Vec<u8>, AllocError>
+    ensures { IfOk result (λ text. IsHead form tbs.now text.items) }
+{
+    let serial = serial_text(alloc, tbs.serial_number())?;
+    let issuer = name_text(alloc, tbs.issuer())?;
+    let mut text = Vec::new(alloc);
+    push_field(&mut text, form, b"Version", b"3")?;
+    push_field(&mut text, form, b"Serial Number", serial.as_slice())?;
+    push_field(
+        &mut text,
+        form,
+        b"Signature Algorithm",
+        b"sha256WithRSAEncryption",
+    )?;
+    push_field(&mut text, form, b"Issuer", issuer.as_slice())?;
+    Ok(text)
+}
+
+/// The period and the subject.
+fn middle(alloc: Global, form: Form, tbs: &TbsCert) -> Result<Vec<u8>, AllocError>
+    ensures { IfOk result (λ text. IsMiddle form tbs.now text.items) }
+{
+    let subject = name_text(alloc, tbs.subject())?;
+    let validity = tbs.validity();
+    let mut text = Vec::new(alloc);
+    push_field(
+        &mut text,
+        form,
+        b"Not Before",
+        &time_text(validity.not_before()),
+    )?;
+    push_field(
+        &mut text,
+        form,
+        b"Not After",
+        &time_text(validity.not_after()),
+    )?;
+    push_field(&mut text, form, b"Subject", subject.as_slice())?;
+    Ok(text)
+}
+
+/// The name of a format of keys.
+fn algorithm_text(format: PublicKeyFormat) -> &'static [u8]
+    ensures { result.now ≡ algorithm_text format }
+{
+    match format {
+        PublicKeyFormat::Rsa => b"rsaEncryption",
+        PublicKeyFormat::EcdsaP256 => b"id-ecPublicKey prime256v1",
+    }
+}
+
+/// The key.
+fn key_text(alloc: Global, form: Form, tbs: &TbsCert) -> Result<Vec<u8>, AllocError>
+    ensures { IfOk result (λ text. text.items ≡ key_text form tbs.now) }
+{
+    let key = tbs.subject_public_key_info();
+    let identifier = colon_digits(alloc, &Sha1::digest(key.bits()))?;
+    let mut text = Vec::new(alloc);
+    push_field(
+        &mut text,
+        form,
+        b"Public Key Algorithm",
+        algorithm_text(key.algorithm()),
+    )?;
+    push_field(&mut text, form, b"Public Key SHA-1", identifier.as_slice())?;
+    Ok(text)
+}
+
+/// Adds the name of an extension of RFC 5280 4.2.1; of another what [push_private_name] adds.
+fn push_name(text: &mut Vec<u8>, id: Oid<&[u8]>) -> Result<(), AllocError>
+    ensures { OnOk result (text.new.items ≡ text.old.items ++ extension_name id.entry.0.now) }
+{
+    if id == oid::CE_SUBJECT_KEY_IDENTIFIER {
+        text.extend_from_slice(b"subjectKeyIdentifier")
+    } else if id == oid::CE_AUTHORITY_KEY_IDENTIFIER {
+        text.extend_from_slice(b"authorityKeyIdentifier")
+    } else if id == oid::CE_BASIC_CONSTRAINTS {
+        text.extend_from_slice(b"basicConstraints")
+    } else if id == oid::CE_KEY_USAGE {
+        text.extend_from_slice(b"keyUsage")
+    } else if id == oid::CE_EXTENDED_KEY_USAGE {
+        text.extend_from_slice(b"extendedKeyUsage")
+    } else if id == oid::CE_CRL_DISTRIBUTION_POINTS {
+        text.extend_from_slice(b"cRLDistributionPoints")
+    } else if id == oid::CE_CERTIFICATE_POLICIES {
+        text.extend_from_slice(b"certificatePolicies")
+    } else {
+        push_private_name(text, id)
+    }
+}
+
+/// Adds the name of another extension; of an unknown one the digits of its identifier.
+fn push_private_name(text: &mut Vec<u8>, id: Oid<&[u8]>) -> Result<(), AllocError>
+    ensures { OnOk result (text.new.items ≡ text.old.items ++ private_name id.entry.0.now) }
+{
+    if id == oid::PE_AUTHORITY_INFO_ACCESS {
+        text.extend_from_slice(b"authorityInfoAccess")
+    } else if id == oid::PE_SUBJECT_INFO_ACCESS {
+        text.extend_from_slice(b"subjectInfoAccess")
+    } else if id == oid::PE_IP_ADDR_BLOCK {
+        text.extend_from_slice(b"ipAddrBlocks")
+    } else if id == oid::PE_IP_ADDR_BLOCK_V2 {
+        text.extend_from_slice(b"ipAddrBlocks-v2")
+    } else if id == oid::PE_AUTONOMOUS_SYS_IDS {
+        text.extend_from_slice(b"autonomousSysIds")
+    } else if id == oid::PE_AUTONOMOUS_SYS_IDS_V2 {
+        text.extend_from_slice(b"autonomousSysIds-v2")
+    } else {
+        text.extend_from_slice(b"OID ")?;
+        push_digits(text, id.0)
+    }
+}
+
+/// Whether an extension is critical, in words.
+fn critical_text(critical: bool) -> &'static [u8]
+    ensures { result.now ≡ critical_text critical }
+{
+    if critical {
+        b"critical"
+    } else {
+        b"not critical"
+    }
+}
+
+/// Adds the field of an extension.
+fn push_extension(
+    alloc: Global,
+    text: &mut Vec<u8>,
+    form: Form,
+    extension: &CertExtension,
+) -> Result<(), AllocError>
+    ensures { OnOk result (text.new.items ≡ text.old.items ++ extension_text form extension.now) }
+{
+    let mut label = Vec::from_slice(alloc, b"Extension ")?;
+    push_name(&mut label, extension.id())?;
+    push_field(
+        text,
+        form,
+        label.as_slice(),
+        critical_text(extension.critical()),
+    )
+}
+
+/// A field for each extension.
+fn extensions(alloc: Global, form: Form, all: &[CertExtension]) -> Result<Vec<u8>, AllocError>
+    ensures { IfOk result (λ text. text.items ≡ flat_map (extension_text form) all.now) }
+{
+    let mut text = Vec::new(alloc);
+    'extensions: for extension in all {
+        push_extension(alloc, &mut text, form, extension)?;
+    }
+    Ok(text)
+}
+
+/// The digest of the octets.
+fn fingerprint(alloc: Global, form: Form, octets: &[u8]) -> Result<Vec<u8>, AllocError>
+    ensures { IfOk result (λ text. text.items ≡ fingerprint_text form octets.now) }
+{
+    let digits = colon_digits(alloc, &Sha256::digest(octets))?;
+    let mut text = Vec::new(alloc);
+    push_field(&mut text, form, b"SHA-256 Fingerprint", digits.as_slice())?;
+    Ok(text)
+}
+
+/// The fields of the certificate that these octets are.
+///
+/// Returns `AllocError` if allocation fails.
+pub fn fields(
+    alloc: Global,
+    form: Form,
+    octets: &[u8],
+    tbs: &TbsCert,
+) -> Result<Vec<u8>, AllocError>
+    ensures { IfOk result (λ text. AreFields form octets.now tbs.now text.items) }
+{
+    let head = head(alloc, form, tbs)?;
+    let middle = middle(alloc, form, tbs)?;
+    let key = key_text(alloc, form, tbs)?;
+    let identifiers = identifiers(alloc, form, tbs)?;
+    let uses = uses(alloc, form, tbs)?;
+    let issuer = issuer_places(alloc, form, tbs)?;
+    let subject = subject_places(alloc, form, tbs)?;
+    let extensions = extensions(alloc, form, tbs.extensions())?;
+    let fingerprint = fingerprint(alloc, form, octets)?;
+    let mut text = head;
+    text.extend_from_slice(middle.as_slice())?;
+    text.extend_from_slice(key.as_slice())?;
+    text.extend_from_slice(identifiers.as_slice())?;
+    text.extend_from_slice(uses.as_slice())?;
+    text.extend_from_slice(issuer.as_slice())?;
+    text.extend_from_slice(subject.as_slice())?;
+    text.extend_from_slice(extensions.as_slice())?;
+    text.extend_from_slice(fingerprint.as_slice())?;
+    Ok(text)
+}

@@ -1,0 +1,178 @@
+//! What is printed of extensions: key identifiers, and what the key is for.
+
+ghost use Rattle.std.specs.Prelude.{◌≡◌, codes, true, false, IfOk, Some};
+ghost use Rattle.std.specs.Option.{option_map};
+ghost use Rattle.rpki.specs.KeyIdentifier.{SpellsKeyIdentifier};
+ghost use Rattle.rpki_cert.specs.Known.{subject_key_identifier, authority_key_identifier, basic_constraints, key_usage, extended_key_usage, certificate_policies, HasOnly, HasNone};
+ghost use Rattle.rpki_cert.specs.ExtensionContent.{SpellsAuthority, SpellsConstraints, SpellsUsage, SpellsPurposes, SpellsPolicies};
+ghost use Rattle.rpkicert.specs.ValueText.{colon_digits};
+ghost use Rattle.rpkicert.specs.CertText.{Says, authority_text, usage_text, purposes_text, policy_text, AreIdentifiers, AreUses};
+
+use crate::field::{Form, push_field_if};
+use crate::memory::is_memory;
+use crate::value::colon_digits;
+use rpki_cert::{KeyUsage, Overclaim, TbsCert};
+use std::alloc::{AllocError, Global};
+
+/// What is shown of an extension that is malformed, or not as critical as it has to be.
+pub fn malformed(alloc: Global) -> Result<Option<Vec<u8>>, AllocError>
+    ensures { IfOk result (λ o. option_map (λ v. v.items) o ≡ Some (codes "malformed")) }
+{
+    let text = Vec::from_slice(alloc, b"malformed")?;
+    Ok(Some(text))
+}
+
+/// What is shown of the subject key identifier.
+fn subject_identifier(alloc: Global, tbs: &TbsCert) -> Result<Option<Vec<u8>>, AllocError>
+    ensures { IfOk result (λ o. Says (HasOnly subject_key_identifier false SpellsKeyIdentifier tbs.now.extensions)
+        (HasNone subject_key_identifier false SpellsKeyIdentifier tbs.now.extensions) colon_digits
+        (option_map (λ v. v.items) o)) }
+{
+    match tbs.subject_key_identifier() {
+        Ok(Some(identifier)) => {
+            let text = colon_digits(alloc, identifier.as_slice())?;
+            Ok(Some(text))
+        }
+        Ok(None) => Ok(None),
+        Err(_) => malformed(alloc),
+    }
+}
+
+/// What is shown of the authority key identifier.
+fn authority_identifier(alloc: Global, tbs: &TbsCert) -> Result<Option<Vec<u8>>, AllocError>
+    ensures { IfOk result (λ o. Says (HasOnly authority_key_identifier false SpellsAuthority tbs.now.extensions)
+        (HasNone authority_key_identifier false SpellsAuthority tbs.now.extensions) colon_digits
+        (option_map (λ v. v.items) o)) }
+{
+    match tbs.authority_key_identifier() {
+        Ok(Some(identifier)) => {
+            let text = colon_digits(alloc, identifier.as_slice())?;
+            Ok(Some(text))
+        }
+        Ok(None) => Ok(None),
+        Err(_) => malformed(alloc),
+    }
+}
+
+/// The identifiers of the keys of the subject and of the issuer.
+pub fn identifiers(alloc: Global, form: Form, tbs: &TbsCert) -> Result<Vec<u8>, AllocError>
+    ensures { IfOk result (λ text. AreIdentifiers form tbs.now.extensions text.items) }
+{
+    let subject = subject_identifier(alloc, tbs)?;
+    let authority = authority_identifier(alloc, tbs)?;
+    let mut text = Vec::new(alloc);
+    push_field_if(&mut text, form, b"Subject Key Identifier", subject)?;
+    push_field_if(&mut text, form, b"Authority Key Identifier", authority)?;
+    Ok(text)
+}
+
+/// What is shown of the basic constraints.
+fn constraints(alloc: Global, tbs: &TbsCert) -> Result<Option<Vec<u8>>, AllocError>
+    ensures { IfOk result (λ o. Says (HasOnly basic_constraints true SpellsConstraints tbs.now.extensions)
+        (HasNone basic_constraints true SpellsConstraints tbs.now.extensions) authority_text
+        (option_map (λ v. v.items) o)) }
+{
+    match tbs.basic_ca() {
+        Ok(true) => {
+            let text = Vec::from_slice(alloc, b"CA:TRUE")?;
+            Ok(Some(text))
+        }
+        Ok(false) => Ok(None),
+        Err(_) => malformed(alloc),
+    }
+}
+
+/// The name of a use.
+fn usage_text(usage: KeyUsage) -> &'static [u8]
+    ensures { result.now ≡ usage_text usage }
+{
+    match usage {
+        KeyUsage::Ca => b"Certificate Sign, CRL Sign",
+        KeyUsage::Ee => b"Digital Signature",
+    }
+}
+
+/// What is shown of the key usage.
+fn usage(alloc: Global, tbs: &TbsCert) -> Result<Option<Vec<u8>>, AllocError>
+    ensures { IfOk result (λ o. Says (HasOnly key_usage true SpellsUsage tbs.now.extensions)
+        (HasNone key_usage true SpellsUsage tbs.now.extensions) usage_text (option_map (λ v. v.items) o)) }
+{
+    match tbs.key_usage() {
+        Ok(Some(usage)) => {
+            let text = Vec::from_slice(alloc, usage_text(usage))?;
+            Ok(Some(text))
+        }
+        Ok(None) => Ok(None),
+        Err(_) => malformed(alloc),
+    }
+}
+
+/// Whether a router's purpose is there, in words.
+fn purposes_text(router: bool) -> &'static [u8]
+    ensures { result.now ≡ purposes_text router }
+{
+    if router { b"BGPsec Router" } else { b"other" }
+}
+
+/// What is shown of the extended key usage.
+fn purposes(alloc: Global, tbs: &TbsCert) -> Result<Option<Vec<u8>>, AllocError>
+    ensures { IfOk result (λ o. Says (HasOnly extended_key_usage false SpellsPurposes tbs.now.extensions)
+        (HasNone extended_key_usage false SpellsPurposes tbs.now.extensions) purposes_text
+        (option_map (λ v. v.items) o)) }
+{
+    match tbs.extended_key_usage(alloc) {
+        Ok(Some(router)) => {
+            let text = Vec::from_slice(alloc, purposes_text(router))?;
+            Ok(Some(text))
+        }
+        Ok(None) => Ok(None),
+        Err(e) => {
+            if is_memory(e) {
+                return Err(AllocError);
+            }
+            malformed(alloc)
+        }
+    }
+}
+
+/// The name of a policy.
+fn policy_text(policy: Overclaim) -> &'static [u8]
+    ensures { result.now ≡ policy_text policy }
+{
+    match policy {
+        Overclaim::Refuse => b"ipAddr-asNumber",
+        Overclaim::Trim => b"ipAddr-asNumber-v2",
+    }
+}
+
+/// What is shown of the certificate policies.
+fn policies(alloc: Global, tbs: &TbsCert) -> Result<Option<Vec<u8>>, AllocError>
+    ensures { IfOk result (λ o. Says (HasOnly certificate_policies true SpellsPolicies tbs.now.extensions)
+        (HasNone certificate_policies true SpellsPolicies tbs.now.extensions) policy_text
+        (option_map (λ v. v.items) o)) }
+{
+    match tbs.overclaim() {
+        Ok(Some(policy)) => {
+            let text = Vec::from_slice(alloc, policy_text(policy))?;
+            Ok(Some(text))
+        }
+        Ok(None) => Ok(None),
+        Err(_) => malformed(alloc),
+    }
+}
+
+/// What the key is for.
+pub fn uses(alloc: Global, form: Form, tbs: &TbsCert) -> Result<Vec<u8>, AllocError>
+    ensures { IfOk result (λ text. AreUses form tbs.now.extensions text.items) }
+{
+    let constraints = constraints(alloc, tbs)?;
+    let usage = usage(alloc, tbs)?;
+    let purposes = purposes(alloc, tbs)?;
+    let policies = policies(alloc, tbs)?;
+    let mut text = Vec::new(alloc);
+    push_field_if(&mut text, form, b"Basic Constraints", constraints)?;
+    push_field_if(&mut text, form, b"Key Usage", usage)?;
+    push_field_if(&mut text, form, b"Extended Key Usage", purposes)?;
+    push_field_if(&mut text, form, b"Certificate Policies", policies)?;
+    Ok(text)
+}

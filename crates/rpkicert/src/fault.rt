@@ -1,0 +1,90 @@
+//! Why nothing is printed of a file.
+
+ghost use Rattle.std.specs.Prelude.{◌≡◌, IfOk, OnOk, ◌++◌, string_bytes};
+ghost use Rattle.rpkicert.specs.Fault.{fault_text, status_of};
+
+use rpki::der::DecodeError;
+use rpki::repository::error::ValidationError;
+use std::alloc::{AllocError, AllocFailed, Global};
+
+/// Why nothing is printed of a file.
+#[derive(Clone, Copy, Debug, PartialEq, Eq)]
+pub enum Fault {
+    /// There is no such file, or it could not be read to its end.
+    Unreadable,
+    /// It has more than 1,048,576 octets.
+    TooLarge,
+    /// Allocation failed.
+    OutOfMemory,
+    /// It begins as a text of RFC 7468, and isn't exactly one certificate in that encoding.
+    Malformed,
+    /// Its octets are no certificate.
+    Refused(DecodeError),
+    /// The certificate violates the profile.
+    Violated(ValidationError),
+}
+
+impl Fault {
+    /// The exit status for it.
+    pub fn status(self) -> u8
+        ensures { result ≡ status_of self }
+    {
+        match self {
+            Fault::Unreadable | Fault::TooLarge | Fault::OutOfMemory => 2,
+            Fault::Malformed | Fault::Refused(_) | Fault::Violated(_) => 1,
+        }
+    }
+
+    /// What a person reads of it.
+    ///
+    /// Returns `AllocError` if allocation fails.
+    pub fn text(self, alloc: Global) -> Result<String, AllocError>
+        ensures { IfOk result (λ text. string_bytes text ≡ fault_text self) }
+    {
+        match self {
+            Fault::Unreadable => String::from_str(alloc, "cannot be read"),
+            Fault::TooLarge => String::from_str(alloc, "larger than 1048576 octets"),
+            Fault::OutOfMemory => String::from_str(alloc, "out of memory"),
+            Fault::Malformed => String::from_str(alloc, "malformed PEM"),
+            Fault::Refused(e) => format!(in alloc; "not a certificate: {e}"),
+            Fault::Violated(e) => format!(in alloc; "violates the profile: {e}"),
+        }
+    }
+}
+
+impl From<AllocError> for Fault {
+    ghost use Rattle.std.specs.Prelude.{◌≡◌};
+    ghost use Rattle.rpkicert.specs.declared.fault.Fault.TheVariants.{OutOfMemory};
+
+    ghost from_gives = { λ _ f. f ≡ OutOfMemory };
+
+    fn from(_e: AllocError) -> Fault {
+        Fault::OutOfMemory
+    }
+}
+
+impl<T: Drop> From<AllocFailed<T>> for Fault {
+    ghost use Rattle.std.specs.Prelude.{◌≡◌};
+    ghost use Rattle.rpkicert.specs.declared.fault.Fault.TheVariants.{OutOfMemory};
+
+    ghost from_gives = { λ _ f. f ≡ OutOfMemory };
+
+    fn from(_e: AllocFailed<T>) -> Fault {
+        Fault::OutOfMemory
+    }
+}
+
+/// An allocation failure is a fault of its own, and no error of the octets.
+impl From<DecodeError> for Fault {
+    ghost use Rattle.std.specs.Prelude.{◌≡◌};
+    ghost use Rattle.rpkicert.specs.Fault.{refusal};
+
+    ghost from_gives = { λ e f. f ≡ refusal e };
+
+    fn from(e: DecodeError) -> Fault {
+        match e {
+            DecodeError::OutOfMemory => Fault::OutOfMemory,
+            e => Fault::Refused(e),
+        }
+    }
+}

@@ -1,0 +1,82 @@
+//! Certificates in the textual encoding of RFC 7468.
+
+ghost use Rattle.std.specs.Prelude.{◌≡◌, drop, IfOk};
+ghost use Rattle.std.specs.List.{list_all};
+ghost use Rattle.std.specs.Option.{option_map};
+ghost use Rattle.rpkicert.specs.Pem.{is_space, before_hyphen, without_space, pem_octets, octets_of};
+
+use crate::name::after;
+use base64::DecodeAllocError;
+use base64::engine::general_purpose::STANDARD;
+use std::alloc::{AllocError, Global};
+
+/// The first line.
+const BEGIN: &[u8] = b"-----BEGIN CERTIFICATE-----";
+
+/// The last line.
+const END: &[u8] = b"-----END CERTIFICATE-----";
+
+/// Whether the octet is white space.
+fn is_space(octet: u8) -> bool
+    ensures { result ≡ is_space octet }
+{
+    octet == b' ' || octet == b'\t' || octet == b'\n' || octet == b'\r'
+}
+
+/// Whether all of the octets are white space.
+fn is_blank(text: &[u8]) -> bool
+    ensures { result ≡ list_all is_space text.now }
+{
+    text.iter().all(|octet| is_space(*octet))
+}
+
+/// What is before the first hyphen.
+fn before_hyphen(alloc: Global, text: &[u8]) -> Result<Vec<u8>, AllocError>
+    ensures { IfOk result (λ v. v.items ≡ before_hyphen text.now) }
+{
+    text.iter()
+        .copied()
+        .take_while(|octet| *octet != b'-')
+        .collect(alloc)
+}
+
+/// The octets that aren't white space.
+fn without_space(alloc: Global, text: &[u8]) -> Result<Vec<u8>, AllocError>
+    ensures { IfOk result (λ all. all.items ≡ without_space text.now) }
+{
+    text.iter()
+        .copied()
+        .filter(|octet| !is_space(*octet))
+        .collect(alloc)
+}
+
+/// The octets of the certificate that the text is.
+fn pem_octets(alloc: Global, text: &[u8]) -> Result<Option<Vec<u8>>, AllocError>
+    ensures { IfOk result (λ o. option_map (λ v. v.items) o ≡ pem_octets text.now) }
+{
+    let rest = after(text, 27);
+    let body = before_hyphen(alloc, rest)?;
+    let tail = after(rest, body.len());
+    if text.starts_with(BEGIN) && tail.starts_with(END) && is_blank(after(tail, 25)) {
+        let digits = without_space(alloc, body.as_slice())?;
+        return match STANDARD.decode(alloc, digits.as_slice()) {
+            Ok(octets) => Ok(Some(octets)),
+            Err(DecodeAllocError::OutOfMemory) => Err(AllocError),
+            Err(DecodeAllocError::DecodeError(_)) => Ok(None),
+        };
+    }
+    Ok(None)
+}
+
+/// The octets that an input stands for: those of the certificate that it is in the textual encoding, where it begins
+/// so; else its own. None if it begins as a text, and isn't exactly one certificate in that encoding.
+///
+/// Returns `AllocError` if allocation fails.
+pub fn octets_of(alloc: Global, input: Vec<u8>) -> Result<Option<Vec<u8>>, AllocError>
+    ensures { IfOk result (λ o. option_map (λ v. v.items) o ≡ octets_of input.items) }
+{
+    if input.as_slice().starts_with(b"-----BEGIN") {
+        return pem_octets(alloc, input.as_slice());
+    }
+    Ok(Some(input))
+}

@@ -1,0 +1,59 @@
+//! The profiles of certificates (RFC 6487 4, RFC 8209 3.1).
+
+ghost use Rattle.std.specs.Prelude.{◌≡◌};
+ghost use Rattle.rpki_cert.specs.Profile.{Checks};
+ghost use Rattle.rpkicert.specs.Finding.{Meets};
+ghost use Rattle.rpkicert.specs.Request.{profile_of};
+
+use rpki::repository::error::ValidationError;
+use rpki_cert::TbsCert;
+use std::alloc::Global;
+
+/// A profile that a certificate is held to.
+#[derive(Clone, Copy, Debug, PartialEq, Eq)]
+pub enum Profile {
+    /// A trust anchor.
+    Ta,
+    /// A certification authority.
+    Ca,
+    /// An end entity that signs an object.
+    Ee,
+    /// A BGPsec router.
+    Router,
+}
+
+impl Profile {
+    /// The profile of this name.
+    pub fn of(word: &str) -> Option<Profile>
+        ensures { result ≡ profile_of word.now }
+    {
+        if word == "ta" {
+            Some(Profile::Ta)
+        } else if word == "ca" {
+            Some(Profile::Ca)
+        } else if word == "ee" {
+            Some(Profile::Ee)
+        } else if word == "router" {
+            Some(Profile::Router)
+        } else {
+            None
+        }
+    }
+}
+
+/// Whether the certificate has the profile that is asked for, if one is.
+pub fn inspect(
+    alloc: Global,
+    profile: Option<Profile>,
+    tbs: &TbsCert,
+) -> Result<(), ValidationError>
+    ensures { Checks (Meets profile tbs.now) result }
+{
+    match profile {
+        None => Ok(()),
+        Some(Profile::Ta) => tbs.inspect_ta(alloc, true),
+        Some(Profile::Ca) => tbs.inspect_ca(alloc, true),
+        Some(Profile::Ee) => tbs.inspect_ee(alloc, true),
+        Some(Profile::Router) => tbs.inspect_router(alloc, true),
+    }
+}

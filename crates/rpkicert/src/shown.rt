@@ -1,0 +1,154 @@
+//! What is shown of a file.
+
+ghost use Rattle.std.specs.Prelude.{◌≡◌, ◌++◌, OnOk, IfOk};
+ghost use Rattle.rpkicert.specs.Shown.{name_octet, visible, line, whole, IsShown};
+ghost use Rattle.rpkicert.specs.FindingView.{finding_of};
+ghost use Rattle.rpkicert.specs.ShownView.{parts_of};
+
+use crate::cert_text::fields;
+use crate::fault::Fault;
+use crate::field::{Form, hex_pair, push_field, push_json};
+use crate::finding::Found;
+use std::alloc::{AllocError, Global};
+
+/// What is shown of a file.
+#[derive(Drop)]
+pub struct Shown {
+    /// What goes to the output.
+    pub output: Vec<u8>,
+    /// What goes to the faults.
+    pub faults: Vec<u8>,
+    /// The exit status.
+    pub status: u8,
+}
+
+/// Adds an octet of a file's name.
+fn push_name_octet(text: &mut Vec<u8>, octet: u8) -> Result<(), AllocError>
+    ensures { OnOk result (text.new.items ≡ text.old.items ++ name_octet octet) }
+{
+    if octet < 32 || octet == 127 || octet == b'\\' {
+        let digits = hex_pair(octet);
+        text.extend_from_slice(&[b'\\', digits[0], digits[1]])?;
+        return Ok(());
+    }
+    text.push(octet)?;
+    Ok(())
+}
+
+/// Adds a file's name.
+fn push_visible(text: &mut Vec<u8>, name: &[u8]) -> Result<(), AllocError>
+    ensures { OnOk result (text.new.items ≡ text.old.items ++ visible name.now) }
+{
+    'octets: for octet in name {
+        push_name_octet(text, *octet)?;
+    }
+    Ok(())
+}
+
+/// Adds a file's name and what is said of it.
+fn push_line(text: &mut Vec<u8>, name: &str, said: &[u8]) -> Result<(), AllocError>
+    ensures { OnOk result (text.new.items ≡ text.old.items ++ line name.now said.now) }
+{
+    push_visible(text, name.as_bytes())?;
+    text.extend_from_slice(b": ")?;
+    text.extend_from_slice(said)?;
+    text.push(b'\n')?;
+    Ok(())
+}
+
+/// The fields of a certificate, after the name of its file.
+fn whole(alloc: Global, form: Form, name: &str, fields: &[u8]) -> Result<Vec<u8>, AllocError>
+    ensures { IfOk result (λ text. text.items ≡ whole form name.now fields.now) }
+{
+    let mut text = Vec::new(alloc);
+    match form {
+        Form::Text => {
+            let mut visible = Vec::new(alloc);
+            push_visible(&mut visible, name.as_bytes())?;
+            push_field(&mut text, form, b"File", visible.as_slice())?;
+            text.extend_from_slice(fields)?;
+        }
+        Form::Json => {
+            text.extend_from_slice(b"{\"File\":\"")?;
+            push_json(&mut text, name.as_bytes())?;
+            text.push(b'"')?;
+            text.extend_from_slice(fields)?;
+            text.extend_from_slice(b"}\n")?;
+        }
+    }
+    Ok(text)
+}
+
+/// What is shown of a certificate.
+fn good(alloc: Global, form: Option<Form>, name: &str, found: &Found) -> Result<Shown, AllocError>
+    ensures { IfOk result (λ s. IsShown form name.now (Ok (found.now.octets.items, found.now.cert)) (parts_of s)) }
+{
+    let faults = Vec::new(alloc);
+    match form {
+        Some(form) => {
+            let fields = fields(alloc, form, found.octets.as_slice(), found.cert.tbs())?;
+            let output = whole(alloc, form, name, fields.as_slice())?;
+            Ok(Shown {
+                output,
+                faults,
+                status: 0,
+            })
+        }
+        None => {
+            let mut output = Vec::new(alloc);
+            push_line(&mut output, name, b"OK")?;
+            Ok(Shown {
+                output,
+                faults,
+                status: 0,
+            })
+        }
+    }
+}
+
+/// What is shown of a fault.
+fn bad(alloc: Global, form: Option<Form>, name: &str, fault: Fault) -> Result<Shown, AllocError>
+    ensures { IfOk result (λ s. IsShown form name.now (Err fault) (parts_of s)) }
+{
+    let said = fault.text(alloc)?;
+    let status = fault.status();
+    let mut line = Vec::new(alloc);
+    match form {
+        Some(_) => {
+            line.extend_from_slice(b"rpkicert: ")?;
+            push_line(&mut line, name, said.as_bytes())?;
+            let output = Vec::new(alloc);
+            Ok(Shown {
+                output,
+                faults: line,
+                status,
+            })
+        }
+        None => {
+            push_line(&mut line, name, said.as_bytes())?;
+            let faults = Vec::new(alloc);
+            Ok(Shown {
+                output: line,
+                faults,
+                status,
+            })
+        }
+    }
+}
+
+/// What is shown of what was found of a file.
+///
+/// Returns `AllocError` if allocation fails.
+pub fn show(
+    alloc: Global,
+    form: Option<Form>,
+    name: &str,
+    finding: Result<Found, Fault>,
+) -> Result<Shown, AllocError>
+    ensures { IfOk result (λ s. IsShown form name.now (finding_of finding) (parts_of s)) }
+{
+    match finding {
+        Ok(found) => good(alloc, form, name, &found),
+        Err(fault) => bad(alloc, form, name, fault),
+    }
+}

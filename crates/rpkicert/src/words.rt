@@ -1,0 +1,31 @@
+//! The texts of a run that are not of a file.
+
+/// How the program is used.
+pub const USAGE: &[u8] = b"usage: rpkicert [--json|--check] [--profile ta|ca|ee|router] FILE..\n";
+
+/// The program's name and version.
+pub const VERSION: &[u8] = b"rpkicert 0.1.0\n";
+
+/// What `--help` prints.
+pub const HELP: &[u8] = b"\
+rpkicert - print certificates of the RPKI
+
+usage: rpkicert [--json|--check] [--profile ta|ca|ee|router] FILE..
+       rpkicert --help
+       rpkicert --version
+
+Prints the fields of each certificate (RFC 5280, in the profiles of RFC 6487
+and RFC 8209), a field a line. A FILE has one certificate, as DER or in the
+textual encoding of RFC 7468 (PEM), and at most 1048576 octets; - is standard
+input.
+
+  --json       print an object of JSON a line
+  --check      print a line a file: its name, and OK or what is wrong
+  --profile P  hold each certificate to the profile of a trust anchor (ta), a
+               certification authority (ca), an end entity (ee) or a BGPsec
+               router (router)
+
+Exit status: 0 if all is well; 1 if a file is no certificate or violates the
+profile; 2 if a file can't be read, for a wrong usage, and if writing fails.
+Resources (RFC 3779) are not read, and signatures are not verified.
+";
