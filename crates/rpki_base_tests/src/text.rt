@@ -7,6 +7,7 @@ mod general_name;
 mod hex;
 mod https;
 mod rsync;
+mod rsync_comparisons;
 mod views;
 mod words;
 
