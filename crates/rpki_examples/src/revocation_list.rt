@@ -1,0 +1,153 @@
+//! The next object after a certificate: what is signed of a revocation list (RFC 5280 5.1.2, RFC 6487 5).
+//!
+//! ```text
+//! TBSCertList ::= SEQUENCE {
+//!     version              INTEGER (0..255),
+//!     signature            AlgorithmIdentifier,
+//!     issuer               Name,
+//!     thisUpdate           Time,
+//!     nextUpdate           Time,
+//!     revokedCertificates  SEQUENCE OF RevokedCertificate OPTIONAL,
+//!     crlExtensions        [0] EXPLICIT SEQUENCE OF Extension }
+//! ```
+
+ghost use Rattle.rpki_der.specs.Cursor.{left};
+ghost use Rattle.rpki_der.specs.TagName.{sequence};
+ghost use Rattle.rpki_der.specs.Values.{HasTag};
+ghost use Rattle.rpki_der.specs.Reading.{Reads, ReadsWhere};
+ghost use Rattle.rpki_der.specs.FirstFault.{ReadsParts};
+ghost use Rattle.rpki_examples.specs.RevocationList.{entries_of, parts_of, SpellsEachRevoked, IsEachRevokedFault, SpellsRevokedList, IsRevokedListFault, SpellsEachExtension, IsEachExtensionFault, SpellsExtensionList, IsExtensionListFault, SpellsExtensions, IsExtensionsFault, AreParts, ArePartsFault, SpellsList, IsListFault};
+
+use crate::revoked::RevokedCertificate;
+use rpki::crypto::{RpkiSignatureAlgorithm, SignatureAlgorithm};
+use rpki::der::{Class, Constructed, DecodeError, Tag};
+use rpki::repository::x509::{CertExtension, Name, Time};
+use std::alloc::Global;
+
+/// What is signed of a revocation list.
+#[derive(Drop)]
+pub struct RevocationList {
+    /// The version: 1 for version 2, which the RPKI asks for.
+    pub version: u8,
+    /// The algorithm that the signature is said to have.
+    pub signature: RpkiSignatureAlgorithm,
+    /// The issuer.
+    pub issuer: Name,
+    /// When it was issued.
+    pub this_update: Time,
+    /// When the next one is issued at the latest.
+    pub next_update: Time,
+    /// The certificates that are revoked; None where the list is left out.
+    pub revoked: Option<Vec<RevokedCertificate>>,
+    /// The extensions.
+    pub extensions: Vec<CertExtension>,
+}
+
+/// The entries that these contents are, one after another.
+fn take_each_revoked(
+    alloc: Global,
+    contents: &mut Constructed<'_>,
+) -> Result<Vec<RevokedCertificate>, DecodeError>
+    ensures { ReadsParts entries_of SpellsEachRevoked IsEachRevokedFault (left contents.old) (left contents.new)
+        result }
+{
+    contents.take_each(alloc, |rest| RevokedCertificate::take_from(rest))
+}
+
+/// The list of entries, where there is a SEQUENCE.
+fn take_opt_revoked(
+    alloc: Global,
+    cons: &mut Constructed<'_>,
+) -> Result<Option<Vec<RevokedCertificate>>, DecodeError>
+    ensures { ReadsWhere (HasTag sequence) entries_of SpellsRevokedList IsRevokedListFault (left cons.old)
+        (left cons.new) result }
+{
+    if !cons.has_tag(Tag::SEQUENCE) {
+        return Ok(None);
+    }
+    match cons.in_sequence(|contents| take_each_revoked(alloc, contents)) {
+        Ok(revoked) => Ok(Some(revoked)),
+        Err(e) => Err(e),
+    }
+}
+
+/// The extensions that these contents are, one after another.
+fn take_each_extension(
+    alloc: Global,
+    contents: &mut Constructed<'_>,
+) -> Result<Vec<CertExtension>, DecodeError>
+    ensures { ReadsParts (λ v. v.items) SpellsEachExtension IsEachExtensionFault (left contents.old)
+        (left contents.new) result }
+{
+    contents.take_each(alloc, |rest| CertExtension::take_from(alloc, rest))
+}
+
+/// The SEQUENCE of extensions.
+fn take_extension_list(
+    alloc: Global,
+    cons: &mut Constructed<'_>,
+) -> Result<Vec<CertExtension>, DecodeError>
+    ensures { Reads (λ v. v.items) SpellsExtensionList IsExtensionListFault (left cons.old) (left cons.new) result }
+{
+    cons.in_sequence(|contents| take_each_extension(alloc, contents))
+}
+
+/// The extensions, under the explicit context tag 0.
+fn take_extensions(
+    alloc: Global,
+    cons: &mut Constructed<'_>,
+) -> Result<Vec<CertExtension>, DecodeError>
+    ensures { Reads (λ v. v.items) SpellsExtensions IsExtensionsFault (left cons.old) (left cons.new) result }
+{
+    cons.in_constructed(
+        Tag::new(Class::Context, 0),
+        |contents| take_extension_list(alloc, contents),
+    )
+}
+
+impl RevocationList {
+    /// Reads what is signed: a SEQUENCE of the parts, and nothing else. An empty list of entries is taken, although one
+    /// should be left out (RFC 5280 5.1.2.6).
+    ///
+    /// Returns an error of [Constructed::in_sequence] if there is no SEQUENCE; else that of the first part that could
+    /// not be read, or `Trailing` if more follows; `OutOfMemory` if allocation fails. An error leaves the cursor where
+    /// it was.
+    pub fn take_from(
+        alloc: Global,
+        cons: &mut Constructed<'_>,
+    ) -> Result<RevocationList, DecodeError>
+        ensures { Reads parts_of SpellsList IsListFault (left cons.old) (left cons.new) result }
+    {
+        cons.in_sequence(
+            |contents|
+                ensures { ReadsParts parts_of AreParts ArePartsFault (left contents.old) (left contents.new) result }
+            {
+                let version = contents.take_u8()?;
+                let signature = match RpkiSignatureAlgorithm::x509_take_from(contents) {
+                    Ok(signature) => signature,
+                    Err(e) => return Err(e),
+                };
+                let issuer = Name::take_from(alloc, contents)?;
+                let this_update = match Time::take_from(contents) {
+                    Ok(time) => time,
+                    Err(e) => return Err(e),
+                };
+                let next_update = match Time::take_from(contents) {
+                    Ok(time) => time,
+                    Err(e) => return Err(e),
+                };
+                let revoked = take_opt_revoked(alloc, contents)?;
+                let extensions = take_extensions(alloc, contents)?;
+                Ok(RevocationList {
+                    version,
+                    signature,
+                    issuer,
+                    this_update,
+                    next_update,
+                    revoked,
+                    extensions,
+                })
+            },
+        )
+    }
+}
