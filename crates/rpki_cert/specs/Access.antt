@@ -1,22 +1,23 @@
 -- The URIs of certificates: CRL distribution points, and authority and subject information access (RFC 6487 4.8.6 to
 -- 4.8.8, RFC 8182 3.2).
-use Rattle.std.specs.Prelude.{◌≡◌, ◌≢◌, ◌⊎◌, ℕ, Bool, true, false, List, [], ◌∷◌, Option, Some, None, bytes_eq, codes, if◌then◌else◌}
+use Rattle.std.specs.Prelude.{◌≡◌, ◌≢◌, ◌⊎◌, ℕ, Bool, true, false, List, [], ◌∷◌, Option, Some, None, Result, MatchResult, bytes_eq, codes, if◌then◌else◌}
 use Rattle.std.specs.Option.{is_some}
 use Rattle.rpki_der.specs.declared.error.DecodeError.{DecodeError}
 use Rattle.rpki_der.specs.declared.tag.Class.TheVariants.{Context}
 use Rattle.rpki_der.specs.TagName.{TagName, tag_of, context_6, oid, sequence}
-use Rattle.rpki_der.specs.Reading.{Finds, OrMemoryWhere}
+use Rattle.rpki_der.specs.Reading.{Finds, Decodes, OrMemoryWhere, IsWholeFault}
 use Rattle.rpki_der.specs.Values.{SpellsContents, SpellsLeaf, HasTag, IsContentsFault, IsLeafFault}
 use Rattle.rpki_der.specs.WantedValue.{SpellsWanted, IsAnyTag, IsWantedFault}
 use Rattle.rpki_der.specs.Leaves.{IsOid}
 use Rattle.rpki_der.specs.Parts.{Then}
-use Rattle.rpki_der.specs.Each.{SpellsSome, IsEachFault}
+use Rattle.rpki_der.specs.Each.{SpellsEach, SpellsSome, IsEachFault}
 use Rattle.rpki_der.specs.FirstFault.{FirstFault, IsEndFault, IsInsideFault}
 use Rattle.rpki_text.specs.RsyncText.{rsync_refusal}
 use Rattle.rpki_text.specs.HttpsText.{https_refusal}
 use Rattle.rpki.specs.UnknownAlgorithm.{IsContentWith}
 use Rattle.rpki.specs.ExtensionValue.{ExtensionParts}
-use Rattle.rpki_cert.specs.Known.{HasOnly}
+use Rattle.rpki.specs.declared.repository.error.ValidationError.{ValidationError}
+use Rattle.rpki_cert.specs.Known.{HasOnly, HasNone, UnlessNoMemory}
 
 -- what f makes of some value that is spelled
 abbrev pub Through : {V W : Type 0} → (W → V) → (W → List ℕ → Type 0) → V → List ℕ → Type 0
@@ -94,18 +95,40 @@ IsAccessPartsFault method =
 abbrev pub IsAccessFault : List ℕ → List ℕ → DecodeError → Type 0
 IsAccessFault method = IsInsideFault sequence true (IsAccessPartsFault method)
 
+-- descriptions, one after another
+abbrev pub SpellsEachAccess : List ℕ → List (Option (List ℕ)) → List ℕ → Type 0
+SpellsEachAccess method = SpellsEach (SpellsAccess method)
+
+abbrev pub IsEachAccessFault : List ℕ → List ℕ → DecodeError → Type 0
+IsEachAccessFault method = IsEachFault (SpellsAccess method) (IsAccessFault method)
+
 -- one description at least: the first rsync URI of this method; the first https URI
+abbrev pub SpellsSomeRsync : List ℕ → Option (List ℕ) → List ℕ → Type 0
+SpellsSomeRsync method = Through first_rsync (SpellsSome (SpellsAccess method))
+
+abbrev pub SpellsSomeHttps : List ℕ → Option (List ℕ) → List ℕ → Type 0
+SpellsSomeHttps method = Through first_https (SpellsSome (SpellsAccess method))
+
 abbrev pub SpellsRsyncAccess : List ℕ → Option (List ℕ) → List ℕ → Type 0
-SpellsRsyncAccess method = SpellsLeaf sequence true (Through first_rsync (SpellsSome (SpellsAccess method)))
+SpellsRsyncAccess method = SpellsLeaf sequence true (SpellsSomeRsync method)
 
 abbrev pub SpellsHttpsAccess : List ℕ → Option (List ℕ) → List ℕ → Type 0
-SpellsHttpsAccess method = SpellsLeaf sequence true (Through first_https (SpellsSome (SpellsAccess method)))
+SpellsHttpsAccess method = SpellsLeaf sequence true (SpellsSomeHttps method)
 
 abbrev pub AreAccessesFault : List ℕ → List ℕ → DecodeError → Type 0
 AreAccessesFault method = IsKeptFault (SpellsAccess method) (IsAccessFault method)
 
 abbrev pub IsAccessesFault : List ℕ → List ℕ → DecodeError → Type 0
 IsAccessesFault method = IsInsideFault sequence true (AreAccessesFault method)
+
+-- all of the octets are access descriptions, of which this is the URI; or they aren't
+abbrev pub DecodesRsync : List ℕ → List ℕ → Result (Option (List ℕ)) DecodeError → Type 0
+DecodesRsync method =
+    Decodes (λ u. u) (SpellsRsyncAccess method) (IsWholeFault (SpellsRsyncAccess method) (IsAccessesFault method))
+
+abbrev pub DecodesHttps : List ℕ → List ℕ → Result (Option (List ℕ)) DecodeError → Type 0
+DecodesHttps method =
+    Decodes (λ u. u) (SpellsHttpsAccess method) (IsWholeFault (SpellsHttpsAccess method) (IsAccessesFault method))
 
 -- ---- CRL distribution points: exactly one, of which there is exactly a full name (RFC 5280 4.2.1.13)
 
@@ -169,3 +192,8 @@ flat (Some uri) = uri
 -- of the scheme.
 abbrev pub HasUri : List ℕ → (Option (List ℕ) → List ℕ → Type 0) → List ExtensionParts → Option (List ℕ) → Type 0
 HasUri id G xs uri = (v : Option (Option (List ℕ))) × HasOnly id false G xs v × (uri ≡ flat v)
+
+-- the same as what is found; the error says that the extension is another, but where allocation fails
+abbrev pub FindsUri : List ℕ → (Option (List ℕ) → List ℕ → Type 0) → List ExtensionParts
+    → Result (Option (List ℕ)) ValidationError → Type 0
+FindsUri id G xs result = MatchResult result (HasUri id G xs) (λ e. UnlessNoMemory e (HasNone id false G xs))

@@ -33,10 +33,13 @@ IsVersionFault = IsInsideFault version_tag true (FirstFault SpellsTwo IsTwoFault
 
 -- ---- the extensions
 
+abbrev pub IsEachExtensionFault : List ℕ → DecodeError → Type 0
+IsEachExtensionFault = IsEachFault SpellsExtension IsKeptExtensionFault
+
 -- none; or one of them isn't an extension; or all are, and two have the same identifier
 pub data AreExtensionsFault (s : List ℕ) (e : DecodeError) : Type 0 where
   NoExtension : s ≡ [] → IsContentWith (codes "no extensions") e → AreExtensionsFault s e
-  NotExtensions : s ≢ [] → IsEachFault SpellsExtension IsKeptExtensionFault s e → AreExtensionsFault s e
+  NotExtensions : s ≢ [] → IsEachExtensionFault s e → AreExtensionsFault s e
   Repeated : (xs : List ExtensionParts) → SpellsEach SpellsExtension xs s → (IsTrue (are_unique xs) → ⊥)
       → IsContentWith (codes "duplicate extension") e → AreExtensionsFault s e
 

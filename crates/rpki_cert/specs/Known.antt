@@ -1,5 +1,5 @@
 -- Extensions by their identifiers (RFC 6487 4.8).
-use Rattle.std.specs.Prelude.{◌≡◌, ℕ, Bool, true, false, not, ◌||◌, ◌&&◌, List, [], ◌∷◌, Option, Some, None, bytes_eq}
+use Rattle.std.specs.Prelude.{◌≡◌, ℕ, Bool, true, false, not, ◌||◌, ◌&&◌, List, [], ◌∷◌, Option, Some, None, Result, MatchResult, bytes_eq}
 use Rattle.rpki.specs.ExtensionValue.{ExtensionParts}
 use Rattle.rpki_der.specs.Reading.{UnlessMemory}
 use Rattle.rpki.specs.declared.repository.error.ValidationError.{ValidationError}
@@ -87,6 +87,25 @@ UnlessNoMemory (Verification e) P = P
 abbrev pub present : Bool → Option (Unit {0})
 present true = Some tt
 present false = None
+
+-- ---- what is found of an extension
+
+-- its value; the error says that it is another
+abbrev pub FindsOnly : {V : Type 0} → List ℕ → Bool → (V → List ℕ → Type 0) → List ExtensionParts
+    → Result (Option V) ValidationError → Type 0
+FindsOnly id critical G xs result = MatchResult result (HasOnly id critical G xs) (λ _. HasNone id critical G xs)
+
+-- the same where allocation can fail
+abbrev pub FindsKept : {V : Type 0} → List ℕ → Bool → (V → List ℕ → Type 0) → List ExtensionParts
+    → Result (Option V) ValidationError → Type 0
+FindsKept id critical G xs result =
+    MatchResult result (HasOnly id critical G xs) (λ e. UnlessNoMemory e (HasNone id critical G xs))
+
+-- that it is there; the error says that it is another
+abbrev pub FindsThere : List ℕ → Bool → (Unit {0} → List ℕ → Type 0) → List ExtensionParts
+    → Result Bool ValidationError → Type 0
+FindsThere id critical G xs result =
+    MatchResult result (λ b. HasOnly id critical G xs (present b)) (λ _. HasNone id critical G xs)
 
 -- ---- critical extensions
 

@@ -6,15 +6,20 @@ use Rattle.rpki.specs.declared.crypto.keys.PublicKeyFormat.TheVariants.{Rsa}
 use Rattle.rpki.specs.Provider.{Check, Verifies}
 use Rattle.rpki.specs.PublicKey.{KeyParts}
 use Rattle.rpki.specs.KeyIdentifier.{SpellsKeyIdentifier}
+use Rattle.rpki.specs.SignedData.{SignedParts}
 use Rattle.rpki_cert.specs.Cert.{TbsParts, CertParts, find}
 use Rattle.rpki_cert.specs.Known.{subject_key_identifier, authority_key_identifier, HasExtension, are_understood}
 use Rattle.rpki_cert.specs.ExtensionContent.{SpellsAuthority}
+
+-- the key, of RSA, has signed the signed octets
+abbrev pub IsSignedBy : {A : Type 0} → Check → Check → KeyParts → SignedParts A → Type 0
+IsSignedBy rsa ecdsa key signed = Verifies rsa ecdsa Rsa key.format key.bits.octets signed.signed signed.value
 
 -- The key has signed the signed octets, the period holds, the issuer has this name, no unknown extension is critical
 -- (RFC 5280 4.2), and the subject key identifier is that of the subject's key (RFC 6487 4.8.2).
 pub record IsSigned (rsa ecdsa : Check) (sha1 : List ℕ → List ℕ) (name : List ℕ) (key : KeyParts) (at : DateTime)
     (x : CertParts) : Type 0 where
-  pub signature : Verifies rsa ecdsa Rsa key.format key.bits.octets x.signed.signed x.signed.value
+  pub signature : IsSignedBy rsa ecdsa key x.signed
   pub period : HoldsAt x.tbs.validity at
   pub issuer : x.tbs.issuer ≡ name
   pub understood : IsTrue (are_understood x.tbs.extensions)

@@ -5,7 +5,7 @@ use Rattle.rpki_der.specs.Reading.{Accepts, Refuses, SpellsNothing}
 use Rattle.rpki_der.specs.Values.{SpellsContents, SpellsLeaf}
 use Rattle.rpki_der.specs.Each.{SpellsEach, SpellsSome}
 use Rattle.rpki_der.specs.Members.{SpellsValue}
-use Rattle.rpki_der.specs.Parts.{Then}
+use Rattle.rpki_der.specs.Parts.{Then, SpellsBoth}
 use Rattle.rpki_time.specs.Serial.{SpellsSerial}
 use Rattle.rpki_time.specs.PeriodValue.{SpellsPeriod}
 use Rattle.rpki.specs.Name.{SpellsNameOctets}
@@ -99,6 +99,11 @@ pub record IsKeyedIn (s : List ℕ) (k : Keyed) (key : KeyParts) (xs : List Exte
   pub contents : List ℕ
   pub each : SpellsEach SpellsExtension xs contents
   pub list_at : IsSection s k.extensions contents
+
+-- all of s is a key and extensions, which stand at the sections
+abbrev pub IsKeyedAt : List ℕ → Keyed → Type 0
+IsKeyedAt s k =
+    (key : KeyParts) × (xs : List ExtensionParts) × SpellsBoth SpellsKey SpellsExtensions key xs s × IsKeyedIn s k key xs
 
 -- the fields from the issuer on stand at the sections
 pub record IsNamedIn (s : List ℕ) (n : Named) (t : TbsParts) : Type 0 where

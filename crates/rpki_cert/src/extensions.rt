@@ -4,11 +4,10 @@ ghost use Rattle.std.specs.Prelude.{◌≡◌, [], None, Some, IfOk, IfSome, IfN
 ghost use Rattle.rpki_der.specs.Cursor.{left};
 ghost use Rattle.rpki_der.specs.Reading.{Reads};
 ghost use Rattle.rpki_der.specs.FirstFault.{ReadsParts};
-ghost use Rattle.rpki_der.specs.Each.{SpellsEach, IsEachFault};
+ghost use Rattle.rpki_der.specs.Each.{SpellsEach};
 ghost use Rattle.rpki.specs.ExtensionValue.{SpellsExtension};
-ghost use Rattle.rpki.specs.ExtensionFault.{IsKeptExtensionFault};
 ghost use Rattle.rpki_cert.specs.Cert.{find, are_unique, AreExtensions, SpellsExtensionList, SpellsExtensions};
-ghost use Rattle.rpki_cert.specs.CertFault.{AreExtensionsFault, IsExtensionListFault, IsExtensionsFault};
+ghost use Rattle.rpki_cert.specs.CertFault.{IsEachExtensionFault, AreExtensionsFault, IsExtensionListFault, IsExtensionsFault};
 
 use rpki::der::{Class, Constructed, ContentError, DecodeError, Oid, Tag};
 use rpki::repository::x509::CertExtension;
@@ -46,8 +45,8 @@ fn take_each(
     alloc: Global,
     contents: &mut Constructed<'_>,
 ) -> Result<Vec<CertExtension>, DecodeError>
-    ensures reads { ReadsParts (λ v. v.items) (SpellsEach SpellsExtension)
-        (IsEachFault SpellsExtension IsKeptExtensionFault) (left contents.old) (left contents.new) result }
+    ensures reads { ReadsParts (λ v. v.items) (SpellsEach SpellsExtension) IsEachExtensionFault (left contents.old)
+        (left contents.new) result }
     ensures end { IfOk result (λ _. left contents.new ≡ []) }
 {
     contents.take_each(alloc, |rest| CertExtension::take_from(alloc, rest))

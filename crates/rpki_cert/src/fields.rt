@@ -1,12 +1,9 @@
 //! What is signed of a certificate, read in place without memory (RFC 5280 4.1.2).
 
-ghost use Rattle.std.specs.Prelude.{◌≡◌, List, ℕ, IfOk, IfErr};
+ghost use Rattle.std.specs.Prelude.{◌≡◌, IfOk, IfErr};
 ghost use Rattle.rpki_der.specs.Cursor.{left};
-ghost use Rattle.rpki_der.specs.Parts.{SpellsBoth};
-ghost use Rattle.rpki.specs.PublicKey.{KeyParts, SpellsKey};
-ghost use Rattle.rpki.specs.ExtensionValue.{ExtensionParts};
-ghost use Rattle.rpki_cert.specs.Cert.{TbsParts, SpellsExtensions, AreFields, fields_of, SpellsTbs};
-ghost use Rattle.rpki_cert.specs.View.{TakesName, IsKeyedIn, IsNamedIn, IsTbsIn, AreNamed, AreKeyedWrong, AreNamedWrong, AreFieldsWrong, IsTbsWrong};
+ghost use Rattle.rpki_cert.specs.Cert.{TbsParts, AreFields, fields_of, SpellsTbs};
+ghost use Rattle.rpki_cert.specs.View.{TakesName, IsKeyedAt, IsNamedIn, IsTbsIn, AreNamed, AreKeyedWrong, AreNamedWrong, AreFieldsWrong, IsTbsWrong};
 
 use crate::cert_part::CertPart;
 use crate::listed::{only_in, read_extensions};
@@ -55,8 +52,7 @@ pub struct TbsView<'a> {
 
 /// The key and the extensions, which are all that is left.
 fn read_keyed<'a>(fields: Constructed<'a>) -> Result<Keyed<'a>, CertPart>
-    ensures ok { IfOk result (λ k. (key : KeyParts) × (xs : List ExtensionParts)
-        × SpellsBoth SpellsKey SpellsExtensions key xs (left fields.entry) × IsKeyedIn (left fields.entry) k key xs) }
+    ensures ok { IfOk result (λ k. IsKeyedAt (left fields.entry) k) }
     ensures err { IfErr result (λ q. AreKeyedWrong (left fields.entry) q) }
 {
     let octets = fields.rest();

@@ -6,7 +6,7 @@ ghost use Rattle.rpki_der.specs.Reading.{Decodes, IsWholeFault};
 ghost use Rattle.rpki.specs.KeyIdentifier.{IsKeyIdentifier, IsIdentifierFault};
 ghost use Rattle.rpki.specs.ExtensionValue.{ExtensionParts};
 ghost use Rattle.rpki_cert.specs.Cert.{find};
-ghost use Rattle.rpki_cert.specs.Known.{subject_key_identifier, key_usage, basic_constraints, authority_key_identifier, extended_key_usage, certificate_policies, present, HasOnly, HasNone, UnlessNoMemory};
+ghost use Rattle.rpki_cert.specs.Known.{subject_key_identifier, key_usage, basic_constraints, authority_key_identifier, extended_key_usage, certificate_policies, FindsOnly, FindsKept, FindsThere};
 ghost use Rattle.rpki_cert.specs.ExtensionContent.{SpellsConstraints, IsConstraintsFault, SpellsAuthority, IsAuthorityFault, SpellsUsage, IsUsageFault, SpellsPurposes, IsPurposesFault, SpellsPolicies, IsPoliciesFault};
 
 use crate::contents::{skip_constraints, take_authority};
@@ -102,8 +102,7 @@ impl TbsCert {
     ///
     /// Returns `Inspection` if the extension is critical; `Decoding` if its octets are another value.
     pub fn subject_key_identifier(&self) -> Result<Option<KeyIdentifier>, ValidationError>
-        ensures { MatchResult result (HasOnly subject_key_identifier false SpellsKeyIdentifier self.now.extensions)
-            (λ _. HasNone subject_key_identifier false SpellsKeyIdentifier self.now.extensions) }
+        ensures { FindsOnly subject_key_identifier false SpellsKeyIdentifier self.now.extensions result }
     {
         match find_as(self.extensions(), oid::CE_SUBJECT_KEY_IDENTIFIER, false)? {
             Some(extension) => match identifier_of(extension) {
@@ -119,8 +118,7 @@ impl TbsCert {
     ///
     /// Returns `Inspection` if the extension is critical; `Decoding` if its octets are another value.
     pub fn authority_key_identifier(&self) -> Result<Option<KeyIdentifier>, ValidationError>
-        ensures { MatchResult result (HasOnly authority_key_identifier false SpellsAuthority self.now.extensions)
-            (λ _. HasNone authority_key_identifier false SpellsAuthority self.now.extensions) }
+        ensures { FindsOnly authority_key_identifier false SpellsAuthority self.now.extensions result }
     {
         match find_as(self.extensions(), oid::CE_AUTHORITY_KEY_IDENTIFIER, false)? {
             Some(extension) => match authority_of(extension) {
@@ -136,8 +134,7 @@ impl TbsCert {
     ///
     /// Returns `Inspection` if the extension is not critical; `Decoding` if its octets are another value.
     pub fn basic_ca(&self) -> Result<bool, ValidationError>
-        ensures { MatchResult result (λ b. HasOnly basic_constraints true SpellsConstraints self.now.extensions
-            (present b)) (λ _. HasNone basic_constraints true SpellsConstraints self.now.extensions) }
+        ensures { FindsThere basic_constraints true SpellsConstraints self.now.extensions result }
     {
         match find_as(self.extensions(), oid::CE_BASIC_CONSTRAINTS, true)? {
             Some(extension) => match constraints_of(extension) {
@@ -153,8 +150,7 @@ impl TbsCert {
     ///
     /// Returns `Inspection` if the extension is not critical; `Decoding` if its octets are another value.
     pub fn key_usage(&self) -> Result<Option<KeyUsage>, ValidationError>
-        ensures { MatchResult result (HasOnly key_usage true SpellsUsage self.now.extensions)
-            (λ _. HasNone key_usage true SpellsUsage self.now.extensions) }
+        ensures { FindsOnly key_usage true SpellsUsage self.now.extensions result }
     {
         match find_as(self.extensions(), oid::CE_KEY_USAGE, true)? {
             Some(extension) => match usage_of(extension) {
@@ -171,8 +167,7 @@ impl TbsCert {
     /// Returns `Inspection` if the extension is critical; `Decoding` if its octets are another value, or if allocation
     /// fails.
     pub fn extended_key_usage(&self, alloc: Global) -> Result<Option<bool>, ValidationError>
-        ensures { MatchResult result (HasOnly extended_key_usage false SpellsPurposes self.now.extensions)
-            (λ e. UnlessNoMemory e (HasNone extended_key_usage false SpellsPurposes self.now.extensions)) }
+        ensures { FindsKept extended_key_usage false SpellsPurposes self.now.extensions result }
     {
         match find_as(self.extensions(), oid::CE_EXTENDED_KEY_USAGE, false)? {
             Some(extension) => match purposes_of(alloc, extension) {
@@ -188,8 +183,7 @@ impl TbsCert {
     ///
     /// Returns `Inspection` if the extension is not critical; `Decoding` if its octets are another value.
     pub fn overclaim(&self) -> Result<Option<Overclaim>, ValidationError>
-        ensures { MatchResult result (HasOnly certificate_policies true SpellsPolicies self.now.extensions)
-            (λ _. HasNone certificate_policies true SpellsPolicies self.now.extensions) }
+        ensures { FindsOnly certificate_policies true SpellsPolicies self.now.extensions result }
     {
         match find_as(self.extensions(), oid::CE_CERTIFICATE_POLICIES, true)? {
             Some(extension) => match overclaim_of(extension) {

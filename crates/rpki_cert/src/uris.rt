@@ -1,9 +1,8 @@
 //! Where things are, as a certificate says (RFC 6487 4.8.6 to 4.8.8).
 
-ghost use Rattle.std.specs.Prelude.{false, MatchResult};
 ghost use Rattle.rpki_der.specs.Reading.{Decodes, IsWholeFault};
-ghost use Rattle.rpki_cert.specs.Known.{crl_distribution_points, authority_info_access, subject_info_access, HasNone, UnlessNoMemory};
-ghost use Rattle.rpki_cert.specs.Access.{SpellsRsyncAccess, SpellsHttpsAccess, IsAccessesFault, SpellsPoints, IsPointsFault, HasUri, ca_issuers, ca_repository, rpki_manifest, signed_object, rpki_notify};
+ghost use Rattle.rpki_cert.specs.Known.{crl_distribution_points, authority_info_access, subject_info_access};
+ghost use Rattle.rpki_cert.specs.Access.{SpellsRsyncAccess, SpellsHttpsAccess, SpellsPoints, IsPointsFault, DecodesRsync, DecodesHttps, FindsUri, ca_issuers, ca_repository, rpki_manifest, signed_object, rpki_notify};
 
 use crate::access::{take_https_access, take_points, take_rsync_access};
 use crate::known::find_as;
@@ -21,8 +20,7 @@ fn rsync_of(
     extension: &CertExtension,
     method: ConstOid,
 ) -> Result<Option<Rsync>, DecodeError>
-    ensures { Decodes (λ u. u) (SpellsRsyncAccess method.entry.0.now) (IsWholeFault
-        (SpellsRsyncAccess method.entry.0.now) (IsAccessesFault method.entry.0.now)) extension.now.content result }
+    ensures { DecodesRsync method.entry.0.now extension.now.content result }
 {
     let mut cons = extension.cursor();
     let found = take_rsync_access(alloc, &mut cons, method)?;
@@ -36,8 +34,7 @@ fn https_of(
     extension: &CertExtension,
     method: ConstOid,
 ) -> Result<Option<Https>, DecodeError>
-    ensures { Decodes (λ u. u) (SpellsHttpsAccess method.entry.0.now) (IsWholeFault
-        (SpellsHttpsAccess method.entry.0.now) (IsAccessesFault method.entry.0.now)) extension.now.content result }
+    ensures { DecodesHttps method.entry.0.now extension.now.content result }
 {
     let mut cons = extension.cursor();
     let found = take_https_access(alloc, &mut cons, method)?;
@@ -59,8 +56,7 @@ fn rsync_at(
     id: ConstOid,
     method: ConstOid,
 ) -> Result<Option<Rsync>, ValidationError>
-    ensures { MatchResult result (HasUri id.entry.0.now (SpellsRsyncAccess method.entry.0.now) all.now)
-        (λ e. UnlessNoMemory e (HasNone id.entry.0.now false (SpellsRsyncAccess method.entry.0.now) all.now)) }
+    ensures { FindsUri id.entry.0.now (SpellsRsyncAccess method.entry.0.now) all.now result }
 {
     match find_as(all, id, false)? {
         Some(extension) => match rsync_of(alloc, extension, method) {
@@ -78,8 +74,7 @@ fn https_at(
     id: ConstOid,
     method: ConstOid,
 ) -> Result<Option<Https>, ValidationError>
-    ensures { MatchResult result (HasUri id.entry.0.now (SpellsHttpsAccess method.entry.0.now) all.now)
-        (λ e. UnlessNoMemory e (HasNone id.entry.0.now false (SpellsHttpsAccess method.entry.0.now) all.now)) }
+    ensures { FindsUri id.entry.0.now (SpellsHttpsAccess method.entry.0.now) all.now result }
 {
     match find_as(all, id, false)? {
         Some(extension) => match https_of(alloc, extension, method) {
@@ -97,8 +92,7 @@ impl TbsCert {
     /// Returns `Inspection` if the extension is critical; `Decoding` if its octets are another value, or if allocation
     /// fails.
     pub fn crl_uri(&self, alloc: Global) -> Result<Option<Rsync>, ValidationError>
-        ensures { MatchResult result (HasUri crl_distribution_points SpellsPoints self.now.extensions)
-            (λ e. UnlessNoMemory e (HasNone crl_distribution_points false SpellsPoints self.now.extensions)) }
+        ensures { FindsUri crl_distribution_points SpellsPoints self.now.extensions result }
     {
         match find_as(self.extensions(), oid::CE_CRL_DISTRIBUTION_POINTS, false)? {
             Some(extension) => match point_of(alloc, extension) {
@@ -115,9 +109,7 @@ impl TbsCert {
     /// Returns `Inspection` if the extension is critical; `Decoding` if its octets are another value, or if allocation
     /// fails.
     pub fn ca_issuer(&self, alloc: Global) -> Result<Option<Rsync>, ValidationError>
-        ensures { MatchResult result (HasUri authority_info_access (SpellsRsyncAccess ca_issuers) self.now.extensions)
-            (λ e. UnlessNoMemory e (HasNone authority_info_access false (SpellsRsyncAccess ca_issuers)
-            self.now.extensions)) }
+        ensures { FindsUri authority_info_access (SpellsRsyncAccess ca_issuers) self.now.extensions result }
     {
         rsync_at(
             alloc,
@@ -133,9 +125,7 @@ impl TbsCert {
     /// Returns `Inspection` if the extension is critical; `Decoding` if its octets are another value, or if allocation
     /// fails.
     pub fn ca_repository(&self, alloc: Global) -> Result<Option<Rsync>, ValidationError>
-        ensures { MatchResult result (HasUri subject_info_access (SpellsRsyncAccess ca_repository) self.now.extensions)
-            (λ e. UnlessNoMemory e (HasNone subject_info_access false (SpellsRsyncAccess ca_repository)
-            self.now.extensions)) }
+        ensures { FindsUri subject_info_access (SpellsRsyncAccess ca_repository) self.now.extensions result }
     {
         rsync_at(
             alloc,
@@ -151,9 +141,7 @@ impl TbsCert {
     /// Returns `Inspection` if the extension is critical; `Decoding` if its octets are another value, or if allocation
     /// fails.
     pub fn rpki_manifest(&self, alloc: Global) -> Result<Option<Rsync>, ValidationError>
-        ensures { MatchResult result (HasUri subject_info_access (SpellsRsyncAccess rpki_manifest) self.now.extensions)
-            (λ e. UnlessNoMemory e (HasNone subject_info_access false (SpellsRsyncAccess rpki_manifest)
-            self.now.extensions)) }
+        ensures { FindsUri subject_info_access (SpellsRsyncAccess rpki_manifest) self.now.extensions result }
     {
         rsync_at(
             alloc,
@@ -169,9 +157,7 @@ impl TbsCert {
     /// Returns `Inspection` if the extension is critical; `Decoding` if its octets are another value, or if allocation
     /// fails.
     pub fn signed_object(&self, alloc: Global) -> Result<Option<Rsync>, ValidationError>
-        ensures { MatchResult result (HasUri subject_info_access (SpellsRsyncAccess signed_object) self.now.extensions)
-            (λ e. UnlessNoMemory e (HasNone subject_info_access false (SpellsRsyncAccess signed_object)
-            self.now.extensions)) }
+        ensures { FindsUri subject_info_access (SpellsRsyncAccess signed_object) self.now.extensions result }
     {
         rsync_at(
             alloc,
@@ -187,9 +173,7 @@ impl TbsCert {
     /// Returns `Inspection` if the extension is critical; `Decoding` if its octets are another value, or if allocation
     /// fails.
     pub fn rpki_notify(&self, alloc: Global) -> Result<Option<Https>, ValidationError>
-        ensures { MatchResult result (HasUri subject_info_access (SpellsHttpsAccess rpki_notify) self.now.extensions)
-            (λ e. UnlessNoMemory e (HasNone subject_info_access false (SpellsHttpsAccess rpki_notify)
-            self.now.extensions)) }
+        ensures { FindsUri subject_info_access (SpellsHttpsAccess rpki_notify) self.now.extensions result }
     {
         https_at(
             alloc,

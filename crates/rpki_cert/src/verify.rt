@@ -3,11 +3,10 @@
 ghost use Rattle.std.specs.Prelude.{◌≡◌, ◌↔◌, ◌⊎◌, false, None, Option, IsOk, IsTrue};
 ghost use Rattle.rpki.specs.KeyIdentifier.{SpellsKeyIdentifier};
 ghost use Rattle.rpki_time.specs.Validity.{HoldsAt};
-ghost use Rattle.rpki.specs.Provider.{Verifies};
 ghost use Rattle.rpki_cert.specs.Cert.{find};
 ghost use Rattle.rpki_cert.specs.Known.{subject_key_identifier, authority_key_identifier, HasExtension, are_understood};
 ghost use Rattle.rpki_cert.specs.ExtensionContent.{SpellsAuthority};
-ghost use Rattle.rpki_cert.specs.Valid.{IsSigned, HasAuthority, IsIssued, IsAnchor};
+ghost use Rattle.rpki_cert.specs.Valid.{IsSignedBy, IsSigned, HasAuthority, IsIssued, IsAnchor};
 
 use crate::cert::Cert;
 use crate::extensions::find;
@@ -121,8 +120,7 @@ fn verify_signature<P: Provider>(
     provider: &P,
     key: &PublicKey,
 ) -> Result<(), ValidationError>
-    ensures { IsOk result ↔ Verifies (P.rsa_of provider.now) (P.ecdsa_of provider.now) PublicKeyFormat.Rsa
-        key.now.format key.now.bits.octets signed.now.signed signed.now.value }
+    ensures { IsOk result ↔ IsSignedBy (P.rsa_of provider.now) (P.ecdsa_of provider.now) key.now signed.now }
 {
     match signed.verify_signature(provider, key) {
         Ok(()) => Ok(()),
