@@ -71,14 +71,35 @@ abbrev pub policy_text : Overclaim → List ℕ
 policy_text Refuse = codes "ipAddr-asNumber"
 policy_text Trim = codes "ipAddr-asNumber-v2"
 
+-- the same of the one extension of this identifier and criticality, whose value is spelled like this
+abbrev pub SaysOnly : {V : Type 0} → List ℕ → Bool → (V → List ℕ → Type 0) → (V → List ℕ) → List ExtensionParts
+    → Option (List ℕ) → Type 0
+SaysOnly id critical G show xs o = Says (HasOnly id critical G xs) (HasNone id critical G xs) show o
+
+-- an extension, and what is shown of it
+abbrev pub IsSubjectText : List ExtensionParts → Option (List ℕ) → Type 0
+IsSubjectText = SaysOnly subject_key_identifier false SpellsKeyIdentifier colon_digits
+
+abbrev pub IsAuthorityText : List ExtensionParts → Option (List ℕ) → Type 0
+IsAuthorityText = SaysOnly authority_key_identifier false SpellsAuthority colon_digits
+
+abbrev pub IsConstraintsText : List ExtensionParts → Option (List ℕ) → Type 0
+IsConstraintsText = SaysOnly basic_constraints true SpellsConstraints authority_text
+
+abbrev pub IsUsageText : List ExtensionParts → Option (List ℕ) → Type 0
+IsUsageText = SaysOnly key_usage true SpellsUsage usage_text
+
+abbrev pub IsPurposesText : List ExtensionParts → Option (List ℕ) → Type 0
+IsPurposesText = SaysOnly extended_key_usage false SpellsPurposes purposes_text
+
+abbrev pub IsPolicyText : List ExtensionParts → Option (List ℕ) → Type 0
+IsPolicyText = SaysOnly certificate_policies true SpellsPolicies policy_text
+
 -- the identifiers of the keys of the subject and of the issuer
 abbrev pub AreIdentifiers : Form → List ExtensionParts → List ℕ → Type 0
 AreIdentifiers form xs text =
     (subject : Option (List ℕ)) × (authority : Option (List ℕ))
-    × Says (HasOnly subject_key_identifier false SpellsKeyIdentifier xs)
-    (HasNone subject_key_identifier false SpellsKeyIdentifier xs) colon_digits subject
-    × Says (HasOnly authority_key_identifier false SpellsAuthority xs)
-    (HasNone authority_key_identifier false SpellsAuthority xs) colon_digits authority
+    × IsSubjectText xs subject × IsAuthorityText xs authority
     × (text ≡ field_if form (codes "Subject Key Identifier") subject
     ++ field_if form (codes "Authority Key Identifier") authority)
 
@@ -87,13 +108,8 @@ abbrev pub AreUses : Form → List ExtensionParts → List ℕ → Type 0
 AreUses form xs text =
     (constraints : Option (List ℕ)) × (usage : Option (List ℕ)) × (purposes : Option (List ℕ))
     × (policies : Option (List ℕ))
-    × Says (HasOnly basic_constraints true SpellsConstraints xs) (HasNone basic_constraints true SpellsConstraints xs)
-    authority_text constraints
-    × Says (HasOnly key_usage true SpellsUsage xs) (HasNone key_usage true SpellsUsage xs) usage_text usage
-    × Says (HasOnly extended_key_usage false SpellsPurposes xs) (HasNone extended_key_usage false SpellsPurposes xs)
-    purposes_text purposes
-    × Says (HasOnly certificate_policies true SpellsPolicies xs) (HasNone certificate_policies true SpellsPolicies xs)
-    policy_text policies
+    × IsConstraintsText xs constraints × IsUsageText xs usage × IsPurposesText xs purposes
+    × IsPolicyText xs policies
     × (text ≡ field_if form (codes "Basic Constraints") constraints ++ field_if form (codes "Key Usage") usage
     ++ field_if form (codes "Extended Key Usage") purposes ++ field_if form (codes "Certificate Policies") policies)
 

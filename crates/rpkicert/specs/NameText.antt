@@ -3,7 +3,8 @@
 use Rattle.std.specs.Prelude.{◌≡◌, ℕ, nat_eq, nat_lt, ◌||◌, if◌then◌else◌, List, [], ◌∷◌, ◌++◌, drop, codes, bytes_eq, slice_index, Bool}
 use Rattle.std.specs.List.{flat_map}
 use Rattle.rpki_der.specs.Front.{front_contents}
-use Rattle.rpki.specs.Name.{Attribute, SpellsName}
+use Rattle.rpki_der.specs.Reading.{Spells}
+use Rattle.rpki.specs.Name.{Attribute, SpellsSome, SpellsRelative, SpellsName}
 use Rattle.rpkicert.specs.Field.{hex_pair}
 use Rattle.rpkicert.specs.ValueText.{hex_digits}
 
@@ -61,6 +62,14 @@ comma_relative attributes = codes ", " ++ relative_text attributes
 -- the relative distinguished names, with a comma between two of them
 abbrev pub parts_text : List (List Attribute) → List ℕ
 parts_text parts = drop 2 (flat_map comma_relative parts)
+
+-- a relative distinguished name in front of r is all that is added to a text
+abbrev pub AddsRelative : (s r old new : List ℕ) → Type 0
+AddsRelative s r old new = (xs : List Attribute) × Spells SpellsRelative s xs r × (new ≡ old ++ comma_relative xs)
+
+-- the relative distinguished names that are all of s, each after a comma
+abbrev pub AreRelatives : List ℕ → List ℕ → Type 0
+AreRelatives s text = (parts : List (List Attribute)) × SpellsSome SpellsRelative parts s × (text ≡ flat_map comma_relative parts)
 
 -- the text of the name that the octets are
 abbrev pub IsNameText : List ℕ → List ℕ → Type 0

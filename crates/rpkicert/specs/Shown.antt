@@ -1,5 +1,5 @@
 -- What is shown of a file, and of a run.
-use Rattle.std.specs.Prelude.{◌≡◌, ◌⊎◌, ℕ, nat_lt, nat_eq, ◌||◌, max, if◌then◌else◌, List, [], ◌∷◌, ◌++◌, codes, Option, Some, None, Result, Ok, Err}
+use Rattle.std.specs.Prelude.{◌≡◌, ◌⊎◌, ℕ, nat_lt, nat_eq, ◌||◌, max, if◌then◌else◌, List, [], ◌∷◌, ◌++◌, codes, Option, Some, None, Result, Ok, Err, IfSome}
 use Rattle.std.specs.Io.KnownBytes.{Appends}
 use Rattle.std.specs.List.{flat_map}
 use Rattle.rpki_der.specs.Written.{AppendsBeginning, AppendsCut}
@@ -10,6 +10,7 @@ use Rattle.rpkicert.specs.Field.{hex_pair, json_text, field}
 use Rattle.rpkicert.specs.CertText.{AreFields}
 use Rattle.rpkicert.specs.Fault.{fault_text, status_of}
 use Rattle.rpkicert.specs.Finding.{Finding, Finds}
+use Rattle.rpkicert.specs.Request.{Asked}
 
 -- ---- a file
 
@@ -98,3 +99,11 @@ pub data IsRun (P : List ℕ → ShownParts → Type 0) (names : List (List ℕ)
       → status ≡ worst all → IsRun P names old new was is status
   Cut : (front rest : List (List ℕ)) → (all : List ShownParts) → names ≡ front ++ rest → AreSeen P front all
       → AreCut old new was is (outputs all) (faults all) → status ≡ 2 → IsRun P names old new was is status
+
+-- what is seen of the file of this name, where it is known what files hold
+abbrev pub Sees : (List ℕ → Option (Option (List ℕ))) → Asked → List ℕ → ShownParts → Type 0
+Sees holds a name s = IfSome (holds name) (λ source. IsSeen a.form a.profile name source s)
+
+-- the run of what is asked for
+abbrev pub IsRunOf : (List ℕ → Option (Option (List ℕ))) → (old new was is : Option (List ℕ)) → ℕ → Asked → Type 0
+IsRunOf holds old new was is status a = IsRun (Sees holds a) a.files old new was is status

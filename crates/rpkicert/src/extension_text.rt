@@ -1,12 +1,8 @@
 //! What is printed of extensions: key identifiers, and what the key is for.
 
-ghost use Rattle.std.specs.Prelude.{◌≡◌, codes, true, false, IfOk, Some};
+ghost use Rattle.std.specs.Prelude.{◌≡◌, codes, IfOk, Some};
 ghost use Rattle.std.specs.Option.{option_map};
-ghost use Rattle.rpki.specs.KeyIdentifier.{SpellsKeyIdentifier};
-ghost use Rattle.rpki_cert.specs.Known.{subject_key_identifier, authority_key_identifier, basic_constraints, key_usage, extended_key_usage, certificate_policies, HasOnly, HasNone};
-ghost use Rattle.rpki_cert.specs.ExtensionContent.{SpellsAuthority, SpellsConstraints, SpellsUsage, SpellsPurposes, SpellsPolicies};
-ghost use Rattle.rpkicert.specs.ValueText.{colon_digits};
-ghost use Rattle.rpkicert.specs.CertText.{Says, authority_text, usage_text, purposes_text, policy_text, AreIdentifiers, AreUses};
+ghost use Rattle.rpkicert.specs.CertText.{usage_text, purposes_text, policy_text, IsSubjectText, IsAuthorityText, IsConstraintsText, IsUsageText, IsPurposesText, IsPolicyText, AreIdentifiers, AreUses};
 
 use crate::field::{Form, push_field_if};
 use crate::memory::is_memory;
@@ -24,9 +20,7 @@ pub fn malformed(alloc: Global) -> Result<Option<Vec<u8>>, AllocError>
 
 /// What is shown of the subject key identifier.
 fn subject_identifier(alloc: Global, tbs: &TbsCert) -> Result<Option<Vec<u8>>, AllocError>
-    ensures { IfOk result (λ o. Says (HasOnly subject_key_identifier false SpellsKeyIdentifier tbs.now.extensions)
-        (HasNone subject_key_identifier false SpellsKeyIdentifier tbs.now.extensions) colon_digits
-        (option_map (λ v. v.items) o)) }
+    ensures { IfOk result (λ o. IsSubjectText tbs.now.extensions (option_map (λ v. v.items) o)) }
 {
     match tbs.subject_key_identifier() {
         Ok(Some(identifier)) => {
@@ -40,9 +34,7 @@ fn subject_identifier(alloc: Global, tbs: &TbsCert) -> Result<Option<Vec<u8>>, A
 
 /// What is shown of the authority key identifier.
 fn authority_identifier(alloc: Global, tbs: &TbsCert) -> Result<Option<Vec<u8>>, AllocError>
-    ensures { IfOk result (λ o. Says (HasOnly authority_key_identifier false SpellsAuthority tbs.now.extensions)
-        (HasNone authority_key_identifier false SpellsAuthority tbs.now.extensions) colon_digits
-        (option_map (λ v. v.items) o)) }
+    ensures { IfOk result (λ o. IsAuthorityText tbs.now.extensions (option_map (λ v. v.items) o)) }
 {
     match tbs.authority_key_identifier() {
         Ok(Some(identifier)) => {
@@ -68,9 +60,7 @@ pub fn identifiers(alloc: Global, form: Form, tbs: &TbsCert) -> Result<Vec<u8>, 
 
 /// What is shown of the basic constraints.
 fn constraints(alloc: Global, tbs: &TbsCert) -> Result<Option<Vec<u8>>, AllocError>
-    ensures { IfOk result (λ o. Says (HasOnly basic_constraints true SpellsConstraints tbs.now.extensions)
-        (HasNone basic_constraints true SpellsConstraints tbs.now.extensions) authority_text
-        (option_map (λ v. v.items) o)) }
+    ensures { IfOk result (λ o. IsConstraintsText tbs.now.extensions (option_map (λ v. v.items) o)) }
 {
     match tbs.basic_ca() {
         Ok(true) => {
@@ -94,8 +84,7 @@ fn usage_text(usage: KeyUsage) -> &'static [u8]
 
 /// What is shown of the key usage.
 fn usage(alloc: Global, tbs: &TbsCert) -> Result<Option<Vec<u8>>, AllocError>
-    ensures { IfOk result (λ o. Says (HasOnly key_usage true SpellsUsage tbs.now.extensions)
-        (HasNone key_usage true SpellsUsage tbs.now.extensions) usage_text (option_map (λ v. v.items) o)) }
+    ensures { IfOk result (λ o. IsUsageText tbs.now.extensions (option_map (λ v. v.items) o)) }
 {
     match tbs.key_usage() {
         Ok(Some(usage)) => {
@@ -116,9 +105,7 @@ fn purposes_text(router: bool) -> &'static [u8]
 
 /// What is shown of the extended key usage.
 fn purposes(alloc: Global, tbs: &TbsCert) -> Result<Option<Vec<u8>>, AllocError>
-    ensures { IfOk result (λ o. Says (HasOnly extended_key_usage false SpellsPurposes tbs.now.extensions)
-        (HasNone extended_key_usage false SpellsPurposes tbs.now.extensions) purposes_text
-        (option_map (λ v. v.items) o)) }
+    ensures { IfOk result (λ o. IsPurposesText tbs.now.extensions (option_map (λ v. v.items) o)) }
 {
     match tbs.extended_key_usage(alloc) {
         Ok(Some(router)) => {
@@ -147,9 +134,7 @@ fn policy_text(policy: Overclaim) -> &'static [u8]
 
 /// What is shown of the certificate policies.
 fn policies(alloc: Global, tbs: &TbsCert) -> Result<Option<Vec<u8>>, AllocError>
-    ensures { IfOk result (λ o. Says (HasOnly certificate_policies true SpellsPolicies tbs.now.extensions)
-        (HasNone certificate_policies true SpellsPolicies tbs.now.extensions) policy_text
-        (option_map (λ v. v.items) o)) }
+    ensures { IfOk result (λ o. IsPolicyText tbs.now.extensions (option_map (λ v. v.items) o)) }
 {
     match tbs.overclaim() {
         Ok(Some(policy)) => {

@@ -5,8 +5,8 @@ ghost use Rattle.std.specs.List.{flat_map};
 ghost use Rattle.rpki_der.specs.Cursor.{left};
 ghost use Rattle.rpki_der.specs.Reading.{Spells};
 ghost use Rattle.rpki_der.specs.Front.{front_contents};
-ghost use Rattle.rpki.specs.Name.{Attribute, attribute_of, SpellsAttribute, SpellsSome, SpellsRelative};
-ghost use Rattle.rpkicert.specs.NameText.{attribute_name, is_special, name_octet, value_text, plus_attribute, comma_relative, IsNameText};
+ghost use Rattle.rpki.specs.Name.{Attribute, attribute_of, SpellsAttribute, SpellsSome};
+ghost use Rattle.rpkicert.specs.NameText.{attribute_name, is_special, name_octet, value_text, plus_attribute, AddsRelative, AreRelatives, IsNameText};
 ghost use Rattle.rpkicert.specs.ValueText.{hex_digits};
 
 use crate::field::hex_pair;
@@ -185,8 +185,7 @@ fn push_relative(
     text: &mut Vec<u8>,
     cons: &mut Constructed<'_>,
 ) -> Result<(), DecodeError>
-    ensures { OnOk result ((xs : List Attribute) × Spells SpellsRelative (left cons.old) xs (left cons.new)
-        × (text.new.items ≡ text.old.items ++ comma_relative xs)) }
+    ensures { OnOk result (AddsRelative (left cons.old) (left cons.new) text.old.items text.new.items) }
 {
     let mut contents = cons.take_set()?;
     let attributes = attributes_text(alloc, &mut contents)?;
@@ -197,8 +196,7 @@ fn push_relative(
 
 /// The relative distinguished names that these contents are, each after a comma.
 fn relatives_text(alloc: Global, contents: &mut Constructed<'_>) -> Result<Vec<u8>, DecodeError>
-    ensures { IfOk result (λ text. (parts : List (List Attribute))
-        × SpellsSome SpellsRelative parts (left contents.old) × (text.items ≡ flat_map comma_relative parts)) }
+    ensures { IfOk result (λ text. AreRelatives (left contents.old) text.items) }
 {
     if contents.is_empty() {
         return Err(DecodeError::Unexpected);
