@@ -2,6 +2,7 @@
 
 ghost use Rattle.std.specs.Prelude.{◌≡◌, Bool, List, ℕ, true, false, Option, Some, None, IfOk, IfErr, IfSome, IfNone, MatchResult};
 ghost use Rattle.rpki.specs.KeyIdentifier.{SpellsKeyIdentifier};
+ghost use Rattle.rpki_der.specs.Cursor.{left};
 ghost use Rattle.rpki_der.specs.Reading.{Decodes, IsWholeFault};
 ghost use Rattle.rpki.specs.KeyIdentifier.{IsKeyIdentifier, IsIdentifierFault};
 ghost use Rattle.rpki.specs.ExtensionValue.{ExtensionParts};
@@ -16,7 +17,7 @@ use crate::policy::Overclaim;
 use crate::purposes::take_purposes;
 use crate::tbs::TbsCert;
 use rpki::crypto::KeyIdentifier;
-use rpki::der::{ConstOid, ContentError, DecodeError};
+use rpki::der::{ConstOid, Constructed, ContentError, DecodeError};
 use rpki::oid;
 use rpki::repository::error::{InspectionError, ValidationError};
 use rpki::repository::x509::CertExtension;
@@ -47,37 +48,35 @@ pub fn find_as<'a>(
     }
 }
 
-/// The key identifier that the octets of the extension are.
-fn identifier_of(extension: &CertExtension) -> Result<KeyIdentifier, DecodeError>
+/// The key identifier that the octets are.
+pub fn identifier_of(octets: Constructed<'_>) -> Result<KeyIdentifier, DecodeError>
     ensures { Decodes (λ k. k) SpellsKeyIdentifier (IsWholeFault SpellsKeyIdentifier
-        (IsIdentifierFault IsKeyIdentifier)) extension.now.content result }
+        (IsIdentifierFault IsKeyIdentifier)) (left octets.entry) result }
 {
-    extension
-        .cursor()
-        .whole(|cons| KeyIdentifier::take_from(cons))
+    octets.whole(|cons| KeyIdentifier::take_from(cons))
 }
 
-/// The key identifier of an issuer that the octets of the extension are.
-fn authority_of(extension: &CertExtension) -> Result<KeyIdentifier, DecodeError>
-    ensures { Decodes (λ k. k) SpellsAuthority (IsWholeFault SpellsAuthority IsAuthorityFault) extension.now.content
+/// The key identifier of an issuer that the octets are.
+pub fn authority_of(octets: Constructed<'_>) -> Result<KeyIdentifier, DecodeError>
+    ensures { Decodes (λ k. k) SpellsAuthority (IsWholeFault SpellsAuthority IsAuthorityFault) (left octets.entry)
         result }
 {
-    extension.cursor().whole(|cons| take_authority(cons))
+    octets.whole(|cons| take_authority(cons))
 }
 
-/// Whether the octets of the extension are the basic constraints of a certification authority.
-fn constraints_of(extension: &CertExtension) -> Result<(), DecodeError>
+/// Whether the octets are the basic constraints of a certification authority.
+pub fn constraints_of(octets: Constructed<'_>) -> Result<(), DecodeError>
     ensures { Decodes (λ _. tt) SpellsConstraints (IsWholeFault SpellsConstraints IsConstraintsFault)
-        extension.now.content result }
+        (left octets.entry) result }
 {
-    extension.cursor().whole(|cons| skip_constraints(cons))
+    octets.whole(|cons| skip_constraints(cons))
 }
 
-/// The use that the octets of the extension name.
-fn usage_of(extension: &CertExtension) -> Result<KeyUsage, DecodeError>
-    ensures { Decodes (λ u. u) SpellsUsage (IsWholeFault SpellsUsage IsUsageFault) extension.now.content result }
+/// The use that the octets name.
+pub fn usage_of(octets: Constructed<'_>) -> Result<KeyUsage, DecodeError>
+    ensures { Decodes (λ u. u) SpellsUsage (IsWholeFault SpellsUsage IsUsageFault) (left octets.entry) result }
 {
-    extension.cursor().whole(|cons| KeyUsage::take_from(cons))
+    octets.whole(|cons| KeyUsage::take_from(cons))
 }
 
 /// Whether the octets of the extension name the purpose of a BGPsec router.
@@ -88,12 +87,12 @@ fn purposes_of(alloc: Global, extension: &CertExtension) -> Result<bool, DecodeE
     extension.cursor().whole(|cons| take_purposes(alloc, cons))
 }
 
-/// The policy that the octets of the extension name.
-fn overclaim_of(extension: &CertExtension) -> Result<Overclaim, DecodeError>
-    ensures { Decodes (λ p. p) SpellsPolicies (IsWholeFault SpellsPolicies IsPoliciesFault) extension.now.content
+/// The policy that the octets name.
+pub fn overclaim_of(octets: Constructed<'_>) -> Result<Overclaim, DecodeError>
+    ensures { Decodes (λ p. p) SpellsPolicies (IsWholeFault SpellsPolicies IsPoliciesFault) (left octets.entry)
         result }
 {
-    extension.cursor().whole(|cons| Overclaim::take_from(cons))
+    octets.whole(|cons| Overclaim::take_from(cons))
 }
 
 impl TbsCert {
@@ -105,7 +104,7 @@ impl TbsCert {
         ensures { FindsOnly subject_key_identifier false SpellsKeyIdentifier self.now.extensions result }
     {
         match find_as(self.extensions(), oid::CE_SUBJECT_KEY_IDENTIFIER, false)? {
-            Some(extension) => match identifier_of(extension) {
+            Some(extension) => match identifier_of(extension.cursor()) {
                 Ok(found) => Ok(Some(found)),
                 Err(e) => Err(ValidationError::Decoding(e)),
             },
@@ -121,7 +120,7 @@ impl TbsCert {
         ensures { FindsOnly authority_key_identifier false SpellsAuthority self.now.extensions result }
     {
         match find_as(self.extensions(), oid::CE_AUTHORITY_KEY_IDENTIFIER, false)? {
-            Some(extension) => match authority_of(extension) {
+            Some(extension) => match authority_of(extension.cursor()) {
                 Ok(found) => Ok(Some(found)),
                 Err(e) => Err(ValidationError::Decoding(e)),
             },
@@ -137,7 +136,7 @@ impl TbsCert {
         ensures { FindsThere basic_constraints true SpellsConstraints self.now.extensions result }
     {
         match find_as(self.extensions(), oid::CE_BASIC_CONSTRAINTS, true)? {
-            Some(extension) => match constraints_of(extension) {
+            Some(extension) => match constraints_of(extension.cursor()) {
                 Ok(()) => Ok(true),
                 Err(e) => Err(ValidationError::Decoding(e)),
             },
@@ -153,7 +152,7 @@ impl TbsCert {
         ensures { FindsOnly key_usage true SpellsUsage self.now.extensions result }
     {
         match find_as(self.extensions(), oid::CE_KEY_USAGE, true)? {
-            Some(extension) => match usage_of(extension) {
+            Some(extension) => match usage_of(extension.cursor()) {
                 Ok(found) => Ok(Some(found)),
                 Err(e) => Err(ValidationError::Decoding(e)),
             },
@@ -186,7 +185,7 @@ impl TbsCert {
         ensures { FindsOnly certificate_policies true SpellsPolicies self.now.extensions result }
     {
         match find_as(self.extensions(), oid::CE_CERTIFICATE_POLICIES, true)? {
-            Some(extension) => match overclaim_of(extension) {
+            Some(extension) => match overclaim_of(extension.cursor()) {
                 Ok(found) => Ok(Some(found)),
                 Err(e) => Err(ValidationError::Decoding(e)),
             },

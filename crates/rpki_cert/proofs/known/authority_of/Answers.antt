@@ -4,4 +4,4 @@ use Rattle.rpki_cert.specs.ExtensionContent.{SpellsAuthority, IsAuthorityFault}
 use Rattle.rpki_cert.proofs.known.authority_of.Goals as goal
 
 pub returns : goal.returns
-returns c = read-whole (λ k. k) SpellsAuthority IsAuthorityFault _ (λ b a x h. search rules) _ _ (rw c.cursor.ensures at c.whole.ensures)
+returns c = read-whole (λ k. k) SpellsAuthority IsAuthorityFault _ (λ b a x h. search rules) _ _ c.whole.ensures

@@ -4,4 +4,4 @@ use Rattle.rpki_cert.specs.ExtensionContent.{SpellsConstraints, IsConstraintsFau
 use Rattle.rpki_cert.proofs.known.constraints_of.Goals as goal
 
 pub returns : goal.returns
-returns c = read-whole (λ _. tt) SpellsConstraints IsConstraintsFault _ (λ b a x h. search rules) _ _ (rw c.cursor.ensures at c.whole.ensures)
+returns c = read-whole (λ _. tt) SpellsConstraints IsConstraintsFault _ (λ b a x h. search rules) _ _ c.whole.ensures

@@ -4,4 +4,4 @@ use Rattle.rpki_cert.specs.ExtensionContent.{SpellsPolicies, IsPoliciesFault}
 use Rattle.rpki_cert.proofs.known.overclaim_of.Goals as goal
 
 pub returns : goal.returns
-returns c = read-whole (λ p. p) SpellsPolicies IsPoliciesFault _ (λ b a x h. search rules) _ _ (rw c.cursor.ensures at c.whole.ensures)
+returns c = read-whole (λ p. p) SpellsPolicies IsPoliciesFault _ (λ b a x h. search rules) _ _ c.whole.ensures

@@ -22,14 +22,14 @@ pub returns-in-Ok : goal.returns-in-Ok
 returns-in-Ok c =
     let xs = c.args.self.now.extensions in
     let some = rw (c.extensions.ensures, c.in-Some.is) at c.in_ok-extension.ensures.some in
-    only-value authority_key_identifier false SpellsAuthority xs c.in-Some.extension.now c.in-Ok.found some c.in-Ok.ensures
+    only-value authority_key_identifier false SpellsAuthority xs c.in-Some.extension.now c.in-Ok.found some (rw c.cursor.ensures at c.in-Ok.ensures)
 
 pub returns-in-Err : goal.returns-in-Err
 returns-in-Err c =
     let xs = c.args.self.now.extensions in
     let some = rw (c.extensions.ensures, c.in-Some.is) at c.in_ok-extension.ensures.some in
     not-read authority_key_identifier false SpellsAuthority xs IsAuthorityFault c.in-Some.extension.now c.in-Err.e some (λ h. inside-no-memory sequence true (FirstFault SpellsTagged IsTaggedFault (λ v. IsEndFault)) c.in-Some.extension.now.content
-    (λ d k. first-no-memory SpellsTagged IsTaggedFault (λ v. IsEndFault) d (λ l. leaf-no-memory identifier_tag false IsKeyIdentifier d OutOfMemory l refl) (λ v r l. end-no-memory r l) k) h) c.in-Err.ensures
+    (λ d k. first-no-memory SpellsTagged IsTaggedFault (λ v. IsEndFault) d (λ l. leaf-no-memory identifier_tag false IsKeyIdentifier d OutOfMemory l refl) (λ v r l. end-no-memory r l) k) h) (rw c.cursor.ensures at c.in-Err.ensures)
 
 pub returns-in-None : goal.returns-in-None
 returns-in-None c =

@@ -19,13 +19,13 @@ pub returns-in-Ok : goal.returns-in-Ok
 returns-in-Ok c =
     let xs = c.args.self.now.extensions in
     let some = rw (c.extensions.ensures, c.in-Some.is) at c.in_ok-extension.ensures.some in
-    only-value key_usage true SpellsUsage xs c.in-Some.extension.now c.in-Ok.found some c.in-Ok.ensures
+    only-value key_usage true SpellsUsage xs c.in-Some.extension.now c.in-Ok.found some (rw c.cursor.ensures at c.in-Ok.ensures)
 
 pub returns-in-Err : goal.returns-in-Err
 returns-in-Err c =
     let xs = c.args.self.now.extensions in
     let some = rw (c.extensions.ensures, c.in-Some.is) at c.in_ok-extension.ensures.some in
-    not-read key_usage true SpellsUsage xs IsUsageFault c.in-Some.extension.now c.in-Err.e some (λ h. leaf-no-memory bit_string false IsUsage c.in-Some.extension.now.content OutOfMemory h refl) c.in-Err.ensures
+    not-read key_usage true SpellsUsage xs IsUsageFault c.in-Some.extension.now c.in-Err.e some (λ h. leaf-no-memory bit_string false IsUsage c.in-Some.extension.now.content OutOfMemory h refl) (rw c.cursor.ensures at c.in-Err.ensures)
 
 pub returns-in-None : goal.returns-in-None
 returns-in-None c =

@@ -16,13 +16,13 @@ pub returns-in-Ok : goal.returns-in-Ok
 returns-in-Ok c =
     let xs = c.args.self.now.extensions in
     let some = rw (c.extensions.ensures, c.in-Some.is) at c.in_ok-extension.ensures.some in
-    only-value certificate_policies true SpellsPolicies xs c.in-Some.extension.now c.in-Ok.found some c.in-Ok.ensures
+    only-value certificate_policies true SpellsPolicies xs c.in-Some.extension.now c.in-Ok.found some (rw c.cursor.ensures at c.in-Ok.ensures)
 
 pub returns-in-Err : goal.returns-in-Err
 returns-in-Err c =
     let xs = c.args.self.now.extensions in
     let some = rw (c.extensions.ensures, c.in-Some.is) at c.in_ok-extension.ensures.some in
-    not-read certificate_policies true SpellsPolicies xs IsPoliciesFault c.in-Some.extension.now c.in-Err.e some (λ h. policies-no-memory c.in-Some.extension.now.content h) c.in-Err.ensures
+    not-read certificate_policies true SpellsPolicies xs IsPoliciesFault c.in-Some.extension.now c.in-Err.e some (λ h. policies-no-memory c.in-Some.extension.now.content h) (rw c.cursor.ensures at c.in-Err.ensures)
 
 pub returns-in-None : goal.returns-in-None
 returns-in-None c =

@@ -1,0 +1,22 @@
+use Rattle.std.proofs.Common.{true, false, refl}
+use Rattle.rpki_der.specs.declared.error.DecodeError.TheVariants.{OutOfMemory}
+use Rattle.rpki_der.specs.TagName.{bit_string}
+use Rattle.rpki_der.proofs.LeavesLaws.{leaf-no-memory}
+use Rattle.rpki_cert.specs.ExtensionContent.{IsUsage, SpellsUsage, IsUsageFault}
+use Rattle.rpki_cert.specs.Known.{key_usage}
+use Rattle.rpki_cert.proofs.KnownLaws.{only-value, not-read}
+use Rattle.rpki_cert.proofs.known_view.usage_in.Goals as goal
+
+pub returns-in-Ok-clause-ok : goal.returns-in-Ok-clause-ok
+returns-in-Ok-clause-ok c =
+    let some = rw c.in-Ok-Some.field-0-is at c.in-Ok-Some.ensures.some in
+    let read = rw (c.from_slice.ensures, c.octets.ensures) at c.in-Ok.ensures in
+    λ xs k. only-value key_usage true SpellsUsage xs c.in-Ok-Some.extension c.in-Ok.found (some.1 xs k, some.0) read
+
+pub returns-in-Err-usage_of-clause-err : goal.returns-in-Err-usage_of-clause-err
+returns-in-Err-usage_of-clause-err c =
+    let x = c.in-Ok-Some.extension in
+    let some = rw c.in-Ok-Some.field-0-is at c.in-Ok-Some.ensures.some in
+    let wrong = rw (c.from_slice.ensures, c.octets.ensures) at c.in-Err-usage_of.ensures in
+    λ xs k. not-read key_usage true SpellsUsage xs IsUsageFault x c.in-Err-usage_of.field-0 (some.1 xs k, some.0)
+    (λ h. leaf-no-memory bit_string false IsUsage x.content OutOfMemory h refl) wrong
