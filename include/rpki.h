@@ -148,6 +148,13 @@ enum {
     RPKI_PART_EXTENSION_IDENTIFIERS = 78, /* two extensions have the same identifier */
     RPKI_PART_SAME_ALGORITHM = 79,        /* the two algorithm identifiers differ in their parameters */
 
+    /* Of rpki_certificate_extensions: an extension that is there, but malformed, or not as critical as it has to be. */
+    RPKI_WRONG_BASIC_CONSTRAINTS = 80,        /* critical; cA is TRUE, and there is no length of paths */
+    RPKI_WRONG_SUBJECT_KEY_IDENTIFIER = 81,   /* not critical; twenty octets */
+    RPKI_WRONG_AUTHORITY_KEY_IDENTIFIER = 82, /* not critical; twenty octets, and nothing else of the issuer */
+    RPKI_WRONG_KEY_USAGE = 83,                /* critical; exactly the bits of one of the two uses */
+    RPKI_WRONG_CERTIFICATE_POLICIES = 84,     /* critical; exactly one policy of the RPKI, with one qualifier at most */
+
     /* Calls on two texts add this to the number of what is wrong with the second. */
     RPKI_SECOND = 16,
 
@@ -276,6 +283,49 @@ struct rpki_certificate_parts {
     bool has_parameters;          /* whether the algorithm identifiers have parameters, a NULL */
 };
 
+/* An extension of a certificate, or that there is none. */
+struct rpki_known_extension {
+    struct rpki_place octets; /* the contents octets of its OCTET STRING; of length 0 where it isn't there */
+    bool is_there;            /* whether the extension is there */
+    bool critical;            /* whether it is critical; false where it isn't there */
+};
+
+/* What a key may be used for (RFC 6487 4.8.4). */
+enum {
+    RPKI_USAGE_NONE = 0, /* there is no key usage */
+    RPKI_USAGE_CA = 1,   /* keyCertSign and cRLSign: to sign certificates and revocation lists */
+    RPKI_USAGE_EE = 2    /* digitalSignature: to sign objects */
+};
+
+/* What a policy says of resources that the issuer's certificate hasn't (RFC 8360 4). */
+enum {
+    RPKI_POLICY_NONE = 0,   /* there are no certificate policies */
+    RPKI_POLICY_REFUSE = 1, /* id-cp-ipAddr-asNumber: the certificate is rejected (RFC 6484 1.2) */
+    RPKI_POLICY_TRIM = 2    /* id-cp-ipAddr-asNumber-v2: the resources that both have remain (RFC 8360 4.2.1) */
+};
+
+/* The extensions that certificates of the RPKI have (RFC 6487 4.8), and what five of them say. */
+struct rpki_certificate_extensions {
+    struct rpki_known_extension basic_constraints;        /* RFC 6487 4.8.1 */
+    struct rpki_known_extension subject_key_identifier;   /* RFC 6487 4.8.2 */
+    struct rpki_known_extension authority_key_identifier; /* RFC 6487 4.8.3 */
+    struct rpki_known_extension key_usage;                /* RFC 6487 4.8.4 */
+    struct rpki_known_extension extended_key_usage;       /* RFC 6487 4.8.5, RFC 8209 3.1.3.2 */
+    struct rpki_known_extension crl_distribution_points;  /* RFC 6487 4.8.6 */
+    struct rpki_known_extension authority_info_access;    /* RFC 6487 4.8.7 */
+    struct rpki_known_extension subject_info_access;      /* RFC 6487 4.8.8 */
+    struct rpki_known_extension certificate_policies;     /* RFC 6487 4.8.9 */
+    struct rpki_known_extension ip_resources;             /* RFC 6487 4.8.10 */
+    struct rpki_known_extension ip_resources_v2;          /* with validation reconsidered (RFC 8360 4.2.2.1) */
+    struct rpki_known_extension as_resources;             /* RFC 6487 4.8.11 */
+    struct rpki_known_extension as_resources_v2;          /* with validation reconsidered (RFC 8360 4.2.2.3) */
+    uint8_t subject_key[20];                              /* the subject key identifier; zeros where it isn't there */
+    uint8_t authority_key[20];                            /* the authority key identifier; zeros where it isn't there */
+    bool is_ca;     /* whether the basic constraints are there: the subject is a certification authority */
+    uint8_t usage;  /* RPKI_USAGE_NONE to RPKI_USAGE_EE */
+    uint8_t policy; /* RPKI_POLICY_NONE to RPKI_POLICY_TRIM */
+};
+
 /* The parts of an rsync URI, rsync://AUTHORITY/MODULE/PATH (RFC 5781). */
 struct rpki_rsync_parts {
     struct rpki_place authority;   /* not empty; a port stands in it */
@@ -352,6 +402,29 @@ RPKI_ASSERT_AT(certificate_parts, serial_number, 176);
 RPKI_ASSERT_AT(certificate_parts, key_format, 196);
 RPKI_ASSERT_AT(certificate_parts, key_unused, 197);
 RPKI_ASSERT_AT(certificate_parts, has_parameters, 198);
+RPKI_ASSERT(known_extension, sizeof(struct rpki_known_extension) == 24);
+RPKI_ASSERT_AT(known_extension, octets, 0);
+RPKI_ASSERT_AT(known_extension, is_there, 16);
+RPKI_ASSERT_AT(known_extension, critical, 17);
+RPKI_ASSERT(certificate_extensions, sizeof(struct rpki_certificate_extensions) == 360);
+RPKI_ASSERT_AT(certificate_extensions, basic_constraints, 0);
+RPKI_ASSERT_AT(certificate_extensions, subject_key_identifier, 24);
+RPKI_ASSERT_AT(certificate_extensions, authority_key_identifier, 48);
+RPKI_ASSERT_AT(certificate_extensions, key_usage, 72);
+RPKI_ASSERT_AT(certificate_extensions, extended_key_usage, 96);
+RPKI_ASSERT_AT(certificate_extensions, crl_distribution_points, 120);
+RPKI_ASSERT_AT(certificate_extensions, authority_info_access, 144);
+RPKI_ASSERT_AT(certificate_extensions, subject_info_access, 168);
+RPKI_ASSERT_AT(certificate_extensions, certificate_policies, 192);
+RPKI_ASSERT_AT(certificate_extensions, ip_resources, 216);
+RPKI_ASSERT_AT(certificate_extensions, ip_resources_v2, 240);
+RPKI_ASSERT_AT(certificate_extensions, as_resources, 264);
+RPKI_ASSERT_AT(certificate_extensions, as_resources_v2, 288);
+RPKI_ASSERT_AT(certificate_extensions, subject_key, 312);
+RPKI_ASSERT_AT(certificate_extensions, authority_key, 332);
+RPKI_ASSERT_AT(certificate_extensions, is_ca, 352);
+RPKI_ASSERT_AT(certificate_extensions, usage, 353);
+RPKI_ASSERT_AT(certificate_extensions, policy, 354);
 RPKI_ASSERT(rsync_parts, sizeof(struct rpki_rsync_parts) == 48);
 RPKI_ASSERT_AT(rsync_parts, authority, 0);
 RPKI_ASSERT_AT(rsync_parts, module_name, 16);
@@ -488,6 +561,16 @@ rpki_status rpki_extension(const uint8_t *octets, size_t size, struct rpki_exten
  * nothing else of the octets: the certificate may be well-formed. No certificate of the RPKI has so many.
  */
 rpki_status rpki_certificate(const uint8_t *octets, size_t size, struct rpki_certificate_parts *out);
+
+/*
+ * Reads a resource certificate, as rpki_certificate does, and says where its extensions stand (RFC 6487 4.8), and what
+ * five of them say: basic constraints, both key identifiers, key usage and certificate policies. The others are not
+ * looked at, nor is which of them a profile wants. Takes no memory.
+ *
+ * The status is from 80 to 84 where one of the five is there, but malformed, or not as critical as it has to be: the
+ * first of them, in the order of these numbers. Else, where it is not 0, it is that of rpki_certificate.
+ */
+rpki_status rpki_certificate_extensions(const uint8_t *octets, size_t size, struct rpki_certificate_extensions *out);
 
 /* ---- URIs ---- */
 
@@ -863,6 +946,11 @@ static inline const char *rpki_status_text(int kind, rpki_status status) {
         case RPKI_PART_EXTENSION_COUNT: return "too many extensions";
         case RPKI_PART_EXTENSION_IDENTIFIERS: return "duplicate extension";
         case RPKI_PART_SAME_ALGORITHM: return "signature algorithms differ";
+        case RPKI_WRONG_BASIC_CONSTRAINTS: return "wrong basic constraints";
+        case RPKI_WRONG_SUBJECT_KEY_IDENTIFIER: return "wrong subject key identifier";
+        case RPKI_WRONG_AUTHORITY_KEY_IDENTIFIER: return "wrong authority key identifier";
+        case RPKI_WRONG_KEY_USAGE: return "wrong key usage";
+        case RPKI_WRONG_CERTIFICATE_POLICIES: return "wrong certificate policies";
         case RPKI_MISSING_COMMON_NAME: return "missing common name";
         case RPKI_SECOND_COMMON_NAME: return "multiple common names";
         case RPKI_SECOND_SERIAL_NUMBER: return "multiple serial numbers";

@@ -137,6 +137,37 @@ pub(crate) struct CertificateParts {
 
 #[repr(C)]
 #[derive(Clone, Copy, Default)]
+pub(crate) struct KnownExtension {
+    pub(crate) octets: Place,
+    pub(crate) is_there: bool,
+    pub(crate) critical: bool,
+}
+
+#[repr(C)]
+#[derive(Clone, Copy, Default)]
+pub(crate) struct CertificateExtensions {
+    pub(crate) basic_constraints: KnownExtension,
+    pub(crate) subject_key_identifier: KnownExtension,
+    pub(crate) authority_key_identifier: KnownExtension,
+    pub(crate) key_usage: KnownExtension,
+    pub(crate) extended_key_usage: KnownExtension,
+    pub(crate) crl_distribution_points: KnownExtension,
+    pub(crate) authority_info_access: KnownExtension,
+    pub(crate) subject_info_access: KnownExtension,
+    pub(crate) certificate_policies: KnownExtension,
+    pub(crate) ip_resources: KnownExtension,
+    pub(crate) ip_resources_v2: KnownExtension,
+    pub(crate) as_resources: KnownExtension,
+    pub(crate) as_resources_v2: KnownExtension,
+    pub(crate) subject_key: [u8; 20],
+    pub(crate) authority_key: [u8; 20],
+    pub(crate) is_ca: bool,
+    pub(crate) usage: u8,
+    pub(crate) policy: u8,
+}
+
+#[repr(C)]
+#[derive(Clone, Copy, Default)]
 pub(crate) struct RsyncParts {
     pub(crate) authority: Place,
     pub(crate) module_name: Place,
@@ -157,6 +188,7 @@ const _: () = assert!(size_of::<KeyParts>() == 24 && size_of::<Moment>() == 32 &
 const _: () =
     assert!(size_of::<ExtensionParts>() == 40 && size_of::<RsyncParts>() == 48 && size_of::<HttpsParts>() == 32);
 const _: () = assert!(size_of::<CertificateParts>() == 200);
+const _: () = assert!(size_of::<KnownExtension>() == 24 && size_of::<CertificateExtensions>() == 360);
 
 use std::mem::size_of;
 
@@ -174,6 +206,7 @@ extern "C" {
     fn rpki_validity(octets: *const u8, size: usize, out: *mut Period) -> Status;
     fn rpki_extension(octets: *const u8, size: usize, out: *mut ExtensionParts) -> Status;
     fn rpki_certificate(octets: *const u8, size: usize, out: *mut CertificateParts) -> Status;
+    fn rpki_certificate_extensions(octets: *const u8, size: usize, out: *mut CertificateExtensions) -> Status;
     fn rpki_rsync_parse(text: *const u8, size: usize, out: *mut RsyncParts) -> Status;
     fn rpki_rsync_relative_to(
         uri: *const u8,
@@ -422,6 +455,7 @@ readers! {
     key_identifier_read(rpki_key_identifier_read) -> [u8; 20];
     key_identifier_of_hex(rpki_key_identifier_of_hex) -> [u8; 20];
     certificate(rpki_certificate) -> CertificateParts;
+    certificate_extensions(rpki_certificate_extensions) -> CertificateExtensions;
     rsync_parse(rpki_rsync_parse) -> RsyncParts;
     rsync_parent(rpki_rsync_parent) -> usize;
     https_parse(rpki_https_parse) -> HttpsParts;

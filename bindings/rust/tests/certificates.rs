@@ -1,7 +1,7 @@
 //! Certificates, read by [Cert], compared with the rows that tests/linked/certificate/rows.py writes. The variable
 //! `RPKI_CERTIFICATE_ROWS` names their file; without it the certificate of examples/ alone is read.
 
-use rpki_proved::repository::cert::{Cert, CertError};
+use rpki_proved::repository::cert::{Cert, CertError, ExtensionError, KeyUsage, Overclaim};
 
 const ERRORS: [CertError; 16] = [
     CertError::Certificate,
@@ -20,6 +20,14 @@ const ERRORS: [CertError; 16] = [
     CertError::ExtensionCount,
     CertError::ExtensionIdentifiers,
     CertError::SameAlgorithm,
+];
+
+const EXTENSION_ERRORS: [ExtensionError; 5] = [
+    ExtensionError::BasicConstraints,
+    ExtensionError::SubjectKeyIdentifier,
+    ExtensionError::AuthorityKeyIdentifier,
+    ExtensionError::KeyUsage,
+    ExtensionError::CertificatePolicies,
 ];
 
 fn octets_of(digits: &str) -> Vec<u8> {
@@ -45,6 +53,44 @@ fn compare(number: usize, octets: &[u8], cert: &Cert, words: &[&str]) {
     assert!(length > 0 && length < part(6).len(), "row {number}");
 }
 
+/// The extensions of the row are those that the certificate has.
+fn compare_extensions(number: usize, octets: &[u8], cert: &Cert, words: &[&str]) {
+    let found = match (cert.known_extensions(), words[0].parse::<usize>().unwrap()) {
+        (Ok(found), 0) => found,
+        (Err(error), status) => return assert_eq!(error, EXTENSION_ERRORS[status - 80], "row {number}"),
+        (Ok(found), status) => panic!("row {number}: {found:?} and not {status}"),
+    };
+    let all = [
+        &found.basic_constraints,
+        &found.subject_key_identifier,
+        &found.authority_key_identifier,
+        &found.key_usage,
+        &found.extended_key_usage,
+        &found.crl_distribution_points,
+        &found.authority_info_access,
+        &found.subject_info_access,
+        &found.certificate_policies,
+        &found.ip_resources,
+        &found.ip_resources_v2,
+        &found.as_resources,
+        &found.as_resources_v2,
+    ];
+    for (each, words) in all.iter().zip(words[1..].chunks(4)) {
+        let (start, length): (usize, usize) = (words[2].parse().unwrap(), words[3].parse().unwrap());
+        let wanted = (words[0] == "1").then(|| (words[1] == "1", &octets[start..start + length]));
+        assert_eq!(each.as_ref().map(|it| (it.critical, &it.octets[..])), wanted, "row {number}");
+    }
+    let keys = [&found.subject_key, &found.authority_key];
+    for (key, digits) in keys.iter().zip(&words[53..]) {
+        assert!(key.map_or(true, |key| key.as_ref() == octets_of(digits)), "row {number}");
+    }
+    assert_eq!(found.basic_ca, words[55] == "1", "row {number}");
+    let usages = [None, Some(KeyUsage::Ca), Some(KeyUsage::Ee)];
+    assert_eq!(found.usage, usages[words[56].parse::<usize>().unwrap()], "row {number}");
+    let policies = [None, Some(Overclaim::Refuse), Some(Overclaim::Trim)];
+    assert_eq!(found.overclaim, policies[words[57].parse::<usize>().unwrap()], "row {number}");
+}
+
 #[test]
 fn certificates() {
     let Some(path) = std::env::var_os("RPKI_CERTIFICATE_ROWS") else {
@@ -53,10 +99,14 @@ fn certificates() {
     let rows = std::fs::read_to_string(path).unwrap();
     assert!(rows.lines().count() > 70);
     for (number, row) in rows.lines().enumerate() {
-        let words: Vec<&str> = row.split(' ').collect();
+        let (parts, extensions) = row.split_once(" | ").unwrap();
+        let words: Vec<&str> = parts.split(' ').collect();
         let octets = octets_of(words[0]);
         match (Cert::decode(octets.clone()), words[1].parse::<usize>().unwrap()) {
-            (Ok(cert), 0) => compare(number, &octets, &cert, &words[2..]),
+            (Ok(cert), 0) => {
+                compare(number, &octets, &cert, &words[2..]);
+                compare_extensions(number, &octets, &cert, &extensions.split(' ').collect::<Vec<_>>());
+            }
             (Err(error), status) if status >= 64 => assert_eq!(error, ERRORS[status - 64], "row {number}"),
             (found, status) => panic!("row {number}: {found:?} and not {status}"),
         }

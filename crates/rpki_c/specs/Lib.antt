@@ -29,4 +29,5 @@ pub mod Signed
 pub mod MadeSigned
 pub mod Extension
 pub mod Certificate
+pub mod CertificateExtensions
 pub mod MadeExtension

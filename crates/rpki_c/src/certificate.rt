@@ -42,7 +42,7 @@ pub struct CertificateParts {
 }
 
 /// How a part that is wrong is passed.
-fn part_number(part: CertPart) -> u8
+pub(crate) fn part_number(part: CertPart) -> u8
     ensures { result ≡ part_number part }
 {
     match part {
@@ -66,7 +66,7 @@ fn part_number(part: CertPart) -> u8
 }
 
 /// Where a section stands, of octets behind which so many follow, of so many in all.
-fn place_of(total: usize, behind: usize, section: Section<'_>) -> Place
+pub(crate) fn place_of(total: usize, behind: usize, section: Section<'_>) -> Place
     ensures start { result.start ≡ total - behind - section.entry.following - length section.entry.octets.now }
     ensures size { result.length ≡ length section.entry.octets.now }
 {

@@ -8,6 +8,7 @@
 
 mod base_64;
 mod certificate;
+mod certificate_extensions;
 mod digests;
 mod digits;
 mod extension_writing;

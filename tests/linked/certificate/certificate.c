@@ -1,7 +1,7 @@
 /*
- * Reads certificates with rpki_certificate, and compares statuses and places with those of rows that rows.py writes.
- * No call allocates. What a call refuses leaves `out` as it was. Each beginning of a certificate is none, nor is one
- * with an octet more.
+ * Reads certificates with rpki_certificate and rpki_certificate_extensions, and compares statuses and places with those
+ * of rows that rows.py writes. No call allocates. What a call refuses leaves `out` as it was. Each beginning of a
+ * certificate is none, nor is one with an octet more.
  *
  * usage: certificate ROWS
  */
@@ -26,28 +26,35 @@ static void judge(unsigned line, const char *what, bool well) {
     printf("line %u: %s\n", line, what);
 }
 
-static bool untouched(const struct rpki_certificate_parts *out) {
-    const unsigned char *octets = (const unsigned char *)out;
+static bool untouched(const void *out, size_t size) {
+    const unsigned char *octets = out;
     size_t at;
-    for (at = 0; at < sizeof *out; at++) {
+    for (at = 0; at < size; at++) {
         if (octets[at] != FILL) return false;
     }
     return true;
 }
 
-/* Makes the call on a copy of exactly these octets, so that a read beyond them is seen by a sanitizer. */
-static rpki_status made(const uint8_t *octets, size_t size, struct rpki_certificate_parts *out, bool *clean) {
+/* What either call writes. */
+union found {
+    struct rpki_certificate_parts parts;
+    struct rpki_certificate_extensions extensions;
+};
+
+/* Makes a call on a copy of exactly these octets, so that a read beyond them is seen by a sanitizer. */
+static rpki_status made(bool extensions, const uint8_t *octets, size_t size, union found *out, bool *clean) {
     uint8_t *copy = malloc(size + 1);
     rpki_status status;
     if (!copy) exit(2);
     memcpy(copy, octets, size);
     memset(out, FILL, sizeof *out);
     count_allocations(0);
-    status = rpki_certificate(copy, size, out);
+    status = extensions ? rpki_certificate_extensions(copy, size, &out->extensions)
+                        : rpki_certificate(copy, size, &out->parts);
     *clean = allocations(clean) == 0;
     count_allocations(NONE_REFUSED);
     free(copy);
-    if (status != RPKI_OK) *clean = *clean && untouched(out);
+    if (status != RPKI_OK) *clean = *clean && untouched(out, sizeof *out);
     return status;
 }
 
@@ -60,7 +67,13 @@ static size_t hexadecimal(const char *digits, uint8_t *octets) {
     return size;
 }
 
-/* What the call found, in the words of the row. */
+static char *tell_octets(const uint8_t *octets, char *text) {
+    size_t number;
+    for (number = 0; number < 20; number++) text += sprintf(text, "%02x", octets[number]);
+    return text;
+}
+
+/* What rpki_certificate found, in the words of the row. */
 static void tell(const struct rpki_certificate_parts *found, char *text) {
     const struct rpki_place *places[7];
     size_t number;
@@ -70,39 +83,66 @@ static void tell(const struct rpki_certificate_parts *found, char *text) {
     for (number = 0; number < 7; number++) {
         text += sprintf(text, "%zu %zu ", places[number]->start, places[number]->length);
     }
-    for (number = 0; number < 20; number++) text += sprintf(text, "%02x", found->serial_number[number]);
+    text = tell_octets(found->serial_number, text);
     sprintf(text, " %u %u %u", found->key_format, found->key_unused, found->has_parameters);
 }
 
-static void beginnings(unsigned line, uint8_t *octets, size_t size) {
-    struct rpki_certificate_parts out;
+/* What rpki_certificate_extensions found. The extensions are the first members of the struct. */
+static void tell_extensions(const struct rpki_certificate_extensions *found, char *text) {
+    struct rpki_known_extension known[13];
+    const struct rpki_known_extension *each;
+    memcpy(known, found, sizeof known);
+    for (each = known; each < known + 13; each++) {
+        text += sprintf(text, "%d %d ", each->is_there, each->critical);
+        text += sprintf(text, "%zu %zu ", each->octets.start, each->octets.length);
+    }
+    text = tell_octets(found->subject_key, text);
+    *text++ = ' ';
+    text = tell_octets(found->authority_key, text);
+    sprintf(text, " %d %u %u", found->is_ca, found->usage, found->policy);
+}
+
+static void beginnings(unsigned line, bool extensions, uint8_t *octets, size_t size) {
+    union found out;
     size_t count;
     bool clean, well = true;
     for (count = 0; count < size; count++) {
-        well = made(octets, count, &out, &clean) == RPKI_PART_CERTIFICATE && clean && well;
+        well = made(extensions, octets, count, &out, &clean) == RPKI_PART_CERTIFICATE && clean && well;
     }
     judge(line, "each beginning", well);
     octets[size] = 0;
-    judge(line, "an octet more", made(octets, size + 1, &out, &clean) == RPKI_PART_CERTIFICATE && clean);
+    judge(line, "an octet more", made(extensions, octets, size + 1, &out, &clean) == RPKI_PART_CERTIFICATE && clean);
 }
 
-static void row(unsigned line, const char *text) {
-    static uint8_t octets[MOST_OCTETS];
+/* Makes one of the calls, of which the words are a status and what is found. */
+static void compare(unsigned line, bool extensions, uint8_t *octets, size_t size, const char *words) {
     static char told[1024];
-    struct rpki_certificate_parts out;
-    const char *rest = strchr(text, ' ') + 1;
-    size_t size = hexadecimal(text, octets);
-    unsigned wanted = (unsigned)strtoul(rest, (char **)&rest, 10);
+    union found out;
+    unsigned wanted = (unsigned)strtoul(words, (char **)&words, 10);
     bool clean;
-    rpki_status status = made(octets, size, &out, &clean);
+    rpki_status status = made(extensions, octets, size, &out, &clean);
     judge(line, "allocates, or writes what it refuses", clean);
     if (status != wanted) printf("status %u, not %u\n", status, wanted);
     judge(line, "the status", status == wanted);
     if (wanted != RPKI_OK || status != RPKI_OK) return;
-    tell(&out, told);
-    if (strcmp(told, rest + 1)) printf("%s\nnot %s\n", told, rest + 1);
-    judge(line, "the parts", !strcmp(told, rest + 1));
-    if (line == 1) beginnings(line, octets, size);
+    if (extensions) {
+        tell_extensions(&out.extensions, told);
+    } else {
+        tell(&out.parts, told);
+    }
+    if (strcmp(told, words + 1)) printf("%s\nnot %s\n", told, words + 1);
+    judge(line, extensions ? "the extensions" : "the parts", !strcmp(told, words + 1));
+    if (line == 1) beginnings(line, extensions, octets, size);
+}
+
+static void row(unsigned line, char *text) {
+    static uint8_t octets[MOST_OCTETS];
+    char *bar = strstr(text, " | ");
+    size_t size = hexadecimal(text, octets);
+    if (!bar) exit(2);
+    *bar = 0;
+    compare(line, false, octets, size, strchr(text, ' ') + 1);
+    compare(line, true, octets, size, bar + 3);
 }
 
 int main(int count, char **words) {

@@ -1,6 +1,6 @@
 //! Resource certificates (RFC 5280 4.1, RFC 6487 4).
 
-use crate::crypto::keys::PublicKey;
+use crate::crypto::keys::{KeyIdentifier, PublicKey};
 use crate::crypto::signature::{RpkiSignature, RpkiSignatureAlgorithm, Signature};
 use crate::ffi::{self, Status};
 use crate::repository::x509::{Name, Serial, Time, Validity};
@@ -198,6 +198,167 @@ impl Cert {
     /// The octets of the extensions, one after another.
     pub fn extension_octets(&self) -> &Bytes {
         &self.extensions
+    }
+
+    /// The extensions that certificates of the RPKI have, and what five of them say.
+    ///
+    /// # Errors
+    /// The first of the five that is there, but malformed, or not as critical as it has to be.
+    pub fn known_extensions(&self) -> Result<KnownExtensions, ExtensionError> {
+        match ffi::certificate_extensions(&self.octets) {
+            Ok(found) => Ok(KnownExtensions::of(&self.octets, &found)),
+            Err(status) => Err(ExtensionError::from_status(status)),
+        }
+    }
+}
+
+/// An extension that is there, but malformed, or not as critical as it has to be (RFC 6487 4.8).
+#[derive(Clone, Copy, Debug, PartialEq, Eq, Hash)]
+#[non_exhaustive]
+pub enum ExtensionError {
+    /// The basic constraints are not critical, or not cA alone.
+    BasicConstraints,
+    /// The subject key identifier is critical, or has not twenty octets.
+    SubjectKeyIdentifier,
+    /// The authority key identifier is critical, or is not one of twenty octets alone.
+    AuthorityKeyIdentifier,
+    /// The key usage is not critical, or not exactly one of the two uses.
+    KeyUsage,
+    /// The certificate policies are not critical, or not exactly one of the RPKI, with one qualifier at most.
+    CertificatePolicies,
+}
+
+impl ExtensionError {
+    fn from_status(status: Status) -> ExtensionError {
+        match status {
+            80 => ExtensionError::BasicConstraints,
+            81 => ExtensionError::SubjectKeyIdentifier,
+            82 => ExtensionError::AuthorityKeyIdentifier,
+            83 => ExtensionError::KeyUsage,
+            84 => ExtensionError::CertificatePolicies,
+            _ => unreachable!("{status} is no status of the extensions of a certificate"),
+        }
+    }
+}
+
+impl fmt::Display for ExtensionError {
+    fn fmt(&self, f: &mut fmt::Formatter) -> fmt::Result {
+        f.write_str(match self {
+            ExtensionError::BasicConstraints => "wrong basic constraints",
+            ExtensionError::SubjectKeyIdentifier => "wrong subject key identifier",
+            ExtensionError::AuthorityKeyIdentifier => "wrong authority key identifier",
+            ExtensionError::KeyUsage => "wrong key usage",
+            ExtensionError::CertificatePolicies => "wrong certificate policies",
+        })
+    }
+}
+
+impl Error for ExtensionError {}
+
+/// What the subject's key may be used for (RFC 6487 4.8.4).
+#[derive(Clone, Copy, Debug, PartialEq, Eq, Hash)]
+pub enum KeyUsage {
+    /// To sign certificates and revocation lists: keyCertSign and cRLSign, of a certification authority.
+    Ca,
+    /// To sign objects: digitalSignature, of an end entity.
+    Ee,
+}
+
+/// What is done where a certificate claims resources that its issuer's hasn't, as its policy says (RFC 8360 4).
+#[derive(Clone, Copy, Debug, PartialEq, Eq, Hash)]
+pub enum Overclaim {
+    /// The certificate is rejected (RFC 6484 1.2).
+    Refuse,
+    /// The resources that both have remain (RFC 8360 4.2.1).
+    Trim,
+}
+
+/// An extension of a certificate.
+#[derive(Clone, Debug, PartialEq, Eq)]
+#[non_exhaustive]
+pub struct KnownExtension {
+    /// Whether it is critical.
+    pub critical: bool,
+    /// The octets of its OCTET STRING, which share those of the certificate.
+    pub octets: Bytes,
+}
+
+/// The extensions that certificates of the RPKI have, where they are there (RFC 6487 4.8), and what five of them say.
+#[derive(Clone, Debug, PartialEq, Eq)]
+#[non_exhaustive]
+pub struct KnownExtensions {
+    /// The basic constraints.
+    pub basic_constraints: Option<KnownExtension>,
+    /// The subject key identifier.
+    pub subject_key_identifier: Option<KnownExtension>,
+    /// The authority key identifier.
+    pub authority_key_identifier: Option<KnownExtension>,
+    /// The key usage.
+    pub key_usage: Option<KnownExtension>,
+    /// The extended key usage.
+    pub extended_key_usage: Option<KnownExtension>,
+    /// The CRL distribution points.
+    pub crl_distribution_points: Option<KnownExtension>,
+    /// The authority information access.
+    pub authority_info_access: Option<KnownExtension>,
+    /// The subject information access.
+    pub subject_info_access: Option<KnownExtension>,
+    /// The certificate policies.
+    pub certificate_policies: Option<KnownExtension>,
+    /// The IP resources.
+    pub ip_resources: Option<KnownExtension>,
+    /// The IP resources with validation reconsidered (RFC 8360 4.2.2.1).
+    pub ip_resources_v2: Option<KnownExtension>,
+    /// The AS resources.
+    pub as_resources: Option<KnownExtension>,
+    /// The AS resources with validation reconsidered (RFC 8360 4.2.2.3).
+    pub as_resources_v2: Option<KnownExtension>,
+    /// Whether the subject is a certification authority, by the basic constraints.
+    pub basic_ca: bool,
+    /// The identifier of the subject's key.
+    pub subject_key: Option<KeyIdentifier>,
+    /// The identifier of the issuer's key.
+    pub authority_key: Option<KeyIdentifier>,
+    /// What the subject's key may be used for.
+    pub usage: Option<KeyUsage>,
+    /// What the policy says of resources that the issuer's certificate hasn't.
+    pub overclaim: Option<Overclaim>,
+}
+
+impl KnownExtensions {
+    fn of(octets: &Bytes, found: &ffi::CertificateExtensions) -> KnownExtensions {
+        let known = |it: ffi::KnownExtension| {
+            it.is_there.then(|| KnownExtension { critical: it.critical, octets: octets.slice(it.octets.range()) })
+        };
+        let key = |it: ffi::KnownExtension, key: [u8; 20]| it.is_there.then(|| KeyIdentifier::from(key));
+        KnownExtensions {
+            basic_constraints: known(found.basic_constraints),
+            subject_key_identifier: known(found.subject_key_identifier),
+            authority_key_identifier: known(found.authority_key_identifier),
+            key_usage: known(found.key_usage),
+            extended_key_usage: known(found.extended_key_usage),
+            crl_distribution_points: known(found.crl_distribution_points),
+            authority_info_access: known(found.authority_info_access),
+            subject_info_access: known(found.subject_info_access),
+            certificate_policies: known(found.certificate_policies),
+            ip_resources: known(found.ip_resources),
+            ip_resources_v2: known(found.ip_resources_v2),
+            as_resources: known(found.as_resources),
+            as_resources_v2: known(found.as_resources_v2),
+            basic_ca: found.is_ca,
+            subject_key: key(found.subject_key_identifier, found.subject_key),
+            authority_key: key(found.authority_key_identifier, found.authority_key),
+            usage: match found.usage {
+                1 => Some(KeyUsage::Ca),
+                2 => Some(KeyUsage::Ee),
+                _ => None,
+            },
+            overclaim: match found.policy {
+                1 => Some(Overclaim::Refuse),
+                2 => Some(Overclaim::Trim),
+                _ => None,
+            },
+        }
     }
 }
 

@@ -1,0 +1,84 @@
+-- What a status says of the extensions of a certificate.
+use Rattle.std.specs.Prelude.{◌≡◌, ◌⊎◌, ℕ, true, false, List, Option, Some, None}
+use Rattle.rpki.specs.ExtensionValue.{ExtensionParts}
+use Rattle.rpki_cert.specs.declared.cert_part.CertPart.{CertPart}
+use Rattle.rpki_cert.specs.declared.known_part.KnownPart.{KnownPart}
+use Rattle.rpki_cert.specs.declared.known_part.KnownPart.TheVariants.{BasicConstraints, SubjectKeyIdentifier, AuthorityKeyIdentifier, KeyUsage, CertificatePolicies}
+use Rattle.rpki_cert.specs.declared.known_view.KnownView.{KnownView}
+use Rattle.rpki_cert.specs.declared.key_usage.KeyUsage.{KeyUsage as Usage}
+use Rattle.rpki_cert.specs.declared.key_usage.KeyUsage.TheVariants.{Ca, Ee}
+use Rattle.rpki_cert.specs.declared.policy.Overclaim.{Overclaim}
+use Rattle.rpki_cert.specs.declared.policy.Overclaim.TheVariants.{Refuse, Trim}
+use Rattle.rpki_cert.specs.Cert.{CertParts, SpellsCert, find}
+use Rattle.rpki_cert.specs.Known.{subject_key_identifier, key_usage, basic_constraints, crl_distribution_points, certificate_policies, authority_key_identifier, extended_key_usage, authority_info_access, subject_info_access, ip_addr_blocks, ip_addr_blocks_v2, autonomous_sys_ids, autonomous_sys_ids_v2}
+use Rattle.rpki_cert.specs.KnownView.{AreKnown, IsKnownWrong}
+use Rattle.rpki_cert.specs.View.{IsCertWrong}
+use Rattle.rpki_c.specs.declared.certificate_extensions.KnownExtension.{KnownExtension}
+use Rattle.rpki_c.specs.declared.certificate_extensions.CertificateExtensions.{CertificateExtensions as Extensions}
+use Rattle.rpki_c.specs.Certificate.{part_number}
+use Rattle.rpki_c.specs.Place.{IsPlace}
+
+-- the status of a certificate that has this extension, which is malformed, or not as critical as it has to be
+abbrev pub known_number : KnownPart → ℕ
+known_number BasicConstraints = 80
+known_number SubjectKeyIdentifier = 81
+known_number AuthorityKeyIdentifier = 82
+known_number KeyUsage = 83
+known_number CertificatePolicies = 84
+
+-- how the use of a key is passed, and that there is none
+abbrev pub usage_number : Option Usage → ℕ
+usage_number None = 0
+usage_number (Some Ca) = 1
+usage_number (Some Ee) = 2
+
+-- how a policy is passed, and that there is none
+abbrev pub policy_number : Option Overclaim → ℕ
+policy_number None = 0
+policy_number (Some Refuse) = 1
+policy_number (Some Trim) = 2
+
+-- the octets of a key identifier, where there is one
+abbrev pub IsIdentifierOf : Option (List ℕ) → List ℕ → Type 0
+IsIdentifierOf None octets = Unit {0}
+IsIdentifierOf (Some k) octets = octets ≡ k
+
+-- the extension's octets stand at the place in s; or there is none
+abbrev pub IsExtensionAt : List ℕ → Option ExtensionParts → KnownExtension → Type 0
+IsExtensionAt s None p = (p.is_there ≡ false) × (p.critical ≡ false) × (p.octets.length ≡ 0)
+IsExtensionAt s (Some x) p = (p.is_there ≡ true) × (p.critical ≡ x.critical) × IsPlace s p.octets x.content
+
+-- the octets are a certificate, and these are its extensions: where they stand, and what those say that are read
+pub record HasExtensions (s : List ℕ) (p : Extensions) : Type 0 where
+  pub cert : CertParts
+  pub spelled : SpellsCert cert s
+  pub constraints : IsExtensionAt s (find basic_constraints cert.tbs.extensions) p.basic_constraints
+  pub subject : IsExtensionAt s (find subject_key_identifier cert.tbs.extensions) p.subject_key_identifier
+  pub authority : IsExtensionAt s (find authority_key_identifier cert.tbs.extensions) p.authority_key_identifier
+  pub usage : IsExtensionAt s (find key_usage cert.tbs.extensions) p.key_usage
+  pub purposes : IsExtensionAt s (find extended_key_usage cert.tbs.extensions) p.extended_key_usage
+  pub points : IsExtensionAt s (find crl_distribution_points cert.tbs.extensions) p.crl_distribution_points
+  pub issuer_access : IsExtensionAt s (find authority_info_access cert.tbs.extensions) p.authority_info_access
+  pub subject_access : IsExtensionAt s (find subject_info_access cert.tbs.extensions) p.subject_info_access
+  pub policies : IsExtensionAt s (find certificate_policies cert.tbs.extensions) p.certificate_policies
+  pub addresses : IsExtensionAt s (find ip_addr_blocks cert.tbs.extensions) p.ip_resources
+  pub addresses_v2 : IsExtensionAt s (find ip_addr_blocks_v2 cert.tbs.extensions) p.ip_resources_v2
+  pub numbers : IsExtensionAt s (find autonomous_sys_ids cert.tbs.extensions) p.as_resources
+  pub numbers_v2 : IsExtensionAt s (find autonomous_sys_ids_v2 cert.tbs.extensions) p.as_resources_v2
+  pub said : KnownView
+  pub known : AreKnown cert.tbs.extensions said
+  pub ca : p.is_ca ≡ said.ca
+  pub purpose : p.usage ≡ usage_number said.key_usage
+  pub policy : p.policy ≡ policy_number said.overclaim
+  pub subject_key : IsIdentifierOf said.subject_key_identifier p.subject_key
+  pub authority_key : IsIdentifierOf said.authority_key_identifier p.authority_key
+
+-- Status 0: the octets are a certificate of these extensions. 80 to 84: they are a certificate, of which the extension
+-- of this number is malformed, or not as critical as it has to be. Else the number of the part that is wrong. Nothing
+-- is written where the status is not 0.
+abbrev pub AreExtensionsRead : List ℕ → ℕ → Extensions → Extensions → Type 0
+AreExtensionsRead s status old new =
+    ((status ≡ 0) × HasExtensions s new)
+    ⊎ ((q : KnownPart) × (cert : CertParts) × (status ≡ known_number q) × SpellsCert cert s
+    × IsKnownWrong cert.tbs.extensions q × (new ≡ old))
+    ⊎ ((q : CertPart) × (status ≡ part_number q) × IsCertWrong s q × (new ≡ old))

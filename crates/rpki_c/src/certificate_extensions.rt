@@ -1,0 +1,195 @@
+//! The extensions of certificates.
+
+ghost use Rattle.std.specs.Prelude.{◌≡◌};
+ghost use Rattle.rpki_cert.specs.Cert.{CertParts, find};
+ghost use Rattle.rpki_cert.specs.View.{IsCertAt};
+ghost use Rattle.rpki_cert.specs.KnownView.{AreKnown};
+ghost use Rattle.rpki_c.specs.CertificateExtensions.{known_number, usage_number, policy_number, IsIdentifierOf, IsExtensionAt, HasExtensions, AreExtensionsRead};
+
+use crate::certificate::{part_number, place_of};
+use crate::place::Place;
+use rpki::crypto::KeyIdentifier;
+use rpki::oid;
+use rpki_cert::{CertView, KeyUsage, KnownPart, KnownView, Overclaim, Section, find_in};
+use rpki_der::{ConstOid, Constructed};
+
+/// An extension of a certificate, or that there is none.
+#[repr(C)]
+#[derive(Clone, Copy)]
+pub struct KnownExtension {
+    /// The octets of its OCTET STRING; none where the extension isn't there.
+    pub octets: Place,
+    /// Whether the extension is there.
+    pub is_there: bool,
+    /// Whether the extension is critical; false where it isn't there.
+    pub critical: bool,
+}
+
+/// The extensions of a certificate.
+#[repr(C)]
+#[derive(Clone, Copy)]
+pub struct CertificateExtensions {
+    /// The basic constraints (RFC 6487 4.8.1).
+    pub basic_constraints: KnownExtension,
+    /// The subject key identifier (RFC 6487 4.8.2).
+    pub subject_key_identifier: KnownExtension,
+    /// The authority key identifier (RFC 6487 4.8.3).
+    pub authority_key_identifier: KnownExtension,
+    /// The key usage (RFC 6487 4.8.4).
+    pub key_usage: KnownExtension,
+    /// The extended key usage (RFC 6487 4.8.5, RFC 8209 3.1.3.2).
+    pub extended_key_usage: KnownExtension,
+    /// The CRL distribution points (RFC 6487 4.8.6).
+    pub crl_distribution_points: KnownExtension,
+    /// The authority information access (RFC 6487 4.8.7).
+    pub authority_info_access: KnownExtension,
+    /// The subject information access (RFC 6487 4.8.8).
+    pub subject_info_access: KnownExtension,
+    /// The certificate policies (RFC 6487 4.8.9).
+    pub certificate_policies: KnownExtension,
+    /// The IP resources (RFC 6487 4.8.10).
+    pub ip_resources: KnownExtension,
+    /// The IP resources with validation reconsidered (RFC 8360 4.2.2.1).
+    pub ip_resources_v2: KnownExtension,
+    /// The AS resources (RFC 6487 4.8.11).
+    pub as_resources: KnownExtension,
+    /// The AS resources with validation reconsidered (RFC 8360 4.2.2.3).
+    pub as_resources_v2: KnownExtension,
+    /// The subject key identifier; zeros where it isn't there.
+    pub subject_key: [u8; 20],
+    /// The authority key identifier; zeros where it isn't there.
+    pub authority_key: [u8; 20],
+    /// Whether the subject is a certification authority, by the basic constraints.
+    pub is_ca: bool,
+    /// What the subject's key may be used for: 1 to sign certificates and revocation lists, 2 to sign objects, 0 where
+    /// there is no key usage.
+    pub usage: u8,
+    /// What the policy says of resources that the issuer's certificate hasn't: 1 that the certificate is rejected, 2
+    /// that the others remain, 0 where there is no policy.
+    pub policy: u8,
+}
+
+/// How an extension that is wrong is passed.
+fn known_number(part: KnownPart) -> u8
+    ensures { result ≡ known_number part }
+{
+    match part {
+        KnownPart::BasicConstraints => 80,
+        KnownPart::SubjectKeyIdentifier => 81,
+        KnownPart::AuthorityKeyIdentifier => 82,
+        KnownPart::KeyUsage => 83,
+        KnownPart::CertificatePolicies => 84,
+    }
+}
+
+/// How the use of a key is passed.
+fn usage_number(usage: Option<KeyUsage>) -> u8
+    ensures { result ≡ usage_number usage }
+{
+    match usage {
+        None => 0,
+        Some(KeyUsage::Ca) => 1,
+        Some(KeyUsage::Ee) => 2,
+    }
+}
+
+/// How a policy is passed.
+fn policy_number(policy: Option<Overclaim>) -> u8
+    ensures { result ≡ policy_number policy }
+{
+    match policy {
+        None => 0,
+        Some(Overclaim::Refuse) => 1,
+        Some(Overclaim::Trim) => 2,
+    }
+}
+
+/// The octets of a key identifier; zeros where there is none.
+fn octets_of(identifier: Option<KeyIdentifier>) -> [u8; 20]
+    ensures { IsIdentifierOf identifier result }
+{
+    match identifier {
+        Some(identifier) => <[u8; 20]>::from(identifier),
+        None => [0; 20],
+    }
+}
+
+/// The extension of this identifier in the certificate that the octets are.
+fn extension_at(octets: &[u8], found: &CertView<'_>, id: ConstOid) -> KnownExtension
+    ensures { (x : CertParts) → IsCertAt octets.now found.now x
+        → IsExtensionAt octets.now (find id.entry.0.now x.tbs.extensions) result }
+{
+    let list = found.tbs.named.keyed.extensions;
+    let end = octets.len().saturating_sub(found.parts.data.following);
+    match find_in(Constructed::from_slice(list.octets), id) {
+        Some((extension, following)) => {
+            let section = Section {
+                octets: extension.octets(),
+                following,
+            };
+            KnownExtension {
+                octets: place_of(end, list.following, section),
+                is_there: true,
+                critical: extension.critical(),
+            }
+        }
+        None => KnownExtension {
+            octets: Place {
+                start: 0,
+                length: 0,
+            },
+            is_there: false,
+            critical: false,
+        },
+    }
+}
+
+/// The extensions of the certificate that the octets are, which say this.
+fn extensions_of(octets: &[u8], found: &CertView<'_>, known: KnownView) -> CertificateExtensions
+    requires { (x : CertParts) × IsCertAt octets.now found.now x × AreKnown x.tbs.extensions known }
+    ensures { HasExtensions octets.now result }
+{
+    CertificateExtensions {
+        basic_constraints: extension_at(octets, found, oid::CE_BASIC_CONSTRAINTS),
+        subject_key_identifier: extension_at(octets, found, oid::CE_SUBJECT_KEY_IDENTIFIER),
+        authority_key_identifier: extension_at(octets, found, oid::CE_AUTHORITY_KEY_IDENTIFIER),
+        key_usage: extension_at(octets, found, oid::CE_KEY_USAGE),
+        extended_key_usage: extension_at(octets, found, oid::CE_EXTENDED_KEY_USAGE),
+        crl_distribution_points: extension_at(octets, found, oid::CE_CRL_DISTRIBUTION_POINTS),
+        authority_info_access: extension_at(octets, found, oid::PE_AUTHORITY_INFO_ACCESS),
+        subject_info_access: extension_at(octets, found, oid::PE_SUBJECT_INFO_ACCESS),
+        certificate_policies: extension_at(octets, found, oid::CE_CERTIFICATE_POLICIES),
+        ip_resources: extension_at(octets, found, oid::PE_IP_ADDR_BLOCK),
+        ip_resources_v2: extension_at(octets, found, oid::PE_IP_ADDR_BLOCK_V2),
+        as_resources: extension_at(octets, found, oid::PE_AUTONOMOUS_SYS_IDS),
+        as_resources_v2: extension_at(octets, found, oid::PE_AUTONOMOUS_SYS_IDS_V2),
+        subject_key: octets_of(known.subject_key_identifier),
+        authority_key: octets_of(known.authority_key_identifier),
+        is_ca: known.ca,
+        usage: usage_number(known.key_usage),
+        policy: policy_number(known.overclaim),
+    }
+}
+
+/// Reads a resource certificate, as `rpki_certificate` does, and says where its extensions stand (RFC 6487 4.8), and
+/// what the basic constraints, both key identifiers, the key usage and the certificate policies say.
+///
+/// The status is 0. It is 80 to 84 where one of these five is there, but malformed, or not as critical as it has to be:
+/// the first of them. Else it is the number of the part that is wrong, as that of `rpki_certificate`. `out` is unchanged
+/// where the status is not 0. Nothing is allocated.
+#[unsafe(no_mangle)]
+pub extern "C" fn rpki_certificate_extensions(octets: &[u8], out: &mut CertificateExtensions) -> u8
+    ensures { AreExtensionsRead octets.now result out.old out.new }
+{
+    let found = match CertView::read(octets) {
+        Ok(found) => found,
+        Err(part) => return part_number(part),
+    };
+    match found.tbs.named.keyed.known() {
+        Ok(known) => {
+            *out = extensions_of(octets, &found, known);
+            0
+        }
+        Err(part) => known_number(part),
+    }
+}
