@@ -4,7 +4,7 @@
 -- What is signed, and a certificate around it: CertLaws. What an extension says: KnownLaws, PolicyLaws, AccessLaws.
 -- Checks of profiles: ProfileLaws.
 -- Read in place: values, names, lists of extensions, fields, certificates: NestedLaws, NameViewLaws, ListedLaws,
---   FieldsLaws, ViewLaws.
+--   FieldsLaws, ViewLaws. That what is wrong is no certificate: WrongLaws.
 
 pub mod SomeLaws
 pub mod ExtensionListLaws
@@ -18,3 +18,4 @@ pub mod NameViewLaws
 pub mod ListedLaws
 pub mod FieldsLaws
 pub mod ViewLaws
+pub mod WrongLaws

@@ -1,10 +1,10 @@
 //! Certificates, read in place without memory (RFC 5280 4.1).
 
-ghost use Rattle.std.specs.Prelude.{◌≡◌, List, ℕ, Bool, IfOk, IfErr};
+ghost use Rattle.std.specs.Prelude.{◌≡◌, ◌<◌, List, ℕ, Bool, IfOk, IfErr, length};
 ghost use Rattle.rpki_der.specs.Cursor.{left};
 ghost use Rattle.rpki.specs.SignedData.{SignedParts, SpellsSignature, IsSignedContents};
-ghost use Rattle.rpki_cert.specs.Cert.{CertParts, SpellsRpkiAlgorithm};
-ghost use Rattle.rpki_cert.specs.View.{IsWholeOf, ArePartsIn, ArePartsWrong, IsCertAt, IsCertWrong};
+ghost use Rattle.rpki_cert.specs.Cert.{CertParts, SpellsRpkiAlgorithm, SpellsCert};
+ghost use Rattle.rpki_cert.specs.View.{most_extensions, IsWholeOf, ArePartsIn, ArePartsWrong, IsCertAt, IsCertWrong};
 
 use crate::cert::is_same;
 use crate::cert_part::CertPart;
@@ -99,6 +99,8 @@ impl<'a> CertView<'a> {
     pub fn read(octets: &'a [u8]) -> Result<CertView<'a>, CertPart>
         ensures ok { IfOk result (λ v. (x : CertParts) × IsCertAt octets.now v x) }
         ensures err { IfErr result (λ q. IsCertWrong octets.now q) }
+        ensures none { IfErr result (λ _. (x : CertParts) → SpellsCert x octets.now
+            → most_extensions < length x.tbs.extensions) }
     {
         let contents = match only_in(Constructed::from_slice(octets), Tag::SEQUENCE) {
             Some(contents) => contents,
