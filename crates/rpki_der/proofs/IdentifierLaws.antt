@@ -7,6 +7,7 @@ use Rattle.rpki_der.specs.declared.tag.Class.{Class}
 use Rattle.rpki_der.specs.declared.tag.Class.TheVariants.{Universal, Application, Context, Private}
 use Rattle.rpki_der.specs.TagName.{TagName, IsTag, tag_of}
 use Rattle.rpki_der.specs.Header.{class_number, form_number, lead, identifier_octets}
+use Rattle.rpki_der.specs.KindLaws.{class-takes, form-takes}
 use Rattle.rpki_der.specs.HeaderReading.{◌>>=◌, class_at, number_at, identifier_at}
 use Rattle.rpki_der.proofs.StepLaws.{IsBytes, IsBytes-rest, IsBytes-cons, pair-is, bind-ok, bind-err}
 use Rattle.rpki_der.proofs.TagNumberLaws.{groups, number-again, number-takes, number-stays, number-completes, number-errors}
@@ -27,13 +28,6 @@ class-below Application = omega arith
 class-below Context = omega arith
 class-below Private = omega arith
 
-class-takes : (n : ℕ) → n < 4 → class_number (class_at n) ≡ n
-class-takes zero lt = refl
-class-takes (suc zero) lt = refl
-class-takes (suc (suc zero)) lt = refl
-class-takes (suc (suc (suc zero))) lt = refl
-class-takes (suc (suc (suc (suc n)))) lt = absurd (omega arith)
-
 universal-is : (n : ℕ) → class_at n ≡ Universal → n ≡ 0
 universal-is zero e = refl
 universal-is (suc zero) e = absurd cc
@@ -47,11 +41,6 @@ form-again false = refl
 form-below : (f : Bool) → form_number f < 2
 form-below true = omega arith
 form-below false = omega arith
-
-form-takes : (n : ℕ) → n < 2 → form_number (eqb n 1) ≡ n
-form-takes zero lt = refl
-form-takes (suc zero) lt = refl
-form-takes (suc (suc n)) lt = absurd (omega arith)
 
 -- the octet is made of its three parts
 lead-takes : (b : ℕ) → b < 256 → lead (tag_of (class_at (b / 64)) (b % 32)) (eqb (b / 32 % 2) 1) (b % 32) ≡ b

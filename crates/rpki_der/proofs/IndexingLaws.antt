@@ -38,6 +38,10 @@ made-is : (at k n : ℕ) (t : TagName) (f : Bool) (c : List ℕ) (parent : Optio
 made-is at k n t f c parent h l =
     sym (ap (λ (x : ℕ). made at x n t f parent) h ∙ ap (λ (x : ℕ). made at (length (header t f (length c))) x t f parent) l)
 
+-- the entry of a header that begins octets
+pub made-here : {s : List ℕ} {t : TagName} {f : Bool} {n k : ℕ} {e : Entry} (at : ℕ) (parent : Option ℕ) → BeginsWithHeader s t f n k → e ≡ made at (length (header t f n)) n t f parent → e ≡ made at k n t f parent
+made-here {t = t} {f = f} {n = n} at parent h is = is ∙ ap (λ (x : ℕ). made at x n t f parent) (sym h.size)
+
 -- ---- the entries of open values
 
 -- entries stay where they are

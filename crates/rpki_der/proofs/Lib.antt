@@ -68,6 +68,7 @@ pub mod EachLaws
 pub mod ListFaultLaws
 pub mod CaptureLaws
 pub mod PartsLaws
+mod HeaderSizeLaws
 mod SomeFaultLaws
 mod ShortestLaws
 mod IndexReadingLaws

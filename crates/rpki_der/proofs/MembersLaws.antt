@@ -9,7 +9,6 @@ use Rattle.rpki_der.specs.Header.{digits, lead, identifier_octets, length_octets
 use Rattle.rpki_der.specs.Reading.{Spells, Accepts}
 use Rattle.rpki_der.specs.Values.{SpellsHeader, IsHeaderFault}
 use Rattle.rpki_der.specs.Members.{Members, Empty, Primitive, Constructed, spell, HaveHeaders, count, header_count, AreValues, IsValue, IsValueOf, SpellsValue}
-use Rattle.rpki_der.proofs.DigitLaws.{length-digits}
 use Rattle.rpki_der.proofs.HeaderReadingLaws.{one-header}
 use Rattle.rpki_der.proofs.HeaderFaultLaws.{no-fault-at-header}
 
@@ -46,25 +45,6 @@ some-length n = go (nat_lt n 128)
 
 pub two-octets : (t : TagName) (f : Bool) (n : ℕ) → 2 ≤ length (header t f n)
 two-octets t f n = omega (arith, some-identifier t f, some-length n, length-append (identifier_octets t f) (length_octets n))
-
-few-identifier : (t : TagName) (f : Bool) → length (identifier_octets t f) ≤ 5
-unfolding identifier_octets
-few-identifier t f = go (nat_lt t.number 31)
-  where
-    go : (b : Bool) → length (if b then lead t f t.number ∷ [] else lead t f 31 ∷ (digits 128 128 3 (t.number / 128) ++ (t.number % 128) ∷ [])) ≤ 5
-    go true = omega arith
-    go false = omega (arith, length-digits 128 128 3 (t.number / 128), length-append (digits 128 128 3 (t.number / 128)) ((t.number % 128) ∷ []))
-
-few-length : (n : ℕ) → length (length_octets n) ≤ 5
-unfolding length_octets
-few-length n = go (nat_lt n 128)
-  where
-    go : (b : Bool) → length (if b then n ∷ [] else (128 + length (digits 256 0 4 n)) ∷ digits 256 0 4 n) ≤ 5
-    go true = omega arith
-    go false = omega (arith, length-digits 256 0 4 n)
-
-pub few-octets : (t : TagName) (f : Bool) (n : ℕ) → length (header t f n) ≤ 10
-few-octets t f n = omega (arith, few-identifier t f, few-length n, length-append (identifier_octets t f) (length_octets n))
 
 -- one header, read twice
 pub record SameHeader (t t' : TagName) (f f' : Bool) (n n' : ℕ) (x y : List ℕ) : Type 0 where

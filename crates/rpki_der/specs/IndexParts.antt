@@ -1,6 +1,8 @@
 -- How an index is made, and how its entries are kept.
 use Rattle.std.specs.Prelude.{◌≡◌, ℕ, ◌+◌, Bool, true, false, List, [], ◌∷◌, ◌++◌, length, Option, Some, None, slice_get}
 use Rattle.rpki_der.specs.declared.tag.Header.{Header}
+use Rattle.rpki_der.specs.Header.{identifier_octets, length_octets}
+use Rattle.rpki_der.specs.Kind.{HeaderKind}
 use Rattle.rpki_der.specs.Members.{Members, spell, HaveHeaders, count}
 use Rattle.rpki_der.specs.Index.{Entry, entries}
 
@@ -24,6 +26,23 @@ holder_of (Some n) = n
 abbrev pub is_held : Option ℕ → Bool
 is_held None = false
 is_held (Some n) = true
+
+-- how many octets a header has, with contents of this length
+abbrev pub header_size : HeaderKind → ℕ → ℕ
+header_size k n = length (identifier_octets k.tag k.constructed ++ length_octets n)
+
+-- the entry that is kept by these parts
+abbrev pub entry_of : ℕ → ℕ → ℕ → HeaderKind → Entry
+entry_of place holder n k =
+    let contents = place + header_size k n in
+    record {
+      place = place;
+      contents = contents;
+      past = contents + n;
+      tag = k.tag;
+      constructed = k.constructed;
+      parent = parent_of k.is_inner holder;
+    }
 
 -- the entry of a header of this size at this place
 abbrev pub entry_at : ℕ → ℕ → Header → Option ℕ → Entry

@@ -15,6 +15,7 @@ pub mod Leaves
 pub mod WantedValue
 pub mod ContentView
 pub mod Members
+pub mod Kind
 pub mod Index
 pub mod IndexParts
 pub mod IndexMembers
@@ -46,3 +47,4 @@ pub mod NumberLaws
 pub mod EqualLaws
 pub mod ValueListLaws
 pub mod TreeLaws
+pub mod KindLaws

@@ -63,7 +63,7 @@ fn identifier(s: &[u8]) -> Result<(Tag, bool, &[u8]), DecodeError>
 }
 
 /// The class with this number, from 0 to 3 (X.690 8.1.2.2, table 1).
-fn class_of(number: u8) -> Class
+pub(crate) fn class_of(number: u8) -> Class
     requires { number < 4 }
     ensures { class_number result ≡ number }
 {
@@ -72,6 +72,18 @@ fn class_of(number: u8) -> Class
         1 => Class::Application,
         2 => Class::Context,
         _ => Class::Private,
+    }
+}
+
+/// The number of a class, from 0 to 3 (X.690 8.1.2.2, table 1).
+pub(crate) fn number_of(class: Class) -> u8
+    ensures { result ≡ class_number class }
+{
+    match class {
+        Class::Universal => 0,
+        Class::Application => 1,
+        Class::Context => 2,
+        Class::Private => 3,
     }
 }
 

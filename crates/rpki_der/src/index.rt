@@ -1,7 +1,8 @@
 //! Entries of an index of headers.
 
-ghost use Rattle.std.specs.Prelude.{◌≡◌, ◌+◌, ◌-◌, ◌<◌, ◌^◌, None, Some};
+ghost use Rattle.std.specs.Prelude.{◌≡◌, ◌+◌, ◌-◌, ◌<◌, ◌^◌, None, Some, length};
 
+use crate::kind::Kind;
 use crate::tag::{Header, Tag};
 use std::marker::Model;
 
@@ -12,58 +13,43 @@ pub struct HeaderEntry {
     /// The number of the parent, or 0 where there is none.
     holder: usize,
     length: u32,
-    tag: Tag,
-    size: u8,
-    constructed: bool,
-    is_inner: bool,
+    kind: Kind,
 }
 
 impl Model for HeaderEntry {
     ghost use Rattle.std.specs.Prelude.{◌≡◌, ◌+◌, ◌-◌, ◌<◌, ◌^◌, false};
     ghost use Rattle.rpki_der.specs.Index.{Entry};
-    ghost use Rattle.rpki_der.specs.IndexParts.{parent_of, holder_of, is_held};
+    ghost use Rattle.rpki_der.specs.IndexParts.{parent_of, holder_of, is_held, header_size, entry_of};
 
     ghost Value = { Entry };
 
-    ghost view = { λ e. record {
-      place = e.place;
-      contents = e.place + e.size;
-      past = e.place + e.size + e.length;
-      tag = e.tag;
-      constructed = e.constructed;
-      parent = parent_of e.is_inner e.holder;
-    } };
+    ghost view = { λ e. entry_of e.place e.holder e.length e.kind };
 
-    ghost invariant = { λ e. (e.place + e.size + e.length < 2 ^ 64)
-        × (e.holder ≡ holder_of (parent_of e.is_inner e.holder)) };
+    ghost invariant = { λ e. (e.place + header_size e.kind e.length + e.length < 2 ^ 64)
+        × (e.holder ≡ holder_of (parent_of e.kind.is_inner e.holder)) };
 
     ghost inverse = { λ e. record {
       place = e.place;
       holder = holder_of e.parent;
       length = e.past - e.contents;
-      tag = e.tag;
-      size = e.contents - e.place;
-      constructed = e.constructed;
-      is_inner = is_held e.parent;
+      kind = record { tag = e.tag; constructed = e.constructed; is_inner = is_held e.parent };
     } };
 }
 
 impl HeaderEntry {
+    ghost use Rattle.rpki_der.specs.Header.{header_octets};
     ghost use Rattle.rpki_der.specs.IndexParts.{entry_at};
 
-    /// The entry of a header of this size, at this place, in the value whose entry has this number.
-    pub(crate) fn new(place: usize, size: u8, header: &Header, parent: Option<usize>) -> HeaderEntry
-        requires { place + size + header.now.length < 2 ^ 64 }
-        ensures { result ≡ entry_at place size header.now parent }
+    /// The entry of a header at this place, in the value whose entry has this number.
+    pub(crate) fn new(place: usize, header: &Header, parent: Option<usize>) -> HeaderEntry
+        requires { place + length (header_octets header.now) + header.now.length < 2 ^ 64 }
+        ensures { result ≡ entry_at place (length (header_octets header.now)) header.now parent }
     {
         HeaderEntry {
             place,
             holder: parent.unwrap_or(0),
             length: header.length,
-            tag: header.tag,
-            size,
-            constructed: header.constructed,
-            is_inner: parent.is_some(),
+            kind: Kind::new(header.tag, header.constructed, parent.is_some()),
         }
     }
 
@@ -76,8 +62,8 @@ impl HeaderEntry {
         } }
     {
         Header {
-            tag: self.tag,
-            constructed: self.constructed,
+            tag: self.tag(),
+            constructed: self.constructed(),
             length: self.length,
         }
     }
@@ -93,35 +79,35 @@ impl HeaderEntry {
     pub fn contents(&self) -> usize
         ensures { result ≡ self.now.contents }
     {
-        self.place + self.size as usize
+        self.place + self.kind.header_len(self.length)
     }
 
     /// The place just past the contents.
     pub fn past(&self) -> usize
         ensures { result ≡ self.now.past }
     {
-        self.place + self.size as usize + self.length as usize
+        self.contents() + self.length as usize
     }
 
     /// The tag.
     pub fn tag(&self) -> Tag
         ensures { result ≡ self.now.tag }
     {
-        self.tag
+        self.kind.tag()
     }
 
     /// Whether the contents are values themselves.
     pub fn constructed(&self) -> bool
         ensures { result ≡ self.now.constructed }
     {
-        self.constructed
+        self.kind.constructed()
     }
 
     /// The number of the entry of the value that holds this one.
     pub fn parent(&self) -> Option<usize>
         ensures { result ≡ self.now.parent }
     {
-        if self.is_inner {
+        if self.kind.is_inner() {
             Some(self.holder)
         } else {
             None

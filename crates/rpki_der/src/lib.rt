@@ -22,6 +22,7 @@ mod header;
 mod index;
 mod indexed;
 mod integer;
+mod kind;
 pub mod laws;
 mod leaf;
 mod members;

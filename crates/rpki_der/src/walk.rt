@@ -29,7 +29,6 @@ fn take_header_within(octets: &[u8], steps: &mut Steps) -> Result<(Header, usize
     ensures counted { steps.new ≡ steps.old + 1 }
     ensures within { IfOk result (λ x. x.1 + x.0.length ≤ length octets.now) }
     ensures found { IfOk result (λ x. Spells SpellsHeader octets.now x.0 (drop x.1 octets.now)) }
-    ensures few { IfOk result (λ x. x.1 < 256) }
     ensures refused { IfErr result (λ e. IsNestedFault octets.now e) }
 {
     steps.raise();
@@ -117,7 +116,7 @@ pub(crate) fn walk_value(
         Err(e) => return Err(e),
     };
     let past = size + first.length as usize;
-    let entry = HeaderEntry::new(before, size as u8, &first, None);
+    let entry = HeaderEntry::new(before, &first, None);
     let name = note(entries, keep, entry, past)?;
     if !first.constructed {
         return Ok(past);
@@ -140,7 +139,7 @@ pub(crate) fn walk_value(
             Err(e) => return Err(e),
         };
         let past = place + size + found.length as usize;
-        let entry = HeaderEntry::new(before + place, size as u8, &found, Some(innermost));
+        let entry = HeaderEntry::new(before + place, &found, Some(innermost));
         let inner = note(entries, keep, entry, past)?;
         if !found.constructed {
             place = past;

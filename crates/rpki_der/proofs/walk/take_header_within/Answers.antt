@@ -1,7 +1,5 @@
 use Rattle.std.proofs.Common.{◌<◌, length, arith, ap}
 use Rattle.rpki_der.specs.NestedFault.{AtHeader, AtContents}
-use Rattle.std.proofs.Common.{length-append}
-use Rattle.rpki_der.proofs.MembersLaws.{few-octets}
 use Rattle.rpki_der.proofs.walk.take_header_within.Goals as goal
 
 pub returns-in-Err-clause-refused : goal.returns-in-Err-clause-refused
@@ -14,9 +12,3 @@ pub returns-then-following-found-clause-refused : goal.returns-then-following-fo
 returns-then-following-found-clause-refused c =
     let h = c.in-Ok.ensures.ok in
     AtContents c.in-Ok.found.0 c.in-Ok.found.1.now h.spells c.if-following-found.true
-
-pub returns-clause-few : goal.returns-clause-few
-returns-clause-few c =
-    let h = c.in-Ok.ensures.ok in
-    let x = c.in-Ok.found.0 in
-    omega (arith, few-octets x.tag x.constructed x.length, ap length h.spells.spelled.octets, ap length h.spells.parts, length-append h.spells.front c.in-Ok.found.1.now)

@@ -1,12 +1,11 @@
-use Rattle.std.proofs.Common.{◌≡◌, ◌+◌, ◌-◌, ℕ, List, ◌++◌, length, take, sym, subst, ap, ◌∙◌, arith, [], ◌∷◌, inl, inr, refl, not, Some, None, length-append}
-use Rattle.std.specs.Prelude.{slice_get}
+use Rattle.std.proofs.Common.{◌≡◌, ◌+◌, ◌-◌, ℕ, List, ◌++◌, length, subst, ap, ◌∙◌, arith, [], ◌∷◌, inl, inr, refl, not, Some, None, length-append}
 use Rattle.std.proofs.lemmas.Result.{err_from_is_err_and}
 use Rattle.std.proofs.lemmas.Slice.{pushed}
 use Rattle.rpki_der.specs.Index.{Entry}
 use Rattle.rpki_der.specs.IndexParts.{IsEnd, noted}
 use Rattle.rpki_der.proofs.MembersLaws.{two-octets}
-use Rattle.rpki_der.proofs.WalkingLaws.{Innermost, begins-with, length-part, start-primitive}
-use Rattle.rpki_der.proofs.IndexingLaws.{made, ReadEnd, IsWalking, IsInside, end-known, last-is, around, none-around, noted-end, kept-end, inside, inside-part, inside-fault, inside-fits, inside-end, inside-primitive, inside-constructed, start-listed, start-walking, walking-done, takes-memory, takes-memory-open}
+use Rattle.rpki_der.proofs.WalkingLaws.{begins-with, start-primitive}
+use Rattle.rpki_der.proofs.IndexingLaws.{made, made-here, IsWalking, last-is, around, none-around, noted-end, kept-end, inside, inside-fault, inside-fits, inside-end, inside-primitive, inside-constructed, start-listed, start-walking, walking-done, takes-memory, takes-memory-open}
 use Rattle.rpki_der.proofs.walk.walk_value.Goals as goal
 
 pub returns-in_err-name-clause-refused : goal.returns-in_err-name-clause-refused
@@ -25,9 +24,10 @@ pub returns-then-not-first-clause-kept : goal.returns-then-not-first-clause-kept
 returns-then-not-first-clause-kept c =
     let h = c.in-Ok.ensures in
     let x = c.in-Ok.entered in
+    let front = begins-with x.1 h.found h.within in
     let more : c.note.new.entries.items ≡ c.args.entries.now.items ++ noted c.args.keep (made c.args.before x.1 x.0.length x.0.tag x.0.constructed None) =
-    c.in_ok-name.ensures.noted ∙ ap (λ (y : Entry). c.args.entries.now.items ++ noted c.args.keep y) c.new-entry.ensures in
-    start-listed _ (ap not c.if-not-first.true) (begins-with c.in-Ok.entered.1 h.found h.within) h.within more
+    c.in_ok-name.ensures.noted ∙ ap (λ (y : Entry). c.args.entries.now.items ++ noted c.args.keep y) (made-here c.args.before None front c.new-entry.ensures) in
+    start-listed _ (ap not c.if-not-first.true) front h.within more
 
 pub returns-in_err-push-clause-refused : goal.returns-in_err-push-clause-refused
 returns-in_err-push-clause-refused c =
@@ -39,10 +39,10 @@ pub values-init : goal.values-init
 values-init c =
     let h = c.in-Ok.ensures in
     let x = c.in-Ok.entered in
+    let front = begins-with x.1 h.found h.within in
     let e : Entry = made c.args.before x.1 x.0.length x.0.tag x.0.constructed None in
     let more : c.note.new.entries.items ≡ c.args.entries.now.items ++ noted c.args.keep e =
-    c.in_ok-name.ensures.noted ∙ ap (λ (y : Entry). c.args.entries.now.items ++ noted c.args.keep y) c.new-entry.ensures in
-    let front = begins-with x.1 h.found h.within in
+    c.in_ok-name.ensures.noted ∙ ap (λ (y : Entry). c.args.entries.now.items ++ noted c.args.keep y) (made-here c.args.before None front c.new-entry.ensures) in
     let one : c.new-open.result.items ++ c.in_ok-name.name ∷ [] ≡ c.in_ok-name.name ∷ [] = ap (λ (y : List ℕ). y ++ c.in_ok-name.name ∷ []) c.new-open.ensures.items in
     record {
       low = omega (arith, h.within);
@@ -109,7 +109,7 @@ values-preserved-then-not-found c =
     let front = begins-with x.1 h.found h.within in
     let e : Entry = made (c.args.before + c.values.place) x.1 x.0.length x.0.tag x.0.constructed (Some c.values.innermost) in
     let more : c.note-in-values.new.entries.items ≡ c.values.entries.items ++ noted c.args.keep e =
-    c.in_ok-inner.ensures.noted ∙ ap (λ (y : Entry). c.values.entries.items ++ noted c.args.keep y) c.new-entry-in-values.ensures in
+    c.in_ok-inner.ensures.noted ∙ ap (λ (y : Entry). c.values.entries.items ++ noted c.args.keep y) (made-here (c.args.before + c.values.place) (Some c.values.innermost) front c.new-entry-in-values.ensures) in
     let fits = inside-fits i front h.within in
     record {
       low = fits.0;
@@ -138,7 +138,7 @@ values-preserved c =
     let front = begins-with x.1 h.found h.within in
     let e : Entry = made (c.args.before + c.values.place) x.1 x.0.length x.0.tag x.0.constructed (Some c.values.innermost) in
     let more : c.note-in-values.new.entries.items ≡ c.values.entries.items ++ noted c.args.keep e =
-    c.in_ok-inner.ensures.noted ∙ ap (λ (y : Entry). c.values.entries.items ++ noted c.args.keep y) c.new-entry-in-values.ensures in
+    c.in_ok-inner.ensures.noted ∙ ap (λ (y : Entry). c.values.entries.items ++ noted c.args.keep y) (made-here (c.args.before + c.values.place) (Some c.values.innermost) front c.new-entry-in-values.ensures) in
     let fits = inside-fits i front h.within in
     let longer = pushed (c.values.innermost ∷ []) refl c.in_ok-push.was c.push.ensures.items in
     let names : c.push.new.self.items ++ c.in_ok-inner.inner ∷ [] ≡ (c.values.open.items ++ c.values.innermost ∷ []) ++ c.in_ok-inner.inner ∷ [] = ap (λ (y : List ℕ). y ++ c.in_ok-inner.inner ∷ []) longer in
