@@ -4,10 +4,13 @@
 //! nobody writes to while they are borrowed, and places to write to that are borrowed for the call alone and so apart
 //! from everything else: that is all that the header asks for. Miri runs no foreign functions, and so none of this.
 
+use std::mem::MaybeUninit;
+
 /// What a call returns: 0, or the number of what is wrong.
 pub(crate) type Status = u8;
 
 pub(crate) const CONTENT: Status = 5;
+pub(crate) const OUT_OF_MEMORY: Status = 7;
 pub(crate) const TOO_SMALL: Status = 9;
 pub(crate) const NO_ANSWER: Status = 10;
 pub(crate) const TOO_LONG: Status = 15;
@@ -461,16 +464,32 @@ readers! {
     https_parse(rpki_https_parse) -> HttpsParts;
 }
 
-/// Writes the entries to the front of the array, and says how many there are.
-pub(crate) fn index(octets: &[u8], entries: &mut [Entry]) -> Result<usize, Status> {
+/// The entries of the value at the front of the octets. `OUT_OF_MEMORY` also where there is no room for them.
+pub(crate) fn index(octets: &[u8]) -> Result<Vec<Entry>, Status> {
+    // As many as certificates have, which are then found in one call.
+    let mut few = [MaybeUninit::<Entry>::uninit(); 128];
+    let mut entries: Vec<Entry> = Vec::new();
     let mut count = 0;
     // SAFETY: both pointers and sizes are those of slices, which are borrowed for the call, the second for writing
     // alone; `count` is this function's own.
-    let status = unsafe { rpki_index(octets.as_ptr(), octets.len(), entries.as_mut_ptr(), entries.len(), &mut count) };
-    match status {
-        0 => Ok(count),
-        status => Err(status),
+    let status = unsafe { rpki_index(octets.as_ptr(), octets.len(), few.as_mut_ptr().cast(), few.len(), &mut count) };
+    if status != 0 && status != TOO_SMALL {
+        return Err(status);
     }
+    entries.try_reserve_exact(count).map_err(|_| OUT_OF_MEMORY)?;
+    if status == 0 {
+        // SAFETY: so many entries of `few` were written, and there is room for as many.
+        unsafe { few.as_ptr().cast::<Entry>().copy_to_nonoverlapping(entries.as_mut_ptr(), count) };
+    } else {
+        // SAFETY: as above; the capacity is what was reserved.
+        let status = unsafe { rpki_index(octets.as_ptr(), octets.len(), entries.as_mut_ptr(), count, &mut count) };
+        if status != 0 {
+            return Err(status);
+        }
+    }
+    // SAFETY: so many entries were written.
+    unsafe { entries.set_len(count) };
+    Ok(entries)
 }
 
 pub(crate) fn name_inspect(octets: &[u8], profile: u8, strict: bool) -> Result<(), Status> {

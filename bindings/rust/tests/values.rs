@@ -57,6 +57,17 @@ fn an_index_ends_with_its_value() {
     assert_eq!(Index::of(&[0xff; 1 << 20]).unwrap_err(), DecodeError::BadTag);
 }
 
+/// An index of few entries is found in one call, and of more in two.
+#[test]
+fn an_index_has_as_many_entries_as_there_are_headers() {
+    for (count, header) in [(126, &b"\x30\x81\xfc"[..]), (127, b"\x30\x81\xfe"), (128, b"\x30\x82\x01\x00")] {
+        let octets = [header, &[5, 0].repeat(count)].concat();
+        let index = Index::of(&octets).unwrap();
+        assert_eq!((index.len(), index.root().children().count()), (count + 1, count));
+        assert_eq!(index.get(count).unwrap().start(), octets.len() - 2, "of {count} NULLs");
+    }
+}
+
 /// A value keeps all of the octets that it was read from.
 #[test]
 fn values_keep_their_octets() {

@@ -30,14 +30,8 @@ impl<'a> Index<'a> {
     /// # Errors
     /// Those of [`walk`](crate::view::walk); `OutOfMemory` also where there is no room for the entries.
     pub fn of(octets: &'a [u8]) -> Result<Index<'a>, DecodeError> {
-        let walked = ffi::walk(octets).map_err(DecodeError::from_status)?;
-        let octets = &octets[..walked.size];
-        let count = usize::try_from(walked.headers).map_err(|_| DecodeError::OutOfMemory)?;
-        let mut entries = Vec::new();
-        entries.try_reserve_exact(count).map_err(|_| DecodeError::OutOfMemory)?;
-        entries.resize(count, ffi::Entry::default());
-        ffi::index(octets, &mut entries).map_err(DecodeError::from_status)?;
-        Ok(Index { octets, entries })
+        let entries = ffi::index(octets).map_err(DecodeError::from_status)?;
+        Ok(Index { octets: &octets[..entries[0].end], entries })
     }
 
     /// The octets of the value.
