@@ -20,7 +20,7 @@
 -- A cursor: CursorLaws.
 -- Contents: numbers, identifiers, strings: IntegerLaws, UnsignedLaws, OidLaws, TextLaws.
 -- What is hashed of octets and numbers: HashLaws.
--- Bits of the octets of headers: OctetBitLaws.
+-- The octets of headers, their bits and how many they are: OctetBitLaws, HeaderSizeLaws.
 -- Digits of numbers, and that they are the shortest: DigitLaws, ShortestLaws.
 -- What is written, and that it is read back: EncodeLaws, HeaderWritingLaws, WritingLaws, LeafWritingLaws,
 --   LeafValueLaws.
