@@ -11,7 +11,7 @@ use Rattle.rpki_cert.specs.declared.policy.Overclaim.{Overclaim}
 use Rattle.rpki_cert.specs.declared.policy.Overclaim.TheVariants.{Refuse, Trim}
 use Rattle.rpki_cert.specs.Cert.{CertParts, SpellsCert, find}
 use Rattle.rpki_cert.specs.Known.{subject_key_identifier, key_usage, basic_constraints, crl_distribution_points, certificate_policies, authority_key_identifier, extended_key_usage, authority_info_access, subject_info_access, ip_addr_blocks, ip_addr_blocks_v2, autonomous_sys_ids, autonomous_sys_ids_v2}
-use Rattle.rpki_cert.specs.KnownView.{AreKnown, IsKnownWrong}
+use Rattle.rpki_cert.specs.KnownView.{AreKnown, IsFirstWrong}
 use Rattle.rpki_cert.specs.View.{IsCertWrong}
 use Rattle.rpki_c.specs.declared.certificate_extensions.KnownExtension.{KnownExtension}
 use Rattle.rpki_c.specs.declared.certificate_extensions.CertificateExtensions.{CertificateExtensions as Extensions}
@@ -74,11 +74,11 @@ pub record HasExtensions (s : List ℕ) (p : Extensions) : Type 0 where
   pub authority_key : IsIdentifierOf said.authority_key_identifier p.authority_key
 
 -- Status 0: the octets are a certificate of these extensions. 80 to 84: they are a certificate, of which the extension
--- of this number is malformed, or not as critical as it has to be. Else the number of the part that is wrong. Nothing
--- is written where the status is not 0.
+-- of this number, and none before it, is malformed or not as critical as it has to be. Else the number of the part that
+-- is wrong. Nothing is written where the status is not 0.
 abbrev pub AreExtensionsRead : List ℕ → ℕ → Extensions → Extensions → Type 0
 AreExtensionsRead s status old new =
     ((status ≡ 0) × HasExtensions s new)
     ⊎ ((q : KnownPart) × (cert : CertParts) × (status ≡ known_number q) × SpellsCert cert s
-    × IsKnownWrong cert.tbs.extensions q × (new ≡ old))
+    × IsFirstWrong cert.tbs.extensions q × (new ≡ old))
     ⊎ ((q : CertPart) × (status ≡ part_number q) × IsCertWrong s q × (new ≡ old))

@@ -33,3 +33,19 @@ IsKnownWrong xs SubjectKeyIdentifier = HasNone subject_key_identifier false Spel
 IsKnownWrong xs AuthorityKeyIdentifier = HasNone authority_key_identifier false SpellsAuthority xs
 IsKnownWrong xs KeyUsage = HasNone key_usage true SpellsUsage xs
 IsKnownWrong xs CertificatePolicies = HasNone certificate_policies true SpellsPolicies xs
+
+abbrev pub IsKnownRight : List ExtensionParts → KnownPart → Type 0
+IsKnownRight xs part = IsKnownWrong xs part → ⊥
+
+-- this one is wrong, and those before it are not
+abbrev pub IsFirstWrong : List ExtensionParts → KnownPart → Type 0
+IsFirstWrong xs BasicConstraints = IsKnownWrong xs BasicConstraints
+IsFirstWrong xs SubjectKeyIdentifier = IsKnownRight xs BasicConstraints × IsKnownWrong xs SubjectKeyIdentifier
+IsFirstWrong xs AuthorityKeyIdentifier =
+    IsKnownRight xs BasicConstraints × IsKnownRight xs SubjectKeyIdentifier × IsKnownWrong xs AuthorityKeyIdentifier
+IsFirstWrong xs KeyUsage =
+    IsKnownRight xs BasicConstraints × IsKnownRight xs SubjectKeyIdentifier × IsKnownRight xs AuthorityKeyIdentifier
+    × IsKnownWrong xs KeyUsage
+IsFirstWrong xs CertificatePolicies =
+    IsKnownRight xs BasicConstraints × IsKnownRight xs SubjectKeyIdentifier × IsKnownRight xs AuthorityKeyIdentifier
+    × IsKnownRight xs KeyUsage × IsKnownWrong xs CertificatePolicies

@@ -7,7 +7,7 @@ ghost use Rattle.rpki.specs.ExtensionValue.{ExtensionParts};
 ghost use Rattle.rpki_cert.specs.Cert.{find};
 ghost use Rattle.rpki_cert.specs.Known.{subject_key_identifier, key_usage, basic_constraints, authority_key_identifier, certificate_policies, present, HasOnly};
 ghost use Rattle.rpki_cert.specs.ExtensionContent.{SpellsConstraints, SpellsAuthority, SpellsUsage, SpellsPolicies};
-ghost use Rattle.rpki_cert.specs.KnownView.{OfListed, HasOtherCritical, AreKnown, IsKnownWrong};
+ghost use Rattle.rpki_cert.specs.KnownView.{OfListed, HasOtherCritical, AreKnown, IsKnownWrong, IsFirstWrong};
 
 use crate::fields::Keyed;
 use crate::key_usage::KeyUsage;
@@ -63,7 +63,8 @@ fn find_as<'a>(
 fn ca_in(list: &[u8]) -> Result<bool, KnownPart>
     ensures ok { IfOk result (λ b. OfListed list.now (λ xs. HasOnly basic_constraints true SpellsConstraints xs
         (present b))) }
-    ensures err { IfErr result (λ q. OfListed list.now (λ xs. IsKnownWrong xs q)) }
+    ensures err { IfErr result (λ q. (q ≡ KnownPart.BasicConstraints)
+        × OfListed list.now (λ xs. IsKnownWrong xs KnownPart.BasicConstraints)) }
 {
     match find_as(
         list,
@@ -84,7 +85,8 @@ fn ca_in(list: &[u8]) -> Result<bool, KnownPart>
 fn subject_in(list: &[u8]) -> Result<Option<KeyIdentifier>, KnownPart>
     ensures ok { IfOk result (λ v. OfListed list.now (λ xs. HasOnly subject_key_identifier false SpellsKeyIdentifier
         xs v)) }
-    ensures err { IfErr result (λ q. OfListed list.now (λ xs. IsKnownWrong xs q)) }
+    ensures err { IfErr result (λ q. (q ≡ KnownPart.SubjectKeyIdentifier)
+        × OfListed list.now (λ xs. IsKnownWrong xs KnownPart.SubjectKeyIdentifier)) }
 {
     match find_as(
         list,
@@ -105,7 +107,8 @@ fn subject_in(list: &[u8]) -> Result<Option<KeyIdentifier>, KnownPart>
 fn authority_in(list: &[u8]) -> Result<Option<KeyIdentifier>, KnownPart>
     ensures ok { IfOk result (λ v. OfListed list.now (λ xs. HasOnly authority_key_identifier false SpellsAuthority
         xs v)) }
-    ensures err { IfErr result (λ q. OfListed list.now (λ xs. IsKnownWrong xs q)) }
+    ensures err { IfErr result (λ q. (q ≡ KnownPart.AuthorityKeyIdentifier)
+        × OfListed list.now (λ xs. IsKnownWrong xs KnownPart.AuthorityKeyIdentifier)) }
 {
     match find_as(
         list,
@@ -125,7 +128,8 @@ fn authority_in(list: &[u8]) -> Result<Option<KeyIdentifier>, KnownPart>
 /// The use of the key that the list has.
 fn usage_in(list: &[u8]) -> Result<Option<KeyUsage>, KnownPart>
     ensures ok { IfOk result (λ v. OfListed list.now (λ xs. HasOnly key_usage true SpellsUsage xs v)) }
-    ensures err { IfErr result (λ q. OfListed list.now (λ xs. IsKnownWrong xs q)) }
+    ensures err { IfErr result (λ q. (q ≡ KnownPart.KeyUsage)
+        × OfListed list.now (λ xs. IsKnownWrong xs KnownPart.KeyUsage)) }
 {
     match find_as(list, oid::CE_KEY_USAGE, true, KnownPart::KeyUsage) {
         Ok(Some(extension)) => match usage_of(Constructed::from_slice(extension.octets())) {
@@ -140,7 +144,8 @@ fn usage_in(list: &[u8]) -> Result<Option<KeyUsage>, KnownPart>
 /// The policy that the list has.
 fn overclaim_in(list: &[u8]) -> Result<Option<Overclaim>, KnownPart>
     ensures ok { IfOk result (λ v. OfListed list.now (λ xs. HasOnly certificate_policies true SpellsPolicies xs v)) }
-    ensures err { IfErr result (λ q. OfListed list.now (λ xs. IsKnownWrong xs q)) }
+    ensures err { IfErr result (λ q. (q ≡ KnownPart.CertificatePolicies)
+        × OfListed list.now (λ xs. IsKnownWrong xs KnownPart.CertificatePolicies)) }
 {
     match find_as(
         list,
@@ -165,7 +170,7 @@ impl<'a> Keyed<'a> {
     /// five.
     pub fn known(&self) -> Result<KnownView, KnownPart>
         ensures ok { IfOk result (λ v. OfListed self.now.extensions.octets.now (λ xs. AreKnown xs v)) }
-        ensures err { IfErr result (λ q. OfListed self.now.extensions.octets.now (λ xs. IsKnownWrong xs q)) }
+        ensures err { IfErr result (λ q. OfListed self.now.extensions.octets.now (λ xs. IsFirstWrong xs q)) }
     {
         let list = self.extensions.octets;
         let ca = match ca_in(list) {

@@ -20,7 +20,9 @@ pub returns-in-Err-authority_of-clause-err : goal.returns-in-Err-authority_of-cl
 returns-in-Err-authority_of-clause-err c =
     let x = c.in-Ok-Some.extension in
     let some = rw c.in-Ok-Some.field-0-is at c.in-Ok-Some.ensures.some in
-    let wrong = rw (c.from_slice.ensures, c.octets.ensures) at c.in-Err-authority_of.ensures in
-    λ xs k. not-read authority_key_identifier false SpellsAuthority xs IsAuthorityFault x c.in-Err-authority_of.field-0 (some.1 xs k, some.0)
-    (λ h. inside-no-memory sequence true (FirstFault SpellsTagged IsTaggedFault (λ v. IsEndFault)) x.content
-    (λ d m. first-no-memory SpellsTagged IsTaggedFault (λ v. IsEndFault) d (λ l. leaf-no-memory identifier_tag false IsKeyIdentifier d OutOfMemory l refl) (λ v r l. end-no-memory r l) m) h) wrong
+    let wrong = rw (c.from_slice.ensures, c.octets.ensures) at c.in-Err-authority_of.ensures in (
+      refl,
+      λ xs k. not-read authority_key_identifier false SpellsAuthority xs IsAuthorityFault x c.in-Err-authority_of.field-0 (some.1 xs k, some.0)
+          (λ h. inside-no-memory sequence true (FirstFault SpellsTagged IsTaggedFault (λ v. IsEndFault)) x.content
+          (λ d m. first-no-memory SpellsTagged IsTaggedFault (λ v. IsEndFault) d (λ l. leaf-no-memory identifier_tag false IsKeyIdentifier d OutOfMemory l refl) (λ v r l. end-no-memory r l) m) h) wrong,
+    )

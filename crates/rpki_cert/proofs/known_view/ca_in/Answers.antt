@@ -15,7 +15,9 @@ pub returns-in-Err-constraints_of-clause-err : goal.returns-in-Err-constraints_o
 returns-in-Err-constraints_of-clause-err c =
     let x = c.in-Ok-Some.extension in
     let some = rw c.in-Ok-Some.field-0-is at c.in-Ok-Some.ensures.some in
-    let wrong = rw (c.from_slice.ensures, c.octets.ensures) at c.in-Err-constraints_of.ensures in
-    λ xs k. not-read basic_constraints true SpellsConstraints xs IsConstraintsFault x c.in-Err-constraints_of.field-0 (some.1 xs k, some.0)
-    (λ h. inside-no-memory sequence true (FirstFault SpellsTrue IsTrueFault (λ v. IsEndFault)) x.content
-    (λ d m. first-no-memory SpellsTrue IsTrueFault (λ v. IsEndFault) d (λ l. leaf-no-memory boolean false (IsOnly (boolean_contents true)) d OutOfMemory l refl) (λ v r l. end-no-memory r l) m) h) wrong
+    let wrong = rw (c.from_slice.ensures, c.octets.ensures) at c.in-Err-constraints_of.ensures in (
+      refl,
+      λ xs k. not-read basic_constraints true SpellsConstraints xs IsConstraintsFault x c.in-Err-constraints_of.field-0 (some.1 xs k, some.0)
+          (λ h. inside-no-memory sequence true (FirstFault SpellsTrue IsTrueFault (λ v. IsEndFault)) x.content
+          (λ d m. first-no-memory SpellsTrue IsTrueFault (λ v. IsEndFault) d (λ l. leaf-no-memory boolean false (IsOnly (boolean_contents true)) d OutOfMemory l refl) (λ v r l. end-no-memory r l) m) h) wrong,
+    )

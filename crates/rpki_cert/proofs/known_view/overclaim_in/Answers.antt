@@ -1,4 +1,4 @@
-use Rattle.std.proofs.Common.{true}
+use Rattle.std.proofs.Common.{true, refl}
 use Rattle.rpki_cert.proofs.PolicyLaws.{policies-no-memory}
 use Rattle.rpki_cert.specs.ExtensionContent.{SpellsPolicies, IsPoliciesFault}
 use Rattle.rpki_cert.specs.Known.{certificate_policies}
@@ -15,6 +15,8 @@ pub returns-in-Err-overclaim_of-clause-err : goal.returns-in-Err-overclaim_of-cl
 returns-in-Err-overclaim_of-clause-err c =
     let x = c.in-Ok-Some.extension in
     let some = rw c.in-Ok-Some.field-0-is at c.in-Ok-Some.ensures.some in
-    let wrong = rw (c.from_slice.ensures, c.octets.ensures) at c.in-Err-overclaim_of.ensures in
-    λ xs k. not-read certificate_policies true SpellsPolicies xs IsPoliciesFault x c.in-Err-overclaim_of.field-0 (some.1 xs k, some.0)
-    (λ h. policies-no-memory x.content h) wrong
+    let wrong = rw (c.from_slice.ensures, c.octets.ensures) at c.in-Err-overclaim_of.ensures in (
+      refl,
+      λ xs k. not-read certificate_policies true SpellsPolicies xs IsPoliciesFault x c.in-Err-overclaim_of.field-0 (some.1 xs k, some.0)
+          (λ h. policies-no-memory x.content h) wrong,
+    )

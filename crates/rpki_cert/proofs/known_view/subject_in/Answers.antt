@@ -17,6 +17,8 @@ pub returns-in-Err-identifier_of-clause-err : goal.returns-in-Err-identifier_of-
 returns-in-Err-identifier_of-clause-err c =
     let x = c.in-Ok-Some.extension in
     let some = rw c.in-Ok-Some.field-0-is at c.in-Ok-Some.ensures.some in
-    let wrong = rw (c.from_slice.ensures, c.octets.ensures) at c.in-Err-identifier_of.ensures in
-    λ xs k. not-read subject_key_identifier false SpellsKeyIdentifier xs (IsIdentifierFault IsKeyIdentifier) x c.in-Err-identifier_of.field-0 (some.1 xs k, some.0)
-    (λ h. leaf-no-memory octet_string false IsKeyIdentifier x.content OutOfMemory h.fault refl) wrong
+    let wrong = rw (c.from_slice.ensures, c.octets.ensures) at c.in-Err-identifier_of.ensures in (
+      refl,
+      λ xs k. not-read subject_key_identifier false SpellsKeyIdentifier xs (IsIdentifierFault IsKeyIdentifier) x c.in-Err-identifier_of.field-0 (some.1 xs k, some.0)
+          (λ h. leaf-no-memory octet_string false IsKeyIdentifier x.content OutOfMemory h.fault refl) wrong,
+    )

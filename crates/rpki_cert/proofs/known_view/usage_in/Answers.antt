@@ -17,6 +17,8 @@ pub returns-in-Err-usage_of-clause-err : goal.returns-in-Err-usage_of-clause-err
 returns-in-Err-usage_of-clause-err c =
     let x = c.in-Ok-Some.extension in
     let some = rw c.in-Ok-Some.field-0-is at c.in-Ok-Some.ensures.some in
-    let wrong = rw (c.from_slice.ensures, c.octets.ensures) at c.in-Err-usage_of.ensures in
-    λ xs k. not-read key_usage true SpellsUsage xs IsUsageFault x c.in-Err-usage_of.field-0 (some.1 xs k, some.0)
-    (λ h. leaf-no-memory bit_string false IsUsage x.content OutOfMemory h refl) wrong
+    let wrong = rw (c.from_slice.ensures, c.octets.ensures) at c.in-Err-usage_of.ensures in (
+      refl,
+      λ xs k. not-read key_usage true SpellsUsage xs IsUsageFault x c.in-Err-usage_of.field-0 (some.1 xs k, some.0)
+          (λ h. leaf-no-memory bit_string false IsUsage x.content OutOfMemory h refl) wrong,
+    )
