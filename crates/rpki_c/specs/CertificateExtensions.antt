@@ -1,5 +1,5 @@
 -- What a status says of the extensions of a certificate.
-use Rattle.std.specs.Prelude.{◌≡◌, ◌⊎◌, ℕ, true, false, List, Option, Some, None}
+use Rattle.std.specs.Prelude.{◌≡◌, ◌⊎◌, ℕ, true, false, List, Option, Some, None, replicate}
 use Rattle.rpki.specs.ExtensionValue.{ExtensionParts}
 use Rattle.rpki_cert.specs.declared.cert_part.CertPart.{CertPart}
 use Rattle.rpki_cert.specs.declared.known_part.KnownPart.{KnownPart}
@@ -38,14 +38,14 @@ policy_number None = 0
 policy_number (Some Refuse) = 1
 policy_number (Some Trim) = 2
 
--- the octets of a key identifier, where there is one
+-- the octets of a key identifier, where there is one; else twenty zeros
 abbrev pub IsIdentifierOf : Option (List ℕ) → List ℕ → Type 0
-IsIdentifierOf None octets = Unit {0}
+IsIdentifierOf None octets = octets ≡ replicate 20 0
 IsIdentifierOf (Some k) octets = octets ≡ k
 
 -- the extension's octets stand at the place in s; or there is none
 abbrev pub IsExtensionAt : List ℕ → Option ExtensionParts → KnownExtension → Type 0
-IsExtensionAt s None p = (p.is_there ≡ false) × (p.critical ≡ false) × (p.octets.length ≡ 0)
+IsExtensionAt s None p = (p.is_there ≡ false) × (p.critical ≡ false) × (p.octets.start ≡ 0) × (p.octets.length ≡ 0)
 IsExtensionAt s (Some x) p = (p.is_there ≡ true) × (p.critical ≡ x.critical) × IsPlace s p.octets x.content
 
 -- the octets are a certificate, and these are its extensions: where they stand, and what those say that are read

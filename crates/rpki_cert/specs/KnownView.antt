@@ -1,5 +1,5 @@
 -- What the extensions of a certificate say, where they are read in place (RFC 6487 4.8).
-use Rattle.std.specs.Prelude.{◌≡◌, ℕ, Bool, true, false, List, Option, Some}
+use Rattle.std.specs.Prelude.{◌≡◌, ℕ, Bool, true, false, List, Some}
 use Rattle.rpki_der.specs.Each.{SpellsEach}
 use Rattle.rpki.specs.KeyIdentifier.{SpellsKeyIdentifier}
 use Rattle.rpki.specs.ExtensionValue.{ExtensionParts, SpellsExtension}

@@ -17,4 +17,4 @@ pub returns-in-None : goal.returns-in-None
 returns-in-None c = λ x h.
     let s = c.args.octets.now in
     let none = (rw c.from_slice.ensures at c.in-None.ensures.none) x.tbs.extensions (listed s c.args.found.now x h) in
-    rw none (refl, refl, refl)
+    rw none (refl, refl, refl, refl)
