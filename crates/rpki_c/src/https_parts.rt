@@ -10,8 +10,8 @@ ghost use Rattle.rpki_c.specs.HttpsPlaces.{AreHttpsLaidOut, IsToldByHttpsParts, 
 use crate::https::HttpsParts;
 use crate::status::{NO_ANSWER, OTHER_PARTS};
 use crate::stored::{store_joined, store_lower};
-use rpki_text::uri::check_uri_ascii;
 use rpki_text::uri::path::len_above;
+use rpki_text::uri::{check_uri_ascii, eq_ignore_case};
 
 /// The length of the scheme and the slashes after it.
 const SCHEME_LEN: usize = 8;
@@ -56,7 +56,7 @@ fn cut<'a>(text: &'a [u8], parts: &HttpsParts) -> Option<ParsedHttps<'a>>
 fn are_of_one_authority(u: &ParsedHttps<'_>, v: &ParsedHttps<'_>) -> bool
     ensures { result ≡ bytes_eq (lowercase u.now.authority.now) (lowercase v.now.authority.now) }
 {
-    u.authority.eq_ignore_ascii_case(v.authority)
+    eq_ignore_case(u.authority, v.authority)
 }
 
 /// Whether both are the same URI.

@@ -14,7 +14,7 @@ use crate::rsync::RsyncParts;
 use crate::status::{NO_ANSWER, OTHER_PARTS};
 use crate::stored::{store_joined, store_lower};
 use rpki_text::uri::path::{check_path, parent_len, path_below};
-use rpki_text::uri::{Error, check_uri_ascii};
+use rpki_text::uri::{Error, check_uri_ascii, eq_ignore_case};
 
 /// The length of the scheme and the slashes after it.
 const SCHEME_LEN: usize = 8;
@@ -68,7 +68,7 @@ fn are_of_one_module(u: &Parsed<'_>, v: &Parsed<'_>) -> bool
     ensures { result ≡ (bytes_eq (lowercase u.now.authority.now) (lowercase v.now.authority.now)
         && bytes_eq u.now.module_name.now v.now.module_name.now) }
 {
-    u.authority.eq_ignore_ascii_case(v.authority) && u.module_name == v.module_name
+    eq_ignore_case(u.authority, v.authority) && u.module_name == v.module_name
 }
 
 /// The path from the second to the first, which ends the first's text.

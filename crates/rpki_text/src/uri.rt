@@ -14,7 +14,7 @@ mod rsync;
 mod rsync_view;
 mod scheme;
 
-pub use characters::{check_uri_ascii, starts_with_ignore_case};
+pub use characters::{check_uri_ascii, eq_ignore_case, starts_with_ignore_case};
 pub use error::Error;
 pub use https::Https;
 pub use https_view::HttpsView;

@@ -14,11 +14,26 @@ use std::borrow::CowStr;
 use std::hash::Hasher;
 use std::str;
 
+/// Whether this is a character that a URI may have. It has no branch, so that many octets are tested at a time.
 #[tactic(auto, unfolding(crate::specs::UriText::is_uri_byte))]
 fn is_uri_byte(b: u8) -> bool
     ensures { result ≡ is_uri_byte b }
 {
-    matches!(b, b'!' | b'$'..=b';' | b'=' | b'A'..=b'Z' | b'_' | b'a'..=b'z' | b'~')
+    let is_mark = (b == b'!') | (b == b'=') | (b == b'_') | (b == b'~');
+    let is_upper = (b >= b'A') & (b <= b'Z');
+    let is_lower = (b >= b'a') & (b <= b'z');
+    is_mark | ((b >= b'$') & (b <= b';')) | is_upper | is_lower
+}
+
+/// Whether each octet is a character that a URI may have. It looks at all of them, many at a time.
+fn are_uri_bytes(text: &[u8]) -> bool
+    ensures { result ≡ list_all is_uri_byte text.now }
+{
+    let mut are = true;
+    for b in text {
+        are = are & is_uri_byte(*b);
+    }
+    are
 }
 
 /// Tests that each octet is a character that a URI may have: `!`, `$` to `;`, `=`, `A` to `Z`, `_`, `a` to `z` and `~`.
@@ -30,12 +45,11 @@ pub fn check_uri_ascii(text: &[u8]) -> Result<(), Error>
     ensures { MatchResult result (λ _. list_all is_uri_byte text.now ≡ true)
         (λ e. (e ≡ Error.InvalidCharacters) × (list_all is_uri_byte text.now ≡ false)) }
 {
-    for b in text {
-        if !is_uri_byte(*b) {
-            return Err(Error::InvalidCharacters);
-        }
+    if are_uri_bytes(text) {
+        Ok(())
+    } else {
+        Err(Error::InvalidCharacters)
     }
-    Ok(())
 }
 
 /// Whether `s` begins with `expected`, without regard to the case of ASCII letters: false if `s` is shorter.
@@ -43,6 +57,26 @@ pub fn starts_with_ignore_case(s: &[u8], expected: &[u8]) -> bool
     ensures { result ≡ bytes_eq (lowercase (take (length expected.now) s.now)) (lowercase expected.now) }
 {
     s.len() >= expected.len() && s[..expected.len()].eq_ignore_ascii_case(expected)
+}
+
+/// Whether both are the same, without regard to the case of ASCII letters. Those that are spelled alike take less time.
+pub fn eq_ignore_case(s: &[u8], other: &[u8]) -> bool
+    ensures { result ≡ bytes_eq (lowercase s.now) (lowercase other.now) }
+{
+    s == other || (s.len() == other.len() && are_alike(s, other))
+}
+
+/// Whether both, which have one length, are the same without regard to the case of ASCII letters. It looks at all of
+/// the octets, many at a time.
+fn are_alike(s: &[u8], other: &[u8]) -> bool
+    requires { length s.now ≡ length other.now }
+    ensures { result ≡ bytes_eq (lowercase s.now) (lowercase other.now) }
+{
+    let mut are = true;
+    for i in 0..s.len() {
+        are = are & (s[i].to_ascii_lowercase() == other[i].to_ascii_lowercase());
+    }
+    are
 }
 
 /// Where the first slash stands, or the length.

@@ -12,7 +12,7 @@ ghost use Rattle.rpki_text.specs.Views.{https_text};
 ghost use Rattle.rpki_text.specs.HttpsText.{https_refusal, IsHttpsCut, https_authority, https_path, https_uri_of, IsHttpsUri, SpellsHttps, same_https, https_hashed, eq_https_bytes, ends_in_slash, https_joined, https_joined_uri, https_join_refusal, https_into_dir, https_parent_of, https_parent_uri};
 
 use super::characters::{
-    check_uri_ascii, hash_in_lower_case, in_lower_case, same_but_case, uri_text,
+    check_uri_ascii, eq_ignore_case, hash_in_lower_case, in_lower_case, same_but_case, uri_text,
 };
 use super::error::Error;
 use super::https_view::{HttpsView, check_https};
@@ -286,7 +286,7 @@ impl Https {
     pub fn eq_authority(&self, other: &Https) -> bool
         ensures { result ≡ bytes_eq (lowercase (https_authority self.now)) (lowercase (https_authority other.now)) }
     {
-        self.authority().eq_ignore_ascii_case(other.authority())
+        eq_ignore_case(self.authority().as_bytes(), other.authority().as_bytes())
     }
 
     /// Whether these octets are the text but for the case of its scheme and its authority. For octets that are read as

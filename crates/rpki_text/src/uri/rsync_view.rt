@@ -9,7 +9,9 @@ ghost use Rattle.rpki_text.specs.RsyncText.{rsync_refusal, has_module, uri_of, r
 ghost use Rattle.rpki_text.specs.Places.{IsPartAt, IsRelativeAt};
 ghost use Rattle.rpki_text.specs.Buffer.{IsWritten};
 
-use super::characters::{check_uri_ascii, slash_at, starts_with_ignore_case, uri_text};
+use super::characters::{
+    check_uri_ascii, eq_ignore_case, slash_at, starts_with_ignore_case, uri_text,
+};
 use super::error::Error;
 use super::path::{LEN_LIMIT, check_path, parent_len, path_below};
 use std::ops::Range;
@@ -252,7 +254,7 @@ impl<'a> RsyncView<'a> {
     pub(super) fn has_module_of(&self, other: &RsyncView<'_>) -> bool
         ensures { result ≡ same_module_of (rsync_text self.now) (rsync_text other.now) }
     {
-        self.authority().eq_ignore_ascii_case(other.authority())
+        eq_ignore_case(self.authority().as_bytes(), other.authority().as_bytes())
             && self.module_name() == other.module_name()
     }
 }

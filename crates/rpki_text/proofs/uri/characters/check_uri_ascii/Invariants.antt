@@ -1,7 +1,0 @@
-use Rattle.std.proofs.Common.{◌≡◌, true, take}
-use Rattle.std.specs.List.{list_all}
-use Rattle.rpki_text.specs.UriText.{is_uri_byte}
-use Rattle.rpki_text.proofs.uri.characters.check_uri_ascii.Given as goal
-
-abbrev pub invariant-loop-b : goal.invariant-loop-b
-invariant-loop-b l = list_all is_uri_byte (take l.b-index l.text) ≡ true
