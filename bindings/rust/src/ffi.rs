@@ -4,6 +4,7 @@
 //! nobody writes to while they are borrowed, and places to write to that are borrowed for the call alone and so apart
 //! from everything else: that is all that the header asks for. Miri runs no foreign functions, and so none of this.
 
+use bytes::Bytes;
 use std::mem::MaybeUninit;
 
 /// What a call returns: 0, or the number of what is wrong.
@@ -555,133 +556,162 @@ fn told<T: Default>(call: impl FnOnce(&mut T) -> Status) -> Result<T, Status> {
     }
 }
 
-/// A text with places of its parts.
-#[derive(Clone, Copy)]
-pub(crate) struct Parsed<'a, P> {
-    pub(crate) text: &'a [u8],
-    pub(crate) parts: &'a P,
+/// Places of the parts of a text, of which the path is the last.
+pub(crate) trait Parts: Copy {
+    /// Where the parts of a text stand; a text is refused that has other octets than those of ASCII.
+    fn of(text: &[u8]) -> Result<Self, Status>;
+
+    /// The place of the path.
+    fn path(&mut self) -> &mut Place;
+}
+
+impl Parts for RsyncParts {
+    fn of(text: &[u8]) -> Result<Self, Status> {
+        rsync_parse(text)
+    }
+
+    fn path(&mut self) -> &mut Place {
+        &mut self.path
+    }
+}
+
+impl Parts for HttpsParts {
+    fn of(text: &[u8]) -> Result<Self, Status> {
+        https_parse(text)
+    }
+
+    fn path(&mut self) -> &mut Place {
+        &mut self.path
+    }
+}
+
+/// A text that a call has accepted, and where it found the parts; or one that a call has made of such a text.
+#[derive(Clone)]
+pub(crate) struct Parsed<P> {
+    text: Bytes,
+    parts: P,
+}
+
+impl<P: Parts> Parsed<P> {
+    /// Reads a text, and shares it.
+    pub(crate) fn read(text: Bytes) -> Result<Self, Status> {
+        let parts = P::of(&text)?;
+        Ok(Parsed { text, parts })
+    }
+
+    /// Reads a text, and keeps a copy of it.
+    pub(crate) fn read_copy(text: &[u8]) -> Result<Self, Status> {
+        let parts = P::of(text)?;
+        Ok(Parsed { text: Bytes::copy_from_slice(text), parts })
+    }
+
+    pub(crate) fn bytes(&self) -> &Bytes {
+        &self.text
+    }
+
+    pub(crate) fn parts(&self) -> &P {
+        &self.parts
+    }
+
+    pub(crate) fn as_str(&self) -> &str {
+        // SAFETY: each octet is a character of ASCII. The calls that read a text refuse all others, those that join a
+        // path to it too; what else they make is the front of a text that was read, or that text and a slash.
+        unsafe { std::str::from_utf8_unchecked(&self.text) }
+    }
+
+    /// The part of the text at this place.
+    pub(crate) fn part(&self, place: Place) -> &str {
+        place.of_text(self.as_str())
+    }
+
+    /// Moves the text to memory that nothing else shares.
+    pub(crate) fn unshare(&mut self) {
+        self.text = Bytes::copy_from_slice(&self.text);
+    }
+
+    /// The text that a call has made of this one: its parts are the same, and its path ends with it.
+    fn with_end(&self, text: Bytes) -> Self {
+        let mut parts = self.parts;
+        let path = parts.path();
+        path.length = text.len() - path.start;
+        Parsed { text, parts }
+    }
 }
 
 // SAFETY of the calls below: pointers and sizes are those of slices, which are borrowed for the call, as are the parts;
 // what is written to is the function's own. A buffer has the capacity that is passed, and `written` is apart from it.
 // Each call stores as `stored` asks, by its contract. No call trusts the parts.
 
-impl Parsed<'_, RsyncParts> {
-    pub(crate) fn relative_to(self, base: Parsed<RsyncParts>) -> Result<Place, Status> {
-        let (u, v) = (self.text, base.text);
-        // SAFETY: as above.
-        told(|out| unsafe {
-            rpki_rsync_parts_relative_to(u.as_ptr(), u.len(), self.parts, v.as_ptr(), v.len(), base.parts, out)
-        })
-    }
+/// The calls on texts with places of their parts.
+macro_rules! calls_on {
+    ($parts:ident: canonical($canonical:ident), parent($parent:ident), join($join:ident), into_dir($into_dir:ident);
+     $($tell:ident($two:ident) -> $told:ty),*) => {
+        impl Parsed<$parts> {
+            $(pub(crate) fn $tell(&self, other: &Self) -> Result<$told, Status> {
+                let (u, v) = (&self.text, &other.text);
+                // SAFETY: as above.
+                told(|out| unsafe { $two(u.as_ptr(), u.len(), &self.parts, v.as_ptr(), v.len(), &other.parts, out) })
+            })*
 
-    pub(crate) fn equal(self, other: Parsed<RsyncParts>) -> Result<bool, Status> {
-        let (u, v) = (self.text, other.text);
-        // SAFETY: as above.
-        told(|out| unsafe {
-            rpki_rsync_parts_equal(u.as_ptr(), u.len(), self.parts, v.as_ptr(), v.len(), other.parts, out)
-        })
-    }
+            /// The text with its scheme and its authority in lower case.
+            pub(crate) fn canonical(&self) -> Result<Vec<u8>, Status> {
+                let text = &self.text;
+                // SAFETY: as above.
+                unsafe {
+                    stored(text.len(), |out, capacity, written| {
+                        $canonical(text.as_ptr(), text.len(), &self.parts, out, capacity, written)
+                    })
+                }
+            }
 
-    pub(crate) fn is_parent_of(self, other: Parsed<RsyncParts>) -> Result<bool, Status> {
-        let (u, v) = (self.text, other.text);
-        // SAFETY: as above.
-        told(|out| unsafe {
-            rpki_rsync_parts_is_parent_of(u.as_ptr(), u.len(), self.parts, v.as_ptr(), v.len(), other.parts, out)
-        })
-    }
+            pub(crate) fn parent(&self) -> Result<Self, Status> {
+                let text = &self.text;
+                // SAFETY: as above.
+                let size = told(|out| unsafe { $parent(text.as_ptr(), text.len(), &self.parts, out) })?;
+                Ok(self.with_end(text.slice(..size)))
+            }
 
-    pub(crate) fn is_identical_to(self, other: Parsed<RsyncParts>) -> Result<bool, Status> {
-        let (u, v) = (self.text, other.text);
-        // SAFETY: as above.
-        told(|out| unsafe {
-            rpki_rsync_parts_is_identical_to(u.as_ptr(), u.len(), self.parts, v.as_ptr(), v.len(), other.parts, out)
-        })
-    }
+            /// This with the path joined to it; `guess` is how many octets that has.
+            pub(crate) fn join(&self, path: &[u8], guess: usize) -> Result<Self, Status> {
+                let base = &self.text;
+                // SAFETY: as above.
+                let text = unsafe {
+                    stored(guess, |out, capacity, written| {
+                        let (path, size) = (path.as_ptr(), path.len());
+                        $join(base.as_ptr(), base.len(), &self.parts, path, size, out, capacity, written)
+                    })
+                };
+                Ok(self.with_end(Bytes::from(text?)))
+            }
 
-    pub(crate) fn canonical(self) -> Result<Vec<u8>, Status> {
-        let Parsed { text, parts } = self;
-        // SAFETY: as above.
-        unsafe {
-            stored(text.len(), |out, capacity, written| {
-                rpki_rsync_parts_canonical(text.as_ptr(), text.len(), parts, out, capacity, written)
-            })
+            /// This with a slash last.
+            pub(crate) fn into_dir(&self) -> Result<Self, Status> {
+                let text = &self.text;
+                // SAFETY: as above.
+                let text = unsafe {
+                    stored(text.len() + 1, |out, capacity, written| {
+                        $into_dir(text.as_ptr(), text.len(), &self.parts, out, capacity, written)
+                    })
+                };
+                Ok(self.with_end(Bytes::from(text?)))
+            }
         }
-    }
-
-    pub(crate) fn parent(self) -> Result<usize, Status> {
-        // SAFETY: as above.
-        told(|out| unsafe { rpki_rsync_parts_parent(self.text.as_ptr(), self.text.len(), self.parts, out) })
-    }
-
-    /// The text of this with the path joined to it; `guess` is how many octets that has.
-    pub(crate) fn join(self, path: &[u8], guess: usize) -> Result<Vec<u8>, Status> {
-        let Parsed { text, parts } = self;
-        // SAFETY: as above.
-        unsafe {
-            stored(guess, |out, capacity, written| {
-                let (base, base_size) = (text.as_ptr(), text.len());
-                rpki_rsync_parts_join(base, base_size, parts, path.as_ptr(), path.len(), out, capacity, written)
-            })
-        }
-    }
-
-    pub(crate) fn into_dir(self) -> Result<Vec<u8>, Status> {
-        let Parsed { text, parts } = self;
-        // SAFETY: as above.
-        unsafe {
-            stored(text.len() + 1, |out, capacity, written| {
-                rpki_rsync_parts_into_dir(text.as_ptr(), text.len(), parts, out, capacity, written)
-            })
-        }
-    }
+    };
 }
 
-impl Parsed<'_, HttpsParts> {
-    pub(crate) fn equal(self, other: Parsed<HttpsParts>) -> Result<bool, Status> {
-        let (u, v) = (self.text, other.text);
-        // SAFETY: as above.
-        told(|out| unsafe {
-            rpki_https_parts_equal(u.as_ptr(), u.len(), self.parts, v.as_ptr(), v.len(), other.parts, out)
-        })
-    }
+calls_on! {
+    RsyncParts: canonical(rpki_rsync_parts_canonical), parent(rpki_rsync_parts_parent), join(rpki_rsync_parts_join),
+    into_dir(rpki_rsync_parts_into_dir);
+    relative_to(rpki_rsync_parts_relative_to) -> Place,
+    equal(rpki_rsync_parts_equal) -> bool,
+    is_parent_of(rpki_rsync_parts_is_parent_of) -> bool,
+    is_identical_to(rpki_rsync_parts_is_identical_to) -> bool
+}
 
-    pub(crate) fn canonical(self) -> Result<Vec<u8>, Status> {
-        let Parsed { text, parts } = self;
-        // SAFETY: as above.
-        unsafe {
-            stored(text.len(), |out, capacity, written| {
-                rpki_https_parts_canonical(text.as_ptr(), text.len(), parts, out, capacity, written)
-            })
-        }
-    }
-
-    pub(crate) fn parent(self) -> Result<usize, Status> {
-        // SAFETY: as above.
-        told(|out| unsafe { rpki_https_parts_parent(self.text.as_ptr(), self.text.len(), self.parts, out) })
-    }
-
-    /// The text of this with the path joined to it; `guess` is how many octets that has.
-    pub(crate) fn join(self, path: &[u8], guess: usize) -> Result<Vec<u8>, Status> {
-        let Parsed { text, parts } = self;
-        // SAFETY: as above.
-        unsafe {
-            stored(guess, |out, capacity, written| {
-                let (base, base_size) = (text.as_ptr(), text.len());
-                rpki_https_parts_join(base, base_size, parts, path.as_ptr(), path.len(), out, capacity, written)
-            })
-        }
-    }
-
-    pub(crate) fn into_dir(self) -> Result<Vec<u8>, Status> {
-        let Parsed { text, parts } = self;
-        // SAFETY: as above.
-        unsafe {
-            stored(text.len() + 1, |out, capacity, written| {
-                rpki_https_parts_into_dir(text.as_ptr(), text.len(), parts, out, capacity, written)
-            })
-        }
-    }
+calls_on! {
+    HttpsParts: canonical(rpki_https_parts_canonical), parent(rpki_https_parts_parent), join(rpki_https_parts_join),
+    into_dir(rpki_https_parts_into_dir);
+    equal(rpki_https_parts_equal) -> bool
 }
 
 /// A call that takes octets and stores others.

@@ -3,7 +3,7 @@
 //! A URI keeps the text that it was read from, and shares it with its copies, its parents and the octets that it came
 //! from. It is read once: every later question is answered by where its parts stand.
 
-use crate::ffi::{self, Parsed};
+use crate::ffi::{self, HttpsParts, Parsed, RsyncParts};
 use crate::view::UriError;
 use bytes::Bytes;
 use std::borrow::Cow;
@@ -13,17 +13,12 @@ use std::str::FromStr;
 
 pub use crate::view::UriError as Error;
 
-/// The text of octets that a call has accepted: they are characters of ASCII alone.
-fn text_of(octets: &[u8]) -> &str {
-    std::str::from_utf8(octets).expect("URIs have characters of ASCII alone")
-}
-
 /// What a call on the parts of a URI tells, whose parts are its own.
 fn known<T>(answer: Result<T, ffi::Status>) -> T {
     answer.unwrap_or_else(|status| unreachable!("the parts are those of the URI, but the status is {status}"))
 }
 
-/// The octets of a string, or of octets.
+/// Whether the path is empty or ends with a slash.
 fn is_dir(path: &str) -> bool {
     path.is_empty() || path.ends_with('/')
 }
@@ -54,7 +49,7 @@ fn canonical_part(canonical: Vec<u8>, spelled: &str, start: usize) -> Cow<'_, st
     if part == spelled.as_bytes() {
         Cow::Borrowed(spelled)
     } else {
-        Cow::Owned(text_of(part).into())
+        Cow::Owned(String::from_utf8_lossy(part).into_owned())
     }
 }
 
@@ -76,8 +71,7 @@ fn canonical_part(canonical: Vec<u8>, spelled: &str, start: usize) -> Cow<'_, st
 /// ```
 #[derive(Clone)]
 pub struct Rsync {
-    bytes: Bytes,
-    parts: ffi::RsyncParts,
+    parsed: Parsed<RsyncParts>,
 }
 
 impl Rsync {
@@ -87,8 +81,7 @@ impl Rsync {
     /// The first that is wrong of `InvalidCharacters`, `BadScheme`, `LongUri`, then from the left `DotSegments`,
     /// `LongSegments` and `EmptySegments`, then `BadUri`.
     pub fn from_slice(slice: &[u8]) -> Result<Self, Error> {
-        let parts = ffi::rsync_parse(slice).map_err(UriError::from_status)?;
-        Ok(Rsync { bytes: Bytes::copy_from_slice(slice), parts })
+        Ok(Rsync { parsed: Parsed::read_copy(slice).map_err(UriError::from_status)? })
     }
 
     /// Reads a URI from a text, whose memory it keeps.
@@ -104,74 +97,62 @@ impl Rsync {
     /// # Errors
     /// Those of [`Rsync::from_slice`].
     pub fn from_bytes(bytes: Bytes) -> Result<Self, Error> {
-        let parts = ffi::rsync_parse(&bytes).map_err(UriError::from_status)?;
-        Ok(Rsync { bytes, parts })
+        Ok(Rsync { parsed: Parsed::read(bytes).map_err(UriError::from_status)? })
     }
 
     /// Moves the text to memory that nothing else shares.
     pub fn unshare(&mut self) {
-        self.bytes = Bytes::copy_from_slice(&self.bytes);
-    }
-
-    fn parsed(&self) -> Parsed<'_, ffi::RsyncParts> {
-        Parsed { text: &self.bytes, parts: &self.parts }
-    }
-
-    /// The URI of a text that has this one's parts, but for its end.
-    fn with_end(&self, bytes: Bytes) -> Rsync {
-        let mut parts = self.parts;
-        parts.path.length = bytes.len() - parts.path.start;
-        Rsync { bytes, parts }
+        self.parsed.unshare();
     }
 
     /// The text, in octets.
     pub fn as_slice(&self) -> &[u8] {
-        &self.bytes
+        self.parsed.bytes()
     }
 
     /// The text.
     pub fn as_str(&self) -> &str {
-        text_of(&self.bytes)
+        self.parsed.as_str()
     }
 
     /// The text, in octets that share its memory.
     pub fn to_bytes(&self) -> Bytes {
-        self.bytes.clone()
+        self.parsed.bytes().clone()
     }
 
     /// The authority: a host, perhaps with a port, as it is spelled. Not empty.
     pub fn authority(&self) -> &str {
-        text_of(self.parts.authority.of(&self.bytes))
+        self.parsed.part(self.parsed.parts().authority)
     }
 
     /// The authority in lower case.
     pub fn canonical_authority(&self) -> Cow<'_, str> {
-        canonical_part(known(self.parsed().canonical()), self.authority(), self.parts.authority.start)
+        canonical_part(known(self.parsed.canonical()), self.authority(), self.parsed.parts().authority.start)
     }
 
     /// The name of the module. Not empty.
     pub fn module_name(&self) -> &str {
-        text_of(self.parts.module_name.of(&self.bytes))
+        self.parsed.part(self.parsed.parts().module_name)
     }
 
     /// The text up to the path: the scheme, the authority and the module, with the slash after it.
     pub fn module(&self) -> &str {
-        text_of(&self.bytes[..self.parts.path.start])
+        &self.as_str()[..self.parsed.parts().path.start]
     }
 
     /// The text up to the path, with the scheme and the authority in lower case.
     pub fn canonical_module(&self) -> Cow<'_, str> {
-        canonical_part(known(self.parsed().canonical()), self.module(), 0)
+        canonical_part(known(self.parsed.canonical()), self.module(), 0)
     }
 
     /// The path: what follows the slash after the module. May be empty.
     pub fn path(&self) -> &str {
-        text_of(self.parts.path.of(&self.bytes))
+        self.parsed.part(self.parsed.parts().path)
     }
 
     /// The path, in octets.
     pub fn path_bytes(&self) -> &[u8] {
-        self.parts.path.of(&self.bytes)
+        self.path().as_bytes()
     }
 
     /// Whether the path is empty or ends with a slash.
@@ -182,7 +163,7 @@ impl Rsync {
     /// Puts a slash last, unless the path is empty or has one. The text may become too long to be read again.
     pub fn path_into_dir(&mut self) {
         if !self.path_is_dir() {
-            *self = self.with_end(Bytes::from(known(self.parsed().into_dir())));
+            self.parsed = known(self.parsed.into_dir());
         }
     }
 
@@ -194,8 +175,8 @@ impl Rsync {
     /// The URI without its last segment, with the slash before that; `None` where the path is empty. It shares this
     /// one's text.
     pub fn parent(&self) -> Option<Self> {
-        match self.parsed().parent() {
-            Ok(size) => Some(self.with_end(self.bytes.slice(..size))),
+        match self.parsed.parent() {
+            Ok(parsed) => Some(Rsync { parsed }),
             Err(ffi::NO_ANSWER) => None,
             Err(status) => known(Err(status)),
         }
@@ -212,17 +193,16 @@ impl Rsync {
             return Ok(self.clone());
         }
         // No text has as many octets.
-        let size = (self.bytes.len() + usize::from(!self.path_is_dir()) + path.len()).min(3_072);
-        let text = self.parsed().join(path, size).map_err(UriError::from_status)?;
-        Ok(self.with_end(Bytes::from(text)))
+        let size = (self.as_slice().len() + usize::from(!self.path_is_dir()) + path.len()).min(3_072);
+        Ok(Rsync { parsed: self.parsed.join(path, size).map_err(UriError::from_status)? })
     }
 
     /// The path that leads from the other URI to this one: its segments after those of the other, with the last slash.
     /// `None` where they are in two modules or the other's segments do not begin this one's. Authorities are compared
     /// without regard to case, all else exactly.
     pub fn relative_to(&self, other: &Rsync) -> Option<&str> {
-        match self.parsed().relative_to(other.parsed()) {
-            Ok(place) => Some(text_of(place.of(&self.bytes))),
+        match self.parsed.relative_to(&other.parsed) {
+            Ok(place) => Some(self.parsed.part(place)),
             Err(ffi::NO_ANSWER) => None,
             Err(status) => known(Err(status)),
         }
@@ -230,20 +210,19 @@ impl Rsync {
 
     /// Whether the other URI lies below this one: in the same module, with more segments that begin with this one's.
     pub fn is_parent_of(&self, other: &Self) -> bool {
-        known(self.parsed().is_parent_of(other.parsed()))
+        known(self.parsed.is_parent_of(&other.parsed))
     }
 
     /// Whether both are in the same module and have the same segments, with a slash last or without.
     pub fn is_identical_to(&self, other: &Self) -> bool {
-        known(self.parsed().is_identical_to(other.parsed()))
+        known(self.parsed.is_identical_to(&other.parsed))
     }
 }
 
-/// One text is one URI, and texts of two lengths are two; what is left the library is asked.
+/// Texts of two lengths are two URIs; of others the library is asked.
 impl PartialEq for Rsync {
     fn eq(&self, other: &Self) -> bool {
-        self.bytes == other.bytes
-            || (self.bytes.len() == other.bytes.len() && known(self.parsed().equal(other.parsed())))
+        self.as_slice().len() == other.as_slice().len() && known(self.parsed.equal(&other.parsed))
     }
 }
 
@@ -252,7 +231,7 @@ impl Eq for Rsync {}
 impl Hash for Rsync {
     /// Hashes the text in canonical form.
     fn hash<H: Hasher>(&self, state: &mut H) {
-        known(self.parsed().canonical()).hash(state)
+        known(self.parsed.canonical()).hash(state)
     }
 }
 
@@ -270,8 +249,7 @@ impl Hash for Rsync {
 /// ```
 #[derive(Clone)]
 pub struct Https {
-    bytes: Bytes,
-    parts: ffi::HttpsParts,
+    parsed: Parsed<HttpsParts>,
 }
 
 impl Https {
@@ -281,8 +259,7 @@ impl Https {
     /// The first that is wrong of `InvalidCharacters`, `BadScheme`, and `BadUri` for an authority of 256 octets or
     /// more.
     pub fn from_slice(slice: &[u8]) -> Result<Self, Error> {
-        let parts = ffi::https_parse(slice).map_err(UriError::from_status)?;
-        Ok(Https { bytes: Bytes::copy_from_slice(slice), parts })
+        Ok(Https { parsed: Parsed::read_copy(slice).map_err(UriError::from_status)? })
     }
 
     /// Reads a URI from a text, whose memory it keeps.
@@ -298,34 +275,22 @@ impl Https {
     /// # Errors
     /// Those of [`Https::from_slice`].
     pub fn from_bytes(bytes: Bytes) -> Result<Self, Error> {
-        let parts = ffi::https_parse(&bytes).map_err(UriError::from_status)?;
-        Ok(Https { bytes, parts })
+        Ok(Https { parsed: Parsed::read(bytes).map_err(UriError::from_status)? })
     }
 
     /// Moves the text to memory that nothing else shares.
     pub fn unshare(&mut self) {
-        self.bytes = Bytes::copy_from_slice(&self.bytes);
-    }
-
-    fn parsed(&self) -> Parsed<'_, ffi::HttpsParts> {
-        Parsed { text: &self.bytes, parts: &self.parts }
-    }
-
-    /// The URI of a text that has this one's parts, but for its end.
-    fn with_end(&self, bytes: Bytes) -> Https {
-        let mut parts = self.parts;
-        parts.path.length = bytes.len() - parts.path.start;
-        Https { bytes, parts }
+        self.parsed.unshare();
     }
 
     /// The text, in octets.
     pub fn as_slice(&self) -> &[u8] {
-        &self.bytes
+        self.parsed.bytes()
     }
 
     /// The text.
     pub fn as_str(&self) -> &str {
-        text_of(&self.bytes)
+        self.parsed.as_str()
     }
 
     /// The scheme, which is https.
@@ -335,12 +300,12 @@ impl Https {
 
     /// The authority as it is spelled, which may be empty.
     pub fn authority(&self) -> &str {
-        text_of(self.parts.authority.of(&self.bytes))
+        self.parsed.part(self.parsed.parts().authority)
     }
 
     /// The authority in lower case.
     pub fn canonical_authority(&self) -> Cow<'_, str> {
-        canonical_part(known(self.parsed().canonical()), self.authority(), self.parts.authority.start)
+        canonical_part(known(self.parsed.canonical()), self.authority(), self.parsed.parts().authority.start)
     }
 
     /// Whether both have the same authority, without regard to case.
@@ -350,7 +315,7 @@ impl Https {
 
     /// The path: empty, or with its slash in front.
     pub fn path(&self) -> &str {
-        text_of(self.parts.path.of(&self.bytes))
+        self.parsed.part(self.parsed.parts().path)
     }
 
     /// Whether the path is empty or ends with a slash.
@@ -361,15 +326,15 @@ impl Https {
     /// Puts a slash last, unless the path is empty or has one.
     pub fn path_into_dir(&mut self) {
         if !self.path_is_dir() {
-            *self = self.with_end(Bytes::from(known(self.parsed().into_dir())));
+            self.parsed = known(self.parsed.into_dir());
         }
     }
 
     /// The URI above: one last slash of the path dropped, and then everything after the last slash that is left; `None`
     /// where nothing is left. It shares this one's text.
     pub fn parent(&self) -> Option<Self> {
-        match self.parsed().parent() {
-            Ok(size) => Some(self.with_end(self.bytes.slice(..size))),
+        match self.parsed.parent() {
+            Ok(parsed) => Some(Https { parsed }),
             Err(ffi::NO_ANSWER) => None,
             Err(status) => known(Err(status)),
         }
@@ -380,17 +345,15 @@ impl Https {
     /// # Errors
     /// `InvalidCharacters`.
     pub fn join(&self, path: &[u8]) -> Result<Self, Error> {
-        let size = self.bytes.len() + usize::from(!self.path().ends_with('/')) + path.len();
-        let text = self.parsed().join(path, size).map_err(UriError::from_status)?;
-        Ok(self.with_end(Bytes::from(text)))
+        let size = self.as_slice().len() + usize::from(!self.path().ends_with('/')) + path.len();
+        Ok(Https { parsed: self.parsed.join(path, size).map_err(UriError::from_status)? })
     }
 }
 
-/// One text is one URI, and texts of two lengths are two; what is left the library is asked.
+/// Texts of two lengths are two URIs; of others the library is asked.
 impl PartialEq for Https {
     fn eq(&self, other: &Self) -> bool {
-        self.bytes == other.bytes
-            || (self.bytes.len() == other.bytes.len() && known(self.parsed().equal(other.parsed())))
+        self.as_slice().len() == other.as_slice().len() && known(self.parsed.equal(&other.parsed))
     }
 }
 
@@ -399,7 +362,7 @@ impl Eq for Https {}
 impl Hash for Https {
     /// Hashes the text in canonical form.
     fn hash<H: Hasher>(&self, state: &mut H) {
-        known(self.parsed().canonical()).hash(state)
+        known(self.parsed.canonical()).hash(state)
     }
 }
 
@@ -432,7 +395,7 @@ macro_rules! conversions {
 
         impl AsRef<Bytes> for $uri {
             fn as_ref(&self) -> &Bytes {
-                &self.bytes
+                self.parsed.bytes()
             }
         }
 
@@ -463,8 +426,7 @@ macro_rules! conversions {
         /// Whether these octets are the text, but for the case of its scheme and its authority.
         impl PartialEq<[u8]> for $uri {
             fn eq(&self, other: &[u8]) -> bool {
-                let authority = &self.parts.authority;
-                is_text(&self.bytes, authority.start + authority.length, other)
+                is_text(self.as_slice(), self.parsed.parts().authority.range().end, other)
             }
         }
 
