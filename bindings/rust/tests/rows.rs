@@ -1,6 +1,8 @@
-//! Makes the calls of `rows.txt`, and compares what they return with what the rows say.
+//! Makes the calls of `rows.txt`, and compares what they return with what the rows say; and what the types that own
+//! their octets say with that.
 
 use rpki_proved::view::*;
+use rpki_proved::{crypto, repository::x509, uri};
 use std::collections::HashMap;
 use std::fmt::Write;
 
@@ -146,7 +148,9 @@ fn indexed(octets: &[u8]) -> Given {
 }
 
 fn signed_data(octets: &[u8]) -> Given {
-    let signed = SignedData::decode(octets).map_err(status)?;
+    let signed = SignedData::decode(octets);
+    assert_eq!(x509::SignedData::decode(octets.to_vec()).err(), signed.as_ref().err().copied());
+    let signed = signed.map_err(status)?;
     Ok(vec![
         part("data", octets, signed.data()),
         part("algorithm", octets, signed.algorithm()),
@@ -157,7 +161,10 @@ fn signed_data(octets: &[u8]) -> Given {
 }
 
 fn public_key(octets: &[u8]) -> Given {
-    let key = PublicKey::decode(octets).map_err(status)?;
+    let key = PublicKey::decode(octets);
+    let owned = crypto::PublicKey::decode(octets.to_vec());
+    assert_eq!(owned.as_ref().map(|key| key.bits()), key.as_ref().map(|key| key.bits()));
+    let key = key.map_err(status)?;
     Ok(vec![
         format!("format {}", if key.format() == KeyFormat::Rsa { 0 } else { 1 }),
         format!("unused {}", key.unused_bits()),
@@ -167,14 +174,30 @@ fn public_key(octets: &[u8]) -> Given {
 
 fn key_identifier(octets: &[u8]) -> Given {
     let identifier = KeyIdentifier::of_key(octets).map_err(status)?;
+    let owned = crypto::PublicKey::decode(octets.to_vec()).unwrap().key_identifier();
+    assert_eq!((owned.as_slice(), owned.to_string()), (&identifier.octets()[..], identifier.to_string()));
     assert_eq!(PublicKey::decode(octets).unwrap().identifier(), Ok(identifier));
     assert_eq!(identifier.to_string(), hex(identifier.octets()));
     Ok(vec![format!("identifier = {identifier}")])
 }
 
+/// The name that owns its octets passes where the other does.
+fn inspected(owned: &x509::Name, name: &Name, profile: Profile) {
+    let inspect = |strict| match profile {
+        Profile::Rpki => owned.inspect_rpki(strict),
+        _ => owned.inspect_router(strict),
+    };
+    assert!(inspect(false).is_ok());
+    assert_eq!(inspect(true).is_ok(), name.inspect(profile).is_ok());
+}
+
 fn name_inspect(octets: &[u8], words: &str) -> Given {
-    let name = Name::decode(octets).map_err(status)?;
+    let owned = x509::Name::decode(octets.to_vec());
+    let name = Name::decode(octets);
+    assert_eq!(owned.as_ref().err(), name.as_ref().err());
+    let name = name.map_err(status)?;
     let profile = if words.starts_with("rpki") { Profile::Rpki } else { Profile::Router };
+    inspected(&owned.unwrap(), &name, profile);
     if words.ends_with("strict") {
         name.inspect(profile).map_err(|error| match error {
             InspectError::Decode(error) => status(error),
@@ -185,12 +208,16 @@ fn name_inspect(octets: &[u8], words: &str) -> Given {
 }
 
 fn serial(octets: &[u8]) -> Given {
-    let serial = Serial::decode(octets).map_err(status)?;
+    let serial = Serial::decode(octets);
+    assert_eq!(x509::Serial::decode(octets).map(|serial| serial.into_array()), serial.map(|serial| *serial.octets()));
+    let serial = serial.map_err(status)?;
     Ok(vec![format!("serial = {}", hex(serial.octets()))])
 }
 
 fn time(octets: &[u8]) -> Given {
-    let time = Time::decode(octets).map_err(status)?;
+    let time = Time::decode(octets);
+    assert_eq!(x509::Time::decode(octets).map(|time| time.timestamp()), time.map(|time| time.seconds()));
+    let time = time.map_err(status)?;
     Ok(vec![
         format!("seconds {}", time.seconds()),
         format!("date {} {} {}", time.year(), time.month(), time.day()),
@@ -205,7 +232,12 @@ fn moment(name: &str, time: Time) -> String {
 }
 
 fn validity(octets: &[u8]) -> Given {
-    let period = Validity::decode(octets).map_err(status)?;
+    let period = Validity::decode(octets);
+    assert_eq!(
+        x509::Validity::decode(octets).map(|period| (period.not_before().timestamp(), period.not_after().timestamp())),
+        period.map(|period| (period.not_before().seconds(), period.not_after().seconds()))
+    );
+    let period = period.map_err(status)?;
     Ok(vec![moment("not_before", period.not_before()), moment("not_after", period.not_after())])
 }
 
@@ -219,7 +251,12 @@ fn extension(octets: &[u8]) -> Given {
 }
 
 fn rsync_parse(octets: &[u8]) -> Given {
-    let uri = Rsync::from_octets(octets).map_err(uri_status)?;
+    let uri = Rsync::from_octets(octets);
+    assert_eq!(
+        uri::Rsync::from_slice(octets).as_ref().map(|uri| (uri.authority(), uri.module_name(), uri.path())),
+        uri.as_ref().map(|uri| (uri.authority(), uri.module_name(), uri.path()))
+    );
+    let uri = uri.map_err(uri_status)?;
     assert_eq!(uri.as_str().as_bytes(), octets);
     Ok(vec![
         part("authority", octets, uri.authority().as_bytes()),
@@ -228,15 +265,23 @@ fn rsync_parse(octets: &[u8]) -> Given {
     ])
 }
 
+/// The URI of octets that one was read from.
+fn owned(octets: &[u8]) -> uri::Rsync {
+    uri::Rsync::from_slice(octets).unwrap()
+}
+
 fn relative_to(uri: &[u8], base: &[u8]) -> Given {
     let found = Rsync::from_octets(uri).map_err(uri_status)?;
     let base = Rsync::from_octets(base).map_err(|error| format!("SECOND {}", uri_status(error)))?;
+    assert_eq!(owned(uri).relative_to(&owned(base.as_str().as_bytes())), found.relative_to(&base));
     let path = found.relative_to(&base).ok_or("NO_ANSWER")?;
     Ok(vec![part("path", uri, path.as_bytes())])
 }
 
 fn join(base: &[u8], path: &[u8]) -> Given {
     let base = Rsync::from_octets(base).map_err(uri_status)?;
+    let joined = owned(base.as_str().as_bytes()).join(path);
+    assert_eq!(joined.map(|uri| uri.to_string()), base.join(path));
     let text = base.join(path).map_err(|error| format!("SECOND {}", uri_status(error)))?;
     let mut room = vec![0; text.len()];
     assert_eq!(base.join_into(path, &mut room), Ok(&text[..]));
@@ -246,6 +291,8 @@ fn join(base: &[u8], path: &[u8]) -> Given {
 
 fn parent(octets: &[u8]) -> Given {
     let uri = Rsync::from_octets(octets).map_err(uri_status)?;
+    let texts = (owned(octets).parent().map(|uri| uri.to_string()), uri.parent().map(|uri| uri.as_str().to_string()));
+    assert_eq!(texts.0, texts.1);
     let parent = uri.parent().ok_or("NO_ANSWER")?;
     let again = Rsync::parse(parent.as_str()).unwrap();
     assert_eq!((parent.module_name(), parent.path()), (again.module_name(), again.path()));
@@ -253,7 +300,12 @@ fn parent(octets: &[u8]) -> Given {
 }
 
 fn https_parse(octets: &[u8]) -> Given {
-    let uri = Https::from_octets(octets).map_err(uri_status)?;
+    let uri = Https::from_octets(octets);
+    assert_eq!(
+        uri::Https::from_slice(octets).as_ref().map(|uri| (uri.authority(), uri.path())),
+        uri.as_ref().map(|uri| (uri.authority(), uri.path()))
+    );
+    let uri = uri.map_err(uri_status)?;
     Ok(vec![part("authority", octets, uri.authority().as_bytes()), part("path", octets, uri.path().as_bytes())])
 }
 

@@ -265,6 +265,8 @@ fn https_uris() {
     assert_eq!(https("https://a/").join(b"a b").unwrap_err(), uri::Error::InvalidCharacters);
     assert_eq!(Https::from_str(&format!("https://{}/", "a".repeat(256))).unwrap_err(), uri::Error::BadUri);
     assert_eq!(Https::from_str("http://example.com/").unwrap_err(), uri::Error::BadScheme);
+    let host = https("https://HOST");
+    assert_eq!((host.authority(), host.path(), host.path_is_dir()), ("HOST", "", true));
     let mut folder = uri.clone();
     folder.path_into_dir();
     assert_eq!((folder.path(), uri.path_is_dir(), folder.path_is_dir()), ("/some/", false, true));
@@ -351,6 +353,14 @@ fn times() {
     assert_eq!(Time::checked_utc(10_000, 1, 1, 0, 0, 0), None);
     assert!("2020-02-30T00:00:00Z".parse::<Time>().is_err() && "2020-02-03".parse::<Time>().is_err());
     assert_eq!("2014-10-21T16:39:57.5-01:30".parse(), Ok(Time::utc(2014, 10, 21, 18, 9, 57)));
+    // The first moment that UTC time has not, and times at both ends of what is written.
+    let old = Time::utc(1949, 12, 31, 23, 59, 59);
+    assert_eq!(old.encode_varied(), &b"\x18\x0f19491231235959Z"[..]);
+    assert_eq!(Time::years_from_date(1, Time::utc(2020, 2, 29, 12, 0, 0)), Time::utc(2021, 2, 28, 12, 0, 0));
+    assert_eq!(Time::utc(9999, 12, 31, 23, 59, 59).checked_add_secs(1), None);
+    assert_eq!(Time::utc(0, 1, 1, 0, 4, 59).checked_add_secs(-300), None);
+    assert_eq!(Time::utc(0, 1, 1, 0, 5, 0).checked_add_secs(-300), Some(Time::utc(0, 1, 1, 0, 0, 0)));
+    assert_eq!("2030-10-01T18:30:15+02:00".parse(), Ok(Time::utc(2030, 10, 1, 16, 30, 15)));
     let now = Time::now();
     let near = [Time::five_minutes_ago(), now, Time::five_minutes_from_now(), Time::tomorrow(), Time::next_week()];
     assert!(near.windows(2).all(|pair| pair[0] < pair[1]));
@@ -428,6 +438,9 @@ fn keys() {
     assert_eq!(abc.key_identifier().to_string(), DIGITS);
     assert!(abc.allow_rpki_cert() && !abc.allow_router_cert());
     assert_eq!(PublicKey::decode([KEY, b"\x00"].concat()), Err(DecodeError::Trailing));
+    // A key of no bits, whose identifier is the SHA-1 digest of nothing (FIPS 180-4).
+    let empty = PublicKey::decode([b"\x30\x12", &algorithm[..], b"\x03\x01\x00"].concat()).unwrap();
+    assert_eq!(empty.key_identifier().to_string(), "DA39A3EE5E6B4B0D3255BFEF95601890AFD80709");
     assert_eq!(PublicKey::decode(&b"\x31\x00"[..]), Err(DecodeError::Unexpected));
     assert_eq!(PublicKey::decode(&b"\x30\x81\x00"[..]), Err(DecodeError::BadLength));
     // A real size: 2,048 bits.
@@ -468,6 +481,27 @@ fn names() {
     assert_ne!(printable, utf8);
     for octets in [&b"\x30\x00"[..], b"\x30\x02\x31\x00", b"\x30\x09\x31\x07\x30\x05\x06\x03\x55\x04\x03"] {
         assert_eq!(Name::decode(octets), Err(DecodeError::Content));
+    }
+    // Of a common name, a serial number and an organization name: what is wrong under both profiles.
+    let (common, number) =
+        ("\x31\n\x30\x08\x06\x03\x55\x04\x03\x13\x01A", "\x31\n\x30\x08\x06\x03\x55\x04\x05\x13\x01A");
+    let organization = "\x31\n\x30\x08\x06\x03\x55\x04\n\x13\x01B";
+    let rows = [
+        (vec![common], None),
+        (vec![number], Some("missing common name")),
+        (vec![common, common], Some("multiple common names")),
+        (vec![common, number], None),
+        (vec![organization, common], None),
+        (vec![organization], Some("missing common name")),
+        (vec![organization, organization, common], Some("multiple organization names")),
+    ];
+    for (parts, error) in rows {
+        let parts = parts.concat();
+        let name = Name::decode([&[0x30, parts.len() as u8], parts.as_bytes()].concat()).unwrap();
+        for inspected in [name.inspect_rpki(true), name.inspect_router(true)] {
+            assert_eq!(inspected.err().map(|error| error.to_string()).as_deref(), error);
+        }
+        assert!(name.inspect_rpki(false).is_ok() && name.inspect_router(false).is_ok());
     }
     let subject = Name::from_pub_key(&PublicKey::decode(KEY).unwrap());
     let octets = [b"\x30\x33\x31\x31\x30\x2f\x06\x03\x55\x04\x03\x13\x28", DIGITS.as_bytes()].concat();
@@ -572,6 +606,8 @@ fn base_64() {
     assert_eq!(base64::Serde.decode("Zm9v*"), Err(base64::DecodeError::InvalidByte(4, b'*')));
     assert_eq!(base64::Xml.decode("Zm 9v\n*"), Err(base64::DecodeError::InvalidByte(4, b'*')));
     assert_eq!(base64::Xml.decode_bytes(b"Zm 9v\xff"), Err(base64::DecodeError::InvalidByte(5, 0xff)));
+    assert_eq!(base64::Xml.decode_bytes(b"Z\xff"), Err(base64::DecodeError::InvalidByte(1, 0xff)));
+    assert_eq!(base64::Slurm.display(b"\xfb\xff").to_string(), "-_8");
     assert_eq!(base64::Slurm.decode("Zh"), Err(base64::DecodeError::InvalidLastSymbol(1, b'h')));
     for size in [0, 1, 127, 128, 255, 256, 65_535, 65_536, 1_000_000] {
         let octets: Vec<u8> = (0..size).map(|place: u32| (place * 7 % 256) as u8).collect();
