@@ -1,6 +1,6 @@
 -- The URIs of certificates: CRL distribution points, and authority and subject information access (RFC 6487 4.8.6 to
 -- 4.8.8, RFC 8182 3.2).
-use Rattle.std.specs.Prelude.{◌≡◌, ◌≢◌, ◌⊎◌, ℕ, Bool, true, false, List, [], ◌∷◌, Option, Some, None, Result, MatchResult, bytes_eq, codes, if◌then◌else◌}
+use Rattle.std.specs.Prelude.{◌≡◌, ◌≢◌, ◌⊎◌, ℕ, Bool, true, false, List, [], ◌∷◌, Option, Some, None, Result, Vec, MatchResult, bytes_eq, codes, if◌then◌else◌}
 use Rattle.std.specs.Option.{is_some}
 use Rattle.rpki_der.specs.declared.error.DecodeError.{DecodeError}
 use Rattle.rpki_der.specs.declared.tag.Class.TheVariants.{Context}
@@ -11,7 +11,7 @@ use Rattle.rpki_der.specs.WantedValue.{SpellsWanted, IsAnyTag, IsWantedFault}
 use Rattle.rpki_der.specs.Leaves.{IsOid}
 use Rattle.rpki_der.specs.Parts.{Then}
 use Rattle.rpki_der.specs.Each.{SpellsEach, SpellsSome, IsEachFault}
-use Rattle.rpki_der.specs.FirstFault.{FirstFault, IsEndFault, IsInsideFault}
+use Rattle.rpki_der.specs.FirstFault.{FirstFault, IsEndFault, IsInsideFault, ReadsParts}
 use Rattle.rpki_text.specs.RsyncText.{rsync_refusal}
 use Rattle.rpki_text.specs.HttpsText.{https_refusal}
 use Rattle.rpki.specs.UnknownAlgorithm.{IsContentWith}
@@ -101,6 +101,11 @@ SpellsEachAccess method = SpellsEach (SpellsAccess method)
 
 abbrev pub IsEachAccessFault : List ℕ → List ℕ → DecodeError → Type 0
 IsEachAccessFault method = IsEachFault (SpellsAccess method) (IsAccessFault method)
+
+-- a reader of all of them found s and left r
+abbrev pub ReadsEachAccess : {Z : Type 0} → List ℕ → List ℕ → List ℕ → Result (Vec (Option (List ℕ)) Z) DecodeError
+    → Type 0
+ReadsEachAccess method = ReadsParts (λ v. v.items) (SpellsEachAccess method) (IsEachAccessFault method)
 
 -- one description at least: the first rsync URI of this method; the first https URI
 abbrev pub SpellsSomeRsync : List ℕ → Option (List ℕ) → List ℕ → Type 0

@@ -5,7 +5,7 @@ ghost use Rattle.rpki_der.specs.Cursor.{left};
 ghost use Rattle.rpki_der.specs.Reading.{Reads};
 ghost use Rattle.rpki_der.specs.FirstFault.{ReadsParts};
 ghost use Rattle.rpki_der.specs.Each.{SpellsEach, SpellsSome, IsEachFault};
-ghost use Rattle.rpki_cert.specs.Access.{Through, IsKeptFault, SpellsName, IsUriFault, IsNameFault, SpellsUri, first_rsync, first_https, SpellsOidAs, IsOidAsFault, chosen, IsAccess, SpellsAccess, IsAccessPartsFault, IsAccessFault, SpellsEachAccess, IsEachAccessFault, SpellsSomeRsync, SpellsSomeHttps, SpellsRsyncAccess, SpellsHttpsAccess, AreAccessesFault, IsAccessesFault, SpellsFullName, IsFullNameFault, SpellsPointName, IsPointNameFault, SpellsPoint, IsPointFault, SpellsPoints, IsPointsFault};
+ghost use Rattle.rpki_cert.specs.Access.{Through, IsKeptFault, SpellsName, IsUriFault, IsNameFault, SpellsUri, first_rsync, first_https, SpellsOidAs, IsOidAsFault, chosen, IsAccess, SpellsAccess, IsAccessPartsFault, IsAccessFault, ReadsEachAccess, SpellsSomeRsync, SpellsSomeHttps, SpellsRsyncAccess, SpellsHttpsAccess, AreAccessesFault, IsAccessesFault, SpellsFullName, IsFullNameFault, SpellsPointName, IsPointNameFault, SpellsPoint, IsPointFault, SpellsPoints, IsPointsFault};
 
 use bytes::Bytes;
 use rpki::der::{Class, ConstOid, Constructed, ContentError, DecodeError, Oid, Tag};
@@ -93,8 +93,7 @@ fn take_each_access(
     contents: &mut Constructed<'_>,
     method: ConstOid,
 ) -> Result<Vec<Option<Bytes>>, DecodeError>
-    ensures reads { ReadsParts (λ v. v.items) (SpellsEachAccess method.entry.0.now)
-        (IsEachAccessFault method.entry.0.now) (left contents.old) (left contents.new) result }
+    ensures reads { ReadsEachAccess method.entry.0.now (left contents.old) (left contents.new) result }
     ensures end { IfOk result (λ _. left contents.new ≡ []) }
 {
     contents.take_each(alloc, |rest| take_access(alloc, rest, method))

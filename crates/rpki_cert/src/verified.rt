@@ -1,7 +1,7 @@
 //! Certificates that have their profile and are valid at a moment (RFC 6487 7.2), but for their resources.
 
-ghost use Rattle.rpki_cert.specs.Profile.{Checks, IsCaProfile, IsEeProfile, IsRouterProfile};
-ghost use Rattle.rpki_cert.specs.Verified.{IsVerified};
+ghost use Rattle.rpki_cert.specs.Profile.{Checks, IsCaProfile, IsEeProfile};
+ghost use Rattle.rpki_cert.specs.Verified.{IsVerified, IsVerifiedRouter};
 
 use crate::cert::Cert;
 use crate::tbs::TbsCert;
@@ -69,7 +69,7 @@ impl Cert {
         strict: bool,
         at: Time,
     ) -> Result<(), ValidationError>
-        ensures { Checks (IsVerified (IsRouterProfile strict) (P.rsa_of provider.now) (P.ecdsa_of provider.now)
+        ensures { Checks (IsVerifiedRouter strict (P.rsa_of provider.now) (P.ecdsa_of provider.now)
             (P.sha1_of provider.now) issuer.now at self.now) result }
     {
         match self.tbs().inspect_router(alloc, strict) {

@@ -10,10 +10,10 @@ mod periods;
 mod times;
 mod values;
 
-use crate::kinds::{Kind, kind_of};
 use failing::FailsOnce;
 use jiff::SignedDuration;
 use rpki_der::{Captured, Constructed, ContentError, DecodeError, PrimitiveContent, Tag, Values};
+use rpki_der_tests::kinds::{Kind, kind_of};
 use rpki_time::*;
 use std::alloc::{AllocError, Global};
 use std::io;

@@ -1,8 +1,8 @@
 //! URIs as general names and as IA5Strings.
 
-use crate::kinds::{Kind, kind_of};
 use bytes::Bytes;
 use rpki_der::{Captured, Constructed, PrimitiveContent, Tag, Values};
+use rpki_der_tests::kinds::{Kind, kind_of};
 use rpki_text::uri::{Error, Https, Rsync};
 use std::alloc::Global;
 
