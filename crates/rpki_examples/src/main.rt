@@ -100,7 +100,7 @@ fn revocations(alloc: Global) -> Result<usize, DecodeError> {
         .data()
         .cursor()
         .whole(|cons| RevocationList::take_from(alloc, cons))?;
-    match list.revoked {
+    match &list.revoked {
         Some(revoked) => Ok(revoked.len()),
         None => Ok(0),
     }
