@@ -1,7 +1,8 @@
 //! What is read: a certificate, and two of the values that bench/linked.c makes. All of them are signed data.
 
 use bytes::Bytes;
-use rpki_proved::{walk, DecodeError, SignedData};
+use rpki_proved::view::{walk, SignedData};
+use rpki_proved::DecodeError;
 
 const SMALL: usize = 1 << 20;
 const LEVELS: usize = 1_000_000;

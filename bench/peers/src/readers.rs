@@ -2,7 +2,7 @@
 
 use crate::inputs::Input;
 use bcder::{decode, ConstOid, Mode, Oid};
-use rpki_proved::SignedData;
+use rpki_proved::view::{self, SignedData};
 
 pub struct Reader {
     pub name: &'static str,
@@ -28,7 +28,7 @@ pub const SIGNED: &[Reader] = &[
 // ---- Walks ----
 
 fn walk(input: &Input) -> bool {
-    rpki_proved::walk(&input.octets)
+    view::walk(&input.octets)
         .is_ok_and(|walked| (walked.octets().len(), walked.headers()) == (input.octets.len(), input.headers))
 }
 
