@@ -2,7 +2,8 @@
  * Times the calls of the C library in one process, beside plain C with the same checks (plain.c) and, where they are
  * there, beside libcrypto and mbedtls: processor time, in turn, the smallest of 31 rounds.
  *
- * usage: linked CERTIFICATE
+ * usage: linked CERTIFICATE [ROOTS]
+ *        linked CERTIFICATE --calls NAME COUNT    (so many of one contender's calls, and no clock: bench/instructions.py)
  */
 #define _POSIX_C_SOURCE 199309L
 
@@ -74,6 +75,11 @@ static size_t extension_plainly(const struct input *input) {
     return plain_extension(input->octets, input->size, &parts);
 }
 
+static size_t rsync_plainly(const struct input *input) {
+    struct rpki_rsync_parts parts;
+    return plain_rsync(input->octets, input->size, &parts);
+}
+
 /* ---- The library ---- */
 
 static size_t walk(const struct input *input) {
@@ -118,6 +124,26 @@ static size_t name(const struct input *input) {
 static size_t extension(const struct input *input) {
     struct rpki_extension_parts out;
     return rpki_extension(input->octets, input->size, &out) == RPKI_OK;
+}
+
+static size_t certificate_parts(const struct input *input) {
+    struct rpki_certificate_parts out;
+    return rpki_certificate(input->octets, input->size, &out) == RPKI_OK ? input->found : 0;
+}
+
+static size_t certificate_extensions(const struct input *input) {
+    struct rpki_certificate_extensions out;
+    return rpki_certificate_extensions(input->octets, input->size, &out) == RPKI_OK ? input->found : 0;
+}
+
+/* As examples/certificate/show.c opens it. */
+static size_t certificate_opened(const struct input *input) {
+    return certificate_parts(input) && certificate_extensions(input) ? walk(input) : 0;
+}
+
+static size_t rsync_parse(const struct input *input) {
+    struct rpki_rsync_parts out;
+    return rpki_rsync_parse(input->octets, input->size, &out) == RPKI_OK;
 }
 
 /* The octets of an entry's value. */
@@ -329,8 +355,8 @@ static struct input nulls(void) {
     return units("20 MB of NULLs", unit, sizeof unit, NULLS, 1);
 }
 
-static struct input certificate(const char *path) {
-    struct input input = {"a certificate", NULL, 0, 5000, 0, NULL};
+static struct input certificate(const char *name, const char *path) {
+    struct input input = {name, NULL, 0, 5000, 0, NULL};
     uint8_t *room = new_room();
     FILE *file = fopen(path, "rb");
     if (!file) stop(path);
@@ -380,31 +406,51 @@ static void measure(const struct input *input, const struct contender *contender
     }
 }
 
+static const struct contender walks[CONTENDERS] = {
+    {"walk: plain C", walk_plainly},
+    {"rpki_walk", walk},
+    {"rpki_index, capacity 0", counted},
+    {"rpki_signed_data", signed_data},
+#ifdef WITH_MBEDTLS
+    {"mbedtls_asn1_get_len in a loop", mbedtls_walk},
+#endif
+#ifdef WITH_LIBCRYPTO
+    {"ASN1_get_object in a loop", libcrypto_walk},
+#endif
+};
+static const struct contender indexes[CONTENDERS] = {{"index: plain C", index_plainly}, {"rpki_index", indexed}};
+static const struct contender wholes[CONTENDERS] = {
+    {"a whole certificate, in parts", whole},
+    {"rpki_certificate", certificate_parts},
+    {"rpki_certificate_extensions", certificate_extensions},
+    {"both, and rpki_walk", certificate_opened},
+#ifdef WITH_MBEDTLS
+    {"mbedtls_x509_crt_parse_der", mbedtls_whole},
+#endif
+#ifdef WITH_LIBCRYPTO
+    {"d2i_X509 and X509_free", libcrypto_whole},
+#endif
+};
+
+/* Readers of small values, on those of a certificate, and of a URI. */
+enum { READERS = 6 };
+static const struct contender readers[READERS][CONTENDERS] = {
+    {{"serial number: plain C", serial_plainly}, {"rpki_serial", serial}},
+    {{"time: plain C", time_plainly}, {"rpki_time", moment}},
+    {{"name, strict: plain C", name_plainly}, {"rpki_name_inspect", name}},
+    {{"public key: plain C", key_plainly}, {"rpki_public_key", key}},
+    {{"extension: plain C", extension_plainly}, {"rpki_extension", extension}},
+    {{"rsync URI: plain C", rsync_plainly}, {"rpki_rsync_parse", rsync_parse}},
+};
+
+/* Room for an entry of each header. */
+static void make_room(struct input *input) {
+    input->entries = malloc(input->found * sizeof *input->entries);
+    if (!input->entries) stop("no memory");
+}
+
 static void measure_walks(struct input input, bool is_certificate) {
-    static const struct contender walks[CONTENDERS] = {
-        {"walk: plain C", walk_plainly},
-        {"rpki_walk", walk},
-        {"rpki_index, capacity 0", counted},
-        {"rpki_signed_data", signed_data},
-#ifdef WITH_MBEDTLS
-        {"mbedtls_asn1_get_len in a loop", mbedtls_walk},
-#endif
-#ifdef WITH_LIBCRYPTO
-        {"ASN1_get_object in a loop", libcrypto_walk},
-#endif
-    };
-    static const struct contender indexes[CONTENDERS] = {{"index: plain C", index_plainly}, {"rpki_index", indexed}};
-    static const struct contender wholes[CONTENDERS] = {
-        {"a whole certificate", whole},
-#ifdef WITH_MBEDTLS
-        {"mbedtls_x509_crt_parse_der", mbedtls_whole},
-#endif
-#ifdef WITH_LIBCRYPTO
-        {"d2i_X509 and X509_free", libcrypto_whole},
-#endif
-    };
-    input.entries = malloc(input.found * sizeof *input.entries);
-    if (!input.entries) stop("no memory");
+    make_room(&input);
     printf("\n%s: %zu octets, %zu headers\n", input.name, input.size, input.found);
     printf("%-34s%14s%12s%14s\n", "", "ns a call", "ns/header", "x plain C");
     measure(&input, walks);
@@ -413,39 +459,69 @@ static void measure_walks(struct input input, bool is_certificate) {
     free(input.entries);
 }
 
-/* Readers of small values, on those of a certificate. */
+/* What the readers read: parts of a certificate whose entries have room, and a URI of 122 octets. */
+static void find_inputs(struct input *input, struct input found[READERS]) {
+    static const char uri[] = "rsync://rpki.example.net/repository/0123456789/abcdefghijklmnopqrst/ABCDEFGHIJKLMNOPQRST/"
+                              "0123456789-_~abcdefghij/file.roa/x";
+    size_t numbers[PARTS];
+    if (indexed(input) == 0) stop("no index");
+    find_parts(input->entries, input->found, numbers);
+    found[0] = part(input, numbers[SERIAL]);
+    found[1] = part(input, rpki_first_child(input->entries, input->found, numbers[VALIDITY]));
+    found[2] = part(input, numbers[ISSUER]);
+    found[3] = part(input, numbers[KEY]);
+    found[4] = part(input, rpki_first_child(input->entries, input->found, numbers[EXTENSIONS]));
+    found[5] = (struct input){NULL, (const uint8_t *)uri, sizeof uri - 1, 20000, 1, NULL};
+}
+
 static void measure_readers(struct input input) {
-    static const struct contender readers[][CONTENDERS] = {
-        {{"serial number: plain C", serial_plainly}, {"rpki_serial", serial}},
-        {{"time: plain C", time_plainly}, {"rpki_time", moment}},
-        {{"name, strict: plain C", name_plainly}, {"rpki_name_inspect", name}},
-        {{"public key: plain C", key_plainly}, {"rpki_public_key", key}},
-        {{"extension: plain C", extension_plainly}, {"rpki_extension", extension}},
-    };
-    size_t numbers[PARTS], wanted[5], place;
-    input.entries = malloc(input.found * sizeof *input.entries);
-    if (!input.entries || indexed(&input) == 0) stop("no index");
-    find_parts(input.entries, input.found, numbers);
-    wanted[0] = numbers[SERIAL];
-    wanted[1] = rpki_first_child(input.entries, input.found, numbers[VALIDITY]);
-    wanted[2] = numbers[ISSUER];
-    wanted[3] = numbers[KEY];
-    wanted[4] = rpki_first_child(input.entries, input.found, numbers[EXTENSIONS]);
-    printf("\nparts of the certificate\n%-34s%14s%12s%14s\n", "", "ns a call", "", "x plain C");
-    for (place = 0; place < 5; place++) {
-        struct input each = part(&input, wanted[place]);
-        measure(&each, readers[place]);
+    struct input inputs[READERS];
+    size_t place;
+    make_room(&input);
+    find_inputs(&input, inputs);
+    printf("\nparts of the certificate, and a URI\n%-34s%14s%12s%14s\n", "", "ns a call", "", "x plain C");
+    for (place = 0; place < READERS; place++) measure(&inputs[place], readers[place]);
+    free(input.entries);
+}
+
+/* Makes so many calls of the contender of this name, if it is among these. */
+static bool calls(const struct input *input, const struct contender *contenders, const char *called, size_t count) {
+    size_t place;
+    for (place = 0; place < CONTENDERS && contenders[place].name; place++) {
+        if (strcmp(contenders[place].name, called) != 0) continue;
+        for (; count > 0; count--) {
+            if (contenders[place].call(input) != input->found) stop(called);
+        }
+        return true;
     }
+    return false;
+}
+
+static void make_calls(struct input input, const char *called, size_t count) {
+    struct input inputs[READERS];
+    size_t place;
+    bool are_made;
+    make_room(&input);
+    are_made = calls(&input, walks, called, count) || calls(&input, indexes, called, count)
+               || calls(&input, wholes, called, count);
+    find_inputs(&input, inputs);
+    for (place = 0; place < READERS && !are_made; place++) are_made = calls(&inputs[place], readers[place], called, count);
+    if (!are_made) stop(called);
     free(input.entries);
 }
 
 int main(int count, char **words) {
-    if (count != 2) {
-        fprintf(stderr, "usage: linked CERTIFICATE\n");
+    if (count == 5 && strcmp(words[2], "--calls") == 0) {
+        make_calls(certificate("a certificate", words[1]), words[3], strtoul(words[4], NULL, 10));
+        return 0;
+    }
+    if (count != 2 && count != 3) {
+        fprintf(stderr, "usage: linked CERTIFICATE [ROOTS | --calls NAME COUNT]\n");
         return 2;
     }
-    measure_walks(certificate(words[1]), true);
-    measure_readers(certificate(words[1]));
+    measure_walks(certificate("a certificate", words[1]), true);
+    measure_readers(certificate("a certificate", words[1]));
+    if (count == 3) measure_walks(certificate("roots", words[2]), false);
     measure_walks(small_values(), false);
     measure_walks(nested(LEVELS), false);
     measure_walks(nulls(), false);

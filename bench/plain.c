@@ -316,3 +316,46 @@ bool plain_name(const uint8_t *octets, size_t size) {
     }
     return found >> 3 & 1;
 }
+
+/* Whether an octet is a character of a URI: `!`, `$` to `;`, `=`, `A` to `Z`, `_`, `a` to `z`, `~`. */
+static inline bool is_of_uri(uint8_t octet) {
+    static const uint32_t of[] = {0, 0x2FFFFFF2, 0x87FFFFFE, 0x47FFFFFE};
+    return octet < 128 && (of[octet >> 5] >> (octet & 31) & 1);
+}
+
+/* Where the piece that begins here ends: at a slash, or at the end. Whether it may stand in a URI. */
+static inline bool piece(const uint8_t **at, const uint8_t *past, bool may_be_empty) {
+    const uint8_t *start = *at;
+    size_t size;
+    while (*at < past && **at != '/') {
+        if (!is_of_uri(*(*at)++)) return false;
+    }
+    size = (size_t)(*at - start);
+    if (size == 0) return may_be_empty;
+    return size < 256 && !(start[0] == '.' && (size == 1 || (size == 2 && start[1] == '.')));
+}
+
+bool plain_rsync(const uint8_t *text, size_t size, struct rpki_rsync_parts *out) {
+    static const uint8_t scheme[] = {'r', 's', 'y', 'n', 'c'};
+    const uint8_t *at = text + 8, *past = text + size, *start;
+    size_t place;
+    if (size < 8 || size - 8 >= 3072 || memcmp(text + 5, "://", 3) != 0) return false;
+    for (place = 0; place < 5; place++) {
+        if ((text[place] | 0x20) != scheme[place]) return false;
+    }
+    start = at;
+    if (!piece(&at, past, false) || at == past) return false;
+    out->authority.start = (size_t)(start - text);
+    out->authority.length = (size_t)(at - start);
+    start = ++at;
+    if (!piece(&at, past, false) || at == past) return false;
+    out->module_name.start = (size_t)(start - text);
+    out->module_name.length = (size_t)(at - start);
+    out->path.start = (size_t)(at + 1 - text);
+    out->path.length = size - out->path.start;
+    while (at < past) {
+        at++;
+        if (!piece(&at, past, at == past)) return false;
+    }
+    return true;
+}
