@@ -1,12 +1,14 @@
-//! Times walks over headers, and the reading of signed data, beside the crates bcder and asn1 in one process: processor
+//! Times walks over headers, and the reading of signed data and of certificates, beside the crates bcder and asn1 in one process: processor
 //! time, in turn, the smallest of nine rounds. First it checks that all of them find the same.
 //!
 //! usage: peers CERTIFICATE      (as bench/linked.py runs it)
 //!        peers --recursion      (walks the deepest input by recursion, to see whether the stack is large enough)
 
+mod certificates;
 mod inputs;
 mod readers;
 
+use certificates::CERTIFICATES;
 use inputs::Input;
 use readers::{Reader, RECURSION, SIGNED, WALKS};
 use std::error::Error;
@@ -83,6 +85,13 @@ fn print_rows(input: &Input, readers: &[Reader], best: &[f64]) {
     }
 }
 
+/// Times the readers of whole certificates.
+fn measure_certificates(input: &Input) -> Result<(), String> {
+    let readers: Vec<&Reader> = CERTIFICATES.iter().collect();
+    print_rows(input, CERTIFICATES, &smallest(input, &readers)?);
+    Ok(())
+}
+
 fn print_left_out(readers: &[Reader], why: &str) {
     for reader in readers {
         println!("{:<28}left out: {why}", reader.name);
@@ -106,7 +115,9 @@ fn main() -> Result<(), Box<dyn Error>> {
     }
     let without_recursion = &WALKS[..WALKS.len() - 1];
     let of_inside = &SIGNED[..SIGNED.len() - 1];
-    measure(&Input::certificate(std::fs::read(word)?)?, WALKS, SIGNED)?;
+    let certificate = Input::certificate(std::fs::read(word)?)?;
+    measure(&certificate, WALKS, SIGNED)?;
+    measure_certificates(&certificate)?;
     measure(&Input::small_values()?, WALKS, of_inside)?;
     measure(&Input::nested()?, if recursion_ends()? { WALKS } else { without_recursion }, of_inside)?;
     Ok(())

@@ -1,17 +1,18 @@
 -- Extensions that are read in place, one after another.
-use Rattle.std.proofs.Common.{◌≡◌, ◌≢◌, ◌∙◌, ◌+◌, ◌≤◌, ◌<◌, ℕ, true, false, List, [], ◌∷◌, ◌++◌, length, Some, None, refl, sym, ap, subst, arith, append_assoc}
+use Rattle.std.proofs.Common.{◌≡◌, ◌≢◌, ◌∙◌, ◌+◌, ◌≤◌, ◌<◌, ℕ, true, false, List, [], ◌∷◌, ◌++◌, length, Option, Some, None, IfSome, IfNone, refl, sym, ap, subst, arith, append_assoc}
 use Rattle.std.specs.Prelude.{bytes_eq}
 use Rattle.std.proofs.lemmas.List.{append-nil}
 use Rattle.std.proofs.lemmas.Bool.{false≢true}
 use Rattle.rpki_der.specs.declared.error.DecodeError.{DecodeError}
 use Rattle.rpki_der.specs.declared.error.DecodeError.TheVariants.{OutOfMemory}
-use Rattle.rpki_der.specs.TagName.{TagName, sequence, octet_string}
+use Rattle.rpki_der.specs.TagName.{TagName, sequence, octet_string, oid}
+use Rattle.rpki_der.specs.Leaves.{IsOidOf}
 use Rattle.rpki_der.specs.Header.{identifier_octets, length_octets}
-use Rattle.rpki_der.specs.Reading.{Accepts, Refuses, Refusal, SpellsNothing}
-use Rattle.rpki_der.specs.Values.{SpellsContents, IsContentsFault}
+use Rattle.rpki_der.specs.Reading.{Spells, Accepts, Refuses, Refusal, SpellsNothing}
+use Rattle.rpki_der.specs.Values.{SpellsContents, SpellsLeaf, IsContentsFault, IsLeafFault}
 use Rattle.rpki_der.specs.Each.{SpellsEach, SpellsSome}
 use Rattle.rpki_der.proofs.InsideLaws.{unless-memory}
-use Rattle.rpki_der.proofs.LeavesLaws.{contents-no-memory}
+use Rattle.rpki_der.proofs.LeavesLaws.{contents-no-memory, leaf-no-memory}
 use Rattle.rpki_der.proofs.ComposedLaws.{all-read, nothing-after, nothing-whole}
 use Rattle.rpki.specs.ExtensionValue.{ExtensionParts, SpellsExtension, IsExtensionContents}
 use Rattle.rpki.specs.ExtensionFault.{IsCertExtensionFault}
@@ -20,7 +21,7 @@ use Rattle.rpki_der.proofs.LeafValueLaws.{leaf-shorter}
 use Rattle.rpki_cert.specs.declared.cert_part.CertPart.{CertPart}
 use Rattle.rpki_cert.specs.declared.section.Section.{Section}
 use Rattle.rpki_cert.specs.Cert.{find, are_unique, extensions_tag}
-use Rattle.rpki_cert.specs.View.{EndsAt, SpellsListed, SpellsFrame, AreExtensionsWrong, AreExtensionsAt, HasCount, most_extensions}
+use Rattle.rpki_cert.specs.View.{EndsAt, IsIdentified, SpellsListed, SpellsFrame, AreExtensionsWrong, AreExtensionsAt, HasCount, most_extensions}
 use Rattle.rpki_cert.specs.View.AreExtensionsWrong.{NotListed, TooMany, Repeated}
 
 -- an error of a reader that takes no memory
@@ -48,6 +49,32 @@ pub each-end : (s : List ℕ) (ys : List ExtensionParts) → s ≡ [] → Each y
 each-end s [] e h = refl
 each-end s (y ∷ ys) e h = absurd (omega (arith, ap length e, leaf-shorter sequence true IsExtensionContents s y h.0 h.1))
 
+-- ---- the identifier of the first
+
+-- an extension in front of s has the identifier, and ends where the SEQUENCE does
+pub identified : (s i q : List ℕ) (x : ExtensionParts) (r : List ℕ) → IsIdentified s i q → Spells SpellsExtension s x r → (x.identifier ≡ i) × (r ≡ q)
+identified s i q x r h k =
+    let e = h.around.only k.spelled.contents r (record { front = k.front; parts = k.parts; spelled = k.spelled.value }) in
+    let c = k.spelled.spelled in
+    ((h.named.only x.identifier (c.second ++ c.third) (record { front = c.first; parts = sym e.0 ∙ c.parts; spelled = c.identifier })).0, e.1)
+
+pub name-refused : (s c q r : List ℕ) (e : DecodeError) → Accepts (SpellsContents sequence true) s c q → Refusal (SpellsLeaf oid false IsOidOf) (IsLeafFault oid false IsOidOf) c r e → Refuses SpellsExtension s
+name-refused s c q r e a h x p k =
+    let one = a.only k.spelled.contents p (record { front = k.front; parts = k.parts; spelled = k.spelled.value }) in
+    let w = k.spelled.spelled in
+    let none = refused (SpellsLeaf oid false IsOidOf) (IsLeafFault oid false IsOidOf) c r e (λ z. leaf-no-memory oid false IsOidOf c OutOfMemory z refl) h in
+    none x.identifier (w.second ++ w.third) (record { front = w.first; parts = sym one.0 ∙ w.parts; spelled = w.identifier })
+
+pub around-refused : (s r : List ℕ) (e : DecodeError) → Refusal (SpellsContents sequence true) (IsContentsFault sequence true) s r e → Refuses SpellsExtension s
+around-refused s r e h x p k =
+    let none = refused (SpellsContents sequence true) (IsContentsFault sequence true) s r e (λ z. contents-no-memory sequence true s OutOfMemory z refl) h in
+    none k.spelled.contents p (record { front = k.front; parts = k.parts; spelled = k.spelled.value })
+
+-- the extensions of s, without the first, whose identifier this is
+pub each-skim : (s i q : List ℕ) (ys : List ExtensionParts) → s ≢ [] → IsIdentified s i q → Each ys s → (x : ExtensionParts) × (zs : List ExtensionParts) × (ys ≡ x ∷ zs) × (x.identifier ≡ i) × Each zs q
+each-skim s i q [] some a h = absurd (some h)
+each-skim s i q (y ∷ zs) some a h = let e = identified s i q y h.0 a h.1 in (y, zs, refl, e.0, subst (Each zs) e.1 h.2)
+
 -- ---- a search
 
 -- what is found in s is found in r
@@ -65,14 +92,14 @@ find-other id x zs e = rw e refl
 find-first : (id : List ℕ) (x : ExtensionParts) (zs : List ExtensionParts) → bytes_eq x.identifier id ≡ true → find id (x ∷ zs) ≡ Some x
 find-first id x zs e = rw e refl
 
-pub seeks-on : (id s r q : List ℕ) (x : ExtensionParts) → r ≢ [] → Seeks id s r → Accepts SpellsExtension r x q → bytes_eq x.identifier id ≡ false → Seeks id s q
-seeks-on id s r q x some h a other = record {
+pub seeks-on : (id s r q i : List ℕ) → r ≢ [] → Seeks id s r → IsIdentified r i q → bytes_eq i id ≡ false → Seeks id s q
+seeks-on id s r q i some h a other = record {
   same = λ xs k.
       let (ys, each, e) = h.same xs k in
-      let (zs, is, rest) = each-rest r q x ys some a each in
-      (zs, rest, e ∙ ap (find id) is ∙ find-other id x zs other);
-  front = h.front ++ a.spells.front;
-  parts = h.parts ∙ ap (λ (w : List ℕ). h.front ++ w) a.spells.parts ∙ sym (append_assoc h.front a.spells.front q);
+      let (x, zs, is, named, rest) = each-skim r i q ys some a each in
+      (zs, rest, e ∙ ap (find id) is ∙ find-other id x zs (ap (λ (w : List ℕ). bytes_eq w id) named ∙ other));
+  front = h.front ++ a.around.spells.front;
+  parts = h.parts ∙ ap (λ (w : List ℕ). h.front ++ w) a.around.spells.parts ∙ sym (append_assoc h.front a.around.spells.front q);
 }
 
 pub seeks-found : (id s r q : List ℕ) (x : ExtensionParts) → r ≢ [] → Seeks id s r → Accepts SpellsExtension r x q → bytes_eq x.identifier id ≡ true → (xs : List ExtensionParts) → Each xs s → find id xs ≡ Some x
@@ -99,10 +126,29 @@ content-last x p h =
           ∙ sym (append_assoc outer (k.first ++ (k.second ++ inner)) x.content),
     )
 
-pub seeks-place : (id s r q : List ℕ) (x : ExtensionParts) (n : ℕ) → Seeks id s r → Accepts SpellsExtension r x q → length q ≡ n → EndsAt s n x.content
-seeks-place id s r q x n h a is =
-    let (b, last) = content-last x a.spells.front a.spells.spelled in
-    (h.front ++ b, q, h.parts ∙ ap (λ (w : List ℕ). h.front ++ w) (a.spells.parts ∙ ap (λ (w : List ℕ). w ++ q) last ∙ append_assoc b x.content q) ∙ sym (append_assoc h.front b (x.content ++ q)), is)
+-- what is read of the extension at the front of r, and how many octets follow it
+abbrev pub IsFront : List ℕ → ExtensionParts × ℕ → Type 0
+IsFront r x = (q : List ℕ) × Accepts SpellsExtension r x.0 q × (length q ≡ x.1)
+
+seeks-place-one : (id s r : List ℕ) (x : ExtensionParts × ℕ) → Seeks id s r → IsFront r x → EndsAt s x.1 x.0.content
+seeks-place-one id s r x h (q, a, is) =
+    let (b, last) = content-last x.0 a.spells.front a.spells.spelled in
+    (h.front ++ b, q, h.parts ∙ ap (λ (w : List ℕ). h.front ++ w) (a.spells.parts ∙ ap (λ (w : List ℕ). w ++ q) last ∙ append_assoc b x.0.content q) ∙ sym (append_assoc h.front b (x.0.content ++ q)), is)
+
+pub seeks-place : (id s r : List ℕ) (o : Option (ExtensionParts × ℕ)) → Seeks id s r → IfSome o (IsFront r) → IfSome o (λ x. EndsAt s x.1 x.0.content)
+seeks-place id s r None h k = k
+seeks-place id s r (Some x) h k = seeks-place-one id s r x h k
+
+pub seeks-front : (id s r q i : List ℕ) (o : Option (ExtensionParts × ℕ)) → r ≢ [] → Seeks id s r → IsIdentified r i q → bytes_eq i id ≡ true → IfSome o (IsFront r)
+    → IfSome o (λ x. (xs : List ExtensionParts) → Each xs s → find id xs ≡ Some x.0)
+seeks-front id s r q i None some h a same k = k
+seeks-front id s r q i (Some x) some h a same (p, accepted, is) =
+    let named = (identified r i q x.0 p a accepted.spells).0 in
+    seeks-found id s r p x.0 some h accepted (ap (λ (w : List ℕ). bytes_eq w id) named ∙ same)
+
+pub seeks-not : (id s r : List ℕ) (o : Option (ExtensionParts × ℕ)) → r ≢ [] → Seeks id s r → IfNone o (Refuses SpellsExtension r) → IfNone o ((xs : List ExtensionParts) → Each xs s → find id xs ≡ None)
+seeks-not id s r None some h k = seeks-none id s r some h k
+seeks-not id s r (Some x) some h k = k
 
 -- ---- whether no two have the same identifier
 
@@ -119,20 +165,20 @@ first-once x zs e = rw e refl
 first-twice : (x y : ExtensionParts) (zs : List ExtensionParts) → find x.identifier zs ≡ Some y → are_unique (x ∷ zs) ≡ false
 first-twice x y zs e = rw e refl
 
-pub unique-on : (s r q i : List ℕ) (x : ExtensionParts) → r ≢ [] → KeepsUnique s r → Accepts SpellsExtension r x q → i ≡ x.identifier → ((xs : List ExtensionParts) → Each xs q → find i xs ≡ None) → KeepsUnique s q
-unique-on s r q i x some h a is none = record {
+pub unique-on : (s r q i : List ℕ) → r ≢ [] → KeepsUnique s r → IsIdentified r i q → ((xs : List ExtensionParts) → Each xs q → find i xs ≡ None) → KeepsUnique s q
+unique-on s r q i some h a none = record {
   same = λ xs k.
       let (ys, each, e) = h.same xs k in
-      let (zs, named, rest) = each-rest r q x ys some a each in
-      (zs, rest, e ∙ ap are_unique named ∙ first-once x zs (subst (λ (j : List ℕ). find j zs ≡ None) is (none zs rest)));
+      let (x, zs, named, is, rest) = each-skim r i q ys some a each in
+      (zs, rest, e ∙ ap are_unique named ∙ first-once x zs (subst (λ (j : List ℕ). find j zs ≡ None) (sym is) (none zs rest)));
 }
 
-pub unique-twice : (s r q i : List ℕ) (x y : ExtensionParts) → r ≢ [] → KeepsUnique s r → Accepts SpellsExtension r x q → i ≡ x.identifier → ((xs : List ExtensionParts) → Each xs q → find i xs ≡ Some y)
+pub unique-twice : (s r q i : List ℕ) (y : ExtensionParts) → r ≢ [] → KeepsUnique s r → IsIdentified r i q → ((xs : List ExtensionParts) → Each xs q → find i xs ≡ Some y)
     → (xs : List ExtensionParts) → Each xs s → false ≡ are_unique xs
-unique-twice s r q i x y some h a is two xs k =
+unique-twice s r q i y some h a two xs k =
     let (ys, each, e) = h.same xs k in
-    let (zs, named, rest) = each-rest r q x ys some a each in
-    sym (e ∙ ap are_unique named ∙ first-twice x y zs (subst (λ (j : List ℕ). find j zs ≡ Some y) is (two zs rest)))
+    let (x, zs, named, is, rest) = each-skim r i q ys some a each in
+    sym (e ∙ ap are_unique named ∙ first-twice x y zs (subst (λ (j : List ℕ). find j zs ≡ Some y) (sym is) (two zs rest)))
 
 pub unique-none : (s r : List ℕ) → r ≢ [] → KeepsUnique s r → Refuses SpellsExtension r → (xs : List ExtensionParts) → Each xs s → false ≡ are_unique xs
 unique-none s r some h none xs k = let (ys, each, e) = h.same xs k in absurd (each-none r ys some none each)

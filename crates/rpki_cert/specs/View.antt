@@ -1,6 +1,7 @@
 -- Certificates that are read in place: what stands where, and which part is wrong (RFC 5280 4.1).
-use Rattle.std.specs.Prelude.{◌≡◌, ◌≤◌, ◌<◌, ◌++◌, ℕ, Bool, true, List, Option, Some, None, IsTrue, length}
-use Rattle.rpki_der.specs.TagName.{sequence}
+use Rattle.std.specs.Prelude.{◌≡◌, ◌≤◌, ◌<◌, ◌++◌, ℕ, Bool, true, false, List, Option, Some, None, IsTrue, length}
+use Rattle.rpki_der.specs.TagName.{sequence, oid}
+use Rattle.rpki_der.specs.Leaves.{IsOidOf}
 use Rattle.rpki_der.specs.Reading.{Accepts, Refuses, SpellsNothing}
 use Rattle.rpki_der.specs.Values.{SpellsContents, SpellsLeaf}
 use Rattle.rpki_der.specs.Each.{SpellsEach, SpellsSome}
@@ -56,6 +57,13 @@ most_extensions = 64
 -- extensions, one at least, of which some may have the same identifier
 abbrev pub SpellsListed : List ExtensionParts → List ℕ → Type 0
 SpellsListed = SpellsLeaf extensions_tag true (SpellsLeaf sequence true (SpellsSome SpellsExtension))
+
+-- s begins with a SEQUENCE whose contents begin with this identifier, and q follows the SEQUENCE
+pub record IsIdentified (s identifier q : List ℕ) : Type 0 where
+  pub contents : List ℕ
+  pub behind : List ℕ
+  pub around : Accepts (SpellsContents sequence true) s contents q
+  pub named : Accepts (SpellsLeaf oid false IsOidOf) contents identifier behind
 
 pub data AreExtensionsWrong (s : List ℕ) (q : CertPart) : Type 0 where
   NotListed : SpellsNothing SpellsListed s → q ≡ Extensions → AreExtensionsWrong s q

@@ -1,12 +1,13 @@
 //! Extensions, read in place without memory (RFC 5280 4.1.2.9, 4.2).
 
-ghost use Rattle.std.specs.Prelude.{◌≡◌, ◌≤◌, ◌↔◌, List, ℕ, true, IsTrue, IfOk, IfErr, IfSome, IfNone, Some, None, IsSome};
+ghost use Rattle.std.specs.Prelude.{◌≡◌, ◌≤◌, ◌↔◌, List, ℕ, length, true, IsTrue, IfOk, IfErr, IfSome, IfNone, Some, None, IsSome};
 ghost use Rattle.rpki_der.specs.Cursor.{left};
+ghost use Rattle.rpki_der.specs.Reading.{Accepts, Refuses};
 ghost use Rattle.rpki_der.specs.Values.{SpellsContents};
 ghost use Rattle.rpki_der.specs.Each.{SpellsEach, SpellsSome};
 ghost use Rattle.rpki.specs.ExtensionValue.{ExtensionParts, SpellsExtension};
 ghost use Rattle.rpki_cert.specs.Cert.{find, are_unique};
-ghost use Rattle.rpki_cert.specs.View.{EndsAt, IsWholeOf, SpellsFrame, AreExtensionsWrong, AreExtensionsAt, HasCount};
+ghost use Rattle.rpki_cert.specs.View.{EndsAt, IsWholeOf, IsIdentified, SpellsFrame, AreExtensionsWrong, AreExtensionsAt, HasCount};
 
 use crate::cert_part::CertPart;
 use crate::section::Section;
@@ -16,7 +17,42 @@ use rpki::repository::x509::ExtensionView;
 /// How many extensions are compared with one another at most: each with each, since nothing is kept of them.
 pub const MOST_EXTENSIONS: usize = 64;
 
-/// The extension of this identifier, and how many octets follow it.
+/// The identifier of the extension at the front; moves past it. What follows the identifier is not looked at.
+fn skim<'a>(cons: &mut Constructed<'a>) -> Option<Oid<&'a [u8]>>
+    ensures some { IfSome result (λ id. IsIdentified (left cons.old) id.0.now (left cons.new)) }
+    ensures none { IfNone result (Refuses SpellsExtension (left cons.old)) }
+{
+    let mut after = *cons;
+    match after.take_sequence() {
+        Ok(contents) => {
+            let mut rest = contents;
+            match rest.take_oid() {
+                Ok(id) => {
+                    *cons = after;
+                    Some(id)
+                }
+                Err(_) => None,
+            }
+        }
+        Err(_) => None,
+    }
+}
+
+/// The extension at the front, and how many octets follow it.
+fn front_extension<'a>(list: Constructed<'a>) -> Option<(ExtensionView<'a>, usize)>
+    ensures some { IfSome result (λ x. (r : List ℕ) × Accepts SpellsExtension (left list.entry) x.0 r
+        × (length r ≡ x.1)) }
+    ensures none { IfNone result (Refuses SpellsExtension (left list.entry)) }
+{
+    let mut rest = list;
+    match ExtensionView::take_from(&mut rest) {
+        Ok(extension) => Some((extension, rest.rest().len())),
+        Err(_) => None,
+    }
+}
+
+/// The extension of this identifier, and how many octets follow it. Of those before it the identifiers alone are looked
+/// at.
 pub fn find_in<'a>(list: Constructed<'a>, id: Oid<&[u8]>) -> Option<(ExtensionView<'a>, usize)>
     ensures some { IfSome result (λ x. (xs : List ExtensionParts) → SpellsEach SpellsExtension xs (left list.entry)
         → find id.entry.0.now xs ≡ Some x.0) }
@@ -26,13 +62,14 @@ pub fn find_in<'a>(list: Constructed<'a>, id: Oid<&[u8]>) -> Option<(ExtensionVi
 {
     let mut rest = list;
     'extensions: while !rest.is_empty() {
-        match ExtensionView::take_from(&mut rest) {
-            Ok(extension) => {
-                if extension.id() == id {
-                    return Some((extension, rest.rest().len()));
+        let here = rest;
+        match skim(&mut rest) {
+            Some(found) => {
+                if found == id {
+                    return front_extension(here);
                 }
             }
-            Err(_) => return None,
+            None => return None,
         }
     }
     None
@@ -44,14 +81,12 @@ fn are_unique(list: Constructed<'_>) -> bool
 {
     let mut rest = list;
     'extensions: while !rest.is_empty() {
-        match ExtensionView::take_from(&mut rest) {
-            Ok(first) => {
-                match find_in(rest, first.id()) {
-                    Some(_) => return false,
-                    None => {}
-                }
-            }
-            Err(_) => return false,
+        match skim(&mut rest) {
+            Some(first) => match find_in(rest, first) {
+                Some(_) => return false,
+                None => {}
+            },
+            None => return false,
         }
     }
     true

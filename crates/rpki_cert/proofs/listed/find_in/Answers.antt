@@ -1,24 +1,28 @@
-use Rattle.std.proofs.Common.{◌∙◌, ap, length, sym}
+use Rattle.std.proofs.Common.{◌∙◌, sym}
 use Rattle.std.proofs.lemmas.Bool.{iff_false}
-use Rattle.rpki_cert.proofs.ListedLaws.{extension-refused, seeks-on, seeks-found, seeks-none, seeks-end, seeks-place}
+use Rattle.rpki_cert.proofs.ListedLaws.{seeks-on, seeks-front, seeks-not, seeks-none, seeks-end, seeks-place}
 use Rattle.rpki_cert.proofs.listed.find_in.Goals as goal
 
 pub returns-then-eq-clause-some : goal.returns-then-eq-clause-some
 returns-then-eq-clause-some c =
     let some = iff_false c.is_empty.ensures c.extensions-test.true in
-    seeks-found c.args.id.0.now _ _ _ c.in-Ok.extension some c.extensions.invariant c.in-Ok.ensures (sym (rw c.id.ensures at c.eq.ensures) ∙ c.if-eq.true)
+    seeks-front c.args.id.0.now _ _ _ _ c.front_extension.result some c.extensions.invariant c.in-Some.ensures.some (sym c.eq.ensures ∙ c.if-eq.true) c.front_extension.ensures.some
+
+pub returns-then-eq-clause-none : goal.returns-then-eq-clause-none
+returns-then-eq-clause-none c =
+    seeks-not c.args.id.0.now _ _ c.front_extension.result (iff_false c.is_empty.ensures c.extensions-test.true) c.extensions.invariant c.front_extension.ensures.none
 
 pub returns-then-eq-clause-place : goal.returns-then-eq-clause-place
-returns-then-eq-clause-place c = seeks-place c.args.id.0.now _ _ _ c.in-Ok.extension _ c.extensions.invariant c.in-Ok.ensures (sym (ap length c.rest.ensures))
+returns-then-eq-clause-place c = seeks-place c.args.id.0.now _ _ c.front_extension.result c.extensions.invariant c.front_extension.ensures.some
 
 pub extensions-preserved : goal.extensions-preserved
 extensions-preserved c =
     let some = iff_false c.is_empty.ensures c.extensions-test.true in
-    seeks-on c.args.id.0.now _ _ _ c.in-Ok.extension some c.extensions.invariant c.in-Ok.ensures (sym (rw c.id.ensures at c.eq.ensures) ∙ c.if-eq.false)
+    seeks-on c.args.id.0.now _ _ _ _ some c.extensions.invariant c.in-Some.ensures.some (sym c.eq.ensures ∙ c.if-eq.false)
 
-pub returns-in-Err-clause-none : goal.returns-in-Err-clause-none
-returns-in-Err-clause-none c =
-    seeks-none c.args.id.0.now _ _ (iff_false c.is_empty.ensures c.extensions-test.true) c.extensions.invariant (extension-refused _ _ c.in-Err.field-0 c.in-Err.ensures)
+pub returns-in-None-clause-none : goal.returns-in-None-clause-none
+returns-in-None-clause-none c =
+    seeks-none c.args.id.0.now _ _ (iff_false c.is_empty.ensures c.extensions-test.true) c.extensions.invariant c.in-None.ensures.none
 
 pub returns-clause-none : goal.returns-clause-none
 returns-clause-none c = seeks-end c.args.id.0.now _ _ (c.is_empty.ensures.0 c.extensions-test.false) c.extensions.invariant
