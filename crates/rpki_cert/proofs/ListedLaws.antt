@@ -1,8 +1,9 @@
 -- Extensions that are read in place, one after another.
-use Rattle.std.proofs.Common.{◌≡◌, ◌≢◌, ◌∙◌, ◌+◌, ◌≤◌, ◌<◌, ℕ, true, false, List, [], ◌∷◌, ◌++◌, length, Option, Some, None, IfSome, IfNone, refl, sym, ap, subst, arith, append_assoc}
+use Rattle.std.proofs.Common.{◌≡◌, ◌≢◌, ◌∙◌, ◌+◌, ◌≤◌, ◌<◌, ℕ, true, false, List, [], ◌∷◌, ◌++◌, length, get_or, set, Bool, Option, Some, None, IfSome, IfNone, IsTrue, refl, sym, ap, subst, arith, append_assoc}
 use Rattle.std.specs.Prelude.{bytes_eq}
-use Rattle.std.proofs.lemmas.List.{append-nil}
-use Rattle.std.proofs.lemmas.Bool.{false≢true}
+use Rattle.std.proofs.lemmas.List.{append-nil, length-set, get_or-set_same, get_or-set_other}
+use Rattle.std.proofs.lemmas.Slice.Eq.{bytes_eq-Decides}
+use Rattle.std.proofs.lemmas.Bool.{false≢true, false_from_ne_true}
 use Rattle.rpki_der.specs.declared.error.DecodeError.{DecodeError}
 use Rattle.rpki_der.specs.declared.error.DecodeError.TheVariants.{OutOfMemory}
 use Rattle.rpki_der.specs.TagName.{TagName, sequence, octet_string, oid}
@@ -21,7 +22,7 @@ use Rattle.rpki_der.proofs.LeafValueLaws.{leaf-shorter}
 use Rattle.rpki_cert.specs.declared.cert_part.CertPart.{CertPart}
 use Rattle.rpki_cert.specs.declared.section.Section.{Section}
 use Rattle.rpki_cert.specs.Cert.{find, are_unique, extensions_tag}
-use Rattle.rpki_cert.specs.View.{EndsAt, IsIdentified, SpellsListed, SpellsFrame, AreExtensionsWrong, AreExtensionsAt, HasCount, most_extensions}
+use Rattle.rpki_cert.specs.View.{EndsAt, IsIdentified, ending, SpellsListed, SpellsFrame, AreExtensionsWrong, AreExtensionsAt, HasCount, most_extensions}
 use Rattle.rpki_cert.specs.View.AreExtensionsWrong.{NotListed, TooMany, Repeated}
 
 -- an error of a reader that takes no memory
@@ -185,6 +186,58 @@ unique-none s r some h none xs k = let (ys, each, e) = h.same xs k in absurd (ea
 
 pub unique-end : (s r : List ℕ) → r ≡ [] → KeepsUnique s r → (xs : List ExtensionParts) → Each xs s → true ≡ are_unique xs
 unique-end s r end h xs k = let (ys, each, e) = h.same xs k in sym (e ∙ ap are_unique (each-end r ys end each))
+
+-- ---- last octets
+
+-- the last octets of the identifiers are different from one another, and from those that were seen
+abbrev pub Distinct : List Bool → List ExtensionParts → Type 0
+Distinct seen [] = Unit {0}
+Distinct seen (x ∷ xs) = (ending x.identifier < length seen) × (get_or seen (ending x.identifier) false ≡ false) × Distinct (set seen (ending x.identifier) true) xs
+
+other-ending : (seen : List Bool) (i j : ℕ) → get_or seen i false ≡ false → get_or seen j false ≡ true → j ≢ i
+other-ending seen i j none some e = false≢true (sym none ∙ ap (λ (k : ℕ). get_or seen k false) (sym e) ∙ some)
+
+-- an identifier whose last octet was seen is none of theirs
+seen-before : (seen : List Bool) (id : List ℕ) (xs : List ExtensionParts) → get_or seen (ending id) false ≡ true → Distinct seen xs → find id xs ≡ None
+seen-before seen id [] some d = refl
+seen-before seen id (x ∷ xs) some (room, fresh, d) =
+    let differ = other-ending seen (ending x.identifier) (ending id) fresh some in
+    let other = false_from_ne_true (bytes_eq x.identifier id) (λ e. differ (ap ending (sym ((bytes_eq-Decides x.identifier id).0 e)))) in
+    find-other id x xs other ∙ seen-before (set seen (ending x.identifier) true) id xs (get_or-set_other seen (ending x.identifier) (ending id) true false differ ∙ some) d
+
+unique-endings : (seen : List Bool) (xs : List ExtensionParts) → Distinct seen xs → IsTrue (are_unique xs)
+unique-endings seen [] d = refl
+unique-endings seen (x ∷ xs) (room, fresh, d) =
+    let marked = set seen (ending x.identifier) true in
+    first-once x xs (seen-before marked x.identifier xs (get_or-set_same seen (ending x.identifier) true false room) d) ∙ unique-endings marked xs d
+
+-- extensions of s are unique where those of r have last octets that weren't seen
+pub record KeepsEndings (s r : List ℕ) (seen : List Bool) : Type 0 where
+  pub room : length seen ≡ 256
+  pub same : (xs : List ExtensionParts) → Each xs s → (ys : List ExtensionParts) × Each ys r × (Distinct seen ys → IsTrue (are_unique xs))
+
+pub endings-all : (s : List ℕ) (seen : List Bool) → length seen ≡ 256 → KeepsEndings s s seen
+endings-all s seen room = record { room = room; same = λ xs h. (xs, h, unique-endings seen xs) }
+
+pub endings-on : (s r q i : List ℕ) (k : ℕ) (seen : List Bool) → r ≢ [] → KeepsEndings s r seen → IsIdentified r i q → k ≡ ending i → k < 256 → get_or seen k false ≡ false → KeepsEndings s q (set seen k true)
+endings-on s r q i k seen some h a is small fresh = record {
+  room = length-set seen k true ∙ h.room;
+  same = λ xs each-s.
+      let (ys, each, f) = h.same xs each-s in
+      let (x, zs, named, id, rest) = each-skim r i q ys some a each in
+      let e : k ≡ ending x.identifier = is ∙ ap ending (sym id) in (
+        zs,
+        rest,
+        λ d. f (subst (Distinct seen) (sym named) (
+          omega (arith, e, small, h.room),
+          ap (λ (w : ℕ). get_or seen w false) (sym e) ∙ fresh,
+          subst (λ (w : ℕ). Distinct (set seen w true) zs) e d,
+        )),
+      );
+}
+
+pub endings-end : (s r : List ℕ) (seen : List Bool) → r ≡ [] → KeepsEndings s r seen → (xs : List ExtensionParts) → Each xs s → IsTrue (are_unique xs)
+endings-end s r seen end h xs k = let (ys, each, f) = h.same xs k in f (subst (Distinct seen) (sym (each-end r ys end each)) tt)
 
 -- ---- how many
 

@@ -1,5 +1,5 @@
 -- Certificates that are read in place: what stands where, and which part is wrong (RFC 5280 4.1).
-use Rattle.std.specs.Prelude.{◌≡◌, ◌≤◌, ◌<◌, ◌++◌, ℕ, Bool, true, false, List, Option, Some, None, IsTrue, length}
+use Rattle.std.specs.Prelude.{◌≡◌, ◌≤◌, ◌<◌, ◌++◌, ◌-◌, ℕ, Bool, true, false, List, slice_index, Option, Some, None, IsTrue, length}
 use Rattle.rpki_der.specs.TagName.{sequence, oid}
 use Rattle.rpki_der.specs.Leaves.{IsOidOf}
 use Rattle.rpki_der.specs.Reading.{Accepts, Refuses, SpellsNothing}
@@ -64,6 +64,10 @@ pub record IsIdentified (s identifier q : List ℕ) : Type 0 where
   pub behind : List ℕ
   pub around : Accepts (SpellsContents sequence true) s contents q
   pub named : Accepts (SpellsLeaf oid false IsOidOf) contents identifier behind
+
+-- the last octet of an identifier
+abbrev pub ending : List ℕ → ℕ
+ending id = slice_index id (length id - 1)
 
 pub data AreExtensionsWrong (s : List ℕ) (q : CertPart) : Type 0 where
   NotListed : SpellsNothing SpellsListed s → q ≡ Extensions → AreExtensionsWrong s q

@@ -7,7 +7,7 @@ ghost use Rattle.rpki_der.specs.Values.{SpellsContents};
 ghost use Rattle.rpki_der.specs.Each.{SpellsEach, SpellsSome};
 ghost use Rattle.rpki.specs.ExtensionValue.{ExtensionParts, SpellsExtension};
 ghost use Rattle.rpki_cert.specs.Cert.{find, are_unique};
-ghost use Rattle.rpki_cert.specs.View.{EndsAt, IsWholeOf, IsIdentified, SpellsFrame, AreExtensionsWrong, AreExtensionsAt, HasCount};
+ghost use Rattle.rpki_cert.specs.View.{EndsAt, IsWholeOf, IsIdentified, ending, SpellsFrame, AreExtensionsWrong, AreExtensionsAt, HasCount};
 
 use crate::cert_part::CertPart;
 use crate::section::Section;
@@ -75,8 +75,38 @@ pub fn find_in<'a>(list: Constructed<'a>, id: Oid<&[u8]>) -> Option<(ExtensionVi
     None
 }
 
-/// Whether no two extensions have the same identifier.
-fn are_unique(list: Constructed<'_>) -> bool
+/// The last octet of an identifier.
+fn ending(id: &[u8]) -> u8
+    ensures { result ≡ ending id.now }
+{
+    if id.is_empty() { 0 } else { id[id.len() - 1] }
+}
+
+/// Whether the identifiers of the extensions have different last octets, as those of the RPKI have; so no two are the
+/// same.
+fn end_differently(list: Constructed<'_>) -> bool
+    ensures { IsTrue result → (xs : List ExtensionParts) → SpellsEach SpellsExtension xs (left list.entry)
+        → IsTrue (are_unique xs) }
+{
+    let mut seen = [false; 256];
+    let mut rest = list;
+    'extensions: while !rest.is_empty() {
+        match skim(&mut rest) {
+            Some(id) => {
+                let last = usize::from(ending(id.0));
+                if seen[last] {
+                    return false;
+                }
+                seen[last] = true;
+            }
+            None => return false,
+        }
+    }
+    true
+}
+
+/// Whether no two extensions have the same identifier, each compared with those after it.
+fn differ_in_pairs(list: Constructed<'_>) -> bool
     ensures { (xs : List ExtensionParts) → SpellsEach SpellsExtension xs (left list.entry) → result ≡ are_unique xs }
 {
     let mut rest = list;
@@ -90,6 +120,13 @@ fn are_unique(list: Constructed<'_>) -> bool
         }
     }
     true
+}
+
+/// Whether no two extensions have the same identifier.
+fn are_unique(list: Constructed<'_>) -> bool
+    ensures { (xs : List ExtensionParts) → SpellsEach SpellsExtension xs (left list.entry) → result ≡ are_unique xs }
+{
+    end_differently(list) || differ_in_pairs(list)
 }
 
 /// How many extensions there are, one at least; None where the octets are not extensions.

@@ -1,6 +1,6 @@
 use Rattle.std.proofs.lemmas.Bool.{iff_false}
 use Rattle.rpki_cert.proofs.ListedLaws.{unique-on, unique-twice, unique-none, unique-end}
-use Rattle.rpki_cert.proofs.listed.are_unique.Goals as goal
+use Rattle.rpki_cert.proofs.listed.differ_in_pairs.Goals as goal
 
 pub returns-in-Some-find_in : goal.returns-in-Some-find_in
 returns-in-Some-find_in c =
