@@ -1,5 +1,5 @@
 -- What an encoder writes, as a tree of values (X.690 8.1.1).
-use Rattle.std.specs.Prelude.{ℕ, true, false, ◌<◌, ◌^◌, List, [], ◌++◌, length}
+use Rattle.std.specs.Prelude.{ℕ, Bool, true, false, ◌<◌, ◌^◌, List, [], ◌++◌, length}
 use Rattle.rpki_der.specs.TagName.{TagName}
 use Rattle.rpki_der.specs.Header.{tlv}
 use Rattle.rpki_der.specs.Members.{IsValueList}
@@ -17,6 +17,11 @@ pub data Tree : Type 0 where
   Constructed : (tag : TagName) (inside : Tree) → Tree
   -- values that are there already, as their octets
   Captured : (octets : List ℕ) → Tree
+
+-- a value of this tag and form around values
+abbrev pub around : TagName → Bool → Tree → Tree
+around t true inside = Constructed t inside
+around t false inside = Around t inside
 
 -- the octets that are written
 abbrev pub tree_octets : Tree → List ℕ

@@ -1,10 +1,10 @@
 -- Lemmas: trees of values that are made of other trees.
-use Rattle.std.specs.Prelude.{◌≡◌, ℕ, Bool, ◌<◌, ◌^◌, ◌↔◌, List, ◌++◌, length, Option, Some, None, refl}
+use Rattle.std.specs.Prelude.{◌≡◌, ℕ, Bool, true, false, ◌<◌, ◌^◌, ◌↔◌, List, ◌++◌, length, Option, Some, None, refl}
 use Rattle.std.proofs.Common.{ap, ◌∙◌}
 use Rattle.rpki_der.specs.TagName.{TagName}
 use Rattle.rpki_der.specs.Header.{tlv}
 use Rattle.rpki_der.specs.OptionalPart.{optional_octets, optional_tree, OfPart}
-use Rattle.rpki_der.specs.Tree.{Tree, tree_octets, IsShortTree}
+use Rattle.rpki_der.specs.Tree.{Tree, around, tree_octets, IsShortTree}
 
 -- values and then values
 pub both_spelled : (a b : List ℕ) (s t : Tree) → a ≡ tree_octets s → b ≡ tree_octets t
@@ -19,12 +19,14 @@ three_measured p q r = (λ h. ((p.0 h.0, q.0 h.1), r.0 h.2), λ h. (p.1 h.0.0, q
 
 -- a value around values
 pub around_spelled : (t : TagName) (f : Bool) (a : List ℕ) (s : Tree) → a ≡ tree_octets s
-    → tlv t f a ≡ tlv t f (tree_octets s)
-around_spelled t f a s p = ap (λ (w : List ℕ). tlv t f w) p
+    → tlv t f a ≡ tree_octets (around t f s)
+around_spelled t true a s p = ap (λ (w : List ℕ). tlv t true w) p
+around_spelled t false a s p = ap (λ (w : List ℕ). tlv t false w) p
 
-pub around_measured : {A : Type 0} (a : List ℕ) (s : Tree) → a ≡ tree_octets s → (A ↔ IsShortTree s)
-    → (A × (length a < 2 ^ 32)) ↔ (IsShortTree s × (length (tree_octets s) < 2 ^ 32))
-around_measured a s e p = (λ h. (p.0 h.0, rw (← e) h.1), λ h. (p.1 h.0, rw e h.1))
+pub around_measured : {A : Type 0} (t : TagName) (f : Bool) (a : List ℕ) (s : Tree) → a ≡ tree_octets s
+    → (A ↔ IsShortTree s) → (A × (length a < 2 ^ 32)) ↔ IsShortTree (around t f s)
+around_measured t true a s e p = (λ h. (p.0 h.0, rw (← e) h.1), λ h. (p.1 h.0, rw e h.1))
+around_measured t false a s e p = (λ h. (p.0 h.0, rw (← e) h.1), λ h. (p.1 h.0, rw e h.1))
 
 -- values that may be left out
 pub optional_spelled : {V : Type 0} (octets : V → List ℕ) (tree : V → Tree)

@@ -1,5 +1,5 @@
 -- Lists of values, one after another.
-use Rattle.std.specs.Prelude.{◌≡◌, ℕ, true, false, ◌+◌, ◌<◌, ◌^◌, List, [], ◌++◌, length, refl}
+use Rattle.std.specs.Prelude.{◌≡◌, ℕ, Bool, true, false, ◌+◌, ◌<◌, ◌^◌, List, [], ◌++◌, length, refl}
 use Rattle.std.proofs.Common.{sym, ap, ◌∙◌, arith, append_assoc, append-nil, lit<}
 use Rattle.rpki_der.specs.TagName.{TagName, IsTag, sequence, set, octet_string}
 use Rattle.rpki_der.specs.Header.{tlv}
@@ -67,6 +67,12 @@ constructed_value t c tag fits inside =
       counted = refl;
     }
 
+-- a value of one form or the other around values
+pub around_value : (t : TagName) (f : Bool) (c : List ℕ) → IsTag t → length c < 2 ^ 32 → IsValueList c
+    → AreValues 1 (tlv t f c)
+around_value t true c tag fits inside = constructed_value t c tag fits inside
+around_value t false c tag fits inside = primitive_value t c tag fits
+
 -- ---- the tags of values around values are legal
 
 pub sequence_legal : IsTag sequence
@@ -85,10 +91,6 @@ no_value_list = (0, no_values)
 
 pub primitive_value_list : (t : TagName) (c : List ℕ) → IsTag t → length c < 2 ^ 32 → IsValueList (tlv t false c)
 primitive_value_list t c tag fits = (1, primitive_value t c tag fits)
-
-pub constructed_value_list : (t : TagName) (c : List ℕ) → IsTag t → length c < 2 ^ 32 → IsValueList c
-    → IsValueList (tlv t true c)
-constructed_value_list t c tag fits inside = (1, constructed_value t c tag fits inside)
 
 pub value_lists_append : (a b : List ℕ) → IsValueList a → IsValueList b → IsValueList (a ++ b)
 value_lists_append a b p q = (p.0 + q.0, values_append p.0 q.0 a b p.1 q.1)

@@ -10,7 +10,9 @@ mod unsigned;
 mod values;
 mod whole;
 
-pub use constructed::{Sequence, Set, Wrapped};
+pub use constructed::{
+    Around, Frame, OctetStringFrame, Sequence, SequenceFrame, Set, SetFrame, Wrapped,
+};
 pub use primitive::{Primitive, PrimitiveContent};
 pub use values::Values;
 pub use whole::write_whole;

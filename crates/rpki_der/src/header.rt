@@ -1,6 +1,6 @@
 //! Headers, read from the front of a slice.
 
-ghost use Rattle.std.specs.Prelude.{◌≡◌, ◌<◌, ◌≤◌, List, ℕ, IfOk, IfErr, IsTrue, ◌↔◌};
+ghost use Rattle.std.specs.Prelude.{◌≡◌, ◌<◌, ◌≤◌, List, ℕ, length, drop, IfOk, IfErr, IfSome, IsTrue, ◌↔◌};
 ghost use Rattle.rpki_der.specs.Reading.{Accepts, Refuses};
 ghost use Rattle.rpki_der.specs.declared.error.DecodeError.TheVariants.{BadTag, BadLength};
 ghost use Rattle.rpki_der.specs.Header.{class_number};
@@ -132,12 +132,33 @@ fn long_length(count: usize, s: &[u8]) -> Result<(u32, &[u8]), DecodeError>
     Ok((length, &s[count..]))
 }
 
-/// The header at the front (X.690 8.1.2, 8.1.3), and the rest.
-///
-/// The errors are `Truncated`, `BadTag` and `BadLength`: the first octet that cannot be continued to a legal encoding
-/// decides.
+/// The header at the front where it has two octets: its tag number is below 31, and its length below 128 (X.690 8.1.2.2,
+/// 8.1.3.4). Most headers are so.
 #[inline(always)]
-pub(crate) fn header(s: &[u8]) -> Result<(Header, &[u8]), DecodeError>
+fn short_header(s: &[u8]) -> Option<Header>
+    ensures there { IfSome result (λ _. 2 ≤ length s.now) }
+    ensures found { IfSome result (λ h. Accepts SpellsHeader s.now h (drop 2 s.now)) }
+{
+    let [first, second, ..] = s else {
+        return None;
+    };
+    let low = u32::from(*first & 0x1f);
+    if low == 31 || *second & 0x80 != 0 {
+        return None;
+    }
+    if *first >> 6 == 0 && low == 0 {
+        return None;
+    }
+    Some(Header {
+        tag: Tag::new(class_of(*first >> 6), low),
+        constructed: *first >> 5 & 1 == 1,
+        length: u32::from(*second),
+    })
+}
+
+/// The header at the front, of any size, and the rest: as [header].
+#[inline(always)]
+fn long_header(s: &[u8]) -> Result<(Header, &[u8]), DecodeError>
     ensures ok { IfOk result (λ x. Accepts SpellsHeader s.now x.0 x.1.now) }
     ensures err { IfErr result (λ e. Refuses SpellsHeader s.now × IsHeaderFault s.now e) }
 {
@@ -155,6 +176,21 @@ pub(crate) fn header(s: &[u8]) -> Result<(Header, &[u8]), DecodeError>
         },
         rest,
     ))
+}
+
+/// The header at the front (X.690 8.1.2, 8.1.3), and the rest.
+///
+/// The errors are `Truncated`, `BadTag` and `BadLength`: the first octet that cannot be continued to a legal encoding
+/// decides.
+#[inline(always)]
+pub(crate) fn header(s: &[u8]) -> Result<(Header, &[u8]), DecodeError>
+    ensures ok { IfOk result (λ x. Accepts SpellsHeader s.now x.0 x.1.now) }
+    ensures err { IfErr result (λ e. Refuses SpellsHeader s.now × IsHeaderFault s.now e) }
+{
+    match short_header(s) {
+        Some(found) => Ok((found, &s[2..])),
+        None => long_header(s),
+    }
 }
 
 /// Whether the slice begins with the identifier octets of this tag, in either form.

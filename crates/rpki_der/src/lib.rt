@@ -38,7 +38,10 @@ pub use contents::{
     take_ia5_contents, take_oid_contents, take_printable_contents, take_utf8_contents,
 };
 pub use cursor::{Constructed, Cursor};
-pub use encode::{Primitive, PrimitiveContent, Sequence, Set, Values, Wrapped, write_whole};
+pub use encode::{
+    Around, Frame, OctetStringFrame, Primitive, PrimitiveContent, Sequence, SequenceFrame, Set,
+    SetFrame, Values, Wrapped, write_whole,
+};
 pub use error::{ContentError, DecodeError};
 pub use front::{index_octets, read_header, walk_octets};
 pub use index::HeaderEntry;

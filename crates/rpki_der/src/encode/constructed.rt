@@ -1,7 +1,7 @@
 //! Values around values.
 
-ghost use Rattle.std.specs.Prelude.{◌≡◌, ℕ, List, Bool, true, false, ◌<◌, ◌^◌, ◌↔◌, length, IsTrue};
-ghost use Rattle.rpki_der.specs.TagName.{TagName, sequence, set, octet_string};
+ghost use Rattle.std.specs.Prelude.{◌≡◌, ℕ, List, Bool, ◌<◌, ◌^◌, ◌↔◌, length, IsTrue};
+ghost use Rattle.rpki_der.specs.TagName.{TagName, IsTag};
 ghost use Rattle.rpki_der.specs.Header.{tlv};
 ghost use Rattle.rpki_der.specs.Written.{Writes, FitInside};
 
@@ -10,7 +10,7 @@ use super::values::Values;
 use crate::tag::Tag;
 use std::io;
 use std::io::Write;
-use std::marker::Model;
+use std::marker::{Model, PhantomData};
 
 /// Whether the values can be written as the contents of a value, of any tag and form.
 #[tactic(auto, using(crate::proofs::EncodeLaws::tlv_at_most))]
@@ -46,175 +46,171 @@ fn write_around<V: Values, W: Write>(
     values.write_encoded(out)
 }
 
-/// A SEQUENCE of the values (X.690 8.9, 8.10).
-#[derive(Drop)]
-pub struct Sequence<V> {
-    values: V,
+/// The tag and the form of a value around values.
+pub trait Frame {
+    /// The tag.
+    ghost tag: { TagName };
+
+    /// The form: whether the values are the contents of a constructed value, or those of a primitive one.
+    ghost constructed: { Bool };
+
+    /// The tag is one that values have.
+    ghost legal: { IsTag tag };
+
+    /// The tag.
+    fn tag() -> Tag
+        ensures { result ≡ tag };
+
+    /// Whether the value is constructed.
+    fn is_constructed() -> bool
+        ensures { result ≡ constructed };
 }
 
-impl<V> Model for Sequence<V> {
+/// One value around values: [Sequence], [Set] or [Wrapped].
+#[derive(Drop)]
+pub struct Around<F, V> {
+    values: V,
+    frame: PhantomData<F>,
+}
+
+impl<F, V> Model for Around<F, V> {
     ghost Value = { V };
 
     ghost view = { λ x. x.values };
 }
 
-impl<V> Sequence<V> {
-    /// A SEQUENCE around the values.
-    pub fn new(values: V) -> Sequence<V>
+impl<F, V> Around<F, V> {
+    /// The value around these values.
+    pub fn new(values: V) -> Around<F, V>
         ensures { result ≡ values }
     {
-        Sequence { values }
+        Around {
+            values,
+            frame: PhantomData,
+        }
     }
 }
 
-impl<V: Values> Values for Sequence<V> {
-    ghost use Rattle.rpki_der.specs.Tree.Tree.{Constructed as ConstructedTree};
+impl<F: Frame, V: Values> Values for Around<F, V> {
+    ghost use Rattle.rpki_der.specs.Tree.{around};
     ghost use Rattle.rpki_der.specs.TreeLaws.{around_spelled, around_measured};
+    ghost use Rattle.rpki_der.specs.ValueListLaws.{around_value};
 
-    ghost tree = { λ x. ConstructedTree sequence (V.tree x) };
+    ghost tree = { λ x. around ⟦<F as Frame>⟧.tag ⟦<F as Frame>⟧.constructed (V.tree x) };
 
-    ghost encoded = { λ x. tlv sequence true (V.encoded x) };
+    ghost encoded = { λ x. tlv ⟦<F as Frame>⟧.tag ⟦<F as Frame>⟧.constructed (V.encoded x) };
 
     ghost is_short = { λ x. V.is_short x × (length (V.encoded x) < 2 ^ 32) };
 
-    ghost use Rattle.rpki_der.specs.ValueListLaws.{constructed_value_list, sequence_legal};
+    ghost spelled = { λ x. around_spelled ⟦<F as Frame>⟧.tag ⟦<F as Frame>⟧.constructed (V.encoded x) (V.tree x)
+        (V.spelled x) };
 
-    ghost spelled = { λ x. around_spelled sequence true (V.encoded x) (V.tree x) (V.spelled x) };
+    ghost measured = { λ x. around_measured ⟦<F as Frame>⟧.tag ⟦<F as Frame>⟧.constructed (V.encoded x) (V.tree x)
+        (V.spelled x) (V.measured x) };
 
-    ghost measured = { λ x. around_measured (V.encoded x) (V.tree x) (V.spelled x) (V.measured x) };
-
-    ghost are_values = { λ x h. constructed_value_list sequence (V.encoded x) sequence_legal h.1 (V.are_values x h.0) };
+    ghost are_values = { λ x h. (
+      1,
+      around_value ⟦<F as Frame>⟧.tag ⟦<F as Frame>⟧.constructed (V.encoded x) ⟦<F as Frame>⟧.legal h.1
+          (V.are_values x h.0),
+    ) };
 
     fn fits(&self) -> bool {
         fit_inside(&self.values)
     }
 
-    #[tactic(auto, using(crate::specs::ValueListLaws::constructed_value, crate::specs::ValueListLaws::sequence_legal))]
+    #[tactic(auto, using(crate::specs::ValueListLaws::around_value))]
     fn count(&self) -> u64 {
         1
     }
 
     fn encoded_len(&self) -> u64 {
-        len_around(Tag::SEQUENCE, true, &self.values)
+        len_around(F::tag(), F::is_constructed(), &self.values)
     }
 
     fn write_encoded<W: Write>(&self, out: &mut W) -> Result<(), io::Error> {
-        write_around(out, Tag::SEQUENCE, true, &self.values)
+        write_around(out, F::tag(), F::is_constructed(), &self.values)
     }
 }
+
+/// A SEQUENCE of the values (X.690 8.9, 8.10).
+pub type Sequence<V> = Around<SequenceFrame, V>;
 
 /// A SET of the values (X.690 8.11).
 ///
 /// They are written in the order in which they stand here; the order of X.690 10.3 and 11.6 is the caller's to keep.
-#[derive(Drop)]
-pub struct Set<V> {
-    values: V,
-}
-
-impl<V> Model for Set<V> {
-    ghost Value = { V };
-
-    ghost view = { λ x. x.values };
-}
-
-impl<V> Set<V> {
-    /// A SET around the values.
-    pub fn new(values: V) -> Set<V>
-        ensures { result ≡ values }
-    {
-        Set { values }
-    }
-}
-
-impl<V: Values> Values for Set<V> {
-    ghost use Rattle.rpki_der.specs.Tree.Tree.{Constructed as ConstructedTree};
-    ghost use Rattle.rpki_der.specs.TreeLaws.{around_spelled, around_measured};
-
-    ghost tree = { λ x. ConstructedTree set (V.tree x) };
-
-    ghost encoded = { λ x. tlv set true (V.encoded x) };
-
-    ghost is_short = { λ x. V.is_short x × (length (V.encoded x) < 2 ^ 32) };
-
-    ghost use Rattle.rpki_der.specs.ValueListLaws.{constructed_value_list, set_legal};
-
-    ghost spelled = { λ x. around_spelled set true (V.encoded x) (V.tree x) (V.spelled x) };
-
-    ghost measured = { λ x. around_measured (V.encoded x) (V.tree x) (V.spelled x) (V.measured x) };
-
-    ghost are_values = { λ x h. constructed_value_list set (V.encoded x) set_legal h.1 (V.are_values x h.0) };
-
-    fn fits(&self) -> bool {
-        fit_inside(&self.values)
-    }
-
-    #[tactic(auto, using(crate::specs::ValueListLaws::constructed_value, crate::specs::ValueListLaws::set_legal))]
-    fn count(&self) -> u64 {
-        1
-    }
-
-    fn encoded_len(&self) -> u64 {
-        len_around(Tag::SET, true, &self.values)
-    }
-
-    fn write_encoded<W: Write>(&self, out: &mut W) -> Result<(), io::Error> {
-        write_around(out, Tag::SET, true, &self.values)
-    }
-}
+pub type Set<V> = Around<SetFrame, V>;
 
 /// An OCTET STRING around the values, in the primitive form (X.690 8.7, 10.2).
-#[derive(Drop)]
-pub struct Wrapped<V> {
-    values: V,
-}
+pub type Wrapped<V> = Around<OctetStringFrame, V>;
 
-impl<V> Model for Wrapped<V> {
-    ghost Value = { V };
+/// The tag and the form of a SEQUENCE.
+#[derive(Clone, Copy)]
+pub struct SequenceFrame;
 
-    ghost view = { λ x. x.values };
-}
+impl Frame for SequenceFrame {
+    ghost use Rattle.std.specs.Prelude.{true};
+    ghost use Rattle.rpki_der.specs.TagName.{sequence};
+    ghost use Rattle.rpki_der.specs.ValueListLaws.{sequence_legal};
 
-impl<V> Wrapped<V> {
-    /// An OCTET STRING around the values.
-    pub fn new(values: V) -> Wrapped<V>
-        ensures { result ≡ values }
-    {
-        Wrapped { values }
+    ghost tag = { sequence };
+
+    ghost constructed = { true };
+
+    ghost legal = { sequence_legal };
+
+    fn tag() -> Tag {
+        Tag::SEQUENCE
+    }
+
+    fn is_constructed() -> bool {
+        true
     }
 }
 
-impl<V: Values> Values for Wrapped<V> {
-    ghost use Rattle.rpki_der.specs.Tree.Tree.{Around as AroundTree};
-    ghost use Rattle.rpki_der.specs.TreeLaws.{around_spelled, around_measured};
+/// The tag and the form of a SET.
+#[derive(Clone, Copy)]
+pub struct SetFrame;
 
-    ghost tree = { λ x. AroundTree octet_string (V.tree x) };
+impl Frame for SetFrame {
+    ghost use Rattle.std.specs.Prelude.{true};
+    ghost use Rattle.rpki_der.specs.TagName.{set};
+    ghost use Rattle.rpki_der.specs.ValueListLaws.{set_legal};
 
-    ghost encoded = { λ x. tlv octet_string false (V.encoded x) };
+    ghost tag = { set };
 
-    ghost is_short = { λ x. V.is_short x × (length (V.encoded x) < 2 ^ 32) };
+    ghost constructed = { true };
 
-    ghost use Rattle.rpki_der.specs.ValueListLaws.{primitive_value_list, octet_string_legal};
+    ghost legal = { set_legal };
 
-    ghost spelled = { λ x. around_spelled octet_string false (V.encoded x) (V.tree x) (V.spelled x) };
-
-    ghost measured = { λ x. around_measured (V.encoded x) (V.tree x) (V.spelled x) (V.measured x) };
-
-    ghost are_values = { λ x h. primitive_value_list octet_string (V.encoded x) octet_string_legal h.1 };
-
-    fn fits(&self) -> bool {
-        fit_inside(&self.values)
+    fn tag() -> Tag {
+        Tag::SET
     }
 
-    #[tactic(auto, using(crate::specs::ValueListLaws::primitive_value, crate::specs::ValueListLaws::octet_string_legal))]
-    fn count(&self) -> u64 {
-        1
+    fn is_constructed() -> bool {
+        true
+    }
+}
+
+/// The tag and the primitive form of an OCTET STRING.
+#[derive(Clone, Copy)]
+pub struct OctetStringFrame;
+
+impl Frame for OctetStringFrame {
+    ghost use Rattle.std.specs.Prelude.{false};
+    ghost use Rattle.rpki_der.specs.TagName.{octet_string};
+    ghost use Rattle.rpki_der.specs.ValueListLaws.{octet_string_legal};
+
+    ghost tag = { octet_string };
+
+    ghost constructed = { false };
+
+    ghost legal = { octet_string_legal };
+
+    fn tag() -> Tag {
+        Tag::OCTET_STRING
     }
 
-    fn encoded_len(&self) -> u64 {
-        len_around(Tag::OCTET_STRING, false, &self.values)
-    }
-
-    fn write_encoded<W: Write>(&self, out: &mut W) -> Result<(), io::Error> {
-        write_around(out, Tag::OCTET_STRING, false, &self.values)
+    fn is_constructed() -> bool {
+        false
     }
 }

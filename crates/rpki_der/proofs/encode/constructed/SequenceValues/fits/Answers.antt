@@ -1,6 +1,0 @@
-use Rattle.std.proofs.Common.{true}
-use Rattle.rpki_der.specs.TagName.{sequence}
-use Rattle.rpki_der.proofs.encode.constructed.SequenceValues.fits.Goals as goal
-
-pub returns : goal.returns
-returns g c = rw (← c.self.view_is) (c.fit_inside.ensures sequence true)
