@@ -1,20 +1,19 @@
 -- What the reading of a header says in the terms of its grammar.
-use Rattle.std.proofs.Common.{◌≡◌, ℕ, ◌/◌, ◌%◌, ◌<◌, ◌≤◌, ◌⊎◌, Bool, eqb, length, get_or, drop, arith, List, [], ◌∷◌, ◌++◌, Result, Ok, Err, refl, sym, ap, ◌∙◌, subst, inl, inr, append_assoc}
-use Rattle.std.proofs.lemmas.List.{append-nil, take_rest}
+use Rattle.std.proofs.Common.{◌≡◌, ℕ, ◌⊎◌, Bool, List, [], ◌∷◌, ◌++◌, Result, Ok, Err, refl, sym, ap, ◌∙◌, subst, inl, inr, append_assoc}
+use Rattle.std.proofs.lemmas.List.{append-nil}
 use Rattle.rpki_der.specs.declared.error.DecodeError.{DecodeError}
 use Rattle.rpki_der.specs.declared.error.DecodeError.TheVariants.{Truncated, BadTag, BadLength, Unexpected, Content, Trailing, OutOfMemory}
 use Rattle.rpki_der.specs.declared.tag.Header.{Header}
-use Rattle.rpki_der.specs.declared.tag.Class.{Class}
-use Rattle.rpki_der.specs.TagName.{TagName, tag_of}
-use Rattle.rpki_der.specs.Header.{class_number, identifier_octets, length_octets, header_octets}
+use Rattle.rpki_der.specs.TagName.{TagName}
+use Rattle.rpki_der.specs.Header.{identifier_octets, length_octets, header_octets}
 use Rattle.rpki_der.specs.HeaderReading.{identifier_at, length_at, header_at}
 use Rattle.rpki_der.specs.Reading.{Spells, Accepts, Refuses, IsCut}
 use Rattle.rpki_der.specs.HeaderParts.{SpellsLength, IsPartFault}
 use Rattle.rpki_der.specs.Values.{SpellsIdentifier, SpellsHeader, HasTag, HasIdentifier, IsHeaderFault}
 use Rattle.rpki_der.proofs.StepLaws.{IsBytes, IsBytes-append, pair-is}
 use Rattle.rpki_der.proofs.IdentifierLaws.{identifier-empty, identifier-takes, identifier-again, identifier-stays, identifier-completes, identifier-errors}
-use Rattle.rpki_der.proofs.LengthLaws.{length-errors, length-stays, length-short}
-use Rattle.rpki_der.proofs.PartReadingLaws.{part-read, part-failed, identifier-part, length-part, identifier-first}
+use Rattle.rpki_der.proofs.LengthLaws.{length-errors, length-stays}
+use Rattle.rpki_der.proofs.PartReadingLaws.{part-read, part-failed, identifier-part, length-part}
 use Rattle.rpki_der.proofs.HeaderLaws.{IsBytes-following, header-again, header-takes, header-cases, header-completes, header-from, header-bad, identifier-grows}
 
 -- a header at the front is read
@@ -112,16 +111,6 @@ pub header-of-parts : (s q r : List ℕ) (t : TagName) (f : Bool) (n : ℕ) → 
 header-of-parts s q r t f n bytes a b =
     header-accepts s (record { tag = t; constructed = f; length = n }) r bytes
     (header-from s q (t, f) (part-read identifier-part s (t, f) q a.spells) ∙ rw (part-read length-part q n r b.spells) refl)
-
--- of two octets: the number of the tag is in the first, and the second is the length
-pub header-of-two : (s : List ℕ) (k : Class) → IsBytes s → 2 ≤ length s → class_number k ≡ get_or s 0 0 / 64 → get_or s 0 0 % 32 < 31 → (get_or s 0 0 / 64 ≡ 0 → get_or s 0 0 % 32 ≡ 0 → ⊥)
-    → get_or s 1 0 < 128 → Accepts SpellsHeader s (record { tag = tag_of k (get_or s 0 0 % 32); constructed = eqb (get_or s 0 0 / 32 % 2) 1; length = get_or s 1 0 }) (drop 2 s)
-header-of-two [] k bytes le class lt named short = absurd (omega arith)
-header-of-two (a ∷ []) k bytes le class lt named short = absurd (omega arith)
-header-of-two (a ∷ b ∷ s) k bytes le class lt named short =
-    let first : identifier_at (a ∷ b ∷ s) ≡ Ok ((tag_of k (a % 32), eqb (a / 32 % 2) 1), b ∷ s) = rw (take_rest (a ∷ b ∷ s) 1) at (identifier-first (a ∷ b ∷ s) k (omega arith) class lt named) in
-    header-accepts (a ∷ b ∷ s) (record { tag = tag_of k (a % 32); constructed = eqb (a / 32 % 2) 1; length = b }) s bytes
-    (header-from (a ∷ b ∷ s) (b ∷ s) (tag_of k (a % 32), eqb (a / 32 % 2) 1) first ∙ rw (length-short b s short) refl)
 
 pub header-stops : (s : List ℕ) (e : DecodeError) → IsBytes s → Refuses SpellsIdentifier s × IsPartFault SpellsIdentifier BadTag s e → Refuses SpellsHeader s × IsHeaderFault s e
 header-stops s e bytes h =

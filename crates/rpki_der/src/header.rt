@@ -132,33 +132,29 @@ fn long_length(count: usize, s: &[u8]) -> Result<(u32, &[u8]), DecodeError>
     Ok((length, &s[count..]))
 }
 
-/// The header at the front where it has two octets: its tag number is below 31, and its length below 128 (X.690 8.1.2.2,
-/// 8.1.3.4). Most headers are so.
+/// The tag and the form at the front, where they are one octet (X.690 8.1.2.2) and another octet follows: nearly always.
 #[inline(always)]
-fn short_header(s: &[u8]) -> Option<Header>
+fn low_identifier(s: &[u8]) -> Option<(Tag, bool)>
     ensures there { IfSome result (λ _. 2 ≤ length s.now) }
-    ensures found { IfSome result (λ h. Accepts SpellsHeader s.now h (drop 2 s.now)) }
+    ensures found { IfSome result (λ x. Accepts SpellsIdentifier s.now (x.0, x.1) (drop 1 s.now)) }
 {
-    let [first, second, ..] = s else {
+    let [first, _, ..] = s else {
         return None;
     };
     let low = u32::from(*first & 0x1f);
-    if low == 31 || *second & 0x80 != 0 {
+    if low == 31 {
         return None;
     }
     if *first >> 6 == 0 && low == 0 {
         return None;
     }
-    Some(Header {
-        tag: Tag::new(class_of(*first >> 6), low),
-        constructed: *first >> 5 & 1 == 1,
-        length: u32::from(*second),
-    })
+    let tag = Tag::new(class_of(*first >> 6), low);
+    Some((tag, *first >> 5 & 1 == 1))
 }
 
-/// The header at the front, of any size, and the rest: as [header].
+/// The header at the front, and the rest, as [header] has them, by the reader of all identifier octets.
 #[inline(always)]
-fn long_header(s: &[u8]) -> Result<(Header, &[u8]), DecodeError>
+fn any_header(s: &[u8]) -> Result<(Header, &[u8]), DecodeError>
     ensures ok { IfOk result (λ x. Accepts SpellsHeader s.now x.0 x.1.now) }
     ensures err { IfErr result (λ e. Refuses SpellsHeader s.now × IsHeaderFault s.now e) }
 {
@@ -187,9 +183,17 @@ pub(crate) fn header(s: &[u8]) -> Result<(Header, &[u8]), DecodeError>
     ensures ok { IfOk result (λ x. Accepts SpellsHeader s.now x.0 x.1.now) }
     ensures err { IfErr result (λ e. Refuses SpellsHeader s.now × IsHeaderFault s.now e) }
 {
-    match short_header(s) {
-        Some(found) => Ok((found, &s[2..])),
-        None => long_header(s),
+    match low_identifier(s) {
+        Some((tag, constructed)) => {
+            let (length, rest) = length(&s[1..])?;
+            let found = Header {
+                tag,
+                constructed,
+                length,
+            };
+            Ok((found, rest))
+        }
+        None => any_header(s),
     }
 }
 
