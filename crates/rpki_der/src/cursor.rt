@@ -1,12 +1,12 @@
 //! A cursor over octets.
 
-ghost use Rattle.std.specs.Prelude.{◌≡◌, ◌≢◌, ◌≤◌, ◌<◌, ◌+◌, ◌-◌, ◌^◌, ℕ, List, [], length, take, drop, IsTrue, ◌↔◌, MatchResult, IfOk, IfErr};
+ghost use Rattle.std.specs.Prelude.{◌≡◌, ◌≢◌, ◌≤◌, ◌<◌, ◌+◌, ◌-◌, ◌^◌, ℕ, List, [], length, take, drop, IsTrue, ◌↔◌, MatchResult, IfOk, IfErr, IfSome};
 ghost use Rattle.rpki_der.specs.Source.{source_octets, source_room};
 ghost use Rattle.rpki_der.specs.Reading.{Reads};
 ghost use Rattle.rpki_der.specs.Values.{SpellsContents, IsContentsFault};
 
 use crate::error::DecodeError;
-use crate::header::{begins_with, header};
+use crate::header::{begins_with, header, short_header};
 use crate::tag::{Header, Steps, Tag};
 use bytes::Bytes;
 use std::alloc::{AllocError, Global};
@@ -167,6 +167,25 @@ impl<'a> Constructed<'a> {
                 },
             )),
             Err(e) => Err(e),
+        }
+    }
+
+    /// The header at the front, and a cursor on what follows, where the header is two octets.
+    #[inline(always)]
+    #[tactic(auto, unfolding(crate::specs::Cursor::left))]
+    pub(crate) fn after_short_header(&self) -> Option<(Header, Constructed<'a>)>
+        ensures { IfSome result (λ x. Accepts SpellsHeader (left self.now) x.0 (left x.1)) }
+    {
+        match short_header(self.rest) {
+            Some((found, rest)) => Some((
+                found,
+                Constructed {
+                    rest,
+                    source: self.source,
+                    place: self.place + (self.rest.len() - rest.len()),
+                },
+            )),
+            None => None,
         }
     }
 

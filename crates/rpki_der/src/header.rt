@@ -197,6 +197,32 @@ pub(crate) fn header(s: &[u8]) -> Result<(Header, &[u8]), DecodeError>
     }
 }
 
+/// The header at the front, and the rest, as [header] has them, where the header is two octets: nearly always.
+#[inline(always)]
+pub(crate) fn short_header(s: &[u8]) -> Option<(Header, &[u8])>
+    ensures { IfSome result (λ x. Accepts SpellsHeader s.now x.0 x.1.now) }
+{
+    match low_identifier(s) {
+        Some((tag, constructed)) => {
+            if s[1] & 0x80 != 0 {
+                return None;
+            }
+            match length(&s[1..]) {
+                Ok((length, rest)) => {
+                    let found = Header {
+                        tag,
+                        constructed,
+                        length,
+                    };
+                    Some((found, rest))
+                }
+                Err(_) => None,
+            }
+        }
+        None => None,
+    }
+}
+
 /// Whether the slice begins with the identifier octets of this tag, in either form.
 pub(crate) fn begins_with(s: &[u8], tag: Tag) -> bool
     ensures { IsTrue result ↔ HasTag tag s.now }

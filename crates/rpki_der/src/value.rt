@@ -1,6 +1,6 @@
 //! Values of any type, by their tag and form.
 
-ghost use Rattle.std.specs.Prelude.{◌≡◌, ◌<◌, ◌≤◌, ◌↔◌, IsTrue, IfOk, IfErr, length, take, drop, true, false};
+ghost use Rattle.std.specs.Prelude.{◌≡◌, ◌<◌, ◌≤◌, ◌↔◌, IsTrue, IfOk, IfErr, IfSome, length, take, drop, true, false};
 ghost use Rattle.rpki_der.specs.Wanted.{IsWanted};
 
 use crate::cursor::Constructed;
@@ -45,9 +45,29 @@ impl<'a> Constructed<'a> {
     ghost use Rattle.rpki_der.specs.Cursor.{left};
     ghost use Rattle.rpki_der.specs.ContentView.{is_constructed, octets_of};
     ghost use Rattle.rpki_der.specs.TagName.{sequence, set};
-    ghost use Rattle.rpki_der.specs.Reading.{Reads, ReadsWhere, ReadsKept};
+    ghost use Rattle.rpki_der.specs.Reading.{Reads, ReadsWhere, ReadsKept, Accepts};
     ghost use Rattle.rpki_der.specs.Values.{SpellsContents, HasTag, IsContentsFault};
-    ghost use Rattle.rpki_der.specs.WantedValue.{IsAnyTag, IsPrimitive, IsTagged, ReadsWanted, ReadsTaggedWhere};
+    ghost use Rattle.rpki_der.specs.WantedValue.{SpellsWanted, IsAnyTag, IsPrimitive, IsTagged, ReadsWanted, ReadsTaggedWhere};
+
+    /// A value that is wanted, where its header is two octets: its tag, its form, a cursor on its contents, and one on
+    /// what follows.
+    #[inline(always)]
+    fn short_value(&self, wanted: Wanted) -> Option<(Tag, bool, Constructed<'a>, Constructed<'a>)>
+        ensures { IfSome result (λ x. Accepts (SpellsWanted (IsWanted wanted)) (left self.now) (x.0, x.1, left x.2)
+            (left x.3)) }
+    {
+        match self.after_short_header() {
+            Some((found, following)) => {
+                let length = found.length as usize;
+                if !is_wanted(wanted, &found) || following.len() < length {
+                    return None;
+                }
+                let (contents, after) = following.split_at(length);
+                Some((found.tag, found.constructed, contents, after))
+            }
+            None => None,
+        }
+    }
 
     /// A value that is wanted: its tag, its form and a cursor on its contents, which are not validated. Moves past the
     /// value.
@@ -72,8 +92,29 @@ impl<'a> Constructed<'a> {
         Ok((found.tag, found.constructed, contents))
     }
 
-    /// The contents of a value of this tag and form; moves past the value. The contents are not validated.
+    /// The contents of a value of this tag and form; moves past the value. The contents are not validated. What has a
+    /// longer header than two octets, or isn't there, is read out of line.
+    #[inline(always)]
     pub(crate) fn take_contents(
+        &mut self,
+        tag: Tag,
+        constructed: bool,
+    ) -> Result<Constructed<'a>, DecodeError>
+        ensures { Reads left (SpellsContents tag constructed) (IsContentsFault tag constructed) (left self.old)
+            (left self.new) result }
+    {
+        match self.short_value(Wanted::Formed(tag, constructed)) {
+            Some((_, _, contents, after)) => {
+                *self = after;
+                Ok(contents)
+            }
+            None => self.take_any_contents(tag, constructed),
+        }
+    }
+
+    /// The same, with a header of any size.
+    #[inline(never)]
+    fn take_any_contents(
         &mut self,
         tag: Tag,
         constructed: bool,
@@ -90,7 +131,26 @@ impl<'a> Constructed<'a> {
     /// The value at the front, of any tag and form: its tag and its contents, which are not walked.
     ///
     /// The errors are those of a header, and `Truncated` if the contents are not all there.
+    #[inline(always)]
     pub fn take_value(&mut self) -> Result<(Tag, Content<'a>), DecodeError>
+        ensures { ReadsWanted (λ x. (x.0, is_constructed x.1, octets_of x.1)) IsAnyTag (left self.old) (left self.new) result }
+    {
+        match self.short_value(Wanted::Any) {
+            Some((tag, constructed, contents, after)) => {
+                *self = after;
+                if constructed {
+                    Ok((tag, Content::Constructed(contents)))
+                } else {
+                    Ok((tag, Content::Primitive(contents.rest())))
+                }
+            }
+            None => self.take_any_value(),
+        }
+    }
+
+    /// The same, with a header of any size.
+    #[inline(never)]
+    fn take_any_value(&mut self) -> Result<(Tag, Content<'a>), DecodeError>
         ensures { ReadsWanted (λ x. (x.0, is_constructed x.1, octets_of x.1)) IsAnyTag (left self.old) (left self.new) result }
     {
         match self.take_wanted(Wanted::Any) {
@@ -206,6 +266,7 @@ impl<'a> Constructed<'a> {
     /// A cursor on the contents of a SEQUENCE (X.690 8.9); moves past it. The contents are not validated.
     ///
     /// The errors are those of a header; then `Unexpected` for another tag or form; then `Truncated`.
+    #[inline(always)]
     pub fn take_sequence(&mut self) -> Result<Constructed<'a>, DecodeError>
         ensures { Reads left (SpellsContents sequence true) (IsContentsFault sequence true) (left self.old)
             (left self.new) result }
@@ -216,6 +277,7 @@ impl<'a> Constructed<'a> {
     /// A cursor on the contents of a SET (X.690 8.11); moves past it. The contents are not validated.
     ///
     /// The errors are those of a header; then `Unexpected` for another tag or form; then `Truncated`.
+    #[inline(always)]
     pub fn take_set(&mut self) -> Result<Constructed<'a>, DecodeError>
         ensures { Reads left (SpellsContents set true) (IsContentsFault set true) (left self.old)
             (left self.new) result }
