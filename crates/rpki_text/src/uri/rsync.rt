@@ -15,7 +15,7 @@ use super::characters::{
     has_no_capital, hash_in_lower_case, in_lower_case, same_but_case, uri_text,
 };
 use super::error::Error;
-use super::path::{joined_bytes, parent_len};
+use super::path::joined_bytes;
 use super::rsync_view::{Places, RsyncView, check_rsync};
 use bytes::Bytes;
 use std::alloc::{AllocError, Global};
@@ -291,11 +291,10 @@ impl Rsync {
         ensures none { path_of self.now ≡ [] → result ≡ Ok None }
     {
         let places = self.places;
-        let path = self.path_bytes();
-        let Some(len) = parent_len(path) else {
+        let Some(len) = self.view().parent_len() else {
             return Ok(None);
         };
-        let bytes = self.bytes.slice(0..self.bytes.len() - (path.len() - len))?;
+        let bytes = self.bytes.slice(0..len)?;
         Ok(Some(Rsync { bytes, places }))
     }
 

@@ -5,7 +5,7 @@ ghost use Rattle.std.specs.List.{position_or_len, list_all};
 ghost use Rattle.std.specs.Option.{option_copied};
 ghost use Rattle.rpki_text.specs.Segments.{is_slash, is_dir};
 ghost use Rattle.rpki_text.specs.UriText.{lowercase, is_uri_byte};
-ghost use Rattle.rpki_text.specs.RsyncText.{rsync_refusal, has_module, uri_of, relative, is_identical, IsWayBack, IsRsync, IsCut, authority_of, module_name_of, module_of, path_of, parent_of, joined, join_refusal, joined_by, size_joined_by, same_module_of, StartAt};
+ghost use Rattle.rpki_text.specs.RsyncText.{rsync_refusal, has_module, uri_of, relative, is_identical, IsWayBack, IsRsync, IsCut, authority_of, module_name_of, module_of, path_of, parent_of, joined, join_refusal, joined_by, size_joined_by, same_module_of, StartAt, IsParentEnd};
 ghost use Rattle.rpki_text.specs.Places.{IsPartAt, IsRelativeAt};
 ghost use Rattle.rpki_text.specs.Buffer.{IsWritten};
 
@@ -181,6 +181,7 @@ impl<'a> RsyncView<'a> {
     pub fn parent_len(&self) -> Option<usize>
         ensures some { IfSome result (λ n. parent_of (rsync_text self.now) ≡ Some (take n (rsync_text self.now))) }
         ensures within { IfSome result (λ n. n ≤ length (rsync_text self.now)) }
+        ensures segments { IfSome result (λ n. IsParentEnd (rsync_text self.now) n) }
         ensures none { IfNone result (parent_of (rsync_text self.now) ≡ None) }
     {
         let len = parent_len(self.path().as_bytes())?;
