@@ -1,6 +1,6 @@
 //! Paths: what follows the module of a URI, cut into segments at its slashes (RFC 3986 section 3.3).
 
-ghost use Rattle.std.specs.Prelude.{◌≡◌, ◌≤◌, ◌<◌, ◌+◌, ◌-◌, ◌^◌, ◌++◌, [], ◌∷◌, ◌⊎◌, ℕ, not, true, false, length, take, drop, Some, None, MatchResult, MatchOption, IfSome, IfNone, IfOk, if◌then◌else◌};
+ghost use Rattle.std.specs.Prelude.{◌≡◌, ◌≤◌, ◌-◌, [], ◌∷◌, ℕ, not, true, length, take, drop, Some, None, MatchResult, MatchOption, IfSome, IfNone};
 ghost use Rattle.std.specs.Iterator.{YieldsFirstBy, item_count};
 ghost use Rattle.std.specs.List.{suffix_len};
 ghost use Rattle.std.specs.Option.{option_copied};
@@ -10,8 +10,6 @@ ghost use Rattle.rpki_text.specs.HttpsText.{without_slash, path_above};
 
 use super::characters::slash_at;
 use super::error::Error;
-use bytes::Bytes;
-use std::alloc::{AllocError, Global};
 
 /// A path, and a text without its scheme and the slashes after it, has fewer octets than this.
 pub(super) const LEN_LIMIT: usize = 3072;
@@ -158,23 +156,4 @@ pub fn len_above(path: &[u8]) -> Option<usize>
         return None;
     }
     Some(after_last_slash(front))
-}
-
-/// The base, perhaps a slash, and the path: one allocation of the final length.
-pub(super) fn joined_bytes(
-    alloc: Global,
-    base: &[u8],
-    slash: bool,
-    path: &[u8],
-) -> Result<Bytes, AllocError>
-    requires { length base.now + length path.now + 1 < 2 ^ 64 }
-    ensures { IfOk result (λ b. b ≡ (if slash then base.now ++ 47 ∷ [] else base.now) ++ path.now) }
-{
-    let mut text = Vec::with_capacity(alloc, base.len() + usize::from(slash) + path.len())?;
-    text.extend_from_slice(base)?;
-    if slash {
-        text.push(b'/')?;
-    }
-    text.extend_from_slice(path)?;
-    Ok(Bytes::from_vec(text)?)
 }

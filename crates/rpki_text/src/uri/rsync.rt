@@ -15,7 +15,7 @@ use super::characters::{
     has_no_capital, hash_in_lower_case, in_lower_case, same_but_case, uri_text,
 };
 use super::error::Error;
-use super::path::joined_bytes;
+use super::joined::joined_bytes;
 use super::rsync_view::{Places, RsyncView, check_rsync};
 use bytes::Bytes;
 use std::alloc::{AllocError, Global};
@@ -367,11 +367,13 @@ impl Rsync {
         ensures ok { OnOk result (join_refusal self.now path.now ≡ None) }
         ensures err { IfErr result (λ e. e ≡ unwrap_or (join_refusal self.now path.now) Error.OutOfMemory) }
     {
-        self.view().joined_len(path)?;
+        let view = self.view();
+        view.joined_len(path)?;
         if path.is_empty() {
             return Ok(self.bytes.clone()?);
         }
-        Ok(joined_bytes(alloc, self.bytes.as_slice(), !self.path_is_dir(), path)?)
+        let slash = view.needs_slash(path);
+        Ok(joined_bytes(alloc, view.as_slice(), slash, path)?)
     }
 }
 
