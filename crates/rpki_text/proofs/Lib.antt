@@ -2,13 +2,14 @@
 --
 -- A text, its parts and its places: UriLaws, CutLaws, PartLaws, PlaceLaws, TextLaws, CaseLaws.
 -- That no text has an allocation failure: MemoryLaws.
--- Paths and segments; `join`, `parent`, `relative_to`: SegmentLaws, JoinLaws, JoinedLaws, ParentLaws,
--- ParentEndLaws, BelowLaws.
+-- Paths and segments: SegmentLaws, OrdinaryLaws.
+-- `join`, `parent`, `relative_to`: JoinLaws, JoinedLaws, ParentLaws, ParentEndLaws, BelowLaws.
 -- That `join` is undone: BackLaws, RelativeLaws, MeaningLaws.
 -- Equality and laws; https: EqualLaws, EqBytesLaws, ModuleLaws, LawLaws, HttpsPartLaws, HttpsLaws.
 -- Digits: HexLaws, Base64Laws.
 
 pub mod SegmentLaws
+pub mod OrdinaryLaws
 pub mod UriLaws
 pub mod CutLaws
 pub mod RelativeLaws
