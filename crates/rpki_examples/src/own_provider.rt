@@ -1,10 +1,9 @@
 //! A provider of one's own.
 
 use rpki::crypto::Provider;
-use sha1::Sha1;
-use sha2::{Digest, Sha256};
+use rpki_digests::Digests;
 
-/// A provider that makes digests by the crates `sha1` and `sha2`, and takes one RSA signature for right.
+/// A provider whose digests are those of `rpki_digests`, and which takes one RSA signature for right.
 ///
 /// A provider with RSA of its own calls it in `rsa_check`, and `rsa_of` is the definition that this RSA is proved
 /// against: a function of the key's bits, the message and the signature. All that the layer proves of verification is
@@ -34,11 +33,11 @@ impl Provider for OneSignature {
     ghost ecdsa_of = { λ _ _ _ _. false };
 
     fn sha1(&self, octets: &[u8]) -> [u8; 20] {
-        Sha1::digest(octets)
+        Digests.sha1(octets)
     }
 
     fn sha256(&self, octets: &[u8]) -> [u8; 32] {
-        Sha256::digest(octets)
+        Digests.sha256(octets)
     }
 
     fn rsa_check(&self, bits: &[u8], message: &[u8], signature: &[u8]) -> bool {

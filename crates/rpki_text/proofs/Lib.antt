@@ -2,12 +2,14 @@
 --
 -- A text, its parts and its places: UriLaws, CutLaws, PartLaws, PlaceLaws, TextLaws, CaseLaws.
 -- That no text has an allocation failure: MemoryLaws.
--- Paths and segments; `join`, `parent`, `relative_to`: SegmentLaws, JoinLaws, JoinedLaws, ParentLaws, BelowLaws.
+-- Paths and segments: SegmentLaws, OrdinaryLaws.
+-- `join`, `parent`, `relative_to`: JoinLaws, JoinedLaws, ParentLaws, ParentEndLaws, BelowLaws.
 -- That `join` is undone: BackLaws, RelativeLaws, MeaningLaws.
 -- Equality and laws; https: EqualLaws, EqBytesLaws, ModuleLaws, LawLaws, HttpsPartLaws, HttpsLaws.
 -- Digits: HexLaws, Base64Laws.
 
 pub mod SegmentLaws
+pub mod OrdinaryLaws
 pub mod UriLaws
 pub mod CutLaws
 pub mod RelativeLaws
@@ -16,6 +18,7 @@ pub mod BelowLaws
 pub mod LawLaws
 pub mod BackLaws
 pub mod ParentLaws
+pub mod ParentEndLaws
 pub mod TextLaws
 pub mod PartLaws
 pub mod EqualLaws

@@ -9,7 +9,7 @@ use mathlib.Core.Bool.{beq}
 use Rattle.rpki_text.specs.declared.uri.error.Error.{Error}
 use Rattle.rpki_text.specs.declared.uri.error.Error.TheVariants.{InvalidCharacters, BadUri, LongUri, BadScheme, DotSegments, EmptySegments, LongSegments}
 use Rattle.rpki_text.specs.UriText.{lowercase, is_uri_byte, same_text}
-use Rattle.rpki_text.specs.Segments.{is_slash, segments, is_dir, path_text, with_slash}
+use Rattle.rpki_text.specs.Segments.{is_slash, segments, is_dir, path_text, with_slash, IsParentLen}
 
 -- what is wrong with a segment by itself
 abbrev pub piece_refusal : List ℕ → Option Error
@@ -207,6 +207,12 @@ pub record IsParentText (parent child : List ℕ) : Type 0 where
 -- all up to the path
 unfoldable pub module_of : List ℕ → List ℕ
 module_of text = take (length text - length (path_of text)) text
+
+-- the parent of a text ends there: the module, and so much of the path that its last segment alone is left out
+pub record IsParentEnd (text : List ℕ) (end : ℕ) : Type 0 where
+  pub len : ℕ
+  pub at : end ≡ length (module_of text) + len
+  pub path : IsParentLen (path_of text) len
 
 -- the module, its scheme and authority in lower case
 unfoldable pub canonical_module_of : List ℕ → List ℕ

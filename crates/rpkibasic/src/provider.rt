@@ -5,8 +5,7 @@ ghost use Rattle.std.specs.List.{list_any};
 ghost use Rattle.rpkibasic.specs.Table.{row_of, rows_of, is_row, stands};
 
 use rpki::crypto::Provider;
-use sha1::Sha1;
-use sha2::{Digest, Sha256};
+use rpki_digests::Digests;
 use std::marker::Model;
 
 /// The bits of a key, a message, and the signature of that message by that key.
@@ -77,11 +76,11 @@ impl Provider for BenchProvider {
     ghost ecdsa_of = { λ p bits message signature. stands p bits message signature };
 
     fn sha1(&self, octets: &[u8]) -> [u8; 20] {
-        Sha1::digest(octets)
+        Digests.sha1(octets)
     }
 
     fn sha256(&self, octets: &[u8]) -> [u8; 32] {
-        Sha256::digest(octets)
+        Digests.sha256(octets)
     }
 
     fn rsa_check(&self, bits: &[u8], message: &[u8], signature: &[u8]) -> bool {

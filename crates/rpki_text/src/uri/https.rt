@@ -16,7 +16,8 @@ use super::characters::{
 };
 use super::error::Error;
 use super::https_view::{HttpsView, check_https};
-use super::path::{joined_bytes, len_above};
+use super::joined::joined_bytes;
+use super::path::len_above;
 use super::scheme::Scheme;
 use bytes::Bytes;
 use std::alloc::{AllocError, Global};

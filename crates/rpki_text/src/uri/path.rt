@@ -1,6 +1,6 @@
 //! Paths: what follows the module of a URI, cut into segments at its slashes (RFC 3986 section 3.3).
 
-ghost use Rattle.std.specs.Prelude.{◌≡◌, ◌≤◌, ◌<◌, ◌+◌, ◌-◌, ◌^◌, ◌++◌, [], ◌∷◌, ◌⊎◌, ℕ, not, true, false, length, take, drop, Some, None, MatchResult, MatchOption, IfSome, IfNone, IfOk, if◌then◌else◌};
+ghost use Rattle.std.specs.Prelude.{◌≡◌, ◌≤◌, ◌<◌, ◌-◌, ◌&&◌, ◌||◌, ◌==◌, [], ◌∷◌, ℕ, not, true, length, take, drop, Some, None, MatchResult, MatchOption, IfSome, IfNone};
 ghost use Rattle.std.specs.Iterator.{YieldsFirstBy, item_count};
 ghost use Rattle.std.specs.List.{suffix_len};
 ghost use Rattle.std.specs.Option.{option_copied};
@@ -10,8 +10,6 @@ ghost use Rattle.rpki_text.specs.HttpsText.{without_slash, path_above};
 
 use super::characters::slash_at;
 use super::error::Error;
-use bytes::Bytes;
-use std::alloc::{AllocError, Global};
 
 /// A path, and a text without its scheme and the slashes after it, has fewer octets than this.
 pub(super) const LEN_LIMIT: usize = 3072;
@@ -73,6 +71,45 @@ impl<'a> Iterator for Segments<'a> {
     }
 }
 
+/// Whether an octet that follows a slash is a slash or a dot: only there a segment is empty, `.` or `..`. It has no
+/// branch, so that many octets are tested at a time.
+fn is_odd(before: u8, b: u8) -> bool
+    ensures { result ≡ (is_slash before && (is_slash b || b == 46)) }
+{
+    (before == b'/') & ((b == b'/') | (b == b'.'))
+}
+
+/// Whether each segment begins with another octet than a slash and a dot. It looks at all octets, many at a time.
+fn are_ordinary(path: &[u8]) -> bool
+    requires { length path.now < 256 }
+    ensures { result ≡ true → names_refusal (segments path.now) ≡ None }
+{
+    if path.is_empty() {
+        return true;
+    }
+    let mut are = !is_odd(b'/', path[0]);
+    for i in 1..path.len() {
+        are = are & !is_odd(path[i - 1], path[i]);
+    }
+    are
+}
+
+/// What is left of a path after segments with which nothing is wrong: nothing, for most paths.
+fn after_ordinary(path: &[u8]) -> &[u8]
+    ensures { names_refusal (segments path.now) ≡ names_refusal (segments result.now) }
+{
+    let mut rest = path;
+    while rest.len() >= SEGMENT_LIMIT {
+        let (window, _) = rest.split_at(SEGMENT_LIMIT - 1);
+        let (front, tail) = rest.split_at(after_last_slash(window));
+        if front.is_empty() || !are_ordinary(front) {
+            return rest;
+        }
+        rest = tail;
+    }
+    if are_ordinary(rest) { &[] } else { rest }
+}
+
 /// Tests the length of a path, and its segments from the left.
 ///
 /// Returns the first of these errors that applies: `Error::LongUri` for 3,072 octets or more; then, of the pieces
@@ -85,7 +122,9 @@ pub fn check_path(path: &[u8]) -> Result<(), Error>
     if path.len() >= LEN_LIMIT {
         return Err(Error::LongUri);
     }
-    for piece in (Segments { rest: path }) {
+    for piece in (Segments {
+        rest: after_ordinary(path),
+    }) {
         check_piece(piece)?;
     }
     Ok(())
@@ -158,23 +197,4 @@ pub fn len_above(path: &[u8]) -> Option<usize>
         return None;
     }
     Some(after_last_slash(front))
-}
-
-/// The base, perhaps a slash, and the path: one allocation of the final length.
-pub(super) fn joined_bytes(
-    alloc: Global,
-    base: &[u8],
-    slash: bool,
-    path: &[u8],
-) -> Result<Bytes, AllocError>
-    requires { length base.now + length path.now + 1 < 2 ^ 64 }
-    ensures { IfOk result (λ b. b ≡ (if slash then base.now ++ 47 ∷ [] else base.now) ++ path.now) }
-{
-    let mut text = Vec::with_capacity(alloc, base.len() + usize::from(slash) + path.len())?;
-    text.extend_from_slice(base)?;
-    if slash {
-        text.push(b'/')?;
-    }
-    text.extend_from_slice(path)?;
-    Ok(Bytes::from_vec(text)?)
 }

@@ -15,7 +15,7 @@ use super::characters::{
     has_no_capital, hash_in_lower_case, in_lower_case, same_but_case, uri_text,
 };
 use super::error::Error;
-use super::path::{joined_bytes, parent_len};
+use super::joined::joined_bytes;
 use super::rsync_view::{Places, RsyncView, check_rsync};
 use bytes::Bytes;
 use std::alloc::{AllocError, Global};
@@ -291,11 +291,10 @@ impl Rsync {
         ensures none { path_of self.now ≡ [] → result ≡ Ok None }
     {
         let places = self.places;
-        let path = self.path_bytes();
-        let Some(len) = parent_len(path) else {
+        let Some(len) = self.view().parent_len() else {
             return Ok(None);
         };
-        let bytes = self.bytes.slice(0..self.bytes.len() - (path.len() - len))?;
+        let bytes = self.bytes.slice(0..len)?;
         Ok(Some(Rsync { bytes, places }))
     }
 
@@ -368,11 +367,13 @@ impl Rsync {
         ensures ok { OnOk result (join_refusal self.now path.now ≡ None) }
         ensures err { IfErr result (λ e. e ≡ unwrap_or (join_refusal self.now path.now) Error.OutOfMemory) }
     {
-        self.view().joined_len(path)?;
+        let view = self.view();
+        view.joined_len(path)?;
         if path.is_empty() {
             return Ok(self.bytes.clone()?);
         }
-        Ok(joined_bytes(alloc, self.bytes.as_slice(), !self.path_is_dir(), path)?)
+        let slash = view.needs_slash(path);
+        Ok(joined_bytes(alloc, view.as_slice(), slash, path)?)
     }
 }
 

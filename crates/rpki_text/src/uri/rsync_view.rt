@@ -1,11 +1,9 @@
 //! Rsync URIs in borrowed octets (RFC 5781).
 
-ghost use Rattle.std.specs.Prelude.{◌≡◌, ◌≢◌, ◌≤◌, ◌<◌, ◌+◌, ◌++◌, ◌∷◌, [], ◌&&◌, ℕ, true, length, take, drop, bytes_eq, codes, Some, None, MatchResult, IfSome, IfNone, IfOk, OnOk, OnErr, IfErr, is_some, slice_range, if◌then◌else◌};
-ghost use Rattle.std.specs.List.{position_or_len, list_all};
+ghost use Rattle.std.specs.Prelude.{◌≡◌, ◌≢◌, ◌≤◌, ◌<◌, ◌+◌, [], ℕ, true, length, take, drop, Some, None, MatchResult, IfSome, IfNone, IfOk, OnOk, OnErr, IfErr, is_some, slice_range};
 ghost use Rattle.std.specs.Option.{option_copied};
-ghost use Rattle.rpki_text.specs.Segments.{is_slash, is_dir};
-ghost use Rattle.rpki_text.specs.UriText.{lowercase, is_uri_byte};
-ghost use Rattle.rpki_text.specs.RsyncText.{rsync_refusal, has_module, uri_of, relative, is_identical, IsWayBack, IsRsync, IsCut, authority_of, module_name_of, module_of, path_of, parent_of, joined, join_refusal, joined_by, size_joined_by, same_module_of, StartAt};
+ghost use Rattle.rpki_text.specs.Segments.{is_dir};
+ghost use Rattle.rpki_text.specs.RsyncText.{rsync_refusal, has_module, uri_of, relative, is_identical, IsWayBack, IsRsync, IsCut, authority_of, module_name_of, module_of, path_of, parent_of, joined, join_refusal, joined_by, same_module_of, StartAt, IsParentEnd};
 ghost use Rattle.rpki_text.specs.Places.{IsPartAt, IsRelativeAt};
 ghost use Rattle.rpki_text.specs.Buffer.{IsWritten};
 
@@ -13,6 +11,7 @@ use super::characters::{
     check_uri_ascii, eq_ignore_case, slash_at, starts_with_ignore_case, uri_text,
 };
 use super::error::Error;
+use super::joined::write_joined;
 use super::path::{LEN_LIMIT, check_path, parent_len, path_below};
 use std::ops::Range;
 
@@ -181,6 +180,7 @@ impl<'a> RsyncView<'a> {
     pub fn parent_len(&self) -> Option<usize>
         ensures some { IfSome result (λ n. parent_of (rsync_text self.now) ≡ Some (take n (rsync_text self.now))) }
         ensures within { IfSome result (λ n. n ≤ length (rsync_text self.now)) }
+        ensures segments { IfSome result (λ n. IsParentEnd (rsync_text self.now) n) }
         ensures none { IfNone result (parent_of (rsync_text self.now) ≡ None) }
     {
         let len = parent_len(self.path().as_bytes())?;
@@ -231,9 +231,8 @@ impl<'a> RsyncView<'a> {
     }
 
     /// Whether a slash stands between this text and a path that is joined to it.
-    fn needs_slash(&self, path: &[u8]) -> bool
-        ensures { (if result then rsync_text self.now ++ 47 ∷ [] else rsync_text self.now) ++ path.now
-            ≡ joined (rsync_text self.now) path.now }
+    pub(super) fn needs_slash(&self, path: &[u8]) -> bool
+        ensures { joined_by result (rsync_text self.now) path.now ≡ joined (rsync_text self.now) path.now }
     {
         !path.is_empty() && !self.path_is_dir()
     }
@@ -257,21 +256,6 @@ impl<'a> RsyncView<'a> {
         eq_ignore_case(self.authority().as_bytes(), other.authority().as_bytes())
             && self.module_name() == other.module_name()
     }
-}
-
-/// Writes the base, perhaps a slash, and the path to the front of a buffer that has room for them.
-pub fn write_joined(base: &[u8], slash: bool, path: &[u8], buffer: &mut [u8])
-    requires { size_joined_by slash base.now path.now ≤ length buffer.old }
-    ensures { buffer.new ≡ joined_by slash base.now path.now
-        ++ drop (size_joined_by slash base.now path.now) buffer.old }
-{
-    let (front, rest) = buffer.split_at_mut(base.len());
-    front.copy_from_slice(base);
-    let path_start = usize::from(slash);
-    if slash {
-        rest[0] = b'/';
-    }
-    rest[path_start..path_start + path.len()].copy_from_slice(path);
 }
 
 /// Where the module name and the path begin.

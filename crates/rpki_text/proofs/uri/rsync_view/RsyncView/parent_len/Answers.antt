@@ -4,6 +4,7 @@ use Rattle.rpki_text.specs.Segments.{IsParentLen}
 use Rattle.rpki_text.specs.RsyncText.{IsCut, path_of}
 use Rattle.rpki_text.proofs.CutLaws.{cut-facts}
 use Rattle.rpki_text.proofs.JoinLaws.{parent-is, parent-none}
+use Rattle.rpki_text.proofs.ParentEndLaws.{parent_end-made}
 use Rattle.rpki_text.proofs.uri.rsync_view.RsyncView.parent_len.Goals as goal
 
 pub returns-in_err-len-clause-none : goal.returns-in_err-len-clause-none
@@ -28,4 +29,9 @@ returns-clause-within c = within _ _ _ _ _ c.args.self.now.cut (c.as_bytes.ensur
 pub returns-clause-some : goal.returns-clause-some
 returns-clause-some c =
     parent-is _ _ _ c.args.self.now.cut c.in_ok-len.len
+    (subst (λ (s : List ℕ). IsParentLen s c.in_ok-len.len) (c.as_bytes.ensures.value ∙ c.path.ensures) c.in_ok-len.ensures.some)
+
+pub returns-clause-segments : goal.returns-clause-segments
+returns-clause-segments c =
+    parent_end-made _ _ _ c.args.self.now.cut c.in_ok-len.len
     (subst (λ (s : List ℕ). IsParentLen s c.in_ok-len.len) (c.as_bytes.ensures.value ∙ c.path.ensures) c.in_ok-len.ensures.some)
