@@ -2,7 +2,7 @@
 --
 -- Values, one at least; lists of extensions: SomeLaws, ExtensionListLaws.
 -- What is signed, and a certificate around it: CertLaws. What an extension says: KnownLaws, PolicyLaws, AccessLaws.
--- Checks of profiles: ProfileLaws.
+-- Checks of profiles: ProfileLaws. Their rules: RuleLaws.
 -- Read in place: values, names, lists of extensions, fields, certificates: NestedLaws, NameViewLaws, ListedLaws,
 --   FieldsLaws, ViewLaws. That what is wrong is no certificate: WrongLaws.
 
@@ -13,6 +13,7 @@ pub mod KnownLaws
 pub mod PolicyLaws
 pub mod AccessLaws
 pub mod ProfileLaws
+pub mod RuleLaws
 pub mod NestedLaws
 pub mod NameViewLaws
 pub mod ListedLaws
