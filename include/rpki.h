@@ -12,8 +12,9 @@
  * What a call takes of memory it frees before it returns. At the peak rpki_walk, rpki_index, rpki_fault and
  * rpki_signed_data take up to 24 octets for each level of nesting, and 64 more; rpki_name_inspect takes the same of a
  * constructed value of an attribute. Those that write values or base 64, and rpki_base64_read, take copies of what they
- * read and of what they write, and for signed data an index of its headers. All others take none (rpki_hex,
- * rpki_serial_decimal, those that count times on, and the calls on URIs too), and so never return RPKI_OUT_OF_MEMORY.
+ * read and of what they write, and for signed data an index of its headers; rpki_certificate_inspect takes copies of
+ * the certificate, and an index of its headers. All others take none (rpki_hex, rpki_serial_decimal, those that count
+ * times on, and the calls on URIs too), and so never return RPKI_OUT_OF_MEMORY.
  * So bound the size of what strangers send before you hand it in.
  *
  * What the caller owes, which no call can check:
@@ -155,6 +156,34 @@ enum {
     RPKI_WRONG_KEY_USAGE = 83,                /* critical; exactly the bits of one of the two uses */
     RPKI_WRONG_CERTIFICATE_POLICIES = 84,     /* critical; exactly one policy of the RPKI, with one qualifier at most */
 
+    /* Of rpki_certificate_inspect: the rule of the profile that the certificate breaks first. */
+    RPKI_RULE_SERIAL_NUMBER = 85,            /* it is positive (RFC 5280 4.1.2.2) */
+    RPKI_RULE_CRITICAL_EXTENSIONS = 86,      /* every critical one is known (RFC 5280 4.2) */
+    RPKI_RULE_ISSUER = 87,                   /* a name of the RPKI (RFC 6487 4.4) */
+    RPKI_RULE_SUBJECT = 88,                  /* a name of the RPKI (RFC 6487 4.5) */
+    RPKI_RULE_ROUTER_SUBJECT = 89,           /* a name of a router (RFC 8209 3.1.1) */
+    RPKI_RULE_RSA_KEY = 90,                  /* RSA (RFC 7935 3) */
+    RPKI_RULE_ROUTER_KEY = 91,               /* P-256 (RFC 8608 3.1) */
+    RPKI_RULE_BASIC_CONSTRAINTS = 92,        /* there, and as 80 has it (RFC 6487 4.8.1) */
+    RPKI_RULE_NO_BASIC_CONSTRAINTS = 93,     /* not there (RFC 6487 4.8.1) */
+    RPKI_RULE_SUBJECT_KEY_IDENTIFIER = 94,   /* there, and as 81 has it (RFC 6487 4.8.2) */
+    RPKI_RULE_AUTHORITY_KEY_IDENTIFIER = 95, /* there, and as 82 has it (RFC 6487 4.8.3) */
+    RPKI_RULE_AUTHORITY_USAGE = 96,          /* there, critical: keyCertSign and cRLSign (RFC 6487 4.8.4) */
+    RPKI_RULE_END_USAGE = 97,                /* there, critical: digitalSignature (RFC 6487 4.8.4) */
+    RPKI_RULE_NO_EXTENDED_KEY_USAGE = 98,    /* not there (RFC 6487 4.8.5) */
+    RPKI_RULE_ROUTER_PURPOSE = 99,           /* there, not critical, with id-kp-bgpsec-router */
+    RPKI_RULE_REVOCATION_LIST = 100,         /* an rsync URI (RFC 6487 4.8.6) */
+    RPKI_RULE_NO_REVOCATION_LIST = 101,      /* no CRL distribution points (RFC 6487 4.8.6) */
+    RPKI_RULE_ISSUER_CERTIFICATE = 102,      /* an rsync URI (RFC 6487 4.8.7) */
+    RPKI_RULE_NO_ISSUER_CERTIFICATE = 103,   /* no authority information access (RFC 6487 4.8.7) */
+    RPKI_RULE_REPOSITORY = 104,              /* an rsync URI (RFC 6487 4.8.8.1) */
+    RPKI_RULE_MANIFEST = 105,                /* an rsync URI (RFC 6487 4.8.8.1) */
+    RPKI_RULE_SIGNED_OBJECT = 106,           /* an rsync URI (RFC 6487 4.8.8.2) */
+    RPKI_RULE_NO_SUBJECT_ACCESS = 107,       /* no subject information access (RFC 8209 3.1.3.3) */
+    RPKI_RULE_CERTIFICATE_POLICIES = 108,    /* there, and as 84 has it (RFC 6487 4.8.9) */
+    RPKI_RULE_RESOURCES = 109,               /* there, each critical (RFC 6487 4.8.10, 4.8.11) */
+    RPKI_RULE_ROUTER_NUMBERS = 110,          /* AS numbers, and no addresses (RFC 8209 3.1.3.4) */
+
     /* Calls on two texts add this to the number of what is wrong with the second. */
     RPKI_SECOND = 16,
 
@@ -238,6 +267,14 @@ struct rpki_key_parts {
 enum {
     RPKI_PROFILE_RPKI = 0,  /* of resource certificates (RFC 6487 4.4, 4.5) */
     RPKI_PROFILE_ROUTER = 1 /* of router certificates (RFC 8209 3.1.1) */
+};
+
+/* Profiles of certificates. */
+enum {
+    RPKI_CERTIFICATE_TA = 0,    /* of trust anchors (RFC 6487 4) */
+    RPKI_CERTIFICATE_CA = 1,    /* of certification authorities (RFC 6487 4) */
+    RPKI_CERTIFICATE_EE = 2,    /* of end entities that sign an object (RFC 6487 4) */
+    RPKI_CERTIFICATE_ROUTER = 3 /* of BGPsec routers (RFC 8209 3.1) */
 };
 
 /* A moment in UTC. */
@@ -571,6 +608,22 @@ rpki_status rpki_certificate(const uint8_t *octets, size_t size, struct rpki_cer
  * first of them, in the order of these numbers. Else, where it is not 0, it is that of rpki_certificate.
  */
 rpki_status rpki_certificate_extensions(const uint8_t *octets, size_t size, struct rpki_certificate_extensions *out);
+
+/*
+ * Reads a resource certificate, as rpki_certificate does, and holds it to the profile of this number, an
+ * RPKI_CERTIFICATE_ constant (RFC 6487 4, RFC 8209 3.1). With `strict` false the names are not held to theirs. The
+ * octets of resources are not read, and whether the signature is that of a key, or a moment is in the period, is not
+ * looked at.
+ *
+ * The status is from 85 to 110 where the octets are a certificate that breaks a rule of the profile: the first of these
+ * that is broken. Of a trust anchor they are tested in the order 85, 86, 87, 94, 108, 109, 88, 90, 98, 92, 96, 101,
+ * 103, 104, 105; of an authority as far as 96 in the same order, then 104, 105, 95, 100, 102; of an end entity as far
+ * as 98, then 93, 97, 106, 95, 100, 102; of a router as far as 109, then 89, 91, 93, 97, 110, 107, 99, 95, 100, 102. An
+ * extension that a rule wants, and that is malformed or not as critical as it has to be, breaks the rule.
+ * RPKI_NO_PROFILE: no profile has the number; then the octets are not looked at. RPKI_OUT_OF_MEMORY: they are a
+ * certificate, and allocation failed. Else, where it is not 0, it is that of rpki_certificate.
+ */
+rpki_status rpki_certificate_inspect(const uint8_t *octets, size_t size, uint8_t profile, bool strict);
 
 /* ---- URIs ---- */
 
@@ -951,6 +1004,32 @@ static inline const char *rpki_status_text(int kind, rpki_status status) {
         case RPKI_WRONG_AUTHORITY_KEY_IDENTIFIER: return "wrong authority key identifier";
         case RPKI_WRONG_KEY_USAGE: return "wrong key usage";
         case RPKI_WRONG_CERTIFICATE_POLICIES: return "wrong certificate policies";
+        case RPKI_RULE_SERIAL_NUMBER: return "serial number is 0";
+        case RPKI_RULE_CRITICAL_EXTENSIONS: return "unknown critical extension";
+        case RPKI_RULE_ISSUER: return "issuer has no name of the RPKI";
+        case RPKI_RULE_SUBJECT: return "subject has no name of the RPKI";
+        case RPKI_RULE_ROUTER_SUBJECT: return "subject has no name of a router";
+        case RPKI_RULE_RSA_KEY: return "key is no RSA key";
+        case RPKI_RULE_ROUTER_KEY: return "key is no P-256 key";
+        case RPKI_RULE_BASIC_CONSTRAINTS: return "missing basic constraints";
+        case RPKI_RULE_NO_BASIC_CONSTRAINTS: return "basic constraints are there";
+        case RPKI_RULE_SUBJECT_KEY_IDENTIFIER: return "missing subject key identifier";
+        case RPKI_RULE_AUTHORITY_KEY_IDENTIFIER: return "missing authority key identifier";
+        case RPKI_RULE_AUTHORITY_USAGE: return "key usage is not that of an authority";
+        case RPKI_RULE_END_USAGE: return "key usage is not that of an end entity";
+        case RPKI_RULE_NO_EXTENDED_KEY_USAGE: return "extended key usage is there";
+        case RPKI_RULE_ROUTER_PURPOSE: return "missing purpose of a router";
+        case RPKI_RULE_REVOCATION_LIST: return "missing URI of the revocation list";
+        case RPKI_RULE_NO_REVOCATION_LIST: return "CRL distribution points are there";
+        case RPKI_RULE_ISSUER_CERTIFICATE: return "missing URI of the issuer's certificate";
+        case RPKI_RULE_NO_ISSUER_CERTIFICATE: return "authority information access is there";
+        case RPKI_RULE_REPOSITORY: return "missing URI of the repository";
+        case RPKI_RULE_MANIFEST: return "missing URI of the manifest";
+        case RPKI_RULE_SIGNED_OBJECT: return "missing URI of the signed object";
+        case RPKI_RULE_NO_SUBJECT_ACCESS: return "subject information access is there";
+        case RPKI_RULE_CERTIFICATE_POLICIES: return "missing certificate policies";
+        case RPKI_RULE_RESOURCES: return "missing resources, or ones that are not critical";
+        case RPKI_RULE_ROUTER_NUMBERS: return "missing AS numbers, or addresses are there";
         case RPKI_MISSING_COMMON_NAME: return "missing common name";
         case RPKI_SECOND_COMMON_NAME: return "multiple common names";
         case RPKI_SECOND_SERIAL_NUMBER: return "multiple serial numbers";

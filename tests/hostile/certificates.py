@@ -66,8 +66,8 @@ POINT, SECURE = b"rsync://example.net/m/a.crl", b"https://example.net/a.crl"
 class Certificate:
     """A certificate that can be changed."""
 
-    def __init__(self):
-        self.whole = values_of(CERTIFICATE)[0]
+    def __init__(self, octets=None):
+        self.whole = values_of(octets or CERTIFICATE)[0]
         self.tbs, self.algorithm, self.signature = self.whole.inside
         (self.version, self.serial, self.inner_algorithm, self.issuer, self.validity, self.subject, self.key,
          self.context_3) = self.tbs.inside

@@ -1,4 +1,5 @@
-"""How often headers are read, by callgrind's count of calls, and how the instructions grow that name members.
+"""How often headers are read, by callgrind's count of calls, and how the instructions grow that name members, or that
+read certificates of many extensions.
 
 The members of a SEQUENCE have the tag number 31 here, and the function `tag_number` reads such numbers, once for each
 header that is read from octets. Without valgrind nothing is counted, and the last line of the table says so; so for a
@@ -9,6 +10,7 @@ import re
 import shutil
 import tempfile
 
+from certificates import UNKNOWN, Certificate
 from der import digits_of, nested, sequence
 from programs import run
 
@@ -93,4 +95,31 @@ def entries_looked_at(programs):
             yield f"{name}, twenty times the instructions", instructions[1] < 20 * instructions[0], True
 
 
-TABLES = [headers_read, entries_looked_at]
+def many_extensions(count, twice=False):
+    """A certificate of more extensions, so many, of which no two have the same identifier, or the last two."""
+    it = Certificate()
+    for number in range(count):
+        it.add(f"{UNKNOWN}.{number}", b"")
+    if twice:
+        it.add(f"{UNKNOWN}.{count - 1}", b"")
+    return it.octets()
+
+
+def identifiers_compared(programs):
+    """Where there are ten times as many extensions, reading a certificate takes less than twenty times the
+    instructions: not every identifier is compared with every other. So where the last two are the same."""
+    if not shutil.which("valgrind"):
+        return "nothing counted: there is no valgrind"
+    with tempfile.TemporaryDirectory() as folder:
+        counts = os.path.join(folder, "counts")
+        for twice in (False, True):
+            name, instructions = "the last two equal" if twice else "all different", []
+            for number in (2_000, 20_000):
+                status, first = counted(programs, counts, ["certificate", "read"], many_extensions(number, twice))
+                rejected = first == b"rejected duplicate extension"
+                yield f"{number} extensions, {name}", (status, rejected), (0, twice)
+                instructions.append(instructions_in(counts))
+            yield f"extensions, {name}, twenty times the instructions", instructions[1] < 20 * instructions[0], True
+
+
+TABLES = [headers_read, entries_looked_at, identifiers_compared]

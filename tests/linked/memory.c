@@ -12,7 +12,7 @@ void *__wrap_realloc(void *at, size_t size);
 void __wrap_free(void *at);
 
 /* Octets after each block, which nobody may write to, and how many blocks there may be at once. */
-enum { AFTER = 32, MARK = 0xA5, BLOCKS = 64 };
+enum { AFTER = 32, MARK = 0xA5, BLOCKS = 256 };
 
 /* The blocks that were given since counting began, and not taken back; none where `at` is NULL. */
 static struct {

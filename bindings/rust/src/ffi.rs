@@ -211,6 +211,7 @@ extern "C" {
     fn rpki_extension(octets: *const u8, size: usize, out: *mut ExtensionParts) -> Status;
     fn rpki_certificate(octets: *const u8, size: usize, out: *mut CertificateParts) -> Status;
     fn rpki_certificate_extensions(octets: *const u8, size: usize, out: *mut CertificateExtensions) -> Status;
+    fn rpki_certificate_inspect(octets: *const u8, size: usize, profile: u8, strict: bool) -> Status;
     fn rpki_rsync_parse(text: *const u8, size: usize, out: *mut RsyncParts) -> Status;
     fn rpki_rsync_relative_to(
         uri: *const u8,
@@ -496,6 +497,14 @@ pub(crate) fn index(octets: &[u8]) -> Result<Vec<Entry>, Status> {
 pub(crate) fn name_inspect(octets: &[u8], profile: u8, strict: bool) -> Result<(), Status> {
     // SAFETY: pointer and size are those of one slice, which is borrowed for the call.
     match unsafe { rpki_name_inspect(octets.as_ptr(), octets.len(), profile, strict) } {
+        0 => Ok(()),
+        status => Err(status),
+    }
+}
+
+pub(crate) fn certificate_inspect(octets: &[u8], profile: u8, strict: bool) -> Result<(), Status> {
+    // SAFETY: pointer and size are those of one slice, which is borrowed for the call.
+    match unsafe { rpki_certificate_inspect(octets.as_ptr(), octets.len(), profile, strict) } {
         0 => Ok(()),
         status => Err(status),
     }

@@ -1,7 +1,7 @@
 //! Certificates, read by [Cert], compared with the rows that tests/linked/certificate/rows.py writes. The variable
 //! `RPKI_CERTIFICATE_ROWS` names their file; without it the certificate of examples/ alone is read.
 
-use rpki_proved::repository::cert::{Cert, CertError, ExtensionError, KeyUsage, Overclaim};
+use rpki_proved::repository::cert::{Cert, CertError, CertRule, ExtensionError, KeyUsage, Overclaim};
 
 const ERRORS: [CertError; 16] = [
     CertError::Certificate,
@@ -28,6 +28,35 @@ const EXTENSION_ERRORS: [ExtensionError; 5] = [
     ExtensionError::AuthorityKeyIdentifier,
     ExtensionError::KeyUsage,
     ExtensionError::CertificatePolicies,
+];
+
+const RULES: [CertRule; 26] = [
+    CertRule::SerialNumber,
+    CertRule::CriticalExtensions,
+    CertRule::Issuer,
+    CertRule::Subject,
+    CertRule::RouterSubject,
+    CertRule::RsaKey,
+    CertRule::RouterKey,
+    CertRule::BasicConstraints,
+    CertRule::NoBasicConstraints,
+    CertRule::SubjectKeyIdentifier,
+    CertRule::AuthorityKeyIdentifier,
+    CertRule::AuthorityUsage,
+    CertRule::EndUsage,
+    CertRule::NoExtendedKeyUsage,
+    CertRule::RouterPurpose,
+    CertRule::RevocationList,
+    CertRule::NoRevocationList,
+    CertRule::IssuerCertificate,
+    CertRule::NoIssuerCertificate,
+    CertRule::Repository,
+    CertRule::Manifest,
+    CertRule::SignedObject,
+    CertRule::NoSubjectAccess,
+    CertRule::CertificatePolicies,
+    CertRule::Resources,
+    CertRule::RouterNumbers,
 ];
 
 fn octets_of(digits: &str) -> Vec<u8> {
@@ -91,6 +120,18 @@ fn compare_extensions(number: usize, octets: &[u8], cert: &Cert, words: &[&str])
     assert_eq!(found.overclaim, policies[words[57].parse::<usize>().unwrap()], "row {number}");
 }
 
+/// The certificate breaks the rules of the row, of the four profiles, strict, and then of the same not strict.
+fn compare_inspections(number: usize, cert: &Cert, words: &[&str]) {
+    let wanted = words.iter().map(|word| match word.parse::<usize>().unwrap() {
+        0 => Ok(()),
+        status => Err(RULES[status - 85]),
+    });
+    let told = [true, false].map(|strict| {
+        [cert.inspect_ta(strict), cert.inspect_ca(strict), cert.inspect_ee(strict), cert.inspect_router(strict)]
+    });
+    assert_eq!(told.concat(), wanted.collect::<Vec<_>>(), "row {number}");
+}
+
 #[test]
 fn certificates() {
     let Some(path) = std::env::var_os("RPKI_CERTIFICATE_ROWS") else {
@@ -99,13 +140,15 @@ fn certificates() {
     let rows = std::fs::read_to_string(path).unwrap();
     assert!(rows.lines().count() > 70);
     for (number, row) in rows.lines().enumerate() {
-        let (parts, extensions) = row.split_once(" | ").unwrap();
+        let (parts, more) = row.split_once(" | ").unwrap();
+        let (extensions, inspections) = more.split_once(" | ").unwrap();
         let words: Vec<&str> = parts.split(' ').collect();
         let octets = octets_of(words[0]);
         match (Cert::decode(octets.clone()), words[1].parse::<usize>().unwrap()) {
             (Ok(cert), 0) => {
                 compare(number, &octets, &cert, &words[2..]);
                 compare_extensions(number, &octets, &cert, &extensions.split(' ').collect::<Vec<_>>());
+                compare_inspections(number, &cert, &inspections.split(' ').collect::<Vec<_>>());
             }
             (Err(error), status) if status >= 64 => assert_eq!(error, ERRORS[status - 64], "row {number}"),
             (found, status) => panic!("row {number}: {found:?} and not {status}"),

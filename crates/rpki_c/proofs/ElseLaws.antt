@@ -1,9 +1,9 @@
 -- Signed data of another algorithm.
-use Rattle.std.proofs.Common.{◌≡◌, ℕ, Bool, true, List, Result, Ok, Err, Option, Some, None, sym, subst}
+use Rattle.std.proofs.Common.{◌≡◌, ℕ, Bool, true, List, Result, Ok, Err, Option, sym, subst}
 use Rattle.std.specs.Prelude.{IsErr, IsErrAnd}
 use Rattle.rpki_der.specs.declared.error.DecodeError.{DecodeError}
 use Rattle.rpki_der.specs.TagName.{sequence}
-use Rattle.rpki_der.specs.Reading.{Spells, Accepts, Refuses, SpellsNothing, UnlessMemory}
+use Rattle.rpki_der.specs.Reading.{Accepts, Refuses, SpellsNothing, UnlessMemory}
 use Rattle.rpki_der.specs.Values.{SpellsContents}
 use Rattle.rpki_der.specs.Members.{SpellsValue}
 use Rattle.rpki.specs.Oids.{sha256_with_rsa_encryption}

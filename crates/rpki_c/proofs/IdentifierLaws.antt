@@ -1,8 +1,8 @@
 -- Whether octets are an algorithm identifier, and what that says of a reader of one algorithm.
-use Rattle.std.proofs.Common.{inl, inr, ◌≡◌, ◌⊎◌, ℕ, Bool, true, false, List, [], IsTrue, ◌↔◌, sym, subst}
+use Rattle.std.proofs.Common.{inl, inr, ◌≡◌, ℕ, Bool, true, false, List, [], IsTrue, ◌↔◌, sym, subst}
 use Rattle.rpki_der.specs.declared.error.DecodeError.{DecodeError}
 use Rattle.rpki_der.specs.TagName.{TagName, oid, sequence}
-use Rattle.rpki_der.specs.Reading.{Spells, Accepts, Refuses, Refusal, Finds, IsCut}
+use Rattle.rpki_der.specs.Reading.{Accepts, Refuses, Refusal, Finds, IsCut}
 use Rattle.rpki_der.specs.Values.{SpellsContents, SpellsLeaf, IsContentsFault, IsLeafFault}
 use Rattle.rpki_der.specs.WantedValue.{SpellsWanted, IsAnyTag, IsWantedFault}
 use Rattle.rpki_der.specs.Leaves.{IsOidOf}

@@ -26,4 +26,5 @@ mod RsyncPlacesLaws
 mod HttpsPlacesLaws
 mod MadeLaws
 pub mod CertificateLaws
+pub mod InspectionLaws
 mod HexTextLaws

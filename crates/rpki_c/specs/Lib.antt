@@ -30,4 +30,5 @@ pub mod MadeSigned
 pub mod Extension
 pub mod Certificate
 pub mod CertificateExtensions
+pub mod CertificateInspection
 pub mod MadeExtension

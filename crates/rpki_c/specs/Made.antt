@@ -1,5 +1,5 @@
 -- What is made and written to the caller's buffer, of serial numbers, times and digits.
-use Rattle.std.specs.Prelude.{◌≡◌, ◌⊎◌, ◌≤◌, ◌<◌, ◌^◌, ℕ, ℤ, List, length, slice_index}
+use Rattle.std.specs.Prelude.{◌≡◌, ◌⊎◌, ◌≤◌, ◌<◌, ℕ, ℤ, List, slice_index}
 use Rattle.std.specs.Prelude.{◌+ℤ◌}
 use Rattle.jiff.specs.Types.{DateTime}
 use Rattle.rpki_der.specs.Number.{number_of}

@@ -2,7 +2,7 @@
 use Rattle.std.specs.Prelude.{◌≡◌, ℕ, List, Result, Ok, Err, Option, Some, None}
 use Rattle.rpki_der.specs.declared.error.DecodeError.{DecodeError}
 use Rattle.rpki_der.specs.Error.{error_number}
-use Rattle.rpki_der.specs.Reading.{SpellsNothing, UnlessMemory, Refusal, IsWholeFault, TakesNoMemory}
+use Rattle.rpki_der.specs.Reading.{SpellsNothing, UnlessMemory, Refusal}
 pub use Rattle.rpki_der.specs.Reading.{NeverMemory}
 
 -- All of the octets were read as one value: unless allocation failed they are not in the grammar. The status is the

@@ -9,6 +9,7 @@
 mod base_64;
 mod certificate;
 mod certificate_extensions;
+mod certificate_inspection;
 mod digests;
 mod digits;
 mod extension_writing;

@@ -1,18 +1,20 @@
 -- Which lemma file answers which question.
 --
--- Values, one at least; lists of extensions: SomeLaws, ExtensionListLaws.
+-- Values, one at least; lists of extensions; each identifier once: SomeLaws, ExtensionListLaws, UniqueLaws.
 -- What is signed, and a certificate around it: CertLaws. What an extension says: KnownLaws, PolicyLaws, AccessLaws.
--- Checks of profiles: ProfileLaws.
+-- Checks of profiles: ProfileLaws. Their rules: RuleLaws.
 -- Read in place: values, names, lists of extensions, fields, certificates: NestedLaws, NameViewLaws, ListedLaws,
 --   FieldsLaws, ViewLaws. That what is wrong is no certificate: WrongLaws.
 
 pub mod SomeLaws
 pub mod ExtensionListLaws
+pub mod UniqueLaws
 pub mod CertLaws
 pub mod KnownLaws
 pub mod PolicyLaws
 pub mod AccessLaws
 pub mod ProfileLaws
+pub mod RuleLaws
 pub mod NestedLaws
 pub mod NameViewLaws
 pub mod ListedLaws

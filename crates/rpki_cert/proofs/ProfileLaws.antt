@@ -1,24 +1,31 @@
 -- Checks of profiles: what they return at their ends.
-use Rattle.std.proofs.Common.{◌≡◌, ◌∙◌, ℕ, Bool, true, false, List, Option, Some, None, Result, sym, ap}
-use Rattle.std.specs.Prelude.{◌↔◌, IsErr, IsErrAnd}
+use Rattle.std.proofs.Common.{◌≡◌, ◌∙◌, ℕ, false, List, Option, Some, None, sym, ap}
 use Rattle.std.proofs.lemmas.Bool.{false≢true}
 use Rattle.rpki_der.proofs.ReadingLaws.{UnlessMemory-weaker}
 use Rattle.rpki.specs.ExtensionValue.{ExtensionParts}
 use Rattle.rpki.specs.declared.repository.error.ValidationError.{ValidationError}
 use Rattle.rpki.specs.declared.repository.error.ValidationError.TheVariants.{Decoding, Inspection, Verification}
-use Rattle.rpki_cert.specs.Known.{HasNone, UnlessNoMemory}
+use Rattle.rpki_der.specs.declared.error.DecodeError.TheVariants.{Truncated, BadTag, BadLength, Unexpected, Content, Trailing, OutOfMemory}
+use Rattle.rpki_cert.specs.Known.{HasNone, UnlessNoMemory, is_memory}
 use Rattle.rpki_cert.specs.Access.{flat, HasUri}
-use Rattle.rpki_cert.specs.Profile.{Checks, HasSomeUri}
-use Rattle.rpki_cert.proofs.KnownLaws.{tried-unless}
+use Rattle.rpki_cert.specs.Profile.{HasSomeUri}
 
 pub unless-weaker : (e : ValidationError) {P Q : Type 0} → (P → Q) → UnlessNoMemory e P → UnlessNoMemory e Q
 unless-weaker (Decoding e) f h = UnlessMemory-weaker e f h
 unless-weaker (Inspection e) f h = f h
 unless-weaker (Verification e) f h = f h
 
--- a part that takes no memory failed
-pub tried-iff : (P : Type 0) (x : Result (Unit {0}) ValidationError) (Q : Type 0) (F : ValidationError → Type 0) → IsErr x × IsErrAnd x F → (◌≡◌ {A = Bool} false true) ↔ Q → (P → Q) → Checks P x
-tried-iff P x Q F h not f = tried-unless (λ _. P) (P → ⊥) F x h (λ p. false≢true (not.1 (f p)))
+-- allocation didn't fail
+pub unless-other : (e : ValidationError) {P : Type 0} → is_memory e ≡ false → UnlessNoMemory e P → P
+unless-other (Decoding Truncated) other h = h
+unless-other (Decoding BadTag) other h = h
+unless-other (Decoding BadLength) other h = h
+unless-other (Decoding Unexpected) other h = h
+unless-other (Decoding (Content e)) other h = h
+unless-other (Decoding Trailing) other h = h
+unless-other (Decoding OutOfMemory) other h = absurd (false≢true (sym other))
+unless-other (Inspection e) other h = h
+unless-other (Verification e) other h = h
 
 module _ (id : List ℕ) (G : Option (List ℕ) → List ℕ → Type 0) (xs : List ExtensionParts) where
   one-uri : (u w : Option (List ℕ)) → HasUri id G xs u → HasUri id G xs w → u ≡ w

@@ -2,6 +2,8 @@
 use Rattle.std.specs.Prelude.{◌≡◌, ℕ, Bool, true, false, not, ◌||◌, ◌&&◌, List, [], ◌∷◌, Option, Some, None, Result, MatchResult, bytes_eq}
 use Rattle.rpki.specs.ExtensionValue.{ExtensionParts}
 use Rattle.rpki_der.specs.Reading.{UnlessMemory}
+use Rattle.rpki_der.specs.declared.error.DecodeError.{DecodeError}
+use Rattle.rpki_der.specs.declared.error.DecodeError.TheVariants.{Truncated, BadTag, BadLength, Unexpected, Content, Trailing, OutOfMemory}
 use Rattle.rpki.specs.declared.repository.error.ValidationError.{ValidationError}
 use Rattle.rpki.specs.declared.repository.error.ValidationError.TheVariants.{Decoding, Inspection, Verification}
 use Rattle.rpki_cert.specs.Cert.{find}
@@ -82,6 +84,21 @@ abbrev pub UnlessNoMemory : ValidationError → Type 0 → Type 0
 UnlessNoMemory (Decoding e) P = UnlessMemory e P
 UnlessNoMemory (Inspection e) P = P
 UnlessNoMemory (Verification e) P = P
+
+-- the error is an allocation failure
+abbrev pub is_out : DecodeError → Bool
+is_out Truncated = false
+is_out BadTag = false
+is_out BadLength = false
+is_out Unexpected = false
+is_out (Content e) = false
+is_out Trailing = false
+is_out OutOfMemory = true
+
+abbrev pub is_memory : ValidationError → Bool
+is_memory (Decoding e) = is_out e
+is_memory (Inspection e) = false
+is_memory (Verification e) = false
 
 -- the value of an extension that says nothing but that it is there
 abbrev pub present : Bool → Option (Unit {0})

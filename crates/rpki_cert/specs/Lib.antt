@@ -9,4 +9,5 @@ pub mod View
 pub mod KnownView
 pub mod Valid
 pub mod Profile
+pub mod Rule
 pub mod Verified

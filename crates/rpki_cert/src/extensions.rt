@@ -1,7 +1,8 @@
 //! The extensions of a certificate, as a list (RFC 5280 4.1.2.9, 4.2).
 
-ghost use Rattle.std.specs.Prelude.{◌≡◌, [], None, Some, IfOk, IfSome, IfNone};
+ghost use Rattle.std.specs.Prelude.{◌≡◌, [], None, Some, IfOk, IfErr, IfSome, IfNone};
 ghost use Rattle.rpki_der.specs.Cursor.{left};
+ghost use Rattle.rpki_der.specs.declared.error.DecodeError.{DecodeError};
 ghost use Rattle.rpki_der.specs.Reading.{Reads};
 ghost use Rattle.rpki_der.specs.FirstFault.{ReadsParts};
 ghost use Rattle.rpki_der.specs.Each.{SpellsEach};
@@ -12,6 +13,7 @@ ghost use Rattle.rpki_cert.specs.CertFault.{IsEachExtensionFault, AreExtensionsF
 use rpki::der::{Class, Constructed, ContentError, DecodeError, Oid, Tag};
 use rpki::repository::x509::CertExtension;
 use std::alloc::Global;
+use std::collections::BTreeSet;
 
 /// The first extension of this identifier.
 pub fn find<'a>(all: &'a [CertExtension], id: Oid<&[u8]>) -> Option<&'a CertExtension>
@@ -26,18 +28,23 @@ pub fn find<'a>(all: &'a [CertExtension], id: Oid<&[u8]>) -> Option<&'a CertExte
     None
 }
 
-/// Whether no two extensions have the same identifier.
-fn are_unique(all: &[CertExtension]) -> bool
-    ensures { result ≡ are_unique all.now }
+/// Whether no two extensions have the same identifier, in time for n extensions of order n log n.
+///
+/// The error is `OutOfMemory`, if allocation fails: a set keeps the identifiers of those that were seen, from the last.
+fn are_unique(alloc: Global, all: &[CertExtension]) -> Result<bool, DecodeError>
+    ensures answer { IfOk result (λ unique. unique ≡ are_unique all.now) }
+    ensures refused { IfErr result (λ e. e ≡ DecodeError.OutOfMemory) }
 {
-    let mut rest = all;
-    'extensions: while let Some((first, following)) = rest.split_first() {
-        if find(following, first.id()).is_some() {
-            return false;
+    let mut seen = BTreeSet::new(alloc);
+    let mut number = all.len();
+    'extensions: while number > 0 {
+        number -= 1;
+        let Oid(identifier) = all[number].id();
+        if !seen.insert(identifier)? {
+            return Ok(false);
         }
-        rest = following;
     }
-    true
+    Ok(true)
 }
 
 /// The extensions that these contents are, one after another.
@@ -64,10 +71,11 @@ fn take_some(
         return Err(DecodeError::Content(ContentError::from_static("no extensions")));
     }
     let all = take_each(alloc, contents)?;
-    if !are_unique(all.as_slice()) {
-        return Err(DecodeError::Content(ContentError::from_static("duplicate extension")));
+    match are_unique(alloc, all.as_slice()) {
+        Ok(true) => Ok(all),
+        Ok(false) => Err(DecodeError::Content(ContentError::from_static("duplicate extension"))),
+        Err(e) => Err(e),
     }
-    Ok(all)
 }
 
 /// A SEQUENCE of extensions.

@@ -9,7 +9,8 @@ A row is the octets in hexadecimal digits, the status, and for status 0 the plac
 the signature, the issuer, the subject, the key and the extensions, each as START LENGTH; the serial number in twenty
 octets; the format of the key, its unused bits, and whether there are parameters. Behind a bar stand the status of the
 other call and, for status 0, of each known extension whether it is there and critical, and its place as START LENGTH;
-both key identifiers; whether the subject is an authority; the numbers of the use of the key and of the policy."""
+both key identifiers; whether the subject is an authority; the numbers of the use of the key and of the policy. Behind a
+second bar stand the statuses of rpki_certificate_inspect: of the four profiles, strict; then the same not strict."""
 import os
 import sys
 
@@ -17,6 +18,7 @@ TOP = os.path.join(os.path.dirname(os.path.abspath(__file__)), "..", "..", "..")
 sys.path.insert(0, os.path.join(TOP, "tests", "hostile"))
 
 import certificates  # noqa: E402
+import profiles  # noqa: E402
 
 RSA = certificates.oid("1.2.840.113549.1.1.1")
 
@@ -126,20 +128,45 @@ def extension_row(octets):
     return " ".join(map(str, [0, *words, *keys, int(is_ca), usage, policy]))
 
 
-def line(it, status):
+def line(it, status, expected=()):
     octets = it.octets()
-    return f"{row(it)} | {extension_row(octets)}" if status == 0 else f"{octets.hex()} {status} | {status}"
+    if status:
+        return f"{octets.hex()} {status} | {status} | {' '.join([str(status)] * 8)}"
+    told = profiles.statuses(octets)
+    assert profiles.agrees(told, dict(expected)), expected
+    return f"{row(it)} | {extension_row(octets)} | {' '.join(map(str, told))}"
+
+
+# Names that the profiles judge otherwise, by the string of their common name and by a second attribute.
+def common_name(first):
+    return certificates.with_attribute(bytes([first, 1]) + b"A")
+
+
+OTHER_NAMES = [
+    ("an issuer with a UTF8String", certificates.in_place(3, common_name(0x0c))),
+    ("a subject with a UTF8String", certificates.in_place(5, common_name(0x0c))),
+    ("a subject without a common name", certificates.in_place(
+        5, common_name(0x13).replace(certificates.oid("2.5.4.3"), certificates.oid("2.5.4.5")))),
+]
+
+
+def changed(*changes):
+    it = certificates.Certificate()
+    for change in changes:
+        change(it)
+    return it
 
 
 def main():
-    for name, change, _ in certificates.VARIANTS:
-        it = certificates.Certificate()
-        change(it)
-        print(line(it, certificates.WRONG_PARTS.get(name, 0)))
+    for name, change, expected in certificates.VARIANTS:
+        print(line(changed(change), certificates.WRONG_PARTS.get(name, 0), expected))
     for name, change, status in certificates.OTHER_PARTS:
         it = certificates.Certificate()
         change(it)
         print(line(it, status))
+    for name, change in OTHER_NAMES:
+        print(line(changed(change), 0))
+        print(line(changed(certificates.router, change), 0))
 
 
 main()

@@ -9,6 +9,10 @@ use bytes::Bytes;
 use std::error::Error;
 use std::fmt;
 
+mod rule;
+
+pub use rule::CertRule;
+
 /// The part of a certificate that is wrong: of the signed data the leftmost; then of what is signed the leftmost; then
 /// that both algorithm identifiers are the same.
 #[derive(Clone, Copy, Debug, PartialEq, Eq, Hash)]
@@ -101,7 +105,8 @@ impl fmt::Display for CertError {
 impl Error for CertError {}
 
 /// A resource certificate: its octets, and what they say. Names and the key share the octets that it was read from.
-/// Whether the extensions are those of a profile, and whether the signature is that of a key, is not looked at.
+/// [Cert::inspect_ca] and its kin say whether the extensions are those of a profile; whether the signature is that of a
+/// key is not looked at.
 ///
 /// ```
 /// use rpki_proved::repository::cert::{Cert, CertError};
@@ -209,6 +214,46 @@ impl Cert {
             Ok(found) => Ok(KnownExtensions::of(&self.octets, &found)),
             Err(status) => Err(ExtensionError::from_status(status)),
         }
+    }
+
+    fn inspect(&self, profile: u8, strict: bool) -> Result<(), CertRule> {
+        ffi::certificate_inspect(&self.octets, profile, strict).map_err(CertRule::from_status)
+    }
+
+    /// Holds the certificate to the profile of trust anchors (RFC 6487 4): that of certification authorities, but
+    /// without CRL distribution points and authority information access. With `strict` false the names are not held to
+    /// theirs. Resources are not read.
+    ///
+    /// # Errors
+    /// The rule that it breaks first.
+    pub fn inspect_ta(&self, strict: bool) -> Result<(), CertRule> {
+        self.inspect(0, strict)
+    }
+
+    /// Holds the certificate to the profile of certification authorities (RFC 6487 4), as [Cert::inspect_ta] does to
+    /// another.
+    ///
+    /// # Errors
+    /// The rule that it breaks first.
+    pub fn inspect_ca(&self, strict: bool) -> Result<(), CertRule> {
+        self.inspect(1, strict)
+    }
+
+    /// Holds the certificate to the profile of end entities that sign an object (RFC 6487 4), as [Cert::inspect_ta]
+    /// does to another.
+    ///
+    /// # Errors
+    /// The rule that it breaks first.
+    pub fn inspect_ee(&self, strict: bool) -> Result<(), CertRule> {
+        self.inspect(2, strict)
+    }
+
+    /// Holds the certificate to the profile of BGPsec routers (RFC 8209 3.1), as [Cert::inspect_ta] does to another.
+    ///
+    /// # Errors
+    /// The rule that it breaks first.
+    pub fn inspect_router(&self, strict: bool) -> Result<(), CertRule> {
+        self.inspect(3, strict)
     }
 }
 

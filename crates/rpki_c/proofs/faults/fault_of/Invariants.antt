@@ -1,4 +1,4 @@
-use Rattle.std.proofs.Common.{◌+◌, ◌-◌, ◌≤◌, length, reverse}
+use Rattle.std.proofs.Common.{◌+◌, ◌-◌, ◌≤◌, length}
 use Rattle.rpki_c.proofs.FaultLaws.{IsOpen}
 use Rattle.rpki_c.proofs.faults.fault_of.Given as goal
 

@@ -2,7 +2,7 @@ use Rattle.std.proofs.Common.{true}
 use Rattle.rpki_der.specs.Cursor.{left}
 use Rattle.rpki_der.specs.TagName.{sequence}
 use Rattle.rpki_der.proofs.ComposedLaws.{all-read, inner-accepted, more-left, not-read}
-use Rattle.rpki_der.proofs.ReadingLaws.{UnlessMemory-weaker, UnlessMemory-from}
+use Rattle.rpki_der.proofs.ReadingLaws.{UnlessMemory-weaker}
 use Rattle.rpki.specs.SignedData.{parts_of}
 use Rattle.rpki_c.specs.Signed.{SpellsRpki, AreOtherParts, IsOtherSigned, IsSignedFault, IsWholeSignedFault}
 use Rattle.rpki_c.proofs.SignedReadingLaws.{AreParts, sequence-refused, parts-refused}

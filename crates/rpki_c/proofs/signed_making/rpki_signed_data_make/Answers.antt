@@ -1,4 +1,4 @@
-use Rattle.std.proofs.Common.{◌≡◌, ◌<◌, ◌^◌, List, ℕ, true, length, refl, inl, inr, sym, ap, subst, ◌∙◌}
+use Rattle.std.proofs.Common.{◌≡◌, ◌<◌, ◌^◌, List, ℕ, true, length, inl, sym, ap, subst, ◌∙◌}
 use Rattle.rpki_der.specs.Members.{IsValue}
 use Rattle.rpki.specs.SignedData.{parts_of}
 use Rattle.rpki_c.proofs.MadeLaws.{made-if}

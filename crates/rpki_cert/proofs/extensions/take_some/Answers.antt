@@ -6,7 +6,7 @@ use Rattle.rpki_der.proofs.FirstFaultLaws.{tried-parts}
 use Rattle.rpki_cert.specs.Cert.{AreExtensions}
 use Rattle.rpki_cert.specs.CertFault.{AreExtensionsFault}
 use Rattle.rpki_cert.specs.CertFault.AreExtensionsFault.{NoExtension, NotExtensions, Repeated}
-use Rattle.rpki_cert.proofs.ExtensionListLaws.{none-there, are-extensions, repeated}
+use Rattle.rpki_cert.proofs.ExtensionListLaws.{none-there, are-extensions, repeated, no-room}
 use Rattle.rpki_cert.proofs.SomeLaws.{not-true}
 use Rattle.rpki_cert.proofs.extensions.take_some.Goals as goal
 
@@ -23,16 +23,22 @@ returns-in_err-all c =
     tried-parts (λ v. v.items) AreExtensions AreExtensionsFault (left c.args.contents.now) _ e _ c.from_residual.ensures
     (UnlessMemory-weaker e (λ none xs k. none xs k.some.each) h.0, NotExtensions some h.1)
 
-pub returns-then-not-are_unique : goal.returns-then-not-are_unique
-returns-then-not-are_unique c =
+pub returns-in-Ok-false : goal.returns-in-Ok-false
+returns-in-Ok-false c =
     let one = c.in_ok-all.ensures.reads.0 c.in_ok-all.ensures.end in
-    let is = rw c.as_slice.ensures.value at c.are_unique.ensures in
-    let twice = not-true _ (sym is ∙ c.if-not-are_unique.true) in
-    (repeated (left c.args.contents.now) c.in_ok-all.all.items one twice, Repeated c.in_ok-all.all.items one.0 twice c.from_static-then-not-are_unique.ensures)
+    let is = rw c.as_slice.ensures.value at c.in-Ok-false.ensures.answer in
+    let twice = not-true _ (sym is ∙ c.in-Ok-false.field-0-test) in
+    (repeated (left c.args.contents.now) c.in_ok-all.all.items one twice, Repeated c.in_ok-all.all.items one.0 twice c.from_static-in-Ok-false.ensures)
 
-pub returns : goal.returns
-returns c =
+pub returns-in-Ok-true : goal.returns-in-Ok-true
+returns-in-Ok-true c =
     let some = iff_false c.is_empty.ensures c.if-is_empty.false in
     let one = c.in_ok-all.ensures.reads.0 c.in_ok-all.ensures.end in
-    let is = rw c.as_slice.ensures.value at c.are_unique.ensures in
-    (λ end. are-extensions (left c.args.contents.now) c.in_ok-all.all.items some one (sym is ∙ c.if-not-are_unique.false), λ more. absurd (more c.in_ok-all.ensures.end))
+    let is = rw c.as_slice.ensures.value at c.in-Ok-true.ensures.answer in
+    (λ end. are-extensions (left c.args.contents.now) c.in_ok-all.all.items some one (sym is ∙ c.in-Ok-true.field-0-test), λ more. absurd (more c.in_ok-all.ensures.end))
+
+pub returns-in-Err : goal.returns-in-Err
+returns-in-Err c =
+    let some = iff_false c.is_empty.ensures c.if-is_empty.false in
+    let one = c.in_ok-all.ensures.reads.0 c.in_ok-all.ensures.end in
+    no-room (left c.args.contents.now) c.in_ok-all.all.items c.in-Err.e some one.0 c.in-Err.ensures.refused

@@ -1,8 +1,6 @@
-use Rattle.std.proofs.Common.{true, Some}
-use Rattle.rpki_der.proofs.TriedLaws.{refused-iff}
-use Rattle.rpki_cert.specs.Known.{basic_constraints, HasExtension}
-use Rattle.rpki_cert.specs.ExtensionContent.{SpellsConstraints}
+use Rattle.std.proofs.Common.{Some}
+use Rattle.rpki_cert.proofs.KnownLaws.{unless-from}
 use Rattle.rpki_cert.proofs.tbs.TbsCert.inspect_constraints.Goals as goal
 
 pub returns-in-Err : goal.returns-in-Err
-returns-in-Err c = refused-iff (HasExtension basic_constraints true SpellsConstraints c.args.self.now.extensions (Some tt)) (λ k. c.in-Err.ensures (Some tt) k)
+returns-in-Err c = unless-from c.in-Err.e (λ k. c.in-Err.ensures (Some tt) k)

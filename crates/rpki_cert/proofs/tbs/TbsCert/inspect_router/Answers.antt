@@ -1,10 +1,10 @@
-use Rattle.std.proofs.Common.{IsTrue}
-use Rattle.rpki.specs.StrictName.{IsRouterName}
+use Rattle.std.proofs.Common.{All}
 use Rattle.rpki_cert.specs.Profile.{IsRouterProfile}
-use Rattle.rpki_cert.proofs.ProfileLaws.{tried-iff}
+use Rattle.rpki_cert.specs.Rule.{Obeys, router_rules}
+use Rattle.rpki_cert.proofs.RuleLaws.{router-obeyed, checks-of}
 use Rattle.rpki_cert.proofs.tbs.TbsCert.inspect_router.Goals as goal
 
-pub returns-in_err-inspect_router_subject : goal.returns-in_err-inspect_router_subject
-returns-in_err-inspect_router_subject c =
-    tried-iff (IsRouterProfile c.args.strict c.args.self.now) _ (IsTrue c.args.strict → IsRouterName c.args.self.now.subject) _
-    c.from_residual-in_err-inspect_router_subject.ensures c.in_err-inspect_router_subject.ensures (λ p. p.subject)
+pub returns : goal.returns
+returns c =
+    checks-of c.args.strict c.args.self.now (IsRouterProfile c.args.strict c.args.self.now) (All (Obeys c.args.strict c.args.self.now) router_rules) (router-obeyed c.args.strict c.args.self.now) c.inspect_all.result
+    (rw c.router_rules.ensures at c.inspect_all.ensures)

@@ -1,9 +1,6 @@
-use Rattle.std.proofs.Common.{IsTrue}
-use Rattle.rpki_der.proofs.TriedLaws.{refused-iff}
-use Rattle.rpki.specs.StrictName.{IsRouterName}
 use Rattle.rpki_cert.proofs.tbs.TbsCert.inspect_router_subject.Goals as goal
 
 pub returns-in-Err : goal.returns-in-Err
 returns-in-Err c =
     let h = rw c.subject.ensures at c.in-Err.ensures.err in
-    refused-iff (IsTrue c.args.strict → IsRouterName c.args.self.now.subject) (λ k. h.1 (k h.0))
+    λ k. h.1 (k h.0)

@@ -1,0 +1,90 @@
+-- What a status says of a certificate that is held to a profile.
+use Rattle.std.specs.Prelude.{◌≡◌, ◌⊎◌, ◌<◌, ℕ, Bool, List}
+use Rattle.rpki_cert.specs.declared.cert_part.CertPart.{CertPart}
+use Rattle.rpki_cert.specs.declared.rule.CertRule.{CertRule}
+use Rattle.rpki_cert.specs.declared.rule.CertRule.TheVariants.{SerialNumber, CriticalExtensions, Issuer, Subject, RouterSubject, RsaKey, RouterKey, BasicConstraints, NoBasicConstraints, SubjectKeyIdentifier, AuthorityKeyIdentifier, AuthorityUsage, EndUsage, NoExtendedKeyUsage, RouterPurpose, RevocationList, NoRevocationList, IssuerCertificate, NoIssuerCertificate, Repository, Manifest, SignedObject, NoSubjectAccess, CertificatePolicies, Resources, RouterNumbers}
+use Rattle.rpki_c.specs.declared.certificate_inspection.CertificateProfile.{CertificateProfile}
+use Rattle.rpki_c.specs.declared.certificate_inspection.CertificateProfile.TheVariants.{Ta, Ca, Ee, Router}
+use Rattle.rpki_cert.specs.Cert.{TbsParts, CertParts, SpellsCert}
+use Rattle.rpki_cert.specs.Profile.{IsTaProfile, IsCaProfile, IsEeProfile, IsRouterProfile}
+use Rattle.rpki_cert.specs.Rule.{IsFirstBroken, ta_rules, ca_rules, ee_rules, router_rules}
+use Rattle.rpki_cert.specs.View.{IsCertWrong}
+use Rattle.rpki_c.specs.Certificate.{part_number}
+use Rattle.rpki_c.specs.Status.{no_profile, out_of_memory}
+
+-- the status of a certificate that breaks this rule
+abbrev pub cert_rule_number : CertRule → ℕ
+cert_rule_number SerialNumber = 85
+cert_rule_number CriticalExtensions = 86
+cert_rule_number Issuer = 87
+cert_rule_number Subject = 88
+cert_rule_number RouterSubject = 89
+cert_rule_number RsaKey = 90
+cert_rule_number RouterKey = 91
+cert_rule_number BasicConstraints = 92
+cert_rule_number NoBasicConstraints = 93
+cert_rule_number SubjectKeyIdentifier = 94
+cert_rule_number AuthorityKeyIdentifier = 95
+cert_rule_number AuthorityUsage = 96
+cert_rule_number EndUsage = 97
+cert_rule_number NoExtendedKeyUsage = 98
+cert_rule_number RouterPurpose = 99
+cert_rule_number RevocationList = 100
+cert_rule_number NoRevocationList = 101
+cert_rule_number IssuerCertificate = 102
+cert_rule_number NoIssuerCertificate = 103
+cert_rule_number Repository = 104
+cert_rule_number Manifest = 105
+cert_rule_number SignedObject = 106
+cert_rule_number NoSubjectAccess = 107
+cert_rule_number CertificatePolicies = 108
+cert_rule_number Resources = 109
+cert_rule_number RouterNumbers = 110
+
+-- how a profile is passed
+abbrev pub profile_number : CertificateProfile → ℕ
+profile_number Ta = 0
+profile_number Ca = 1
+profile_number Ee = 2
+profile_number Router = 3
+
+abbrev pub HasProfile : CertificateProfile → Bool → TbsParts → Type 0
+HasProfile Ta strict t = IsTaProfile strict t
+HasProfile Ca strict t = IsCaProfile strict t
+HasProfile Ee strict t = IsEeProfile strict t
+HasProfile Router strict t = IsRouterProfile strict t
+
+-- its rules, in the order in which they are tested
+abbrev pub rules_of : CertificateProfile → List CertRule
+rules_of Ta = ta_rules
+rules_of Ca = ca_rules
+rules_of Ee = ee_rules
+rules_of Router = router_rules
+
+-- the octets are a certificate of the profile
+pub record IsOfProfile (s : List ℕ) (profile : CertificateProfile) (strict : Bool) : Type 0 where
+  pub cert : CertParts
+  pub spelled : SpellsCert cert s
+  pub has : HasProfile profile strict cert.tbs
+
+-- they are a certificate, which of the rules of the profile breaks this one first, and so hasn't the profile
+pub record BreaksRule (s : List ℕ) (profile : CertificateProfile) (strict : Bool) (rule : CertRule) : Type 0 where
+  pub cert : CertParts
+  pub spelled : SpellsCert cert s
+  pub first : IsFirstBroken strict cert.tbs (rules_of profile) rule
+  pub other : HasProfile profile strict cert.tbs → ⊥
+
+-- Status 0: the octets are a certificate of the profile. 85 to 110: they are a certificate, which breaks the rule of
+-- this number first. 7: they are a certificate, and allocation failed. Else the number of the part that is wrong.
+abbrev pub IsInspectedAs : List ℕ → CertificateProfile → Bool → ℕ → Type 0
+IsInspectedAs s profile strict status =
+    ((status ≡ 0) × IsOfProfile s profile strict)
+    ⊎ ((rule : CertRule) × (status ≡ cert_rule_number rule) × BreaksRule s profile strict rule)
+    ⊎ ((status ≡ out_of_memory) × ((cert : CertParts) × SpellsCert cert s))
+    ⊎ ((q : CertPart) × (status ≡ part_number q) × IsCertWrong s q)
+
+-- the same of the profile of this number; status 12: no profile has it
+abbrev pub IsCertificateInspected : List ℕ → ℕ → Bool → ℕ → Type 0
+IsCertificateInspected s number strict status =
+    ((profile : CertificateProfile) × (number ≡ profile_number profile) × IsInspectedAs s profile strict status)
+    ⊎ ((3 < number) × (status ≡ no_profile))

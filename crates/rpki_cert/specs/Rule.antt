@@ -1,0 +1,115 @@
+-- The rules of the profiles of certificates (RFC 6487 4, RFC 8209 3.1), one by one, and which of them is broken first.
+use Rattle.std.specs.Prelude.{◌≡◌, ◌<◌, ◌&&◌, not, ℕ, Bool, true, false, List, [], ◌∷◌, ◌++◌, Some, IsTrue, All, codes, Result, MatchResult}
+use Rattle.rpki.specs.declared.crypto.keys.PublicKeyFormat.TheVariants.{Rsa, EcdsaP256}
+use Rattle.rpki.specs.KeyIdentifier.{SpellsKeyIdentifier}
+use Rattle.rpki.specs.StrictName.{IsRpkiName, IsRouterName}
+use Rattle.rpki_cert.specs.declared.key_usage.KeyUsage.TheVariants.{Ca, Ee}
+use Rattle.rpki_cert.specs.declared.rule.CertRule.{CertRule}
+use Rattle.rpki_cert.specs.declared.rule.CertRule.TheVariants.{SerialNumber, CriticalExtensions, Issuer, Subject, RouterSubject, RsaKey, RouterKey, BasicConstraints, NoBasicConstraints, SubjectKeyIdentifier, AuthorityKeyIdentifier, AuthorityUsage, EndUsage, NoExtendedKeyUsage, RouterPurpose, RevocationList, NoRevocationList, IssuerCertificate, NoIssuerCertificate, Repository, Manifest, SignedObject, NoSubjectAccess, CertificatePolicies, Resources, RouterNumbers}
+use Rattle.rpki_cert.specs.Cert.{TbsParts}
+use Rattle.rpki_cert.specs.Known.{subject_key_identifier, key_usage, basic_constraints, crl_distribution_points, certificate_policies, authority_key_identifier, extended_key_usage, authority_info_access, subject_info_access, HasExtension, are_understood}
+use Rattle.rpki_cert.specs.ExtensionContent.{SpellsConstraints, SpellsAuthority, SpellsUsage, SpellsPurposes, SpellsPolicies}
+use Rattle.rpki_cert.specs.Access.{SpellsRsyncAccess, SpellsPoints, ca_issuers, ca_repository, rpki_manifest, signed_object}
+use Rattle.rpki_cert.specs.Profile.{HasSome, HasNot, HasSomeUri, has_addresses, has_numbers, has_resources}
+
+-- what the rule says of a certificate, in the words of the profiles; a name is held to its profile where strict is true
+abbrev pub Obeys : Bool → TbsParts → CertRule → Type 0
+Obeys strict t SerialNumber = 0 < t.serial
+Obeys strict t CriticalExtensions = IsTrue (are_understood t.extensions)
+Obeys strict t Issuer = IsTrue strict → IsRpkiName t.issuer
+Obeys strict t Subject = IsTrue strict → IsRpkiName t.subject
+Obeys strict t RouterSubject = IsTrue strict → IsRouterName t.subject
+Obeys strict t RsaKey = t.key.format ≡ Rsa
+Obeys strict t RouterKey = t.key.format ≡ EcdsaP256
+Obeys strict t BasicConstraints = HasExtension basic_constraints true SpellsConstraints t.extensions (Some tt)
+Obeys strict t NoBasicConstraints = HasNot basic_constraints t.extensions
+Obeys strict t SubjectKeyIdentifier = HasSome subject_key_identifier false SpellsKeyIdentifier t.extensions
+Obeys strict t AuthorityKeyIdentifier = HasSome authority_key_identifier false SpellsAuthority t.extensions
+Obeys strict t AuthorityUsage = HasExtension key_usage true SpellsUsage t.extensions (Some Ca)
+Obeys strict t EndUsage = HasExtension key_usage true SpellsUsage t.extensions (Some Ee)
+Obeys strict t NoExtendedKeyUsage = HasNot extended_key_usage t.extensions
+Obeys strict t RouterPurpose = HasExtension extended_key_usage false SpellsPurposes t.extensions (Some true)
+Obeys strict t RevocationList = HasSomeUri crl_distribution_points SpellsPoints t.extensions
+Obeys strict t NoRevocationList = HasNot crl_distribution_points t.extensions
+Obeys strict t IssuerCertificate = HasSomeUri authority_info_access (SpellsRsyncAccess ca_issuers) t.extensions
+Obeys strict t NoIssuerCertificate = HasNot authority_info_access t.extensions
+Obeys strict t Repository = HasSomeUri subject_info_access (SpellsRsyncAccess ca_repository) t.extensions
+Obeys strict t Manifest = HasSomeUri subject_info_access (SpellsRsyncAccess rpki_manifest) t.extensions
+Obeys strict t SignedObject = HasSomeUri subject_info_access (SpellsRsyncAccess signed_object) t.extensions
+Obeys strict t NoSubjectAccess = HasNot subject_info_access t.extensions
+Obeys strict t CertificatePolicies = HasSome certificate_policies true SpellsPolicies t.extensions
+Obeys strict t Resources = IsTrue (has_resources t.extensions)
+Obeys strict t RouterNumbers = IsTrue (has_numbers t.extensions && not (has_addresses t.extensions))
+
+-- ---- the rules of each profile, in the order in which they are tested
+
+abbrev pub ta_rules : List CertRule
+ta_rules =
+    SerialNumber ∷ CriticalExtensions ∷ Issuer ∷ SubjectKeyIdentifier ∷ CertificatePolicies ∷ Resources ∷ Subject
+    ∷ RsaKey ∷ NoExtendedKeyUsage ∷ BasicConstraints ∷ AuthorityUsage ∷ NoRevocationList ∷ NoIssuerCertificate
+    ∷ Repository ∷ Manifest ∷ []
+
+abbrev pub ca_rules : List CertRule
+ca_rules =
+    SerialNumber ∷ CriticalExtensions ∷ Issuer ∷ SubjectKeyIdentifier ∷ CertificatePolicies ∷ Resources ∷ Subject
+    ∷ RsaKey ∷ NoExtendedKeyUsage ∷ BasicConstraints ∷ AuthorityUsage ∷ Repository ∷ Manifest ∷ AuthorityKeyIdentifier
+    ∷ RevocationList ∷ IssuerCertificate ∷ []
+
+abbrev pub ee_rules : List CertRule
+ee_rules =
+    SerialNumber ∷ CriticalExtensions ∷ Issuer ∷ SubjectKeyIdentifier ∷ CertificatePolicies ∷ Resources ∷ Subject
+    ∷ RsaKey ∷ NoExtendedKeyUsage ∷ NoBasicConstraints ∷ EndUsage ∷ SignedObject ∷ AuthorityKeyIdentifier
+    ∷ RevocationList ∷ IssuerCertificate ∷ []
+
+abbrev pub router_rules : List CertRule
+router_rules =
+    SerialNumber ∷ CriticalExtensions ∷ Issuer ∷ SubjectKeyIdentifier ∷ CertificatePolicies ∷ Resources ∷ RouterSubject
+    ∷ RouterKey ∷ NoBasicConstraints ∷ EndUsage ∷ RouterNumbers ∷ NoSubjectAccess ∷ RouterPurpose
+    ∷ AuthorityKeyIdentifier ∷ RevocationList ∷ IssuerCertificate ∷ []
+
+-- ---- which is broken
+
+-- the rule is one of these, and is broken, and those before it are not
+pub record IsFirstBroken (strict : Bool) (t : TbsParts) (rules : List CertRule) (rule : CertRule) : Type 0 where
+  pub before : List CertRule
+  pub after : List CertRule
+  pub parts : rules ≡ before ++ rule ∷ after
+  pub obeyed : All (Obeys strict t) before
+  pub broken : Obeys strict t rule → ⊥
+
+-- a test: Ok where P, the profile of these rules, holds; else the rule that is broken first; or allocation failed
+abbrev pub TestsRules : {E : Type 0} → Type 0 → Bool → TbsParts → List CertRule
+    → Result (Result (Unit {0}) CertRule) E → Type 0
+TestsRules P strict t rules r =
+    MatchResult r (λ told. MatchResult told (λ _. P) (λ rule. IsFirstBroken strict t rules rule × (P → ⊥)))
+    (λ _. Unit {0})
+
+-- ---- the texts of the errors
+
+abbrev pub rule_text : CertRule → List ℕ
+rule_text SerialNumber = codes "serial number is 0"
+rule_text CriticalExtensions = codes "unknown critical extension"
+rule_text Issuer = codes "issuer has no name of the RPKI"
+rule_text Subject = codes "subject has no name of the RPKI"
+rule_text RouterSubject = codes "subject has no name of a router"
+rule_text RsaKey = codes "key is no RSA key"
+rule_text RouterKey = codes "key is no P-256 key"
+rule_text BasicConstraints = codes "missing basic constraints"
+rule_text NoBasicConstraints = codes "extension is there that may not be"
+rule_text SubjectKeyIdentifier = codes "missing subject key identifier"
+rule_text AuthorityKeyIdentifier = codes "missing authority key identifier"
+rule_text AuthorityUsage = codes "missing or another key usage"
+rule_text EndUsage = codes "missing or another key usage"
+rule_text NoExtendedKeyUsage = codes "extension is there that may not be"
+rule_text RouterPurpose = codes "missing purpose of a router"
+rule_text RevocationList = codes "missing URI of the revocation list"
+rule_text NoRevocationList = codes "extension is there that may not be"
+rule_text IssuerCertificate = codes "missing URI of the issuer's certificate"
+rule_text NoIssuerCertificate = codes "extension is there that may not be"
+rule_text Repository = codes "missing URI of the repository"
+rule_text Manifest = codes "missing URI of the manifest"
+rule_text SignedObject = codes "missing URI of the signed object"
+rule_text NoSubjectAccess = codes "extension is there that may not be"
+rule_text CertificatePolicies = codes "missing certificate policies"
+rule_text Resources = codes "missing resources, or ones that are not critical"
+rule_text RouterNumbers = codes "missing numbers, or addresses are there"

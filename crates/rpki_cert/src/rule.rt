@@ -1,0 +1,202 @@
+//! The rules of the profiles of certificates, and the errors of certificates that break them.
+
+ghost use Rattle.std.specs.Prelude.{◌≡◌};
+ghost use Rattle.rpki_der.specs.ErrorText.{text_of};
+ghost use Rattle.rpki.specs.ErrorContent.{content_of};
+ghost use Rattle.rpki_cert.specs.Rule.{rule_text, ta_rules, ca_rules, ee_rules, router_rules};
+
+use rpki::der::ContentError;
+use rpki::repository::error::InspectionError;
+
+/// A rule of a profile of certificates (RFC 6487 4, RFC 8209 3.1).
+#[derive(Clone, Copy, Debug, PartialEq, Eq)]
+pub enum CertRule {
+    /// The serial number is positive (RFC 5280 4.1.2.2).
+    SerialNumber,
+    /// Every critical extension is a known one (RFC 5280 4.2).
+    CriticalExtensions,
+    /// The issuer has a name of the RPKI (RFC 6487 4.4).
+    Issuer,
+    /// The subject has a name of the RPKI (RFC 6487 4.5).
+    Subject,
+    /// The subject has a name of a router (RFC 8209 3.1.1).
+    RouterSubject,
+    /// The subject's key is an RSA key (RFC 7935 3).
+    RsaKey,
+    /// The subject's key is a P-256 key (RFC 8608 3.1).
+    RouterKey,
+    /// The basic constraints are there, critical, with cA TRUE and without a length of paths (RFC 6487 4.8.1).
+    BasicConstraints,
+    /// There are no basic constraints (RFC 6487 4.8.1).
+    NoBasicConstraints,
+    /// The subject key identifier is there, and not critical (RFC 6487 4.8.2).
+    SubjectKeyIdentifier,
+    /// The authority key identifier is there, and not critical (RFC 6487 4.8.3).
+    AuthorityKeyIdentifier,
+    /// The key usage is there, critical, and is that of a certification authority (RFC 6487 4.8.4).
+    AuthorityUsage,
+    /// The key usage is there, critical, and is that of an end entity (RFC 6487 4.8.4).
+    EndUsage,
+    /// There is no extended key usage (RFC 6487 4.8.5).
+    NoExtendedKeyUsage,
+    /// The extended key usage is there, not critical, and has the purpose of a router (RFC 8209 3.1.3.2).
+    RouterPurpose,
+    /// The URI of the revocation list is there (RFC 6487 4.8.6).
+    RevocationList,
+    /// There are no CRL distribution points (RFC 6487 4.8.6).
+    NoRevocationList,
+    /// The URI of the issuer's certificate is there (RFC 6487 4.8.7).
+    IssuerCertificate,
+    /// There is no authority information access (RFC 6487 4.8.7).
+    NoIssuerCertificate,
+    /// The URI of the repository is there (RFC 6487 4.8.8.1).
+    Repository,
+    /// The URI of the manifest is there (RFC 6487 4.8.8.1).
+    Manifest,
+    /// The URI of the signed object is there (RFC 6487 4.8.8.2).
+    SignedObject,
+    /// There is no subject information access (RFC 8209 3.1.3.3).
+    NoSubjectAccess,
+    /// The certificate policies are there, critical, and exactly one of the RPKI (RFC 6487 4.8.9).
+    CertificatePolicies,
+    /// Addresses or numbers of autonomous systems are there, each critical (RFC 6487 4.8.10, 4.8.11).
+    Resources,
+    /// Numbers of autonomous systems are there, and no addresses (RFC 8209 3.1.3.4, 3.1.3.5).
+    RouterNumbers,
+}
+
+impl CertRule {
+    /// The text of a certificate that breaks the rule.
+    fn text(self) -> &'static str
+        ensures { result.now ≡ rule_text self }
+    {
+        match self {
+            CertRule::SerialNumber => "serial number is 0",
+            CertRule::CriticalExtensions => "unknown critical extension",
+            CertRule::Issuer => "issuer has no name of the RPKI",
+            CertRule::Subject => "subject has no name of the RPKI",
+            CertRule::RouterSubject => "subject has no name of a router",
+            CertRule::RsaKey => "key is no RSA key",
+            CertRule::RouterKey => "key is no P-256 key",
+            CertRule::BasicConstraints => "missing basic constraints",
+            CertRule::SubjectKeyIdentifier => "missing subject key identifier",
+            CertRule::AuthorityKeyIdentifier => "missing authority key identifier",
+            CertRule::AuthorityUsage | CertRule::EndUsage => "missing or another key usage",
+            CertRule::RouterPurpose => "missing purpose of a router",
+            CertRule::RevocationList => "missing URI of the revocation list",
+            CertRule::IssuerCertificate => "missing URI of the issuer's certificate",
+            CertRule::Repository => "missing URI of the repository",
+            CertRule::Manifest => "missing URI of the manifest",
+            CertRule::SignedObject => "missing URI of the signed object",
+            CertRule::CertificatePolicies => "missing certificate policies",
+            CertRule::Resources => "missing resources, or ones that are not critical",
+            CertRule::RouterNumbers => "missing numbers, or addresses are there",
+            CertRule::NoBasicConstraints
+            | CertRule::NoExtendedKeyUsage
+            | CertRule::NoRevocationList
+            | CertRule::NoIssuerCertificate
+            | CertRule::NoSubjectAccess => "extension is there that may not be",
+        }
+    }
+
+    /// The error of a certificate that breaks the rule.
+    pub(crate) fn error(self) -> InspectionError
+        ensures { text_of (content_of result) ≡ rule_text self }
+    {
+        InspectionError::new(ContentError::from_static(self.text()))
+    }
+}
+
+/// The rules of trust anchors, in the order in which they are tested.
+pub(crate) fn ta_rules() -> &'static [CertRule]
+    ensures { result.now ≡ ta_rules }
+{
+    &[
+        CertRule::SerialNumber,
+        CertRule::CriticalExtensions,
+        CertRule::Issuer,
+        CertRule::SubjectKeyIdentifier,
+        CertRule::CertificatePolicies,
+        CertRule::Resources,
+        CertRule::Subject,
+        CertRule::RsaKey,
+        CertRule::NoExtendedKeyUsage,
+        CertRule::BasicConstraints,
+        CertRule::AuthorityUsage,
+        CertRule::NoRevocationList,
+        CertRule::NoIssuerCertificate,
+        CertRule::Repository,
+        CertRule::Manifest,
+    ]
+}
+
+/// The rules of certification authorities, in the order in which they are tested.
+pub(crate) fn ca_rules() -> &'static [CertRule]
+    ensures { result.now ≡ ca_rules }
+{
+    &[
+        CertRule::SerialNumber,
+        CertRule::CriticalExtensions,
+        CertRule::Issuer,
+        CertRule::SubjectKeyIdentifier,
+        CertRule::CertificatePolicies,
+        CertRule::Resources,
+        CertRule::Subject,
+        CertRule::RsaKey,
+        CertRule::NoExtendedKeyUsage,
+        CertRule::BasicConstraints,
+        CertRule::AuthorityUsage,
+        CertRule::Repository,
+        CertRule::Manifest,
+        CertRule::AuthorityKeyIdentifier,
+        CertRule::RevocationList,
+        CertRule::IssuerCertificate,
+    ]
+}
+
+/// The rules of end entities, in the order in which they are tested.
+pub(crate) fn ee_rules() -> &'static [CertRule]
+    ensures { result.now ≡ ee_rules }
+{
+    &[
+        CertRule::SerialNumber,
+        CertRule::CriticalExtensions,
+        CertRule::Issuer,
+        CertRule::SubjectKeyIdentifier,
+        CertRule::CertificatePolicies,
+        CertRule::Resources,
+        CertRule::Subject,
+        CertRule::RsaKey,
+        CertRule::NoExtendedKeyUsage,
+        CertRule::NoBasicConstraints,
+        CertRule::EndUsage,
+        CertRule::SignedObject,
+        CertRule::AuthorityKeyIdentifier,
+        CertRule::RevocationList,
+        CertRule::IssuerCertificate,
+    ]
+}
+
+/// The rules of BGPsec routers, in the order in which they are tested.
+pub(crate) fn router_rules() -> &'static [CertRule]
+    ensures { result.now ≡ router_rules }
+{
+    &[
+        CertRule::SerialNumber,
+        CertRule::CriticalExtensions,
+        CertRule::Issuer,
+        CertRule::SubjectKeyIdentifier,
+        CertRule::CertificatePolicies,
+        CertRule::Resources,
+        CertRule::RouterSubject,
+        CertRule::RouterKey,
+        CertRule::NoBasicConstraints,
+        CertRule::EndUsage,
+        CertRule::RouterNumbers,
+        CertRule::NoSubjectAccess,
+        CertRule::RouterPurpose,
+        CertRule::AuthorityKeyIdentifier,
+        CertRule::RevocationList,
+        CertRule::IssuerCertificate,
+    ]
+}

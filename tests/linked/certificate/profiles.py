@@ -1,0 +1,143 @@
+"""Which rule of a profile a certificate breaks first (RFC 6487 4, RFC 8209 3.1), as the statuses of
+rpki_certificate_inspect, found without the library. The certificates are well-formed, and their URIs are URIs."""
+import certificates
+
+RSA = certificates.oid("1.2.840.113549.1.1.1")
+NAMES = {"constraints": "2.5.29.19", "subject key": "2.5.29.14", "authority key": "2.5.29.35", "usage": "2.5.29.15",
+         "purposes": "2.5.29.37", "points": "2.5.29.31", "issuer access": "1.3.6.1.5.5.7.1.1",
+         "subject access": "1.3.6.1.5.5.7.1.11", "policies": "2.5.29.32", "addresses": "1.3.6.1.5.5.7.1.7",
+         "addresses v2": "1.3.6.1.5.5.7.1.28", "numbers": "1.3.6.1.5.5.7.1.8", "numbers v2": "1.3.6.1.5.5.7.1.29"}
+KNOWN = {certificates.oid(text): name for name, text in NAMES.items()}
+COMMON_NAME, SERIAL_NUMBER = certificates.oid("2.5.4.3"), certificates.oid("2.5.4.5")
+PRINTABLE, UTF8 = 0x13, 0x0c
+
+# Of each profile its rules, in the order of crates/rpki_cert/specs/Rule.antt.
+BASIC = [85, 86, 87, 94, 108, 109]
+ORDINARY = [*BASIC, 88, 90, 98]
+PROFILES = [
+    [*ORDINARY, 92, 96, 101, 103, 104, 105],
+    [*ORDINARY, 92, 96, 104, 105, 95, 100, 102],
+    [*ORDINARY, 93, 97, 106, 95, 100, 102],
+    [*BASIC, 89, 91, 93, 97, 110, 107, 99, 95, 100, 102],
+]
+
+
+class Extensions:
+    """The extensions by their names, of which no identifier stands twice."""
+
+    def __init__(self, values):
+        self.found, self.critical, self.unknown = {}, {}, False
+        for extension in values:
+            identifier, *flag, content = extension.inside
+            critical = any(each.inside != b"\0" for each in flag)
+            name = KNOWN.get(identifier.inside)
+            if name is None:
+                self.unknown = self.unknown or critical
+            else:
+                self.found[name], self.critical[name] = content.inside, critical
+
+    def has(self, *names):
+        return any(name in self.found for name in names)
+
+    def content(self, name, critical):
+        """The octets of the extension, where it is there and as critical as it has to be."""
+        return self.found[name] if self.has(name) and self.critical[name] == critical else b""
+
+    def value(self, name, critical):
+        """The one SEQUENCE that the extension's octets are, as a list of values; else None."""
+        octets = self.content(name, critical)
+        values = certificates.values_of(octets) if octets else []
+        return values[0].inside if len(values) == 1 and values[0].first == 0x30 else None
+
+
+def is_name(name, strings):
+    """One common name, and perhaps a serial number, each a string of the profile (RFC 6487 4.4, RFC 8209 3.1.1)."""
+    pairs = [attribute.inside for relative in name.inside for attribute in relative.inside]
+    kinds = [kind.inside for kind, value in pairs]
+    return (kinds.count(COMMON_NAME) == 1 and kinds.count(SERIAL_NUMBER) <= 1
+            and all(kind in (COMMON_NAME, SERIAL_NUMBER) for kind in kinds)
+            and all(value.first in strings for kind, value in pairs))
+
+
+def is_policy(values):
+    """Exactly one policy of the RPKI, with one pointer to a statement at most (RFC 6487 4.8.9, RFC 7318 2)."""
+    if not values or len(values) != 1:
+        return False
+    policy, *qualifiers = values[0].inside
+    names = [certificates.oid(certificates.POLICY), certificates.oid(certificates.POLICY_V2)]
+    pointers = [each.octets() for more in qualifiers for each in more.inside]
+    return policy.inside in names and (not qualifiers or pointers == [certificates.STATEMENT])
+
+
+def is_rsync(name):
+    return name.first == 0x86 and name.inside.startswith(b"rsync://")
+
+
+def has_access(values, method):
+    """An rsync URI of this method is there (RFC 6487 4.8.7, 4.8.8)."""
+    pairs = [each.inside for each in values or []]
+    return any(kind.inside == certificates.oid(method) and is_rsync(name) for kind, name in pairs)
+
+
+def has_point(values):
+    """One point, of names that are URIs, one of them rsync, and nothing else (RFC 6487 4.8.6)."""
+    if not values or len(values) != 1 or [each.first for each in values[0].inside] != [0xa0]:
+        return False
+    full = values[0].inside[0].inside
+    names = full[0].inside if [each.first for each in full] == [0xa0] else []
+    return all(name.first == 0x86 for name in names) and any(map(is_rsync, names))
+
+
+def is_broken(it, found, strict):
+    """Whether each rule is broken, by its status."""
+    purposes = found.value("purposes", False)
+    resources = ["addresses", "addresses v2", "numbers", "numbers v2"]
+    is_rsa = it.key.inside[0].inside[0].inside == RSA
+    usage = found.content("usage", True)
+    holds = {
+        85: any(it.serial.inside),
+        86: not found.unknown,
+        87: not strict or is_name(it.issuer, [PRINTABLE]),
+        88: not strict or is_name(it.subject, [PRINTABLE]),
+        89: not strict or is_name(it.subject, [PRINTABLE, UTF8]),
+        90: is_rsa,
+        91: not is_rsa,
+        92: found.content("constraints", True) == bytes.fromhex("30030101ff"),
+        93: not found.has("constraints"),
+        94: found.content("subject key", False)[:2] == b"\x04\x14" and len(found.found["subject key"]) == 22,
+        95: found.content("authority key", False)[:4] == bytes.fromhex("30168014")
+            and len(found.found["authority key"]) == 24,
+        96: usage == bytes.fromhex("03020106"),
+        97: usage == bytes.fromhex("03020780"),
+        98: not found.has("purposes"),
+        99: bool(purposes) and any(each.inside == certificates.oid(certificates.ROUTER) for each in purposes),
+        100: has_point(found.value("points", False)),
+        101: not found.has("points"),
+        102: has_access(found.value("issuer access", False), certificates.CA_ISSUERS),
+        103: not found.has("issuer access"),
+        104: has_access(found.value("subject access", False), certificates.REPOSITORY),
+        105: has_access(found.value("subject access", False), certificates.MANIFEST),
+        106: has_access(found.value("subject access", False), certificates.OBJECT),
+        107: not found.has("subject access"),
+        108: is_policy(found.value("policies", True)),
+        109: found.has(*resources) and all(found.critical.get(name, True) for name in resources),
+        110: found.has("numbers", "numbers v2") and not found.has("addresses", "addresses v2"),
+    }
+    return {status: not held for status, held in holds.items()}
+
+
+def statuses(octets):
+    """The statuses of the profiles in order, strict; then the same not strict."""
+    it = certificates.Certificate(octets)
+    found = Extensions(it.list.inside)
+    told = []
+    for strict in (True, False):
+        broken = is_broken(it, found, strict)
+        told += [next((status for status in rules if broken[status]), 0) for rules in PROFILES]
+    return told
+
+
+def agrees(told, expected):
+    """What certificates.py expects of an inspection by each profile is what is told here."""
+    words = ["inspect_ta", "inspect_ca", "inspect_ee", "inspect_router"]
+    return all((told[words.index(word)] == 0) == (text == "ok") for word, text in expected.items() if word in words)
