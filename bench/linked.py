@@ -5,7 +5,9 @@ data from Rust (bench/peers) beside the crates bcder and asn1, where Debian's pa
 librust-asn1-dev) are there.
 
 usage: bench/linked.py            (after bindings/archive)"""
+import base64
 import os
+import re
 import shutil
 import subprocess
 import sys
@@ -16,6 +18,7 @@ TOP = os.path.dirname(os.path.dirname(os.path.abspath(__file__)))
 ARCHIVE = os.path.join(TOP, "bindings", "out", "librpki.a")
 COMPILER = [os.environ.get("CC", "cc"), "-std=c99", "-O2", "-Wall", "-Wextra", f"-I{TOP}/include"]
 CERTIFICATE = os.path.join(TOP, "examples", "certificate.der")
+ROOTS = "/etc/ssl/certs/ca-certificates.crt"
 REGISTRY = "/usr/share/cargo/registry"
 FROM_REGISTRY = ["--offline", "--config", 'source.crates-io.replace-with="debian"']
 FROM_REGISTRY += ["--config", f'source.debian.directory="{REGISTRY}"']
@@ -58,6 +61,27 @@ def has_peers(folder):
     return cargo(["generate-lockfile"], folder, capture_output=True).returncode == 0
 
 
+# An algorithm identifier and a signature.
+ENDING = bytes.fromhex("300D06092A864886F70D01010B0500030200AA")
+
+
+def sequence(contents):
+    """A SEQUENCE of 65,536 octets or more."""
+    return b"\x30\x83" + len(contents).to_bytes(3, "big") + contents
+
+
+def roots(folder):
+    """A file of signed data: the root certificates that this machine trusts, where it has them, are what is signed."""
+    if not os.path.exists(ROOTS):
+        return []
+    with open(ROOTS) as text:
+        bodies = re.findall(r"-----BEGIN CERTIFICATE-----(.*?)-----END", text.read(), re.S)
+    path = os.path.join(folder, "roots")
+    with open(path, "wb") as octets:
+        octets.write(sequence(sequence(b"".join(base64.b64decode(body) for body in bodies)) + ENDING))
+    return [path]
+
+
 def main():
     if not os.path.exists(ARCHIVE):
         sys.exit("make the archive first: bindings/archive")
@@ -74,7 +98,7 @@ def main():
         found += ["bcder and asn1"] if peers else []
         print(f"{os.cpu_count()} cores, {time.strftime('%Y-%m-%d')}, beside {', '.join(found) or 'plain C alone'}")
         sys.stdout.flush()
-        subprocess.run([program, CERTIFICATE], check=True)
+        subprocess.run([program, CERTIFICATE, *roots(folder)], check=True)
         if peers:
             subprocess.run([os.path.join(folder, "target", "release", "peers"), CERTIFICATE], check=True)
 
