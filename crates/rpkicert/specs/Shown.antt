@@ -31,7 +31,7 @@ line name text = visible name ++ codes ": " ++ text ++ 10 ∷ []
 -- the fields of a certificate, after the name of its file: lines, or an object on a line
 abbrev pub whole : Form → List ℕ → List ℕ → List ℕ
 whole Text name fields = field Text (codes "File") (visible name) ++ fields
-whole Json name fields = codes "{\"File\":\"" ++ json_text name ++ 34 ∷ [] ++ fields ++ codes "}\n"
+whole Json name fields = codes "{\"File\":" ++ json_text name ++ fields ++ codes "}\n"
 
 -- what goes to the output, what goes to the faults, and the status
 pub record ShownParts : Type 0 where
