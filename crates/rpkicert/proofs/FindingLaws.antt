@@ -78,3 +78,13 @@ pub was-read-of : (profile : Option Profile) (held : Option (Option (List ℕ)))
     → IfSome held (λ source. Finds profile source finding)
 was-read-of profile None input finding h k = tt
 was-read-of profile (Some source) input finding h k = was-read profile source input finding h k
+
+-- the same of an error of a reader that takes no memory
+pub unless-taken : (e : DecodeError) (P : Type 0) → (e ≡ der.OutOfMemory → ⊥) → UnlessMemory e P → P
+unless-taken Truncated P z h = h
+unless-taken BadTag P z h = h
+unless-taken BadLength P z h = h
+unless-taken Unexpected P z h = h
+unless-taken (Content x) P z h = h
+unless-taken Trailing P z h = h
+unless-taken der.OutOfMemory P z h = absurd (z refl)

@@ -1,35 +1,27 @@
 -- What words ask for.
-use Rattle.std.proofs.Common.{◌≡◌, ◌↔◌, ℕ, ◌<◌, Bool, true, false, List, [], ◌∷◌, ◌++◌, length, map, drop, refl, ap, ◌∙◌, arith, if◌then◌else◌}
-use Rattle.std.specs.Prelude.{Option, Some, None, IsSome, option_to_list, ◌==◌, ◌&&◌}
-use Rattle.std.specs.List.{list_all}
-use Rattle.std.proofs.lemmas.Bool.{eqb-true}
+use Rattle.std.proofs.Common.{◌≡◌, ◌↔◌, ℕ, ◌<◌, false, List, [], ◌∷◌, ◌++◌, length, drop, ap, refl, arith}
+use Rattle.std.specs.Prelude.{Option, Some, None, IsSome, option_to_list, option_and_then, option_map, codes}
+use Rattle.clap.specs.Words.{Row, all_of, first_of}
 use Rattle.rpkicert.specs.declared.field.Form.{Form}
 use Rattle.rpkicert.specs.declared.profile.Profile.{Profile}
-use Rattle.rpkicert.specs.Request.{is_file, with_files, asked}
-
-list-all-map : {A : Type 0} (text : A → List ℕ) (p : List ℕ → Bool) (xs : List A) → list_all p (map text xs) ≡ list_all (λ x. p (text x)) xs
-list-all-map text p [] = refl
-list-all-map text p (x ∷ xs) = ap (λ b. p (text x) && b) (list-all-map text p xs)
-
-pub no-files : {A : Type 0} (text : A → List ℕ) (form : Option Form) (profile : Option Profile) (files : List A) → (length files == 0) ≡ true
-    → with_files form profile (map text files) ≡ None
-no-files text form profile [] e = refl
-no-files text form profile (x ∷ xs) e = absurd (omega (arith, eqb-true (length (x ∷ xs)) 0 e))
-
-pub other-files : {A : Type 0} (text : A → List ℕ) (form : Option Form) (profile : Option Profile) (files : List A) → list_all (λ x. is_file (text x)) files ≡ false
-    → with_files form profile (map text files) ≡ None
-other-files text form profile [] e = refl
-other-files text form profile (x ∷ xs) e =
-    ap (λ b. if b then Some (asked form profile (map text (x ∷ xs))) else None) (list-all-map text is_file (x ∷ xs) ∙ e)
-
-pub some-files : {A : Type 0} (text : A → List ℕ) (form : Option Form) (profile : Option Profile) (files : List A) → (length files == 0) ≡ false
-    → list_all (λ x. is_file (text x)) files ≡ true → with_files form profile (map text files) ≡ Some (asked form profile (map text files))
-some-files text form profile [] z e = cc
-some-files text form profile (x ∷ xs) z e =
-    ap (λ b. if b then Some (asked form profile (map text (x ∷ xs))) else None) (list-all-map text is_file (x ∷ xs) ∙ e)
+use Rattle.rpkicert.specs.Request.{Asked, asked, is_given, form_of, named_profile, some_files, request_of, files, wanted_in}
 
 -- what is left of a list after its first element
 pub drop-next : {A : Type 0} (old new : List A) (next : Option A) (n : ℕ) → n ≡ length old → old ≡ option_to_list next ++ new → IsSome next ↔ (0 < n) → drop 1 old ≡ new
 drop-next [] new None n size is some = is
 drop-next (x ∷ xs) new None n size is some = absurd (let h = some.1 (omega (arith, size)) in cc)
 drop-next old new (Some x) n size is some = ap (λ w. drop 1 w) is
+
+-- a request from its parts
+pub of-parts : (rows : List Row) (form : Option (Option Form)) (profile : Option (Option Profile)) (all : Option (List (List ℕ)))
+    → form ≡ form_of (is_given (codes "json") rows) (is_given (codes "check") rows) → profile ≡ named_profile (first_of (codes "profile") rows)
+    → all ≡ some_files (all_of (codes "FILE") rows)
+    → option_and_then (λ f. option_and_then (λ p. option_map (asked f p) all) profile) form ≡ request_of rows
+of-parts rows form profile all a b d = rw (a, b, d) refl
+
+-- the files that are asked for
+pub the-files : (rows : List Row) (x a : Asked) → is_given (codes "help") rows ≡ false → is_given (codes "version") rows ≡ false
+    → Some x ≡ request_of rows → wanted_in rows ≡ Some (files a) → x ≡ a
+the-files rows x a help version request wanted =
+    let e : Some (files x) ≡ Some (files a) = rw (help, version, ← request) at wanted in
+    cc

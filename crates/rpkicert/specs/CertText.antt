@@ -6,6 +6,7 @@ use Rattle.sha1.specs.Sha1.{sha1}
 use Rattle.sha2.specs.Sha256.{sha256}
 use Rattle.rpki.specs.declared.crypto.keys.PublicKeyFormat.{PublicKeyFormat}
 use Rattle.rpki.specs.declared.crypto.keys.PublicKeyFormat.TheVariants.{Rsa, EcdsaP256}
+use Rattle.rpki.specs.PublicKey.{KeyParts}
 use Rattle.rpki.specs.KeyIdentifier.{SpellsKeyIdentifier}
 use Rattle.rpki.specs.ExtensionValue.{ExtensionParts}
 use Rattle.rpki_cert.specs.declared.key_usage.KeyUsage.{KeyUsage}
@@ -20,6 +21,7 @@ use Rattle.rpkicert.specs.declared.field.Form.{Form}
 use Rattle.rpkicert.specs.Field.{field, field_if}
 use Rattle.rpkicert.specs.ValueText.{hex_digits, colon_digits, IsNumberText, time_text}
 use Rattle.rpkicert.specs.NameText.{IsNameText}
+use Rattle.rpkicert.specs.KeySize.{IsSizeText}
 
 -- ---- the fields that each certificate has (RFC 5280 4.1)
 
@@ -42,11 +44,14 @@ abbrev pub algorithm_text : PublicKeyFormat → List ℕ
 algorithm_text Rsa = codes "rsaEncryption"
 algorithm_text EcdsaP256 = codes "id-ecPublicKey prime256v1"
 
--- the key: its algorithm, and the digest by SHA-1 of its bits (RFC 6487 4.8.2)
-abbrev pub key_text : Form → TbsParts → List ℕ
-key_text form t =
-    field form (codes "Public Key Algorithm") (algorithm_text t.key.format)
-    ++ field form (codes "Public Key SHA-1") (colon_digits (sha1 t.key.bits.octets))
+-- a key of this size: its algorithm, the size, and the digest by SHA-1 of its bits (RFC 6487 4.8.2)
+abbrev pub key_text : Form → KeyParts → List ℕ → List ℕ
+key_text form k size =
+    field form (codes "Public Key Algorithm") (algorithm_text k.format) ++ field form (codes "Public Key Bits") size
+    ++ field form (codes "Public Key SHA-1") (colon_digits (sha1 k.bits.octets))
+
+abbrev pub IsKeyText : Form → KeyParts → List ℕ → Type 0
+IsKeyText form k text = (size : List ℕ) × IsSizeText k size × (text ≡ key_text form k size)
 
 -- ---- what the extensions say (RFC 6487 4.8)
 
@@ -178,15 +183,17 @@ fingerprint_text form octets = field form (codes "SHA-256 Fingerprint") (colon_d
 pub record AreFields (form : Form) (octets : List ℕ) (t : TbsParts) (text : List ℕ) : Type 0 where
   pub head : List ℕ
   pub middle : List ℕ
+  pub key : List ℕ
   pub identifiers : List ℕ
   pub uses : List ℕ
   pub issuer : List ℕ
   pub subject : List ℕ
   pub is_head : IsHead form t head
   pub is_middle : IsMiddle form t middle
+  pub is_key : IsKeyText form t.key key
   pub are_identifiers : AreIdentifiers form t.extensions identifiers
   pub are_uses : AreUses form t.extensions uses
   pub are_issuer : AreIssuerPlaces form t.extensions issuer
   pub are_subject : AreSubjectPlaces form t.extensions subject
-  pub fields : text ≡ head ++ middle ++ key_text form t ++ identifiers ++ uses ++ issuer ++ subject
+  pub fields : text ≡ head ++ middle ++ key ++ identifiers ++ uses ++ issuer ++ subject
       ++ flat_map (extension_text form) t.extensions ++ fingerprint_text form octets

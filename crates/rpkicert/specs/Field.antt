@@ -1,6 +1,8 @@
 -- Fields: a label and a value, as they are printed.
-use Rattle.std.specs.Prelude.{ℕ, ◌/◌, ◌%◌, nat_lt, nat_eq, ◌||◌, if◌then◌else◌, List, [], ◌∷◌, ◌++◌, codes, Option, Some, None}
-use Rattle.std.specs.List.{flat_map}
+use Rattle.std.specs.Prelude.{ℕ, ◌/◌, ◌%◌, List, [], ◌∷◌, ◌++◌, codes, Option, Some, None}
+use Rattle.std.specs.Str.Lossy.{utf8_lossy}
+use Rattle.serde_json.specs.Data.{string}
+use Rattle.serde_json.specs.Written.{compact_text}
 use Rattle.rpki_text.specs.HexText.{hex_digit}
 use Rattle.rpkicert.specs.declared.field.Form.{Form}
 use Rattle.rpkicert.specs.declared.field.Form.TheVariants.{Text, Json}
@@ -9,26 +11,15 @@ use Rattle.rpkicert.specs.declared.field.Form.TheVariants.{Text, Json}
 abbrev pub hex_pair : ℕ → List ℕ
 hex_pair octet = hex_digit (octet / 16) ∷ hex_digit (octet % 16) ∷ []
 
--- a quotation mark and a reverse solidus after a reverse solidus; control characters as \u00XX (RFC 8259 7)
-abbrev pub json_octet : ℕ → List ℕ
-json_octet octet =
-    if nat_eq octet 34 || nat_eq octet 92 then 92 ∷ octet ∷ []
-    else if nat_lt octet 32 then codes "\\u00" ++ hex_pair octet
-    else octet ∷ []
-
--- a text inside the quotation marks of JSON
+-- A text as a string of JSON, in quotation marks (RFC 8259 7), as `serde_json` writes it. What is not UTF-8 is replaced,
+-- so that the whole is JSON whatever the octets.
 abbrev pub json_text : List ℕ → List ℕ
-json_text text = flat_map json_octet text
-
--- a text as the form has it
-abbrev pub shown : Form → List ℕ → List ℕ
-shown Text text = text
-shown Json text = json_text text
+json_text text = compact_text (string (utf8_lossy text))
 
 -- a field: a line, or a member of an object after a comma
 abbrev pub field : Form → List ℕ → List ℕ → List ℕ
 field Text label value = label ++ codes ": " ++ value ++ 10 ∷ []
-field Json label value = codes ",\"" ++ label ++ codes "\":\"" ++ json_text value ++ 34 ∷ []
+field Json label value = codes "," ++ json_text label ++ codes ":" ++ json_text value
 
 -- a field that may be left out
 abbrev pub field_if : Form → List ℕ → Option (List ℕ) → List ℕ

@@ -2,6 +2,7 @@
 pub mod Field
 pub mod ValueText
 pub mod NameText
+pub mod KeySize
 pub mod CertText
 pub mod Memory
 pub mod Pem

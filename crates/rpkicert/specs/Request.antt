@@ -1,29 +1,54 @@
 -- What the words ask for.
-use Rattle.std.specs.Prelude.{ℕ, Bool, false, not, ◌||◌, nat_eq, if◌then◌else◌, List, [], ◌∷◌, codes, bytes_eq, slice_index, Option, Some, None}
-use Rattle.std.specs.List.{list_all}
+use Rattle.std.specs.Prelude.{ℕ, Bool, true, false, if◌then◌else◌, List, [], ◌∷◌, codes, bytes_eq, unwrap_or, Option, Some, None, option_and_then, option_map}
+use Rattle.clap.specs.Words.{App, Row, Rule, all_of, fault_of, first_of, matches_of, new_app, new_rule, with_rule}
+use Rattle.clap.specs.Simple.{on_top}
+use Rattle.clap.specs.Walk.{is_empty}
+use Rattle.clap.specs.declared.builder.action.ArgAction.TheVariants.{Append, SetTrue}
 use Rattle.rpkicert.specs.declared.field.Form.{Form}
 use Rattle.rpkicert.specs.declared.field.Form.TheVariants.{Text, Json}
 use Rattle.rpkicert.specs.declared.profile.Profile.{Profile}
 use Rattle.rpkicert.specs.declared.profile.Profile.TheVariants.{Ta, Ca, Ee, Router}
 
--- the words are this one alone
-abbrev pub is_word : List ℕ → List (List ℕ) → Bool
-is_word wanted [] = false
-is_word wanted (word ∷ []) = bytes_eq word wanted
-is_word wanted (word ∷ next ∷ words) = false
+-- ---- the command, in the words of `clap`
 
--- how certificates are printed, as the first word says; without a form there is a line for each file
-abbrev pub form_of : List (List ℕ) → Option Form
-form_of [] = Some Text
-form_of (word ∷ words) =
-    if bytes_eq word (codes "--json") then Some Json
-    else if bytes_eq word (codes "--check") then None else Some Text
+-- the flag of this name
+abbrev pub flag : List ℕ → Rule
+flag name = record (new_rule name) { long = Some name; action = Some SetTrue }
 
--- the words after that
-abbrev pub after_form : List (List ℕ) → List (List ℕ)
-after_form [] = []
-after_form (word ∷ words) =
-    if bytes_eq word (codes "--json") || bytes_eq word (codes "--check") then words else word ∷ words
+-- `--profile` takes a value, which is the name of a profile (`named_profile`, below)
+abbrev pub profile_option : Rule
+profile_option = record (new_rule (codes "profile")) { long = Some (codes "profile") }
+
+-- each of the other words is the name of a file
+abbrev pub files_rule : Rule
+files_rule = record (new_rule (codes "FILE")) { action = Some Append }
+
+-- the words don't begin with the program's name; `--help` and `--version` are flags as the others are
+abbrev pub command_alone : App
+command_alone =
+    on_top (λ s. record s { no_binary_name = true; disable_help_flag = true }) (new_app (codes "rpkicert"))
+
+abbrev pub command_app : App
+command_app =
+    with_rule (with_rule (with_rule (with_rule (with_rule (with_rule command_alone (flag (codes "help")))
+    (flag (codes "version"))) (flag (codes "json"))) (flag (codes "check"))) profile_option) files_rule
+
+-- what `clap` matches in the words; None where it finds a fault in them
+abbrev pub matched : List (List ℕ) → Option (List Row)
+matched words = if is_empty (fault_of command_app words) then Some (matches_of command_app words) else None
+
+-- ---- what is asked for
+
+-- the flag of this name was given
+abbrev pub is_given : List ℕ → List Row → Bool
+is_given name rows = bytes_eq (unwrap_or (first_of name rows) []) (codes "true")
+
+-- how certificates are printed; without a form there is a line for each file
+abbrev pub form_of : (json check : Bool) → Option (Option Form)
+form_of true true = None
+form_of true false = Some (Some Json)
+form_of false true = Some None
+form_of false false = Some (Some Text)
 
 -- the profile of this name
 abbrev pub profile_of : List ℕ → Option Profile
@@ -34,7 +59,18 @@ profile_of word =
     else if bytes_eq word (codes "router") then Some Router
     else None
 
--- what is asked for: how certificates are printed, their profile, and the files
+-- the profile that was named, if one was
+abbrev pub named_profile : Option (List ℕ) → Option (Option Profile)
+named_profile None = Some None
+named_profile (Some name) = option_map Some (profile_of name)
+
+-- the files, of which there is one at least
+abbrev pub some_files : Option (List (List ℕ)) → Option (List (List ℕ))
+some_files None = None
+some_files (Some []) = None
+some_files (Some (file ∷ files)) = Some (file ∷ files)
+
+-- how certificates are printed, their profile, and the files
 pub record Asked : Type 0 where
   pub form : Option Form
   pub profile : Option Profile
@@ -43,32 +79,25 @@ pub record Asked : Type 0 where
 abbrev pub asked : Option Form → Option Profile → List (List ℕ) → Asked
 asked form profile files = record { form = form; profile = profile; files = files }
 
--- the name of a file: a hyphen alone, or a word that doesn't begin with one
-abbrev pub is_file : List ℕ → Bool
-is_file word = bytes_eq word (codes "-") || not (nat_eq (slice_index word 0) 45)
+-- `--json` or `--check` or neither, a profile, perhaps, and files
+abbrev pub request_of : List Row → Option Asked
+request_of rows =
+    option_and_then (λ form. option_and_then (λ profile. option_map (asked form profile)
+    (some_files (all_of (codes "FILE") rows))) (named_profile (first_of (codes "profile") rows)))
+    (form_of (is_given (codes "json") rows) (is_given (codes "check") rows))
 
--- these files, of which there is one at least
-abbrev pub with_files : Option Form → Option Profile → List (List ℕ) → Option Asked
-with_files form profile [] = None
-with_files form profile (file ∷ files) =
-    if list_all is_file (file ∷ files) then Some (asked form profile (file ∷ files)) else None
+-- what words ask for: the help, the version, or files
+pub data Wanted : Type 0 where
+  help : Wanted
+  version : Wanted
+  files : Asked → Wanted
 
--- the files of a profile
-abbrev pub of_profile : Option Form → Option Profile → List (List ℕ) → Option Asked
-of_profile form None files = None
-of_profile form (Some profile) files = with_files form (Some profile) files
+abbrev pub wanted_in : List Row → Option Wanted
+wanted_in rows =
+    if is_given (codes "help") rows then Some help
+    else if is_given (codes "version") rows then Some version
+    else option_map files (request_of rows)
 
--- the profile after the word `--profile`, and the files
-abbrev pub after_profile : Option Form → List (List ℕ) → Option Asked
-after_profile form [] = None
-after_profile form (word ∷ files) = of_profile form (profile_of word) files
-
--- the words after the form
-abbrev pub with_form : Option Form → List (List ℕ) → Option Asked
-with_form form [] = None
-with_form form (word ∷ words) =
-    if bytes_eq word (codes "--profile") then after_profile form words else with_files form None (word ∷ words)
-
--- What the words ask for: first how certificates are printed, then a profile, then files. None if they ask for nothing.
-abbrev pub request_of : List (List ℕ) → Option Asked
-request_of words = with_form (form_of words) (after_form words)
+-- what the words ask for; None if they ask for nothing
+abbrev pub wanted_of : List (List ℕ) → Option Wanted
+wanted_of words = option_and_then wanted_in (matched words)

@@ -1,31 +1,29 @@
 -- What clauses see of a request.
-use Rattle.std.specs.Prelude.{◌≡◌, List, String, None, IfSome, false, IsTrue, codes, map, string_bytes}
+use Rattle.std.specs.Prelude.{◌≡◌, List, String, Some, None, map, string_bytes}
+use Rattle.clap.specs.Words.{Row, found_of, rows_of}
+use Rattle.clap.specs.declared.parser.matches.ArgMatches.{ArgMatches}
 use Rattle.rpkicert.specs.declared.request.Request.{Request}
-use Rattle.rpkicert.specs.Request.{Asked, asked, is_word, request_of}
+use Rattle.rpkicert.specs.Request.{Asked, asked, help, version, files, wanted_of}
 
 abbrev pub asked_of : Request → Asked
-asked_of r = asked r.form r.profile (map string_bytes r.files.now)
+asked_of r = asked r.form r.profile (map (λ file. file.now) r.files.now)
 
--- the words are `--help` alone
+-- what was matched
+abbrev pub rows_in : ArgMatches → List Row
+rows_in m = rows_of (found_of m)
+
+-- the words ask for the help
 abbrev pub AskHelp : {Z : Type 0} → List (String Z) → Type 0
-AskHelp words = IsTrue (is_word (codes "--help") (map string_bytes words))
+AskHelp words = wanted_of (map string_bytes words) ≡ Some help
 
--- the words are `--version` alone
+-- the words ask for the version
 abbrev pub AskVersion : {Z : Type 0} → List (String Z) → Type 0
-AskVersion words =
-    (is_word (codes "--help") (map string_bytes words) ≡ false)
-    × IsTrue (is_word (codes "--version") (map string_bytes words))
+AskVersion words = wanted_of (map string_bytes words) ≡ Some version
 
--- the words are others
-abbrev pub AreOther : {Z : Type 0} → List (String Z) → Type 0
-AreOther words =
-    (is_word (codes "--help") (map string_bytes words) ≡ false)
-    × (is_word (codes "--version") (map string_bytes words) ≡ false)
-
--- they ask for files, of which P holds
+-- what they ask for of files has P
 abbrev pub AskFiles : {Z : Type 0} → List (String Z) → (Asked → Type 0) → Type 0
-AskFiles words P = AreOther words → IfSome (request_of (map string_bytes words)) P
+AskFiles words P = (a : Asked) → wanted_of (map string_bytes words) ≡ Some (files a) → P a
 
 -- they ask for nothing
 abbrev pub AskNothing : {Z : Type 0} → List (String Z) → Type 0
-AskNothing words = AreOther words × (request_of (map string_bytes words) ≡ None)
+AskNothing words = wanted_of (map string_bytes words) ≡ None

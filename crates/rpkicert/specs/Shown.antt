@@ -11,6 +11,7 @@ use Rattle.rpkicert.specs.CertText.{AreFields}
 use Rattle.rpkicert.specs.Fault.{fault_text, status_of}
 use Rattle.rpkicert.specs.Finding.{Finding, Finds}
 use Rattle.rpkicert.specs.Request.{Asked}
+use Rattle.rpkicert.specs.Words.{memory_text}
 
 -- ---- a file
 
@@ -30,7 +31,7 @@ line name text = visible name ++ codes ": " ++ text ++ 10 ∷ []
 -- the fields of a certificate, after the name of its file: lines, or an object on a line
 abbrev pub whole : Form → List ℕ → List ℕ → List ℕ
 whole Text name fields = field Text (codes "File") (visible name) ++ fields
-whole Json name fields = codes "{\"File\":\"" ++ json_text name ++ 34 ∷ [] ++ fields ++ codes "}\n"
+whole Json name fields = codes "{\"File\":" ++ json_text name ++ fields ++ codes "}\n"
 
 -- what goes to the output, what goes to the faults, and the status
 pub record ShownParts : Type 0 where
@@ -49,9 +50,6 @@ IsShown (Some form) name (Ok found) s =
     (fields : List ℕ) × AreFields form found.0 found.1.tbs fields × (s ≡ shown_parts (whole form name fields) [] 0)
 IsShown (Some form) name (Err fault) s =
     s ≡ shown_parts [] (codes "rpkicert: " ++ line name (fault_text fault)) (status_of fault)
-
-abbrev pub memory_text : List ℕ
-memory_text = codes "rpkicert: out of memory\n"
 
 -- What is seen of a file: what was found, as it is shown; or that there was no memory to show it.
 abbrev pub IsSeen : Option Form → Option Profile → List ℕ → Option (List ℕ) → ShownParts → Type 0

@@ -1,7 +1,8 @@
 -- What clauses see of what is shown.
 use Rattle.std.specs.Prelude.{Result, Ok, Err, []}
 use Rattle.rpkicert.specs.declared.shown.Shown.{Shown}
-use Rattle.rpkicert.specs.Shown.{ShownParts, shown_parts, memory_text}
+use Rattle.rpkicert.specs.Shown.{ShownParts, shown_parts}
+use Rattle.rpkicert.specs.Words.{memory_text}
 
 abbrev pub parts_of : Shown → ShownParts
 parts_of s = shown_parts s.output.items s.faults.items s.status

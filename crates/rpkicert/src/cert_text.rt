@@ -2,14 +2,15 @@
 
 ghost use Rattle.std.specs.Prelude.{◌≡◌, ◌++◌, OnOk, IfOk};
 ghost use Rattle.std.specs.List.{flat_map};
-ghost use Rattle.rpkicert.specs.CertText.{algorithm_text, IsHead, IsMiddle, key_text, extension_name, private_name, critical_text, extension_text, fingerprint_text, AreFields};
+ghost use Rattle.rpkicert.specs.CertText.{algorithm_text, IsHead, IsMiddle, key_text, IsKeyText, extension_name, private_name, critical_text, extension_text, fingerprint_text, AreFields};
 
 use crate::extension_text::{identifiers, uses};
 use crate::field::{Form, push_field};
+use crate::key_size::size_text;
 use crate::name::{name_text, push_digits};
 use crate::place_text::{issuer_places, subject_places};
 use crate::value::{colon_digits, serial_text, time_text};
-use rpki::crypto::PublicKeyFormat;
+use rpki::crypto::{PublicKey, PublicKeyFormat};
 use rpki::der::Oid;
 use rpki::oid;
 use rpki::repository::x509::CertExtension;
@@ -70,11 +71,15 @@ fn algorithm_text(format: PublicKeyFormat) -> &'static [u8]
     }
 }
 
-/// The key.
-fn key_text(alloc: Global, form: Form, tbs: &TbsCert) -> Result<Vec<u8>, AllocError>
-    ensures { IfOk result (λ text. text.items ≡ key_text form tbs.now) }
+/// The fields of a key of this size.
+fn key_fields(
+    alloc: Global,
+    form: Form,
+    key: &PublicKey,
+    size: &[u8],
+) -> Result<Vec<u8>, AllocError>
+    ensures { IfOk result (λ text. text.items ≡ key_text form key.now size.now) }
 {
-    let key = tbs.subject_public_key_info();
     let identifier = colon_digits(alloc, &Sha1::digest(key.bits()))?;
     let mut text = Vec::new(alloc);
     push_field(
@@ -83,8 +88,18 @@ fn key_text(alloc: Global, form: Form, tbs: &TbsCert) -> Result<Vec<u8>, AllocEr
         b"Public Key Algorithm",
         algorithm_text(key.algorithm()),
     )?;
+    push_field(&mut text, form, b"Public Key Bits", size)?;
     push_field(&mut text, form, b"Public Key SHA-1", identifier.as_slice())?;
     Ok(text)
+}
+
+/// The key.
+fn key(alloc: Global, form: Form, tbs: &TbsCert) -> Result<Vec<u8>, AllocError>
+    ensures { IfOk result (λ text. IsKeyText form tbs.now.key text.items) }
+{
+    let key = tbs.subject_public_key_info();
+    let size = size_text(alloc, key)?;
+    key_fields(alloc, form, key, size.as_slice())
 }
 
 /// Adds the name of an extension of RFC 5280 4.2.1; of another what [push_private_name] adds.
@@ -196,7 +211,7 @@ pub fn fields(
 {
     let head = head(alloc, form, tbs)?;
     let middle = middle(alloc, form, tbs)?;
-    let key = key_text(alloc, form, tbs)?;
+    let key = key(alloc, form, tbs)?;
     let identifiers = identifiers(alloc, form, tbs)?;
     let uses = uses(alloc, form, tbs)?;
     let issuer = issuer_places(alloc, form, tbs)?;

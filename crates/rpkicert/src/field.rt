@@ -1,11 +1,12 @@
 //! Fields: a label and a value.
 
-ghost use Rattle.std.specs.Prelude.{◌≡◌, ◌<◌, ◌++◌, OnOk};
+ghost use Rattle.std.specs.Prelude.{◌≡◌, ◌<◌, ◌++◌, IfOk, OnOk, string_bytes};
 ghost use Rattle.std.specs.Option.{option_map};
 ghost use Rattle.rpki_text.specs.HexText.{hex_digit};
-ghost use Rattle.rpkicert.specs.Field.{hex_pair, json_octet, json_text, field, field_if};
+ghost use Rattle.rpkicert.specs.Field.{hex_pair, json_text, field, field_if};
 
-use std::alloc::AllocError;
+use serde_json::Value;
+use std::alloc::{AllocError, Global};
 
 /// How certificates are printed.
 #[derive(Clone, Copy, Debug, PartialEq, Eq)]
@@ -35,33 +36,22 @@ pub fn hex_pair(octet: u8) -> [u8; 2]
     [hex_digit(octet / 16), hex_digit(octet % 16)]
 }
 
-/// Adds an octet of a text inside the quotation marks of JSON.
-fn push_json_octet(text: &mut Vec<u8>, octet: u8) -> Result<(), AllocError>
-    ensures { OnOk result (text.new.items ≡ text.old.items ++ json_octet octet) }
+/// A text as a string of JSON. What is not UTF-8 is replaced.
+fn json_text(alloc: Global, text: &[u8]) -> Result<String, AllocError>
+    ensures { IfOk result (λ json. string_bytes json ≡ json_text text.now) }
 {
-    if octet == b'"' || octet == b'\\' {
-        text.extend_from_slice(&[b'\\', octet])?;
-        return Ok(());
-    }
-    if octet < 32 {
-        text.extend_from_slice(b"\\u00")?;
-        text.extend_from_slice(&hex_pair(octet))?;
-        return Ok(());
-    }
-    text.push(octet)?;
-    Ok(())
+    let text = String::from_utf8_lossy(alloc, text)?;
+    Value::String(text).to_string(alloc)
 }
 
-/// Adds a text inside the quotation marks of JSON (RFC 8259 7).
+/// Adds a text as a string of JSON, in quotation marks (RFC 8259 7). What is not UTF-8 is replaced.
 ///
 /// Returns `AllocError` if allocation fails.
 pub fn push_json(text: &mut Vec<u8>, value: &[u8]) -> Result<(), AllocError>
     ensures { OnOk result (text.new.items ≡ text.old.items ++ json_text value.now) }
 {
-    'octets: for octet in value {
-        push_json_octet(text, *octet)?;
-    }
-    Ok(())
+    let json = json_text(*text.allocator(), value)?;
+    text.extend_from_slice(json.as_bytes())
 }
 
 /// Adds a field.
@@ -83,11 +73,10 @@ pub fn push_field(
             text.push(b'\n')?;
         }
         Form::Json => {
-            text.extend_from_slice(b",\"")?;
-            text.extend_from_slice(label)?;
-            text.extend_from_slice(b"\":\"")?;
+            text.push(b',')?;
+            push_json(text, label)?;
+            text.push(b':')?;
             push_json(text, value)?;
-            text.push(b'"')?;
         }
     }
     Ok(())

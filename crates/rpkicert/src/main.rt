@@ -8,6 +8,7 @@ mod fault;
 mod field;
 mod finding;
 mod input;
+mod key_size;
 mod memory;
 mod name;
 mod pem;

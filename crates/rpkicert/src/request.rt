@@ -1,135 +1,141 @@
 //! What the words ask for.
 
-ghost use Rattle.std.specs.Prelude.{◌≡◌, map, string_bytes, Some};
-ghost use Rattle.std.specs.List.{list_all};
-ghost use Rattle.std.specs.Option.{option_map};
-ghost use Rattle.rpkicert.specs.Request.{is_word, form_of, after_form, is_file, with_files, after_profile, with_form, request_of};
-ghost use Rattle.rpkicert.specs.RequestView.{asked_of};
+ghost use Rattle.std.specs.Prelude.{◌≡◌, map, codes, IfOk, false, option_map, string_bytes};
+ghost use Rattle.clap.specs.Words.{all_of, app_of, first_of, rule_of};
+ghost use Rattle.rpkicert.specs.Request.{flag, profile_option, files_rule, command_app, matched, is_given, form_of, named_profile, some_files, request_of};
+ghost use Rattle.rpkicert.specs.RequestView.{asked_of, rows_in};
 
 use crate::field::Form;
 use crate::profile::Profile;
+use clap::error::ErrorKind;
+use clap::{Arg, ArgAction, ArgMatches, Command};
+use std::alloc::{AllocError, Global};
 
-/// What the words ask for.
+/// What the words ask for of files.
 #[derive(Clone, Copy)]
-pub struct Request<'a> {
+pub struct Request<'m, 'a> {
     /// How certificates are printed; without a form there is a line for each file.
     pub form: Option<Form>,
     /// The profile that certificates are held to.
     pub profile: Option<Profile>,
     /// The names of the files.
-    pub files: &'a [String],
+    pub files: &'m [&'a str],
 }
 
-/// Whether the words are this one alone.
-pub fn is_word(wanted: &str, words: &[String]) -> bool
-    ensures { result ≡ is_word wanted.now (map string_bytes words.now) }
+/// The flag of this name.
+fn flag<'a>(alloc: Global, name: &'a str) -> Arg<'a>
+    ensures rule { rule_of result ≡ flag name.entry.now }
+    ensures local { result.global ≡ false }
 {
-    match words {
-        [word] => word.as_str() == wanted,
-        _ => false,
+    Arg::new(alloc, name).long(name).action(ArgAction::SetTrue)
+}
+
+/// The option for a profile.
+fn profile_option<'a>(alloc: Global) -> Arg<'a>
+    ensures rule { rule_of result ≡ profile_option }
+    ensures local { result.global ≡ false }
+{
+    Arg::new(alloc, "profile").long("profile")
+}
+
+/// The names of files.
+fn files_rule<'a>(alloc: Global) -> Arg<'a>
+    ensures rule { rule_of result ≡ files_rule }
+    ensures local { result.global ≡ false }
+{
+    Arg::new(alloc, "FILE").action(ArgAction::Append)
+}
+
+/// What the program takes.
+fn command<'a>(alloc: Global) -> Result<Command<'a>, AllocError>
+    ensures { IfOk result (λ c. app_of c ≡ command_app) }
+{
+    Command::new(alloc, "rpkicert")
+        .no_binary_name(true)
+        .disable_help_flag(true)
+        .arg(flag(alloc, "help"))?
+        .arg(flag(alloc, "version"))?
+        .arg(flag(alloc, "json"))?
+        .arg(flag(alloc, "check"))?
+        .arg(profile_option(alloc))?
+        .arg(files_rule(alloc))
+}
+
+/// What is matched in the words. None if they are not as the program takes them.
+///
+/// Returns `AllocError` if allocation fails.
+pub fn matched<'a>(alloc: Global, words: &'a [String]) -> Result<Option<ArgMatches<'a>>, AllocError>
+    ensures { IfOk result (λ o. option_map rows_in o ≡ matched (map string_bytes words.entry.now)) }
+{
+    let command = command(alloc)?;
+    match command.try_get_matches_from(words) {
+        Ok(matches) => Ok(Some(matches)),
+        Err(e) => match e.kind() {
+            ErrorKind::OutOfMemory => Err(AllocError),
+            _ => Ok(None),
+        },
     }
 }
 
-/// How certificates are printed.
-fn form_of(words: &[String]) -> Option<Form>
-    ensures { result ≡ form_of (map string_bytes words.now) }
+/// Whether the flag of this name was given.
+pub fn is_given(matches: &ArgMatches<'_>, name: &str) -> bool
+    ensures { result ≡ is_given name.now (rows_in matches.now) }
 {
-    match words.first() {
-        Some(word) => {
-            if word.as_str() == "--json" {
-                Some(Form::Json)
-            } else if word.as_str() == "--check" {
-                None
-            } else {
-                Some(Form::Text)
-            }
-        }
-        None => Some(Form::Text),
+    match matches.get_str(name) {
+        Some(value) => value == "true",
+        None => false,
     }
 }
 
-/// The words after that.
-fn after_form(words: &[String]) -> &[String]
-    ensures { map string_bytes result.now ≡ after_form (map string_bytes words.now) }
+/// How certificates are printed. None if two ways are asked for.
+fn form_of(json: bool, check: bool) -> Option<Option<Form>>
+    ensures { result ≡ form_of json check }
 {
-    match words.split_first() {
-        Some((word, rest)) => {
-            if word.as_str() == "--json" || word.as_str() == "--check" {
-                rest
-            } else {
-                words
-            }
-        }
-        None => words,
+    match (json, check) {
+        (true, true) => None,
+        (true, false) => Some(Some(Form::Json)),
+        (false, true) => Some(None),
+        (false, false) => Some(Some(Form::Text)),
     }
 }
 
-/// Whether the word is the name of a file.
-fn is_file(word: &str) -> bool
-    ensures { result ≡ is_file word.now }
+/// The profile of this name, if one is named. None if there is no profile of that name.
+fn named_profile(name: Option<&str>) -> Option<Option<Profile>>
+    ensures { result ≡ named_profile (option_map (λ name. name.now) name.entry) }
 {
-    word == "-" || !word.as_bytes().starts_with(b"-")
-}
-
-/// Whether all of the words are names of files.
-fn are_files(words: &[String]) -> bool
-    ensures { result ≡ list_all (λ word. is_file (string_bytes word)) words.now }
-{
-    words.iter().all(|word| is_file(word.as_str()))
-}
-
-/// These files.
-fn with_files(form: Option<Form>, profile: Option<Profile>, files: &[String]) -> Option<Request<'_>>
-    ensures { option_map asked_of result ≡ with_files form profile (map string_bytes files.now) }
-{
-    if files.is_empty() {
-        return None;
+    match name {
+        Some(name) => match Profile::of(name) {
+            Some(profile) => Some(Some(profile)),
+            None => None,
+        },
+        None => Some(None),
     }
-    if are_files(files) {
-        return Some(Request {
+}
+
+/// These files. None if there are none.
+fn some_files<'m, 'a>(files: Option<&'m [&'a str]>) -> Option<&'m [&'a str]>
+    ensures { option_map (λ files. map (λ file. file.now) files.now) result
+        ≡ some_files (option_map (λ files. map (λ file. file.now) files.now) files.entry) }
+{
+    match files {
+        Some([]) | None => None,
+        Some(files) => Some(files),
+    }
+}
+
+impl<'m, 'a> Request<'m, 'a> {
+    /// What is asked for of files: how certificates are printed, a profile, perhaps, and the files. None if there are
+    /// none, or two ways are asked for.
+    pub fn of(matches: &'m ArgMatches<'a>) -> Option<Request<'m, 'a>>
+        ensures { option_map asked_of result ≡ request_of (rows_in matches.entry.now) }
+    {
+        let form = form_of(is_given(matches, "json"), is_given(matches, "check"))?;
+        let profile = named_profile(matches.get_str("profile"))?;
+        let files = some_files(matches.get_raw("FILE"))?;
+        Some(Request {
             form,
             profile,
             files,
-        });
-    }
-    None
-}
-
-/// The profile that the first of the words names, and the files.
-fn after_profile(form: Option<Form>, words: &[String]) -> Option<Request<'_>>
-    ensures { option_map asked_of result ≡ after_profile form (map string_bytes words.now) }
-{
-    match words.split_first() {
-        Some((word, files)) => match Profile::of(word.as_str()) {
-            Some(profile) => with_files(form, Some(profile), files),
-            None => None,
-        },
-        None => None,
-    }
-}
-
-/// A profile, perhaps, and the files.
-fn with_form(form: Option<Form>, words: &[String]) -> Option<Request<'_>>
-    ensures { option_map asked_of result ≡ with_form form (map string_bytes words.now) }
-{
-    match words.split_first() {
-        Some((word, rest)) => {
-            if word.as_str() == "--profile" {
-                after_profile(form, rest)
-            } else {
-                with_files(form, None, words)
-            }
-        }
-        None => None,
-    }
-}
-
-impl<'a> Request<'a> {
-    /// What the words ask for: first how certificates are printed, then a profile, then files. None if they ask for
-    /// nothing.
-    pub fn of(words: &'a [String]) -> Option<Request<'a>>
-        ensures { option_map asked_of result ≡ request_of (map string_bytes words.entry.now) }
-    {
-        with_form(form_of(words), after_form(words))
+        })
     }
 }

@@ -1,16 +1,18 @@
 //! A run: words and files in, output and faults out.
 
-ghost use Rattle.std.specs.Prelude.{◌≡◌};
-ghost use Rattle.rpkicert.specs.RequestView.{asked_of, AskHelp, AskVersion, AskFiles, AskNothing};
+ghost use Rattle.std.specs.Prelude.{◌≡◌, Some, None};
+ghost use Rattle.rpkicert.specs.Request.{Asked, help, version, files, wanted_in};
+ghost use Rattle.rpkicert.specs.RequestView.{asked_of, rows_in, AskHelp, AskVersion, AskFiles, AskNothing};
 ghost use Rattle.rpkicert.specs.Shown.{Sees, IsRunOf, WritesBoth};
 ghost use Rattle.rpkicert.specs.ShownView.{seen_of};
-ghost use Rattle.rpkicert.specs.Words.{Prints};
+ghost use Rattle.rpkicert.specs.Words.{Prints, OrMemory};
 
 use crate::finding::find;
-use crate::request::{Request, is_word};
+use crate::request::{Request, is_given, matched};
 use crate::shown::{Shown, show};
 use crate::sources::Sources;
-use crate::words::{HELP, USAGE, VERSION};
+use crate::words::{HELP, OUT_OF_MEMORY, USAGE, VERSION};
+use clap::ArgMatches;
 use rpki::der::write_whole;
 use std::alloc::{AllocError, Global};
 use std::io;
@@ -19,7 +21,7 @@ use std::io::Write;
 /// What is shown of the file of this name.
 fn seen<S: Sources>(
     alloc: Global,
-    request: &Request<'_>,
+    request: &Request<'_, '_>,
     sources: &S,
     name: &str,
 ) -> Result<Shown, AllocError>
@@ -45,7 +47,7 @@ fn write_shown<W: Write, F: Write>(
             Ok(shown.status)
         }
         Err(_) => {
-            write_whole(err, b"rpkicert: out of memory\n")?;
+            write_whole(err, OUT_OF_MEMORY)?;
             Ok(2)
         }
     }
@@ -54,7 +56,7 @@ fn write_shown<W: Write, F: Write>(
 /// Shows each of the files, in order, and returns the greatest exit status; 2 if the output or the faults fail.
 fn show_each<S: Sources, W: Write, F: Write>(
     alloc: Global,
-    request: &Request<'_>,
+    request: &Request<'_, '_>,
     sources: &S,
     out: &mut W,
     err: &mut F,
@@ -64,7 +66,7 @@ fn show_each<S: Sources, W: Write, F: Write>(
 {
     let mut worst = 0u8;
     'files: for file in request.files {
-        let shown = seen(alloc, request, sources, file.as_str());
+        let shown = seen(alloc, request, sources, file);
         match write_shown(&shown, out, err) {
             Ok(status) => worst = worst.max(status),
             Err(_) => return 2,
@@ -90,14 +92,43 @@ pub fn complain<F: Write>(err: &mut F) -> u8
     print(USAGE, err, 2)
 }
 
+/// Does what was asked for, and returns the exit status.
+fn answer<S: Sources, W: Write, F: Write>(
+    alloc: Global,
+    matches: &ArgMatches<'_>,
+    sources: &S,
+    out: &mut W,
+    err: &mut F,
+) -> u8
+    ensures help { wanted_in (rows_in matches.now) ≡ Some help
+        → Prints (W.contents out.old) (W.contents out.new) HELP.now 0 result × (err.new ≡ err.old) }
+    ensures version { wanted_in (rows_in matches.now) ≡ Some version
+        → Prints (W.contents out.old) (W.contents out.new) VERSION.now 0 result × (err.new ≡ err.old) }
+    ensures files { (a : Asked) → wanted_in (rows_in matches.now) ≡ Some (files a) → IsRunOf (S.holds sources.now)
+        (W.contents out.old) (W.contents out.new) (F.contents err.old) (F.contents err.new) result a }
+    ensures usage { wanted_in (rows_in matches.now) ≡ None
+        → Prints (F.contents err.old) (F.contents err.new) USAGE.now 2 result × (out.new ≡ out.old) }
+{
+    if is_given(matches, "help") {
+        return print(HELP, out, 0);
+    }
+    if is_given(matches, "version") {
+        return print(VERSION, out, 0);
+    }
+    match Request::of(matches) {
+        Some(request) => show_each(alloc, &request, sources, out, err),
+        None => complain(err),
+    }
+}
+
 /// Runs what the words, which are the program's arguments, ask for, and returns the exit status.
 ///
-/// `--help` and `--version` alone print a text. Else each file that the words name is shown, in order: the certificate
-/// that it is by its fields, and a fault by a line among the faults; after `--check` a line for either to the output.
-/// Other words get the usage line among the faults.
+/// `--help` and `--version` print a text. Else each file that the words name is shown, in order: the certificate that
+/// it is by its fields, and a fault by a line among the faults; with `--check` a line for either to the output. Other
+/// words get the usage line among the faults; where there is no memory to read them, that is said there.
 ///
 /// The status is 0 if all is well, 1 if a file is no certificate or violates the profile, 2 if one can't be read, for
-/// other words, and if the output or the faults fail; of several the greatest.
+/// other words, if allocation fails, and if the output or the faults fail; of several the greatest.
 pub fn run<S: Sources, W: Write, F: Write>(
     alloc: Global,
     words: &[String],
@@ -106,22 +137,22 @@ pub fn run<S: Sources, W: Write, F: Write>(
     err: &mut F,
 ) -> u8
     ensures help { AskHelp words.now
-        → Prints (W.contents out.old) (W.contents out.new) HELP.now 0 result × (err.new ≡ err.old) }
+        → OrMemory (F.contents err.old) (F.contents err.new) (out.new ≡ out.old) result
+        (Prints (W.contents out.old) (W.contents out.new) HELP.now 0 result × (err.new ≡ err.old)) }
     ensures version { AskVersion words.now
-        → Prints (W.contents out.old) (W.contents out.new) VERSION.now 0 result × (err.new ≡ err.old) }
-    ensures files { AskFiles words.now (IsRunOf (S.holds sources.now) (W.contents out.old) (W.contents out.new)
-        (F.contents err.old) (F.contents err.new) result) }
+        → OrMemory (F.contents err.old) (F.contents err.new) (out.new ≡ out.old) result
+        (Prints (W.contents out.old) (W.contents out.new) VERSION.now 0 result × (err.new ≡ err.old)) }
+    ensures files { AskFiles words.now (λ a.
+        OrMemory (F.contents err.old) (F.contents err.new) (out.new ≡ out.old) result
+        (IsRunOf (S.holds sources.now) (W.contents out.old) (W.contents out.new) (F.contents err.old)
+        (F.contents err.new) result a)) }
     ensures usage { AskNothing words.now
-        → Prints (F.contents err.old) (F.contents err.new) USAGE.now 2 result × (out.new ≡ out.old) }
+        → OrMemory (F.contents err.old) (F.contents err.new) (out.new ≡ out.old) result
+        (Prints (F.contents err.old) (F.contents err.new) USAGE.now 2 result × (out.new ≡ out.old)) }
 {
-    if is_word("--help", words) {
-        return print(HELP, out, 0);
-    }
-    if is_word("--version", words) {
-        return print(VERSION, out, 0);
-    }
-    match Request::of(words) {
-        Some(request) => show_each(alloc, &request, sources, out, err),
-        None => complain(err),
+    match matched(alloc, words) {
+        Ok(Some(matches)) => answer(alloc, &matches, sources, out, err),
+        Ok(None) => complain(err),
+        Err(_) => print(OUT_OF_MEMORY, err, 2),
     }
 }

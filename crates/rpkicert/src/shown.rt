@@ -69,9 +69,8 @@ fn whole(alloc: Global, form: Form, name: &str, fields: &[u8]) -> Result<Vec<u8>
             text.extend_from_slice(fields)?;
         }
         Form::Json => {
-            text.extend_from_slice(b"{\"File\":\"")?;
+            text.extend_from_slice(b"{\"File\":")?;
             push_json(&mut text, name.as_bytes())?;
-            text.push(b'"')?;
             text.extend_from_slice(fields)?;
             text.extend_from_slice(b"}\n")?;
         }

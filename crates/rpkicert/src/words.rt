@@ -6,6 +6,9 @@ pub const USAGE: &[u8] = b"usage: rpkicert [--json|--check] [--profile ta|ca|ee|
 /// The program's name and version.
 pub const VERSION: &[u8] = b"rpkicert 0.1.0\n";
 
+/// What is said where allocation fails.
+pub const OUT_OF_MEMORY: &[u8] = b"rpkicert: out of memory\n";
+
 /// What `--help` prints.
 pub const HELP: &[u8] = b"\
 rpkicert - print certificates of the RPKI
