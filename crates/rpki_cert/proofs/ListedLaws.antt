@@ -7,18 +7,17 @@ use Rattle.std.proofs.lemmas.Bool.{false≢true, false_from_ne_true}
 use Rattle.rpki_der.specs.declared.error.DecodeError.{DecodeError}
 use Rattle.rpki_der.specs.declared.error.DecodeError.TheVariants.{OutOfMemory}
 use Rattle.rpki_der.specs.TagName.{TagName, sequence, octet_string, oid}
-use Rattle.rpki_der.specs.Leaves.{IsOidOf}
 use Rattle.rpki_der.specs.Header.{identifier_octets, length_octets}
 use Rattle.rpki_der.specs.Reading.{Spells, Accepts, Refuses, Refusal, SpellsNothing}
-use Rattle.rpki_der.specs.Values.{SpellsContents, SpellsLeaf, IsContentsFault, IsLeafFault}
+use Rattle.rpki_der.specs.Values.{SpellsContents, IsContentsFault}
 use Rattle.rpki_der.specs.Each.{SpellsEach, SpellsSome}
 use Rattle.rpki_der.proofs.InsideLaws.{unless-memory}
-use Rattle.rpki_der.proofs.LeavesLaws.{contents-no-memory, leaf-no-memory}
+use Rattle.rpki_der.proofs.LeavesLaws.{contents-no-memory}
 use Rattle.rpki_der.proofs.ComposedLaws.{all-read, nothing-after, nothing-whole}
 use Rattle.rpki.specs.ExtensionValue.{ExtensionParts, SpellsExtension, IsExtensionContents}
 use Rattle.rpki.specs.ExtensionFault.{IsCertExtensionFault}
 use Rattle.rpki.proofs.ExtensionFaultLaws.{extension-outer}
-use Rattle.rpki_der.proofs.LeafValueLaws.{leaf-shorter}
+use Rattle.rpki_der.proofs.LeafValueLaws.{leaf-shorter, contents-shorter}
 use Rattle.rpki_cert.specs.declared.cert_part.CertPart.{CertPart}
 use Rattle.rpki_cert.specs.declared.section.Section.{Section}
 use Rattle.rpki_cert.specs.Cert.{find, are_unique, extensions_tag}
@@ -57,14 +56,18 @@ pub identified : (s i q : List ℕ) (x : ExtensionParts) (r : List ℕ) → IsId
 identified s i q x r h k =
     let e = h.around.only k.spelled.contents r (record { front = k.front; parts = k.parts; spelled = k.spelled.value }) in
     let c = k.spelled.spelled in
-    ((h.named.only x.identifier (c.second ++ c.third) (record { front = c.first; parts = sym e.0 ∙ c.parts; spelled = c.identifier })).0, e.1)
+    let n = h.named.only c.identifier.contents (c.second ++ c.third) (record { front = c.first; parts = sym e.0 ∙ c.parts; spelled = c.identifier.value }) in
+    (sym c.identifier.spelled.0 ∙ n.0, e.1)
 
-pub name-refused : (s c q r : List ℕ) (e : DecodeError) → Accepts (SpellsContents sequence true) s c q → Refusal (SpellsLeaf oid false IsOidOf) (IsLeafFault oid false IsOidOf) c r e → Refuses SpellsExtension s
+pub skim-shorter : (s i q : List ℕ) → IsIdentified s i q → length q < length s
+skim-shorter s i q h = contents-shorter sequence true s h.contents q h.around.spells
+
+pub name-refused : (s c q r : List ℕ) (e : DecodeError) → Accepts (SpellsContents sequence true) s c q → Refusal (SpellsContents oid false) (IsContentsFault oid false) c r e → Refuses SpellsExtension s
 name-refused s c q r e a h x p k =
     let one = a.only k.spelled.contents p (record { front = k.front; parts = k.parts; spelled = k.spelled.value }) in
     let w = k.spelled.spelled in
-    let none = refused (SpellsLeaf oid false IsOidOf) (IsLeafFault oid false IsOidOf) c r e (λ z. leaf-no-memory oid false IsOidOf c OutOfMemory z refl) h in
-    none x.identifier (w.second ++ w.third) (record { front = w.first; parts = sym one.0 ∙ w.parts; spelled = w.identifier })
+    let none = refused (SpellsContents oid false) (IsContentsFault oid false) c r e (λ z. contents-no-memory oid false c OutOfMemory z refl) h in
+    none w.identifier.contents (w.second ++ w.third) (record { front = w.first; parts = sym one.0 ∙ w.parts; spelled = w.identifier.value })
 
 pub around-refused : (s r : List ℕ) (e : DecodeError) → Refusal (SpellsContents sequence true) (IsContentsFault sequence true) s r e → Refuses SpellsExtension s
 around-refused s r e h x p k =

@@ -1,7 +1,6 @@
 -- Certificates that are read in place: what stands where, and which part is wrong (RFC 5280 4.1).
 use Rattle.std.specs.Prelude.{◌≡◌, ◌≤◌, ◌<◌, ◌++◌, ◌-◌, ℕ, Bool, true, false, List, slice_index, Option, Some, None, IsTrue, length}
 use Rattle.rpki_der.specs.TagName.{sequence, oid}
-use Rattle.rpki_der.specs.Leaves.{IsOidOf}
 use Rattle.rpki_der.specs.Reading.{Accepts, Refuses, SpellsNothing}
 use Rattle.rpki_der.specs.Values.{SpellsContents, SpellsLeaf}
 use Rattle.rpki_der.specs.Each.{SpellsEach, SpellsSome}
@@ -58,12 +57,13 @@ most_extensions = 64
 abbrev pub SpellsListed : List ExtensionParts → List ℕ → Type 0
 SpellsListed = SpellsLeaf extensions_tag true (SpellsLeaf sequence true (SpellsSome SpellsExtension))
 
--- s begins with a SEQUENCE whose contents begin with this identifier, and q follows the SEQUENCE
+-- s begins with a SEQUENCE whose contents begin with an OBJECT IDENTIFIER of these contents octets, which may not be
+-- those of an identifier, and q follows the SEQUENCE
 pub record IsIdentified (s identifier q : List ℕ) : Type 0 where
   pub contents : List ℕ
   pub behind : List ℕ
   pub around : Accepts (SpellsContents sequence true) s contents q
-  pub named : Accepts (SpellsLeaf oid false IsOidOf) contents identifier behind
+  pub named : Accepts (SpellsContents oid false) contents identifier behind
 
 -- the last octet of an identifier
 abbrev pub ending : List ℕ → ℕ

@@ -17,16 +17,17 @@ use rpki::repository::x509::ExtensionView;
 /// How many extensions are compared with one another at most: each with each, since nothing is kept of them.
 pub const MOST_EXTENSIONS: usize = 64;
 
-/// The identifier of the extension at the front; moves past it. What follows the identifier is not looked at.
-fn skim<'a>(cons: &mut Constructed<'a>) -> Option<Oid<&'a [u8]>>
-    ensures some { IfSome result (λ id. IsIdentified (left cons.old) id.0.now (left cons.new)) }
+/// The contents octets of the identifier of the extension at the front; moves past it. They are not validated, and what
+/// follows the identifier is not looked at.
+fn skim<'a>(cons: &mut Constructed<'a>) -> Option<&'a [u8]>
+    ensures some { IfSome result (λ id. IsIdentified (left cons.old) id.now (left cons.new)) }
     ensures none { IfNone result (Refuses SpellsExtension (left cons.old)) }
 {
     let mut after = *cons;
     match after.take_sequence() {
         Ok(contents) => {
             let mut rest = contents;
-            match rest.take_oid() {
+            match rest.take_primitive_if(Tag::OID) {
                 Ok(id) => {
                     *cons = after;
                     Some(id)
@@ -65,7 +66,7 @@ pub fn find_in<'a>(list: Constructed<'a>, id: Oid<&[u8]>) -> Option<(ExtensionVi
         let here = rest;
         match skim(&mut rest) {
             Some(found) => {
-                if found == id {
+                if found == id.0 {
                     return front_extension(here);
                 }
             }
@@ -93,7 +94,7 @@ fn end_differently(list: Constructed<'_>) -> bool
     'extensions: while !rest.is_empty() {
         match skim(&mut rest) {
             Some(id) => {
-                let last = usize::from(ending(id.0));
+                let last = usize::from(ending(id));
                 if seen[last] {
                     return false;
                 }
@@ -112,7 +113,7 @@ fn differ_in_pairs(list: Constructed<'_>) -> bool
     let mut rest = list;
     'extensions: while !rest.is_empty() {
         match skim(&mut rest) {
-            Some(first) => match find_in(rest, first) {
+            Some(first) => match find_in(rest, Oid(first)) {
                 Some(_) => return false,
                 None => {}
             },

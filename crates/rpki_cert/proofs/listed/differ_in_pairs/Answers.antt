@@ -1,6 +1,9 @@
 use Rattle.std.proofs.lemmas.Bool.{iff_false}
-use Rattle.rpki_cert.proofs.ListedLaws.{unique-on, unique-twice, unique-none, unique-end}
+use Rattle.rpki_cert.proofs.ListedLaws.{skim-shorter, unique-on, unique-twice, unique-none, unique-end}
 use Rattle.rpki_cert.proofs.listed.differ_in_pairs.Goals as goal
+
+pub extensions-smaller : goal.extensions-smaller
+extensions-smaller c = skim-shorter _ _ _ c.in-Some.ensures.some
 
 pub returns-in-Some-find_in : goal.returns-in-Some-find_in
 returns-in-Some-find_in c =

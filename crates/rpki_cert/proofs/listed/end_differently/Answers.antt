@@ -1,7 +1,10 @@
 use Rattle.std.proofs.Common.{◌∙◌, refl, arith}
 use Rattle.std.proofs.lemmas.Bool.{iff_false}
-use Rattle.rpki_cert.proofs.ListedLaws.{endings-all, endings-on, endings-end}
+use Rattle.rpki_cert.proofs.ListedLaws.{skim-shorter, endings-all, endings-on, endings-end}
 use Rattle.rpki_cert.proofs.listed.end_differently.Goals as goal
+
+pub extensions-smaller : goal.extensions-smaller
+extensions-smaller c = skim-shorter _ _ _ c.in-Some.ensures.some
 
 pub extensions-init : goal.extensions-init
 extensions-init c = endings-all _ _ refl

@@ -1,7 +1,10 @@
 use Rattle.std.proofs.Common.{◌∙◌, sym}
 use Rattle.std.proofs.lemmas.Bool.{iff_false}
-use Rattle.rpki_cert.proofs.ListedLaws.{seeks-on, seeks-front, seeks-not, seeks-none, seeks-end, seeks-place}
+use Rattle.rpki_cert.proofs.ListedLaws.{skim-shorter, seeks-on, seeks-front, seeks-not, seeks-none, seeks-end, seeks-place}
 use Rattle.rpki_cert.proofs.listed.find_in.Goals as goal
+
+pub extensions-smaller : goal.extensions-smaller
+extensions-smaller c = skim-shorter _ _ _ c.in-Some.ensures.some
 
 pub returns-then-eq-clause-some : goal.returns-then-eq-clause-some
 returns-then-eq-clause-some c =
