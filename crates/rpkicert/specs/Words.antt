@@ -8,9 +8,9 @@ abbrev pub Prints : Option (List ℕ) → Option (List ℕ) → List ℕ → ℕ
 Prints old new text wanted status =
     (Appends old new text × (status ≡ wanted)) ⊎ (AppendsCut old new text × (status ≡ 2))
 
+-- the same, and another stream stays as it was
+abbrev pub PrintsAlone : Option (List ℕ) → Option (List ℕ) → List ℕ → ℕ → ℕ → Type 0 → Type 0
+PrintsAlone old new text wanted status Stays = Prints old new text wanted status × Stays
+
 abbrev pub memory_text : List ℕ
 memory_text = codes "rpkicert: out of memory\n"
-
--- P; or there was no memory to read the words, which is said among the faults, and the status is 2
-abbrev pub OrMemory : Option (List ℕ) → Option (List ℕ) → Type 0 → ℕ → Type 0 → Type 0
-OrMemory old new Kept status P = P ⊎ (Prints old new memory_text 2 status × Kept)

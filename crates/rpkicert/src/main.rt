@@ -22,20 +22,23 @@ mod value;
 mod words;
 
 use crate::arguments::words_of;
-use crate::runs::{complain, run};
+use crate::runs::{complain, give_up, run};
 use crate::sources::Host;
 use std::env;
 use std::process::ExitCode;
 
 fn main(rt: HostRuntime) -> ExitCode {
     let status = match words_of(rt.alloc(), env::args(&rt)) {
-        Some(words) => run(
+        Some(words) => match run(
             rt.alloc(),
             words.as_slice(),
             &Host { rt: &rt },
             &mut rt.stdout(),
             &mut rt.stderr(),
-        ),
+        ) {
+            Ok(status) => status,
+            Err(_) => give_up(&mut rt.stderr()),
+        },
         None => complain(&mut rt.stderr()),
     };
     ExitCode::from(status)

@@ -1,11 +1,11 @@
 //! A run: words and files in, output and faults out.
 
-ghost use Rattle.std.specs.Prelude.{◌≡◌, Some, None};
-ghost use Rattle.rpkicert.specs.Request.{Asked, help, version, files, wanted_in};
-ghost use Rattle.rpkicert.specs.RequestView.{asked_of, rows_in, AskHelp, AskVersion, AskFiles, AskNothing};
+ghost use Rattle.std.specs.Prelude.{◌≡◌, Some, None, IfOk, IfErr};
+ghost use Rattle.rpkicert.specs.Request.{help, version, wanted_in};
+ghost use Rattle.rpkicert.specs.RequestView.{asked_of, rows_in, AskedIn, AskHelp, AskVersion, AskFiles, AskNothing};
 ghost use Rattle.rpkicert.specs.Shown.{Sees, IsRunOf, WritesBoth};
 ghost use Rattle.rpkicert.specs.ShownView.{seen_of};
-ghost use Rattle.rpkicert.specs.Words.{Prints, OrMemory};
+ghost use Rattle.rpkicert.specs.Words.{Prints, PrintsAlone};
 
 use crate::finding::find;
 use crate::request::{Request, is_given, matched};
@@ -100,14 +100,14 @@ fn answer<S: Sources, W: Write, F: Write>(
     out: &mut W,
     err: &mut F,
 ) -> u8
-    ensures help { wanted_in (rows_in matches.now) ≡ Some help
-        → Prints (W.contents out.old) (W.contents out.new) HELP.now 0 result × (err.new ≡ err.old) }
-    ensures version { wanted_in (rows_in matches.now) ≡ Some version
-        → Prints (W.contents out.old) (W.contents out.new) VERSION.now 0 result × (err.new ≡ err.old) }
-    ensures files { (a : Asked) → wanted_in (rows_in matches.now) ≡ Some (files a) → IsRunOf (S.holds sources.now)
-        (W.contents out.old) (W.contents out.new) (F.contents err.old) (F.contents err.new) result a }
-    ensures usage { wanted_in (rows_in matches.now) ≡ None
-        → Prints (F.contents err.old) (F.contents err.new) USAGE.now 2 result × (out.new ≡ out.old) }
+    ensures help { wanted_in (rows_in matches.now) ≡ Some help → PrintsAlone (W.contents out.old) (W.contents out.new)
+        HELP.now 0 result (err.new ≡ err.old) }
+    ensures version { wanted_in (rows_in matches.now) ≡ Some version → PrintsAlone (W.contents out.old)
+        (W.contents out.new) VERSION.now 0 result (err.new ≡ err.old) }
+    ensures files { AskedIn (rows_in matches.now) (IsRunOf (S.holds sources.now) (W.contents out.old)
+        (W.contents out.new) (F.contents err.old) (F.contents err.new) result) }
+    ensures usage { wanted_in (rows_in matches.now) ≡ None → PrintsAlone (F.contents err.old) (F.contents err.new)
+        USAGE.now 2 result (out.new ≡ out.old) }
 {
     if is_given(matches, "help") {
         return print(HELP, out, 0);
@@ -125,34 +125,38 @@ fn answer<S: Sources, W: Write, F: Write>(
 ///
 /// `--help` and `--version` print a text. Else each file that the words name is shown, in order: the certificate that
 /// it is by its fields, and a fault by a line among the faults; with `--check` a line for either to the output. Other
-/// words get the usage line among the faults; where there is no memory to read them, that is said there.
+/// words get the usage line among the faults.
 ///
 /// The status is 0 if all is well, 1 if a file is no certificate or violates the profile, 2 if one can't be read, for
-/// other words, if allocation fails, and if the output or the faults fail; of several the greatest.
+/// other words, if allocation fails, and if the output or the faults fail; of several the greatest. Returns `AllocError`
+/// if there is no memory to read the words; then nothing is written.
 pub fn run<S: Sources, W: Write, F: Write>(
     alloc: Global,
     words: &[String],
-    sources: &S,
+    files: &S,
     out: &mut W,
     err: &mut F,
-) -> u8
-    ensures help { AskHelp words.now
-        → OrMemory (F.contents err.old) (F.contents err.new) (out.new ≡ out.old) result
-        (Prints (W.contents out.old) (W.contents out.new) HELP.now 0 result × (err.new ≡ err.old)) }
-    ensures version { AskVersion words.now
-        → OrMemory (F.contents err.old) (F.contents err.new) (out.new ≡ out.old) result
-        (Prints (W.contents out.old) (W.contents out.new) VERSION.now 0 result × (err.new ≡ err.old)) }
-    ensures files { AskFiles words.now (λ a.
-        OrMemory (F.contents err.old) (F.contents err.new) (out.new ≡ out.old) result
-        (IsRunOf (S.holds sources.now) (W.contents out.old) (W.contents out.new) (F.contents err.old)
-        (F.contents err.new) result a)) }
-    ensures usage { AskNothing words.now
-        → OrMemory (F.contents err.old) (F.contents err.new) (out.new ≡ out.old) result
-        (Prints (F.contents err.old) (F.contents err.new) USAGE.now 2 result × (out.new ≡ out.old)) }
+) -> Result<u8, AllocError>
+    ensures help { AskHelp words.now → IfOk result (λ status. PrintsAlone (W.contents out.old) (W.contents out.new)
+        HELP.now 0 status (err.new ≡ err.old)) }
+    ensures version { AskVersion words.now → IfOk result (λ status. PrintsAlone (W.contents out.old)
+        (W.contents out.new) VERSION.now 0 status (err.new ≡ err.old)) }
+    ensures files { AskFiles words.now (λ a. IfOk result (λ n. IsRunOf (S.holds files.now) (W.contents out.old)
+        (W.contents out.new) (F.contents err.old) (F.contents err.new) n a)) }
+    ensures usage { AskNothing words.now → IfOk result (λ status. PrintsAlone (F.contents err.old) (F.contents err.new)
+        USAGE.now 2 status (out.new ≡ out.old)) }
+    ensures kept { IfErr result (λ _. (out.new ≡ out.old) × (err.new ≡ err.old)) }
 {
     match matched(alloc, words) {
-        Ok(Some(matches)) => answer(alloc, &matches, sources, out, err),
-        Ok(None) => complain(err),
-        Err(_) => print(OUT_OF_MEMORY, err, 2),
+        Ok(Some(matches)) => Ok(answer(alloc, &matches, files, out, err)),
+        Ok(None) => Ok(complain(err)),
+        Err(e) => Err(e),
     }
+}
+
+/// Writes to the faults that allocation failed, and returns the exit status 2.
+pub fn give_up<F: Write>(err: &mut F) -> u8
+    ensures { Prints (F.contents err.old) (F.contents err.new) OUT_OF_MEMORY.now 2 result }
+{
+    print(OUT_OF_MEMORY, err, 2)
 }
