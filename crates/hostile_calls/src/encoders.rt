@@ -1,6 +1,5 @@
 //! The encoders that are run over writers that fail.
 
-use crate::provider::Digests;
 use crate::refusal::{Failure, Refusal};
 use crate::report::Report;
 use crate::{readers, writers};
@@ -15,6 +14,7 @@ use rpki::der::{
 use rpki::oid;
 use rpki::repository::x509::{Name, Serial, SignedData, Time, Validity, encode_extension};
 use rpki::uri::{Https, Rsync};
+use rpki_digests::Digests;
 use std::alloc::Global;
 
 /// Writes one primitive value.

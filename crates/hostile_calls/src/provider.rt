@@ -1,46 +1,11 @@
-//! Providers of digests.
+//! A provider whose signatures are digests.
 
 ghost use Rattle.std.specs.Prelude.{◌≡◌, nat_eq};
 ghost use Rattle.std.specs.Cmp.Lexicographic.{pointwise};
 ghost use Rattle.sha2.specs.Sha256.{sha256};
 
 use rpki::crypto::Provider;
-use sha1::Sha1;
-use sha2::{Digest, Sha256};
-
-/// Computes digests by SHA-1 and SHA-256 (FIPS 180-4), and finds no signature good.
-#[derive(Clone, Copy)]
-pub struct Digests;
-
-impl Provider for Digests {
-    ghost use Rattle.std.specs.Prelude.{false};
-    ghost use Rattle.sha1.specs.Sha1.{sha1};
-    ghost use Rattle.sha2.specs.Sha256.{sha256};
-
-    ghost sha1_of = { λ _ octets. sha1 octets };
-
-    ghost sha256_of = { λ _ octets. sha256 octets };
-
-    ghost rsa_of = { λ _ _ _ _. false };
-
-    ghost ecdsa_of = { λ _ _ _ _. false };
-
-    fn sha1(&self, octets: &[u8]) -> [u8; 20] {
-        Sha1::digest(octets)
-    }
-
-    fn sha256(&self, octets: &[u8]) -> [u8; 32] {
-        Sha256::digest(octets)
-    }
-
-    fn rsa_check(&self, _bits: &[u8], _message: &[u8], _signature: &[u8]) -> bool {
-        false
-    }
-
-    fn ecdsa_check(&self, _bits: &[u8], _message: &[u8], _signature: &[u8]) -> bool {
-        false
-    }
-}
+use rpki_digests::Digests;
 
 /// Finds a signature good where it is the digest by SHA-256 of what is signed, whatever the key: tests make them so.
 #[derive(Clone, Copy)]
@@ -50,7 +15,7 @@ pub struct Stamps;
 fn is_stamp(message: &[u8], signature: &[u8]) -> bool
     ensures { result ≡ pointwise nat_eq signature.now (sha256 message.now) }
 {
-    let digest: [u8; 32] = Sha256::digest(message);
+    let digest = Digests.sha256(message);
     signature == digest.as_slice()
 }
 
@@ -69,11 +34,11 @@ impl Provider for Stamps {
     ghost ecdsa_of = { λ _ _ message signature. pointwise nat_eq signature (sha256 message) };
 
     fn sha1(&self, octets: &[u8]) -> [u8; 20] {
-        Sha1::digest(octets)
+        Digests.sha1(octets)
     }
 
     fn sha256(&self, octets: &[u8]) -> [u8; 32] {
-        Sha256::digest(octets)
+        Digests.sha256(octets)
     }
 
     fn rsa_check(&self, _bits: &[u8], message: &[u8], signature: &[u8]) -> bool {

@@ -1,7 +1,6 @@
 //! Calls on values that were read, and calls that read or make a whole value.
 
 use crate::made::{Made, Outcome, RpkiSignedData};
-use crate::provider::Digests;
 use crate::readers;
 use crate::refusal::{Failure, Refusal};
 use crate::report::Report;
@@ -9,6 +8,7 @@ use bytes::Bytes;
 use rpki::crypto::PublicKey;
 use rpki::der::{BitString, Captured, Constructed, Cursor, Sequence, Tag, Values};
 use rpki::repository::x509::{CertExtension, Name, SignedData};
+use rpki_digests::Digests;
 use std::alloc::Global;
 
 /// Captures two values, one after the other.

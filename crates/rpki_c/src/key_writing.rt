@@ -5,7 +5,6 @@ ghost use Rattle.rpki.specs.PublicKey.{SpellsKey};
 ghost use Rattle.rpki_c.specs.Key.{IsKeptKeyFault};
 ghost use Rattle.rpki_c.specs.MadeValues.{IsKeyWritten, IsRsaWritten, IsBitsWritten, IsNameWritten};
 
-use crate::digests::Digests;
 use crate::keys::key_status;
 use crate::status::{CONTENT, OUT_OF_MEMORY, TOO_LONG};
 use crate::stored::{store, store_if_short};
@@ -13,6 +12,7 @@ use bytes::Bytes;
 use rpki::crypto::PublicKey;
 use rpki::repository::x509::Name;
 use rpki_der::{Constructed, DecodeError, InvalidInteger};
+use rpki_digests::Digests;
 use std::alloc::Global;
 
 /// The most octets that the two numbers of an RSA key have.

@@ -7,12 +7,12 @@ ghost use Rattle.rpki.specs.KeyFormat.{SpellsFormat};
 ghost use Rattle.rpki_c.specs.Identifier.{IsOther};
 ghost use Rattle.rpki_c.specs.Key.{IsWholeKeyFault, IsOtherKey, IsKeyStatus, format_number, HasKey, IsKeyRead, HasIdentifier, IsIdentified};
 
-use crate::digests::Digests;
 use crate::identifiers::begins_with_identifier;
 use crate::place::Place;
 use crate::status::OTHER_ALGORITHM;
 use rpki::crypto::{PublicKeyFormat, PublicKeyView};
 use rpki_der::{Constructed, DecodeError};
+use rpki_digests::Digests;
 
 /// The parts of a public key.
 #[repr(C)]

@@ -10,7 +10,6 @@ mod base_64;
 mod certificate;
 mod certificate_extensions;
 mod certificate_inspection;
-mod digests;
 mod digits;
 mod extension_writing;
 mod extensions;

@@ -1,10 +1,12 @@
-//! Errors of decoding by their kinds, for tables.
+//! How readers end, with errors by their kinds, for tables.
 
 use rpki_der::DecodeError;
 
-/// The kind of an error, or `Nothing` where an optional reader returns None.
+/// How a reader ended: with a value, with None, or with an error of this kind.
 #[derive(Clone, Copy, Debug, PartialEq)]
-pub enum Kind {
+pub enum Outcome {
+    Read,
+    Absent,
     Truncated,
     BadTag,
     BadLength,
@@ -12,18 +14,34 @@ pub enum Kind {
     Content,
     Trailing,
     OutOfMemory,
-    Nothing,
 }
 
-/// The kind of this error.
-pub fn kind_of(error: &DecodeError) -> Kind {
+/// The outcome that is this error.
+pub fn refused(error: &DecodeError) -> Outcome {
     match error {
-        DecodeError::Truncated => Kind::Truncated,
-        DecodeError::BadTag => Kind::BadTag,
-        DecodeError::BadLength => Kind::BadLength,
-        DecodeError::Unexpected => Kind::Unexpected,
-        DecodeError::Content(_) => Kind::Content,
-        DecodeError::Trailing => Kind::Trailing,
-        DecodeError::OutOfMemory => Kind::OutOfMemory,
+        DecodeError::Truncated => Outcome::Truncated,
+        DecodeError::BadTag => Outcome::BadTag,
+        DecodeError::BadLength => Outcome::BadLength,
+        DecodeError::Unexpected => Outcome::Unexpected,
+        DecodeError::Content(_) => Outcome::Content,
+        DecodeError::Trailing => Outcome::Trailing,
+        DecodeError::OutOfMemory => Outcome::OutOfMemory,
+    }
+}
+
+/// The outcome of a reader that is not optional.
+pub fn outcome_of<T: Drop>(answer: Result<T, DecodeError>) -> Outcome {
+    match answer {
+        Ok(_) => Outcome::Read,
+        Err(e) => refused(&e),
+    }
+}
+
+/// The outcome of an optional reader.
+pub fn optional_outcome_of<T: Drop>(answer: Result<Option<T>, DecodeError>) -> Outcome {
+    match answer {
+        Ok(Some(_)) => Outcome::Read,
+        Ok(None) => Outcome::Absent,
+        Err(e) => refused(&e),
     }
 }

@@ -18,52 +18,8 @@ mod writers;
 
 use bytes::Bytes;
 use rpki::crypto::Provider;
-use rpki_der::{Captured, DecodeError, Values};
+use rpki_der::{Captured, Values};
 use std::alloc::{AllocError, Global};
-
-/// How a reader ended: with a value, with None, or with an error of this kind.
-#[derive(Clone, Copy, Debug, PartialEq)]
-enum Outcome {
-    Read,
-    Absent,
-    Truncated,
-    BadTag,
-    BadLength,
-    Unexpected,
-    Content,
-    Trailing,
-    OutOfMemory,
-}
-
-/// The outcome that is this error.
-fn refused(error: &DecodeError) -> Outcome {
-    match error {
-        DecodeError::Truncated => Outcome::Truncated,
-        DecodeError::BadTag => Outcome::BadTag,
-        DecodeError::BadLength => Outcome::BadLength,
-        DecodeError::Unexpected => Outcome::Unexpected,
-        DecodeError::Content(_) => Outcome::Content,
-        DecodeError::Trailing => Outcome::Trailing,
-        DecodeError::OutOfMemory => Outcome::OutOfMemory,
-    }
-}
-
-/// The outcome of a reader that is not optional.
-fn outcome_of<T: Drop>(answer: Result<T, DecodeError>) -> Outcome {
-    match answer {
-        Ok(_) => Outcome::Read,
-        Err(e) => refused(&e),
-    }
-}
-
-/// The outcome of an optional reader.
-fn optional_outcome_of<T: Drop>(answer: Result<Option<T>, DecodeError>) -> Outcome {
-    match answer {
-        Ok(Some(_)) => Outcome::Read,
-        Ok(None) => Outcome::Absent,
-        Err(e) => refused(&e),
-    }
-}
 
 /// The values that are written, where they fit.
 fn written<V: Values>(alloc: Global, values: &V) -> Result<Option<Bytes>, AllocError> {

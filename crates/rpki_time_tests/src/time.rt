@@ -13,7 +13,7 @@ mod values;
 use failing::FailsOnce;
 use jiff::SignedDuration;
 use rpki_der::{Captured, Constructed, ContentError, DecodeError, PrimitiveContent, Tag, Values};
-use rpki_der_tests::kinds::{Kind, kind_of};
+use rpki_der_tests::kinds::{Outcome, refused};
 use rpki_time::*;
 use std::alloc::{AllocError, Global};
 use std::io;
@@ -41,7 +41,7 @@ enum Found {
     Nothing,
     Malformed,
     TooLong,
-    Refused(Kind),
+    Refused(Outcome),
 }
 
 fn parts_of(time: Time) -> Parts {
@@ -79,7 +79,7 @@ fn refusal(e: &DecodeError) -> Found {
     if *e == DecodeError::Content(ContentError::from_static("serial number longer than 20 bytes")) {
         return Found::TooLong;
     }
-    Found::Refused(kind_of(e))
+    Found::Refused(refused(e))
 }
 
 fn read_serial(cursor: &mut Constructed<'_>) -> Found {
@@ -181,43 +181,43 @@ const READ: &[(&str, Reader, &[u8], (Found, usize))] = &[
         "21 octets of zeros",
         Reader::Serial,
         b"\x02\x15\0\0\0\0\0\0\0\0\0\0\0\0\0\0\0\0\0\0\0\0\0",
-        (Found::Refused(Kind::Content), 23),
+        (Found::Refused(Outcome::Content), 23),
     ),
     (
         "serial number without contents",
         Reader::Serial,
         b"\x02\0",
-        (Found::Refused(Kind::Content), 2),
+        (Found::Refused(Outcome::Content), 2),
     ),
     (
         "negative serial number",
         Reader::Serial,
         b"\x02\x01\x80",
-        (Found::Refused(Kind::Content), 3),
+        (Found::Refused(Outcome::Content), 3),
     ),
     (
         "serial number cut short",
         Reader::Serial,
         b"\x02\x03\x01",
-        (Found::Refused(Kind::Truncated), 3),
+        (Found::Refused(Outcome::Truncated), 3),
     ),
     (
         "constructed serial number",
         Reader::Serial,
         b"\x22\0",
-        (Found::Refused(Kind::Unexpected), 2),
+        (Found::Refused(Outcome::Unexpected), 2),
     ),
     (
         "serial number with a length in long form",
         Reader::Serial,
         b"\x02\x81\x01\x05",
-        (Found::Refused(Kind::BadLength), 4),
+        (Found::Refused(Outcome::BadLength), 4),
     ),
     (
         "no tag",
         Reader::Serial,
         b"\0\0",
-        (Found::Refused(Kind::BadTag), 2),
+        (Found::Refused(Outcome::BadTag), 2),
     ),
     (
         "UTC time 1950, and a NULL",
@@ -331,37 +331,37 @@ const READ: &[(&str, Reader, &[u8], (Found, usize))] = &[
         "NULL cut short",
         Reader::Time,
         b"\x05\x01",
-        (Found::Refused(Kind::Truncated), 2),
+        (Found::Refused(Outcome::Truncated), 2),
     ),
     (
         "UTC time cut short",
         Reader::Time,
         b"\x17\x0d500101",
-        (Found::Refused(Kind::Truncated), 8),
+        (Found::Refused(Outcome::Truncated), 8),
     ),
     (
         "constructed UTC time",
         Reader::Time,
         b"\x37\x05\0",
-        (Found::Refused(Kind::Unexpected), 3),
+        (Found::Refused(Outcome::Unexpected), 3),
     ),
     (
         "SEQUENCE for a time",
         Reader::Time,
         b"\x30\x7f",
-        (Found::Refused(Kind::Unexpected), 2),
+        (Found::Refused(Outcome::Unexpected), 2),
     ),
     (
         "constructed generalized time of the greatest length",
         Reader::Time,
         b"\x38\x84\xff\xff\xff\xff",
-        (Found::Refused(Kind::Unexpected), 6),
+        (Found::Refused(Outcome::Unexpected), 6),
     ),
     (
         "no time at the end",
         Reader::Time,
         b"",
-        (Found::Refused(Kind::Truncated), 0),
+        (Found::Refused(Outcome::Truncated), 0),
     ),
     (
         "optional UTC time",
@@ -404,25 +404,25 @@ const READ: &[(&str, Reader, &[u8], (Found, usize))] = &[
         "UTC time of one octet",
         Reader::OptionalTime,
         b"\x17",
-        (Found::Refused(Kind::Truncated), 1),
+        (Found::Refused(Outcome::Truncated), 1),
     ),
     (
         "generalized time cut short",
         Reader::OptionalTime,
         b"\x18\x0f",
-        (Found::Refused(Kind::Truncated), 2),
+        (Found::Refused(Outcome::Truncated), 2),
     ),
     (
         "constructed UTC time, optional",
         Reader::OptionalTime,
         b"\x37\0",
-        (Found::Refused(Kind::Unexpected), 2),
+        (Found::Refused(Outcome::Unexpected), 2),
     ),
     (
         "constructed generalized time, optional",
         Reader::OptionalTime,
         b"\x38\x05",
-        (Found::Refused(Kind::Unexpected), 2),
+        (Found::Refused(Outcome::Unexpected), 2),
     ),
     (
         "UTC time without contents",
@@ -443,19 +443,19 @@ const READ: &[(&str, Reader, &[u8], (Found, usize))] = &[
         "SET for a validity period",
         Reader::Period,
         b"\x31\0",
-        (Found::Refused(Kind::Unexpected), 2),
+        (Found::Refused(Outcome::Unexpected), 2),
     ),
     (
         "validity period with a length in long form",
         Reader::Period,
         b"\x30\x81\0",
-        (Found::Refused(Kind::BadLength), 3),
+        (Found::Refused(Outcome::BadLength), 3),
     ),
     (
         "one time alone",
         Reader::Period,
         b"\x30\x0f\x17\x0d200101000000Z",
-        (Found::Refused(Kind::Truncated), 17),
+        (Found::Refused(Outcome::Truncated), 17),
     ),
     (
         "second time malformed",
@@ -467,7 +467,7 @@ const READ: &[(&str, Reader, &[u8], (Found, usize))] = &[
         "three times",
         Reader::Period,
         b"\x30\x2d\x17\x0d200101000000Z\x17\x0d200101000000Z\x17\x0d200101000000Z",
-        (Found::Refused(Kind::Trailing), 47),
+        (Found::Refused(Outcome::Trailing), 47),
     ),
 ];
 
@@ -522,7 +522,7 @@ fn read_whole(reader: Reader, octets: &[u8]) -> Found {
 fn of_whole(found: Found, left: usize) -> Found {
     match found {
         Found::Serial(_) | Found::Time(_) | Found::Period(_, _) if left > 0 => Found::Refused(
-            Kind::Trailing,
+            Outcome::Trailing,
         ),
         _ => found,
     }

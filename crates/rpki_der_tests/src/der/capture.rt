@@ -1,6 +1,6 @@
 //! Octets that a reader reads, kept.
 
-use crate::kinds::{Kind, kind_of};
+use crate::kinds::{Outcome, refused};
 use rpki_der::*;
 use std::alloc::Global;
 
@@ -49,7 +49,7 @@ type Row = (
     &'static str,
     &'static [u8],
     Reader,
-    Result<(&'static [u8], usize), Kind>,
+    Result<(&'static [u8], usize), Outcome>,
     usize,
 );
 
@@ -73,14 +73,14 @@ const ROWS: &[Row] = &[
         "a second value of another tag",
         &[2, 1, 7, 4, 0],
         Reader::Numbers(2),
-        Err(Kind::Unexpected),
+        Err(Outcome::Unexpected),
         5,
     ),
     (
         "a header without its contents",
         &[4, 2, 7, 8],
         Reader::Header,
-        Err(Kind::Truncated),
+        Err(Outcome::Truncated),
         4,
     ),
     (
@@ -94,7 +94,7 @@ const ROWS: &[Row] = &[
         "more than there was",
         &[5, 0],
         Reader::Elsewhere,
-        Err(Kind::Trailing),
+        Err(Outcome::Trailing),
         2,
     ),
 ];
@@ -107,13 +107,13 @@ fn is_kept(
     alloc: Global,
     cursor: &mut Constructed<'_>,
     reader: Reader,
-    expected: Result<(&[u8], usize), Kind>,
+    expected: Result<(&[u8], usize), Outcome>,
 ) -> bool {
     match (cursor.capture(alloc, |cons| read(reader, cons)), expected) {
         (Ok(kept), Ok((octets, headers))) => {
             kept.as_slice() == octets && kept.headers().len() == headers
         }
-        (Err(e), Err(kind)) => kind_of(&e) == kind,
+        (Err(e), Err(outcome)) => refused(&e) == outcome,
         _ => false,
     }
 }

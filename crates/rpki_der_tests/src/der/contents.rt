@@ -1,39 +1,43 @@
 //! Bit strings, numbers, object identifiers, texts and errors.
 
-use crate::kinds::{Kind, kind_of};
+use crate::kinds::{Outcome, refused};
 use bytes::Bytes;
 use rpki_der::*;
 use std::alloc::{AllocError, Global};
 use std::test::Fail;
 
 /// The kind of the error that a call returned, if it did.
-fn answer<T: Drop>(outcome: Result<T, DecodeError>) -> Result<(), Kind> {
+fn answer<T: Drop>(outcome: Result<T, DecodeError>) -> Result<(), Outcome> {
     match outcome {
         Ok(_) => Ok(()),
-        Err(e) => Err(kind_of(&e)),
+        Err(e) => Err(refused(&e)),
     }
 }
 
 /// The unused bits and the octets of a bit string, or the kind of the error.
-const BITS: &[(&str, &[u8], Result<(u8, &[u8]), Kind>)] = &[
-    ("no count of unused bits", &[0x03, 0x00], Err(Kind::Content)),
+const BITS: &[(&str, &[u8], Result<(u8, &[u8]), Outcome>)] = &[
+    (
+        "no count of unused bits",
+        &[0x03, 0x00],
+        Err(Outcome::Content),
+    ),
     (
         "unused bits without an octet",
         &[0x03, 0x01, 0x01],
-        Err(Kind::Content),
+        Err(Outcome::Content),
     ),
     (
         "8 unused bits",
         &[0x03, 0x02, 0x08, 0x00],
-        Err(Kind::Content),
+        Err(Outcome::Content),
     ),
     (
         "unused bits that are not zero",
         &[0x03, 0x02, 0x02, 0xaa],
-        Err(Kind::Content),
+        Err(Outcome::Content),
     ),
-    ("constructed", &[0x23, 0x00], Err(Kind::Unexpected)),
-    ("cut short", &[0x03, 0x02, 0x00], Err(Kind::Truncated)),
+    ("constructed", &[0x23, 0x00], Err(Outcome::Unexpected)),
+    ("cut short", &[0x03, 0x02, 0x00], Err(Outcome::Truncated)),
     ("no bits", &[0x03, 0x01, 0x00], Ok((0, &[]))),
     ("7 bits", &[0x03, 0x02, 0x01, 0xaa], Ok((1, &[0xaa]))),
     (
@@ -46,7 +50,7 @@ const BITS: &[(&str, &[u8], Result<(u8, &[u8]), Kind>)] = &[
 fn bit_rows() -> &'static [(
     &'static str,
     &'static [u8],
-    Result<(u8, &'static [u8]), Kind>,
+    Result<(u8, &'static [u8]), Outcome>,
 )] {
     BITS
 }
@@ -56,14 +60,14 @@ fn taken(alloc: Global, cursor: &mut Constructed<'_>) -> Result<BitString, Decod
     cursor.take_bit_string(alloc)
 }
 
-fn is_bits(alloc: Global, octets: &'static [u8], expected: Result<(u8, &[u8]), Kind>) -> bool {
+fn is_bits(alloc: Global, octets: &'static [u8], expected: Result<(u8, &[u8]), Outcome>) -> bool {
     let source: Bytes = Bytes::from_static(octets);
     let mut cursor = Constructed::new(&source);
     match (taken(alloc, &mut cursor), expected) {
         (Ok(found), Ok((unused, octets))) => {
             found.unused() == unused && found.octet_slice() == octets && cursor.is_empty()
         }
-        (Err(e), Err(kind)) => kind_of(&e) == kind && cursor.rest() == octets,
+        (Err(e), Err(outcome)) => refused(&e) == outcome && cursor.rest() == octets,
         _ => false,
     }
 }
@@ -107,37 +111,37 @@ fn magnitudes(rt: HostRuntime) {
 /// Whether an identifier is valid and is 2.999.3, and what it gives to be read, skipped, and skipped if it is 2.999.3.
 type Identified = (
     (bool, bool),
-    Result<(), Kind>,
-    Result<(), Kind>,
-    Result<(), Kind>,
-    Result<(), Kind>,
+    Result<(), Outcome>,
+    Result<(), Outcome>,
+    Result<(), Outcome>,
+    Result<(), Outcome>,
 );
 
 /// The identifier 2.999.3.
 const EXAMPLE: ConstOid = Oid(&[0x88, 0x37, 0x03]);
 
-fn identifier_taken(octets: &'static [u8]) -> ((bool, bool), Result<(), Kind>) {
+fn identifier_taken(octets: &'static [u8]) -> ((bool, bool), Result<(), Outcome>) {
     let source: Bytes = Bytes::from_static(octets);
     let mut cursor = Constructed::new(&source);
     match Oid::take_from(&mut cursor) {
         Ok(found) => ((found.is_valid(), found == EXAMPLE), Ok(())),
-        Err(e) => ((false, false), Err(kind_of(&e))),
+        Err(e) => ((false, false), Err(refused(&e))),
     }
 }
 
-fn identifier_skipped(octets: &'static [u8]) -> Result<(), Kind> {
+fn identifier_skipped(octets: &'static [u8]) -> Result<(), Outcome> {
     let source: Bytes = Bytes::from_static(octets);
     let mut cursor = Constructed::new(&source);
     answer(Oid::skip_in(&mut cursor))
 }
 
-fn example_skipped(octets: &'static [u8]) -> Result<(), Kind> {
+fn example_skipped(octets: &'static [u8]) -> Result<(), Outcome> {
     let source: Bytes = Bytes::from_static(octets);
     let mut cursor = Constructed::new(&source);
     answer(EXAMPLE.skip_if(&mut cursor))
 }
 
-fn example_skipped_by_cursor(octets: &'static [u8]) -> Result<(), Kind> {
+fn example_skipped_by_cursor(octets: &'static [u8]) -> Result<(), Outcome> {
     let source: Bytes = Bytes::from_static(octets);
     let mut cursor = Constructed::new(&source);
     answer(cursor.skip_oid_if(EXAMPLE))
@@ -167,8 +171,8 @@ const IDENTIFIERS: &[(&str, &[u8], Identified)] = &[
             (true, false),
             Ok(()),
             Ok(()),
-            Err(Kind::Content),
-            Err(Kind::Content),
+            Err(Outcome::Content),
+            Err(Outcome::Content),
         ),
     ),
     (
@@ -176,10 +180,10 @@ const IDENTIFIERS: &[(&str, &[u8], Identified)] = &[
         &[0x06, 0x03, 0x88, 0x37, 0x83],
         (
             (false, false),
-            Err(Kind::Content),
-            Err(Kind::Content),
-            Err(Kind::Content),
-            Err(Kind::Content),
+            Err(Outcome::Content),
+            Err(Outcome::Content),
+            Err(Outcome::Content),
+            Err(Outcome::Content),
         ),
     ),
     (
@@ -187,10 +191,10 @@ const IDENTIFIERS: &[(&str, &[u8], Identified)] = &[
         &[0x05, 0x00],
         (
             (false, false),
-            Err(Kind::Unexpected),
-            Err(Kind::Unexpected),
-            Err(Kind::Unexpected),
-            Err(Kind::Unexpected),
+            Err(Outcome::Unexpected),
+            Err(Outcome::Unexpected),
+            Err(Outcome::Unexpected),
+            Err(Outcome::Unexpected),
         ),
     ),
     (
@@ -198,10 +202,10 @@ const IDENTIFIERS: &[(&str, &[u8], Identified)] = &[
         &[0x06, 0x03, 0x88],
         (
             (false, false),
-            Err(Kind::Truncated),
-            Err(Kind::Truncated),
-            Err(Kind::Truncated),
-            Err(Kind::Truncated),
+            Err(Outcome::Truncated),
+            Err(Outcome::Truncated),
+            Err(Outcome::Truncated),
+            Err(Outcome::Truncated),
         ),
     ),
 ];
@@ -295,7 +299,7 @@ fn is_printable(alloc: Global, octet: u8) -> Result<bool, AllocError> {
     let source = Bytes::from_vec(octets)?;
     Ok(match Constructed::new(&source).take_printable() {
         Ok(text) => text.as_str().as_bytes() == [octet].as_slice(),
-        Err(e) => kind_of(&e) != Kind::Content,
+        Err(e) => refused(&e) != Outcome::Content,
     })
 }
 

@@ -91,7 +91,7 @@ enum Sink {
 
 /// What is written: the octets, how many values and octets they are, and why the writer failed.
 #[derive(Drop)]
-struct Outcome {
+struct Writing {
     octets: Bytes,
     values: u64,
     len: u64,
@@ -103,7 +103,7 @@ fn written<V: Values>(
     alloc: Global,
     sink: Sink,
     values: &V,
-) -> Result<Option<Outcome>, AllocError> {
+) -> Result<Option<Writing>, AllocError> {
     if !values.fits() {
         return Ok(None);
     }
@@ -113,7 +113,7 @@ fn written<V: Values>(
             let found = Captured::from_values(alloc, values)?;
             let count = found.values() as u64;
             let octets = found.into_bytes();
-            Ok(Some(Outcome {
+            Ok(Some(Writing {
                 octets,
                 values: count,
                 len,
@@ -131,7 +131,7 @@ fn written<V: Values>(
                 Err(e) => Some(e.kind()),
             };
             let octets = Bytes::from_vec(out.held)?;
-            Ok(Some(Outcome {
+            Ok(Some(Writing {
                 octets,
                 values: values.count(),
                 len,
@@ -142,7 +142,7 @@ fn written<V: Values>(
 }
 
 /// Whether these octets were written, and so many values; or, by a writer that failed after so many octets, those.
-fn is_written(outcome: Option<Outcome>, sink: Sink, values: u64, expected: &[u8]) -> bool {
+fn is_written(outcome: Option<Writing>, sink: Sink, values: u64, expected: &[u8]) -> bool {
     let Some(found) = outcome else {
         return false;
     };
@@ -170,7 +170,7 @@ fn bits_written(
     sink: Sink,
     unused: u8,
     octets: &'static [u8],
-) -> Result<Option<Outcome>, AllocError> {
+) -> Result<Option<Writing>, AllocError> {
     match bits(unused, octets) {
         Some(found) => written(alloc, sink, &found.encode()),
         None => Ok(None),
@@ -182,7 +182,7 @@ fn borrowed_bits_written(
     sink: Sink,
     unused: u8,
     octets: &'static [u8],
-) -> Result<Option<Outcome>, AllocError> {
+) -> Result<Option<Writing>, AllocError> {
     match bits(unused, octets) {
         Some(found) => written(alloc, sink, &found.encode_ref()),
         None => Ok(None),
@@ -193,14 +193,14 @@ fn number_written(
     alloc: Global,
     sink: Sink,
     octets: &'static [u8],
-) -> Result<Option<Outcome>, AllocError> {
+) -> Result<Option<Writing>, AllocError> {
     match Unsigned::from_slice(octets) {
         Ok(found) => written(alloc, sink, &found.encode()),
         Err(_) => Ok(None),
     }
 }
 
-fn leaf_written(alloc: Global, sink: Sink, leaf: Leaf) -> Result<Option<Outcome>, AllocError> {
+fn leaf_written(alloc: Global, sink: Sink, leaf: Leaf) -> Result<Option<Writing>, AllocError> {
     match leaf {
         Leaf::Null => written(alloc, sink, &().encode()),
         Leaf::True => written(alloc, sink, &true.encode()),
@@ -221,7 +221,7 @@ fn composed_written(
     alloc: Global,
     sink: Sink,
     composed: Composed,
-) -> Result<Option<Outcome>, AllocError> {
+) -> Result<Option<Writing>, AllocError> {
     match composed {
         Composed::Sequence => written(
             alloc,

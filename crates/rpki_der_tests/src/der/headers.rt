@@ -1,6 +1,6 @@
 //! Headers and tags.
 
-use crate::kinds::{Kind, kind_of};
+use crate::kinds::{Outcome, refused};
 use bytes::Bytes;
 use rpki_der::*;
 
@@ -8,7 +8,7 @@ use rpki_der::*;
 type Parts = (Class, u32, bool, u32);
 
 /// The parts of a header, or the kind of the error.
-type FoundHeader = Result<Parts, Kind>;
+type FoundHeader = Result<Parts, Outcome>;
 
 fn parts_of(header: Header) -> Parts {
     (
@@ -26,7 +26,7 @@ fn header_of(octets: &'static [u8]) -> (FoundHeader, usize, u64) {
     let mut steps = Steps::new();
     let found = match cursor.take_header(&mut steps) {
         Ok(header) => Ok(parts_of(header)),
-        Err(e) => Err(kind_of(&e)),
+        Err(e) => Err(refused(&e)),
     };
     (found, cursor.rest().len(), steps.count())
 }
@@ -35,81 +35,86 @@ const HEADERS: &[(&str, &[u8], FoundHeader, usize)] = &[
     (
         "length below 128 in the long form",
         &[0x30, 0x81, 0x15],
-        Err(Kind::BadLength),
+        Err(Outcome::BadLength),
         3,
     ),
-    ("indefinite length", &[0x30, 0x80], Err(Kind::BadLength), 2),
+    (
+        "indefinite length",
+        &[0x30, 0x80],
+        Err(Outcome::BadLength),
+        2,
+    ),
     (
         "length with a first octet of zero",
         &[0x04, 0x82, 0x00, 0x80],
-        Err(Kind::BadLength),
+        Err(Outcome::BadLength),
         4,
     ),
     (
         "length in five octets",
         &[0x04, 0x85],
-        Err(Kind::BadLength),
+        Err(Outcome::BadLength),
         2,
     ),
     (
         "length in four octets, the first zero",
         &[0x30, 0x84, 0x00],
-        Err(Kind::BadLength),
+        Err(Outcome::BadLength),
         3,
     ),
     (
         "length in two octets, the first zero",
         &[0x30, 0x82, 0x00, 0x02],
-        Err(Kind::BadLength),
+        Err(Outcome::BadLength),
         4,
     ),
     (
         "length 127 in the long form",
         &[0x30, 0x81, 0x7f],
-        Err(Kind::BadLength),
+        Err(Outcome::BadLength),
         3,
     ),
     (
         "end-of-contents octets",
         &[0x00, 0x00],
-        Err(Kind::BadTag),
+        Err(Outcome::BadTag),
         2,
     ),
     (
         "constructed end-of-contents octets",
         &[0x20, 0x00],
-        Err(Kind::BadTag),
+        Err(Outcome::BadTag),
         2,
     ),
     (
         "tag number 30 in the long form",
         &[0x1f, 0x1e, 0x00],
-        Err(Kind::BadTag),
+        Err(Outcome::BadTag),
         3,
     ),
     (
         "tag number with a first octet of zero",
         &[0x1f, 0x80, 0x01],
-        Err(Kind::BadTag),
+        Err(Outcome::BadTag),
         3,
     ),
     (
         "tag number in five octets",
         &[0x1f, 0x81, 0x82, 0x83, 0x84],
-        Err(Kind::BadTag),
+        Err(Outcome::BadTag),
         5,
     ),
-    ("nothing", &[], Err(Kind::Truncated), 0),
+    ("nothing", &[], Err(Outcome::Truncated), 0),
     (
         "first octet of a long tag number",
         &[0x1f],
-        Err(Kind::Truncated),
+        Err(Outcome::Truncated),
         1,
     ),
     (
         "length octets cut short",
         &[0x04, 0x81],
-        Err(Kind::Truncated),
+        Err(Outcome::Truncated),
         2,
     ),
     (
@@ -178,7 +183,7 @@ fn headers(rt: HostRuntime) {
 fn header_of_slice(octets: &'static [u8]) -> (FoundHeader, usize) {
     match read_header(octets) {
         Ok((header, size)) => (Ok(parts_of(header)), octets.len() - size),
-        Err(e) => (Err(kind_of(&e)), octets.len()),
+        Err(e) => (Err(refused(&e)), octets.len()),
     }
 }
 

@@ -1,6 +1,6 @@
 //! Readers of one value.
 
-use crate::kinds::{Kind, kind_of};
+use crate::kinds::{Outcome, refused};
 use bytes::Bytes;
 use rpki_der::*;
 
@@ -25,34 +25,34 @@ enum Reader {
 }
 
 /// The octets of the contents, or the kind of the error.
-fn contents_of<'a>(outcome: Result<Content<'a>, DecodeError>) -> Result<&'a [u8], Kind> {
+fn contents_of<'a>(outcome: Result<Content<'a>, DecodeError>) -> Result<&'a [u8], Outcome> {
     match outcome {
         Ok(Content::Primitive(octets)) => Ok(octets),
         Ok(Content::Constructed(inside)) => Ok(inside.rest()),
-        Err(e) => Err(kind_of(&e)),
+        Err(e) => Err(refused(&e)),
     }
 }
 
-fn inside_of<'a>(outcome: Result<Constructed<'a>, DecodeError>) -> Result<&'a [u8], Kind> {
+fn inside_of<'a>(outcome: Result<Constructed<'a>, DecodeError>) -> Result<&'a [u8], Outcome> {
     match outcome {
         Ok(inside) => Ok(inside.rest()),
-        Err(e) => Err(kind_of(&e)),
+        Err(e) => Err(refused(&e)),
     }
 }
 
-fn octets_of<'a>(outcome: Result<&'a [u8], DecodeError>) -> Result<&'a [u8], Kind> {
+fn octets_of<'a>(outcome: Result<&'a [u8], DecodeError>) -> Result<&'a [u8], Outcome> {
     match outcome {
         Ok(octets) => Ok(octets),
-        Err(e) => Err(kind_of(&e)),
+        Err(e) => Err(refused(&e)),
     }
 }
 
-/// The value of an optional reader, or `Nothing` for None.
-fn there<T: Drop>(outcome: Result<Option<T>, DecodeError>) -> Result<T, Kind> {
+/// The value of an optional reader, or `Absent` for None.
+fn there<T: Drop>(outcome: Result<Option<T>, DecodeError>) -> Result<T, Outcome> {
     match outcome {
         Ok(Some(found)) => Ok(found),
-        Ok(None) => Err(Kind::Nothing),
-        Err(e) => Err(kind_of(&e)),
+        Ok(None) => Err(Outcome::Absent),
+        Err(e) => Err(refused(&e)),
     }
 }
 
@@ -94,27 +94,27 @@ fn read_leaf<'a>(reader: Reader, cursor: &mut Constructed<'a>) -> Result<&'a [u8
 }
 
 /// The octets of the value that the optional reader returned, or the kind of its error.
-fn read_optional<'a>(reader: Reader, cursor: &mut Constructed<'a>) -> Result<&'a [u8], Kind> {
+fn read_optional<'a>(reader: Reader, cursor: &mut Constructed<'a>) -> Result<&'a [u8], Outcome> {
     match reader {
         Reader::OptionalNull => there(cursor.take_opt_null()).map(|_| b"".as_slice()),
         Reader::OptionalBoolean => there(cursor.take_opt_bool()).map(word_of),
         Reader::OptionalTagged => match there(cursor.take_opt_value_if(Tag::CTX_6)) {
             Ok(content) => contents_of(Ok(content)),
-            Err(kind) => Err(kind),
+            Err(outcome) => Err(outcome),
         },
         Reader::OptionalSequence => match there(cursor.take_opt_sequence()) {
             Ok(inside) => Ok(inside.rest()),
-            Err(kind) => Err(kind),
+            Err(outcome) => Err(outcome),
         },
         _ => match there(cursor.take_opt_set()) {
             Ok(inside) => Ok(inside.rest()),
-            Err(kind) => Err(kind),
+            Err(outcome) => Err(outcome),
         },
     }
 }
 
 /// The octets of the value that the reader returned, or the kind of its error.
-fn read<'a>(reader: Reader, cursor: &mut Constructed<'a>) -> Result<&'a [u8], Kind> {
+fn read<'a>(reader: Reader, cursor: &mut Constructed<'a>) -> Result<&'a [u8], Outcome> {
     match reader {
         Reader::Null
         | Reader::Boolean
@@ -134,7 +134,7 @@ fn read<'a>(reader: Reader, cursor: &mut Constructed<'a>) -> Result<&'a [u8], Ki
     }
 }
 
-const LEAVES: &[(&str, Reader, &[u8], Result<&[u8], Kind>, usize)] = &[
+const LEAVES: &[(&str, Reader, &[u8], Result<&[u8], Outcome>, usize)] = &[
     (
         "a NULL, and an octet",
         Reader::Null,
@@ -146,21 +146,21 @@ const LEAVES: &[(&str, Reader, &[u8], Result<&[u8], Kind>, usize)] = &[
         "a NULL with contents",
         Reader::Null,
         &[0x05, 0x01, 0x00],
-        Err(Kind::Content),
+        Err(Outcome::Content),
         3,
     ),
     (
         "constructed NULL",
         Reader::Null,
         &[0x25, 0x00],
-        Err(Kind::Unexpected),
+        Err(Outcome::Unexpected),
         2,
     ),
     (
         "NULL cut short",
         Reader::Null,
         &[0x05, 0x01],
-        Err(Kind::Truncated),
+        Err(Outcome::Truncated),
         2,
     ),
     ("true", Reader::Boolean, &[0x01, 0x01, 0xff], Ok(b"true"), 0),
@@ -175,35 +175,35 @@ const LEAVES: &[(&str, Reader, &[u8], Result<&[u8], Kind>, usize)] = &[
         "true that is not FF",
         Reader::Boolean,
         &[0x01, 0x01, 0x01],
-        Err(Kind::Content),
+        Err(Outcome::Content),
         3,
     ),
     (
         "BOOLEAN without contents",
         Reader::Boolean,
         &[0x01, 0x00],
-        Err(Kind::Content),
+        Err(Outcome::Content),
         2,
     ),
     (
         "INTEGER without contents",
         Reader::Unsigned,
         &[0x02, 0x00],
-        Err(Kind::Content),
+        Err(Outcome::Content),
         2,
     ),
     (
         "negative INTEGER",
         Reader::Unsigned,
         &[0x02, 0x01, 0x80],
-        Err(Kind::Content),
+        Err(Outcome::Content),
         3,
     ),
     (
         "INTEGER with a needless zero",
         Reader::Unsigned,
         &[0x02, 0x02, 0x00, 0x7f],
-        Err(Kind::Content),
+        Err(Outcome::Content),
         4,
     ),
     (
@@ -231,28 +231,28 @@ const LEAVES: &[(&str, Reader, &[u8], Result<&[u8], Kind>, usize)] = &[
         "OBJECT IDENTIFIER without contents",
         Reader::Identifier,
         &[0x06, 0x00],
-        Err(Kind::Content),
+        Err(Outcome::Content),
         2,
     ),
     (
         "OBJECT IDENTIFIER cut inside an arc",
         Reader::Identifier,
         &[0x06, 0x01, 0x80],
-        Err(Kind::Content),
+        Err(Outcome::Content),
         3,
     ),
     (
         "arc with a first octet of 80",
         Reader::Identifier,
         &[0x06, 0x02, 0x80, 0x01],
-        Err(Kind::Content),
+        Err(Outcome::Content),
         4,
     ),
     (
         "later arc with a first octet of 80",
         Reader::Identifier,
         &[0x06, 0x03, 0x2a, 0x80, 0x01],
-        Err(Kind::Content),
+        Err(Outcome::Content),
         5,
     ),
     (
@@ -273,7 +273,7 @@ const LEAVES: &[(&str, Reader, &[u8], Result<&[u8], Kind>, usize)] = &[
         "constructed OCTET STRING",
         Reader::Octets,
         &[0x24, 0x00],
-        Err(Kind::Unexpected),
+        Err(Outcome::Unexpected),
         2,
     ),
     (
@@ -287,7 +287,7 @@ const LEAVES: &[(&str, Reader, &[u8], Result<&[u8], Kind>, usize)] = &[
         "PrintableString with an asterisk",
         Reader::Printable,
         &[0x13, 0x01, 0x2a],
-        Err(Kind::Content),
+        Err(Outcome::Content),
         3,
     ),
     (
@@ -301,7 +301,7 @@ const LEAVES: &[(&str, Reader, &[u8], Result<&[u8], Kind>, usize)] = &[
         "UTF8String cut inside a character",
         Reader::Utf8,
         &[0x0c, 0x01, 0xc3],
-        Err(Kind::Content),
+        Err(Outcome::Content),
         3,
     ),
     (
@@ -322,7 +322,7 @@ const LEAVES: &[(&str, Reader, &[u8], Result<&[u8], Kind>, usize)] = &[
         "value of another tag",
         Reader::Tagged,
         &[0x16, 0x05],
-        Err(Kind::Unexpected),
+        Err(Outcome::Unexpected),
         2,
     ),
     (
@@ -336,14 +336,14 @@ const LEAVES: &[(&str, Reader, &[u8], Result<&[u8], Kind>, usize)] = &[
         "SET for a SEQUENCE",
         Reader::Sequence,
         &[0x31, 0x7f],
-        Err(Kind::Unexpected),
+        Err(Outcome::Unexpected),
         2,
     ),
     (
         "primitive SEQUENCE",
         Reader::Sequence,
         &[0x10, 0x00],
-        Err(Kind::Unexpected),
+        Err(Outcome::Unexpected),
         2,
     ),
     ("SET", Reader::Set, &[0x31, 0x01, 0x00], Ok(&[0x00]), 0),
@@ -351,35 +351,35 @@ const LEAVES: &[(&str, Reader, &[u8], Result<&[u8], Kind>, usize)] = &[
         "SEQUENCE with a bad length for a SET",
         Reader::Set,
         &[0x30, 0x81, 0x00],
-        Err(Kind::BadLength),
+        Err(Outcome::BadLength),
         3,
     ),
     (
         "no NULL at the end",
         Reader::OptionalNull,
         &[],
-        Err(Kind::Nothing),
+        Err(Outcome::Absent),
         0,
     ),
     (
         "no NULL but a SEQUENCE",
         Reader::OptionalNull,
         &[0x30, 0x00],
-        Err(Kind::Nothing),
+        Err(Outcome::Absent),
         2,
     ),
     (
         "NULL of one octet",
         Reader::OptionalNull,
         &[0x05],
-        Err(Kind::Truncated),
+        Err(Outcome::Truncated),
         1,
     ),
     (
         "optional NULL that is constructed",
         Reader::OptionalNull,
         &[0x25, 0x00],
-        Err(Kind::Unexpected),
+        Err(Outcome::Unexpected),
         2,
     ),
     (
@@ -393,42 +393,42 @@ const LEAVES: &[(&str, Reader, &[u8], Result<&[u8], Kind>, usize)] = &[
         "no NULL but half a tag",
         Reader::OptionalNull,
         &[0x1f],
-        Err(Kind::Nothing),
+        Err(Outcome::Absent),
         1,
     ),
     (
         "no BOOLEAN at the end",
         Reader::OptionalBoolean,
         &[],
-        Err(Kind::Nothing),
+        Err(Outcome::Absent),
         0,
     ),
     (
         "no BOOLEAN but an OCTET STRING",
         Reader::OptionalBoolean,
         &[0x04, 0x00],
-        Err(Kind::Nothing),
+        Err(Outcome::Absent),
         2,
     ),
     (
         "BOOLEAN of one octet",
         Reader::OptionalBoolean,
         &[0x01],
-        Err(Kind::Truncated),
+        Err(Outcome::Truncated),
         1,
     ),
     (
         "optional BOOLEAN that is constructed",
         Reader::OptionalBoolean,
         &[0x21, 0x00],
-        Err(Kind::Unexpected),
+        Err(Outcome::Unexpected),
         2,
     ),
     (
         "optional true that is not FF",
         Reader::OptionalBoolean,
         &[0x01, 0x01, 0x01],
-        Err(Kind::Content),
+        Err(Outcome::Content),
         3,
     ),
     (
@@ -456,21 +456,21 @@ const LEAVES: &[(&str, Reader, &[u8], Result<&[u8], Kind>, usize)] = &[
         "optional value cut short",
         Reader::OptionalTagged,
         &[0x86, 0x01],
-        Err(Kind::Truncated),
+        Err(Outcome::Truncated),
         2,
     ),
     (
         "no value of the tag",
         Reader::OptionalTagged,
         &[0x06, 0x00],
-        Err(Kind::Nothing),
+        Err(Outcome::Absent),
         2,
     ),
     (
         "no value at the end",
         Reader::OptionalTagged,
         &[],
-        Err(Kind::Nothing),
+        Err(Outcome::Absent),
         0,
     ),
     (
@@ -484,21 +484,21 @@ const LEAVES: &[(&str, Reader, &[u8], Result<&[u8], Kind>, usize)] = &[
         "optional SEQUENCE that is primitive",
         Reader::OptionalSequence,
         &[0x10, 0x00],
-        Err(Kind::Unexpected),
+        Err(Outcome::Unexpected),
         2,
     ),
     (
         "no SEQUENCE but a SET",
         Reader::OptionalSequence,
         &[0x31, 0x00],
-        Err(Kind::Nothing),
+        Err(Outcome::Absent),
         2,
     ),
     (
         "no SEQUENCE but half a tag",
         Reader::OptionalSequence,
         &[0x1f],
-        Err(Kind::Nothing),
+        Err(Outcome::Absent),
         1,
     ),
     (
@@ -512,21 +512,21 @@ const LEAVES: &[(&str, Reader, &[u8], Result<&[u8], Kind>, usize)] = &[
         "optional SET with a bad length",
         Reader::OptionalSet,
         &[0x31, 0x81, 0x00],
-        Err(Kind::BadLength),
+        Err(Outcome::BadLength),
         3,
     ),
     (
         "optional SET cut short and primitive",
         Reader::OptionalSet,
         &[0x11],
-        Err(Kind::Truncated),
+        Err(Outcome::Truncated),
         1,
     ),
     (
         "no SET but a SEQUENCE",
         Reader::OptionalSet,
         &[0x30, 0x00],
-        Err(Kind::Nothing),
+        Err(Outcome::Absent),
         2,
     ),
 ];
@@ -535,7 +535,7 @@ fn leaf_rows() -> &'static [(
     &'static str,
     Reader,
     &'static [u8],
-    Result<&'static [u8], Kind>,
+    Result<&'static [u8], Outcome>,
     usize,
 )] {
     LEAVES
@@ -545,7 +545,7 @@ fn leaf_rows() -> &'static [(
 fn is_read(
     reader: Reader,
     octets: &'static [u8],
-    expected: Result<&[u8], Kind>,
+    expected: Result<&[u8], Outcome>,
     left: usize,
 ) -> bool {
     let source: Bytes = Bytes::from_static(octets);
@@ -578,11 +578,11 @@ fn is_value(octets: &'static [u8], tag: Tag, constructed: bool, contents: &[u8])
 }
 
 /// The kind of the error of a value of any tag, if it has one.
-fn any_value(octets: &'static [u8]) -> Result<(), Kind> {
+fn any_value(octets: &'static [u8]) -> Result<(), Outcome> {
     let source: Bytes = Bytes::from_static(octets);
     match Constructed::new(&source).take_value() {
         Ok(_) => Ok(()),
-        Err(e) => Err(kind_of(&e)),
+        Err(e) => Err(refused(&e)),
     }
 }
 
@@ -635,7 +635,7 @@ fn values_of_any_tag(rt: HostRuntime) {
 
 #[test]
 fn refusals_of_any_tag(rt: HostRuntime) {
-    assert!(rt; any_value(&[0x30, 0x02, 0x05]) == Err(Kind::Truncated));
-    assert!(rt; any_value(&[0x00, 0x00]) == Err(Kind::BadTag));
-    assert!(rt; any_value(&[0x30, 0x80]) == Err(Kind::BadLength));
+    assert!(rt; any_value(&[0x30, 0x02, 0x05]) == Err(Outcome::Truncated));
+    assert!(rt; any_value(&[0x00, 0x00]) == Err(Outcome::BadTag));
+    assert!(rt; any_value(&[0x30, 0x80]) == Err(Outcome::BadLength));
 }

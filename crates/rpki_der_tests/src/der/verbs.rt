@@ -1,16 +1,16 @@
 //! Small numbers, BOOLEAN DEFAULT FALSE, IA5String and lists.
 
-use crate::kinds::{Kind, kind_of};
+use crate::kinds::{Outcome, refused};
 use bytes::Bytes;
 use rpki_der::*;
 use std::alloc::{AllocError, Global};
 use std::test::Fail;
 
 /// What was read, or the kind of the error.
-fn kinds<T: Drop>(outcome: Result<T, DecodeError>) -> Result<T, Kind> {
+fn kinds<T: Drop>(outcome: Result<T, DecodeError>) -> Result<T, Outcome> {
     match outcome {
         Ok(found) => Ok(found),
-        Err(e) => Err(kind_of(&e)),
+        Err(e) => Err(refused(&e)),
     }
 }
 
@@ -18,9 +18,9 @@ fn kinds<T: Drop>(outcome: Result<T, DecodeError>) -> Result<T, Kind> {
 type Number = (
     &'static str,
     &'static [u8],
-    Result<u8, Kind>,
+    Result<u8, Outcome>,
     usize,
-    Result<u64, Kind>,
+    Result<u64, Outcome>,
     usize,
 );
 
@@ -31,11 +31,11 @@ const NUMBERS: &[Number] = &[
     ("127", &[2, 1, 0x7f], Ok(127), 0, Ok(127), 0),
     ("128", &[2, 2, 0, 0x80], Ok(128), 0, Ok(128), 0),
     ("255", &[2, 2, 0, 0xff], Ok(255), 0, Ok(255), 0),
-    ("256", &[2, 2, 1, 0], Err(Kind::Content), 4, Ok(256), 0),
+    ("256", &[2, 2, 1, 0], Err(Outcome::Content), 4, Ok(256), 0),
     (
         "2^63 - 1",
         &[2, 8, 0x7f, 0xff, 0xff, 0xff, 0xff, 0xff, 0xff, 0xff],
-        Err(Kind::Content),
+        Err(Outcome::Content),
         10,
         Ok(9_223_372_036_854_775_807),
         0,
@@ -43,7 +43,7 @@ const NUMBERS: &[Number] = &[
     (
         "0x0102030405060708",
         &[2, 8, 1, 2, 3, 4, 5, 6, 7, 8],
-        Err(Kind::Content),
+        Err(Outcome::Content),
         10,
         Ok(72_623_859_790_382_856),
         0,
@@ -51,7 +51,7 @@ const NUMBERS: &[Number] = &[
     (
         "2^64 - 1",
         &[2, 9, 0, 0xff, 0xff, 0xff, 0xff, 0xff, 0xff, 0xff, 0xff],
-        Err(Kind::Content),
+        Err(Outcome::Content),
         11,
         Ok(18_446_744_073_709_551_615),
         0,
@@ -59,65 +59,65 @@ const NUMBERS: &[Number] = &[
     (
         "2^64",
         &[2, 9, 1, 0, 0, 0, 0, 0, 0, 0, 0],
-        Err(Kind::Content),
+        Err(Outcome::Content),
         11,
-        Err(Kind::Content),
+        Err(Outcome::Content),
         11,
     ),
     (
         "minus one",
         &[2, 1, 0xff],
-        Err(Kind::Content),
+        Err(Outcome::Content),
         3,
-        Err(Kind::Content),
+        Err(Outcome::Content),
         3,
     ),
     (
         "a needless zero",
         &[2, 2, 0, 0x7f],
-        Err(Kind::Content),
+        Err(Outcome::Content),
         4,
-        Err(Kind::Content),
+        Err(Outcome::Content),
         4,
     ),
     (
         "no contents",
         &[2, 0],
-        Err(Kind::Content),
+        Err(Outcome::Content),
         2,
-        Err(Kind::Content),
+        Err(Outcome::Content),
         2,
     ),
     (
         "a BOOLEAN",
         &[1, 1, 0],
-        Err(Kind::Unexpected),
+        Err(Outcome::Unexpected),
         3,
-        Err(Kind::Unexpected),
+        Err(Outcome::Unexpected),
         3,
     ),
     (
         "constructed",
         &[0x22, 1, 0],
-        Err(Kind::Unexpected),
+        Err(Outcome::Unexpected),
         3,
-        Err(Kind::Unexpected),
+        Err(Outcome::Unexpected),
         3,
     ),
     (
         "cut short",
         &[2, 2, 0],
-        Err(Kind::Truncated),
+        Err(Outcome::Truncated),
         3,
-        Err(Kind::Truncated),
+        Err(Outcome::Truncated),
         3,
     ),
     (
         "the indefinite form",
         &[2, 0x80, 0, 0],
-        Err(Kind::BadLength),
+        Err(Outcome::BadLength),
         4,
-        Err(Kind::BadLength),
+        Err(Outcome::BadLength),
         4,
     ),
 ];
@@ -126,13 +126,13 @@ fn number_rows() -> &'static [Number] {
     NUMBERS
 }
 
-fn small(octets: &'static [u8]) -> (Result<u8, Kind>, usize) {
+fn small(octets: &'static [u8]) -> (Result<u8, Outcome>, usize) {
     let mut cursor = Constructed::from_slice(octets);
     let found = kinds(cursor.take_u8());
     (found, cursor.rest().len())
 }
 
-fn large(octets: &'static [u8]) -> (Result<u64, Kind>, usize) {
+fn large(octets: &'static [u8]) -> (Result<u64, Outcome>, usize) {
     let mut cursor = Constructed::from_slice(octets);
     let found = kinds(cursor.take_u64());
     (found, cursor.rest().len())
@@ -147,24 +147,24 @@ fn numbers_below_a_bound(rt: HostRuntime) {
 }
 
 /// The octets, what a reader of BOOLEAN DEFAULT FALSE returns, and how many octets it leaves.
-type Default = (&'static str, &'static [u8], Result<bool, Kind>, usize);
+type Default = (&'static str, &'static [u8], Result<bool, Outcome>, usize);
 
 const DEFAULTS: &[Default] = &[
     ("nothing", &[], Ok(false), 0),
     ("another value", &[4, 1, 0xff], Ok(false), 3),
     ("TRUE", &[1, 1, 0xff], Ok(true), 0),
     ("TRUE, and an octet", &[1, 1, 0xff, 4], Ok(true), 1),
-    ("FALSE, written", &[1, 1, 0], Err(Kind::Content), 3),
-    ("TRUE as 01", &[1, 1, 1], Err(Kind::Content), 3),
-    ("two octets", &[1, 2, 0xff, 0xff], Err(Kind::Content), 4),
-    ("no contents", &[1, 0], Err(Kind::Content), 2),
-    ("constructed", &[0x21, 1, 0xff], Err(Kind::Unexpected), 3),
-    ("no length", &[1], Err(Kind::Truncated), 1),
-    ("cut short", &[1, 1], Err(Kind::Truncated), 2),
+    ("FALSE, written", &[1, 1, 0], Err(Outcome::Content), 3),
+    ("TRUE as 01", &[1, 1, 1], Err(Outcome::Content), 3),
+    ("two octets", &[1, 2, 0xff, 0xff], Err(Outcome::Content), 4),
+    ("no contents", &[1, 0], Err(Outcome::Content), 2),
+    ("constructed", &[0x21, 1, 0xff], Err(Outcome::Unexpected), 3),
+    ("no length", &[1], Err(Outcome::Truncated), 1),
+    ("cut short", &[1, 1], Err(Outcome::Truncated), 2),
     (
         "a long length",
         &[1, 0x81, 1, 0xff],
-        Err(Kind::BadLength),
+        Err(Outcome::BadLength),
         4,
     ),
     ("no tag", &[0, 1, 0xff], Ok(false), 3),
@@ -174,7 +174,7 @@ fn default_rows() -> &'static [Default] {
     DEFAULTS
 }
 
-fn defaulted(octets: &'static [u8]) -> (Result<bool, Kind>, usize) {
+fn defaulted(octets: &'static [u8]) -> (Result<bool, Outcome>, usize) {
     let mut cursor = Constructed::from_slice(octets);
     let found = kinds(cursor.take_bool_default_false());
     (found, cursor.rest().len())
@@ -191,7 +191,7 @@ fn the_default_is_never_written(rt: HostRuntime) {
 type Text = (
     &'static str,
     &'static [u8],
-    Result<&'static [u8], Kind>,
+    Result<&'static [u8], Outcome>,
     usize,
 );
 
@@ -204,31 +204,36 @@ const TEXTS: &[Text] = &[
         1,
     ),
     ("00 and 7F", &[0x16, 2, 0, 0x7f], Ok(&[0, 0x7f]), 0),
-    ("80", &[0x16, 1, 0x80], Err(Kind::Content), 3),
-    ("UTF-8", &[0x16, 2, 0xc3, 0xa9], Err(Kind::Content), 4),
-    ("a UTF8String", &[0x0c, 1, 0x61], Err(Kind::Unexpected), 3),
-    ("constructed", &[0x36, 1, 0x61], Err(Kind::Unexpected), 3),
-    ("cut short", &[0x16, 2, 0x61], Err(Kind::Truncated), 3),
+    ("80", &[0x16, 1, 0x80], Err(Outcome::Content), 3),
+    ("UTF-8", &[0x16, 2, 0xc3, 0xa9], Err(Outcome::Content), 4),
+    (
+        "a UTF8String",
+        &[0x0c, 1, 0x61],
+        Err(Outcome::Unexpected),
+        3,
+    ),
+    ("constructed", &[0x36, 1, 0x61], Err(Outcome::Unexpected), 3),
+    ("cut short", &[0x16, 2, 0x61], Err(Outcome::Truncated), 3),
 ];
 
 fn text_rows() -> &'static [Text] {
     TEXTS
 }
 
-fn text_taken(octets: &'static [u8]) -> (Result<&'static [u8], Kind>, usize) {
+fn text_taken(octets: &'static [u8]) -> (Result<&'static [u8], Outcome>, usize) {
     let mut cursor = Constructed::from_slice(octets);
     let found = match cursor.take_ia5() {
         Ok(text) => Ok(text.as_str().as_bytes()),
-        Err(e) => Err(kind_of(&e)),
+        Err(e) => Err(refused(&e)),
     };
     (found, cursor.rest().len())
 }
 
-fn contents_taken(octets: &'static [u8]) -> (Result<&'static [u8], Kind>, usize) {
+fn contents_taken(octets: &'static [u8]) -> (Result<&'static [u8], Outcome>, usize) {
     let mut cursor = Constructed::from_slice(octets);
     let found = match take_ia5_contents(&mut cursor) {
         Ok(contents) => Ok(contents.rest()),
-        Err(e) => Err(kind_of(&e)),
+        Err(e) => Err(refused(&e)),
     };
     (found, cursor.rest().len())
 }
@@ -245,7 +250,7 @@ fn characters_of_ascii(rt: HostRuntime) {
 type Numbers = (
     &'static str,
     &'static [u8],
-    Result<&'static [u8], Kind>,
+    Result<&'static [u8], Outcome>,
     usize,
 );
 
@@ -261,14 +266,14 @@ const LISTS: &[Numbers] = &[
     (
         "a second of another tag",
         &[2, 1, 1, 4, 0],
-        Err(Kind::Unexpected),
+        Err(Outcome::Unexpected),
         5,
     ),
-    ("a first too large", &[2, 2, 1, 0], Err(Kind::Content), 4),
+    ("a first too large", &[2, 2, 1, 0], Err(Outcome::Content), 4),
     (
         "a last cut short",
         &[2, 1, 1, 2, 1],
-        Err(Kind::Truncated),
+        Err(Outcome::Truncated),
         5,
     ),
 ];
@@ -285,13 +290,13 @@ fn listed(alloc: Global, cursor: &mut Constructed<'_>) -> Result<Vec<u8>, Decode
 fn is_list(
     alloc: Global,
     octets: &'static [u8],
-    expected: Result<&[u8], Kind>,
+    expected: Result<&[u8], Outcome>,
     left: usize,
 ) -> bool {
     let mut cursor = Constructed::from_slice(octets);
     let same = match (listed(alloc, &mut cursor), expected) {
         (Ok(numbers), Ok(list)) => numbers.as_slice() == list,
-        (Err(e), Err(kind)) => kind_of(&e) == kind,
+        (Err(e), Err(outcome)) => refused(&e) == outcome,
         _ => false,
     };
     same && cursor.rest().len() == left
@@ -305,7 +310,7 @@ fn lists_keep_their_order(rt: HostRuntime) {
 }
 
 /// How many values are read by a reader that reads nothing, and how many octets are left.
-fn unmoved(alloc: Global, octets: &'static [u8]) -> (Result<usize, Kind>, usize) {
+fn unmoved(alloc: Global, octets: &'static [u8]) -> (Result<usize, Outcome>, usize) {
     let mut cursor = Constructed::from_slice(octets);
     let found: Result<Vec<bool>, DecodeError> = cursor.take_each(
         alloc,
@@ -313,7 +318,7 @@ fn unmoved(alloc: Global, octets: &'static [u8]) -> (Result<usize, Kind>, usize)
     );
     let count = match found {
         Ok(values) => Ok(values.len()),
-        Err(e) => Err(kind_of(&e)),
+        Err(e) => Err(refused(&e)),
     };
     (count, cursor.rest().len())
 }
@@ -323,8 +328,8 @@ fn a_reader_that_reads_nothing_ends(rt: HostRuntime) {
     let alloc = rt.alloc();
     assert!(rt; unmoved(alloc, &[]) == (Ok(0), 0));
     assert!(rt; unmoved(alloc, &[1, 1, 0xff]) == (Ok(1), 0));
-    assert!(rt; unmoved(alloc, &[5, 0]) == (Err(Kind::Trailing), 2));
-    assert!(rt; unmoved(alloc, &[1, 1, 0xff, 5, 0]) == (Err(Kind::Trailing), 5));
+    assert!(rt; unmoved(alloc, &[5, 0]) == (Err(Outcome::Trailing), 2));
+    assert!(rt; unmoved(alloc, &[1, 1, 0xff, 5, 0]) == (Err(Outcome::Trailing), 5));
 }
 
 /// The octets of so many TRUEs.

@@ -1,6 +1,6 @@
 //! Algorithm identifiers.
 
-use super::{Outcome, optional_outcome_of, outcome_of, refused, written};
+use super::written;
 use crate::tests::{Always, DIGEST_OF_ABC};
 use bytes::Bytes;
 use rpki::crypto::{
@@ -8,6 +8,7 @@ use rpki::crypto::{
     SignatureAlgorithm, SigningAlgorithm, sha1_digest,
 };
 use rpki_der::{Constructed, ContentError, DecodeError};
+use rpki_der_tests::kinds::{Outcome, optional_outcome_of, outcome_of, refused};
 use std::alloc::{AllocError, Global};
 use std::test::Fail;
 

@@ -1,9 +1,9 @@
 //! Extensions that are read.
 
-use super::{Outcome, optional_outcome_of, outcome_of};
 use bytes::Bytes;
 use rpki::repository::x509::CertExtension;
 use rpki_der::{Captured, Constructed, DecodeError, Values};
+use rpki_der_tests::kinds::{Outcome, optional_outcome_of, outcome_of};
 use std::alloc::{AllocError, Global};
 use std::test::Fail;
 

@@ -1,13 +1,14 @@
 //! Key identifiers.
 
 use super::keys::{KEY_OF_ABC, decoded};
-use super::{Always, DIGEST_OF_ABC, Outcome, optional_outcome_of, refused, written};
+use super::{Always, DIGEST_OF_ABC, written};
 use bytes::Bytes;
 use rpki::crypto::{
     KeyIdentifier, KeyIdentifierSliceError, ParseKeyIdentifierError, PublicKey,
     SignatureVerificationError,
 };
 use rpki_der::{Constructed, Content, ContentError, DecodeError, PrimitiveContent};
+use rpki_der_tests::kinds::{Outcome, optional_outcome_of, refused};
 use std::alloc::{AllocError, Global};
 use std::test::Fail;
 

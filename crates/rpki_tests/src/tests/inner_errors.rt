@@ -2,11 +2,11 @@
 //! `Trailing` where all parts could, and more follows them. Each row is that rule read by hand.
 
 use super::keys::decoded;
-use super::{Outcome, outcome_of, refused};
 use bytes::Bytes;
 use rpki::crypto::{PublicKey, RpkiSignatureAlgorithm};
 use rpki::repository::x509::{Name, SignedData};
 use rpki_der::{Constructed, DecodeError};
+use rpki_der_tests::kinds::{Outcome, outcome_of, refused};
 use rpki_time::Validity;
 use std::alloc::Global;
 

@@ -1,10 +1,11 @@
 //! Public keys and names of subjects.
 
-use super::{Always, Outcome, outcome_of, refused, written};
+use super::{Always, written};
 use bytes::Bytes;
 use rpki::crypto::{PublicKey, PublicKeyFormat};
 use rpki::repository::x509::Name;
 use rpki_der::{Constructed, ContentError, DecodeError, InvalidInteger, Values};
+use rpki_der_tests::kinds::{Outcome, outcome_of, refused};
 use std::alloc::{AllocError, Global};
 use std::test::Fail;
 

@@ -1,10 +1,11 @@
 //! Names, and their inspections.
 
-use super::{Outcome, outcome_of, written};
+use super::written;
 use bytes::Bytes;
 use rpki::repository::error::InspectionError;
 use rpki::repository::x509::*;
 use rpki_der::{Constructed, ContentError, DecodeError};
+use rpki_der_tests::kinds::{Outcome, outcome_of};
 use std::alloc::{AllocError, Global};
 use std::test::Fail;
 

@@ -1,10 +1,11 @@
 //! Signatures, and signed data of the RPKI.
 
-use super::{Outcome, outcome_of, written};
+use super::written;
 use bytes::Bytes;
 use rpki::crypto::{RpkiSignature, RpkiSignatureAlgorithm, Signature, SignatureAlgorithm};
 use rpki::repository::x509::SignedData;
 use rpki_der::{Constructed, DecodeError};
+use rpki_der_tests::kinds::{Outcome, outcome_of};
 use std::alloc::{AllocError, Global};
 use std::test::Fail;
 

@@ -2,7 +2,7 @@
 
 use bytes::Bytes;
 use rpki_der::{Captured, Constructed, PrimitiveContent, Tag, Values};
-use rpki_der_tests::kinds::{Kind, kind_of};
+use rpki_der_tests::kinds::{Outcome, refused};
 use rpki_text::uri::{Error, Https, Rsync};
 use std::alloc::Global;
 
@@ -92,9 +92,9 @@ fn general_names(rt: HostRuntime) {
 type Name = (
     &'static str,
     &'static [u8],
-    Result<&'static str, Kind>,
+    Result<&'static str, Outcome>,
     usize,
-    Result<&'static str, Kind>,
+    Result<&'static str, Outcome>,
     usize,
 );
 
@@ -104,13 +104,13 @@ const READ: &[Name] = &[
         b"\x86\x14rSync://hOst/module/\x05",
         Ok("rSync://hOst/module/"),
         1,
-        Err(Kind::Content),
+        Err(Outcome::Content),
         23,
     ),
     (
         "an https URI",
         b"\x86\x18hTtps://eXample.com/some",
-        Err(Kind::Content),
+        Err(Outcome::Content),
         26,
         Ok("hTtps://eXample.com/some"),
         0,
@@ -118,49 +118,49 @@ const READ: &[Name] = &[
     (
         "an http URI",
         b"\x86\x08http://a",
-        Err(Kind::Content),
+        Err(Outcome::Content),
         10,
-        Err(Kind::Content),
+        Err(Outcome::Content),
         10,
     ),
     (
         "a DNS name",
         b"\x82\x08https://",
-        Err(Kind::Unexpected),
+        Err(Outcome::Unexpected),
         10,
-        Err(Kind::Unexpected),
+        Err(Outcome::Unexpected),
         10,
     ),
     (
         "an IA5String",
         b"\x16\x08https://",
-        Err(Kind::Unexpected),
+        Err(Outcome::Unexpected),
         10,
-        Err(Kind::Unexpected),
+        Err(Outcome::Unexpected),
         10,
     ),
     (
         "constructed",
         b"\xa6\x08https://",
-        Err(Kind::Unexpected),
+        Err(Outcome::Unexpected),
         10,
-        Err(Kind::Unexpected),
+        Err(Outcome::Unexpected),
         10,
     ),
     (
         "cut short",
         b"\x86\x09https://",
-        Err(Kind::Truncated),
+        Err(Outcome::Truncated),
         10,
-        Err(Kind::Truncated),
+        Err(Outcome::Truncated),
         10,
     ),
     (
         "nothing",
         b"",
-        Err(Kind::Truncated),
+        Err(Outcome::Truncated),
         0,
-        Err(Kind::Truncated),
+        Err(Outcome::Truncated),
         0,
     ),
 ];
@@ -173,12 +173,12 @@ fn read_rows() -> &'static [Name] {
 fn is_rsync(
     alloc: Global,
     mut cursor: Constructed<'_>,
-    text: Result<&'static str, Kind>,
+    text: Result<&'static str, Outcome>,
     left: usize,
 ) -> bool {
     let same = match (Rsync::take_general_name(alloc, &mut cursor), text) {
         (Ok(uri), Ok(text)) => uri.as_slice() == text.as_bytes(),
-        (Err(e), Err(kind)) => kind_of(&e) == kind,
+        (Err(e), Err(outcome)) => refused(&e) == outcome,
         _ => false,
     };
     same && cursor.rest().len() == left
@@ -187,12 +187,12 @@ fn is_rsync(
 fn is_https(
     alloc: Global,
     mut cursor: Constructed<'_>,
-    text: Result<&'static str, Kind>,
+    text: Result<&'static str, Outcome>,
     left: usize,
 ) -> bool {
     let same = match (Https::take_general_name(alloc, &mut cursor), text) {
         (Ok(uri), Ok(text)) => uri.as_slice() == text.as_bytes(),
-        (Err(e), Err(kind)) => kind_of(&e) == kind,
+        (Err(e), Err(outcome)) => refused(&e) == outcome,
         _ => false,
     };
     same && cursor.rest().len() == left
@@ -223,10 +223,10 @@ fn general_names_are_read(rt: HostRuntime) {
 }
 
 /// The contents of a value of context tag 6, and how many octets are left.
-fn contents_of(alloc: Global, mut cursor: Constructed<'_>) -> (Result<Bytes, Kind>, usize) {
+fn contents_of(alloc: Global, mut cursor: Constructed<'_>) -> (Result<Bytes, Outcome>, usize) {
     let found = match cursor.take_primitive_bytes_if(alloc, Tag::CTX_6) {
         Ok(bytes) => Ok(bytes),
-        Err(e) => Err(kind_of(&e)),
+        Err(e) => Err(refused(&e)),
     };
     (found, cursor.rest().len())
 }
