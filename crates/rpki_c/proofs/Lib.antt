@@ -8,7 +8,8 @@
 --   NameStatusLaws, ElseLaws.
 -- What is made on a condition: MadeLaws. Hexadecimal digits: HexTextLaws.
 -- Where octets go wrong: FaultLaws. The index, in the middle of its writing: FillingLaws.
--- Parts of parsed URIs, by their places: RsyncPlacesLaws, HttpsPlacesLaws. Parts of certificates: CertificateLaws.
+-- Parts of parsed URIs, by their places: RsyncPlacesLaws, HttpsPlacesLaws. Parts of certificates: CertificateLaws; that
+--   one is held to a profile: InspectionLaws.
 
 mod SuffixLaws
 mod PartLaws

@@ -1,9 +1,9 @@
 -- What clauses see of a request.
-use Rattle.std.specs.Prelude.{◌≡◌, List, String, Some, None, map, string_bytes}
+use Rattle.std.specs.Prelude.{◌≡◌, ℕ, List, String, Option, Some, None, Result, IfOk, map, string_bytes}
 use Rattle.clap.specs.Words.{Row, found_of, rows_of}
 use Rattle.clap.specs.declared.parser.matches.ArgMatches.{ArgMatches}
 use Rattle.rpkicert.specs.declared.request.Request.{Request}
-use Rattle.rpkicert.specs.Request.{Asked, asked, help, version, files, wanted_in, wanted_of}
+use Rattle.rpkicert.specs.Request.{Asked, asked, Wanted, help, version, files, wanted_in, wanted_of}
 
 abbrev pub asked_of : Request → Asked
 asked_of r = asked r.form r.profile (map (λ file. file.now) r.files.now)
@@ -20,13 +20,17 @@ AskHelp words = wanted_of (map string_bytes words) ≡ Some help
 abbrev pub AskVersion : {Z : Type 0} → List (String Z) → Type 0
 AskVersion words = wanted_of (map string_bytes words) ≡ Some version
 
--- what is given asks for files: P of what is asked
-abbrev pub AskedIn : List Row → (Asked → Type 0) → Type 0
-AskedIn rows P = (a : Asked) → wanted_in rows ≡ Some (files a) → P a
+-- what was matched asks for this
+abbrev pub wanted_by : ArgMatches → Option Wanted
+wanted_by m = wanted_in (rows_in m)
 
--- what they ask for of files has P
-abbrev pub AskFiles : {Z : Type 0} → List (String Z) → (Asked → Type 0) → Type 0
-AskFiles words P = (a : Asked) → wanted_of (map string_bytes words) ≡ Some (files a) → P a
+-- it asks for files: P of what is asked
+abbrev pub AskedIn : ArgMatches → (Asked → Type 0) → Type 0
+AskedIn m P = (a : Asked) → wanted_by m ≡ Some (files a) → P a
+
+-- the words ask for files, and there is an exit status: P of it and of what is asked
+abbrev pub AskRun : {Z E : Type 0} → List (String Z) → Result ℕ E → (ℕ → Asked → Type 0) → Type 0
+AskRun words r P = (a : Asked) → wanted_of (map string_bytes words) ≡ Some (files a) → IfOk r (λ status. P status a)
 
 -- they ask for nothing
 abbrev pub AskNothing : {Z : Type 0} → List (String Z) → Type 0

@@ -1,8 +1,8 @@
 //! A run: words and files in, output and faults out.
 
 ghost use Rattle.std.specs.Prelude.{◌≡◌, Some, None, IfOk, IfErr};
-ghost use Rattle.rpkicert.specs.Request.{help, version, wanted_in};
-ghost use Rattle.rpkicert.specs.RequestView.{asked_of, rows_in, AskedIn, AskHelp, AskVersion, AskFiles, AskNothing};
+ghost use Rattle.rpkicert.specs.Request.{help, version};
+ghost use Rattle.rpkicert.specs.RequestView.{asked_of, wanted_by, AskedIn, AskHelp, AskVersion, AskRun, AskNothing};
 ghost use Rattle.rpkicert.specs.Shown.{Sees, IsRunOf, WritesBoth};
 ghost use Rattle.rpkicert.specs.ShownView.{seen_of};
 ghost use Rattle.rpkicert.specs.Words.{Prints, PrintsAlone};
@@ -96,17 +96,17 @@ pub fn complain<F: Write>(err: &mut F) -> u8
 fn answer<S: Sources, W: Write, F: Write>(
     alloc: Global,
     matches: &ArgMatches<'_>,
-    sources: &S,
+    files: &S,
     out: &mut W,
     err: &mut F,
 ) -> u8
-    ensures help { wanted_in (rows_in matches.now) ≡ Some help → PrintsAlone (W.contents out.old) (W.contents out.new)
+    ensures help { wanted_by matches.now ≡ Some help → PrintsAlone (W.contents out.old) (W.contents out.new)
         HELP.now 0 result (err.new ≡ err.old) }
-    ensures version { wanted_in (rows_in matches.now) ≡ Some version → PrintsAlone (W.contents out.old)
+    ensures version { wanted_by matches.now ≡ Some version → PrintsAlone (W.contents out.old)
         (W.contents out.new) VERSION.now 0 result (err.new ≡ err.old) }
-    ensures files { AskedIn (rows_in matches.now) (IsRunOf (S.holds sources.now) (W.contents out.old)
-        (W.contents out.new) (F.contents err.old) (F.contents err.new) result) }
-    ensures usage { wanted_in (rows_in matches.now) ≡ None → PrintsAlone (F.contents err.old) (F.contents err.new)
+    ensures files { AskedIn matches.now (IsRunOf (S.holds files.now) (W.contents out.old) (W.contents out.new)
+        (F.contents err.old) (F.contents err.new) result) }
+    ensures usage { wanted_by matches.now ≡ None → PrintsAlone (F.contents err.old) (F.contents err.new)
         USAGE.now 2 result (out.new ≡ out.old) }
 {
     if is_given(matches, "help") {
@@ -116,7 +116,7 @@ fn answer<S: Sources, W: Write, F: Write>(
         return print(VERSION, out, 0);
     }
     match Request::of(matches) {
-        Some(request) => show_each(alloc, &request, sources, out, err),
+        Some(request) => show_each(alloc, &request, files, out, err),
         None => complain(err),
     }
 }
@@ -137,14 +137,14 @@ pub fn run<S: Sources, W: Write, F: Write>(
     out: &mut W,
     err: &mut F,
 ) -> Result<u8, AllocError>
-    ensures help { AskHelp words.now → IfOk result (λ status. PrintsAlone (W.contents out.old) (W.contents out.new)
-        HELP.now 0 status (err.new ≡ err.old)) }
-    ensures version { AskVersion words.now → IfOk result (λ status. PrintsAlone (W.contents out.old)
-        (W.contents out.new) VERSION.now 0 status (err.new ≡ err.old)) }
-    ensures files { AskFiles words.now (λ a. IfOk result (λ n. IsRunOf (S.holds files.now) (W.contents out.old)
-        (W.contents out.new) (F.contents err.old) (F.contents err.new) n a)) }
-    ensures usage { AskNothing words.now → IfOk result (λ status. PrintsAlone (F.contents err.old) (F.contents err.new)
-        USAGE.now 2 status (out.new ≡ out.old)) }
+    ensures help { AskHelp words.now → IfOk result (λ n. PrintsAlone (W.contents out.old) (W.contents out.new)
+        HELP.now 0 n (err.new ≡ err.old)) }
+    ensures version { AskVersion words.now → IfOk result (λ n. PrintsAlone (W.contents out.old) (W.contents out.new)
+        VERSION.now 0 n (err.new ≡ err.old)) }
+    ensures files { AskRun words.now result (IsRunOf (S.holds files.now) (W.contents out.old) (W.contents out.new)
+        (F.contents err.old) (F.contents err.new)) }
+    ensures usage { AskNothing words.now → IfOk result (λ n. PrintsAlone (F.contents err.old) (F.contents err.new)
+        USAGE.now 2 n (out.new ≡ out.old)) }
     ensures kept { IfErr result (λ _. (out.new ≡ out.old) × (err.new ≡ err.old)) }
 {
     match matched(alloc, words) {
