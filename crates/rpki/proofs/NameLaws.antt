@@ -137,9 +137,9 @@ attribute-identified s a r h = record { front = h.front; parts = h.parts; spelle
 pub identified-value : (c m : List ℕ) (o : List ℕ) → Accepts (SpellsLeaf oid false IsOidOf) c o m → (w : Attribute) → IsAttribute w c → IsValue m
 identified-value c m o a w h = subst (λ (v : Attribute). IsValue v.value) ((identified c m o a).1 w h.identified) h.one
 
--- ---- a name is one value
+-- ---- values, one after another, and a name, which is one value
 
-each-values : {V : Type 0} (G : V → List ℕ → Type 0) → ((v : V) (p : List ℕ) → G v p → IsValue p) → (vs : List V) (p : List ℕ) → SpellsEach G vs p → IsValueList p
+pub each-values : {V : Type 0} (G : V → List ℕ → Type 0) → ((v : V) (p : List ℕ) → G v p → IsValue p) → (vs : List V) (p : List ℕ) → SpellsEach G vs p → IsValueList p
 each-values G one [] p h = (0, rw h no_values)
 each-values G one (v ∷ vs) p h =
     let first : IsValue h.1.front = one v h.1.front h.1.spelled in

@@ -161,6 +161,7 @@ impl<'a> Constructed<'a> {
     ///
     /// The errors are those of a header; then `Unexpected` for another tag or form; then `Truncated`; then `Content`
     /// for contents that are not those of a bit string.
+    #[inline(always)]
     pub fn take_bits(&mut self) -> Result<BitSlice<'a>, DecodeError>
         ensures { ReadsLeaf (λ b. b) bit_string IsBits (left self.old) (left self.new) result }
     {

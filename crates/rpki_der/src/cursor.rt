@@ -139,6 +139,7 @@ impl<'a> Constructed<'a> {
     }
 
     /// Returns Ok if nothing is left, else `Trailing`: the last step of a reader of whole octets, or of whole contents.
+    #[inline(always)]
     pub fn finish(self) -> Result<(), DecodeError>
         ensures { MatchResult result (λ _. left self.entry ≡ [])
             (λ e. (e ≡ DecodeError.Trailing) × (left self.entry ≢ [])) }
@@ -210,6 +211,7 @@ impl<'a> Constructed<'a> {
     }
 
     /// Whether what is left begins with the identifier octets of this tag, in either form.
+    #[inline(always)]
     pub fn has_tag(&self, tag: Tag) -> bool
         ensures { IsTrue result ↔ HasTag tag (left self.now) }
     {

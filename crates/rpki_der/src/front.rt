@@ -38,7 +38,7 @@ pub fn read_header(octets: &[u8]) -> Result<(Header, usize), DecodeError>
 ///
 /// The errors are those of [Constructed::walk](crate::Constructed::walk), and `Truncated` if there are no octets.
 /// Returns `OutOfMemory` only if a constructed value begins the octets.
-#[inline(always)]
+#[inline(never)]
 pub fn walk_octets(alloc: Global, octets: &[u8], steps: &mut Steps) -> Result<usize, DecodeError>
     requires room { steps.old + length octets.now < 2 ^ 64 }
     ensures within { IfOk result (λ n. n ≤ length octets.now) }
@@ -55,7 +55,11 @@ pub fn walk_octets(alloc: Global, octets: &[u8], steps: &mut Steps) -> Result<us
     if octets.is_empty() {
         return Err(DecodeError::Truncated);
     }
-    walk_value(alloc, octets, 0, false, &mut Vec::new(alloc), steps)
+    // a variable of its own is kept in a register
+    let mut own = steps.copied();
+    let size = walk_value(alloc, octets, 0, false, &mut Vec::new(alloc), &mut own);
+    *steps = own;
+    size
 }
 
 /// How many octets the value at the front takes, and its index: an entry for each header, at every depth, in order of

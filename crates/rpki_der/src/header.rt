@@ -224,6 +224,7 @@ pub(crate) fn short_header(s: &[u8]) -> Option<(Header, &[u8])>
 }
 
 /// Whether the slice begins with the identifier octets of this tag, in either form.
+#[inline(always)]
 pub(crate) fn begins_with(s: &[u8], tag: Tag) -> bool
     ensures { IsTrue result ↔ HasTag tag s.now }
 {

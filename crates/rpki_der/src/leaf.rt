@@ -31,6 +31,7 @@ impl<'a> Constructed<'a> {
     ///
     /// The errors are those of a header; then `Unexpected` for another tag or form; then `Truncated`; then `Content`
     /// for contents that are not empty.
+    #[inline(always)]
     pub fn take_null(&mut self) -> Result<(), DecodeError>
         ensures { ReadsLeaf (λ _. tt) null IsNull (left self.old) (left self.new) result }
     {
@@ -45,6 +46,7 @@ impl<'a> Constructed<'a> {
 
     /// As [Constructed::take_null] where what is left begins with the identifier octets of a NULL, in either form; else
     /// None.
+    #[inline(always)]
     pub fn take_opt_null(&mut self) -> Result<Option<()>, DecodeError>
         ensures { ReadsLeafWhere (λ _. tt) null IsNull (left self.old) (left self.new) result }
     {
@@ -59,6 +61,7 @@ impl<'a> Constructed<'a> {
     ///
     /// The errors are those of a header; then `Unexpected` for another tag or form; then `Truncated`; then `Content`
     /// for other contents.
+    #[inline(always)]
     pub fn take_bool(&mut self) -> Result<bool, DecodeError>
         ensures { ReadsLeaf (λ b. b) boolean IsBoolean (left self.old) (left self.new) result }
     {
@@ -75,6 +78,7 @@ impl<'a> Constructed<'a> {
 
     /// As [Constructed::take_bool] where what is left begins with the identifier octets of a BOOLEAN, in either form;
     /// else None.
+    #[inline(always)]
     pub fn take_opt_bool(&mut self) -> Result<Option<bool>, DecodeError>
         ensures { ReadsLeafWhere (λ b. b) boolean IsBoolean (left self.old) (left self.new) result }
     {
@@ -109,6 +113,7 @@ impl<'a> Constructed<'a> {
     /// The octets of an OCTET STRING (X.690 8.7) in primitive form.
     ///
     /// The errors are those of a header; then `Unexpected` for another tag or form; then `Truncated`.
+    #[inline(always)]
     pub fn take_octets(&mut self) -> Result<&'a [u8], DecodeError>
         ensures { Reads (λ x. x.now) (SpellsContents octet_string false) (IsContentsFault octet_string false)
             (left self.old) (left self.new) result }

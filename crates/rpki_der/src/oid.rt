@@ -78,6 +78,7 @@ impl<'a> Constructed<'a> {
     /// The errors are those of a header; then `Unexpected` for another tag or form; then `Truncated`; then `Content`
     /// for contents that are not those of an object identifier: empty, cut within a subidentifier, or with a
     /// subidentifier that begins with 80.
+    #[inline(always)]
     pub fn take_oid(&mut self) -> Result<Oid<&'a [u8]>, DecodeError>
         ensures { ReadsLeaf (λ o. o.0.now) oid IsOidOf (left self.old) (left self.new) result }
     {
@@ -94,6 +95,7 @@ impl<'a> Constructed<'a> {
     ///
     /// The errors are those of a header; then `Unexpected` for another tag or form; then `Truncated`; then `Content`
     /// for other contents.
+    #[inline(always)]
     pub fn skip_oid_if(&mut self, expected: ConstOid) -> Result<(), DecodeError>
         ensures { ReadsLeaf (λ _. tt) oid (IsOnly expected.entry.0.now) (left self.old) (left self.new) result }
     {
@@ -101,6 +103,7 @@ impl<'a> Constructed<'a> {
     }
 
     /// Moves past an object identifier with these contents.
+    #[inline(always)]
     fn take_only_oid(&mut self, expected: &[u8]) -> Result<(), DecodeError>
         ensures { ReadsLeaf (λ _. tt) oid (IsOnly expected.now) (left self.old) (left self.new) result }
     {

@@ -191,6 +191,13 @@ impl Steps {
         Steps { count: 0 }
     }
 
+    /// The same count, in another variable.
+    pub(crate) fn copied(&self) -> Steps
+        ensures { result ≡ self.now }
+    {
+        Steps { count: self.count }
+    }
+
     /// Counts one more header.
     pub(crate) fn raise(&mut self)
         requires { self.old < 2 ^ 64 - 1 }

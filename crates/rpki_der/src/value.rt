@@ -212,6 +212,7 @@ impl<'a> Constructed<'a> {
     /// The contents of a primitive value of this tag; moves past it. They are not validated.
     ///
     /// The errors are those of a header; then `Unexpected` for another tag or form; then `Truncated`.
+    #[inline(always)]
     pub fn take_primitive_if(&mut self, tag: Tag) -> Result<&'a [u8], DecodeError>
         ensures { Reads (λ x. x.now) (SpellsContents tag false) (IsContentsFault tag false) (left self.old)
             (left self.new) result }
@@ -240,6 +241,7 @@ impl<'a> Constructed<'a> {
     /// past it. The contents are not validated.
     ///
     /// The errors are those of a header; then `Unexpected` for another tag or form; then `Truncated`.
+    #[inline(always)]
     pub fn take_constructed_if(&mut self, tag: Tag) -> Result<Constructed<'a>, DecodeError>
         ensures { Reads left (SpellsContents tag true) (IsContentsFault tag true) (left self.old) (left self.new)
             result }

@@ -17,18 +17,19 @@ returns-then-is_empty-clause-fault c = λ e f.
     inr (ap (λ (x : DecodeError). Err x) (sym (nothing-fault (nil_from_length c.args.octets.now none) f)))
 
 pub returns-clause-accepted : goal.returns-clause-accepted
-returns-clause-accepted c = let e = c.walk_value.ensures in front-accepted HasConstructed _ _ _ e.within e.accepted e.refused
+returns-clause-accepted c = let e = c.walk_value-size.ensures in front-accepted HasConstructed _ _ _ e.within e.accepted e.refused
 
 pub returns-clause-refused : goal.returns-clause-refused
 returns-clause-refused c =
-    let e = c.walk_value.ensures in
-    front-refused HasConstructed c.walk_value.result c.args.octets.now (c.walk_value.new.steps - c.args.steps.now) e.within e.accepted e.refused
+    let e = c.walk_value-size.ensures in
+    front-refused HasConstructed c.walk_value-size.result c.args.octets.now (c.walk_value-size.new.steps - c.copied-own.result) e.within e.accepted e.refused
 
 pub returns-clause-fault : goal.returns-clause-fault
 returns-clause-fault c =
     let some : c.args.octets.now ≢ [] = λ z. eqb-false _ _ (sym c.is_empty.ensures ∙ c.if-is_empty.false) (ap length z) in
-    let e = c.walk_value.ensures in
-    fault-named HasConstructed c.walk_value.result c.args.octets.now (c.walk_value.new.steps - c.args.steps.now) e.within e.accepted e.refused some
+    let e = c.walk_value-size.ensures in
+    fault-named HasConstructed c.walk_value-size.result c.args.octets.now (c.walk_value-size.new.steps - c.copied-own.result) e.within e.accepted e.refused some
 
 pub returns-clause-counted : goal.returns-clause-counted
-returns-clause-counted c = let e = c.walk_value.ensures in front-counted HasConstructed _ _ _ e.within e.accepted e.refused
+returns-clause-counted c =
+    let e = c.walk_value-size.ensures in rw (sym c.copied-own.ensures) (front-counted HasConstructed _ _ _ e.within e.accepted e.refused)

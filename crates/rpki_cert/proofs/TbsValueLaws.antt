@@ -1,0 +1,93 @@
+-- What is signed of a certificate is one value, with everything nested in it.
+use Rattle.std.proofs.Common.{◌≡◌, ℕ, Bool, true, false, List, [], ◌++◌, refl, sym, subst}
+use Rattle.rpki_der.specs.TagName.{TagName, tag_of, integer, sequence, bit_string, oid, null}
+use Rattle.rpki_der.specs.Values.{SpellsLeaf}
+use Rattle.rpki_der.specs.Leaves.{Bits, IsBits, IsNull, IsOnly}
+use Rattle.rpki_der.specs.Parts.{Then, SpellsBoth}
+use Rattle.rpki_der.specs.Each.{SpellsEach, SpellsSome}
+use Rattle.rpki_der.specs.Members.{IsValue, IsValueList}
+use Rattle.rpki_der.specs.ValueListLaws.{no_value_list, value_lists_append}
+use Rattle.rpki_der.proofs.LeafValueLaws.{leaf-value-alone, composed-value-alone}
+use Rattle.rpki_time.specs.Serial.{IsSerialContents, SpellsSerial}
+use Rattle.rpki_time.specs.Validity.{Period}
+use Rattle.rpki_time.specs.TimeValue.{SpellsTime}
+use Rattle.rpki_time.specs.PeriodValue.{IsPeriod, SpellsPeriod}
+use Rattle.rpki.specs.declared.crypto.keys.PublicKeyFormat.{PublicKeyFormat}
+use Rattle.rpki.specs.declared.crypto.keys.PublicKeyFormat.TheVariants.{Rsa, EcdsaP256}
+use Rattle.rpki.specs.Oids.{rsa_encryption, ec_public_key, secp256r1, sha256_with_rsa_encryption}
+use Rattle.rpki.specs.Algorithm.{IsParameters, IsIdentified, SpellsAlgorithm}
+use Rattle.rpki.specs.KeyFormat.{IsFormatContents, SpellsFormat}
+use Rattle.rpki.specs.PublicKey.{KeyParts, IsKeyContents, SpellsKey}
+use Rattle.rpki.specs.Name.{SpellsNameOctets}
+use Rattle.rpki.specs.ExtensionValue.{ExtensionParts, SpellsExtension}
+use Rattle.rpki.proofs.ExtensionLaws.{extension-value}
+use Rattle.rpki.proofs.NameLaws.{name-value, each-values}
+use Rattle.rpki_cert.specs.Cert.{TbsParts, version_tag, two, SpellsTwo, SpellsVersion, extensions_tag, AreExtensions, SpellsExtensionList, SpellsExtensions, SpellsRpkiAlgorithm, Fields, fields_of, AreFields, SpellsTbs}
+
+-- what is spelled in G is values, one after another
+abbrev SpellValues : {V : Type 0} → (V → List ℕ → Type 0) → Type 0
+SpellValues {V} G = (v : V) (p : List ℕ) → G v p → IsValueList p
+
+leaf-values : {V : Type 0} (t : TagName) (C : V → List ℕ → Type 0) → SpellValues (SpellsLeaf t false C)
+leaf-values t C v p h = (1, leaf-value-alone t C v p h)
+
+inside-values : {V : Type 0} (t : TagName) (C : V → List ℕ → Type 0) → SpellValues C → SpellValues (SpellsLeaf t true C)
+inside-values t C inside v p h = (1, composed-value-alone t C v p (inside v) h)
+
+both-values : {A B : Type 0} (G : A → List ℕ → Type 0) (H : B → List ℕ → Type 0) → SpellValues G → SpellValues H → SpellValues (Then G H)
+both-values G H one two x p h = subst IsValueList (sym h.parts) (value_lists_append h.first h.second (one x.0 h.first h.one) (two x.1 h.second h.two))
+
+-- ---- the fields
+
+parameters-values : SpellValues IsParameters
+parameters-values true p h = leaf-values null IsNull tt p h
+parameters-values false p h = subst IsValueList (sym h) no_value_list
+
+identified-values : (o : List ℕ) → SpellValues (IsIdentified o)
+identified-values o b c h =
+    subst IsValueList (sym h.parts)
+    (value_lists_append h.first h.second (leaf-values oid (IsOnly o) tt h.first h.identifier) (parameters-values b h.second h.parameters))
+
+algorithm-values : SpellValues SpellsRpkiAlgorithm
+algorithm-values = inside-values sequence (IsIdentified sha256_with_rsa_encryption) (identified-values sha256_with_rsa_encryption)
+
+name-values : SpellValues SpellsNameOctets
+name-values v p h = (1, subst IsValue (sym h.same) (name-value h.named.0 v h.named.1))
+
+time-values : SpellValues SpellsTime
+time-values t p h = leaf-values h.tag (λ (v : List ℕ) (c : List ℕ). c ≡ v) h.text p (record { contents = h.text; value = h.value; spelled = refl })
+
+period-values : SpellValues SpellsPeriod
+period-values = inside-values sequence IsPeriod (λ t c h.
+    subst IsValueList (sym h.parts)
+    (value_lists_append h.start h.end (time-values t.not_before h.start h.not_before) (time-values t.not_after h.end h.not_after)))
+
+format-values : SpellValues IsFormatContents
+format-values Rsa c h = identified-values rsa_encryption h.0 c h.1
+format-values EcdsaP256 c h =
+    both-values (SpellsLeaf oid false (IsOnly ec_public_key)) (SpellsLeaf oid false (IsOnly secp256r1))
+    (leaf-values oid (IsOnly ec_public_key)) (leaf-values oid (IsOnly secp256r1)) (tt, tt) c h
+
+key-values : SpellValues SpellsKey
+key-values = inside-values sequence IsKeyContents (λ k c h.
+    both-values SpellsFormat (SpellsLeaf bit_string false IsBits) (inside-values sequence IsFormatContents format-values) (leaf-values bit_string IsBits)
+    (k.format, k.bits) c h)
+
+extensions-values : SpellValues SpellsExtensions
+extensions-values = inside-values extensions_tag SpellsExtensionList (inside-values sequence AreExtensions (λ xs c h.
+    each-values SpellsExtension extension-value xs c h.some.each))
+
+-- ---- all of them
+
+fields-values : SpellValues AreFields
+fields-values =
+    both-values SpellsVersion _ (inside-values version_tag SpellsTwo (leaf-values integer (IsOnly two)))
+    (both-values SpellsSerial _ (leaf-values integer IsSerialContents)
+    (both-values SpellsRpkiAlgorithm _ algorithm-values
+    (both-values SpellsNameOctets _ name-values
+    (both-values SpellsPeriod _ period-values
+    (both-values SpellsNameOctets _ name-values
+    (both-values SpellsKey SpellsExtensions key-values extensions-values))))))
+
+pub tbs-value : (t : TbsParts) (d : List ℕ) → SpellsTbs t d → IsValue d
+tbs-value t d h = composed-value-alone sequence AreFields (fields_of t) d (fields-values (fields_of t)) h
