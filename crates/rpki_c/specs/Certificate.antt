@@ -1,15 +1,12 @@
 -- What a status says of the octets of a certificate.
-use Rattle.std.specs.Prelude.{◌≡◌, ◌⊎◌, ℕ, List}
+use Rattle.std.specs.Prelude.{◌≡◌, ◌⊎◌, ◌++◌, ℕ, List, []}
 use Rattle.rpki_der.specs.Number.{number_of}
-use Rattle.rpki_der.specs.Each.{SpellsEach}
-use Rattle.rpki.specs.PublicKey.{SpellsKey}
-use Rattle.rpki.specs.ExtensionValue.{SpellsExtension}
 use Rattle.rpki_cert.specs.declared.cert_part.CertPart.{CertPart}
 use Rattle.rpki_cert.specs.declared.cert_part.CertPart.TheVariants.{Certificate, Signed, Algorithm, Signature, Tbs, Version, SerialNumber, TbsAlgorithm, Issuer, Validity, Subject, PublicKey, Extensions, ExtensionCount, ExtensionIdentifiers, SameAlgorithm}
-use Rattle.rpki_cert.specs.Cert.{CertParts, SpellsRpkiAlgorithm, SpellsCert}
-use Rattle.rpki_cert.specs.View.{IsCertWrong}
+use Rattle.rpki_cert.specs.Cert.{TbsParts, CertParts, SpellsCert}
+use Rattle.rpki_cert.specs.View.{AreNamed, IsCertWrong}
 use Rattle.rpki_c.specs.declared.certificate.CertificateParts.{CertificateParts as Parts}
-use Rattle.rpki_c.specs.Place.{IsPlace}
+use Rattle.rpki_c.specs.Place.{StandsBefore}
 use Rattle.rpki_c.specs.Key.{format_number}
 use Rattle.rpki_c.specs.Time.{IsMoment}
 
@@ -32,30 +29,32 @@ part_number ExtensionCount = 77
 part_number ExtensionIdentifiers = 78
 part_number SameAlgorithm = 79
 
--- the octets are a certificate, whose parts stand at these places: what is signed, the algorithm and the signature; the
--- names and the key as values; the extensions one after another
+-- what follows what is signed of a certificate: the algorithm and the signature
+abbrev pub behind_signed : (x : CertParts) (s : List ℕ) → SpellsCert x s → List ℕ
+behind_signed x s h = h.signed.spelled.text ++ h.signed.spelled.bits
+
+-- the names and the key stand at these places, and the extensions, one after another; h says which octets spell which
+pub record HasNamed (t : TbsParts) (d : List ℕ) (h : AreNamed t d) (s behind : List ℕ) (p : Parts) : Type 0 where
+  pub issuer : StandsBefore s p.issuer t.issuer (h.second ++ behind)
+  pub subject : StandsBefore s p.subject t.subject (h.two.two.second ++ behind)
+  pub key : StandsBefore s p.public_key h.two.two.two.first (h.two.two.two.second ++ behind)
+  pub extensions : StandsBefore s p.extensions h.two.two.two.two.spelled.contents behind
+
+-- the octets are a certificate, whose parts stand at these places, as the grammar divides the octets
 pub record HasCertificate (s : List ℕ) (p : Parts) : Type 0 where
   pub cert : CertParts
   pub spelled : SpellsCert cert s
-  pub signed : IsPlace s p.«data» cert.signed.signed
-  pub text : List ℕ
-  pub named : SpellsRpkiAlgorithm cert.signed.algorithm text
-  pub algorithm : IsPlace s p.algorithm text
+  pub signed : StandsBefore s p.«data» cert.signed.signed (behind_signed cert s spelled)
+  pub algorithm : StandsBefore s p.algorithm spelled.signed.spelled.text spelled.signed.spelled.bits
   pub parameters : p.has_parameters ≡ cert.signed.algorithm
-  pub signature : IsPlace s p.signature cert.signed.value
+  pub signature : StandsBefore s p.signature cert.signed.value []
   pub serial : number_of p.serial_number ≡ cert.tbs.serial
-  pub issuer : IsPlace s p.issuer cert.tbs.issuer
   pub not_before : IsMoment cert.tbs.validity.not_before p.validity.not_before
   pub not_after : IsMoment cert.tbs.validity.not_after p.validity.not_after
-  pub subject : IsPlace s p.subject cert.tbs.subject
-  pub octets : List ℕ
-  pub key : SpellsKey cert.tbs.key octets
-  pub key_at : IsPlace s p.public_key octets
+  pub named : HasNamed cert.tbs spelled.tbs.spelled.two.two.second spelled.tbs.spelled.two.two.two s
+      (behind_signed cert s spelled) p
   pub format : p.key_format ≡ format_number cert.tbs.key.format
   pub unused : p.key_unused ≡ cert.tbs.key.bits.unused
-  pub contents : List ℕ
-  pub each : SpellsEach SpellsExtension cert.tbs.extensions contents
-  pub extensions : IsPlace s p.extensions contents
 
 -- Status 0: the octets are a certificate of these parts. Else the number of the part that is wrong, and nothing is
 -- written.

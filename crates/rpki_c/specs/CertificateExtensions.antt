@@ -1,6 +1,7 @@
 -- What a status says of the extensions of a certificate.
-use Rattle.std.specs.Prelude.{◌≡◌, ◌⊎◌, ℕ, true, false, List, Option, Some, None, replicate}
-use Rattle.rpki.specs.ExtensionValue.{ExtensionParts}
+use Rattle.std.specs.Prelude.{◌≡◌, ◌⊎◌, ◌++◌, ℕ, true, false, List, Option, Some, None, replicate}
+use Rattle.rpki_der.specs.Each.{SpellsEach}
+use Rattle.rpki.specs.ExtensionValue.{ExtensionParts, SpellsExtension}
 use Rattle.rpki_cert.specs.declared.cert_part.CertPart.{CertPart}
 use Rattle.rpki_cert.specs.declared.known_part.KnownPart.{KnownPart}
 use Rattle.rpki_cert.specs.declared.known_part.KnownPart.TheVariants.{BasicConstraints, SubjectKeyIdentifier, AuthorityKeyIdentifier, KeyUsage, CertificatePolicies}
@@ -12,11 +13,11 @@ use Rattle.rpki_cert.specs.declared.policy.Overclaim.TheVariants.{Refuse, Trim}
 use Rattle.rpki_cert.specs.Cert.{CertParts, SpellsCert, find}
 use Rattle.rpki_cert.specs.Known.{subject_key_identifier, key_usage, basic_constraints, crl_distribution_points, certificate_policies, authority_key_identifier, extended_key_usage, authority_info_access, subject_info_access, ip_addr_blocks, ip_addr_blocks_v2, autonomous_sys_ids, autonomous_sys_ids_v2}
 use Rattle.rpki_cert.specs.KnownView.{AreKnown, IsFirstWrong}
-use Rattle.rpki_cert.specs.View.{IsCertWrong}
+use Rattle.rpki_cert.specs.View.{behind_first, IsCertWrong}
 use Rattle.rpki_c.specs.declared.certificate_extensions.KnownExtension.{KnownExtension}
 use Rattle.rpki_c.specs.declared.certificate_extensions.CertificateExtensions.{CertificateExtensions as Extensions}
-use Rattle.rpki_c.specs.Certificate.{part_number}
-use Rattle.rpki_c.specs.Place.{IsPlace}
+use Rattle.rpki_c.specs.Certificate.{part_number, behind_signed}
+use Rattle.rpki_c.specs.Place.{StandsBefore}
 
 -- the status of a certificate that has this extension, which is malformed, or not as critical as it has to be
 abbrev pub known_number : KnownPart → ℕ
@@ -43,28 +44,43 @@ abbrev pub IsIdentifierOf : Option (List ℕ) → List ℕ → Type 0
 IsIdentifierOf None octets = octets ≡ replicate 20 0
 IsIdentifierOf (Some k) octets = octets ≡ k
 
--- the extension's octets stand at the place in s; or there is none
-abbrev pub IsExtensionAt : List ℕ → Option ExtensionParts → KnownExtension → Type 0
-IsExtensionAt s None p = (p.is_there ≡ false) × (p.critical ≡ false) × (p.octets.start ≡ 0) × (p.octets.length ≡ 0)
-IsExtensionAt s (Some x) p = (p.is_there ≡ true) × (p.critical ≡ x.critical) × IsPlace s p.octets x.content
+-- the extension's octets stand at the place in s, and these follow them; or there is none
+abbrev pub IsExtensionAt : List ℕ → Option ExtensionParts → List ℕ → KnownExtension → Type 0
+IsExtensionAt s None behind p =
+    (p.is_there ≡ false) × (p.critical ≡ false) × (p.octets.start ≡ 0) × (p.octets.length ≡ 0)
+IsExtensionAt s (Some x) behind p =
+    (p.is_there ≡ true) × (p.critical ≡ x.critical) × StandsBefore s p.octets x.content behind
+
+-- the list of the extensions of a certificate, as the grammar divides its octets
+abbrev pub list_in : (x : CertParts) (s : List ℕ) → SpellsCert x s
+    → (contents : List ℕ) × SpellsEach SpellsExtension x.tbs.extensions contents
+list_in x s h =
+    let list = h.tbs.spelled.two.two.two.two.two.two.two.spelled in (list.contents, list.spelled.some.each)
+
+-- the first extension of this identifier stands at the place in the certificate, or there is none
+abbrev pub IsFoundAt : (x : CertParts) (s : List ℕ) → SpellsCert x s → List ℕ → KnownExtension → Type 0
+IsFoundAt x s h id p =
+    let (contents, each) = list_in x s h in
+    let behind = behind_first id x.tbs.extensions contents each ++ behind_signed x s h in
+    IsExtensionAt s (find id x.tbs.extensions) behind p
 
 -- the octets are a certificate, and these are its extensions: where they stand, and what those say that are read
 pub record HasExtensions (s : List ℕ) (p : Extensions) : Type 0 where
   pub cert : CertParts
   pub spelled : SpellsCert cert s
-  pub constraints : IsExtensionAt s (find basic_constraints cert.tbs.extensions) p.basic_constraints
-  pub subject : IsExtensionAt s (find subject_key_identifier cert.tbs.extensions) p.subject_key_identifier
-  pub authority : IsExtensionAt s (find authority_key_identifier cert.tbs.extensions) p.authority_key_identifier
-  pub usage : IsExtensionAt s (find key_usage cert.tbs.extensions) p.key_usage
-  pub purposes : IsExtensionAt s (find extended_key_usage cert.tbs.extensions) p.extended_key_usage
-  pub points : IsExtensionAt s (find crl_distribution_points cert.tbs.extensions) p.crl_distribution_points
-  pub issuer_access : IsExtensionAt s (find authority_info_access cert.tbs.extensions) p.authority_info_access
-  pub subject_access : IsExtensionAt s (find subject_info_access cert.tbs.extensions) p.subject_info_access
-  pub policies : IsExtensionAt s (find certificate_policies cert.tbs.extensions) p.certificate_policies
-  pub addresses : IsExtensionAt s (find ip_addr_blocks cert.tbs.extensions) p.ip_resources
-  pub addresses_v2 : IsExtensionAt s (find ip_addr_blocks_v2 cert.tbs.extensions) p.ip_resources_v2
-  pub numbers : IsExtensionAt s (find autonomous_sys_ids cert.tbs.extensions) p.as_resources
-  pub numbers_v2 : IsExtensionAt s (find autonomous_sys_ids_v2 cert.tbs.extensions) p.as_resources_v2
+  pub constraints : IsFoundAt cert s spelled basic_constraints p.basic_constraints
+  pub subject : IsFoundAt cert s spelled subject_key_identifier p.subject_key_identifier
+  pub authority : IsFoundAt cert s spelled authority_key_identifier p.authority_key_identifier
+  pub usage : IsFoundAt cert s spelled key_usage p.key_usage
+  pub purposes : IsFoundAt cert s spelled extended_key_usage p.extended_key_usage
+  pub points : IsFoundAt cert s spelled crl_distribution_points p.crl_distribution_points
+  pub issuer_access : IsFoundAt cert s spelled authority_info_access p.authority_info_access
+  pub subject_access : IsFoundAt cert s spelled subject_info_access p.subject_info_access
+  pub policies : IsFoundAt cert s spelled certificate_policies p.certificate_policies
+  pub addresses : IsFoundAt cert s spelled ip_addr_blocks p.ip_resources
+  pub addresses_v2 : IsFoundAt cert s spelled ip_addr_blocks_v2 p.ip_resources_v2
+  pub numbers : IsFoundAt cert s spelled autonomous_sys_ids p.as_resources
+  pub numbers_v2 : IsFoundAt cert s spelled autonomous_sys_ids_v2 p.as_resources_v2
   pub said : KnownView
   pub known : AreKnown cert.tbs.extensions said
   pub ca : p.is_ca ≡ said.ca

@@ -7,6 +7,13 @@ pub record IsPlace (s : List ℕ) (p : Place) (part : List ℕ) : Type 0 where
   pub within : p.start + p.length ≤ length s
   pub octets : take p.length (drop p.start s) ≡ part
 
+-- the part stands at the place, and exactly these octets of s follow it
+pub record StandsBefore (s : List ℕ) (p : Place) (part behind : List ℕ) : Type 0 where
+  pub front : List ℕ
+  pub parts : s ≡ front ++ (part ++ behind)
+  pub start : p.start ≡ length front
+  pub size : p.length ≡ length part
+
 -- the contents stand at the place, and the rest follows them
 pub record ContentsStand (s : List ℕ) (p : Place) (contents rest : List ℕ) : Type 0 where
   pub within : p.start + p.length ≤ length s

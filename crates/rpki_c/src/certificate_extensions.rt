@@ -1,10 +1,10 @@
 //! The extensions of certificates.
 
 ghost use Rattle.std.specs.Prelude.{◌≡◌};
-ghost use Rattle.rpki_cert.specs.Cert.{CertParts, find};
+ghost use Rattle.rpki_cert.specs.Cert.{CertParts};
 ghost use Rattle.rpki_cert.specs.View.{IsCertAt};
 ghost use Rattle.rpki_cert.specs.KnownView.{AreKnown};
-ghost use Rattle.rpki_c.specs.CertificateExtensions.{known_number, usage_number, policy_number, IsIdentifierOf, IsExtensionAt, HasExtensions, AreExtensionsRead};
+ghost use Rattle.rpki_c.specs.CertificateExtensions.{known_number, usage_number, policy_number, IsIdentifierOf, IsFoundAt, HasExtensions, AreExtensionsRead};
 
 use crate::certificate::{part_number, place_of};
 use crate::place::Place;
@@ -116,8 +116,8 @@ fn octets_of(identifier: Option<KeyIdentifier>) -> [u8; 20]
 
 /// The extension of this identifier in the certificate that the octets are.
 fn extension_at(octets: &[u8], found: &CertView<'_>, id: ConstOid) -> KnownExtension
-    ensures { (x : CertParts) → IsCertAt octets.now found.now x
-        → IsExtensionAt octets.now (find id.entry.0.now x.tbs.extensions) result }
+    ensures { (x : CertParts) (h : IsCertAt octets.now found.now x)
+        → IsFoundAt x octets.now h.spelled id.entry.0.now result }
 {
     let list = found.tbs.named.keyed.extensions;
     let end = octets.len().saturating_sub(found.parts.data.following);

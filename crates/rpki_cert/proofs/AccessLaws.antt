@@ -1,24 +1,32 @@
 -- What is made of values that are spelled: lists of them, names and access descriptions.
-use Rattle.std.proofs.Common.{◌≡◌, ◌≢◌, ◌∙◌, inl, inr, ℕ, Bool, false, List, [], Option, Some, None, refl, sym, ap, subst}
-use Rattle.std.specs.Prelude.{codes}
+use Rattle.std.proofs.Common.{◌≡◌, ◌≢◌, ◌∙◌, inl, inr, ℕ, Bool, true, false, List, [], ◌∷◌, Option, Some, None, Result, Ok, Err, refl, sym, ap, subst}
+use Rattle.std.specs.Prelude.{codes, ◌||◌, if◌then◌else◌}
+use Rattle.std.specs.Option.{is_some, option_or, option_copied}
+use denote.Ref.{Bor}
 use Rattle.rpki_der.specs.declared.error.ContentError.{ContentError}
 use Rattle.rpki_der.specs.declared.error.DecodeError.{DecodeError}
 use Rattle.rpki_der.specs.declared.error.DecodeError.TheVariants.{Content, Trailing, OutOfMemory}
 use Rattle.rpki_der.specs.ErrorText.{text_of}
-use Rattle.rpki_der.specs.TagName.{TagName, context_6}
+use Rattle.rpki_der.specs.TagName.{TagName, context_6, oid}
 use Rattle.rpki_der.specs.Reading.{IsWholeFault, Spells, Accepts, Refuses, Refusal, SpellsNothing, UnlessMemory}
 use Rattle.rpki_der.specs.Values.{SpellsContents, SpellsLeaf, HasTag, IsContentsFault}
 use Rattle.rpki_der.specs.FirstFault.{IsInsideFault}
 use Rattle.rpki_der.specs.FirstFault.FirstFault.{AtPart, Later}
-use Rattle.rpki_der.proofs.ComposedLaws.{more-left, inner-refused, inner-accepted}
+use Rattle.rpki_der.specs.Parts.{Then}
+use Rattle.rpki_der.proofs.ComposedLaws.{more-left, inner-refused, inner-accepted, all-read, nothing-after, nothing-whole}
+use Rattle.rpki_der.proofs.InsideLaws.{unless-memory}
 use Rattle.rpki_der.specs.WantedValue.{SpellsWanted, IsAnyTag}
 use Rattle.rpki_der.specs.Each.{SpellsEach, SpellsSome, IsEachFault}
 use Rattle.rpki_der.proofs.ReadingLaws.{UnlessMemory-weaker}
-use Rattle.rpki_der.proofs.LeavesLaws.{leaf-tag, leaf-value}
+use Rattle.rpki_der.proofs.LeavesLaws.{leaf-tag, leaf-value, leaf-no-memory, contents-no-memory}
 use Rattle.rpki_der.proofs.PartsLaws.{IsOnly, Returned, Failed, tags-apart}
 use Rattle.rpki_der.proofs.EachLaws.{leaf-some}
 use Rattle.rpki_der.proofs.FirstFaultLaws.{memory-where}
-use Rattle.rpki_cert.specs.Access.{Through, IsSomeFault, IsKeptFault, SpellsName, SpellsUri}
+use Rattle.rpki_text.specs.RsyncText.{rsync_refusal}
+use Rattle.rpki_cert.specs.Access.{Through, IsSomeFault, IsKeptFault, SpellsName, SpellsUri, IsOidAs, SpellsOidAs, IsOidAsFault, first_rsync}
+use Rattle.rpki_cert.specs.InPlace.{Gives}
+use Rattle.rpki_cert.specs.ExtensionContent.{SpellsPurpose, has_router, ArePurposes}
+use Rattle.rpki_cert.proofs.ListedLaws.{refused}
 use Rattle.rpki_cert.proofs.SomeLaws.{none-some, some-there}
 
 -- ---- through a function
@@ -146,3 +154,115 @@ uri-some v h = leaf-some context_6 false Whatever tt (record { contents = h.0; v
 pub left-over : {V : Type 0} (G : V → List ℕ → Type 0) (K : List ℕ → DecodeError → Type 0) (s r : List ℕ) (v : V) (e : DecodeError) → Accepts G s v r → (e ≡ Trailing) × (r ≢ [])
     → UnlessMemory e (SpellsNothing G s) × IsWholeFault G K s e
 left-over G K s r v e a (is, some) = subst (λ (x : DecodeError). UnlessMemory x (SpellsNothing G s) × IsWholeFault G K s x) (sym is) (more-left G K s v r a some)
+
+-- ---- read in place
+
+pub oid-refused : (expected s r : List ℕ) (e : DecodeError) → Refusal (SpellsOidAs expected) (IsOidAsFault expected) s r e → Refuses (SpellsOidAs expected) s
+oid-refused expected s r e h = refused (SpellsOidAs expected) (IsOidAsFault expected) s r e (λ k. leaf-no-memory oid false (IsOidAs expected) s OutOfMemory k refl) h
+
+pub contents-refused : (t : TagName) (f : Bool) (s r : List ℕ) (e : DecodeError) → Refusal (SpellsContents t f) (IsContentsFault t f) s r e → Refuses (SpellsContents t f) s
+contents-refused t f s r e h = unless-memory e (λ z. contents-no-memory t f s e h.kind z) h.refuses
+
+pub uri-refused : (s : List ℕ) → Refuses (SpellsContents context_6 false) s → Refuses SpellsUri s
+uri-refused s none v q k = none k.spelled.0 q (record { front = k.front; parts = k.parts; spelled = k.spelled.1 })
+
+one-text : (x y : List ℕ) → ◌≡◌ {A = Option (List ℕ)} (Some x) (Some y) → x ≡ y
+one-text x y e = cc
+
+-- a name that is a URI, read as a URI
+uri-name : (s r : List ℕ) (v : Option (List ℕ)) → HasTag context_6 s → Accepts SpellsUri s v r → Accepts SpellsName s v r
+uri-name s r v there a =
+    let (text, g, e) = a.spells.spelled in
+    let contents : Accepts (SpellsContents context_6 false) s text r = record {
+      spells = record { front = a.spells.front; parts = a.spells.parts; spelled = g };
+      only = λ w q h.
+          let o = a.only (Some w) q (record { front = h.front; parts = h.parts; spelled = (w, h.spelled, refl) }) in
+          (one-text w text (o.0 ∙ e), o.1);
+    } in
+    subst (λ (u : Option (List ℕ)). Accepts SpellsName s u r) (sym e) (name-uri s text r there contents)
+
+uri-no-name : (s : List ℕ) → HasTag context_6 s → Refuses SpellsUri s → Refuses SpellsName s
+uri-no-name s there none =
+    no-uri s there (λ text q h. none (Some text) q (record { front = h.front; parts = h.parts; spelled = (text, h.spelled, refl) }))
+
+pub uri-as-name : {X E : Type 0} (view : X → Option (List ℕ)) (s r : List ℕ) (x : Result X E) → HasTag context_6 s → Gives view SpellsUri s r x → Gives view SpellsName s r x
+uri-as-name view s r (Ok x) there a = uri-name s r (view x) there a
+uri-as-name view s r (Err e) there none = uri-no-name s there none
+
+-- whether a router's purpose is among some
+
+or-assoc : (a b x : Bool) → (a || (b || x)) ≡ ((a || b) || x)
+or-assoc true b x = refl
+or-assoc false b x = refl
+
+pub or-joined : (a b both x : Bool) → both ≡ (a || b) → (a || (b || x)) ≡ (both || x)
+or-joined a b both x e = rw e (or-assoc a b x)
+
+abbrev Some-purposes : Bool → List ℕ → Type 0
+Some-purposes = Through has_router (SpellsSome SpellsPurpose)
+
+pub as-purposes : (s : List ℕ) (b : Bool) → Some-purposes b s × ((w : Bool) → Some-purposes w s → w ≡ b) → ArePurposes b s × ((w : Bool) → ArePurposes w s → w ≡ b)
+as-purposes s b h = (record { purposes = h.0.0; some = h.0.1; same = h.0.2 }, λ w k. h.1 w (k.purposes, k.some, k.same))
+
+pub no-purposes : (s : List ℕ) → SpellsNothing Some-purposes s → SpellsNothing ArePurposes s
+no-purposes s none b k = none b (k.purposes, k.some, k.same)
+
+-- the first of two, each perhaps a URI
+
+pub copied-or : {T : Type 0} (a b : Option (Bor T)) → option_copied (option_or a b) ≡ option_or (option_copied a) (option_copied b)
+copied-or None b = refl
+copied-or (Some x) b = refl
+
+pub or-none : (a : Option (List ℕ)) → option_or a None ≡ a
+or-none None = refl
+or-none (Some x) = refl
+
+either-first : (b : Bool) (text : List ℕ) (x : Option (List ℕ)) → (if b then x else Some text) ≡ option_or (if b then None else Some text) x
+either-first true text x = refl
+either-first false text x = refl
+
+or-first : (a v : Option (List ℕ)) (zs : List (Option (List ℕ))) → option_or a (first_rsync (v ∷ zs)) ≡ option_or (option_or a (first_rsync (v ∷ []))) (first_rsync zs)
+or-first (Some x) v zs = refl
+or-first None None zs = refl
+or-first None (Some text) zs = either-first (is_some (rsync_refusal text)) text (first_rsync zs)
+
+-- a is what was found, v the next name, u what is made of it, and b what is kept
+pub next-rsync : (a v u b : Option (List ℕ)) → b ≡ option_or a u → u ≡ first_rsync (v ∷ []) → (zs : List (Option (List ℕ))) → option_or a (first_rsync (v ∷ zs)) ≡ option_or b (first_rsync zs)
+next-rsync a v u b e f zs = rw (e, f) (or-first a v zs)
+
+-- parts, one after another, that are all there is
+
+module _ {A B : Type 0} (G : A → List ℕ → Type 0) (H : B → List ℕ → Type 0) (s : List ℕ) where
+  abbrev Pair : A × B → List ℕ → Type 0
+  Pair = Then G H
+
+  first-part : (w : A × B) (k : Pair w s) → Spells G s w.0 k.second
+  first-part w k = record { front = k.first; parts = k.parts; spelled = k.one }
+
+  pub pair-first : Refuses G s → SpellsNothing Pair s
+  pair-first none w k = none w.0 k.second (first-part w k)
+
+  module _ (m : List ℕ) (a : A) (one : Accepts G s a m) where
+    second-part : (w : A × B) (k : Pair w s) → (w.0 ≡ a) × H w.1 m
+    second-part w k = let e = one.only w.0 k.second (first-part w k) in (e.0, subst (H w.1) e.1 k.two)
+
+    pub pair-second : Refuses H m → SpellsNothing Pair s
+    pair-second none w k = nothing-whole H m none w.1 (second-part w k).1
+
+    pub pair-more : (r : List ℕ) (b : B) → Accepts H m b r → (r ≢ []) → SpellsNothing Pair s
+    pair-more r b two some w k = nothing-after H m r b two some w.1 (second-part w k).1
+
+    pub pair-all : (r : List ℕ) (b : B) → Accepts H m b r → r ≡ [] → Pair (a, b) s × ((w : A × B) → Pair w s → w ≡ (a, b))
+    pair-all r b two end =
+        let all = all-read H m b r two end in (
+          record { first = one.spells.front; second = m; parts = one.spells.parts; one = one.spells.spelled; two = all.0 },
+          λ w k.
+              let e = second-part w k in
+              ap (λ (x : A). (x, w.1)) e.0 ∙ ap (λ (y : B). (a, y)) (all.1 w.1 e.1),
+        )
+
+pub through-all : {V W : Type 0} (f : W → V) (G : W → List ℕ → Type 0) (s : List ℕ) (w : W) (v : V) → v ≡ f w → G w s × ((x : W) → G x s → x ≡ w) → Through f G v s × ((u : V) → Through f G u s → u ≡ v)
+through-all f G s w v e h = ((w, h.0, e), λ u k. k.2 ∙ ap f (h.1 k.0 k.1) ∙ sym e)
+
+pub through-none : {V W : Type 0} (f : W → V) (G : W → List ℕ → Type 0) (s : List ℕ) → SpellsNothing G s → SpellsNothing (Through f G) s
+through-none f G s none v k = none k.0 k.1

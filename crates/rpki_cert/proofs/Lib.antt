@@ -21,3 +21,4 @@ pub mod ListedLaws
 pub mod FieldsLaws
 pub mod ViewLaws
 pub mod WrongLaws
+pub mod GatherLaws

@@ -21,7 +21,7 @@ use Rattle.rpki_der.proofs.LeafValueLaws.{leaf-shorter, contents-shorter}
 use Rattle.rpki_cert.specs.declared.cert_part.CertPart.{CertPart}
 use Rattle.rpki_cert.specs.declared.section.Section.{Section}
 use Rattle.rpki_cert.specs.Cert.{find, are_unique, extensions_tag}
-use Rattle.rpki_cert.specs.View.{EndsAt, IsIdentified, ending, SpellsListed, SpellsFrame, AreExtensionsWrong, AreExtensionsAt, HasCount, most_extensions}
+use Rattle.rpki_cert.specs.View.{IsIdentified, ending, behind_first, SpellsListed, SpellsFrame, AreExtensionsWrong, AreExtensionsAt, HasCount, most_extensions}
 use Rattle.rpki_cert.specs.View.AreExtensionsWrong.{NotListed, TooMany, Repeated}
 
 -- an error of a reader that takes no memory
@@ -81,14 +81,12 @@ each-skim s i q (y ∷ zs) some a h = let e = identified s i q y h.0 a h.1 in (y
 
 -- ---- a search
 
--- what is found in s is found in r
+-- what is found in s is found in r, and the same follows it
 pub record Seeks (id s r : List ℕ) : Type 0 where
-  pub same : (xs : List ExtensionParts) → Each xs s → (ys : List ExtensionParts) × Each ys r × (find id xs ≡ find id ys)
-  pub front : List ℕ
-  pub parts : s ≡ front ++ r
+  pub same : (xs : List ExtensionParts) (h : Each xs s) → (ys : List ExtensionParts) × (k : Each ys r) × (find id xs ≡ find id ys) × (behind_first id xs s h ≡ behind_first id ys r k)
 
 pub seeks-all : (id s : List ℕ) → Seeks id s s
-seeks-all id s = record { same = λ xs h. (xs, h, refl); front = []; parts = refl }
+seeks-all id s = record { same = λ xs h. (xs, h, refl, refl) }
 
 find-other : (id : List ℕ) (x : ExtensionParts) (zs : List ExtensionParts) → bytes_eq x.identifier id ≡ false → find id (x ∷ zs) ≡ find id zs
 find-other id x zs e = rw e refl
@@ -96,52 +94,60 @@ find-other id x zs e = rw e refl
 find-first : (id : List ℕ) (x : ExtensionParts) (zs : List ExtensionParts) → bytes_eq x.identifier id ≡ true → find id (x ∷ zs) ≡ Some x
 find-first id x zs e = rw e refl
 
+behind-other : (id s : List ℕ) (x : ExtensionParts) (zs : List ExtensionParts) (h : Each (x ∷ zs) s) → bytes_eq x.identifier id ≡ false → behind_first id (x ∷ zs) s h ≡ behind_first id zs h.0 h.2
+behind-other id s x zs h e = rw e refl
+
+moved : (id p q : List ℕ) (zs : List ExtensionParts) (h : Each zs p) → p ≡ q → (k : Each zs q) × (behind_first id zs p h ≡ behind_first id zs q k)
+moved id p q zs h e = subst (λ (w : List ℕ). (k : Each zs w) × (behind_first id zs p h ≡ behind_first id zs w k)) e (h, refl)
+
+-- the first has another identifier
+seek-on : (id r q i : List ℕ) (ys : List ExtensionParts) (h : Each ys r) → r ≢ [] → IsIdentified r i q → bytes_eq i id ≡ false
+    → (zs : List ExtensionParts) × (k : Each zs q) × (find id ys ≡ find id zs) × (behind_first id ys r h ≡ behind_first id zs q k)
+seek-on id r q i [] h some a other = absurd (some h)
+seek-on id r q i (y ∷ zs) h some a other =
+    let e = identified r i q y h.0 a h.1 in
+    let no : bytes_eq y.identifier id ≡ false = ap (λ (w : List ℕ). bytes_eq w id) e.0 ∙ other in
+    let k = moved id h.0 q zs h.2 e.1 in
+    (zs, k.0, find-other id y zs no, behind-other id r y zs h no ∙ k.1)
+
+-- the first has this identifier
+seek-first : (id r q i : List ℕ) (ys : List ExtensionParts) (h : Each ys r) → r ≢ [] → IsIdentified r i q → bytes_eq i id ≡ true → behind_first id ys r h ≡ q
+seek-first id r q i [] h some a same = absurd (some h)
+seek-first id r q i (y ∷ zs) h some a same =
+    let e = identified r i q y h.0 a h.1 in
+    let yes : bytes_eq y.identifier id ≡ true = ap (λ (w : List ℕ). bytes_eq w id) e.0 ∙ same in
+    rw yes e.1
+
 pub seeks-on : (id s r q i : List ℕ) → r ≢ [] → Seeks id s r → IsIdentified r i q → bytes_eq i id ≡ false → Seeks id s q
 seeks-on id s r q i some h a other = record {
   same = λ xs k.
-      let (ys, each, e) = h.same xs k in
-      let (x, zs, is, named, rest) = each-skim r i q ys some a each in
-      (zs, rest, e ∙ ap (find id) is ∙ find-other id x zs (ap (λ (w : List ℕ). bytes_eq w id) named ∙ other));
-  front = h.front ++ a.around.spells.front;
-  parts = h.parts ∙ ap (λ (w : List ℕ). h.front ++ w) a.around.spells.parts ∙ sym (append_assoc h.front a.around.spells.front q);
+      let (ys, each, e, f) = h.same xs k in
+      let (zs, rest, e2, f2) = seek-on id r q i ys each some a other in
+      (zs, rest, e ∙ e2, f ∙ f2);
 }
 
 pub seeks-found : (id s r q : List ℕ) (x : ExtensionParts) → r ≢ [] → Seeks id s r → Accepts SpellsExtension r x q → bytes_eq x.identifier id ≡ true → (xs : List ExtensionParts) → Each xs s → find id xs ≡ Some x
 seeks-found id s r q x some h a same xs k =
-    let (ys, each, e) = h.same xs k in
+    let (ys, each, e, f) = h.same xs k in
     let (zs, is, rest) = each-rest r q x ys some a each in
     e ∙ ap (find id) is ∙ find-first id x zs same
 
 pub seeks-none : (id s r : List ℕ) → r ≢ [] → Seeks id s r → Refuses SpellsExtension r → (xs : List ExtensionParts) → Each xs s → find id xs ≡ None
-seeks-none id s r some h none xs k = let (ys, each, e) = h.same xs k in absurd (each-none r ys some none each)
+seeks-none id s r some h none xs k = let (ys, each, e, f) = h.same xs k in absurd (each-none r ys some none each)
 
 pub seeks-end : (id s r : List ℕ) → r ≡ [] → Seeks id s r → (xs : List ExtensionParts) → Each xs s → find id xs ≡ None
-seeks-end id s r end h xs k = let (ys, each, e) = h.same xs k in e ∙ ap (find id) (each-end r ys end each)
-
--- the octets of an extension end where it ends
-content-last : (x : ExtensionParts) (p : List ℕ) → SpellsExtension x p → (a : List ℕ) × (p ≡ a ++ x.content)
-content-last x p h =
-    let k = h.spelled in
-    let outer = identifier_octets sequence true ++ length_octets (length h.contents) in
-    let inner = identifier_octets octet_string false ++ length_octets (length x.content) in (
-      outer ++ (k.first ++ (k.second ++ inner)),
-      h.value.octets ∙ ap (λ (w : List ℕ). outer ++ w) (k.parts ∙ ap (λ (w : List ℕ). k.first ++ (k.second ++ w)) k.content.octets
-          ∙ ap (λ (w : List ℕ). k.first ++ w) (sym (append_assoc k.second inner x.content)) ∙ sym (append_assoc k.first (k.second ++ inner) x.content))
-          ∙ sym (append_assoc outer (k.first ++ (k.second ++ inner)) x.content),
-    )
+seeks-end id s r end h xs k = let (ys, each, e, f) = h.same xs k in e ∙ ap (find id) (each-end r ys end each)
 
 -- what is read of the extension at the front of r, and how many octets follow it
 abbrev pub IsFront : List ℕ → ExtensionParts × ℕ → Type 0
 IsFront r x = (q : List ℕ) × Accepts SpellsExtension r x.0 q × (length q ≡ x.1)
 
-seeks-place-one : (id s r : List ℕ) (x : ExtensionParts × ℕ) → Seeks id s r → IsFront r x → EndsAt s x.1 x.0.content
-seeks-place-one id s r x h (q, a, is) =
-    let (b, last) = content-last x.0 a.spells.front a.spells.spelled in
-    (h.front ++ b, q, h.parts ∙ ap (λ (w : List ℕ). h.front ++ w) (a.spells.parts ∙ ap (λ (w : List ℕ). w ++ q) last ∙ append_assoc b x.0.content q) ∙ sym (append_assoc h.front b (x.0.content ++ q)), is)
-
-pub seeks-place : (id s r : List ℕ) (o : Option (ExtensionParts × ℕ)) → Seeks id s r → IfSome o (IsFront r) → IfSome o (λ x. EndsAt s x.1 x.0.content)
-seeks-place id s r None h k = k
-seeks-place id s r (Some x) h k = seeks-place-one id s r x h k
+pub seeks-place : (id s r q i : List ℕ) (o : Option (ExtensionParts × ℕ)) → r ≢ [] → Seeks id s r → IsIdentified r i q → bytes_eq i id ≡ true → IfSome o (IsFront r)
+    → IfSome o (λ x. (xs : List ExtensionParts) (h : Each xs s) → x.1 ≡ length (behind_first id xs s h))
+seeks-place id s r q i None some h a same k = k
+seeks-place id s r q i (Some x) some h a same (p, accepted, is) = λ xs each.
+    let (ys, those, e, f) = h.same xs each in
+    sym is ∙ ap length ((identified r i q x.0 p a accepted.spells).1 ∙ sym (seek-first id r q i ys those some a same) ∙ sym f)
 
 pub seeks-front : (id s r q i : List ℕ) (o : Option (ExtensionParts × ℕ)) → r ≢ [] → Seeks id s r → IsIdentified r i q → bytes_eq i id ≡ true → IfSome o (IsFront r)
     → IfSome o (λ x. (xs : List ExtensionParts) → Each xs s → find id xs ≡ Some x.0)
@@ -318,22 +324,9 @@ module _ (s l : List ℕ) (f : IsAll SpellsFrame l s) where
   twice q n h few two is = Repeated h.extensions (listed h.extensions h.some) (omega (arith, h.count, few)) (λ z. false≢true (two h.extensions h.some.each ∙ z)) is
 
   pub extensions-at : (p : Section) (n : ℕ) → HasCount l n → n ≤ most_extensions → ((xs : List ExtensionParts) → Each xs l → true ≡ are_unique xs) → p.octets.now ≡ l → p.following ≡ 0 → AreExtensionsAt s p
-  extensions-at p n h few once octets last =
-      let outer = identifier_octets extensions_tag true ++ length_octets (length f.0.contents) in
-      let inner = identifier_octets sequence true ++ length_octets (length l) in
-      record {
-        extensions = h.extensions;
-        spelled = record { contents = f.0.contents; value = f.0.value; spelled = record { contents = l; value = f.0.spelled; spelled = record { some = h.some; unique = sym (once h.extensions h.some.each) } } };
-        few = omega (arith, h.count, few);
-        contents = l;
-        each = h.some.each;
-        section = record {
-          octets = octets;
-          place = (
-            outer ++ inner,
-            [],
-            f.0.value.octets ∙ ap (λ (w : List ℕ). outer ++ w) f.0.spelled.octets ∙ sym (append_assoc outer inner l) ∙ ap (λ (w : List ℕ). (outer ++ inner) ++ w) (sym (append-nil l)),
-            sym last,
-          );
-        };
-      }
+  extensions-at p n h few once octets last = record {
+    extensions = h.extensions;
+    spelled = record { contents = f.0.contents; value = f.0.value; spelled = record { contents = l; value = f.0.spelled; spelled = record { some = h.some; unique = sym (once h.extensions h.some.each) } } };
+    few = omega (arith, h.count, few);
+    section = record { octets = octets; following = last };
+  }

@@ -19,7 +19,7 @@ use Rattle.rpki_cert.specs.declared.view.CertView.{CertView}
 use Rattle.rpki_cert.specs.Cert.{TbsParts, CertParts, cert_parts, SpellsRpkiAlgorithm, SpellsTbs}
 use Rattle.rpki_cert.specs.View.{ArePartsIn, IsTbsIn, IsCertAt, IsTbsWrong, IsCertWrong}
 use Rattle.rpki_cert.specs.View.IsCertWrong.{InSigned, Differ}
-use Rattle.rpki_cert.proofs.FieldsLaws.{section-after, section-front}
+use Rattle.rpki_cert.proofs.FieldsLaws.{section-front}
 
 -- ---- the signature
 
@@ -39,70 +39,53 @@ signature-more s r b a some v k = nothing-after SpellsBits s r b a some (bits_of
 pub signature-none : (s r : List ℕ) (e : DecodeError) → Refusal SpellsBits (IsLeafFault bit_string false IsBits) s r e → SpellsNothing SpellsSignature s
 signature-none s r e h v k = nothing-whole SpellsBits s (unless-memory e (λ z. leaf-no-memory bit_string false IsBits s e h.kind z) h.refuses) (bits_of k.unused v) k.string
 
-signature-last : (w s : List ℕ) → SpellsSignature w s → (a : List ℕ) × (s ≡ a ++ w)
-signature-last w s h =
-    let front : List ℕ = identifier_octets bit_string false ++ length_octets (length h.string.contents) in
-    (front ++ h.unused ∷ [], h.string.value.octets ∙ ap (λ (c : List ℕ). front ++ c) h.string.spelled.contents ∙ sym (append_assoc front (h.unused ∷ []) w))
-
 -- ---- the parts
 
 pub parts-read : (s m n d w o p : List ℕ) (b : Bool) (v : Parts) → Accepts SpellsValue s d m → v.«data».octets.now ≡ d → o ≡ m → v.«data».following ≡ length o
     → Accepts SpellsRpkiAlgorithm m b n → v.kind ≡ b → p ≡ n → v.algorithm.octets.now ≡ take (length o - length p) o → v.algorithm.following ≡ length p
     → SpellsSignature w n → v.signature.octets.now ≡ w → v.signature.following ≡ 0
-    → (x : SignedParts Bool) × IsSignedContents SpellsRpkiAlgorithm x s × ArePartsIn s v x
+    → (x : SignedParts Bool) × (h : IsSignedContents SpellsRpkiAlgorithm x s) × ArePartsIn x s h v
 parts-read s m n d w o p b v a is i size c same j text long g sign last =
     let whole : s ≡ d ++ m = a.spells.parts ∙ ap (λ (x : List ℕ). x ++ m) a.spells.spelled.same in
-    let (front, ends) = signature-last w n g in
-    let third : s ≡ (d ++ c.spells.front) ++ n = whole ∙ ap (λ (x : List ℕ). d ++ x) c.spells.parts ∙ sym (append_assoc d c.spells.front n) in
-    let all : n ≡ front ++ (w ++ []) = ends ∙ ap (λ (x : List ℕ). front ++ x) (sym (append-nil w)) in (
+    let third : s ≡ (d ++ c.spells.front) ++ n = whole ∙ ap (λ (x : List ℕ). d ++ x) c.spells.parts ∙ sym (append_assoc d c.spells.front n) in (
       parts_of d b w,
       record { text = c.spells.front; bits = n; parts = third; one = a.spells.spelled.value; named = c.spells.spelled; signature = g },
       record {
-        signed = record { octets = is; place = ([], m, whole, sym (ap length i) ∙ sym size) };
+        signed = record { octets = is; following = size ∙ ap length (i ∙ c.spells.parts) };
         same = same;
-        text = c.spells.front;
-        named = c.spells.spelled;
-        algorithm = section-after s d m v.algorithm c.spells.front whole (section-front m c.spells.front n o p v.algorithm c.spells.parts i j text long);
-        signature = section-after s (d ++ c.spells.front) n v.signature w third (record { octets = sign; place = (front, [], all, sym last) });
+        algorithm = section-front m c.spells.front n o p n v.algorithm c.spells.parts i j text long refl;
+        signature = record { octets = sign; following = last };
       },
     )
 
-parts-after : (s f r : List ℕ) (v : Parts) (x : SignedParts Bool) → s ≡ f ++ r → ArePartsIn r v x → ArePartsIn s v x
-parts-after s f r v x e h = record {
-  signed = section-after s f r v.«data» x.signed e h.signed;
-  same = h.same;
-  text = h.text;
-  named = h.named;
-  algorithm = section-after s f r v.algorithm h.text e h.algorithm;
-  signature = section-after s f r v.signature x.value e h.signature;
-}
-
 -- ---- a certificate
 
-pub cert-read : (s c d : List ℕ) (v : CertView) → SpellsContents sequence true c s → (k : (x : SignedParts Bool) × IsSignedContents SpellsRpkiAlgorithm x c × ArePartsIn c v.parts x)
-    → d ≡ v.parts.«data».octets.now → (l : (t : TbsParts) × SpellsTbs t d × IsTbsIn d v.tbs t) → v.tbs.signature ≡ v.parts.kind → (x : CertParts) × IsCertAt s v x
+abbrev IsTbsAt : TbsView → TbsParts → List ℕ → Type 0
+IsTbsAt v t d = (h : SpellsTbs t d) × IsTbsIn t h.contents h.spelled v
+
+pub cert-read : (s c d : List ℕ) (v : CertView) → SpellsContents sequence true c s → (k : (x : SignedParts Bool) × (h : IsSignedContents SpellsRpkiAlgorithm x c) × ArePartsIn x c h v.parts)
+    → d ≡ v.parts.«data».octets.now → ((t : TbsParts) × (h : SpellsTbs t d) × IsTbsIn t h.contents h.spelled v.tbs) → v.tbs.signature ≡ v.parts.kind → (x : CertParts) × IsCertAt s v x
 cert-read s c d v h k is l same =
     let (x, spelled, stand) = k in
     let (t, tbs, there) = l in
-    let front : List ℕ = identifier_octets sequence true ++ length_octets (length c) in
-    let octets : d ≡ x.signed = is ∙ stand.signed.octets in (
+    let signed : IsTbsAt v.tbs t x.signed = subst (IsTbsAt v.tbs t) (is ∙ stand.signed.octets) (tbs, there) in (
       cert_parts x t,
       record {
-        spelled = record { signed = record { contents = c; value = h; spelled = spelled }; tbs = subst (SpellsTbs t) octets tbs; same = sym there.algorithm ∙ same ∙ stand.same };
-        parts = parts-after s front c v.parts x h.octets stand;
-        tbs = subst (λ (y : List ℕ). IsTbsIn y v.tbs t) octets there;
+        spelled = record { signed = record { contents = c; value = h; spelled = spelled }; tbs = signed.0; same = sym there.algorithm ∙ same ∙ stand.same };
+        parts = stand;
+        tbs = signed.1;
       },
     )
 
 -- ---- what is wrong with it
 
-pub in-signed : (s c d : List ℕ) (v : Parts) (q : CertPart) → SpellsContents sequence true c s → (x : SignedParts Bool) × IsSignedContents SpellsRpkiAlgorithm x c × ArePartsIn c v x → d ≡ v.«data».octets.now → IsTbsWrong d q → IsCertWrong s q
+pub in-signed : (s c d : List ℕ) (v : Parts) (q : CertPart) → SpellsContents sequence true c s → (x : SignedParts Bool) × (h : IsSignedContents SpellsRpkiAlgorithm x c) × ArePartsIn x c h v → d ≡ v.«data».octets.now → IsTbsWrong d q → IsCertWrong s q
 in-signed s c d v q h k is wrong =
     let (x, spelled, stand) = k in
     InSigned c x h spelled (subst (λ (y : List ℕ). IsTbsWrong y q) (is ∙ stand.signed.octets) wrong)
 
-pub differ : (s c d : List ℕ) (v : Parts) (u : TbsView) (q : CertPart) → SpellsContents sequence true c s → (x : SignedParts Bool) × IsSignedContents SpellsRpkiAlgorithm x c × ArePartsIn c v x → d ≡ v.«data».octets.now
-    → (t : TbsParts) × SpellsTbs t d × IsTbsIn d u t → (u.signature ≡ v.kind → ⊥) → q ≡ CertPart.SameAlgorithm → IsCertWrong s q
+pub differ : (s c d : List ℕ) (v : Parts) (u : TbsView) (q : CertPart) → SpellsContents sequence true c s → (x : SignedParts Bool) × (h : IsSignedContents SpellsRpkiAlgorithm x c) × ArePartsIn x c h v → d ≡ v.«data».octets.now
+    → (t : TbsParts) × (h : SpellsTbs t d) × IsTbsIn t h.contents h.spelled u → (u.signature ≡ v.kind → ⊥) → q ≡ CertPart.SameAlgorithm → IsCertWrong s q
 differ s c d v u q h k is l other named =
     let (x, spelled, stand) = k in
     let (t, tbs, there) = l in

@@ -1,7 +1,7 @@
 -- What is read in place, without memory.
-use Rattle.std.specs.Prelude.{◌≡◌, ◌<◌, ◌++◌, ℕ, Bool, List, Option, Some, None, length}
+use Rattle.std.specs.Prelude.{◌≡◌, ◌<◌, ◌++◌, ℕ, Bool, List, Option, Some, None, Result, Ok, Err, length}
 use Rattle.rpki_der.specs.TagName.{TagName}
-use Rattle.rpki_der.specs.Reading.{Accepts, Refuses}
+use Rattle.rpki_der.specs.Reading.{Accepts, Refuses, SpellsNothing}
 use Rattle.rpki_der.specs.WantedValue.{SpellsWanted, IsAnyTag}
 use Rattle.rpki_der.specs.Each.{SpellsEach}
 use Rattle.rpki_der.specs.Members.{IsValueList}
@@ -10,6 +10,16 @@ use Rattle.rpki_der.specs.Members.{IsValueList}
 abbrev pub Takes : {X V : Type 0} → (X → V) → (V → List ℕ → Type 0) → List ℕ → List ℕ → Option X → Type 0
 Takes view G s r (Some x) = Accepts G s (view x) r
 Takes view G s r None = Refuses G s
+
+-- The same of a reader that returns an error, whichever it is, where there is none.
+abbrev pub Gives : {X V E : Type 0} → (X → V) → (V → List ℕ → Type 0) → List ℕ → List ℕ → Result X E → Type 0
+Gives view G s r (Ok x) = Accepts G s (view x) r
+Gives view G s r (Err e) = Refuses G s
+
+-- The same of a reader of all of s.
+abbrev pub GivesAll : {X V E : Type 0} → (X → V) → (V → List ℕ → Type 0) → List ℕ → Result X E → Type 0
+GivesAll {X} {V} view G s (Ok x) = G (view x) s × ((w : V) → G w s → w ≡ view x)
+GivesAll view G s (Err e) = SpellsNothing G s
 
 -- values, one after another, whose headers are read and whose contents aren't looked at
 abbrev pub AreHeaded : List ℕ → Type 0

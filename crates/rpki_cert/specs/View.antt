@@ -1,5 +1,5 @@
 -- Certificates that are read in place: what stands where, and which part is wrong (RFC 5280 4.1).
-use Rattle.std.specs.Prelude.{◌≡◌, ◌≤◌, ◌<◌, ◌++◌, ◌-◌, ℕ, Bool, true, false, List, slice_index, Option, Some, None, IsTrue, length}
+use Rattle.std.specs.Prelude.{◌≡◌, ◌≤◌, ◌<◌, ◌++◌, ◌-◌, ℕ, Bool, true, false, List, slice_index, Option, Some, None, IsTrue, length, bytes_eq, if◌then◌else◌, [], ◌∷◌}
 use Rattle.rpki_der.specs.TagName.{sequence, oid}
 use Rattle.rpki_der.specs.Reading.{Accepts, Refuses, SpellsNothing}
 use Rattle.rpki_der.specs.Values.{SpellsContents, SpellsLeaf}
@@ -20,18 +20,14 @@ use Rattle.rpki_cert.specs.declared.fields.Named.{Named}
 use Rattle.rpki_cert.specs.declared.fields.TbsView.{TbsView}
 use Rattle.rpki_cert.specs.declared.view.Parts.{Parts}
 use Rattle.rpki_cert.specs.declared.view.CertView.{CertView}
-use Rattle.rpki_cert.specs.Cert.{TbsParts, CertParts, extensions_tag, are_unique, SpellsExtensions, SpellsVersion, SpellsRpkiAlgorithm, SpellsTbs, SpellsCert}
+use Rattle.rpki_cert.specs.Cert.{TbsParts, CertParts, extensions_tag, are_unique, SpellsExtensions, SpellsVersion, SpellsRpkiAlgorithm, AreFields, fields_of, SpellsTbs, SpellsCert}
 
 -- ---- where octets stand
 
--- the part stands in s, and n octets follow it
-abbrev pub EndsAt : List ℕ → ℕ → List ℕ → Type 0
-EndsAt s n part = (before : List ℕ) × (after : List ℕ) × (s ≡ before ++ (part ++ after)) × (length after ≡ n)
-
--- the section is the part, where it stands in s
-pub record IsSection (s : List ℕ) (p : Section) (part : List ℕ) : Type 0 where
+-- the section is the part, and these octets follow it
+pub record IsSection (p : Section) (part behind : List ℕ) : Type 0 where
   pub octets : p.octets.now ≡ part
-  pub place : EndsAt s p.following part
+  pub following : p.following ≡ length behind
 
 -- ---- a part, or that it is wrong
 
@@ -80,14 +76,17 @@ pub data AreExtensionsWrong (s : List ℕ) (q : CertPart) : Type 0 where
 abbrev pub SpellsFrame : List ℕ → List ℕ → Type 0
 SpellsFrame = SpellsLeaf extensions_tag true (SpellsContents sequence true)
 
--- all of s is the extensions, and the section is the contents of their list
+-- all of s is the extensions, and the section is the contents of their list, which nothing follows
 pub record AreExtensionsAt (s : List ℕ) (p : Section) : Type 0 where
   pub extensions : List ExtensionParts
   pub spelled : SpellsExtensions extensions s
   pub few : length extensions ≤ most_extensions
-  pub contents : List ℕ
-  pub each : SpellsEach SpellsExtension extensions contents
-  pub section : IsSection s p contents
+  pub section : IsSection p spelled.spelled.contents []
+
+-- of the octets of these extensions, one after another, what follows the first with this identifier
+abbrev pub behind_first : List ℕ → (xs : List ExtensionParts) (s : List ℕ) → SpellsEach SpellsExtension xs s → List ℕ
+behind_first id [] s h = []
+behind_first id (x ∷ xs) s h = if bytes_eq x.identifier id then h.0 else behind_first id xs h.0 h.2
 
 -- these octets are extensions, so many
 pub record HasCount (s : List ℕ) (n : ℕ) : Type 0 where
@@ -99,41 +98,40 @@ pub record HasCount (s : List ℕ) (n : ℕ) : Type 0 where
 
 -- a reader of a name found s and left r: Some is its section, and None says that there is none
 abbrev pub TakesName : List ℕ → List ℕ → Option Section → Type 0
-TakesName s r (Some p) = (v : List ℕ) × Accepts SpellsNameOctets s v r × IsSection s p v
+TakesName s r (Some p) = (v : List ℕ) × Accepts SpellsNameOctets s v r × IsSection p v r
 TakesName s r None = Refuses SpellsNameOctets s
 
--- the key and the extensions stand at the sections
-pub record IsKeyedIn (s : List ℕ) (k : Keyed) (key : KeyParts) (xs : List ExtensionParts) : Type 0 where
+-- The sections are those of a key and of extensions. Here and below, h says which octets spell which part, and so what
+-- follows each.
+pub record IsKeyedIn (key : KeyParts) (xs : List ExtensionParts) (s : List ℕ)
+    (h : SpellsBoth SpellsKey SpellsExtensions key xs s) (k : Keyed) : Type 0 where
   pub same : k.key ≡ key
-  pub octets : List ℕ
-  pub key_spelled : SpellsKey key octets
-  pub key_at : IsSection s k.octets octets
-  pub contents : List ℕ
-  pub each : SpellsEach SpellsExtension xs contents
-  pub list_at : IsSection s k.extensions contents
+  pub key_at : IsSection k.octets h.first h.second
+  pub list_at : IsSection k.extensions h.two.spelled.contents []
 
--- all of s is a key and extensions, which stand at the sections
+-- all of s is a key and extensions, of which these are the sections
 abbrev pub IsKeyedAt : List ℕ → Keyed → Type 0
 IsKeyedAt s k =
-    (key : KeyParts) × (xs : List ExtensionParts) × SpellsBoth SpellsKey SpellsExtensions key xs s × IsKeyedIn s k key xs
-
--- the fields from the issuer on stand at the sections
-pub record IsNamedIn (s : List ℕ) (n : Named) (t : TbsParts) : Type 0 where
-  pub issuer : IsSection s n.issuer t.issuer
-  pub validity : n.validity ≡ t.validity
-  pub subject : IsSection s n.subject t.subject
-  pub keyed : IsKeyedIn s n.keyed t.key t.extensions
-
-pub record IsTbsIn (s : List ℕ) (v : TbsView) (t : TbsParts) : Type 0 where
-  pub serial : v.serial_number ≡ t.serial
-  pub algorithm : v.signature ≡ t.algorithm
-  pub named : IsNamedIn s v.named t
+    (key : KeyParts) × (xs : List ExtensionParts) × (h : SpellsBoth SpellsKey SpellsExtensions key xs s)
+    × IsKeyedIn key xs s h k
 
 -- the fields from the issuer on
 abbrev pub AreNamed : TbsParts → List ℕ → Type 0
 AreNamed t =
     Then SpellsNameOctets (Then SpellsPeriod (Then SpellsNameOctets (Then SpellsKey SpellsExtensions)))
     (t.issuer, (t.validity, (t.subject, (t.key, t.extensions))))
+
+-- the sections are those of the fields from the issuer on
+pub record IsNamedIn (t : TbsParts) (s : List ℕ) (h : AreNamed t s) (n : Named) : Type 0 where
+  pub issuer : IsSection n.issuer t.issuer h.second
+  pub validity : n.validity ≡ t.validity
+  pub subject : IsSection n.subject t.subject h.two.two.second
+  pub keyed : IsKeyedIn t.key t.extensions h.two.two.second h.two.two.two n.keyed
+
+pub record IsTbsIn (t : TbsParts) (s : List ℕ) (h : AreFields (fields_of t) s) (v : TbsView) : Type 0 where
+  pub serial : v.serial_number ≡ t.serial
+  pub algorithm : v.signature ≡ t.algorithm
+  pub named : IsNamedIn t h.two.two.second h.two.two.two v.named
 
 abbrev pub AreKeyedWrong : List ℕ → CertPart → Type 0
 AreKeyedWrong = FirstWrong SpellsKey PublicKey (λ key. AreExtensionsWrong)
@@ -155,20 +153,19 @@ pub data IsTbsWrong (d : List ℕ) (q : CertPart) : Type 0 where
 
 -- ---- a certificate
 
--- the three parts of signed data stand at the sections
-pub record ArePartsIn (s : List ℕ) (v : Parts) (x : SignedParts Bool) : Type 0 where
-  pub signed : IsSection s v.«data» x.signed
+-- the sections are those of the three parts of signed data
+pub record ArePartsIn (x : SignedParts Bool) (s : List ℕ) (h : IsSignedContents SpellsRpkiAlgorithm x s) (v : Parts)
+    : Type 0 where
+  pub signed : IsSection v.«data» x.signed (h.text ++ h.bits)
   pub same : v.kind ≡ x.algorithm
-  pub text : List ℕ
-  pub named : SpellsRpkiAlgorithm x.algorithm text
-  pub algorithm : IsSection s v.algorithm text
-  pub signature : IsSection s v.signature x.value
+  pub algorithm : IsSection v.algorithm h.text h.bits
+  pub signature : IsSection v.signature x.value []
 
--- the certificate x is all of s, and its parts stand at the sections; those of the TBSCertificate in its own octets
+-- the certificate x is all of s, and the sections are those of its parts, as the grammar divides s
 pub record IsCertAt (s : List ℕ) (v : CertView) (x : CertParts) : Type 0 where
   pub spelled : SpellsCert x s
-  pub parts : ArePartsIn s v.parts x.signed
-  pub tbs : IsTbsIn x.signed.signed v.tbs x.tbs
+  pub parts : ArePartsIn x.signed spelled.signed.contents spelled.signed.spelled v.parts
+  pub tbs : IsTbsIn x.tbs spelled.tbs.contents spelled.tbs.spelled v.tbs
 
 -- all of the rest is to be a signature
 pub data IsSignatureWrong (s : List ℕ) (q : CertPart) : Type 0 where

@@ -92,7 +92,8 @@ fn take_section<'a>(cons: &mut Constructed<'a>) -> Option<Section<'a>>
 
 /// The fields from the issuer on, which are all that is left.
 fn read_named<'a>(fields: Constructed<'a>) -> Result<Named<'a>, CertPart>
-    ensures ok { IfOk result (λ n. (t : TbsParts) × AreNamed t (left fields.entry) × IsNamedIn (left fields.entry) n t) }
+    ensures ok { IfOk result (λ n. (t : TbsParts) × (h : AreNamed t (left fields.entry))
+        × IsNamedIn t (left fields.entry) h n) }
     ensures err { IfErr result (λ q. AreNamedWrong (left fields.entry) q) }
 {
     let mut rest = fields;
@@ -121,8 +122,8 @@ fn read_named<'a>(fields: Constructed<'a>) -> Result<Named<'a>, CertPart>
 
 /// The fields, which are all that is left.
 fn read_fields<'a>(fields: Constructed<'a>) -> Result<TbsView<'a>, CertPart>
-    ensures ok { IfOk result (λ v. (t : TbsParts) × AreFields (fields_of t) (left fields.entry)
-        × IsTbsIn (left fields.entry) v t) }
+    ensures ok { IfOk result (λ v. (t : TbsParts) × (h : AreFields (fields_of t) (left fields.entry))
+        × IsTbsIn t (left fields.entry) h v) }
     ensures err { IfErr result (λ q. AreFieldsWrong (left fields.entry) q) }
 {
     let mut rest = fields;
@@ -150,7 +151,8 @@ fn read_fields<'a>(fields: Constructed<'a>) -> Result<TbsView<'a>, CertPart>
 
 /// The TBSCertificate that these octets are; the sections stand in them.
 pub fn read_tbs<'a>(signed: Constructed<'a>) -> Result<TbsView<'a>, CertPart>
-    ensures ok { IfOk result (λ v. (t : TbsParts) × SpellsTbs t (left signed.entry) × IsTbsIn (left signed.entry) v t) }
+    ensures ok { IfOk result (λ v. (t : TbsParts) × (h : SpellsTbs t (left signed.entry))
+        × IsTbsIn t h.contents h.spelled v) }
     ensures err { IfErr result (λ q. IsTbsWrong (left signed.entry) q) }
 {
     match only_in(signed, Tag::SEQUENCE) {

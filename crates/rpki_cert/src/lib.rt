@@ -6,6 +6,7 @@
 #![tactic(auto)]
 
 mod access;
+mod access_view;
 mod cert;
 mod cert_part;
 mod checks;

@@ -3,8 +3,9 @@
 ghost use Rattle.std.specs.Prelude.{◌≡◌, ◌↔◌, IsTrue, false};
 ghost use Rattle.rpki_der.specs.Cursor.{left};
 ghost use Rattle.rpki_der.specs.Reading.{Reads};
-ghost use Rattle.rpki_der.specs.Values.{SpellsLeaf, IsLeafFault};
+ghost use Rattle.rpki_der.specs.Values.{SpellsContents, SpellsLeaf, IsLeafFault};
 ghost use Rattle.rpki_der.specs.Leaves.{IsOnly};
+ghost use Rattle.rpki_cert.specs.InPlace.{GivesAll};
 
 use rpki::der::{Constructed, ContentError, DecodeError, Tag};
 
@@ -13,6 +14,20 @@ fn are_same(one: &[u8], other: &[u8]) -> bool
     ensures { IsTrue result ↔ (one.now ≡ other.now) }
 {
     one == other
+}
+
+/// A cursor on the contents, where all that is left is a constructed value of this tag.
+pub fn inside<'a>(octets: Constructed<'a>, tag: Tag) -> Result<Constructed<'a>, DecodeError>
+    ensures { GivesAll left (SpellsContents tag true) (left octets.entry) result }
+{
+    let mut rest = octets;
+    match rest.take_constructed_if(tag) {
+        Ok(contents) => match rest.finish() {
+            Ok(()) => Ok(contents),
+            Err(e) => Err(e),
+        },
+        Err(e) => Err(e),
+    }
 }
 
 /// Moves past a primitive value of this tag with exactly these contents.

@@ -1,14 +1,16 @@
 //! Extended key usage (RFC 5280 4.2.1.12, RFC 8209 3.1.3.2).
 
-ghost use Rattle.std.specs.Prelude.{◌≡◌, [], IfOk};
+ghost use Rattle.std.specs.Prelude.{◌≡◌, ◌||◌, [], IfOk};
 ghost use Rattle.rpki_der.specs.Cursor.{left};
 ghost use Rattle.rpki_der.specs.Reading.{Reads};
 ghost use Rattle.rpki_der.specs.FirstFault.{ReadsParts};
 ghost use Rattle.rpki_der.specs.Each.{SpellsEach, IsEachFault};
+ghost use Rattle.rpki_cert.specs.InPlace.{GivesAll};
 ghost use Rattle.rpki_cert.specs.ExtensionContent.{SpellsPurpose, IsPurposeFault, has_router, ArePurposes, ArePurposesFault, SpellsPurposes, IsPurposesFault};
 
 use crate::access::take_oid_as;
-use rpki::der::{Constructed, ContentError, DecodeError};
+use crate::part::inside;
+use rpki::der::{Constructed, ContentError, DecodeError, Tag};
 use rpki::oid;
 use std::alloc::Global;
 
@@ -54,4 +56,39 @@ pub fn take_purposes(alloc: Global, cons: &mut Constructed<'_>) -> Result<bool, 
     ensures { Reads (λ b. b) SpellsPurposes IsPurposesFault (left cons.old) (left cons.new) result }
 {
     cons.in_sequence(|contents| take_some(alloc, contents))
+}
+
+/// Whether one of the two is true.
+fn is_either(one: bool, other: bool) -> bool
+    ensures { result ≡ (one || other) }
+{
+    one || other
+}
+
+/// Whether a router's purpose is one of those that these contents are; there is one at least.
+fn purposes_in(contents: Constructed<'_>) -> Result<bool, DecodeError>
+    ensures { GivesAll (λ b. b) ArePurposes (left contents.entry) result }
+{
+    if contents.is_empty() {
+        return Err(DecodeError::Content(ContentError::from_static("no key purposes")));
+    }
+    let mut rest = contents;
+    let mut router = false;
+    'purposes: while !rest.is_empty() {
+        match take_oid_as(&mut rest, oid::KP_BGPSEC_ROUTER) {
+            Ok(found) => router = is_either(router, found),
+            Err(e) => return Err(e),
+        }
+    }
+    Ok(router)
+}
+
+/// Extended key usage, as [take_purposes] reads it, and nothing else. Allocates nothing.
+pub fn purposes_of(octets: Constructed<'_>) -> Result<bool, DecodeError>
+    ensures { GivesAll (λ b. b) SpellsPurposes (left octets.entry) result }
+{
+    match inside(octets, Tag::SEQUENCE) {
+        Ok(contents) => purposes_in(contents),
+        Err(e) => Err(e),
+    }
 }

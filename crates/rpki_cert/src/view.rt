@@ -56,7 +56,7 @@ fn read_signature<'a>(rest: Constructed<'a>) -> Option<&'a [u8]>
 /// The parts of signed data, which are all of these contents.
 fn read_parts<'a>(contents: Constructed<'a>) -> Result<Parts<'a>, CertPart>
     ensures ok { IfOk result (λ v. (x : SignedParts Bool)
-        × IsSignedContents SpellsRpkiAlgorithm x (left contents.entry) × ArePartsIn (left contents.entry) v x) }
+        × (h : IsSignedContents SpellsRpkiAlgorithm x (left contents.entry)) × ArePartsIn x (left contents.entry) h v) }
     ensures err { IfErr result (λ q. ArePartsWrong (left contents.entry) q) }
 {
     let mut rest = contents;

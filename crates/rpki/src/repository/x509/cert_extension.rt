@@ -161,6 +161,13 @@ impl CertExtension {
         }
     }
 
+    /// The extension, with its parts borrowed.
+    pub fn view(&self) -> ExtensionView<'_>
+        ensures { result ≡ self.now }
+    {
+        ExtensionView::of_parts(self.id(), self.critical(), self.octets())
+    }
+
     /// An encoder for the extension: the identifier, TRUE where it is critical, and the OCTET STRING. FALSE is left
     /// out, as X.690 11.5 requires.
     pub fn encode_ref(&self) -> ExtensionBytes<'_>

@@ -16,7 +16,9 @@ returns-then-eq-clause-none c =
     seeks-not c.args.id.0.now _ _ c.front_extension.result (iff_false c.is_empty.ensures c.extensions-test.true) c.extensions.invariant c.front_extension.ensures.none
 
 pub returns-then-eq-clause-place : goal.returns-then-eq-clause-place
-returns-then-eq-clause-place c = seeks-place c.args.id.0.now _ _ c.front_extension.result c.extensions.invariant c.front_extension.ensures.some
+returns-then-eq-clause-place c =
+    let some = iff_false c.is_empty.ensures c.extensions-test.true in
+    seeks-place c.args.id.0.now _ _ _ _ c.front_extension.result some c.extensions.invariant c.in-Some.ensures.some (sym c.eq.ensures ∙ c.if-eq.true) c.front_extension.ensures.some
 
 pub extensions-preserved : goal.extensions-preserved
 extensions-preserved c =

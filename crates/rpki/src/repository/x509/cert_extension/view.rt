@@ -3,7 +3,7 @@
 ghost use Rattle.std.specs.Prelude.{◌≡◌};
 ghost use Rattle.rpki_der.specs.Cursor.{left};
 ghost use Rattle.rpki_der.specs.Reading.{Reads};
-ghost use Rattle.rpki.specs.ExtensionValue.{SpellsExtension};
+ghost use Rattle.rpki.specs.ExtensionValue.{extension_parts, SpellsExtension};
 ghost use Rattle.rpki.specs.ExtensionFault.{IsCertExtensionFault};
 
 use super::grammar::take_extension;
@@ -40,6 +40,17 @@ impl<'a> ExtensionView<'a> {
             critical,
             octets,
         })
+    }
+
+    /// The extension of these parts.
+    pub(super) fn of_parts(id: Oid<&'a [u8]>, critical: bool, octets: &'a [u8]) -> ExtensionView<'a>
+        ensures { result ≡ extension_parts id.entry.0.now critical octets.entry.now }
+    {
+        ExtensionView {
+            id,
+            critical,
+            octets,
+        }
     }
 
     /// The identifier.

@@ -34,7 +34,7 @@ fn refusal(text: &'static str) -> InspectionError
 
 impl NameRule {
     /// The error of a name of the RPKI that breaks the rule.
-    pub(super) fn rpki_error(self) -> InspectionError
+    pub fn rpki_error(self) -> InspectionError
         ensures { text_of (content_of result) ≡ rpki_text self }
     {
         match self {
@@ -48,7 +48,7 @@ impl NameRule {
     }
 
     /// The error of a name of a router that breaks the rule.
-    pub(super) fn router_error(self) -> InspectionError
+    pub fn router_error(self) -> InspectionError
         ensures { text_of (content_of result) ≡ router_text self }
     {
         match self {

@@ -33,6 +33,14 @@ impl<'a> Model for NameView<'a> {
 }
 
 impl<'a> NameView<'a> {
+    /// The name that these octets are.
+    pub fn new(octets: &'a [u8]) -> NameView<'a>
+        requires { IsName octets.now }
+        ensures { result ≡ octets.entry.now }
+    {
+        NameView { octets }
+    }
+
     /// A name, with the grammar and the errors of [Name::take_from](crate::repository::x509::Name::take_from), but that
     /// allocation can fail only where the value of an attribute is constructed.
     pub fn take_from(alloc: Global, cons: &mut Constructed<'a>) -> Result<NameView<'a>, DecodeError>

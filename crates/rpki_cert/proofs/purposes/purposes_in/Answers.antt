@@ -1,0 +1,41 @@
+use Rattle.std.proofs.Common.{◌≡◌, Bool, true, false, refl}
+use Rattle.std.specs.Prelude.{◌||◌}
+use Rattle.std.proofs.lemmas.Bool.{iff_false}
+use Rattle.rpki_der.specs.Cursor.{left}
+use Rattle.rpki_der.specs.TagName.{oid}
+use Rattle.rpki_der.proofs.EachLaws.{leaf-some}
+use Rattle.rpki_der.proofs.LeafValueLaws.{leaf-shorter}
+use Rattle.rpki_cert.specs.ExtensionContent.{router_purpose, SpellsPurpose, has_router}
+use Rattle.rpki_cert.specs.Access.{IsOidAs}
+use Rattle.rpki_cert.proofs.GatherLaws.{gathers-all, gathers-on, gathers-none, gathers-end, gathers-nothing}
+use Rattle.rpki_cert.proofs.AccessLaws.{oid-refused, or-joined, as-purposes, no-purposes}
+use Rattle.rpki_cert.proofs.purposes.purposes_in.Goals as goal
+
+pub returns-then-is_empty : goal.returns-then-is_empty
+returns-then-is_empty c =
+    no-purposes (left c.args.contents) (gathers-nothing SpellsPurpose has_router (left c.args.contents) (leaf-some oid false (IsOidAs router_purpose)) (c.is_empty.ensures.0 c.if-is_empty.true))
+
+pub purposes-init : goal.purposes-init
+purposes-init c = gathers-all SpellsPurpose has_router (left c.args.contents) (λ b. false || b) (λ b. refl)
+
+pub purposes-smaller : goal.purposes-smaller
+purposes-smaller c = leaf-shorter oid false (IsOidAs router_purpose) _ _ _ c.in-Ok.ensures.spells
+
+pub purposes-preserved : goal.purposes-preserved
+purposes-preserved c =
+    let some = iff_false c.is_empty-in-purposes.ensures c.purposes-test.true in
+    gathers-on SpellsPurpose has_router (left c.args.contents) (λ b. c.purposes.router || b) (λ b. c.is_either.result || b) _ _ c.in-Ok.found (λ zs. or-joined c.purposes.router c.in-Ok.found c.is_either.result (has_router zs) c.is_either.ensures) some c.purposes.invariant c.in-Ok.ensures
+
+pub returns-in-Err : goal.returns-in-Err
+returns-in-Err c =
+    let some = iff_false c.is_empty-in-purposes.ensures c.purposes-test.true in
+    no-purposes (left c.args.contents) (gathers-none SpellsPurpose has_router (left c.args.contents) (λ b. c.purposes.router || b) _ some c.purposes.invariant (oid-refused router_purpose _ _ c.in-Err.e c.in-Err.ensures))
+
+pub returns : goal.returns
+returns c =
+    as-purposes (left c.args.contents) c.purposes.router
+    (gathers-end SpellsPurpose has_router (left c.args.contents) (leaf-some oid false (IsOidAs router_purpose)) (λ b. c.purposes.router || b) _ c.purposes.router (iff_false c.is_empty.ensures c.if-is_empty.false) (c.is_empty-in-purposes.ensures.0 c.purposes-test.false) c.purposes.invariant (or-false c.purposes.router))
+  where
+    or-false : (b : Bool) → (b || false) ≡ b
+    or-false true = refl
+    or-false false = refl

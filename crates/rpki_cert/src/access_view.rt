@@ -1,0 +1,174 @@
+//! The URIs of certificates, read in place without memory (RFC 6487 4.8.6 to 4.8.8).
+
+ghost use Rattle.std.specs.Prelude.{◌≡◌, ◌∷◌, []};
+ghost use Rattle.std.specs.Option.{option_copied};
+ghost use Rattle.rpki_der.specs.Cursor.{left};
+ghost use Rattle.rpki_der.specs.Each.{SpellsSome};
+ghost use Rattle.rpki_cert.specs.InPlace.{Gives, GivesAll};
+ghost use Rattle.rpki_cert.specs.Access.{Through, SpellsName, SpellsUri, first_rsync, chosen, IsAccess, SpellsAccess, SpellsSomeRsync, SpellsRsyncAccess, SpellsPointName, SpellsPoints};
+
+use crate::access::take_oid_as;
+use crate::part::inside;
+use rpki::der::{Class, ConstOid, Constructed, ContentError, DecodeError, Tag};
+use rpki::uri::RsyncView;
+
+/// The text of a general name that is a URI.
+fn take_uri<'a>(cons: &mut Constructed<'a>) -> Result<Option<&'a [u8]>, DecodeError>
+    ensures { Gives option_copied SpellsUri (left cons.old) (left cons.new) result }
+{
+    match cons.take_primitive_if(Tag::CTX_6) {
+        Ok(text) => Ok(Some(text)),
+        Err(e) => Err(e),
+    }
+}
+
+/// The text of a general name, if that is a URI.
+fn take_name<'a>(cons: &mut Constructed<'a>) -> Result<Option<&'a [u8]>, DecodeError>
+    ensures { Gives option_copied SpellsName (left cons.old) (left cons.new) result }
+{
+    if cons.has_tag(Tag::CTX_6) {
+        return take_uri(cons);
+    }
+    match cons.take_value() {
+        Ok(_) => Ok(None),
+        Err(e) => Err(e),
+    }
+}
+
+/// The name of a description of this method.
+fn choose<'a>(same: bool, name: Option<&'a [u8]>) -> Option<&'a [u8]>
+    ensures { option_copied result ≡ chosen (same, option_copied name.entry) }
+{
+    if same { name } else { None }
+}
+
+/// The text of the URI of the description that these contents are, if it is of this method.
+fn access_in<'a>(
+    contents: Constructed<'a>,
+    method: ConstOid,
+) -> Result<Option<&'a [u8]>, DecodeError>
+    ensures { GivesAll option_copied (IsAccess method.entry.0.now) (left contents.entry) result }
+{
+    let mut rest = contents;
+    let same = match take_oid_as(&mut rest, method) {
+        Ok(same) => same,
+        Err(e) => return Err(e),
+    };
+    let name = match take_name(&mut rest) {
+        Ok(name) => name,
+        Err(e) => return Err(e),
+    };
+    match rest.finish() {
+        Ok(()) => Ok(choose(same, name)),
+        Err(e) => Err(e),
+    }
+}
+
+/// An access description: the text of its URI, if it is of this method.
+fn take_access<'a>(
+    cons: &mut Constructed<'a>,
+    method: ConstOid,
+) -> Result<Option<&'a [u8]>, DecodeError>
+    ensures { Gives option_copied (SpellsAccess method.entry.0.now) (left cons.old) (left cons.new) result }
+{
+    match cons.take_sequence() {
+        Ok(contents) => access_in(contents, method),
+        Err(e) => Err(e),
+    }
+}
+
+/// The text, if it is an rsync URI.
+fn rsync_in<'a>(name: Option<&'a [u8]>) -> Option<&'a [u8]>
+    ensures { option_copied result ≡ first_rsync (option_copied name.entry ∷ []) }
+{
+    match name {
+        Some(text) => match RsyncView::from_slice(text) {
+            Ok(_) => Some(text),
+            Err(_) => None,
+        },
+        None => None,
+    }
+}
+
+/// The first rsync URI of this method, in the descriptions that these contents are; there is one at least.
+fn accesses_in<'a>(
+    contents: Constructed<'a>,
+    method: ConstOid,
+) -> Result<Option<&'a [u8]>, DecodeError>
+    ensures { GivesAll option_copied (SpellsSomeRsync method.entry.0.now) (left contents.entry) result }
+{
+    if contents.is_empty() {
+        return Err(DecodeError::Content(ContentError::from_static("empty SEQUENCE")));
+    }
+    let mut rest = contents;
+    let mut found = None;
+    'accesses: while !rest.is_empty() {
+        match take_access(&mut rest, method) {
+            Ok(name) => found = found.or(rsync_in(name)),
+            Err(e) => return Err(e),
+        }
+    }
+    Ok(found)
+}
+
+/// The first rsync URI of the names that these contents are, each a URI; there is one at least.
+fn uris_in<'a>(contents: Constructed<'a>) -> Result<Option<&'a [u8]>, DecodeError>
+    ensures { GivesAll option_copied (Through first_rsync (SpellsSome SpellsUri)) (left contents.entry) result }
+{
+    if contents.is_empty() {
+        return Err(DecodeError::Content(ContentError::from_static("empty SEQUENCE")));
+    }
+    let mut rest = contents;
+    let mut found = None;
+    'uris: while !rest.is_empty() {
+        match take_uri(&mut rest) {
+            Ok(name) => found = found.or(rsync_in(name)),
+            Err(e) => return Err(e),
+        }
+    }
+    Ok(found)
+}
+
+/// Access descriptions, as [take_rsync_access](crate::access::take_rsync_access) reads them, and nothing else.
+/// Allocates nothing.
+pub fn accesses_of<'a>(
+    octets: Constructed<'a>,
+    method: ConstOid,
+) -> Result<Option<&'a [u8]>, DecodeError>
+    ensures { GivesAll option_copied (SpellsRsyncAccess method.entry.0.now) (left octets.entry) result }
+{
+    match inside(octets, Tag::SEQUENCE) {
+        Ok(contents) => accesses_in(contents, method),
+        Err(e) => Err(e),
+    }
+}
+
+/// The name of a distribution point, in these contents of the point.
+fn point_name<'a>(point: Constructed<'a>) -> Result<Option<&'a [u8]>, DecodeError>
+    ensures { GivesAll option_copied SpellsPointName (left point.entry) result }
+{
+    let tag = Tag::new(Class::Context, 0);
+    let name = match inside(point, tag) {
+        Ok(name) => name,
+        Err(e) => return Err(e),
+    };
+    match inside(name, tag) {
+        Ok(contents) => uris_in(contents),
+        Err(e) => Err(e),
+    }
+}
+
+/// CRL distribution points, as [take_points](crate::access::take_points) reads them, and nothing else. Allocates
+/// nothing.
+pub fn points_of<'a>(octets: Constructed<'a>) -> Result<Option<&'a [u8]>, DecodeError>
+    ensures { GivesAll option_copied SpellsPoints (left octets.entry) result }
+{
+    let points = match inside(octets, Tag::SEQUENCE) {
+        Ok(points) => points,
+        Err(e) => return Err(e),
+    };
+    match inside(points, Tag::SEQUENCE) {
+        Ok(point) => point_name(point),
+        Err(e) => Err(e),
+    }
+}
