@@ -4,7 +4,8 @@
 -- What is signed, and a certificate around it: CertLaws. What an extension says: KnownLaws, PolicyLaws, AccessLaws.
 -- Checks of profiles: ProfileLaws. Their rules: RuleLaws.
 -- Read in place: values, names, lists of extensions, fields, certificates: NestedLaws, NameViewLaws, ListedLaws,
---   FieldsLaws, ViewLaws. That what is wrong is no certificate: WrongLaws.
+--   FieldsLaws, ViewLaws. That what is signed is one value: TbsValueLaws. That what is wrong is no certificate:
+--   WrongLaws.
 
 pub mod SomeLaws
 pub mod ExtensionListLaws
@@ -19,6 +20,7 @@ pub mod NestedLaws
 pub mod NameViewLaws
 pub mod ListedLaws
 pub mod FieldsLaws
+pub mod TbsValueLaws
 pub mod ViewLaws
 pub mod WrongLaws
 pub mod GatherLaws

@@ -1,5 +1,5 @@
 -- Values with everything nested in them, by headers that are visited from the left.
-use Rattle.std.proofs.Common.{◌≡◌, ◌≢◌, ◌∙◌, inl, inr, ◌⊎◌, ℕ, ◌-◌, ◌+◌, ◌<◌, ◌≤◌, Bool, true, false, List, [], ◌∷◌, ◌++◌, length, drop, take, refl, sym, ap, subst, arith, append_assoc, length-append, length-drop, take_all}
+use Rattle.std.proofs.Common.{◌≡◌, ◌≢◌, ◌↔◌, ◌∙◌, inl, inr, ◌⊎◌, ℕ, ◌-◌, ◌+◌, ◌<◌, ◌≤◌, Bool, true, false, List, [], ◌∷◌, ◌++◌, length, drop, take, refl, sym, ap, subst, arith, append_assoc, length-append, length-drop, take_all}
 use Rattle.std.proofs.lemmas.Bool.{false≢true}
 use Rattle.std.proofs.lemmas.List.{append-nil, append_cancel_right, drop_at, take_at}
 use Rattle.rpki_der.specs.TagName.{TagName}
@@ -10,6 +10,7 @@ use Rattle.rpki_der.specs.WantedValue.{SpellsWanted, IsAnyTag, IsWantedFault}
 use Rattle.rpki_der.specs.declared.error.DecodeError.{DecodeError}
 use Rattle.rpki_der.specs.declared.error.DecodeError.TheVariants.{Truncated, BadTag, BadLength, Unexpected, Content, Trailing, OutOfMemory}
 use Rattle.rpki_der.proofs.EncodeLaws.{tlv-at-least}
+use Rattle.rpki_der.proofs.ComposedLaws.{spelled-whole, all-read}
 use Rattle.rpki_der.specs.Each.{SpellsEach}
 use Rattle.rpki_der.specs.Members.{Members, Empty, Primitive, Constructed, spell, HaveHeaders, count, IsValue, IsValueList, SpellsValue}
 use Rattle.rpki_der.specs.ValueListLaws.{values_append, no_values, primitive_value, constructed_value}
@@ -286,3 +287,25 @@ constructed-there s q d o p w t a h i j k = value-there s q (t, true, d) a (cons
 
 pub not-longer : (s q o p : List ℕ) (x : Parts) → Accepts Any s x q → o ≡ s → p ≡ q → length p ≤ length o
 not-longer s q o p x a i j = omega (arith, ap length i, ap length j, any-shorter s q x a)
+
+-- a value by its header alone
+pub headed-there : (s q o p w : List ℕ) (x : Parts) → Accepts Any s x q → o ≡ s → p ≡ q → w ≡ take (length o - length p) o → (s ≡ w ++ q) × ((IsValue w → ⊥) → Refuses SpellsValue s)
+headed-there s q o p w x a i j k = (a.spells.parts ∙ ap (λ (y : List ℕ). y ++ q) (sym e), refused x a e)
+  where
+    e : w ≡ a.spells.front
+    e = front-octets s a.spells.front q o p w a.spells.parts i j k
+
+    refused : (y : Parts) (b : Accepts Any s y q) → w ≡ b.spells.front → (IsValue w → ⊥) → Refuses SpellsValue s
+    refused (t, false, d) b is none = λ v r h. none (subst IsValue (sym is) (primitive-one t d b.spells.front b.spells.spelled))
+    refused (t, true, d) b is none = value-not s d q t b (λ l. none (subst IsValue (sym is) (constructed-one t d b.spells.front b.spells.spelled l)))
+
+-- ---- a value that is all of the octets
+
+pub value-all : (s v r : List ℕ) → Accepts SpellsValue s v r → (r ≡ []) ↔ IsValue s
+value-all s v r a = (
+    λ end. let h = (all-read SpellsValue s v r a end).0 in subst IsValue (sym h.same) h.value,
+    λ one. sym (a.only s [] (spelled-whole SpellsValue s s (record { same = refl; value = one }))).1,
+  )
+
+pub value-nowhere : (s : List ℕ) → Refuses SpellsValue s → IsValue s → ⊥
+value-nowhere s none one = none s [] (spelled-whole SpellsValue s s (record { same = refl; value = one }))

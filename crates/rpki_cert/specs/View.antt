@@ -4,7 +4,7 @@ use Rattle.rpki_der.specs.TagName.{sequence, oid}
 use Rattle.rpki_der.specs.Reading.{Accepts, Refuses, SpellsNothing}
 use Rattle.rpki_der.specs.Values.{SpellsContents, SpellsLeaf}
 use Rattle.rpki_der.specs.Each.{SpellsEach, SpellsSome}
-use Rattle.rpki_der.specs.Members.{SpellsValue}
+use Rattle.rpki_der.specs.Members.{SpellsValue, IsValue}
 use Rattle.rpki_der.specs.Parts.{Then, SpellsBoth}
 use Rattle.rpki_time.specs.Serial.{SpellsSerial}
 use Rattle.rpki_time.specs.PeriodValue.{SpellsPeriod}
@@ -171,10 +171,14 @@ pub record IsCertAt (s : List ℕ) (v : CertView) (x : CertParts) : Type 0 where
 pub data IsSignatureWrong (s : List ℕ) (q : CertPart) : Type 0 where
   NoSignature : SpellsNothing SpellsSignature s → q ≡ Signature → IsSignatureWrong s q
 
+-- the algorithm and the signature
+abbrev pub AreBehindWrong : List ℕ → CertPart → Type 0
+AreBehindWrong = FirstWrong SpellsRpkiAlgorithm Algorithm (λ algorithm. IsSignatureWrong)
+
 -- the parts of signed data
 abbrev pub ArePartsWrong : List ℕ → CertPart → Type 0
 ArePartsWrong =
-    FirstWrong SpellsValue Signed (λ signed. FirstWrong SpellsRpkiAlgorithm Algorithm (λ algorithm. IsSignatureWrong))
+    FirstWrong SpellsValue Signed (λ signed. AreBehindWrong)
 
 -- all of s is to be a certificate: the SEQUENCE around all; then the parts of signed data; then what is signed; then
 -- that the algorithms are the same
@@ -186,3 +190,18 @@ pub data IsCertWrong (s : List ℕ) (q : CertPart) : Type 0 where
   Differ : (c : List ℕ) (x : SignedParts Bool) (t : TbsParts) → SpellsContents sequence true c s
       → IsSignedContents SpellsRpkiAlgorithm x c → SpellsTbs t x.signed → (t.algorithm ≡ x.algorithm → ⊥)
       → q ≡ SameAlgorithm → IsCertWrong s q
+
+-- ---- a certificate, of whose signed part the header alone was read
+
+-- where d is a value, and m follows it, these are the parts of signed data
+abbrev pub ArePartsBehind : List ℕ → List ℕ → Parts → Type 0
+ArePartsBehind d m v =
+    IsValue d → (x : SignedParts Bool) × (h : IsSignedContents SpellsRpkiAlgorithm x (d ++ m)) × ArePartsIn x (d ++ m) h v
+
+-- a SEQUENCE of d, and of m behind it, is a certificate of these parts
+abbrev pub IsCertBehind : List ℕ → List ℕ → CertView → Type 0
+IsCertBehind d m v = (s : List ℕ) → SpellsContents sequence true (d ++ m) s → (x : CertParts) × IsCertAt s v x
+
+-- where d is a value, this is wrong in it
+abbrev pub IsWrongBehind : List ℕ → List ℕ → CertPart → Type 0
+IsWrongBehind d m q = (s : List ℕ) → SpellsContents sequence true (d ++ m) s → IsValue d → IsCertWrong s q

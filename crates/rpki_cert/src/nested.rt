@@ -6,8 +6,8 @@
 
 ghost use Rattle.std.specs.Prelude.{◌≡◌, ◌≢◌, ◌≤◌, ◌-◌, ◌↔◌, [], length, take, IsTrue, IfSome, IfNone};
 ghost use Rattle.rpki_der.specs.Cursor.{left};
-ghost use Rattle.rpki_der.specs.Members.{SpellsValue, IsValueList};
-ghost use Rattle.rpki_cert.specs.InPlace.{AreHeaded, IsPastHeader, Takes};
+ghost use Rattle.rpki_der.specs.Members.{SpellsValue, IsValue, IsValueList};
+ghost use Rattle.rpki_cert.specs.InPlace.{AreHeaded, IsPastHeader, Takes, TakesHeaded};
 
 use rpki::der::{Constructed, Content};
 
@@ -83,6 +83,29 @@ pub fn take_nested<'a>(cons: &mut Constructed<'a>) -> Option<&'a [u8]>
             Some(front_of(octets, cons.rest()))
         }
         Err(_) => None,
+    }
+}
+
+/// The octets of the value at the front by its header alone: what is nested in it is not looked at; moves past it. None
+/// where no value begins the octets.
+pub fn take_headed<'a>(cons: &mut Constructed<'a>) -> Option<&'a [u8]>
+    ensures { TakesHeaded (λ v. v.now) (left cons.old) (left cons.new) result }
+{
+    let octets = cons.rest();
+    match cons.take_value() {
+        Ok(_) => Some(front_of(octets, cons.rest())),
+        Err(_) => None,
+    }
+}
+
+/// Whether the octets are one value, with everything nested in it.
+pub fn is_value(octets: &[u8]) -> bool
+    ensures { IsTrue result ↔ IsValue octets.now }
+{
+    let mut rest = Constructed::from_slice(octets);
+    match take_nested(&mut rest) {
+        Some(_) => rest.is_empty(),
+        None => false,
     }
 }
 

@@ -4,13 +4,13 @@ ghost use Rattle.std.specs.Prelude.{◌≡◌, ◌<◌, List, ℕ, Bool, IfOk, I
 ghost use Rattle.rpki_der.specs.Cursor.{left};
 ghost use Rattle.rpki.specs.SignedData.{SignedParts, SpellsSignature, IsSignedContents};
 ghost use Rattle.rpki_cert.specs.Cert.{CertParts, SpellsRpkiAlgorithm, SpellsCert};
-ghost use Rattle.rpki_cert.specs.View.{most_extensions, IsWholeOf, ArePartsIn, ArePartsWrong, IsCertAt, IsCertWrong};
+ghost use Rattle.rpki_cert.specs.View.{most_extensions, IsWholeOf, ArePartsBehind, AreBehindWrong, IsCertBehind, IsWrongBehind, IsCertAt, IsCertWrong};
 
 use crate::cert::is_same;
 use crate::cert_part::CertPart;
 use crate::fields::{TbsView, read_tbs};
 use crate::listed::only_in;
-use crate::nested::{front_of, take_nested};
+use crate::nested::{front_of, is_value, take_headed};
 use crate::section::Section;
 use rpki::crypto::{RpkiSignatureAlgorithm, SignatureAlgorithm};
 use rpki::der::{Constructed, Tag};
@@ -53,18 +53,14 @@ fn read_signature<'a>(rest: Constructed<'a>) -> Option<&'a [u8]>
     }
 }
 
-/// The parts of signed data, which are all of these contents.
-fn read_parts<'a>(contents: Constructed<'a>) -> Result<Parts<'a>, CertPart>
-    ensures ok { IfOk result (λ v. (x : SignedParts Bool)
-        × (h : IsSignedContents SpellsRpkiAlgorithm x (left contents.entry)) × ArePartsIn x (left contents.entry) h v) }
-    ensures err { IfErr result (λ q. ArePartsWrong (left contents.entry) q) }
+/// The parts of signed data: what is signed, and what follows it, which is all of these contents.
+fn read_parts<'a>(signed: &'a [u8], behind: Constructed<'a>) -> Result<Parts<'a>, CertPart>
+    ensures signed { IfOk result (λ v. v.«data».octets.now ≡ signed.now) }
+    ensures ok { IfOk result (λ v. ArePartsBehind signed.now (left behind.entry) v) }
+    ensures err { IfErr result (λ q. AreBehindWrong (left behind.entry) q) }
 {
-    let mut rest = contents;
-    let data = match take_nested(&mut rest) {
-        Some(data) => data,
-        None => return Err(CertPart::Signed),
-    };
-    let behind = rest.rest();
+    let octets = behind.rest();
+    let mut rest = behind;
     let kind = match RpkiSignatureAlgorithm::x509_take_from(&mut rest) {
         Ok(kind) => kind,
         Err(_) => return Err(CertPart::Algorithm),
@@ -73,12 +69,12 @@ fn read_parts<'a>(contents: Constructed<'a>) -> Result<Parts<'a>, CertPart>
     match read_signature(rest) {
         Some(signature) => Ok(Parts {
             data: Section {
-                octets: data,
-                following: behind.len(),
+                octets: signed,
+                following: octets.len(),
             },
             kind,
             algorithm: Section {
-                octets: front_of(behind, last),
+                octets: front_of(octets, last),
                 following: last.len(),
             },
             signature: Section {
@@ -88,6 +84,26 @@ fn read_parts<'a>(contents: Constructed<'a>) -> Result<Parts<'a>, CertPart>
         }),
         None => Err(CertPart::Signature),
     }
+}
+
+/// The certificate of what is signed and of what follows it, which is all of these contents. Whether what is signed is a
+/// value with everything nested in it is seen by its fields; where one of them is wrong, it isn't known.
+fn read_behind<'a>(signed: &'a [u8], behind: Constructed<'a>) -> Result<CertView<'a>, CertPart>
+    ensures ok { IfOk result (λ v. IsCertBehind signed.now (left behind.entry) v) }
+    ensures err { IfErr result (λ q. IsWrongBehind signed.now (left behind.entry) q) }
+{
+    let parts = match read_parts(signed, behind) {
+        Ok(parts) => parts,
+        Err(part) => return Err(part),
+    };
+    let tbs = match read_tbs(Constructed::from_slice(signed)) {
+        Ok(tbs) => tbs,
+        Err(part) => return Err(part),
+    };
+    if !is_same(tbs.signature, parts.kind) {
+        return Err(CertPart::SameAlgorithm);
+    }
+    Ok(CertView { parts, tbs })
 }
 
 impl<'a> CertView<'a> {
@@ -102,21 +118,23 @@ impl<'a> CertView<'a> {
         ensures none { IfErr result (λ _. (x : CertParts) → SpellsCert x octets.now
             → most_extensions < length x.tbs.extensions) }
     {
-        let contents = match only_in(Constructed::from_slice(octets), Tag::SEQUENCE) {
+        let mut behind = match only_in(Constructed::from_slice(octets), Tag::SEQUENCE) {
             Some(contents) => contents,
             None => return Err(CertPart::Certificate),
         };
-        let parts = match read_parts(contents) {
-            Ok(parts) => parts,
-            Err(part) => return Err(part),
+        let signed = match take_headed(&mut behind) {
+            Some(signed) => signed,
+            None => return Err(CertPart::Signed),
         };
-        let tbs = match read_tbs(Constructed::from_slice(parts.data.octets)) {
-            Ok(tbs) => tbs,
-            Err(part) => return Err(part),
-        };
-        if !is_same(tbs.signature, parts.kind) {
-            return Err(CertPart::SameAlgorithm);
+        match read_behind(signed, behind) {
+            Ok(found) => Ok(found),
+            Err(part) => {
+                if is_value(signed) {
+                    Err(part)
+                } else {
+                    Err(CertPart::Signed)
+                }
+            }
         }
-        Ok(CertView { parts, tbs })
     }
 }

@@ -1,39 +1,44 @@
-use Rattle.std.proofs.Common.{refl}
+use Rattle.std.proofs.Common.{◌∙◌, refl, sym, subst}
 use Rattle.std.proofs.lemmas.Bool.{iff_false}
+use Rattle.rpki_der.specs.TagName.{sequence}
+use Rattle.rpki_der.specs.Values.{SpellsContents}
 use Rattle.rpki_cert.specs.View.IsCertWrong.{NoCert, InParts}
-use Rattle.rpki_cert.proofs.ViewLaws.{in-signed, differ, cert-read}
+use Rattle.rpki_cert.specs.View.FirstWrong.{AtPart}
 use Rattle.rpki_cert.proofs.WrongLaws.{cert-wrong}
 use Rattle.rpki_cert.proofs.view.CertView.read.Goals as goal
 
 pub returns-in-None-clause-err : goal.returns-in-None-clause-err
 returns-in-None-clause-err c = let h = rw c.from_slice.ensures at c.in-None.ensures in NoCert h refl
 
-pub returns-in-Err-clause-err : goal.returns-in-Err-clause-err
-returns-in-Err-clause-err c = let h = rw c.from_slice.ensures at c.in-Some.ensures in InParts _ h.0 c.in-Err.ensures.err
+pub returns-in-None-take_headed-clause-err : goal.returns-in-None-take_headed-clause-err
+returns-in-None-take_headed-clause-err c =
+    let h = rw c.from_slice.ensures at c.in-Some.ensures in InParts _ h.0 (AtPart c.in-None-take_headed.ensures refl)
 
-pub returns-in-Err-read_tbs-clause-err : goal.returns-in-Err-read_tbs-clause-err
-returns-in-Err-read_tbs-clause-err c =
+pub returns-in-Ok-clause-ok : goal.returns-in-Ok-clause-ok
+returns-in-Ok-clause-ok c =
     let h = rw c.from_slice.ensures at c.in-Some.ensures in
-    in-signed c.args.octets.now _ _ c.in-Ok.parts c.in-Err-read_tbs.part h.0 c.in-Ok.ensures.ok c.from_slice-2.ensures c.in-Err-read_tbs.ensures.err
+    let t = rw c.in-Some-take_headed.ensures.0 at h.0 in
+    c.in-Ok.ensures.ok _ t
 
-pub returns-then-not-is_same-clause-err : goal.returns-then-not-is_same-clause-err
-returns-then-not-is_same-clause-err c =
+pub returns-then-is_value-clause-err : goal.returns-then-is_value-clause-err
+returns-then-is_value-clause-err c =
     let h = rw c.from_slice.ensures at c.in-Some.ensures in
-    differ c.args.octets.now _ _ c.in-Ok.parts c.in-Ok-read_tbs.tbs _ h.0 c.in-Ok.ensures.ok c.from_slice-2.ensures c.in-Ok-read_tbs.ensures.ok (iff_false c.is_same.ensures c.if-not-is_same.true) refl
+    let t = rw c.in-Some-take_headed.ensures.0 at h.0 in
+    c.in-Err.ensures.err _ t (c.is_value.ensures.0 c.if-is_value.true)
 
-pub returns-clause-ok : goal.returns-clause-ok
-returns-clause-ok c =
+pub returns-else-is_value-clause-err : goal.returns-else-is_value-clause-err
+returns-else-is_value-clause-err c =
     let h = rw c.from_slice.ensures at c.in-Some.ensures in
-    cert-read c.args.octets.now _ _ _ h.0 c.in-Ok.ensures.ok c.from_slice-2.ensures c.in-Ok-read_tbs.ensures.ok (c.is_same.ensures.0 c.if-not-is_same.false)
+    InParts _ h.0 (AtPart (c.in-Some-take_headed.ensures.1 (iff_false c.is_value.ensures c.if-is_value.false)) refl)
 
 pub returns-in-None-clause-none : goal.returns-in-None-clause-none
 returns-in-None-clause-none c = cert-wrong _ _ (returns-in-None-clause-err c)
 
-pub returns-in-Err-clause-none : goal.returns-in-Err-clause-none
-returns-in-Err-clause-none c = cert-wrong _ _ (returns-in-Err-clause-err c)
+pub returns-in-None-take_headed-clause-none : goal.returns-in-None-take_headed-clause-none
+returns-in-None-take_headed-clause-none c = cert-wrong _ _ (returns-in-None-take_headed-clause-err c)
 
-pub returns-in-Err-read_tbs-clause-none : goal.returns-in-Err-read_tbs-clause-none
-returns-in-Err-read_tbs-clause-none c = cert-wrong _ _ (returns-in-Err-read_tbs-clause-err c)
+pub returns-then-is_value-clause-none : goal.returns-then-is_value-clause-none
+returns-then-is_value-clause-none c = cert-wrong _ _ (returns-then-is_value-clause-err c)
 
-pub returns-then-not-is_same-clause-none : goal.returns-then-not-is_same-clause-none
-returns-then-not-is_same-clause-none c = cert-wrong _ _ (returns-then-not-is_same-clause-err c)
+pub returns-else-is_value-clause-none : goal.returns-else-is_value-clause-none
+returns-else-is_value-clause-none c = cert-wrong _ _ (returns-else-is_value-clause-err c)
