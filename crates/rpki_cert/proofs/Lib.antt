@@ -3,8 +3,8 @@
 -- Values, one at least; lists of extensions; each identifier once: SomeLaws, ExtensionListLaws, UniqueLaws.
 -- What is signed, and a certificate around it: CertLaws. What an extension says: KnownLaws, PolicyLaws, AccessLaws.
 -- Checks of profiles: ProfileLaws. Their rules: RuleLaws.
--- Read in place: values, names, lists of extensions, fields, certificates: NestedLaws, NameViewLaws, ListedLaws,
---   FieldsLaws, ViewLaws. That what is signed is one value: TbsValueLaws. That what is wrong is no certificate:
+-- Read in place: values, names, lists of extensions, their index, fields, certificates: NestedLaws, NameViewLaws,
+--   ListedLaws, ExtensionIndexLaws, FieldsLaws, ViewLaws. That what is signed is one value: TbsValueLaws. That what is wrong is no certificate:
 --   WrongLaws.
 
 pub mod SomeLaws
@@ -19,6 +19,7 @@ pub mod RuleLaws
 pub mod NestedLaws
 pub mod NameViewLaws
 pub mod ListedLaws
+pub mod ExtensionIndexLaws
 pub mod FieldsLaws
 pub mod TbsValueLaws
 pub mod ViewLaws

@@ -21,6 +21,7 @@ use Rattle.rpki_der.proofs.LeafValueLaws.{leaf-shorter, contents-shorter}
 use Rattle.rpki_cert.specs.declared.cert_part.CertPart.{CertPart}
 use Rattle.rpki_cert.specs.declared.section.Section.{Section}
 use Rattle.rpki_cert.specs.Cert.{find, are_unique, extensions_tag}
+pub use Rattle.rpki_cert.specs.ExtensionIndex.{Seeks}
 use Rattle.rpki_cert.specs.View.{IsIdentified, ending, behind_first, SpellsListed, SpellsFrame, AreExtensionsWrong, AreExtensionsAt, HasCount, most_extensions}
 use Rattle.rpki_cert.specs.View.AreExtensionsWrong.{NotListed, TooMany, Repeated}
 
@@ -80,10 +81,6 @@ each-skim s i q [] some a h = absurd (some h)
 each-skim s i q (y ∷ zs) some a h = let e = identified s i q y h.0 a h.1 in (y, zs, refl, e.0, subst (Each zs) e.1 h.2)
 
 -- ---- a search
-
--- what is found in s is found in r, and the same follows it
-pub record Seeks (id s r : List ℕ) : Type 0 where
-  pub same : (xs : List ExtensionParts) (h : Each xs s) → (ys : List ExtensionParts) × (k : Each ys r) × (find id xs ≡ find id ys) × (behind_first id xs s h ≡ behind_first id ys r k)
 
 pub seeks-all : (id s : List ℕ) → Seeks id s s
 seeks-all id s = record { same = λ xs h. (xs, h, refl, refl) }

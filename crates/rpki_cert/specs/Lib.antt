@@ -6,6 +6,7 @@ pub mod ExtensionContent
 pub mod Access
 pub mod InPlace
 pub mod View
+pub mod ExtensionIndex
 pub mod KnownView
 pub mod Valid
 pub mod Profile

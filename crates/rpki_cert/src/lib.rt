@@ -11,6 +11,7 @@ mod cert;
 mod cert_part;
 mod checks;
 mod contents;
+mod extension_index;
 mod extensions;
 mod fields;
 mod key_usage;

@@ -19,7 +19,7 @@ pub const MOST_EXTENSIONS: usize = 64;
 
 /// The contents octets of the identifier of the extension at the front; moves past it. They are not validated, and what
 /// follows the identifier is not looked at.
-fn skim<'a>(cons: &mut Constructed<'a>) -> Option<&'a [u8]>
+pub fn skim<'a>(cons: &mut Constructed<'a>) -> Option<&'a [u8]>
     ensures some { IfSome result (λ id. IsIdentified (left cons.old) id.now (left cons.new)) }
     ensures none { IfNone result (Refuses SpellsExtension (left cons.old)) }
 {
@@ -78,7 +78,7 @@ pub fn find_in<'a>(list: Constructed<'a>, id: Oid<&[u8]>) -> Option<(ExtensionVi
 }
 
 /// The last octet of an identifier.
-fn ending(id: &[u8]) -> u8
+pub fn ending(id: &[u8]) -> u8
     ensures { result ≡ ending id.now }
 {
     if id.is_empty() { 0 } else { id[id.len() - 1] }
