@@ -8,6 +8,7 @@ pub mod InPlace
 pub mod View
 pub mod KnownView
 pub mod Valid
+pub mod Inspected
 pub mod Profile
 pub mod Rule
 pub mod Verified

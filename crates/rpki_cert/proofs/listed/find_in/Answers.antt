@@ -1,7 +1,11 @@
 use Rattle.std.proofs.Common.{◌∙◌, sym}
 use Rattle.std.proofs.lemmas.Bool.{iff_false}
-use Rattle.rpki_cert.proofs.ListedLaws.{skim-shorter, seeks-on, seeks-front, seeks-not, seeks-none, seeks-end, seeks-place}
+use Rattle.rpki_der.specs.Cursor.{left}
+use Rattle.rpki_cert.proofs.ListedLaws.{skim-shorter, seeks-all, seeks-on, seeks-front, seeks-not, seeks-none, seeks-end, seeks-place}
 use Rattle.rpki_cert.proofs.listed.find_in.Goals as goal
+
+pub extensions-init : goal.extensions-init
+extensions-init c = seeks-all c.args.id.0.now (left c.args.list)
 
 pub extensions-smaller : goal.extensions-smaller
 extensions-smaller c = skim-shorter _ _ _ c.in-Some.ensures.some
