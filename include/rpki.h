@@ -12,9 +12,9 @@
  * What a call takes of memory it frees before it returns. At the peak rpki_walk, rpki_index, rpki_fault and
  * rpki_signed_data take up to 24 octets for each level of nesting, and 64 more; rpki_name_inspect takes the same of a
  * constructed value of an attribute. Those that write values or base 64, and rpki_base64_read, take copies of what they
- * read and of what they write, and for signed data an index of its headers; rpki_certificate_inspect takes copies of
- * the certificate, and an index of its headers. All others take none (rpki_hex, rpki_serial_decimal, those that count
- * times on, and the calls on URIs too), and so never return RPKI_OUT_OF_MEMORY.
+ * read and of what they write, and for signed data an index of its headers. All others take none (those on
+ * certificates, rpki_hex, rpki_serial_decimal, those that count times on, and the calls on URIs too), and so never
+ * return RPKI_OUT_OF_MEMORY.
  * So bound the size of what strangers send before you hand it in.
  *
  * What the caller owes, which no call can check:
@@ -613,15 +613,15 @@ rpki_status rpki_certificate_extensions(const uint8_t *octets, size_t size, stru
  * Reads a resource certificate, as rpki_certificate does, and holds it to the profile of this number, an
  * RPKI_CERTIFICATE_ constant (RFC 6487 4, RFC 8209 3.1). With `strict` false the names are not held to theirs. The
  * octets of resources are not read, and whether the signature is that of a key, or a moment is in the period, is not
- * looked at.
+ * looked at. Takes no memory.
  *
  * The status is from 85 to 110 where the octets are a certificate that breaks a rule of the profile: the first of these
  * that is broken. Of a trust anchor they are tested in the order 85, 86, 87, 94, 108, 109, 88, 90, 98, 92, 96, 101,
  * 103, 104, 105; of an authority as far as 96 in the same order, then 104, 105, 95, 100, 102; of an end entity as far
  * as 98, then 93, 97, 106, 95, 100, 102; of a router as far as 109, then 89, 91, 93, 97, 110, 107, 99, 95, 100, 102. An
  * extension that a rule wants, and that is malformed or not as critical as it has to be, breaks the rule.
- * RPKI_NO_PROFILE: no profile has the number; then the octets are not looked at. RPKI_OUT_OF_MEMORY: they are a
- * certificate, and allocation failed. Else, where it is not 0, it is that of rpki_certificate.
+ * RPKI_NO_PROFILE: no profile has the number; then the octets are not looked at. Else, where it is not 0, it is that of
+ * rpki_certificate.
  */
 rpki_status rpki_certificate_inspect(const uint8_t *octets, size_t size, uint8_t profile, bool strict);
 

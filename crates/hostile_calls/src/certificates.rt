@@ -110,11 +110,11 @@ fn tell_located(alloc: Global, report: Report, tbs: &TbsCert) -> io::Result<()> 
 }
 
 /// Lines of the inspections.
-fn tell_inspections(alloc: Global, report: Report, tbs: &TbsCert) -> io::Result<()> {
-    tell_test(report, "inspect_ta", tbs.inspect_ta(alloc, true))?;
-    tell_test(report, "inspect_ca", tbs.inspect_ca(alloc, true))?;
-    tell_test(report, "inspect_ee", tbs.inspect_ee(alloc, true))?;
-    tell_test(report, "inspect_router", tbs.inspect_router(alloc, true))
+fn tell_inspections(report: Report, tbs: &TbsCert) -> io::Result<()> {
+    tell_test(report, "inspect_ta", tbs.inspect_ta(true))?;
+    tell_test(report, "inspect_ca", tbs.inspect_ca(true))?;
+    tell_test(report, "inspect_ee", tbs.inspect_ee(true))?;
+    tell_test(report, "inspect_router", tbs.inspect_router(true))
 }
 
 /// The certificate that the octets are, and what it says.
@@ -127,7 +127,7 @@ fn tell_read(alloc: Global, report: Report, octets: Vec<u8>) -> Result<(), Failu
             tell_authority_key(report, tbs)?;
             tell_flags(report, tbs)?;
             tell_located(alloc, report, tbs)?;
-            tell_inspections(alloc, report, tbs)?;
+            tell_inspections(report, tbs)?;
         }
         Err(DecodeError::OutOfMemory) => report.words("out of memory")?,
         Err(e) => report.shown("rejected", &e)?,

@@ -1,6 +1,6 @@
 -- Certificates that are held to a profile.
 use Rattle.std.proofs.Common.{ℕ, Bool, List, Result, Ok, Err}
-use Rattle.std.specs.Prelude.{IfOk, MatchResult}
+use Rattle.std.specs.Prelude.{MatchResult}
 use Rattle.rpki_cert.specs.declared.rule.CertRule.{CertRule}
 use Rattle.rpki_cert.specs.Cert.{CertParts, SpellsCert}
 use Rattle.rpki_cert.specs.Rule.{TestsRules}
@@ -8,9 +8,7 @@ use Rattle.rpki_c.specs.declared.certificate_inspection.CertificateProfile.{Cert
 use Rattle.rpki_c.specs.CertificateInspection.{HasProfile, rules_of, IsOfProfile, BreaksRule}
 
 -- what a test of a certificate says of the octets that are the certificate
-pub of-octets : {E : Type 0} (s : List ℕ) (profile : CertificateProfile) (strict : Bool) (x : CertParts) → SpellsCert x s → (r : Result (Result (Unit {0}) CertRule) E)
-    → TestsRules (HasProfile profile strict x.tbs) strict x.tbs (rules_of profile) r
-    → IfOk r (λ told. MatchResult told (λ u. IsOfProfile s profile strict) (λ rule. BreaksRule s profile strict rule))
-of-octets s profile strict x spelled (Ok (Ok u)) h = record { cert = x; spelled = spelled; has = h }
-of-octets s profile strict x spelled (Ok (Err rule)) h = record { cert = x; spelled = spelled; first = h.0; other = h.1 }
-of-octets s profile strict x spelled (Err e) h = tt
+pub of-octets : (s : List ℕ) (profile : CertificateProfile) (strict : Bool) (x : CertParts) → SpellsCert x s → (r : Result (Unit {0}) CertRule)
+    → TestsRules (HasProfile profile strict x.tbs) strict x.tbs (rules_of profile) r → MatchResult r (λ u. IsOfProfile s profile strict) (λ rule. BreaksRule s profile strict rule)
+of-octets s profile strict x spelled (Ok u) h = record { cert = x; spelled = spelled; has = h }
+of-octets s profile strict x spelled (Err rule) h = record { cert = x; spelled = spelled; first = h.0; other = h.1 }

@@ -10,7 +10,7 @@ use Rattle.rpki_cert.specs.Profile.{IsTaProfile, IsCaProfile, IsEeProfile, IsRou
 use Rattle.rpki_cert.specs.Rule.{IsFirstBroken, ta_rules, ca_rules, ee_rules, router_rules}
 use Rattle.rpki_cert.specs.View.{IsCertWrong}
 use Rattle.rpki_c.specs.Certificate.{part_number}
-use Rattle.rpki_c.specs.Status.{no_profile, out_of_memory}
+use Rattle.rpki_c.specs.Status.{no_profile}
 
 -- the status of a certificate that breaks this rule
 abbrev pub cert_rule_number : CertRule → ℕ
@@ -75,12 +75,11 @@ pub record BreaksRule (s : List ℕ) (profile : CertificateProfile) (strict : Bo
   pub other : HasProfile profile strict cert.tbs → ⊥
 
 -- Status 0: the octets are a certificate of the profile. 85 to 110: they are a certificate, which breaks the rule of
--- this number first. 7: they are a certificate, and allocation failed. Else the number of the part that is wrong.
+-- this number first. Else the number of the part that is wrong.
 abbrev pub IsInspectedAs : List ℕ → CertificateProfile → Bool → ℕ → Type 0
 IsInspectedAs s profile strict status =
     ((status ≡ 0) × IsOfProfile s profile strict)
     ⊎ ((rule : CertRule) × (status ≡ cert_rule_number rule) × BreaksRule s profile strict rule)
-    ⊎ ((status ≡ out_of_memory) × ((cert : CertParts) × SpellsCert cert s))
     ⊎ ((q : CertPart) × (status ≡ part_number q) × IsCertWrong s q)
 
 -- the same of the profile of this number; status 12: no profile has it

@@ -1,15 +1,14 @@
 //! Certificates, held to a profile.
 
-ghost use Rattle.std.specs.Prelude.{◌≡◌, ◌<◌, IfOk, IfSome, IfNone, MatchResult};
-ghost use Rattle.rpki_cert.specs.Cert.{SpellsCert};
+ghost use Rattle.std.specs.Prelude.{◌≡◌, ◌<◌, List, ℕ, IfSome, IfNone};
+ghost use Rattle.rpki_cert.specs.Cert.{CertParts};
+ghost use Rattle.rpki_cert.specs.View.{IsCertAt};
 ghost use Rattle.rpki_cert.specs.Rule.{TestsRules};
-ghost use Rattle.rpki_c.specs.CertificateInspection.{cert_rule_number, profile_number, HasProfile, rules_of, IsOfProfile, BreaksRule, IsInspectedAs, IsCertificateInspected};
+ghost use Rattle.rpki_c.specs.CertificateInspection.{cert_rule_number, profile_number, HasProfile, rules_of, IsInspectedAs, IsCertificateInspected};
 
 use crate::certificate::part_number;
-use crate::status::{NO_PROFILE, OUT_OF_MEMORY};
-use rpki_cert::{Cert, CertRule, CertView, TbsCert};
-use rpki_der::{Constructed, DecodeError};
-use std::alloc::{AllocError, Global};
+use crate::status::NO_PROFILE;
+use rpki_cert::{CertRule, CertView};
 
 /// A profile of certificates (RFC 6487 4, RFC 8209 3.1).
 #[derive(Clone, Copy)]
@@ -58,13 +57,6 @@ fn cert_rule_number(rule: CertRule) -> u8
     }
 }
 
-/// The certificate that the octets are.
-fn read_certificate(alloc: Global, octets: &[u8]) -> Result<Cert, DecodeError>
-    ensures { IfOk result (λ c. SpellsCert c octets.now) }
-{
-    Constructed::from_slice(octets).whole(|cons| Cert::take_from(alloc, cons))
-}
-
 /// The profile of this number.
 fn profile_of(number: u8) -> Option<CertificateProfile>
     ensures some { IfSome result (λ p. number ≡ profile_number p) }
@@ -80,52 +72,29 @@ fn profile_of(number: u8) -> Option<CertificateProfile>
 }
 
 /// Tests the certificate by the profile; returns the rule that it breaks first.
-fn test(
-    alloc: Global,
-    tbs: &TbsCert,
-    profile: CertificateProfile,
-    strict: bool,
-) -> Result<Result<(), CertRule>, AllocError>
-    ensures { TestsRules (HasProfile profile strict tbs.now) strict tbs.now (rules_of profile) result }
+fn test(cert: &CertView<'_>, profile: CertificateProfile, strict: bool) -> Result<(), CertRule>
+    requires { (s : List ℕ) × (x : CertParts) × IsCertAt s cert.now x }
+    ensures { (s : List ℕ) (x : CertParts) → IsCertAt s cert.now x
+        → TestsRules (HasProfile profile strict x.tbs) strict x.tbs (rules_of profile) result }
 {
     match profile {
-        CertificateProfile::Ta => tbs.test_ta(alloc, strict),
-        CertificateProfile::Ca => tbs.test_ca(alloc, strict),
-        CertificateProfile::Ee => tbs.test_ee(alloc, strict),
-        CertificateProfile::Router => tbs.test_router(alloc, strict),
-    }
-}
-
-/// Tests the certificate that the octets are by the profile; returns the rule that it breaks first.
-///
-/// Returns an error if allocation fails, or if the octets are no certificate.
-fn test_octets(
-    alloc: Global,
-    octets: &[u8],
-    profile: CertificateProfile,
-    strict: bool,
-) -> Result<Result<(), CertRule>, AllocError>
-    ensures { IfOk result (λ told. MatchResult told (λ _. IsOfProfile octets.now profile strict)
-        (λ rule. BreaksRule octets.now profile strict rule)) }
-{
-    match read_certificate(alloc, octets) {
-        Ok(cert) => test(alloc, cert.tbs(), profile, strict),
-        Err(_) => Err(AllocError),
+        CertificateProfile::Ta => cert.test_ta(strict),
+        CertificateProfile::Ca => cert.test_ca(strict),
+        CertificateProfile::Ee => cert.test_ee(strict),
+        CertificateProfile::Router => cert.test_router(strict),
     }
 }
 
 /// Reads a resource certificate, and tests it by the profile; returns the status.
-fn inspect(alloc: Global, octets: &[u8], profile: CertificateProfile, strict: bool) -> u8
+fn inspect(octets: &[u8], profile: CertificateProfile, strict: bool) -> u8
     ensures { IsInspectedAs octets.now profile strict result }
 {
     match CertView::read(octets) {
-        Ok(_) => {}
-        Err(part) => return part_number(part),
-    }
-    match test_octets(alloc, octets, profile, strict) {
-        Ok(Ok(())) => 0,
-        Ok(Err(rule)) => cert_rule_number(rule),
-        Err(_) => OUT_OF_MEMORY,
+        Ok(found) => match test(&found, profile, strict) {
+            Ok(()) => 0,
+            Err(rule) => cert_rule_number(rule),
+        },
+        Err(part) => part_number(part),
     }
 }
 
@@ -135,18 +104,13 @@ fn inspect(alloc: Global, octets: &[u8], profile: CertificateProfile, strict: bo
 ///
 /// The status is 0; 85 to 110 where the certificate is not of the profile, by the rule that it breaks first; 64 to 79
 /// where the octets are no certificate, as that of [crate::certificate::rpki_certificate]; 12 for another number of a
-/// profile, before the octets are looked at; 7 if allocation fails, which it can only where they are a certificate.
+/// profile, before the octets are looked at. Nothing is allocated.
 #[unsafe(no_mangle)]
-pub extern "C" fn rpki_certificate_inspect(
-    alloc: Global,
-    octets: &[u8],
-    profile: u8,
-    strict: bool,
-) -> u8
+pub extern "C" fn rpki_certificate_inspect(octets: &[u8], profile: u8, strict: bool) -> u8
     ensures { IsCertificateInspected octets.now profile strict result }
 {
     match profile_of(profile) {
-        Some(profile) => inspect(alloc, octets, profile, strict),
+        Some(profile) => inspect(octets, profile, strict),
         None => NO_PROFILE,
     }
 }

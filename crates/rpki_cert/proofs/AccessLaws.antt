@@ -1,5 +1,5 @@
 -- What is made of values that are spelled: lists of them, names and access descriptions.
-use Rattle.std.proofs.Common.{◌≡◌, ◌≢◌, ◌∙◌, inl, inr, ℕ, Bool, true, false, List, [], ◌∷◌, Option, Some, None, Result, Ok, Err, refl, sym, ap, subst}
+use Rattle.std.proofs.Common.{◌≡◌, ◌≢◌, ◌<◌, ◌∙◌, inl, inr, ℕ, length, Bool, true, false, List, [], ◌∷◌, Option, Some, None, Result, Ok, Err, refl, sym, ap, subst}
 use Rattle.std.specs.Prelude.{codes, ◌||◌, if◌then◌else◌}
 use Rattle.std.specs.Option.{is_some, option_or, option_copied}
 use denote.Ref.{Bor}
@@ -21,6 +21,7 @@ use Rattle.rpki_der.proofs.ReadingLaws.{UnlessMemory-weaker}
 use Rattle.rpki_der.proofs.LeavesLaws.{leaf-tag, leaf-value, leaf-no-memory, contents-no-memory}
 use Rattle.rpki_der.proofs.PartsLaws.{IsOnly, Returned, Failed, tags-apart}
 use Rattle.rpki_der.proofs.EachLaws.{leaf-some}
+use Rattle.rpki_der.proofs.LeafValueLaws.{contents-shorter}
 use Rattle.rpki_der.proofs.FirstFaultLaws.{memory-where}
 use Rattle.rpki_text.specs.RsyncText.{rsync_refusal}
 use Rattle.rpki_cert.specs.Access.{Through, IsSomeFault, IsKeptFault, SpellsName, SpellsUri, IsOidAs, SpellsOidAs, IsOidAsFault, first_rsync}
@@ -148,6 +149,9 @@ no-name s without none None r h = let k = as-any s r h in none k.0 r k.1
 -- a URI is written in some octets
 pub uri-some : (v : Option (List ℕ)) → SpellsUri v [] → ⊥
 uri-some v h = leaf-some context_6 false Whatever tt (record { contents = h.0; value = h.1; spelled = tt })
+
+pub uri-shorter : (s r : List ℕ) (v : Option (List ℕ)) → Spells SpellsUri s v r → length r < length s
+uri-shorter s r v h = contents-shorter context_6 false s h.spelled.0 r (record { front = h.front; parts = h.parts; spelled = h.spelled.1 })
 
 -- ---- whole octets: something is left after the value
 

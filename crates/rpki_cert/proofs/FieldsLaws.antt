@@ -1,11 +1,10 @@
 -- The fields of a TBSCertificate that is read in place.
-use Rattle.std.proofs.Common.{◌≡◌, ◌∙◌, ◌-◌, ℕ, Bool, true, false, List, [], ◌++◌, length, take, refl, sym, ap, append_assoc}
+use Rattle.std.proofs.Common.{◌≡◌, ◌∙◌, ◌-◌, ℕ, Bool, true, false, List, ◌++◌, length, take, refl, ap}
 use Rattle.rpki_der.specs.declared.error.DecodeError.{DecodeError}
 use Rattle.rpki_der.specs.declared.error.DecodeError.TheVariants.{OutOfMemory}
 use Rattle.rpki_der.specs.TagName.{sequence, integer}
 use Rattle.rpki_der.specs.Reading.{Accepts, Refuses, Refusal}
 use Rattle.rpki_der.specs.Values.{SpellsContents}
-use Rattle.rpki_der.specs.Parts.{SpellsBoth}
 use Rattle.rpki_der.proofs.LeavesLaws.{leaf-no-memory}
 use Rattle.rpki_time.specs.Serial.{SpellsSerial, IsSerialContents, IsSerialFault}
 use Rattle.rpki_time.specs.Validity.{Period}
@@ -23,11 +22,10 @@ use Rattle.rpki_cert.specs.declared.section.Section.{Section}
 use Rattle.rpki_cert.specs.declared.fields.Keyed.{Keyed}
 use Rattle.rpki_cert.specs.declared.fields.Named.{Named}
 use Rattle.rpki_cert.specs.declared.fields.TbsView.{TbsView}
-use Rattle.rpki_cert.specs.Cert.{TbsParts, SpellsExtensions, SpellsVersion, SpellsRpkiAlgorithm, AreFields, fields_of, SpellsTbs, version_tag, SpellsTwo}
+use Rattle.rpki_cert.specs.Cert.{TbsParts, SpellsVersion, SpellsRpkiAlgorithm, AreFields, fields_of, SpellsTbs, version_tag, SpellsTwo}
 use Rattle.rpki_cert.specs.CertFault.{IsVersionFault, IsTwoFault}
 use Rattle.rpki_cert.specs.View.{IsSection, AreExtensionsAt, IsKeyedAt, IsNamedIn, IsTbsIn, AreNamed}
 use Rattle.rpki_der.specs.Leaves.{IsOnly}
-use Rattle.rpki_der.specs.Header.{identifier_octets, length_octets}
 use Rattle.rpki_cert.specs.Cert.{two}
 use Rattle.rpki_der.specs.FirstFault.{FirstFault, IsEndFault}
 use Rattle.rpki_der.proofs.FirstFaultLaws.{inside-no-memory, first-no-memory, end-no-memory}

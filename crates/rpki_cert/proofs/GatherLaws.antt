@@ -1,5 +1,5 @@
 -- Values, one after another, of which a reader in place keeps what it needs.
-use Rattle.std.proofs.Common.{◌≡◌, ◌≢◌, ◌∙◌, ℕ, Bool, List, [], ◌∷◌, Option, Some, None, Result, Ok, Err, refl, sym, ap, subst}
+use Rattle.std.proofs.Common.{◌≡◌, ◌≢◌, ◌∙◌, ℕ, Bool, List, [], ◌∷◌, Result, Ok, Err, refl, sym, ap, subst}
 use Rattle.rpki_der.specs.TagName.{TagName}
 use Rattle.rpki_der.specs.Reading.{Accepts, Refuses, SpellsNothing}
 use Rattle.rpki_der.specs.Values.{SpellsContents, SpellsLeaf}
@@ -16,26 +16,30 @@ module _ {V : Type 0} (t : TagName) (f : Bool) (C : V → List ℕ → Type 0) (
   -- what a reader says of all of the contents it says of the value
   pub leaf-gives : {X E : Type 0} (view : X → V) (c r : List ℕ) (x : Result X E) → Accepts (SpellsContents t f) s c r → GivesAll view C c x → Gives view (SpellsLeaf t f C) s r x
   leaf-gives view c r (Ok x) a h = inner-accepted t f C s c r (view x) a h
-  leaf-gives view c r (Err e) a none v q k =
+  leaf-gives view c r (Err e) a none = λ v q k.
       let l = leaf-value t f C s v q k in
       let one = a.only l.0 q l.1 in
       none v (subst (λ (d : List ℕ). C v d) one.0 l.2)
 
+  -- no contents, and so no value
+  pub leaf-nothing : (c : List ℕ) → SpellsContents t f c s × ((w : List ℕ) → SpellsContents t f w s → w ≡ c) → SpellsNothing C c → SpellsNothing (SpellsLeaf t f C) s
+  leaf-nothing c a none v k = none v (subst (λ (d : List ℕ). C v d) (a.1 k.contents k.value) k.spelled)
+
   -- the same where the value is all there is
   pub leaf-all : {X E : Type 0} (view : X → V) (c : List ℕ) (x : Result X E) → SpellsContents t f c s × ((w : List ℕ) → SpellsContents t f w s → w ≡ c) → GivesAll view C c x → GivesAll view (SpellsLeaf t f C) s x
   leaf-all view c (Ok x) a h = (record { contents = c; value = a.0; spelled = h.0 }, λ w k. h.1 w (subst (λ (d : List ℕ). C w d) (a.1 k.contents k.value) k.spelled))
-  leaf-all view c (Err e) a none v k = none v (subst (λ (d : List ℕ). C v d) (a.1 k.contents k.value) k.spelled)
+  leaf-all view c (Err e) a none = leaf-nothing c a none
 
   pub leaf-none : SpellsNothing (SpellsContents t f) s → SpellsNothing (SpellsLeaf t f C) s
   leaf-none none v k = none k.contents k.value
 
 -- ---- values, one after another
 
-each-rest : {V : Type 0} (G : V → List ℕ → Type 0) (s q : List ℕ) (v : V) (ys : List V) → s ≢ [] → Accepts G s v q → SpellsEach G ys s → (zs : List V) × (ys ≡ v ∷ zs) × SpellsEach G zs q
+pub each-rest : {V : Type 0} (G : V → List ℕ → Type 0) (s q : List ℕ) (v : V) (ys : List V) → s ≢ [] → Accepts G s v q → SpellsEach G ys s → (zs : List V) × (ys ≡ v ∷ zs) × SpellsEach G zs q
 each-rest G s q v [] some a h = absurd (some h)
 each-rest {V} G s q v (y ∷ zs) some a h = let e = a.only y h.0 h.1 in (zs, ap (λ (w : V). w ∷ zs) e.0, subst (SpellsEach G zs) e.1 h.2)
 
-each-none : {V : Type 0} (G : V → List ℕ → Type 0) (s : List ℕ) (ys : List V) → s ≢ [] → Refuses G s → SpellsEach G ys s → ⊥
+pub each-none : {V : Type 0} (G : V → List ℕ → Type 0) (s : List ℕ) (ys : List V) → s ≢ [] → Refuses G s → SpellsEach G ys s → ⊥
 each-none G s [] some none h = some h
 each-none G s (y ∷ zs) some none h = none y h.0 h.1
 

@@ -10,8 +10,7 @@ use Rattle.rpki_der.specs.Reading.{SpellsNothing, UnlessMemory, IsWholeFault}
 use Rattle.rpki_der.proofs.InsideLaws.{unless-memory}
 use Rattle.rpki_der.proofs.FirstFaultLaws.{whole-no-memory}
 use Rattle.rpki.specs.ExtensionValue.{ExtensionParts}
-use Rattle.rpki_cert.specs.Cert.{find}
-use Rattle.rpki_cert.specs.Known.{HasExtension, HasOnly, HasNone, UnlessNoMemory}
+use Rattle.rpki_cert.specs.Known.{Says, SaysOnly, SaysNone, UnlessNoMemory}
 
 one-of : (x y : ExtensionParts) → ◌≡◌ {A = Option ExtensionParts} (Some x) (Some y) → x ≡ y
 one-of x y e = cc
@@ -19,34 +18,33 @@ one-of x y e = cc
 none-of : (x : ExtensionParts) → ◌≡◌ {A = Option ExtensionParts} (Some x) None → ⊥
 none-of x e = cc
 
-module _ {V : Type 0} (id : List ℕ) (critical : Bool) (G : V → List ℕ → Type 0) (xs : List ExtensionParts) where
-  -- there is no such extension
-  pub only-none : find id xs ≡ None → HasOnly id critical G xs None
+module _ {V : Type 0} (critical : Bool) (G : V → List ℕ → Type 0) (found : Option ExtensionParts) where
+  -- nothing is found
+  pub only-none : found ≡ None → SaysOnly critical G found None
   only-none none = (none, only) where
-    only : (w : Option V) → HasExtension id critical G xs w → w ≡ None
+    only : (w : Option V) → Says critical G found w → w ≡ None
     only None h = refl
     only (Some w) (y, two, same, k) = absurd (none-of y (sym two ∙ none))
 
   -- it is as critical as it has to be, and its octets are this value
-  pub only-value : (x : ExtensionParts) (v : V) → (find id xs ≡ Some x) × (x.critical ≡ critical) → G v x.content × ((w : V) → G w x.content → w ≡ v)
-      → HasOnly id critical G xs (Some v)
+  pub only-value : (x : ExtensionParts) (v : V) → (found ≡ Some x) × (x.critical ≡ critical) → G v x.content × ((w : V) → G w x.content → w ≡ v) → SaysOnly critical G found (Some v)
   only-value x v (one, same) g = ((x, one, same, g.0), only) where
-    only : (w : Option V) → HasExtension id critical G xs w → w ≡ Some v
+    only : (w : Option V) → Says critical G found w → w ≡ Some v
     only None h = absurd (none-of x (sym one ∙ h))
     only (Some w) (y, two, other, k) = ap (λ (u : V). Some u) (g.1 w (subst (λ (z : ExtensionParts). G w z.content) (one-of y x (sym two ∙ one)) k))
 
   -- it is, and its octets are no value
-  pub no-value : (x : ExtensionParts) → (find id xs ≡ Some x) × (x.critical ≡ critical) → SpellsNothing G x.content → HasNone id critical G xs
+  pub no-value : (x : ExtensionParts) → (found ≡ Some x) × (x.critical ≡ critical) → SpellsNothing G x.content → SaysNone critical G found
   no-value x (one, same) none None h = none-of x (sym one ∙ h)
   no-value x (one, same) none (Some v) (y, two, other, k) = none v (subst (λ (z : ExtensionParts). G v z.content) (one-of y x (sym two ∙ one)) k)
 
   -- the same, as a reader that takes no memory says it
-  pub not-read : (K : List ℕ → DecodeError → Type 0) (x : ExtensionParts) (e : DecodeError) → (find id xs ≡ Some x) × (x.critical ≡ critical) → (K x.content OutOfMemory → ⊥)
-      → UnlessMemory e (SpellsNothing G x.content) × IsWholeFault G K x.content e → HasNone id critical G xs
-  not-read K x e found never h = no-value x found (unless-memory e (whole-no-memory G K x.content e never h.1) h.0)
+  pub not-read : (K : List ℕ → DecodeError → Type 0) (x : ExtensionParts) (e : DecodeError) → (found ≡ Some x) × (x.critical ≡ critical) → (K x.content OutOfMemory → ⊥)
+      → UnlessMemory e (SpellsNothing G x.content) × IsWholeFault G K x.content e → SaysNone critical G found
+  not-read K x e is never h = no-value x is (unless-memory e (whole-no-memory G K x.content e never h.1) h.0)
 
   -- it is not as critical as it has to be
-  pub other-critical : (x : ExtensionParts) × (find id xs ≡ Some x) × (x.critical ≡ critical → ⊥) → HasNone id critical G xs
+  pub other-critical : (x : ExtensionParts) × (found ≡ Some x) × (x.critical ≡ critical → ⊥) → SaysNone critical G found
   other-critical (x, one, other) None h = none-of x (sym one ∙ h)
   other-critical (x, one, other) (Some v) (y, two, same, k) = other (ap (λ (z : ExtensionParts). z.critical) (one-of x y (sym one ∙ two)) ∙ same)
 
@@ -64,7 +62,6 @@ tried-unless P Q F (Ok x) h q = absurd h.1
 tried-unless P Q F (Err e) h q = unless-from e q
 
 -- the octets are no value, or allocation failed
-pub not-read-or-memory : {V : Type 0} (id : List ℕ) (critical : Bool) (G : V → List ℕ → Type 0) (xs : List ExtensionParts) (K : List ℕ → DecodeError → Type 0) (x : ExtensionParts)
-    (e : DecodeError) → (find id xs ≡ Some x) × (x.critical ≡ critical) → UnlessMemory e (SpellsNothing G x.content) × IsWholeFault G K x.content e
-    → UnlessMemory e (HasNone id critical G xs)
-not-read-or-memory id critical G xs K x e found h = UnlessMemory-weaker e (no-value id critical G xs x found) h.0
+pub not-read-or-memory : {V : Type 0} (critical : Bool) (G : V → List ℕ → Type 0) (found : Option ExtensionParts) (K : List ℕ → DecodeError → Type 0) (x : ExtensionParts) (e : DecodeError)
+    → (found ≡ Some x) × (x.critical ≡ critical) → UnlessMemory e (SpellsNothing G x.content) × IsWholeFault G K x.content e → UnlessMemory e (SaysNone critical G found)
+not-read-or-memory critical G found K x e is h = UnlessMemory-weaker e (no-value critical G found x is) h.0

@@ -1,13 +1,12 @@
 -- Extensions that are read in place, one after another.
-use Rattle.std.proofs.Common.{◌≡◌, ◌≢◌, ◌∙◌, ◌+◌, ◌≤◌, ◌<◌, ℕ, true, false, List, [], ◌∷◌, ◌++◌, length, get_or, set, Bool, Option, Some, None, IfSome, IfNone, IsTrue, refl, sym, ap, subst, arith, append_assoc}
-use Rattle.std.specs.Prelude.{bytes_eq}
-use Rattle.std.proofs.lemmas.List.{append-nil, length-set, get_or-set_same, get_or-set_other}
+use Rattle.std.proofs.Common.{◌≡◌, ◌≢◌, ◌∙◌, ◌+◌, ◌≤◌, ◌<◌, ℕ, true, false, List, [], ◌∷◌, ◌++◌, length, get_or, set, Bool, Option, Some, None, IfSome, IfNone, IsTrue, refl, sym, ap, subst, arith}
+use Rattle.std.specs.Prelude.{bytes_eq, not, ◌||◌, ◌&&◌}
+use Rattle.std.proofs.lemmas.List.{length-set, get_or-set_same, get_or-set_other}
 use Rattle.std.proofs.lemmas.Slice.Eq.{bytes_eq-Decides}
 use Rattle.std.proofs.lemmas.Bool.{false≢true, false_from_ne_true}
 use Rattle.rpki_der.specs.declared.error.DecodeError.{DecodeError}
 use Rattle.rpki_der.specs.declared.error.DecodeError.TheVariants.{OutOfMemory}
-use Rattle.rpki_der.specs.TagName.{TagName, sequence, octet_string, oid}
-use Rattle.rpki_der.specs.Header.{identifier_octets, length_octets}
+use Rattle.rpki_der.specs.TagName.{TagName, sequence, oid}
 use Rattle.rpki_der.specs.Reading.{Spells, Accepts, Refuses, Refusal, SpellsNothing}
 use Rattle.rpki_der.specs.Values.{SpellsContents, IsContentsFault}
 use Rattle.rpki_der.specs.Each.{SpellsEach, SpellsSome}
@@ -21,6 +20,8 @@ use Rattle.rpki_der.proofs.LeafValueLaws.{leaf-shorter, contents-shorter}
 use Rattle.rpki_cert.specs.declared.cert_part.CertPart.{CertPart}
 use Rattle.rpki_cert.specs.declared.section.Section.{Section}
 use Rattle.rpki_cert.specs.Cert.{find, are_unique, extensions_tag}
+use Rattle.rpki_cert.specs.Known.{is_known, are_understood}
+use Rattle.rpki_cert.proofs.GatherLaws.{Gathers}
 pub use Rattle.rpki_cert.specs.ExtensionIndex.{Seeks}
 use Rattle.rpki_cert.specs.View.{IsIdentified, ending, behind_first, SpellsListed, SpellsFrame, AreExtensionsWrong, AreExtensionsAt, HasCount, most_extensions}
 use Rattle.rpki_cert.specs.View.AreExtensionsWrong.{NotListed, TooMany, Repeated}
@@ -327,3 +328,24 @@ module _ (s l : List ℕ) (f : IsAll SpellsFrame l s) where
     few = omega (arith, h.count, few);
     section = record { octets = octets; following = last };
   }
+
+-- ---- critical extensions
+
+abbrev Understood : List ℕ → List ℕ → Type 0
+Understood = Gathers SpellsExtension are_understood (λ b. b)
+
+pub known-first : (x : ExtensionParts) (critical : Bool) (id : List ℕ) → critical ≡ x.critical → id ≡ x.identifier → (not critical || is_known id) ≡ true → (zs : List ExtensionParts) → are_understood (x ∷ zs) ≡ are_understood zs
+known-first x critical id e f known zs =
+    let same : (not x.critical || is_known x.identifier) ≡ true = rw (e, f) at known in
+    ap (λ (b : Bool). b && are_understood zs) same
+
+pub unknown-first : (s r q : List ℕ) (x : ExtensionParts) (critical : Bool) (id : List ℕ) → critical ≡ x.critical → id ≡ x.identifier → (not critical || is_known id) ≡ false → r ≢ [] → Accepts SpellsExtension r x q → Understood s r
+    → (xs : List ExtensionParts) → Each xs s → false ≡ are_understood xs
+unknown-first s r q x critical id e f unknown some a h xs k =
+    let same : (not x.critical || is_known x.identifier) ≡ false = rw (e, f) at unknown in
+    let (ys, each, g) = h.back xs k in
+    let (zs, is, rest) = each-rest r q x ys some a each in
+    sym (g ∙ ap are_understood is ∙ ap (λ (b : Bool). b && are_understood zs) same)
+
+pub none-left : (s r : List ℕ) → r ≡ [] → Understood s r → (xs : List ExtensionParts) → Each xs s → true ≡ are_understood xs
+none-left s r end h xs k = let (ys, each, g) = h.back xs k in sym (g ∙ ap are_understood (each-end r ys end each))

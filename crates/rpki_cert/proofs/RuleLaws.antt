@@ -1,5 +1,5 @@
 -- The rules of profiles: which is broken first, and that a profile is its rules.
-use Rattle.std.proofs.Common.{◌+◌, ◌<◌, ◌≤◌, ℕ, suc, Bool, List, [], ◌∷◌, ◌++◌, All, take, drop, length, slice_index_or, Result, Ok, Err, subst}
+use Rattle.std.proofs.Common.{◌≡◌, ◌+◌, ◌<◌, ◌≤◌, ℕ, suc, Bool, List, [], ◌∷◌, ◌++◌, All, take, drop, length, slice_index_or, Result, Ok, Err, sym, subst}
 use Rattle.std.specs.Prelude.{◌↔◌}
 use Rattle.std.proofs.Math.Seq.{split_at}
 use Rattle.std.proofs.lemmas.List.{take_all}
@@ -9,9 +9,12 @@ use Rattle.rpki_cert.specs.declared.rule.CertRule.{CertRule}
 use Rattle.rpki_cert.specs.Cert.{TbsParts}
 use Rattle.rpki_cert.specs.Profile.{Checks, IsTaProfile, IsCaProfile, IsEeProfile, IsRouterProfile}
 use Rattle.rpki_cert.specs.Rule.{Obeys, IsFirstBroken, TestsRules, ta_rules, ca_rules, ee_rules, router_rules}
-use Rattle.rpki_cert.proofs.ProfileLaws.{unless-weaker}
 
 module _ (strict : Bool) (t : TbsParts) where
+  -- the rule that is tested
+  pub obeys-at : (rule other : CertRule) (r : Result (Unit {0}) ValidationError) → rule ≡ other → Checks (Obeys strict t other) r → Checks (Obeys strict t rule) r
+  obeys-at rule other r e h = subst (λ (x : CertRule). Checks (Obeys strict t x) r) (sym e) h
+
   -- a loop over the rules
   pub first-broken : (rules : List CertRule) (i : ℕ) (d : CertRule) → i < length rules → All (Obeys strict t) (take i rules) → (Obeys strict t (slice_index_or rules i d) → ⊥)
       → IsFirstBroken strict t rules (slice_index_or rules i d)
@@ -76,9 +79,8 @@ module _ (strict : Bool) (t : TbsParts) where
   -- what a check, or a test, of the rules says of a profile that is these rules
   pub checks-of : (P Q : Type 0) → P ↔ Q → (x : Result (Unit {0}) ValidationError) → Checks Q x → Checks P x
   checks-of P Q same (Ok u) h = same.1 h
-  checks-of P Q same (Err e) h = unless-weaker e (λ none p. none (same.0 p)) h
+  checks-of P Q same (Err e) none = λ p. none (same.0 p)
 
-  pub tests-of : {E : Type 0} (P Q : Type 0) → P ↔ Q → (rules : List CertRule) (x : Result (Result (Unit {0}) CertRule) E) → TestsRules Q strict t rules x → TestsRules P strict t rules x
-  tests-of P Q same rules (Ok (Ok u)) h = same.1 h
-  tests-of P Q same rules (Ok (Err rule)) h = (h.0, λ p. h.1 (same.0 p))
-  tests-of P Q same rules (Err e) h = h
+  pub tests-of : (P Q : Type 0) → P ↔ Q → (rules : List CertRule) (x : Result (Unit {0}) CertRule) → TestsRules Q strict t rules x → TestsRules P strict t rules x
+  tests-of P Q same rules (Ok u) h = same.1 h
+  tests-of P Q same rules (Err rule) h = (h.0, λ p. h.1 (same.0 p))

@@ -1,9 +1,7 @@
 -- Certificates that are read in place.
-use Rattle.std.proofs.Common.{◌≡◌, ◌∙◌, ◌-◌, ℕ, Bool, true, false, List, [], ◌∷◌, ◌++◌, length, take, refl, sym, ap, subst, append_assoc}
-use Rattle.std.proofs.lemmas.List.{append-nil}
+use Rattle.std.proofs.Common.{◌≡◌, ◌∙◌, ◌-◌, ℕ, Bool, true, false, List, [], ◌++◌, length, take, refl, sym, ap, subst, append_assoc}
 use Rattle.rpki_der.specs.declared.error.DecodeError.{DecodeError}
 use Rattle.rpki_der.specs.TagName.{sequence, bit_string}
-use Rattle.rpki_der.specs.Header.{identifier_octets, length_octets}
 use Rattle.rpki_der.specs.Reading.{Accepts, Refusal, SpellsNothing}
 use Rattle.rpki_der.specs.Values.{SpellsContents, SpellsLeaf, IsLeafFault}
 use Rattle.rpki_der.specs.Leaves.{Bits, IsBits, bits_of}

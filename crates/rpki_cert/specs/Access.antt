@@ -17,7 +17,8 @@ use Rattle.rpki_text.specs.HttpsText.{https_refusal}
 use Rattle.rpki.specs.UnknownAlgorithm.{IsContentWith}
 use Rattle.rpki.specs.ExtensionValue.{ExtensionParts}
 use Rattle.rpki.specs.declared.repository.error.ValidationError.{ValidationError}
-use Rattle.rpki_cert.specs.Known.{HasOnly, HasNone, UnlessNoMemory}
+use Rattle.rpki_cert.specs.Cert.{find}
+use Rattle.rpki_cert.specs.Known.{SaysOnly, SaysNone, HasNone, UnlessNoMemory}
 
 -- what f makes of some value that is spelled
 abbrev pub Through : {V W : Type 0} → (W → V) → (W → List ℕ → Type 0) → V → List ℕ → Type 0
@@ -193,12 +194,21 @@ abbrev pub flat : Option (Option (List ℕ)) → Option (List ℕ)
 flat None = None
 flat (Some uri) = uri
 
--- The URI that the extension of this identifier has, in G: none where the extension isn't there, or where it has no URI
--- of the scheme.
-abbrev pub HasUri : List ℕ → (Option (List ℕ) → List ℕ → Type 0) → List ExtensionParts → Option (List ℕ) → Type 0
-HasUri id G xs uri = (v : Option (Option (List ℕ))) × HasOnly id false G xs v × (uri ≡ flat v)
+-- The URI of what is found of an extension, in G: none where nothing is found, or where it has no URI of the scheme.
+abbrev pub SaysUri : (Option (List ℕ) → List ℕ → Type 0) → Option ExtensionParts → Option (List ℕ) → Type 0
+SaysUri G found uri = (v : Option (Option (List ℕ))) × SaysOnly false G found v × (uri ≡ flat v)
 
--- the same as what is found; the error says that the extension is another, but where allocation fails
+-- the same, as it is read; the error says that the extension is another
+abbrev pub IsSaidUri : {X : Type 0} → (X → Option (List ℕ)) → (Option (List ℕ) → List ℕ → Type 0)
+    → Option ExtensionParts → Result X ValidationError → Type 0
+IsSaidUri view G found result =
+    MatchResult result (λ x. SaysUri G found (view x)) (λ _. SaysNone {V = Option (List ℕ)} false G found)
+
+-- the same of the extension of this identifier
+abbrev pub HasUri : List ℕ → (Option (List ℕ) → List ℕ → Type 0) → List ExtensionParts → Option (List ℕ) → Type 0
+HasUri id G xs = SaysUri G (find id xs)
+
+-- the same, as it is read; the error says that the extension is another, but where allocation fails
 abbrev pub FindsUri : List ℕ → (Option (List ℕ) → List ℕ → Type 0) → List ExtensionParts
     → Result (Option (List ℕ)) ValidationError → Type 0
 FindsUri id G xs result = MatchResult result (HasUri id G xs) (λ e. UnlessNoMemory e (HasNone id false G xs))

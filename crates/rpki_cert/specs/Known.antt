@@ -62,22 +62,30 @@ subject_info_access = 43 ∷ 6 ∷ 1 ∷ 5 ∷ 5 ∷ 7 ∷ 1 ∷ 11 ∷ []
 
 -- ---- what an extension says
 
--- The extension of this identifier is as critical as it has to be, and its octets spell the value in G; or there is no
--- such extension.
-abbrev pub HasExtension : {V : Type 0} → List ℕ → Bool → (V → List ℕ → Type 0) → List ExtensionParts → Option V
-    → Type 0
-HasExtension id critical G xs None = find id xs ≡ None
-HasExtension id critical G xs (Some v) =
-    (x : ExtensionParts) × (find id xs ≡ Some x) × (x.critical ≡ critical) × G v x.content
+-- What is found of an extension is as critical as it has to be, and its octets spell the value in G; or nothing is
+-- found.
+abbrev pub Says : {V : Type 0} → Bool → (V → List ℕ → Type 0) → Option ExtensionParts → Option V → Type 0
+Says critical G found None = found ≡ None
+Says critical G found (Some v) = (x : ExtensionParts) × (found ≡ Some x) × (x.critical ≡ critical) × G v x.content
 
 -- this value, and no other
-abbrev pub HasOnly : {V : Type 0} → List ℕ → Bool → (V → List ℕ → Type 0) → List ExtensionParts → Option V → Type 0
-HasOnly {V} id critical G xs v =
-    HasExtension id critical G xs v × ((w : Option V) → HasExtension id critical G xs w → w ≡ v)
+abbrev pub SaysOnly : {V : Type 0} → Bool → (V → List ℕ → Type 0) → Option ExtensionParts → Option V → Type 0
+SaysOnly {V} critical G found v = Says critical G found v × ((w : Option V) → Says critical G found w → w ≡ v)
 
--- the extension is there, and is another: malformed, or not as critical as it has to be
+-- something is found, and is another: malformed, or not as critical as it has to be
+abbrev pub SaysNone : {V : Type 0} → Bool → (V → List ℕ → Type 0) → Option ExtensionParts → Type 0
+SaysNone {V} critical G found = (v : Option V) → Says critical G found v → ⊥
+
+-- the same of the extension of this identifier
+abbrev pub HasExtension : {V : Type 0} → List ℕ → Bool → (V → List ℕ → Type 0) → List ExtensionParts → Option V
+    → Type 0
+HasExtension id critical G xs = Says critical G (find id xs)
+
+abbrev pub HasOnly : {V : Type 0} → List ℕ → Bool → (V → List ℕ → Type 0) → List ExtensionParts → Option V → Type 0
+HasOnly id critical G xs = SaysOnly critical G (find id xs)
+
 abbrev pub HasNone : {V : Type 0} → List ℕ → Bool → (V → List ℕ → Type 0) → List ExtensionParts → Type 0
-HasNone {V} id critical G xs = (v : Option V) → HasExtension id critical G xs v → ⊥
+HasNone id critical G xs = SaysNone critical G (find id xs)
 
 -- a fact for each error but allocation failure
 abbrev pub UnlessNoMemory : ValidationError → Type 0 → Type 0
@@ -105,12 +113,23 @@ abbrev pub present : Bool → Option (Unit {0})
 present true = Some tt
 present false = None
 
--- ---- what is found of an extension
+-- ---- what is read of an extension
 
--- its value; the error says that it is another
+-- the value of what is found; the error says that it is another
+abbrev pub IsSaid : {V : Type 0} → Bool → (V → List ℕ → Type 0) → Option ExtensionParts
+    → Result (Option V) ValidationError → Type 0
+IsSaid critical G found result = MatchResult result (SaysOnly critical G found) (λ _. SaysNone critical G found)
+
+-- that something is found; the error says that it is another
+abbrev pub IsSaidThere : Bool → (Unit {0} → List ℕ → Type 0) → Option ExtensionParts → Result Bool ValidationError
+    → Type 0
+IsSaidThere critical G found result =
+    MatchResult result (λ b. SaysOnly critical G found (present b)) (λ _. SaysNone critical G found)
+
+-- the same of the extension of this identifier
 abbrev pub FindsOnly : {V : Type 0} → List ℕ → Bool → (V → List ℕ → Type 0) → List ExtensionParts
     → Result (Option V) ValidationError → Type 0
-FindsOnly id critical G xs result = MatchResult result (HasOnly id critical G xs) (λ _. HasNone id critical G xs)
+FindsOnly id critical G xs = IsSaid critical G (find id xs)
 
 -- the same where allocation can fail
 abbrev pub FindsKept : {V : Type 0} → List ℕ → Bool → (V → List ℕ → Type 0) → List ExtensionParts
@@ -118,11 +137,9 @@ abbrev pub FindsKept : {V : Type 0} → List ℕ → Bool → (V → List ℕ �
 FindsKept id critical G xs result =
     MatchResult result (HasOnly id critical G xs) (λ e. UnlessNoMemory e (HasNone id critical G xs))
 
--- that it is there; the error says that it is another
 abbrev pub FindsThere : List ℕ → Bool → (Unit {0} → List ℕ → Type 0) → List ExtensionParts
     → Result Bool ValidationError → Type 0
-FindsThere id critical G xs result =
-    MatchResult result (λ b. HasOnly id critical G xs (present b)) (λ _. HasNone id critical G xs)
+FindsThere id critical G xs = IsSaidThere critical G (find id xs)
 
 -- ---- critical extensions
 

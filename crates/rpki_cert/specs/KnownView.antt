@@ -1,22 +1,17 @@
 -- What the extensions of a certificate say, where they are read in place (RFC 6487 4.8).
-use Rattle.std.specs.Prelude.{◌≡◌, ℕ, Bool, true, false, List, Some}
+use Rattle.std.specs.Prelude.{ℕ, true, false, List}
 use Rattle.rpki_der.specs.Each.{SpellsEach}
 use Rattle.rpki.specs.KeyIdentifier.{SpellsKeyIdentifier}
 use Rattle.rpki.specs.ExtensionValue.{ExtensionParts, SpellsExtension}
 use Rattle.rpki_cert.specs.declared.known_part.KnownPart.{KnownPart}
 use Rattle.rpki_cert.specs.declared.known_part.KnownPart.TheVariants.{BasicConstraints, SubjectKeyIdentifier, AuthorityKeyIdentifier, KeyUsage, CertificatePolicies}
 use Rattle.rpki_cert.specs.declared.known_view.KnownView.{KnownView}
-use Rattle.rpki_cert.specs.Cert.{find}
 use Rattle.rpki_cert.specs.Known.{subject_key_identifier, key_usage, basic_constraints, certificate_policies, authority_key_identifier, present, HasOnly, HasNone}
 use Rattle.rpki_cert.specs.ExtensionContent.{SpellsConstraints, SpellsAuthority, SpellsUsage, SpellsPolicies}
 
 -- P holds of the extensions that s is
 abbrev pub OfListed : List ℕ → (List ExtensionParts → Type 0) → Type 0
 OfListed s P = (xs : List ExtensionParts) → SpellsEach SpellsExtension xs s → P xs
-
--- the extension of this identifier is there, and isn't as critical as it has to be
-abbrev pub HasOtherCritical : List ℕ → Bool → List ExtensionParts → Type 0
-HasOtherCritical id critical xs = (x : ExtensionParts) × (find id xs ≡ Some x) × (x.critical ≡ critical → ⊥)
 
 -- what the extensions say: each is there, as critical as it has to be and in its form, or isn't there
 pub record AreKnown (xs : List ExtensionParts) (v : KnownView) : Type 0 where

@@ -9,6 +9,7 @@ pub mod View
 pub mod ExtensionIndex
 pub mod KnownView
 pub mod Valid
+pub mod Inspected
 pub mod Profile
 pub mod Rule
 pub mod Verified

@@ -8,29 +8,36 @@ use Rattle.rpki.specs.ExtensionValue.{ExtensionParts}
 use Rattle.rpki.specs.declared.repository.error.ValidationError.{ValidationError}
 use Rattle.rpki_cert.specs.declared.key_usage.KeyUsage.TheVariants.{Ca, Ee}
 use Rattle.rpki_cert.specs.Cert.{TbsParts, find, is_there}
-use Rattle.rpki_cert.specs.Known.{subject_key_identifier, key_usage, basic_constraints, crl_distribution_points, certificate_policies, authority_key_identifier, extended_key_usage, authority_info_access, subject_info_access, ip_addr_blocks, ip_addr_blocks_v2, autonomous_sys_ids, autonomous_sys_ids_v2, HasExtension, UnlessNoMemory, are_understood}
+use Rattle.rpki_cert.specs.Known.{subject_key_identifier, key_usage, basic_constraints, crl_distribution_points, certificate_policies, authority_key_identifier, extended_key_usage, authority_info_access, subject_info_access, ip_addr_blocks, ip_addr_blocks_v2, autonomous_sys_ids, autonomous_sys_ids_v2, Says, HasExtension, are_understood}
 use Rattle.rpki_cert.specs.ExtensionContent.{SpellsConstraints, SpellsAuthority, SpellsUsage, SpellsPurposes, SpellsPolicies}
-use Rattle.rpki_cert.specs.Access.{SpellsRsyncAccess, SpellsPoints, HasUri, ca_issuers, ca_repository, rpki_manifest, signed_object}
+use Rattle.rpki_cert.specs.Access.{SpellsRsyncAccess, SpellsPoints, SaysUri, ca_issuers, ca_repository, rpki_manifest, signed_object}
 
 -- ---- a check
 
--- Ok exactly where P holds, allocation failure aside
+-- Ok exactly where P holds
 abbrev pub Checks : Type 0 → Result (Unit {0}) ValidationError → Type 0
-Checks P r = MatchResult r (λ _. P) (λ e. UnlessNoMemory e (P → ⊥))
+Checks P r = MatchResult r (λ _. P) (λ _. P → ⊥)
 
 -- ---- what is there
 
--- the extension of this identifier is there, in this form and as critical as it has to be
+-- something is found, in this form and as critical as it has to be
+abbrev pub SaysSome : {V : Type 0} → Bool → (V → List ℕ → Type 0) → Option ExtensionParts → Type 0
+SaysSome {V} critical G found = (v : V) × Says critical G found (Some v)
+
+-- it has a URI of the scheme
+abbrev pub SaysSomeUri : (Option (List ℕ) → List ℕ → Type 0) → Option ExtensionParts → Type 0
+SaysSomeUri G found = (uri : List ℕ) × SaysUri G found (Some uri)
+
+-- the same of the extension of this identifier
 abbrev pub HasSome : {V : Type 0} → List ℕ → Bool → (V → List ℕ → Type 0) → List ExtensionParts → Type 0
-HasSome {V} id critical G xs = (v : V) × HasExtension id critical G xs (Some v)
+HasSome id critical G xs = SaysSome critical G (find id xs)
+
+abbrev pub HasSomeUri : List ℕ → (Option (List ℕ) → List ℕ → Type 0) → List ExtensionParts → Type 0
+HasSomeUri id G xs = SaysSomeUri G (find id xs)
 
 -- it isn't there
 abbrev pub HasNot : List ℕ → List ExtensionParts → Type 0
 HasNot id xs = find id xs ≡ None
-
--- it is there, and has a URI of the scheme
-abbrev pub HasSomeUri : List ℕ → (Option (List ℕ) → List ℕ → Type 0) → List ExtensionParts → Type 0
-HasSomeUri id G xs = (uri : List ℕ) × HasUri id G xs (Some uri)
 
 -- ---- resources, which are not read (RFC 6487 4.8.10, 4.8.11, RFC 8360 4.2.2)
 

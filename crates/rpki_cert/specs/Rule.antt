@@ -77,12 +77,9 @@ pub record IsFirstBroken (strict : Bool) (t : TbsParts) (rules : List CertRule) 
   pub obeyed : All (Obeys strict t) before
   pub broken : Obeys strict t rule → ⊥
 
--- a test: Ok where P, the profile of these rules, holds; else the rule that is broken first; or allocation failed
-abbrev pub TestsRules : {E : Type 0} → Type 0 → Bool → TbsParts → List CertRule
-    → Result (Result (Unit {0}) CertRule) E → Type 0
-TestsRules P strict t rules r =
-    MatchResult r (λ told. MatchResult told (λ _. P) (λ rule. IsFirstBroken strict t rules rule × (P → ⊥)))
-    (λ _. Unit {0})
+-- a test: Ok where P, the profile of these rules, holds; else the rule that is broken first
+abbrev pub TestsRules : Type 0 → Bool → TbsParts → List CertRule → Result (Unit {0}) CertRule → Type 0
+TestsRules P strict t rules r = MatchResult r (λ _. P) (λ rule. IsFirstBroken strict t rules rule × (P → ⊥))
 
 -- ---- the texts of the errors
 

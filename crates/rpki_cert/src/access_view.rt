@@ -131,7 +131,7 @@ fn uris_in<'a>(contents: Constructed<'a>) -> Result<Option<&'a [u8]>, DecodeErro
 
 /// Access descriptions, as [take_rsync_access](crate::access::take_rsync_access) reads them, and nothing else.
 /// Allocates nothing.
-pub fn accesses_of<'a>(
+pub fn read_accesses<'a>(
     octets: Constructed<'a>,
     method: ConstOid,
 ) -> Result<Option<&'a [u8]>, DecodeError>
@@ -160,7 +160,7 @@ fn point_name<'a>(point: Constructed<'a>) -> Result<Option<&'a [u8]>, DecodeErro
 
 /// CRL distribution points, as [take_points](crate::access::take_points) reads them, and nothing else. Allocates
 /// nothing.
-pub fn points_of<'a>(octets: Constructed<'a>) -> Result<Option<&'a [u8]>, DecodeError>
+pub fn read_points<'a>(octets: Constructed<'a>) -> Result<Option<&'a [u8]>, DecodeError>
     ensures { GivesAll option_copied SpellsPoints (left octets.entry) result }
 {
     let points = match inside(octets, Tag::SEQUENCE) {

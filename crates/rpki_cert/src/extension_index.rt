@@ -63,6 +63,13 @@ impl<'a> ExtensionIndex<'a> {
         ExtensionIndex { list, starts }
     }
 
+    /// The octets of the extensions.
+    pub fn octets(&self) -> &'a [u8]
+        ensures { result.now ≡ self.now }
+    {
+        self.list
+    }
+
     /// The extension of this identifier, and how many octets follow it.
     pub fn find(&self, id: Oid<&[u8]>) -> Option<(ExtensionView<'a>, usize)>
         ensures some { IfSome result (λ x. (xs : List ExtensionParts) → SpellsEach SpellsExtension xs self.now

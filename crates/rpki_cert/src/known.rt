@@ -1,27 +1,36 @@
 //! What the extensions of a certificate say (RFC 6487 4.8).
 
 ghost use Rattle.std.specs.Prelude.{◌≡◌, Bool, List, ℕ, true, false, Option, Some, None, IfOk, IfErr, IfSome, IfNone, MatchResult};
+ghost use Rattle.std.specs.Option.{option_copied};
 ghost use Rattle.rpki.specs.KeyIdentifier.{SpellsKeyIdentifier};
 ghost use Rattle.rpki_der.specs.Cursor.{left};
 ghost use Rattle.rpki_der.specs.Reading.{Decodes, IsWholeFault};
 ghost use Rattle.rpki.specs.KeyIdentifier.{IsKeyIdentifier, IsIdentifierFault};
 ghost use Rattle.rpki.specs.ExtensionValue.{ExtensionParts};
 ghost use Rattle.rpki_cert.specs.Cert.{find};
-ghost use Rattle.rpki_cert.specs.Known.{subject_key_identifier, key_usage, basic_constraints, authority_key_identifier, extended_key_usage, certificate_policies, FindsOnly, FindsKept, FindsThere};
+ghost use Rattle.rpki_cert.specs.Known.{subject_key_identifier, key_usage, basic_constraints, authority_key_identifier, extended_key_usage, certificate_policies, IsSaid, IsSaidThere, FindsOnly, FindsKept, FindsThere};
+ghost use Rattle.rpki_cert.specs.Access.{SpellsRsyncAccess, SpellsPoints, IsSaidUri};
 ghost use Rattle.rpki_cert.specs.ExtensionContent.{SpellsConstraints, IsConstraintsFault, SpellsAuthority, IsAuthorityFault, SpellsUsage, IsUsageFault, SpellsPurposes, IsPurposesFault, SpellsPolicies, IsPoliciesFault};
 
+use crate::access_view::{read_accesses, read_points};
 use crate::contents::{skip_constraints, take_authority};
+use crate::extension_source::find_kept;
 use crate::extensions::find;
 use crate::key_usage::KeyUsage;
 use crate::policy::Overclaim;
-use crate::purposes::take_purposes;
+use crate::purposes::{read_purposes, take_purposes};
 use crate::tbs::TbsCert;
 use rpki::crypto::KeyIdentifier;
 use rpki::der::{ConstOid, Constructed, ContentError, DecodeError};
 use rpki::oid;
 use rpki::repository::error::{InspectionError, ValidationError};
-use rpki::repository::x509::CertExtension;
+use rpki::repository::x509::{CertExtension, ExtensionView};
 use std::alloc::Global;
+
+/// The error of an extension that isn't as critical as it has to be.
+fn other_critical() -> InspectionError {
+    InspectionError::new(ContentError::from_static("extension is not as critical as it has to be"))
+}
 
 /// The extension of this identifier, which has to be critical or not.
 pub fn find_as<'a>(
@@ -38,9 +47,27 @@ pub fn find_as<'a>(
     match find(all, id) {
         Some(extension) => {
             if extension.critical() != critical {
-                return Err(InspectionError::new(ContentError::from_static(
-                    "extension is not as critical as it has to be",
-                )));
+                return Err(other_critical());
+            }
+            Ok(Some(extension))
+        }
+        None => Ok(None),
+    }
+}
+
+/// What was found of an extension, which has to be critical or not.
+fn wanted<'a>(
+    found: Option<ExtensionView<'a>>,
+    critical: bool,
+) -> Result<Option<ExtensionView<'a>>, InspectionError>
+    ensures some { IfOk result (λ o. IfSome o (λ x. (found.entry ≡ Some x) × (x.critical ≡ critical))) }
+    ensures none { IfOk result (λ o. IfNone o (found.entry ≡ None)) }
+    ensures err { IfErr result (λ _. (x : ExtensionParts) × (found.entry ≡ Some x) × (x.critical ≡ critical → ⊥)) }
+{
+    match found {
+        Some(extension) => {
+            if extension.critical() != critical {
+                return Err(other_critical());
             }
             Ok(Some(extension))
         }
@@ -49,7 +76,7 @@ pub fn find_as<'a>(
 }
 
 /// The key identifier that the octets are.
-pub fn identifier_of(octets: Constructed<'_>) -> Result<KeyIdentifier, DecodeError>
+fn identifier_of(octets: Constructed<'_>) -> Result<KeyIdentifier, DecodeError>
     ensures { Decodes (λ k. k) SpellsKeyIdentifier (IsWholeFault SpellsKeyIdentifier
         (IsIdentifierFault IsKeyIdentifier)) (left octets.entry) result }
 {
@@ -57,7 +84,7 @@ pub fn identifier_of(octets: Constructed<'_>) -> Result<KeyIdentifier, DecodeErr
 }
 
 /// The key identifier of an issuer that the octets are.
-pub fn authority_of(octets: Constructed<'_>) -> Result<KeyIdentifier, DecodeError>
+fn authority_of(octets: Constructed<'_>) -> Result<KeyIdentifier, DecodeError>
     ensures { Decodes (λ k. k) SpellsAuthority (IsWholeFault SpellsAuthority IsAuthorityFault) (left octets.entry)
         result }
 {
@@ -65,7 +92,7 @@ pub fn authority_of(octets: Constructed<'_>) -> Result<KeyIdentifier, DecodeErro
 }
 
 /// Whether the octets are the basic constraints of a certification authority.
-pub fn constraints_of(octets: Constructed<'_>) -> Result<(), DecodeError>
+fn constraints_of(octets: Constructed<'_>) -> Result<(), DecodeError>
     ensures { Decodes (λ _. tt) SpellsConstraints (IsWholeFault SpellsConstraints IsConstraintsFault)
         (left octets.entry) result }
 {
@@ -73,7 +100,7 @@ pub fn constraints_of(octets: Constructed<'_>) -> Result<(), DecodeError>
 }
 
 /// The use that the octets name.
-pub fn usage_of(octets: Constructed<'_>) -> Result<KeyUsage, DecodeError>
+fn usage_of(octets: Constructed<'_>) -> Result<KeyUsage, DecodeError>
     ensures { Decodes (λ u. u) SpellsUsage (IsWholeFault SpellsUsage IsUsageFault) (left octets.entry) result }
 {
     octets.whole(|cons| KeyUsage::take_from(cons))
@@ -88,11 +115,125 @@ fn purposes_of(alloc: Global, extension: &CertExtension) -> Result<bool, DecodeE
 }
 
 /// The policy that the octets name.
-pub fn overclaim_of(octets: Constructed<'_>) -> Result<Overclaim, DecodeError>
+fn overclaim_of(octets: Constructed<'_>) -> Result<Overclaim, DecodeError>
     ensures { Decodes (λ p. p) SpellsPolicies (IsWholeFault SpellsPolicies IsPoliciesFault) (left octets.entry)
         result }
 {
     octets.whole(|cons| Overclaim::take_from(cons))
+}
+
+/// The identifier of the subject's key, as the extension that was found says it (RFC 6487 4.8.2).
+pub fn subject_in(
+    found: Option<ExtensionView<'_>>,
+) -> Result<Option<KeyIdentifier>, ValidationError>
+    ensures { IsSaid false SpellsKeyIdentifier found.entry result }
+{
+    match wanted(found, false)? {
+        Some(extension) => match identifier_of(Constructed::from_slice(extension.octets())) {
+            Ok(found) => Ok(Some(found)),
+            Err(e) => Err(ValidationError::Decoding(e)),
+        },
+        None => Ok(None),
+    }
+}
+
+/// The identifier of the issuer's key, as the extension that was found says it (RFC 6487 4.8.3).
+pub fn authority_in(
+    found: Option<ExtensionView<'_>>,
+) -> Result<Option<KeyIdentifier>, ValidationError>
+    ensures { IsSaid false SpellsAuthority found.entry result }
+{
+    match wanted(found, false)? {
+        Some(extension) => match authority_of(Constructed::from_slice(extension.octets())) {
+            Ok(found) => Ok(Some(found)),
+            Err(e) => Err(ValidationError::Decoding(e)),
+        },
+        None => Ok(None),
+    }
+}
+
+/// Whether basic constraints were found (RFC 6487 4.8.1).
+pub fn constraints_in(found: Option<ExtensionView<'_>>) -> Result<bool, ValidationError>
+    ensures { IsSaidThere true SpellsConstraints found.entry result }
+{
+    match wanted(found, true)? {
+        Some(extension) => match constraints_of(Constructed::from_slice(extension.octets())) {
+            Ok(()) => Ok(true),
+            Err(e) => Err(ValidationError::Decoding(e)),
+        },
+        None => Ok(false),
+    }
+}
+
+/// The use of the key, as the extension that was found says it (RFC 6487 4.8.4).
+pub fn usage_in(found: Option<ExtensionView<'_>>) -> Result<Option<KeyUsage>, ValidationError>
+    ensures { IsSaid true SpellsUsage found.entry result }
+{
+    match wanted(found, true)? {
+        Some(extension) => match usage_of(Constructed::from_slice(extension.octets())) {
+            Ok(found) => Ok(Some(found)),
+            Err(e) => Err(ValidationError::Decoding(e)),
+        },
+        None => Ok(None),
+    }
+}
+
+/// The policy, as the extension that was found says it (RFC 6487 4.8.9).
+pub fn overclaim_in(found: Option<ExtensionView<'_>>) -> Result<Option<Overclaim>, ValidationError>
+    ensures { IsSaid true SpellsPolicies found.entry result }
+{
+    match wanted(found, true)? {
+        Some(extension) => match overclaim_of(Constructed::from_slice(extension.octets())) {
+            Ok(found) => Ok(Some(found)),
+            Err(e) => Err(ValidationError::Decoding(e)),
+        },
+        None => Ok(None),
+    }
+}
+
+/// Whether a router's purpose is among those that the extension that was found names (RFC 8209 3.1.3.2).
+pub fn purposes_in(found: Option<ExtensionView<'_>>) -> Result<Option<bool>, ValidationError>
+    ensures { IsSaid false SpellsPurposes found.entry result }
+{
+    match wanted(found, false)? {
+        Some(extension) => match read_purposes(Constructed::from_slice(extension.octets())) {
+            Ok(found) => Ok(Some(found)),
+            Err(e) => Err(ValidationError::Decoding(e)),
+        },
+        None => Ok(None),
+    }
+}
+
+/// The URI of the revocation list, as the extension that was found says it (RFC 6487 4.8.6).
+pub fn points_in<'a>(found: Option<ExtensionView<'a>>) -> Result<Option<&'a [u8]>, ValidationError>
+    ensures { IsSaidUri option_copied SpellsPoints found.entry result }
+{
+    match wanted(found, false)? {
+        Some(extension) => match read_points(Constructed::from_slice(extension.octets())) {
+            Ok(found) => Ok(found),
+            Err(e) => Err(ValidationError::Decoding(e)),
+        },
+        None => Ok(None),
+    }
+}
+
+/// The URI of this method, as the extension that was found says it (RFC 6487 4.8.7, 4.8.8).
+pub fn access_in<'a>(
+    found: Option<ExtensionView<'a>>,
+    method: ConstOid,
+) -> Result<Option<&'a [u8]>, ValidationError>
+    ensures { IsSaidUri option_copied (SpellsRsyncAccess method.entry.0.now) found.entry result }
+{
+    match wanted(found, false)? {
+        Some(extension) => match read_accesses(
+            Constructed::from_slice(extension.octets()),
+            method,
+        ) {
+            Ok(found) => Ok(found),
+            Err(e) => Err(ValidationError::Decoding(e)),
+        },
+        None => Ok(None),
+    }
 }
 
 impl TbsCert {
@@ -103,13 +244,7 @@ impl TbsCert {
     pub fn subject_key_identifier(&self) -> Result<Option<KeyIdentifier>, ValidationError>
         ensures { FindsOnly subject_key_identifier false SpellsKeyIdentifier self.now.extensions result }
     {
-        match find_as(self.extensions(), oid::CE_SUBJECT_KEY_IDENTIFIER, false)? {
-            Some(extension) => match identifier_of(extension.cursor()) {
-                Ok(found) => Ok(Some(found)),
-                Err(e) => Err(ValidationError::Decoding(e)),
-            },
-            None => Ok(None),
-        }
+        subject_in(find_kept(self.extensions(), oid::CE_SUBJECT_KEY_IDENTIFIER))
     }
 
     /// The identifier of the issuer's key, where the extension is there: the key identifier alone, and not critical
@@ -119,13 +254,7 @@ impl TbsCert {
     pub fn authority_key_identifier(&self) -> Result<Option<KeyIdentifier>, ValidationError>
         ensures { FindsOnly authority_key_identifier false SpellsAuthority self.now.extensions result }
     {
-        match find_as(self.extensions(), oid::CE_AUTHORITY_KEY_IDENTIFIER, false)? {
-            Some(extension) => match authority_of(extension.cursor()) {
-                Ok(found) => Ok(Some(found)),
-                Err(e) => Err(ValidationError::Decoding(e)),
-            },
-            None => Ok(None),
-        }
+        authority_in(find_kept(self.extensions(), oid::CE_AUTHORITY_KEY_IDENTIFIER))
     }
 
     /// Whether the subject is a certification authority: the basic constraints are there, critical, with cA TRUE and
@@ -135,13 +264,7 @@ impl TbsCert {
     pub fn basic_ca(&self) -> Result<bool, ValidationError>
         ensures { FindsThere basic_constraints true SpellsConstraints self.now.extensions result }
     {
-        match find_as(self.extensions(), oid::CE_BASIC_CONSTRAINTS, true)? {
-            Some(extension) => match constraints_of(extension.cursor()) {
-                Ok(()) => Ok(true),
-                Err(e) => Err(ValidationError::Decoding(e)),
-            },
-            None => Ok(false),
-        }
+        constraints_in(find_kept(self.extensions(), oid::CE_BASIC_CONSTRAINTS))
     }
 
     /// What the subject's key may be used for, where the extension is there: critical, and exactly the bits of one of
@@ -151,13 +274,7 @@ impl TbsCert {
     pub fn key_usage(&self) -> Result<Option<KeyUsage>, ValidationError>
         ensures { FindsOnly key_usage true SpellsUsage self.now.extensions result }
     {
-        match find_as(self.extensions(), oid::CE_KEY_USAGE, true)? {
-            Some(extension) => match usage_of(extension.cursor()) {
-                Ok(found) => Ok(Some(found)),
-                Err(e) => Err(ValidationError::Decoding(e)),
-            },
-            None => Ok(None),
-        }
+        usage_in(find_kept(self.extensions(), oid::CE_KEY_USAGE))
     }
 
     /// Whether the purpose of a BGPsec router is among those of the subject's key, where the extension is there: one
@@ -184,12 +301,6 @@ impl TbsCert {
     pub fn overclaim(&self) -> Result<Option<Overclaim>, ValidationError>
         ensures { FindsOnly certificate_policies true SpellsPolicies self.now.extensions result }
     {
-        match find_as(self.extensions(), oid::CE_CERTIFICATE_POLICIES, true)? {
-            Some(extension) => match overclaim_of(extension.cursor()) {
-                Ok(found) => Ok(Some(found)),
-                Err(e) => Err(ValidationError::Decoding(e)),
-            },
-            None => Ok(None),
-        }
+        overclaim_in(find_kept(self.extensions(), oid::CE_CERTIFICATE_POLICIES))
     }
 }

@@ -1,24 +1,17 @@
 //! What the extensions of a certificate say, read in place without memory (RFC 6487 4.8).
 
-ghost use Rattle.std.specs.Prelude.{◌≡◌, List, ℕ, true, false, IfOk, IfErr, IfSome, IfNone, Some, None};
-ghost use Rattle.rpki_der.specs.Cursor.{left};
-ghost use Rattle.rpki.specs.KeyIdentifier.{SpellsKeyIdentifier};
-ghost use Rattle.rpki.specs.ExtensionValue.{ExtensionParts};
-ghost use Rattle.rpki_cert.specs.Cert.{find};
-ghost use Rattle.rpki_cert.specs.Known.{subject_key_identifier, key_usage, basic_constraints, authority_key_identifier, certificate_policies, present, HasOnly};
-ghost use Rattle.rpki_cert.specs.ExtensionContent.{SpellsConstraints, SpellsAuthority, SpellsUsage, SpellsPolicies};
-ghost use Rattle.rpki_cert.specs.KnownView.{OfListed, HasOtherCritical, AreKnown, IsKnownWrong, IsFirstWrong};
+ghost use Rattle.std.specs.Prelude.{IfOk, IfErr};
+ghost use Rattle.rpki_cert.specs.KnownView.{OfListed, AreKnown, IsFirstWrong};
 
+use crate::extension_index::ExtensionIndex;
+use crate::extension_source::find_listed;
 use crate::fields::Keyed;
 use crate::key_usage::KeyUsage;
-use crate::known::{authority_of, constraints_of, identifier_of, overclaim_of, usage_of};
+use crate::known::{authority_in, constraints_in, overclaim_in, subject_in, usage_in};
 use crate::known_part::KnownPart;
-use crate::listed::find_in;
 use crate::policy::Overclaim;
 use rpki::crypto::KeyIdentifier;
-use rpki::der::{ConstOid, Constructed};
 use rpki::oid;
-use rpki::repository::x509::ExtensionView;
 
 /// What the extensions say that are read without memory.
 #[derive(Clone, Copy)]
@@ -36,160 +29,39 @@ pub struct KnownView {
     pub overclaim: Option<Overclaim>,
 }
 
-/// The extension of this identifier in the list, which has to be critical or not; else the error is this part.
-fn find_as<'a>(
-    list: &'a [u8],
-    id: ConstOid,
-    critical: bool,
-    part: KnownPart,
-) -> Result<Option<ExtensionView<'a>>, KnownPart>
-    ensures some { IfOk result (λ o. IfSome o (λ x. (x.critical ≡ critical)
-        × OfListed list.now (λ xs. find id.entry.0.now xs ≡ Some x))) }
-    ensures none { IfOk result (λ o. IfNone o (OfListed list.now (λ xs. find id.entry.0.now xs ≡ None))) }
-    ensures err { IfErr result (λ q. (q ≡ part) × OfListed list.now (HasOtherCritical id.entry.0.now critical)) }
-{
-    match find_in(Constructed::from_slice(list), id) {
-        Some((extension, _)) => {
-            if extension.critical() != critical {
-                return Err(part);
-            }
-            Ok(Some(extension))
-        }
-        None => Ok(None),
-    }
-}
-
-/// Whether the list says that the subject is a certification authority.
-fn ca_in(list: &[u8]) -> Result<bool, KnownPart>
-    ensures ok { IfOk result (λ b. OfListed list.now (λ xs. HasOnly basic_constraints true SpellsConstraints xs
-        (present b))) }
-    ensures err { IfErr result (λ q. (q ≡ KnownPart.BasicConstraints)
-        × OfListed list.now (λ xs. IsKnownWrong xs KnownPart.BasicConstraints)) }
-{
-    match find_as(
-        list,
-        oid::CE_BASIC_CONSTRAINTS,
-        true,
-        KnownPart::BasicConstraints,
-    ) {
-        Ok(Some(extension)) => match constraints_of(Constructed::from_slice(extension.octets())) {
-            Ok(()) => Ok(true),
-            Err(_) => Err(KnownPart::BasicConstraints),
-        },
-        Ok(None) => Ok(false),
-        Err(part) => Err(part),
-    }
-}
-
-/// The subject key identifier that the list has.
-fn subject_in(list: &[u8]) -> Result<Option<KeyIdentifier>, KnownPart>
-    ensures ok { IfOk result (λ v. OfListed list.now (λ xs. HasOnly subject_key_identifier false SpellsKeyIdentifier
-        xs v)) }
-    ensures err { IfErr result (λ q. (q ≡ KnownPart.SubjectKeyIdentifier)
-        × OfListed list.now (λ xs. IsKnownWrong xs KnownPart.SubjectKeyIdentifier)) }
-{
-    match find_as(
-        list,
-        oid::CE_SUBJECT_KEY_IDENTIFIER,
-        false,
-        KnownPart::SubjectKeyIdentifier,
-    ) {
-        Ok(Some(extension)) => match identifier_of(Constructed::from_slice(extension.octets())) {
-            Ok(found) => Ok(Some(found)),
-            Err(_) => Err(KnownPart::SubjectKeyIdentifier),
-        },
-        Ok(None) => Ok(None),
-        Err(part) => Err(part),
-    }
-}
-
-/// The authority key identifier that the list has.
-fn authority_in(list: &[u8]) -> Result<Option<KeyIdentifier>, KnownPart>
-    ensures ok { IfOk result (λ v. OfListed list.now (λ xs. HasOnly authority_key_identifier false SpellsAuthority
-        xs v)) }
-    ensures err { IfErr result (λ q. (q ≡ KnownPart.AuthorityKeyIdentifier)
-        × OfListed list.now (λ xs. IsKnownWrong xs KnownPart.AuthorityKeyIdentifier)) }
-{
-    match find_as(
-        list,
-        oid::CE_AUTHORITY_KEY_IDENTIFIER,
-        false,
-        KnownPart::AuthorityKeyIdentifier,
-    ) {
-        Ok(Some(extension)) => match authority_of(Constructed::from_slice(extension.octets())) {
-            Ok(found) => Ok(Some(found)),
-            Err(_) => Err(KnownPart::AuthorityKeyIdentifier),
-        },
-        Ok(None) => Ok(None),
-        Err(part) => Err(part),
-    }
-}
-
-/// The use of the key that the list has.
-fn usage_in(list: &[u8]) -> Result<Option<KeyUsage>, KnownPart>
-    ensures ok { IfOk result (λ v. OfListed list.now (λ xs. HasOnly key_usage true SpellsUsage xs v)) }
-    ensures err { IfErr result (λ q. (q ≡ KnownPart.KeyUsage)
-        × OfListed list.now (λ xs. IsKnownWrong xs KnownPart.KeyUsage)) }
-{
-    match find_as(list, oid::CE_KEY_USAGE, true, KnownPart::KeyUsage) {
-        Ok(Some(extension)) => match usage_of(Constructed::from_slice(extension.octets())) {
-            Ok(found) => Ok(Some(found)),
-            Err(_) => Err(KnownPart::KeyUsage),
-        },
-        Ok(None) => Ok(None),
-        Err(part) => Err(part),
-    }
-}
-
-/// The policy that the list has.
-fn overclaim_in(list: &[u8]) -> Result<Option<Overclaim>, KnownPart>
-    ensures ok { IfOk result (λ v. OfListed list.now (λ xs. HasOnly certificate_policies true SpellsPolicies xs v)) }
-    ensures err { IfErr result (λ q. (q ≡ KnownPart.CertificatePolicies)
-        × OfListed list.now (λ xs. IsKnownWrong xs KnownPart.CertificatePolicies)) }
-{
-    match find_as(
-        list,
-        oid::CE_CERTIFICATE_POLICIES,
-        true,
-        KnownPart::CertificatePolicies,
-    ) {
-        Ok(Some(extension)) => match overclaim_of(Constructed::from_slice(extension.octets())) {
-            Ok(found) => Ok(Some(found)),
-            Err(_) => Err(KnownPart::CertificatePolicies),
-        },
-        Ok(None) => Ok(None),
-        Err(part) => Err(part),
-    }
-}
-
-impl<'a> Keyed<'a> {
+impl ExtensionIndex<'_> {
     /// What the extensions say: the basic constraints, both key identifiers, the key usage and the policy. Allocates
     /// nothing.
     ///
     /// The error is an extension that is there, but malformed, or not as critical as it has to be: the first of these
     /// five.
     pub fn known(&self) -> Result<KnownView, KnownPart>
-        ensures ok { IfOk result (λ v. OfListed self.now.extensions.octets.now (λ xs. AreKnown xs v)) }
-        ensures err { IfErr result (λ q. OfListed self.now.extensions.octets.now (λ xs. IsFirstWrong xs q)) }
+        ensures ok { IfOk result (λ v. OfListed self.now (λ xs. AreKnown xs v)) }
+        ensures err { IfErr result (λ q. OfListed self.now (λ xs. IsFirstWrong xs q)) }
     {
-        let list = self.extensions.octets;
-        let ca = match ca_in(list) {
+        let ca = match constraints_in(find_listed(self, oid::CE_BASIC_CONSTRAINTS)) {
             Ok(ca) => ca,
-            Err(part) => return Err(part),
+            Err(_) => return Err(KnownPart::BasicConstraints),
         };
-        let subject_key_identifier = match subject_in(list) {
+        let subject_key_identifier = match subject_in(find_listed(
+            self,
+            oid::CE_SUBJECT_KEY_IDENTIFIER,
+        )) {
             Ok(found) => found,
-            Err(part) => return Err(part),
+            Err(_) => return Err(KnownPart::SubjectKeyIdentifier),
         };
-        let authority_key_identifier = match authority_in(list) {
+        let authority_key_identifier = match authority_in(find_listed(
+            self,
+            oid::CE_AUTHORITY_KEY_IDENTIFIER,
+        )) {
             Ok(found) => found,
-            Err(part) => return Err(part),
+            Err(_) => return Err(KnownPart::AuthorityKeyIdentifier),
         };
-        let key_usage = match usage_in(list) {
+        let key_usage = match usage_in(find_listed(self, oid::CE_KEY_USAGE)) {
             Ok(found) => found,
-            Err(part) => return Err(part),
+            Err(_) => return Err(KnownPart::KeyUsage),
         };
-        match overclaim_in(list) {
+        match overclaim_in(find_listed(self, oid::CE_CERTIFICATE_POLICIES)) {
             Ok(overclaim) => Ok(KnownView {
                 ca,
                 subject_key_identifier,
@@ -197,7 +69,17 @@ impl<'a> Keyed<'a> {
                 key_usage,
                 overclaim,
             }),
-            Err(part) => Err(part),
+            Err(_) => Err(KnownPart::CertificatePolicies),
         }
+    }
+}
+
+impl<'a> Keyed<'a> {
+    /// What the extensions say, as [ExtensionIndex::known].
+    pub fn known(&self) -> Result<KnownView, KnownPart>
+        ensures ok { IfOk result (λ v. OfListed self.now.extensions.octets.now (λ xs. AreKnown xs v)) }
+        ensures err { IfErr result (λ q. OfListed self.now.extensions.octets.now (λ xs. IsFirstWrong xs q)) }
+    {
+        ExtensionIndex::of(self.extensions.octets).known()
     }
 }

@@ -1,6 +1,6 @@
 //! Parts of one value.
 
-ghost use Rattle.std.specs.Prelude.{◌≡◌, ◌↔◌, IsTrue, false};
+ghost use Rattle.std.specs.Prelude.{◌≡◌, ◌↔◌, IsTrue, true, false};
 ghost use Rattle.rpki_der.specs.Cursor.{left};
 ghost use Rattle.rpki_der.specs.Reading.{Reads};
 ghost use Rattle.rpki_der.specs.Values.{SpellsContents, SpellsLeaf, IsLeafFault};

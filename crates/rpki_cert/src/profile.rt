@@ -1,43 +1,35 @@
 //! The profiles of certificates (RFC 6487 4, RFC 8209 3.1).
 
-ghost use Rattle.std.specs.Prelude.{◌≡◌, All, MatchResult};
-ghost use Rattle.rpki_cert.specs.Known.{UnlessNoMemory, is_memory};
+ghost use Rattle.std.specs.Prelude.{◌≡◌, List, ℕ, All, MatchResult};
+ghost use Rattle.rpki_cert.specs.Cert.{TbsParts, CertParts};
+ghost use Rattle.rpki_cert.specs.View.{IsCertAt};
+ghost use Rattle.rpki_cert.specs.Inspected.{IsReadOf};
 ghost use Rattle.rpki_cert.specs.Profile.{Checks, IsTaProfile, IsCaProfile, IsEeProfile, IsRouterProfile};
 ghost use Rattle.rpki_cert.specs.Rule.{Obeys, IsFirstBroken, TestsRules, ta_rules, ca_rules, ee_rules, router_rules};
 
+use crate::inspected::Inspected;
 use crate::rule::{CertRule, ca_rules, ee_rules, router_rules, ta_rules};
 use crate::tbs::TbsCert;
-use rpki::der::DecodeError;
+use crate::view::CertView;
 use rpki::repository::error::ValidationError;
-use std::alloc::{AllocError, Global};
 
 /// Why a rule was not obeyed.
 #[derive(Clone, Copy)]
 struct Refusal {
     /// The rule.
     rule: CertRule,
-    /// The error, which may be allocation failure.
+    /// The error.
     error: ValidationError,
 }
 
-/// Whether the error is an allocation failure.
-fn is_memory(error: ValidationError) -> bool
-    ensures { result ≡ is_memory error }
-{
-    match error {
-        ValidationError::Decoding(DecodeError::OutOfMemory) => true,
-        _ => false,
-    }
-}
-
-impl TbsCert {
+impl Inspected<'_> {
     /// Whether the certificate obeys all of these rules, tested from the left.
-    fn inspect_rules(&self, alloc: Global, strict: bool, rules: &[CertRule]) -> Result<(), Refusal>
-        ensures { MatchResult result (λ _. All (Obeys strict self.now) rules.now)
-            (λ x. UnlessNoMemory x.error (IsFirstBroken strict self.now rules.now x.rule)) }
+    fn inspect_rules(&self, strict: bool, rules: &[CertRule]) -> Result<(), Refusal>
+        ensures { (t : TbsParts) → IsReadOf t self.now → MatchResult result
+            (λ _. All (Obeys strict t) rules.now) (λ x. IsFirstBroken strict t rules.now x.rule) }
     {
         'rules: for rule in rules {
-            match self.inspect_rule(alloc, strict, *rule) {
+            match self.inspect_rule(strict, *rule) {
                 Ok(()) => {}
                 Err(error) => {
                     return Err(Refusal { rule: *rule, error });
@@ -48,129 +40,148 @@ impl TbsCert {
     }
 
     /// The same, of which the error is that of the first rule that is broken.
-    fn inspect_all(
-        &self,
-        alloc: Global,
-        strict: bool,
-        rules: &[CertRule],
-    ) -> Result<(), ValidationError>
-        ensures { Checks (All (Obeys strict self.now) rules.now) result }
+    fn inspect_all(&self, strict: bool, rules: &[CertRule]) -> Result<(), ValidationError>
+        ensures { (t : TbsParts) → IsReadOf t self.now → Checks (All (Obeys strict t) rules.now) result }
     {
-        match self.inspect_rules(alloc, strict, rules) {
+        match self.inspect_rules(strict, rules) {
             Ok(()) => Ok(()),
             Err(Refusal { rule: _, error }) => Err(error),
         }
     }
 
     /// The same, and which rule is broken first.
-    fn test_all(
-        &self,
-        alloc: Global,
-        strict: bool,
-        rules: &[CertRule],
-    ) -> Result<Result<(), CertRule>, AllocError>
-        ensures { TestsRules (All (Obeys strict self.now) rules.now) strict self.now rules.now result }
+    fn test_all(&self, strict: bool, rules: &[CertRule]) -> Result<(), CertRule>
+        ensures { (t : TbsParts) → IsReadOf t self.now
+            → TestsRules (All (Obeys strict t) rules.now) strict t rules.now result }
     {
-        match self.inspect_rules(alloc, strict, rules) {
-            Ok(()) => Ok(Ok(())),
-            Err(Refusal { rule, error }) => {
-                if is_memory(error) {
-                    return Err(AllocError);
-                }
-                Ok(Err(rule))
-            }
+        match self.inspect_rules(strict, rules) {
+            Ok(()) => Ok(()),
+            Err(Refusal { rule, error: _ }) => Err(rule),
         }
     }
+}
 
+impl TbsCert {
     /// Tests that the certificate has the profile of a trust anchor (RFC 6487 4): that of a certification authority,
     /// but without CRL distribution points and authority information access. The names are looked at if `strict`.
     ///
-    /// Returns `Inspection` with a text for the first rule that is broken, `Decoding` for an extension whose octets are
-    /// malformed, and, with `OutOfMemory`, if allocation fails.
-    pub fn inspect_ta(&self, alloc: Global, strict: bool) -> Result<(), ValidationError>
+    /// Returns `Inspection` with a text for the first rule that is broken, and `Decoding` for an extension whose octets
+    /// are malformed. Allocates nothing.
+    pub fn inspect_ta(&self, strict: bool) -> Result<(), ValidationError>
         ensures { Checks (IsTaProfile strict self.now) result }
     {
-        self.inspect_all(alloc, strict, ta_rules())
+        self.inspected().inspect_all(strict, ta_rules())
     }
 
     /// Tests that the certificate has the profile of a trust anchor, as [TbsCert::inspect_ta] does; returns the rule that
     /// it breaks first, in the order: serial number, critical extensions, issuer, subject key identifier, policies,
     /// resources, subject, key, extended key usage, basic constraints, key usage, revocation list, certificate of the
     /// issuer, repository, manifest. An extension that a rule wants and that is malformed, or not as critical as it has
-    /// to be, breaks the rule.
-    ///
-    /// Returns an error only if allocation fails.
-    pub fn test_ta(&self, alloc: Global, strict: bool) -> Result<Result<(), CertRule>, AllocError>
+    /// to be, breaks the rule. Allocates nothing.
+    pub fn test_ta(&self, strict: bool) -> Result<(), CertRule>
         ensures { TestsRules (IsTaProfile strict self.now) strict self.now ta_rules result }
     {
-        self.test_all(alloc, strict, ta_rules())
+        self.inspected().test_all(strict, ta_rules())
     }
 
     /// Tests that the certificate has the profile of a certification authority (RFC 6487 4). The names are looked at if
     /// `strict`.
     ///
     /// The errors are those of [TbsCert::inspect_ta].
-    pub fn inspect_ca(&self, alloc: Global, strict: bool) -> Result<(), ValidationError>
+    pub fn inspect_ca(&self, strict: bool) -> Result<(), ValidationError>
         ensures { Checks (IsCaProfile strict self.now) result }
     {
-        self.inspect_all(alloc, strict, ca_rules())
+        self.inspected().inspect_all(strict, ca_rules())
     }
 
     /// Tests that the certificate has the profile of a certification authority, as [TbsCert::inspect_ca] does;
     /// returns the rule that it breaks first, in the order: those of a trust anchor up to the
     /// key usage; then repository, manifest, authority key identifier, revocation list, certificate of the issuer.
-    ///
-    /// Returns an error only if allocation fails.
-    pub fn test_ca(&self, alloc: Global, strict: bool) -> Result<Result<(), CertRule>, AllocError>
+    pub fn test_ca(&self, strict: bool) -> Result<(), CertRule>
         ensures { TestsRules (IsCaProfile strict self.now) strict self.now ca_rules result }
     {
-        self.test_all(alloc, strict, ca_rules())
+        self.inspected().test_all(strict, ca_rules())
     }
 
     /// Tests that the certificate has the profile of an end entity that signs an object (RFC 6487 4). The names are
     /// looked at if `strict`.
     ///
     /// The errors are those of [TbsCert::inspect_ta].
-    pub fn inspect_ee(&self, alloc: Global, strict: bool) -> Result<(), ValidationError>
+    pub fn inspect_ee(&self, strict: bool) -> Result<(), ValidationError>
         ensures { Checks (IsEeProfile strict self.now) result }
     {
-        self.inspect_all(alloc, strict, ee_rules())
+        self.inspected().inspect_all(strict, ee_rules())
     }
 
     /// Tests that the certificate has the profile of an end entity that signs an object, as [TbsCert::inspect_ee] does;
     /// returns the rule that it breaks first, in the order: those of a trust anchor up to the
     /// key usage; then signed object, authority key identifier, revocation list, certificate of the issuer.
-    ///
-    /// Returns an error only if allocation fails.
-    pub fn test_ee(&self, alloc: Global, strict: bool) -> Result<Result<(), CertRule>, AllocError>
+    pub fn test_ee(&self, strict: bool) -> Result<(), CertRule>
         ensures { TestsRules (IsEeProfile strict self.now) strict self.now ee_rules result }
     {
-        self.test_all(alloc, strict, ee_rules())
+        self.inspected().test_all(strict, ee_rules())
     }
 
     /// Tests that the certificate has the profile of a BGPsec router (RFC 8209 3.1). The names are looked at if
     /// `strict`.
     ///
     /// The errors are those of [TbsCert::inspect_ta].
-    pub fn inspect_router(&self, alloc: Global, strict: bool) -> Result<(), ValidationError>
+    pub fn inspect_router(&self, strict: bool) -> Result<(), ValidationError>
         ensures { Checks (IsRouterProfile strict self.now) result }
     {
-        self.inspect_all(alloc, strict, router_rules())
+        self.inspected().inspect_all(strict, router_rules())
     }
 
     /// Tests that the certificate has the profile of a BGPsec router, as [TbsCert::inspect_router] does;
     /// returns the rule that it breaks first, in the order: those of a trust anchor up to the
     /// key; then basic constraints, key usage, numbers of autonomous systems, access to the subject, extended key usage,
     /// authority key identifier, revocation list, certificate of the issuer.
-    ///
-    /// Returns an error only if allocation fails.
-    pub fn test_router(
-        &self,
-        alloc: Global,
-        strict: bool,
-    ) -> Result<Result<(), CertRule>, AllocError>
+    pub fn test_router(&self, strict: bool) -> Result<(), CertRule>
         ensures { TestsRules (IsRouterProfile strict self.now) strict self.now router_rules result }
     {
-        self.test_all(alloc, strict, router_rules())
+        self.inspected().test_all(strict, router_rules())
+    }
+}
+
+/// # Profiles, tested in place
+impl CertView<'_> {
+    /// Tests that the certificate has the profile of a trust anchor, as [TbsCert::test_ta] does. Allocates
+    /// nothing.
+    pub fn test_ta(&self, strict: bool) -> Result<(), CertRule>
+        requires { (s : List ℕ) × (x : CertParts) × IsCertAt s self.now x }
+        ensures { (s : List ℕ) (x : CertParts) → IsCertAt s self.now x
+            → TestsRules (IsTaProfile strict x.tbs) strict x.tbs ta_rules result }
+    {
+        self.inspected().test_all(strict, ta_rules())
+    }
+
+    /// Tests that the certificate has the profile of a certification authority, as [TbsCert::test_ca] does. Allocates
+    /// nothing.
+    pub fn test_ca(&self, strict: bool) -> Result<(), CertRule>
+        requires { (s : List ℕ) × (x : CertParts) × IsCertAt s self.now x }
+        ensures { (s : List ℕ) (x : CertParts) → IsCertAt s self.now x
+            → TestsRules (IsCaProfile strict x.tbs) strict x.tbs ca_rules result }
+    {
+        self.inspected().test_all(strict, ca_rules())
+    }
+
+    /// Tests that the certificate has the profile of an end entity that signs an object, as [TbsCert::test_ee] does. Allocates
+    /// nothing.
+    pub fn test_ee(&self, strict: bool) -> Result<(), CertRule>
+        requires { (s : List ℕ) × (x : CertParts) × IsCertAt s self.now x }
+        ensures { (s : List ℕ) (x : CertParts) → IsCertAt s self.now x
+            → TestsRules (IsEeProfile strict x.tbs) strict x.tbs ee_rules result }
+    {
+        self.inspected().test_all(strict, ee_rules())
+    }
+
+    /// Tests that the certificate has the profile of a BGPsec router, as [TbsCert::test_router] does. Allocates
+    /// nothing.
+    pub fn test_router(&self, strict: bool) -> Result<(), CertRule>
+        requires { (s : List ℕ) × (x : CertParts) × IsCertAt s self.now x }
+        ensures { (s : List ℕ) (x : CertParts) → IsCertAt s self.now x
+            → TestsRules (IsRouterProfile strict x.tbs) strict x.tbs router_rules result }
+    {
+        self.inspected().test_all(strict, router_rules())
     }
 }

@@ -84,7 +84,7 @@ fn purposes_in(contents: Constructed<'_>) -> Result<bool, DecodeError>
 }
 
 /// Extended key usage, as [take_purposes] reads it, and nothing else. Allocates nothing.
-pub fn purposes_of(octets: Constructed<'_>) -> Result<bool, DecodeError>
+pub fn read_purposes(octets: Constructed<'_>) -> Result<bool, DecodeError>
     ensures { GivesAll (λ b. b) SpellsPurposes (left octets.entry) result }
 {
     match inside(octets, Tag::SEQUENCE) {

@@ -1,11 +1,13 @@
 //! Whether every critical extension is a known one (RFC 5280 4.2).
 
 ghost use Rattle.std.specs.Prelude.{◌≡◌, ◌||◌, not};
+ghost use Rattle.rpki_der.specs.Cursor.{left};
 ghost use Rattle.rpki_cert.specs.Known.{is_known, are_understood};
+ghost use Rattle.rpki_cert.specs.KnownView.{OfListed};
 
-use rpki::der::Oid;
+use rpki::der::{Constructed, Oid};
 use rpki::oid;
-use rpki::repository::x509::CertExtension;
+use rpki::repository::x509::{CertExtension, ExtensionView};
 
 /// Whether certificates of the RPKI have extensions of this identifier (RFC 6487 4.8, RFC 8360 4.2).
 fn is_known(id: Oid<&[u8]>) -> bool
@@ -27,10 +29,10 @@ fn is_known(id: Oid<&[u8]>) -> bool
 }
 
 /// Whether an extension is known or not critical.
-fn is_understood(extension: &CertExtension) -> bool
-    ensures { result ≡ (not extension.now.critical || is_known extension.now.identifier) }
+fn is_understood(critical: bool, id: Oid<&[u8]>) -> bool
+    ensures { result ≡ (not critical || is_known id.entry.0.now) }
 {
-    !extension.critical() || is_known(extension.id())
+    !critical || is_known(id)
 }
 
 /// Whether every critical extension is a known one (RFC 5280 4.2).
@@ -38,8 +40,26 @@ pub fn are_understood(all: &[CertExtension]) -> bool
     ensures { result ≡ are_understood all.now }
 {
     'extensions: for extension in all {
-        if !is_understood(extension) {
+        if !is_understood(extension.critical(), extension.id()) {
             return false;
+        }
+    }
+    true
+}
+
+/// The same of the extensions that are left.
+pub fn are_understood_in(list: Constructed<'_>) -> bool
+    ensures { OfListed (left list.entry) (λ xs. result ≡ are_understood xs) }
+{
+    let mut rest = list;
+    'extensions: while !rest.is_empty() {
+        match ExtensionView::take_from(&mut rest) {
+            Ok(extension) => {
+                if !is_understood(extension.critical(), extension.id()) {
+                    return false;
+                }
+            }
+            Err(_) => return false,
         }
     }
     true

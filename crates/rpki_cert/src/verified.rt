@@ -8,7 +8,6 @@ use crate::tbs::TbsCert;
 use rpki::crypto::Provider;
 use rpki::repository::error::ValidationError;
 use rpki::repository::x509::Time;
-use std::alloc::Global;
 
 impl Cert {
     /// Tests that the certificate has the profile of a certification authority (RFC 6487 4), and that the issuer has
@@ -17,7 +16,6 @@ impl Cert {
     /// The errors are those of [TbsCert::inspect_ca]; then those of [Cert::verify_issued].
     pub fn verify_ca<P: Provider>(
         &self,
-        alloc: Global,
         provider: &P,
         issuer: &TbsCert,
         strict: bool,
@@ -26,7 +24,7 @@ impl Cert {
         ensures { Checks (IsVerified (IsCaProfile strict) (P.rsa_of provider.now) (P.ecdsa_of provider.now)
             (P.sha1_of provider.now) issuer.now at self.now) result }
     {
-        match self.tbs().inspect_ca(alloc, strict) {
+        match self.tbs().inspect_ca(strict) {
             Ok(()) => match self.verify_issued(provider, issuer, at) {
                 Ok(()) => Ok(()),
                 Err(e) => Err(e),
@@ -40,7 +38,6 @@ impl Cert {
     /// The errors are those of [TbsCert::inspect_ee]; then those of [Cert::verify_issued].
     pub fn verify_ee<P: Provider>(
         &self,
-        alloc: Global,
         provider: &P,
         issuer: &TbsCert,
         strict: bool,
@@ -49,7 +46,7 @@ impl Cert {
         ensures { Checks (IsVerified (IsEeProfile strict) (P.rsa_of provider.now) (P.ecdsa_of provider.now)
             (P.sha1_of provider.now) issuer.now at self.now) result }
     {
-        match self.tbs().inspect_ee(alloc, strict) {
+        match self.tbs().inspect_ee(strict) {
             Ok(()) => match self.verify_issued(provider, issuer, at) {
                 Ok(()) => Ok(()),
                 Err(e) => Err(e),
@@ -63,7 +60,6 @@ impl Cert {
     /// The errors are those of [TbsCert::inspect_router]; then those of [Cert::verify_issued].
     pub fn verify_router<P: Provider>(
         &self,
-        alloc: Global,
         provider: &P,
         issuer: &TbsCert,
         strict: bool,
@@ -72,7 +68,7 @@ impl Cert {
         ensures { Checks (IsVerifiedRouter strict (P.rsa_of provider.now) (P.ecdsa_of provider.now)
             (P.sha1_of provider.now) issuer.now at self.now) result }
     {
-        match self.tbs().inspect_router(alloc, strict) {
+        match self.tbs().inspect_router(strict) {
             Ok(()) => match self.verify_issued(provider, issuer, at) {
                 Ok(()) => Ok(()),
                 Err(e) => Err(e),

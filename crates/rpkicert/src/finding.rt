@@ -5,7 +5,6 @@ ghost use Rattle.rpkicert.specs.Finding.{IsCertificate, IsRefusal, HoldsTo, Find
 ghost use Rattle.rpkicert.specs.FindingView.{finding_of};
 
 use crate::fault::Fault;
-use crate::memory::is_memory;
 use crate::pem::octets_of;
 use crate::profile::{Profile, inspect};
 use crate::sources::Sources;
@@ -37,14 +36,9 @@ fn held(alloc: Global, profile: Option<Profile>, octets: Vec<u8>) -> Result<Foun
     ensures { HoldsTo profile octets.items (finding_of result) }
 {
     let cert = decoded(alloc, octets.as_slice())?;
-    match inspect(alloc, profile, cert.tbs()) {
+    match inspect(profile, cert.tbs()) {
         Ok(()) => Ok(Found { octets, cert }),
-        Err(e) => {
-            if is_memory(e) {
-                return Err(Fault::OutOfMemory);
-            }
-            Err(Fault::Violated(e))
-        }
+        Err(e) => Err(Fault::Violated(e)),
     }
 }
 

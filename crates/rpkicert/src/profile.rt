@@ -7,7 +7,6 @@ ghost use Rattle.rpkicert.specs.Request.{profile_of};
 
 use rpki::repository::error::ValidationError;
 use rpki_cert::TbsCert;
-use std::alloc::Global;
 
 /// A profile that a certificate is held to.
 #[derive(Clone, Copy, Debug, PartialEq, Eq)]
@@ -42,18 +41,14 @@ impl Profile {
 }
 
 /// Whether the certificate has the profile that is asked for, if one is.
-pub fn inspect(
-    alloc: Global,
-    profile: Option<Profile>,
-    tbs: &TbsCert,
-) -> Result<(), ValidationError>
+pub fn inspect(profile: Option<Profile>, tbs: &TbsCert) -> Result<(), ValidationError>
     ensures { Checks (Meets profile tbs.now) result }
 {
     match profile {
         None => Ok(()),
-        Some(Profile::Ta) => tbs.inspect_ta(alloc, true),
-        Some(Profile::Ca) => tbs.inspect_ca(alloc, true),
-        Some(Profile::Ee) => tbs.inspect_ee(alloc, true),
-        Some(Profile::Router) => tbs.inspect_router(alloc, true),
+        Some(Profile::Ta) => tbs.inspect_ta(true),
+        Some(Profile::Ca) => tbs.inspect_ca(true),
+        Some(Profile::Ee) => tbs.inspect_ee(true),
+        Some(Profile::Router) => tbs.inspect_router(true),
     }
 }

@@ -1,8 +1,7 @@
 /*
  * Reads certificates with rpki_certificate and rpki_certificate_extensions, and compares statuses and places with those
- * of rows that rows.py writes. Neither call allocates. What a call refuses leaves `out` as it was. Each beginning of a
- * certificate is none, nor is one with an octet more. Then holds them to each profile with rpki_certificate_inspect,
- * which frees what it takes, and says that allocation failed where one fails, whichever it is.
+ * of rows that rows.py writes. What a call refuses leaves `out` as it was. Each beginning of a certificate is none, nor
+ * is one with an octet more. Then holds them to each profile with rpki_certificate_inspect. No call allocates.
  *
  * usage: certificate ROWS
  */
@@ -136,16 +135,15 @@ static void compare(unsigned line, bool extensions, uint8_t *octets, size_t size
     if (line == 1) beginnings(line, extensions, octets, size);
 }
 
-/* Holds a copy of exactly these octets to a profile, where the allocation of this number is refused. */
-static rpki_status inspected(const uint8_t *octets, size_t size, unsigned profile, bool strict, size_t refused,
-                             size_t *taken, bool *clean) {
+/* Holds a copy of exactly these octets to a profile, where no allocation succeeds. */
+static rpki_status inspected(const uint8_t *octets, size_t size, unsigned profile, bool strict, bool *clean) {
     uint8_t *copy = malloc(size + 1);
     rpki_status status;
     if (!copy) exit(2);
     memcpy(copy, octets, size);
-    count_allocations(refused);
+    count_allocations(0);
     status = rpki_certificate_inspect(copy, size, (uint8_t)profile, strict);
-    *taken = allocations(clean);
+    *clean = allocations(clean) == 0;
     count_allocations(NONE_REFUSED);
     free(copy);
     return status;
@@ -154,21 +152,16 @@ static rpki_status inspected(const uint8_t *octets, size_t size, unsigned profil
 /* The words are the statuses of the four profiles, strict; and then the same not strict. */
 static void inspect(unsigned line, const uint8_t *octets, size_t size, const char *words) {
     unsigned number;
-    size_t taken, refused, ignored;
-    bool clean, well = true;
+    bool clean;
     for (number = 0; number < 8; number++) {
         unsigned wanted = (unsigned)strtoul(words, (char **)&words, 10), profile = number % 4;
         bool strict = number < 4;
-        rpki_status status = inspected(octets, size, profile, strict, NONE_REFUSED, &taken, &clean);
+        rpki_status status = inspected(octets, size, profile, strict, &clean);
         if (status != wanted) printf("profile %u: status %u, not %u\n", profile, status, wanted);
-        judge(line, "an inspection", status == wanted && clean);
-        for (refused = 0; refused < taken && line < 4; refused++) {
-            status = inspected(octets, size, profile, strict, refused, &ignored, &clean);
-            well = status == RPKI_OUT_OF_MEMORY && clean && well;
-        }
+        judge(line, "an inspection", status == wanted);
+        judge(line, "an inspection allocates", clean);
     }
-    judge(line, "an allocation that fails", well);
-    judge(line, "another profile", inspected(octets, size, 4, true, 0, &taken, &clean) == RPKI_NO_PROFILE && !taken);
+    judge(line, "another profile", inspected(octets, size, 4, true, &clean) == RPKI_NO_PROFILE && clean);
 }
 
 static void row(unsigned line, char *text) {

@@ -1,16 +1,19 @@
-use Rattle.std.proofs.Common.{inl, inr, refl}
+use Rattle.std.proofs.Common.{inl, inr, refl, Ok, Err}
+use Rattle.rpki_c.proofs.InspectionLaws.{of-octets}
 use Rattle.rpki_c.proofs.certificate_inspection.inspect.Goals as goal
 
-pub returns-in-Ok-Ok : goal.returns-in-Ok-Ok
-returns-in-Ok-Ok c = inl (refl, rw c.in-Ok-Ok.field-0-is at c.in-Ok-Ok.ensures)
+pub test-requires : goal.test-requires
+test-requires c = let (x, h) = c.in-Ok.ensures.ok in (c.args.octets.now, x, h)
 
-pub returns-in-Ok-Err : goal.returns-in-Ok-Err
-returns-in-Ok-Err c = inr (inl (c.in-Ok-Err.rule, c.cert_rule_number.ensures, rw c.in-Ok-Err.field-0-is at c.in-Ok-Err.ensures))
-
-pub returns-in-Err-test_octets : goal.returns-in-Err-test_octets
-returns-in-Err-test_octets c =
+pub returns-in-Ok-test : goal.returns-in-Ok-test
+returns-in-Ok-test c =
     let (x, h) = c.in-Ok.ensures.ok in
-    inr (inr (inl (refl, (x, h.spelled))))
+    inl (refl, of-octets c.args.octets.now c.args.profile c.args.strict x h.spelled (Ok c.in-Ok-test.field-0) (c.in-Ok-test.ensures c.args.octets.now x h))
+
+pub returns-in-Err-test : goal.returns-in-Err-test
+returns-in-Err-test c =
+    let (x, h) = c.in-Ok.ensures.ok in
+    inr (inl (c.in-Err-test.rule, c.cert_rule_number.ensures, of-octets c.args.octets.now c.args.profile c.args.strict x h.spelled (Err c.in-Err-test.rule) (c.in-Err-test.ensures c.args.octets.now x h)))
 
 pub returns-in-Err : goal.returns-in-Err
-returns-in-Err c = inr (inr (inr (c.in-Err.part, c.part_number.ensures, c.in-Err.ensures.err)))
+returns-in-Err c = inr (inr (c.in-Err.part, c.part_number.ensures, c.in-Err.ensures.err))

@@ -24,7 +24,7 @@ purposes-smaller c = leaf-shorter oid false (IsOidAs router_purpose) _ _ _ c.in-
 pub purposes-preserved : goal.purposes-preserved
 purposes-preserved c =
     let some = iff_false c.is_empty-in-purposes.ensures c.purposes-test.true in
-    gathers-on SpellsPurpose has_router (left c.args.contents) (λ b. c.purposes.router || b) (λ b. c.is_either.result || b) _ _ c.in-Ok.found (λ zs. or-joined c.purposes.router c.in-Ok.found c.is_either.result (has_router zs) c.is_either.ensures) some c.purposes.invariant c.in-Ok.ensures
+    gathers-on SpellsPurpose has_router (left c.args.contents) (λ b. c.purposes.router || b) (λ b. c.is_either-router.result || b) _ _ c.in-Ok.found (λ zs. or-joined c.purposes.router c.in-Ok.found c.is_either-router.result (has_router zs) c.is_either-router.ensures) some c.purposes.invariant c.in-Ok.ensures
 
 pub returns-in-Err : goal.returns-in-Err
 returns-in-Err c =

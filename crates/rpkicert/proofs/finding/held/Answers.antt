@@ -1,6 +1,6 @@
-use Rattle.std.proofs.Common.{refl, sym, ◌∙◌}
+use Rattle.std.proofs.Common.{refl}
 use Rattle.std.proofs.lemmas.Result.{err_from_is_err_and}
-use Rattle.rpkicert.proofs.FindingLaws.{unless-memory, refused-holds}
+use Rattle.rpkicert.proofs.FindingLaws.{refused-holds}
 use Rattle.rpkicert.proofs.finding.held.Goals as goal
 
 pub returns-in_err-cert : goal.returns-in_err-cert
@@ -16,9 +16,9 @@ returns-in-Ok c = (
   rw c.tbs.ensures at c.in-Ok.ensures,
 )
 
-pub returns-else-is_memory : goal.returns-else-is_memory
-returns-else-is_memory c = (
+pub returns-in-Err : goal.returns-in-Err
+returns-in-Err c = (
   c.in_ok-cert.cert,
   rw c.as_slice.ensures.value at c.in_ok-cert.ensures,
-  unless-memory c.in-Err.e _ (sym c.is_memory.ensures ∙ c.if-is_memory.false) (rw c.tbs.ensures at c.in-Err.ensures),
+  rw c.tbs.ensures at c.in-Err.ensures,
 )

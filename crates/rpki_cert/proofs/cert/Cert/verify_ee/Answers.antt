@@ -1,7 +1,5 @@
 use Rattle.std.proofs.Common.{refl}
 use Rattle.std.proofs.lemmas.Bool.{false≢true}
-use Rattle.rpki_cert.proofs.KnownLaws.{unless-from}
-use Rattle.rpki_cert.proofs.ProfileLaws.{unless-weaker}
 use Rattle.rpki_cert.proofs.cert.Cert.verify_ee.Goals as goal
 
 pub returns-in-Ok-verify_issued : goal.returns-in-Ok-verify_issued
@@ -10,9 +8,9 @@ returns-in-Ok-verify_issued gen c =
     record { profile = h; issued = c.in-Ok-verify_issued.ensures.0 refl }
 
 pub returns-in-Err-verify_issued : goal.returns-in-Err-verify_issued
-returns-in-Err-verify_issued gen c = unless-from c.in-Err-verify_issued.e (λ k. false≢true (c.in-Err-verify_issued.ensures.1 k.issued))
+returns-in-Err-verify_issued gen c = λ k. false≢true (c.in-Err-verify_issued.ensures.1 k.issued)
 
 pub returns-in-Err : goal.returns-in-Err
 returns-in-Err gen c =
     let h = rw c.tbs.ensures at c.in-Err.ensures in
-    unless-weaker c.in-Err.e (λ none k. none k.profile) h
+    λ k. h k.profile

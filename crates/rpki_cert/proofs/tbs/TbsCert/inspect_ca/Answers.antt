@@ -6,5 +6,6 @@ use Rattle.rpki_cert.proofs.tbs.TbsCert.inspect_ca.Goals as goal
 
 pub returns : goal.returns
 returns c =
-    checks-of c.args.strict c.args.self.now (IsCaProfile c.args.strict c.args.self.now) (All (Obeys c.args.strict c.args.self.now) ca_rules) (ca-obeyed c.args.strict c.args.self.now) c.inspect_all.result
-    (rw c.ca_rules.ensures at c.inspect_all.ensures)
+    let strict = c.args.strict in
+    let t = c.args.self.now in
+    checks-of strict t (IsCaProfile strict t) (All (Obeys strict t) ca_rules) (ca-obeyed strict t) c.inspect_all.result (rw c.ca_rules.ensures at c.inspect_all.ensures t c.inspected.ensures)

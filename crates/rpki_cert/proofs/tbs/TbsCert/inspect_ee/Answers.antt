@@ -6,5 +6,6 @@ use Rattle.rpki_cert.proofs.tbs.TbsCert.inspect_ee.Goals as goal
 
 pub returns : goal.returns
 returns c =
-    checks-of c.args.strict c.args.self.now (IsEeProfile c.args.strict c.args.self.now) (All (Obeys c.args.strict c.args.self.now) ee_rules) (ee-obeyed c.args.strict c.args.self.now) c.inspect_all.result
-    (rw c.ee_rules.ensures at c.inspect_all.ensures)
+    let strict = c.args.strict in
+    let t = c.args.self.now in
+    checks-of strict t (IsEeProfile strict t) (All (Obeys strict t) ee_rules) (ee-obeyed strict t) c.inspect_all.result (rw c.ee_rules.ensures at c.inspect_all.ensures t c.inspected.ensures)

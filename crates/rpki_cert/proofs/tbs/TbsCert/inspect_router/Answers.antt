@@ -6,5 +6,6 @@ use Rattle.rpki_cert.proofs.tbs.TbsCert.inspect_router.Goals as goal
 
 pub returns : goal.returns
 returns c =
-    checks-of c.args.strict c.args.self.now (IsRouterProfile c.args.strict c.args.self.now) (All (Obeys c.args.strict c.args.self.now) router_rules) (router-obeyed c.args.strict c.args.self.now) c.inspect_all.result
-    (rw c.router_rules.ensures at c.inspect_all.ensures)
+    let strict = c.args.strict in
+    let t = c.args.self.now in
+    checks-of strict t (IsRouterProfile strict t) (All (Obeys strict t) router_rules) (router-obeyed strict t) c.inspect_all.result (rw c.router_rules.ensures at c.inspect_all.ensures t c.inspected.ensures)

@@ -6,5 +6,6 @@ use Rattle.rpki_cert.proofs.tbs.TbsCert.inspect_ta.Goals as goal
 
 pub returns : goal.returns
 returns c =
-    checks-of c.args.strict c.args.self.now (IsTaProfile c.args.strict c.args.self.now) (All (Obeys c.args.strict c.args.self.now) ta_rules) (ta-obeyed c.args.strict c.args.self.now) c.inspect_all.result
-    (rw c.ta_rules.ensures at c.inspect_all.ensures)
+    let strict = c.args.strict in
+    let t = c.args.self.now in
+    checks-of strict t (IsTaProfile strict t) (All (Obeys strict t) ta_rules) (ta-obeyed strict t) c.inspect_all.result (rw c.ta_rules.ensures at c.inspect_all.ensures t c.inspected.ensures)

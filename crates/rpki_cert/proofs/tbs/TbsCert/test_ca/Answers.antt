@@ -6,5 +6,6 @@ use Rattle.rpki_cert.proofs.tbs.TbsCert.test_ca.Goals as goal
 
 pub returns : goal.returns
 returns c =
-    tests-of c.args.strict c.args.self.now (IsCaProfile c.args.strict c.args.self.now) (All (Obeys c.args.strict c.args.self.now) ca_rules) (ca-obeyed c.args.strict c.args.self.now) ca_rules c.test_all.result
-    (rw c.ca_rules.ensures at c.test_all.ensures)
+    let strict = c.args.strict in
+    let t = c.args.self.now in
+    tests-of strict t (IsCaProfile strict t) (All (Obeys strict t) ca_rules) (ca-obeyed strict t) ca_rules c.test_all.result (rw c.ca_rules.ensures at c.test_all.ensures t c.inspected.ensures)

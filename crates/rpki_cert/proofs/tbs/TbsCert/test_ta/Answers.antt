@@ -6,5 +6,6 @@ use Rattle.rpki_cert.proofs.tbs.TbsCert.test_ta.Goals as goal
 
 pub returns : goal.returns
 returns c =
-    tests-of c.args.strict c.args.self.now (IsTaProfile c.args.strict c.args.self.now) (All (Obeys c.args.strict c.args.self.now) ta_rules) (ta-obeyed c.args.strict c.args.self.now) ta_rules c.test_all.result
-    (rw c.ta_rules.ensures at c.test_all.ensures)
+    let strict = c.args.strict in
+    let t = c.args.self.now in
+    tests-of strict t (IsTaProfile strict t) (All (Obeys strict t) ta_rules) (ta-obeyed strict t) ta_rules c.test_all.result (rw c.ta_rules.ensures at c.test_all.ensures t c.inspected.ensures)

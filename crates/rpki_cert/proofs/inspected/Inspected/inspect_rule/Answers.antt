@@ -1,0 +1,80 @@
+use Rattle.rpki_cert.proofs.RuleLaws.{obeys-at}
+use Rattle.rpki_cert.proofs.inspected.Inspected.inspect_rule.Goals as goal
+
+pub returns-in-SerialNumber : goal.returns-in-SerialNumber
+returns-in-SerialNumber c = λ t h. obeys-at c.args.strict t _ _ _ c.in-SerialNumber.is (rw h.serial at c.inspect_serial.ensures)
+
+pub returns-in-CriticalExtensions : goal.returns-in-CriticalExtensions
+returns-in-CriticalExtensions c = λ t h. obeys-at c.args.strict t _ _ _ c.in-CriticalExtensions.is (rw (c.are_understood.ensures t.extensions h.extensions) at c.inspect_that.ensures)
+
+pub returns-in-Issuer : goal.returns-in-Issuer
+returns-in-Issuer c = λ t h. obeys-at c.args.strict t _ _ _ c.in-Issuer.is (rw h.issuer at c.inspect_name.ensures)
+
+pub returns-in-Subject : goal.returns-in-Subject
+returns-in-Subject c = λ t h. obeys-at c.args.strict t _ _ _ c.in-Subject.is (rw h.subject at c.inspect_name-in-Subject.ensures)
+
+pub returns-in-RouterSubject : goal.returns-in-RouterSubject
+returns-in-RouterSubject c = λ t h. obeys-at c.args.strict t _ _ _ c.in-RouterSubject.is (rw h.subject at c.inspect_router_name.ensures)
+
+pub returns-in-RsaKey : goal.returns-in-RsaKey
+returns-in-RsaKey c = λ t h. obeys-at c.args.strict t _ _ _ c.in-RsaKey.is (rw h.key at c.inspect_key.ensures)
+
+pub returns-in-RouterKey : goal.returns-in-RouterKey
+returns-in-RouterKey c = λ t h. obeys-at c.args.strict t _ _ _ c.in-RouterKey.is (rw h.key at c.inspect_router_key.ensures)
+
+pub returns-in-BasicConstraints : goal.returns-in-BasicConstraints
+returns-in-BasicConstraints c = λ t h. obeys-at c.args.strict t _ _ _ c.in-BasicConstraints.is (rw (c.find.ensures t.extensions h.extensions) at c.inspect_constraints.ensures)
+
+pub returns-in-NoBasicConstraints : goal.returns-in-NoBasicConstraints
+returns-in-NoBasicConstraints c = λ t h. obeys-at c.args.strict t _ _ _ c.in-NoBasicConstraints.is (rw (c.find-in-NoBasicConstraints.ensures t.extensions h.extensions) at c.inspect_absent.ensures)
+
+pub returns-in-SubjectKeyIdentifier : goal.returns-in-SubjectKeyIdentifier
+returns-in-SubjectKeyIdentifier c = λ t h. obeys-at c.args.strict t _ _ _ c.in-SubjectKeyIdentifier.is (rw (c.find-in-SubjectKeyIdentifier.ensures t.extensions h.extensions) at c.inspect_identifier.ensures)
+
+pub returns-in-AuthorityKeyIdentifier : goal.returns-in-AuthorityKeyIdentifier
+returns-in-AuthorityKeyIdentifier c = λ t h. obeys-at c.args.strict t _ _ _ c.in-AuthorityKeyIdentifier.is (rw (c.find-in-AuthorityKeyIdentifier.ensures t.extensions h.extensions) at c.inspect_authority.ensures)
+
+pub returns-in-AuthorityUsage : goal.returns-in-AuthorityUsage
+returns-in-AuthorityUsage c = λ t h. obeys-at c.args.strict t _ _ _ c.in-AuthorityUsage.is (rw (c.find-in-AuthorityUsage.ensures t.extensions h.extensions) at c.inspect_usage.ensures)
+
+pub returns-in-EndUsage : goal.returns-in-EndUsage
+returns-in-EndUsage c = λ t h. obeys-at c.args.strict t _ _ _ c.in-EndUsage.is (rw (c.find-in-EndUsage.ensures t.extensions h.extensions) at c.inspect_usage-in-EndUsage.ensures)
+
+pub returns-in-NoExtendedKeyUsage : goal.returns-in-NoExtendedKeyUsage
+returns-in-NoExtendedKeyUsage c = λ t h. obeys-at c.args.strict t _ _ _ c.in-NoExtendedKeyUsage.is (rw (c.find-in-NoExtendedKeyUsage.ensures t.extensions h.extensions) at c.inspect_absent-in-NoExtendedKeyUsage.ensures)
+
+pub returns-in-RouterPurpose : goal.returns-in-RouterPurpose
+returns-in-RouterPurpose c = λ t h. obeys-at c.args.strict t _ _ _ c.in-RouterPurpose.is (rw (c.find-in-RouterPurpose.ensures t.extensions h.extensions) at c.inspect_purpose.ensures)
+
+pub returns-in-RevocationList : goal.returns-in-RevocationList
+returns-in-RevocationList c = λ t h. obeys-at c.args.strict t _ _ _ c.in-RevocationList.is (rw (c.find-in-RevocationList.ensures t.extensions h.extensions) at c.inspect_revocation.ensures)
+
+pub returns-in-NoRevocationList : goal.returns-in-NoRevocationList
+returns-in-NoRevocationList c = λ t h. obeys-at c.args.strict t _ _ _ c.in-NoRevocationList.is (rw (c.find-in-NoRevocationList.ensures t.extensions h.extensions) at c.inspect_absent-in-NoRevocationList.ensures)
+
+pub returns-in-IssuerCertificate : goal.returns-in-IssuerCertificate
+returns-in-IssuerCertificate c = λ t h. obeys-at c.args.strict t _ _ _ c.in-IssuerCertificate.is (rw (c.find-in-IssuerCertificate.ensures t.extensions h.extensions) at c.inspect_access.ensures)
+
+pub returns-in-NoIssuerCertificate : goal.returns-in-NoIssuerCertificate
+returns-in-NoIssuerCertificate c = λ t h. obeys-at c.args.strict t _ _ _ c.in-NoIssuerCertificate.is (rw (c.find-in-NoIssuerCertificate.ensures t.extensions h.extensions) at c.inspect_absent-in-NoIssuerCertificate.ensures)
+
+pub returns-in-Repository : goal.returns-in-Repository
+returns-in-Repository c = λ t h. obeys-at c.args.strict t _ _ _ c.in-Repository.is (rw (c.find-in-Repository.ensures t.extensions h.extensions) at c.inspect_access-in-Repository.ensures)
+
+pub returns-in-Manifest : goal.returns-in-Manifest
+returns-in-Manifest c = λ t h. obeys-at c.args.strict t _ _ _ c.in-Manifest.is (rw (c.find-in-Manifest.ensures t.extensions h.extensions) at c.inspect_access-in-Manifest.ensures)
+
+pub returns-in-SignedObject : goal.returns-in-SignedObject
+returns-in-SignedObject c = λ t h. obeys-at c.args.strict t _ _ _ c.in-SignedObject.is (rw (c.find-in-SignedObject.ensures t.extensions h.extensions) at c.inspect_access-in-SignedObject.ensures)
+
+pub returns-in-NoSubjectAccess : goal.returns-in-NoSubjectAccess
+returns-in-NoSubjectAccess c = λ t h. obeys-at c.args.strict t _ _ _ c.in-NoSubjectAccess.is (rw (c.find-in-NoSubjectAccess.ensures t.extensions h.extensions) at c.inspect_absent-in-NoSubjectAccess.ensures)
+
+pub returns-in-CertificatePolicies : goal.returns-in-CertificatePolicies
+returns-in-CertificatePolicies c = λ t h. obeys-at c.args.strict t _ _ _ c.in-CertificatePolicies.is (rw (c.find-in-CertificatePolicies.ensures t.extensions h.extensions) at c.inspect_policy.ensures)
+
+pub returns-in-Resources : goal.returns-in-Resources
+returns-in-Resources c = λ t h. obeys-at c.args.strict t _ _ _ c.in-Resources.is (rw (c.has_resources.ensures t.extensions h.extensions) at c.inspect_that-in-Resources.ensures)
+
+pub returns-in-RouterNumbers : goal.returns-in-RouterNumbers
+returns-in-RouterNumbers c = λ t h. obeys-at c.args.strict t _ _ _ c.in-RouterNumbers.is (rw (c.has_numbers_alone.ensures t.extensions h.extensions) at c.inspect_that-in-RouterNumbers.ensures)

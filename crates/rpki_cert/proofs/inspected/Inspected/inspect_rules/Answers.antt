@@ -1,0 +1,12 @@
+use Rattle.rpki_cert.specs.declared.rule.CertRule.TheVariants.{SerialNumber}
+use Rattle.rpki_cert.proofs.RuleLaws.{first-broken, more-obeyed, all-obeyed}
+use Rattle.rpki_cert.proofs.inspected.Inspected.inspect_rules.Goals as goal
+
+pub returns-in-Err : goal.returns-in-Err
+returns-in-Err c = λ t h. first-broken c.args.strict t c.args.rules.now c.rules.rule-index SerialNumber c.rules-test.true (c.rules.invariant t h) (c.in-Err.ensures t h)
+
+pub rules-preserved : goal.rules-preserved
+rules-preserved c = λ t h. more-obeyed c.args.strict t c.args.rules.now c.rules.rule-index SerialNumber c.rules-test.true (c.rules.invariant t h) (c.in-Ok.ensures t h)
+
+pub returns : goal.returns
+returns c = λ t h. all-obeyed c.args.strict t c.args.rules.now c.rules.rule-index c.rules-test.false (c.rules.invariant t h)

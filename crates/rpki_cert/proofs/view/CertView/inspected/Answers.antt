@@ -1,0 +1,27 @@
+use Rattle.std.proofs.Common.{◌∙◌, ap, subst, sym}
+use Rattle.rpki.specs.Name.{IsName}
+use Rattle.rpki_der.specs.Each.{SpellsEach}
+use Rattle.rpki.specs.ExtensionValue.{SpellsExtension}
+use Rattle.rpki_cert.proofs.view.CertView.inspected.Goals as goal
+
+pub new-requires : goal.new-requires
+new-requires c =
+    let (s, x, h) = c.requires in
+    subst IsName (sym h.tbs.named.issuer.octets) h.spelled.tbs.spelled.two.two.two.one.named
+
+pub new-requires-2 : goal.new-requires-2
+new-requires-2 c =
+    let (s, x, h) = c.requires in
+    subst IsName (sym h.tbs.named.subject.octets) h.spelled.tbs.spelled.two.two.two.two.two.one.named
+
+pub returns : goal.returns
+returns c = λ s x h.
+    let n = h.tbs.named in
+    let f = h.spelled.tbs.spelled.two.two.two in
+    record {
+      serial = h.tbs.serial;
+      issuer = c.new.ensures ∙ n.issuer.octets;
+      subject = c.new-2.ensures ∙ n.subject.octets;
+      key = c.algorithm.ensures ∙ ap (λ k. k.format) n.keyed.same;
+      extensions = subst (SpellsEach SpellsExtension x.tbs.extensions) (sym (c.of.ensures ∙ n.keyed.list_at.octets)) f.two.two.two.two.spelled.spelled.some.each;
+    }

@@ -1,0 +1,60 @@
+//! What the rules of profiles read of a certificate.
+
+ghost use Rattle.std.specs.Prelude.{List, ℕ};
+ghost use Rattle.rpki_cert.specs.Cert.{CertParts};
+ghost use Rattle.rpki_cert.specs.View.{IsCertAt};
+ghost use Rattle.rpki_cert.specs.Inspected.{IsReadOf};
+
+use crate::extension_index::ExtensionIndex;
+use crate::extension_source::ExtensionSource;
+use crate::tbs::TbsCert;
+use crate::view::CertView;
+use rpki::crypto::PublicKeyFormat;
+use rpki::repository::x509::{NameView, Serial};
+
+/// What the rules of profiles read of a certificate.
+#[derive(Drop)]
+pub struct Inspected<'a> {
+    /// The serial number.
+    pub serial_number: Serial,
+    /// The issuer.
+    pub issuer: NameView<'a>,
+    /// The subject.
+    pub subject: NameView<'a>,
+    /// The format of the subject's key.
+    pub key: PublicKeyFormat,
+    /// The extensions.
+    pub extensions: ExtensionSource<'a>,
+}
+
+impl TbsCert {
+    /// What the rules read of the certificate.
+    pub(crate) fn inspected(&self) -> Inspected<'_>
+        ensures { IsReadOf self.now result }
+    {
+        Inspected {
+            serial_number: self.serial_number(),
+            issuer: NameView::new(self.issuer().encode_ref().as_slice()),
+            subject: NameView::new(self.subject().encode_ref().as_slice()),
+            key: self.subject_public_key_info().algorithm(),
+            extensions: ExtensionSource::Kept(self.extensions()),
+        }
+    }
+}
+
+impl<'a> CertView<'a> {
+    /// What the rules read of the certificate.
+    pub(crate) fn inspected(&self) -> Inspected<'a>
+        requires { (s : List ℕ) × (x : CertParts) × IsCertAt s self.now x }
+        ensures { (s : List ℕ) (x : CertParts) → IsCertAt s self.now x → IsReadOf x.tbs result }
+    {
+        let named = &self.tbs.named;
+        Inspected {
+            serial_number: self.tbs.serial_number,
+            issuer: NameView::new(named.issuer.octets),
+            subject: NameView::new(named.subject.octets),
+            key: named.keyed.key.algorithm(),
+            extensions: ExtensionSource::Listed(ExtensionIndex::of(named.keyed.extensions.octets)),
+        }
+    }
+}
