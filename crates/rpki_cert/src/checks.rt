@@ -8,11 +8,12 @@ ghost use Rattle.rpki_cert.specs.Cert.{find};
 ghost use Rattle.rpki_cert.specs.Known.{subject_key_identifier, key_usage, basic_constraints, crl_distribution_points, certificate_policies, authority_key_identifier, extended_key_usage, authority_info_access, subject_info_access, HasExtension};
 ghost use Rattle.rpki_cert.specs.ExtensionContent.{SpellsConstraints, SpellsAuthority, SpellsUsage, SpellsPurposes, SpellsPolicies};
 ghost use Rattle.rpki_cert.specs.Access.{SpellsRsyncAccess, SpellsPoints, ca_issuers, ca_repository, rpki_manifest, signed_object};
-ghost use Rattle.rpki_cert.specs.Profile.{Checks, HasSome, HasNot, HasSomeUri, has_addresses, has_numbers, is_critical, has_resources};
+ghost use Rattle.rpki_cert.specs.Profile.{Checks, HasSome, HasNot, HasSomeUri, HasOnlyMethods, has_addresses, has_numbers, is_critical, has_resources};
 ghost use Rattle.rpki_cert.specs.Rule.{Obeys};
 
 use crate::extensions::find;
 use crate::key_usage::KeyUsage;
+use crate::object_access::is_object_access;
 use crate::rule::CertRule;
 use crate::tbs::TbsCert;
 use crate::understood::are_understood;
@@ -95,6 +96,16 @@ fn has_numbers_alone(all: &[CertExtension]) -> bool
     ensures { result ≡ (has_numbers all.now && not (has_addresses all.now)) }
 {
     has_numbers(all) && !has_addresses(all)
+}
+
+/// Whether the subject information access is there, not critical, of no method but those of end entities.
+fn has_only_methods(all: &[CertExtension]) -> bool
+    ensures { IsTrue result ↔ HasOnlyMethods all.now }
+{
+    match find(all, oid::PE_SUBJECT_INFO_ACCESS) {
+        Some(extension) => !extension.critical() && is_object_access(extension.cursor()),
+        None => false,
+    }
 }
 
 /// Whether the extension of this identifier isn't there, as the rule has it.
@@ -293,6 +304,16 @@ impl TbsCert {
         }
     }
 
+    /// Whether the subject's access information has no method but those of end entities.
+    fn inspect_methods(&self) -> Result<(), ValidationError>
+        ensures { Checks (HasOnlyMethods self.now.extensions) result }
+    {
+        if !has_only_methods(self.extensions()) {
+            return Err(rejected(CertRule::ObjectAccess));
+        }
+        Ok(())
+    }
+
     /// Whether the purpose of a router is there.
     fn inspect_purpose(&self, alloc: Global) -> Result<(), ValidationError>
         ensures { Checks (HasExtension extended_key_usage false SpellsPurposes self.now.extensions (Some true)) result }
@@ -349,6 +370,7 @@ impl TbsCert {
             CertRule::Repository => self.inspect_place(alloc),
             CertRule::Manifest => self.inspect_manifest(alloc),
             CertRule::SignedObject => self.inspect_object(alloc),
+            CertRule::ObjectAccess => self.inspect_methods(),
             CertRule::NoSubjectAccess => inspect_absent(all, oid::PE_SUBJECT_INFO_ACCESS, rule),
             CertRule::CertificatePolicies => self.inspect_policy(),
             CertRule::Resources => inspect_that(has_resources(all), rule),
