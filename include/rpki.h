@@ -183,6 +183,7 @@ enum {
     RPKI_RULE_CERTIFICATE_POLICIES = 108,    /* there, and as 84 has it (RFC 6487 4.8.9) */
     RPKI_RULE_RESOURCES = 109,               /* there, each critical (RFC 6487 4.8.10, 4.8.11) */
     RPKI_RULE_ROUTER_NUMBERS = 110,          /* AS numbers, and no addresses (RFC 8209 3.1.3.4) */
+    RPKI_RULE_OBJECT_ACCESS = 111,           /* no method but signedObject and rpkiNotify (RFC 6487 4.8.8.2) */
 
     /* Calls on two texts add this to the number of what is wrong with the second. */
     RPKI_SECOND = 16,
@@ -615,10 +616,10 @@ rpki_status rpki_certificate_extensions(const uint8_t *octets, size_t size, stru
  * octets of resources are not read, and whether the signature is that of a key, or a moment is in the period, is not
  * looked at. Takes no memory.
  *
- * The status is from 85 to 110 where the octets are a certificate that breaks a rule of the profile: the first of these
+ * The status is from 85 to 111 where the octets are a certificate that breaks a rule of the profile: the first of these
  * that is broken. Of a trust anchor they are tested in the order 85, 86, 87, 94, 108, 109, 88, 90, 98, 92, 96, 101,
  * 103, 104, 105; of an authority as far as 96 in the same order, then 104, 105, 95, 100, 102; of an end entity as far
- * as 98, then 93, 97, 106, 95, 100, 102; of a router as far as 109, then 89, 91, 93, 97, 110, 107, 99, 95, 100, 102. An
+ * as 98, then 93, 97, 106, 111, 95, 100, 102; of a router as far as 109, then 89, 91, 93, 97, 110, 107, 99, 95, 100, 102. An
  * extension that a rule wants, and that is malformed or not as critical as it has to be, breaks the rule.
  * RPKI_NO_PROFILE: no profile has the number; then the octets are not looked at. Else, where it is not 0, it is that of
  * rpki_certificate.
@@ -1030,6 +1031,7 @@ static inline const char *rpki_status_text(int kind, rpki_status status) {
         case RPKI_RULE_CERTIFICATE_POLICIES: return "missing certificate policies";
         case RPKI_RULE_RESOURCES: return "missing resources, or ones that are not critical";
         case RPKI_RULE_ROUTER_NUMBERS: return "missing AS numbers, or addresses are there";
+        case RPKI_RULE_OBJECT_ACCESS: return "other access method of an end entity";
         case RPKI_MISSING_COMMON_NAME: return "missing common name";
         case RPKI_SECOND_COMMON_NAME: return "multiple common names";
         case RPKI_SECOND_SERIAL_NUMBER: return "multiple serial numbers";

@@ -56,7 +56,7 @@ REVOCATION, POLICIES, PURPOSES = "2.5.29.31", "2.5.29.32", "2.5.29.37"
 AUTHORITY_ACCESS, SUBJECT_ACCESS = "1.3.6.1.5.5.7.1.1", "1.3.6.1.5.5.7.1.11"
 ADDRESSES, NUMBERS, UNKNOWN = "1.3.6.1.5.5.7.1.7", "1.3.6.1.5.5.7.1.8", "1.3.6.1.4.1.99999.1"
 CA_ISSUERS, OCSP, REPOSITORY = "1.3.6.1.5.5.7.48.2", "1.3.6.1.5.5.7.48.1", "1.3.6.1.5.5.7.48.5"
-MANIFEST, OBJECT = "1.3.6.1.5.5.7.48.10", "1.3.6.1.5.5.7.48.11"
+MANIFEST, OBJECT, NOTIFY = "1.3.6.1.5.5.7.48.10", "1.3.6.1.5.5.7.48.11", "1.3.6.1.5.5.7.48.13"
 POLICY, POLICY_V2 = "1.3.6.1.5.5.7.14.2", "1.3.6.1.5.5.7.14.3"
 ROUTER, SERVER = "1.3.6.1.5.5.7.3.30", "1.3.6.1.5.5.7.3.1"
 END_ENTITY_USAGE = bytes.fromhex("03020780")
@@ -135,6 +135,7 @@ def accesses(*pairs):
 # What is expected of an error, whatever its text.
 SOME_ERROR = "an error"
 NOT_AS_CRITICAL = "extension is not as critical as it has to be"
+OTHER_METHOD = "other access method of an end entity"
 
 
 def version(octet):
@@ -192,10 +193,17 @@ def after_list(it):
     it.context_3.inside.append(Value(5, b""))
 
 
-def end_entity(it):
-    it.remove(CONSTRAINTS)
-    it.put(USAGE, END_ENTITY_USAGE)
-    it.put(SUBJECT_ACCESS, accesses((OBJECT, uri(b"rsync://example.net/m/o.roa"))))
+# Where the object is that an end entity signs.
+SIGNED = OBJECT, uri(b"rsync://example.net/m/o.roa")
+
+
+def end_entity(*pairs):
+    """An end entity with these access descriptions."""
+    def change(it):
+        it.remove(CONSTRAINTS)
+        it.put(USAGE, END_ENTITY_USAGE)
+        it.put(SUBJECT_ACCESS, accesses(*pairs))
+    return change
 
 
 def anchor(it):
@@ -299,8 +307,19 @@ VARIANTS = [
     ("no resources", remove(ADDRESSES, NUMBERS), {"inspect_ca": SOME_ERROR}),
     ("numbers alone", remove(ADDRESSES), {"inspect_ca": "ok"}),
     ("addresses alone", remove(NUMBERS), {"inspect_ca": "ok"}),
-    ("an end entity", end_entity,
+    ("an end entity", end_entity(SIGNED),
      {"inspect_ee": "ok", "inspect_ca": SOME_ERROR, "signed_object": "rsync://example.net/m/o.roa"}),
+    ("an end entity with notifications", end_entity((NOTIFY, uri(SECURE)), SIGNED),
+     {"inspect_ee": "ok", "rpki_notify": SECURE.decode()}),
+    ("an end entity with other names of its object", end_entity(
+        (OBJECT, uri(SECURE)), (OBJECT, tlv(0x82, b"example.net")), SIGNED), {"inspect_ee": "ok"}),
+    ("an end entity with a repository", end_entity(SIGNED, (REPOSITORY, uri(b"rsync://example.net/m/"))),
+     {"inspect_ee": OTHER_METHOD}),
+    ("an end entity with a manifest", end_entity((MANIFEST, uri(b"rsync://example.net/m/m.mft")), SIGNED),
+     {"inspect_ee": OTHER_METHOD}),
+    ("an end entity with an unknown method", end_entity(SIGNED, (NOTIFY, uri(SECURE)), (UNKNOWN, uri(SECURE))),
+     {"inspect_ee": OTHER_METHOD}),
+    ("an end entity with notifications alone", end_entity((NOTIFY, uri(SECURE))), {"inspect_ee": SOME_ERROR}),
     ("a trust anchor", anchor, {"inspect_ta": "ok", "inspect_ca": SOME_ERROR}),
     ("a router", router, {"inspect_router": "ok", "inspect_ee": SOME_ERROR}),
     ("a router with addresses", router_with_addresses, {"inspect_router": SOME_ERROR}),

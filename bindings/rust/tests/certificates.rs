@@ -30,7 +30,7 @@ const EXTENSION_ERRORS: [ExtensionError; 5] = [
     ExtensionError::CertificatePolicies,
 ];
 
-const RULES: [CertRule; 26] = [
+const RULES: [CertRule; 27] = [
     CertRule::SerialNumber,
     CertRule::CriticalExtensions,
     CertRule::Issuer,
@@ -57,6 +57,7 @@ const RULES: [CertRule; 26] = [
     CertRule::CertificatePolicies,
     CertRule::Resources,
     CertRule::RouterNumbers,
+    CertRule::ObjectAccess,
 ];
 
 fn octets_of(digits: &str) -> Vec<u8> {

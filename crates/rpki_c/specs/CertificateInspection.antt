@@ -2,7 +2,7 @@
 use Rattle.std.specs.Prelude.{◌≡◌, ◌⊎◌, ◌<◌, ℕ, Bool, List}
 use Rattle.rpki_cert.specs.declared.cert_part.CertPart.{CertPart}
 use Rattle.rpki_cert.specs.declared.rule.CertRule.{CertRule}
-use Rattle.rpki_cert.specs.declared.rule.CertRule.TheVariants.{SerialNumber, CriticalExtensions, Issuer, Subject, RouterSubject, RsaKey, RouterKey, BasicConstraints, NoBasicConstraints, SubjectKeyIdentifier, AuthorityKeyIdentifier, AuthorityUsage, EndUsage, NoExtendedKeyUsage, RouterPurpose, RevocationList, NoRevocationList, IssuerCertificate, NoIssuerCertificate, Repository, Manifest, SignedObject, NoSubjectAccess, CertificatePolicies, Resources, RouterNumbers}
+use Rattle.rpki_cert.specs.declared.rule.CertRule.TheVariants.{SerialNumber, CriticalExtensions, Issuer, Subject, RouterSubject, RsaKey, RouterKey, BasicConstraints, NoBasicConstraints, SubjectKeyIdentifier, AuthorityKeyIdentifier, AuthorityUsage, EndUsage, NoExtendedKeyUsage, RouterPurpose, RevocationList, NoRevocationList, IssuerCertificate, NoIssuerCertificate, Repository, Manifest, SignedObject, NoSubjectAccess, CertificatePolicies, Resources, RouterNumbers, ObjectAccess}
 use Rattle.rpki_c.specs.declared.certificate_inspection.CertificateProfile.{CertificateProfile}
 use Rattle.rpki_c.specs.declared.certificate_inspection.CertificateProfile.TheVariants.{Ta, Ca, Ee, Router}
 use Rattle.rpki_cert.specs.Cert.{TbsParts, CertParts, SpellsCert}
@@ -40,6 +40,7 @@ cert_rule_number NoSubjectAccess = 107
 cert_rule_number CertificatePolicies = 108
 cert_rule_number Resources = 109
 cert_rule_number RouterNumbers = 110
+cert_rule_number ObjectAccess = 111
 
 -- how a profile is passed
 abbrev pub profile_number : CertificateProfile → ℕ
@@ -74,7 +75,7 @@ pub record BreaksRule (s : List ℕ) (profile : CertificateProfile) (strict : Bo
   pub first : IsFirstBroken strict cert.tbs (rules_of profile) rule
   pub other : HasProfile profile strict cert.tbs → ⊥
 
--- Status 0: the octets are a certificate of the profile. 85 to 110: they are a certificate, which breaks the rule of
+-- Status 0: the octets are a certificate of the profile. 85 to 111: they are a certificate, which breaks the rule of
 -- this number first. Else the number of the part that is wrong.
 abbrev pub IsInspectedAs : List ℕ → CertificateProfile → Bool → ℕ → Type 0
 IsInspectedAs s profile strict status =

@@ -54,6 +54,7 @@ fn cert_rule_number(rule: CertRule) -> u8
         CertRule::CertificatePolicies => 108,
         CertRule::Resources => 109,
         CertRule::RouterNumbers => 110,
+        CertRule::ObjectAccess => 111,
     }
 }
 
@@ -102,7 +103,7 @@ fn inspect(octets: &[u8], profile: CertificateProfile, strict: bool) -> u8
 /// trust anchors, 1 that of certification authorities, 2 that of end entities that sign an object, 3 that of BGPsec
 /// routers. The names are looked at if `strict`.
 ///
-/// The status is 0; 85 to 110 where the certificate is not of the profile, by the rule that it breaks first; 64 to 79
+/// The status is 0; 85 to 111 where the certificate is not of the profile, by the rule that it breaks first; 64 to 79
 /// where the octets are no certificate, as that of [crate::certificate::rpki_certificate]; 12 for another number of a
 /// profile, before the octets are looked at. Nothing is allocated.
 #[unsafe(no_mangle)]

@@ -3,9 +3,9 @@
 -- Values, one at least; lists of extensions; each identifier once: SomeLaws, ExtensionListLaws, UniqueLaws.
 -- What is signed, and a certificate around it: CertLaws. What an extension says: KnownLaws, PolicyLaws, AccessLaws.
 -- Checks of profiles: ProfileLaws. Their rules: RuleLaws.
--- Read in place: values, names, lists of extensions, their index, fields, certificates: NestedLaws, NameViewLaws,
---   ListedLaws, ExtensionIndexLaws, FieldsLaws, ViewLaws. That what is signed is one value: TbsValueLaws. That what is wrong is no certificate:
---   WrongLaws.
+-- Read in place: values, names, access descriptions, lists of extensions, their index, fields, certificates: NestedLaws,
+--   NameViewLaws, ObjectAccessLaws, ListedLaws, ExtensionIndexLaws, FieldsLaws, ViewLaws. That what is signed is one
+--   value: TbsValueLaws. That what is wrong is no certificate: WrongLaws.
 
 pub mod SomeLaws
 pub mod ExtensionListLaws
@@ -18,6 +18,7 @@ pub mod ProfileLaws
 pub mod RuleLaws
 pub mod NestedLaws
 pub mod NameViewLaws
+pub mod ObjectAccessLaws
 pub mod ListedLaws
 pub mod ExtensionIndexLaws
 pub mod FieldsLaws

@@ -59,12 +59,12 @@ module _ (strict : Bool) (t : TbsParts) where
   pub ee-obeyed : IsEeProfile strict t ↔ All (Obeys strict t) ee_rules
   ee-obeyed = (rules, profile) where
     rules : IsEeProfile strict t → All (Obeys strict t) ee_rules
-    rules h = All-from_recursion (Obeys strict t) ee_rules (h.ordinary.basic.serial, (h.ordinary.basic.understood, (h.ordinary.basic.issuer, (h.ordinary.basic.identifier, (h.ordinary.basic.policy, (h.ordinary.basic.resources, (h.ordinary.subject, (h.ordinary.key, (h.ordinary.purposes, (h.end.constraints, (h.end.usage, (h.object, (h.issuer.identifier, (h.issuer.revocation, (h.issuer.certificate, tt)))))))))))))))
+    rules h = All-from_recursion (Obeys strict t) ee_rules (h.ordinary.basic.serial, (h.ordinary.basic.understood, (h.ordinary.basic.issuer, (h.ordinary.basic.identifier, (h.ordinary.basic.policy, (h.ordinary.basic.resources, (h.ordinary.subject, (h.ordinary.key, (h.ordinary.purposes, (h.end.constraints, (h.end.usage, (h.object, (h.methods, (h.issuer.identifier, (h.issuer.revocation, (h.issuer.certificate, tt))))))))))))))))
 
     profile : All (Obeys strict t) ee_rules → IsEeProfile strict t
     profile all =
         let b = recursion_from_All (Obeys strict t) ee_rules all in
-        record { ordinary = record { basic = record { serial = b.0; understood = b.1.0; issuer = b.1.1.0; identifier = b.1.1.1.0; policy = b.1.1.1.1.0; resources = b.1.1.1.1.1.0 }; subject = b.1.1.1.1.1.1.0; key = b.1.1.1.1.1.1.1.0; purposes = b.1.1.1.1.1.1.1.1.0 }; end = record { constraints = b.1.1.1.1.1.1.1.1.1.0; usage = b.1.1.1.1.1.1.1.1.1.1.0 }; object = b.1.1.1.1.1.1.1.1.1.1.1.0; issuer = record { identifier = b.1.1.1.1.1.1.1.1.1.1.1.1.0; revocation = b.1.1.1.1.1.1.1.1.1.1.1.1.1.0; certificate = b.1.1.1.1.1.1.1.1.1.1.1.1.1.1.0 } }
+        record { ordinary = record { basic = record { serial = b.0; understood = b.1.0; issuer = b.1.1.0; identifier = b.1.1.1.0; policy = b.1.1.1.1.0; resources = b.1.1.1.1.1.0 }; subject = b.1.1.1.1.1.1.0; key = b.1.1.1.1.1.1.1.0; purposes = b.1.1.1.1.1.1.1.1.0 }; end = record { constraints = b.1.1.1.1.1.1.1.1.1.0; usage = b.1.1.1.1.1.1.1.1.1.1.0 }; object = b.1.1.1.1.1.1.1.1.1.1.1.0; methods = b.1.1.1.1.1.1.1.1.1.1.1.1.0; issuer = record { identifier = b.1.1.1.1.1.1.1.1.1.1.1.1.1.0; revocation = b.1.1.1.1.1.1.1.1.1.1.1.1.1.1.0; certificate = b.1.1.1.1.1.1.1.1.1.1.1.1.1.1.1.0 } }
 
   pub router-obeyed : IsRouterProfile strict t ↔ All (Obeys strict t) router_rules
   router-obeyed = (rules, profile) where

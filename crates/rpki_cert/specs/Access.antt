@@ -1,6 +1,6 @@
 -- The URIs of certificates: CRL distribution points, and authority and subject information access (RFC 6487 4.8.6 to
 -- 4.8.8, RFC 8182 3.2).
-use Rattle.std.specs.Prelude.{◌≡◌, ◌≢◌, ◌⊎◌, ℕ, Bool, true, false, List, [], ◌∷◌, Option, Some, None, Result, Vec, MatchResult, bytes_eq, codes, if◌then◌else◌}
+use Rattle.std.specs.Prelude.{◌≡◌, ◌≢◌, ◌⊎◌, ◌||◌, ℕ, Bool, true, false, List, [], ◌∷◌, Option, Some, None, IsTrue, Result, Vec, MatchResult, bytes_eq, codes, if◌then◌else◌}
 use Rattle.std.specs.Option.{is_some}
 use Rattle.rpki_der.specs.declared.error.DecodeError.{DecodeError}
 use Rattle.rpki_der.specs.declared.tag.Class.TheVariants.{Context}
@@ -8,7 +8,7 @@ use Rattle.rpki_der.specs.TagName.{TagName, tag_of, context_6, oid, sequence}
 use Rattle.rpki_der.specs.Reading.{Finds, Decodes, OrMemoryWhere, IsWholeFault}
 use Rattle.rpki_der.specs.Values.{SpellsContents, SpellsLeaf, HasTag, IsContentsFault, IsLeafFault}
 use Rattle.rpki_der.specs.WantedValue.{SpellsWanted, IsAnyTag, IsWantedFault}
-use Rattle.rpki_der.specs.Leaves.{IsOid}
+use Rattle.rpki_der.specs.Leaves.{IsOid, IsOidOf}
 use Rattle.rpki_der.specs.Parts.{Then}
 use Rattle.rpki_der.specs.Each.{SpellsEach, SpellsSome, IsEachFault}
 use Rattle.rpki_der.specs.FirstFault.{FirstFault, IsEndFault, IsInsideFault, ReadsParts}
@@ -187,6 +187,20 @@ signed_object = 43 ∷ 6 ∷ 1 ∷ 5 ∷ 5 ∷ 7 ∷ 48 ∷ 11 ∷ []
 -- 1.3.6.1.5.5.7.48.13
 abbrev pub rpki_notify : List ℕ
 rpki_notify = 43 ∷ 6 ∷ 1 ∷ 5 ∷ 5 ∷ 7 ∷ 48 ∷ 13 ∷ []
+
+-- ---- the descriptions of an end entity (RFC 6487 4.8.8.2, RFC 8182 3.2)
+
+-- the methods that it may have: where the signed object is, and where changes of the repository are told
+abbrev pub is_object_method : List ℕ → Bool
+is_object_method id = bytes_eq id signed_object || bytes_eq id rpki_notify
+
+-- a description of such a method: the contents octets of its identifier, and its name
+abbrev pub IsObjectAccess : List ℕ × Option (List ℕ) → List ℕ → Type 0
+IsObjectAccess x c = Then (SpellsLeaf oid false IsOidOf) SpellsName x c × IsTrue (is_object_method x.0)
+
+-- such descriptions, one at least, and no others
+abbrev pub SpellsObjectAccess : List (List ℕ × Option (List ℕ)) → List ℕ → Type 0
+SpellsObjectAccess = SpellsLeaf sequence true (SpellsSome (SpellsLeaf sequence true IsObjectAccess))
 
 -- ---- what a certificate says
 

@@ -10,7 +10,7 @@ use Rattle.rpki_cert.specs.declared.key_usage.KeyUsage.TheVariants.{Ca, Ee}
 use Rattle.rpki_cert.specs.Cert.{TbsParts, find, is_there}
 use Rattle.rpki_cert.specs.Known.{subject_key_identifier, key_usage, basic_constraints, crl_distribution_points, certificate_policies, authority_key_identifier, extended_key_usage, authority_info_access, subject_info_access, ip_addr_blocks, ip_addr_blocks_v2, autonomous_sys_ids, autonomous_sys_ids_v2, Says, HasExtension, are_understood}
 use Rattle.rpki_cert.specs.ExtensionContent.{SpellsConstraints, SpellsAuthority, SpellsUsage, SpellsPurposes, SpellsPolicies}
-use Rattle.rpki_cert.specs.Access.{SpellsRsyncAccess, SpellsPoints, SaysUri, ca_issuers, ca_repository, rpki_manifest, signed_object}
+use Rattle.rpki_cert.specs.Access.{SpellsRsyncAccess, SpellsPoints, SpellsObjectAccess, SaysUri, ca_issuers, ca_repository, rpki_manifest, signed_object}
 
 -- ---- a check
 
@@ -34,6 +34,10 @@ HasSome id critical G xs = SaysSome critical G (find id xs)
 
 abbrev pub HasSomeUri : List ℕ → (Option (List ℕ) → List ℕ → Type 0) → List ExtensionParts → Type 0
 HasSomeUri id G xs = SaysSomeUri G (find id xs)
+
+-- the subject information access is there, and each of its descriptions has a method of an end entity
+abbrev pub HasOnlyMethods : List ExtensionParts → Type 0
+HasOnlyMethods xs = HasSome subject_info_access false SpellsObjectAccess xs
 
 -- it isn't there
 abbrev pub HasNot : List ℕ → List ExtensionParts → Type 0
@@ -115,11 +119,13 @@ pub record IsCaProfile (strict : Bool) (t : TbsParts) : Type 0 where
   pub repository : HasRepository t.extensions
   pub issuer : HasIssuer t.extensions
 
--- an end entity, which says where the object is that its key signs (RFC 6487 4.8.8.2)
+-- an end entity, which says where the object is that its key signs, and nothing else of it but where changes of the
+-- repository are told (RFC 6487 4.8.8.2, RFC 8182 3.2)
 pub record IsEeProfile (strict : Bool) (t : TbsParts) : Type 0 where
   pub ordinary : IsOrdinary strict t
   pub end : IsEnd t.extensions
   pub object : HasSomeUri subject_info_access (SpellsRsyncAccess signed_object) t.extensions
+  pub methods : HasOnlyMethods t.extensions
   pub issuer : HasIssuer t.extensions
 
 -- a router: a P-256 key for a router's purpose, numbers without addresses, and no access information of the subject

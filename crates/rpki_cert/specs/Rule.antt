@@ -5,12 +5,12 @@ use Rattle.rpki.specs.KeyIdentifier.{SpellsKeyIdentifier}
 use Rattle.rpki.specs.StrictName.{IsRpkiName, IsRouterName}
 use Rattle.rpki_cert.specs.declared.key_usage.KeyUsage.TheVariants.{Ca, Ee}
 use Rattle.rpki_cert.specs.declared.rule.CertRule.{CertRule}
-use Rattle.rpki_cert.specs.declared.rule.CertRule.TheVariants.{SerialNumber, CriticalExtensions, Issuer, Subject, RouterSubject, RsaKey, RouterKey, BasicConstraints, NoBasicConstraints, SubjectKeyIdentifier, AuthorityKeyIdentifier, AuthorityUsage, EndUsage, NoExtendedKeyUsage, RouterPurpose, RevocationList, NoRevocationList, IssuerCertificate, NoIssuerCertificate, Repository, Manifest, SignedObject, NoSubjectAccess, CertificatePolicies, Resources, RouterNumbers}
+use Rattle.rpki_cert.specs.declared.rule.CertRule.TheVariants.{SerialNumber, CriticalExtensions, Issuer, Subject, RouterSubject, RsaKey, RouterKey, BasicConstraints, NoBasicConstraints, SubjectKeyIdentifier, AuthorityKeyIdentifier, AuthorityUsage, EndUsage, NoExtendedKeyUsage, RouterPurpose, RevocationList, NoRevocationList, IssuerCertificate, NoIssuerCertificate, Repository, Manifest, SignedObject, ObjectAccess, NoSubjectAccess, CertificatePolicies, Resources, RouterNumbers}
 use Rattle.rpki_cert.specs.Cert.{TbsParts}
 use Rattle.rpki_cert.specs.Known.{subject_key_identifier, key_usage, basic_constraints, crl_distribution_points, certificate_policies, authority_key_identifier, extended_key_usage, authority_info_access, subject_info_access, HasExtension, are_understood}
 use Rattle.rpki_cert.specs.ExtensionContent.{SpellsConstraints, SpellsAuthority, SpellsUsage, SpellsPurposes, SpellsPolicies}
 use Rattle.rpki_cert.specs.Access.{SpellsRsyncAccess, SpellsPoints, ca_issuers, ca_repository, rpki_manifest, signed_object}
-use Rattle.rpki_cert.specs.Profile.{HasSome, HasNot, HasSomeUri, has_addresses, has_numbers, has_resources}
+use Rattle.rpki_cert.specs.Profile.{HasSome, HasNot, HasSomeUri, HasOnlyMethods, has_addresses, has_numbers, has_resources}
 
 -- what the rule says of a certificate, in the words of the profiles; a name is held to its profile where strict is true
 abbrev pub Obeys : Bool → TbsParts → CertRule → Type 0
@@ -36,6 +36,7 @@ Obeys strict t NoIssuerCertificate = HasNot authority_info_access t.extensions
 Obeys strict t Repository = HasSomeUri subject_info_access (SpellsRsyncAccess ca_repository) t.extensions
 Obeys strict t Manifest = HasSomeUri subject_info_access (SpellsRsyncAccess rpki_manifest) t.extensions
 Obeys strict t SignedObject = HasSomeUri subject_info_access (SpellsRsyncAccess signed_object) t.extensions
+Obeys strict t ObjectAccess = HasOnlyMethods t.extensions
 Obeys strict t NoSubjectAccess = HasNot subject_info_access t.extensions
 Obeys strict t CertificatePolicies = HasSome certificate_policies true SpellsPolicies t.extensions
 Obeys strict t Resources = IsTrue (has_resources t.extensions)
@@ -58,8 +59,8 @@ ca_rules =
 abbrev pub ee_rules : List CertRule
 ee_rules =
     SerialNumber ∷ CriticalExtensions ∷ Issuer ∷ SubjectKeyIdentifier ∷ CertificatePolicies ∷ Resources ∷ Subject
-    ∷ RsaKey ∷ NoExtendedKeyUsage ∷ NoBasicConstraints ∷ EndUsage ∷ SignedObject ∷ AuthorityKeyIdentifier
-    ∷ RevocationList ∷ IssuerCertificate ∷ []
+    ∷ RsaKey ∷ NoExtendedKeyUsage ∷ NoBasicConstraints ∷ EndUsage ∷ SignedObject ∷ ObjectAccess
+    ∷ AuthorityKeyIdentifier ∷ RevocationList ∷ IssuerCertificate ∷ []
 
 abbrev pub router_rules : List CertRule
 router_rules =
@@ -106,6 +107,7 @@ rule_text NoIssuerCertificate = codes "extension is there that may not be"
 rule_text Repository = codes "missing URI of the repository"
 rule_text Manifest = codes "missing URI of the manifest"
 rule_text SignedObject = codes "missing URI of the signed object"
+rule_text ObjectAccess = codes "other access method of an end entity"
 rule_text NoSubjectAccess = codes "extension is there that may not be"
 rule_text CertificatePolicies = codes "missing certificate policies"
 rule_text Resources = codes "missing resources, or ones that are not critical"

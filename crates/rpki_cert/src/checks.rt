@@ -8,7 +8,7 @@ ghost use Rattle.rpki.specs.ExtensionValue.{ExtensionParts};
 ghost use Rattle.rpki_cert.specs.Cert.{TbsParts, find};
 ghost use Rattle.rpki_cert.specs.Known.{Says};
 ghost use Rattle.rpki_cert.specs.ExtensionContent.{SpellsConstraints, SpellsAuthority, SpellsUsage, SpellsPurposes, SpellsPolicies};
-ghost use Rattle.rpki_cert.specs.Access.{SpellsRsyncAccess, SpellsPoints};
+ghost use Rattle.rpki_cert.specs.Access.{SpellsRsyncAccess, SpellsPoints, SpellsObjectAccess};
 ghost use Rattle.rpki_cert.specs.Profile.{Checks, SaysSome, SaysSomeUri, has_addresses, has_numbers, is_critical, has_resources};
 ghost use Rattle.rpki_cert.specs.Inspected.{AreIn, IsReadOf};
 ghost use Rattle.rpki_cert.specs.Rule.{Obeys};
@@ -20,9 +20,10 @@ use crate::known::{
     access_in, authority_in, constraints_in, overclaim_in, points_in, purposes_in, subject_in,
     usage_in,
 };
+use crate::object_access::is_object_access;
 use crate::rule::CertRule;
 use rpki::crypto::PublicKeyFormat;
-use rpki::der::ConstOid;
+use rpki::der::{ConstOid, Constructed};
 use rpki::oid;
 use rpki::repository::error::ValidationError;
 use rpki::repository::x509::{ExtensionView, NameView, Serial};
@@ -100,6 +101,18 @@ fn has_numbers_alone(all: &ExtensionSource<'_>) -> bool
     ensures { (xs : List ExtensionParts) → AreIn xs all.now → result ≡ (has_numbers xs && not (has_addresses xs)) }
 {
     has_numbers(all) && !has_addresses(all)
+}
+
+/// Whether access information was found that is not critical, of no method but those of end entities.
+fn has_only_methods(found: Option<ExtensionView<'_>>) -> bool
+    ensures { IsTrue result ↔ SaysSome false SpellsObjectAccess found.entry }
+{
+    match found {
+        Some(extension) => {
+            !extension.critical() && is_object_access(Constructed::from_slice(extension.octets()))
+        }
+        None => false,
+    }
 }
 
 /// Whether nothing was found, as the rule has it.
@@ -279,6 +292,16 @@ fn inspect_access(
     }
 }
 
+/// Whether access information of an end entity was found.
+fn inspect_methods(found: Option<ExtensionView<'_>>) -> Result<(), ValidationError>
+    ensures { Checks (SaysSome false SpellsObjectAccess found.entry) result }
+{
+    if !has_only_methods(found) {
+        return Err(rejected(CertRule::ObjectAccess));
+    }
+    Ok(())
+}
+
 impl Inspected<'_> {
     /// Whether the certificate obeys the rule. The names are looked at if `strict`.
     pub(crate) fn inspect_rule(&self, strict: bool, rule: CertRule) -> Result<(), ValidationError>
@@ -346,6 +369,7 @@ impl Inspected<'_> {
                 oid::AD_SIGNED_OBJECT,
                 rule,
             ),
+            CertRule::ObjectAccess => inspect_methods(all.find(oid::PE_SUBJECT_INFO_ACCESS)),
             CertRule::NoSubjectAccess => inspect_absent(
                 all.find(oid::PE_SUBJECT_INFO_ACCESS),
                 rule,

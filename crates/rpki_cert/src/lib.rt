@@ -23,6 +23,7 @@ mod known_view;
 mod listed;
 mod names;
 mod nested;
+mod object_access;
 mod part;
 mod policy;
 mod profile;

@@ -55,6 +55,9 @@ pub enum CertRule {
     Manifest,
     /// The URI of the signed object is there (RFC 6487 4.8.8.2).
     SignedObject,
+    /// The subject information access is there, of no method but those of the signed object and of the repository's
+    /// notifications (RFC 6487 4.8.8.2, RFC 8182 3.2).
+    ObjectAccess,
     /// There is no subject information access (RFC 8209 3.1.3.3).
     NoSubjectAccess,
     /// The certificate policies are there, critical, and exactly one of the RPKI (RFC 6487 4.8.9).
@@ -88,6 +91,7 @@ impl CertRule {
             CertRule::Repository => "missing URI of the repository",
             CertRule::Manifest => "missing URI of the manifest",
             CertRule::SignedObject => "missing URI of the signed object",
+            CertRule::ObjectAccess => "other access method of an end entity",
             CertRule::CertificatePolicies => "missing certificate policies",
             CertRule::Resources => "missing resources, or ones that are not critical",
             CertRule::RouterNumbers => "missing numbers, or addresses are there",
@@ -171,6 +175,7 @@ pub(crate) fn ee_rules() -> &'static [CertRule]
         CertRule::NoBasicConstraints,
         CertRule::EndUsage,
         CertRule::SignedObject,
+        CertRule::ObjectAccess,
         CertRule::AuthorityKeyIdentifier,
         CertRule::RevocationList,
         CertRule::IssuerCertificate,

@@ -17,7 +17,7 @@ ORDINARY = [*BASIC, 88, 90, 98]
 PROFILES = [
     [*ORDINARY, 92, 96, 101, 103, 104, 105],
     [*ORDINARY, 92, 96, 104, 105, 95, 100, 102],
-    [*ORDINARY, 93, 97, 106, 95, 100, 102],
+    [*ORDINARY, 93, 97, 106, 111, 95, 100, 102],
     [*BASIC, 89, 91, 93, 97, 110, 107, 99, 95, 100, 102],
 ]
 
@@ -79,6 +79,12 @@ def has_access(values, method):
     return any(kind.inside == certificates.oid(method) and is_rsync(name) for kind, name in pairs)
 
 
+def has_only(values, *methods):
+    """Each description has one of these methods (RFC 6487 4.8.8.2, RFC 8182 3.2)."""
+    kinds = {each.inside[0].inside for each in values or []}
+    return bool(kinds) and kinds <= {certificates.oid(method) for method in methods}
+
+
 def has_point(values):
     """One point, of names that are URIs, one of them rsync, and nothing else (RFC 6487 4.8.6)."""
     if not values or len(values) != 1 or [each.first for each in values[0].inside] != [0xa0]:
@@ -122,6 +128,7 @@ def is_broken(it, found, strict):
         108: is_policy(found.value("policies", True)),
         109: found.has(*resources) and all(found.critical.get(name, True) for name in resources),
         110: found.has("numbers", "numbers v2") and not found.has("addresses", "addresses v2"),
+        111: has_only(found.value("subject access", False), certificates.OBJECT, certificates.NOTIFY),
     }
     return {status: not held for status, held in holds.items()}
 

@@ -61,6 +61,9 @@ pub enum CertRule {
     Resources,
     /// Numbers are missing, or addresses are there (RFC 8209 3.1.3.4, 3.1.3.5).
     RouterNumbers,
+    /// An end entity's access information has another method than those of the signed object and of the repository's
+    /// notifications (RFC 6487 4.8.8.2, RFC 8182 3.2).
+    ObjectAccess,
     /// Allocation failed.
     OutOfMemory,
 }
@@ -95,6 +98,7 @@ impl CertRule {
             108 => CertRule::CertificatePolicies,
             109 => CertRule::Resources,
             110 => CertRule::RouterNumbers,
+            111 => CertRule::ObjectAccess,
             _ => unreachable!("{status} is no status of a certificate that is held to a profile"),
         }
     }
@@ -129,6 +133,7 @@ impl fmt::Display for CertRule {
             CertRule::CertificatePolicies => "missing certificate policies",
             CertRule::Resources => "missing resources, or ones that are not critical",
             CertRule::RouterNumbers => "missing AS numbers, or addresses are there",
+            CertRule::ObjectAccess => "other access method of an end entity",
             CertRule::OutOfMemory => "out of memory",
         })
     }

@@ -78,3 +78,6 @@ returns-in-Resources c = λ t h. obeys-at c.args.strict t _ _ _ c.in-Resources.i
 
 pub returns-in-RouterNumbers : goal.returns-in-RouterNumbers
 returns-in-RouterNumbers c = λ t h. obeys-at c.args.strict t _ _ _ c.in-RouterNumbers.is (rw (c.has_numbers_alone.ensures t.extensions h.extensions) at c.inspect_that-in-RouterNumbers.ensures)
+
+pub returns-in-ObjectAccess : goal.returns-in-ObjectAccess
+returns-in-ObjectAccess c = λ t h. obeys-at c.args.strict t _ _ _ c.in-ObjectAccess.is (rw (c.find-in-ObjectAccess.ensures t.extensions h.extensions) at c.inspect_methods.ensures)
