@@ -66,18 +66,13 @@ fn ca_in(list: &[u8]) -> Result<bool, KnownPart>
     ensures err { IfErr result (λ q. (q ≡ KnownPart.BasicConstraints)
         × OfListed list.now (λ xs. IsKnownWrong xs KnownPart.BasicConstraints)) }
 {
-    match find_as(
-        list,
-        oid::CE_BASIC_CONSTRAINTS,
-        true,
-        KnownPart::BasicConstraints,
-    ) {
-        Ok(Some(extension)) => match constraints_of(Constructed::from_slice(extension.octets())) {
+    let found = find_as(list, oid::CE_BASIC_CONSTRAINTS, true, KnownPart::BasicConstraints)?;
+    match found {
+        Some(extension) => match constraints_of(Constructed::from_slice(extension.octets())) {
             Ok(()) => Ok(true),
             Err(_) => Err(KnownPart::BasicConstraints),
         },
-        Ok(None) => Ok(false),
-        Err(part) => Err(part),
+        None => Ok(false),
     }
 }
 
@@ -88,18 +83,13 @@ fn subject_in(list: &[u8]) -> Result<Option<KeyIdentifier>, KnownPart>
     ensures err { IfErr result (λ q. (q ≡ KnownPart.SubjectKeyIdentifier)
         × OfListed list.now (λ xs. IsKnownWrong xs KnownPart.SubjectKeyIdentifier)) }
 {
-    match find_as(
-        list,
-        oid::CE_SUBJECT_KEY_IDENTIFIER,
-        false,
-        KnownPart::SubjectKeyIdentifier,
-    ) {
-        Ok(Some(extension)) => match identifier_of(Constructed::from_slice(extension.octets())) {
+    let found = find_as(list, oid::CE_SUBJECT_KEY_IDENTIFIER, false, KnownPart::SubjectKeyIdentifier)?;
+    match found {
+        Some(extension) => match identifier_of(Constructed::from_slice(extension.octets())) {
             Ok(found) => Ok(Some(found)),
             Err(_) => Err(KnownPart::SubjectKeyIdentifier),
         },
-        Ok(None) => Ok(None),
-        Err(part) => Err(part),
+        None => Ok(None),
     }
 }
 
@@ -110,18 +100,13 @@ fn authority_in(list: &[u8]) -> Result<Option<KeyIdentifier>, KnownPart>
     ensures err { IfErr result (λ q. (q ≡ KnownPart.AuthorityKeyIdentifier)
         × OfListed list.now (λ xs. IsKnownWrong xs KnownPart.AuthorityKeyIdentifier)) }
 {
-    match find_as(
-        list,
-        oid::CE_AUTHORITY_KEY_IDENTIFIER,
-        false,
-        KnownPart::AuthorityKeyIdentifier,
-    ) {
-        Ok(Some(extension)) => match authority_of(Constructed::from_slice(extension.octets())) {
+    let found = find_as(list, oid::CE_AUTHORITY_KEY_IDENTIFIER, false, KnownPart::AuthorityKeyIdentifier)?;
+    match found {
+        Some(extension) => match authority_of(Constructed::from_slice(extension.octets())) {
             Ok(found) => Ok(Some(found)),
             Err(_) => Err(KnownPart::AuthorityKeyIdentifier),
         },
-        Ok(None) => Ok(None),
-        Err(part) => Err(part),
+        None => Ok(None),
     }
 }
 
@@ -131,13 +116,13 @@ fn usage_in(list: &[u8]) -> Result<Option<KeyUsage>, KnownPart>
     ensures err { IfErr result (λ q. (q ≡ KnownPart.KeyUsage)
         × OfListed list.now (λ xs. IsKnownWrong xs KnownPart.KeyUsage)) }
 {
-    match find_as(list, oid::CE_KEY_USAGE, true, KnownPart::KeyUsage) {
-        Ok(Some(extension)) => match usage_of(Constructed::from_slice(extension.octets())) {
+    let found = find_as(list, oid::CE_KEY_USAGE, true, KnownPart::KeyUsage)?;
+    match found {
+        Some(extension) => match usage_of(Constructed::from_slice(extension.octets())) {
             Ok(found) => Ok(Some(found)),
             Err(_) => Err(KnownPart::KeyUsage),
         },
-        Ok(None) => Ok(None),
-        Err(part) => Err(part),
+        None => Ok(None),
     }
 }
 
@@ -147,18 +132,13 @@ fn overclaim_in(list: &[u8]) -> Result<Option<Overclaim>, KnownPart>
     ensures err { IfErr result (λ q. (q ≡ KnownPart.CertificatePolicies)
         × OfListed list.now (λ xs. IsKnownWrong xs KnownPart.CertificatePolicies)) }
 {
-    match find_as(
-        list,
-        oid::CE_CERTIFICATE_POLICIES,
-        true,
-        KnownPart::CertificatePolicies,
-    ) {
-        Ok(Some(extension)) => match overclaim_of(Constructed::from_slice(extension.octets())) {
+    let found = find_as(list, oid::CE_CERTIFICATE_POLICIES, true, KnownPart::CertificatePolicies)?;
+    match found {
+        Some(extension) => match overclaim_of(Constructed::from_slice(extension.octets())) {
             Ok(found) => Ok(Some(found)),
             Err(_) => Err(KnownPart::CertificatePolicies),
         },
-        Ok(None) => Ok(None),
-        Err(part) => Err(part),
+        None => Ok(None),
     }
 }
 
@@ -173,31 +153,12 @@ impl<'a> Keyed<'a> {
         ensures err { IfErr result (λ q. OfListed self.now.extensions.octets.now (λ xs. IsFirstWrong xs q)) }
     {
         let list = self.extensions.octets;
-        let ca = match ca_in(list) {
-            Ok(ca) => ca,
-            Err(part) => return Err(part),
-        };
-        let subject_key_identifier = match subject_in(list) {
-            Ok(found) => found,
-            Err(part) => return Err(part),
-        };
-        let authority_key_identifier = match authority_in(list) {
-            Ok(found) => found,
-            Err(part) => return Err(part),
-        };
-        let key_usage = match usage_in(list) {
-            Ok(found) => found,
-            Err(part) => return Err(part),
-        };
-        match overclaim_in(list) {
-            Ok(overclaim) => Ok(KnownView {
-                ca,
-                subject_key_identifier,
-                authority_key_identifier,
-                key_usage,
-                overclaim,
-            }),
-            Err(part) => Err(part),
-        }
+        Ok(KnownView {
+            ca: ca_in(list)?,
+            subject_key_identifier: subject_in(list)?,
+            authority_key_identifier: authority_in(list)?,
+            key_usage: usage_in(list)?,
+            overclaim: overclaim_in(list)?,
+        })
     }
 }

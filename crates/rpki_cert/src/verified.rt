@@ -26,13 +26,8 @@ impl Cert {
         ensures { Checks (IsVerified (IsCaProfile strict) (P.rsa_of provider.now) (P.ecdsa_of provider.now)
             (P.sha1_of provider.now) issuer.now at self.now) result }
     {
-        match self.tbs().inspect_ca(alloc, strict) {
-            Ok(()) => match self.verify_issued(provider, issuer, at) {
-                Ok(()) => Ok(()),
-                Err(e) => Err(e),
-            },
-            Err(e) => Err(e),
-        }
+        self.tbs().inspect_ca(alloc, strict)?;
+        self.verify_issued(provider, issuer, at)
     }
 
     /// As [Cert::verify_ca], of an end entity that signs an object.
@@ -49,13 +44,8 @@ impl Cert {
         ensures { Checks (IsVerified (IsEeProfile strict) (P.rsa_of provider.now) (P.ecdsa_of provider.now)
             (P.sha1_of provider.now) issuer.now at self.now) result }
     {
-        match self.tbs().inspect_ee(alloc, strict) {
-            Ok(()) => match self.verify_issued(provider, issuer, at) {
-                Ok(()) => Ok(()),
-                Err(e) => Err(e),
-            },
-            Err(e) => Err(e),
-        }
+        self.tbs().inspect_ee(alloc, strict)?;
+        self.verify_issued(provider, issuer, at)
     }
 
     /// As [Cert::verify_ca], of a BGPsec router (RFC 8209 3.1).
@@ -72,12 +62,7 @@ impl Cert {
         ensures { Checks (IsVerifiedRouter strict (P.rsa_of provider.now) (P.ecdsa_of provider.now)
             (P.sha1_of provider.now) issuer.now at self.now) result }
     {
-        match self.tbs().inspect_router(alloc, strict) {
-            Ok(()) => match self.verify_issued(provider, issuer, at) {
-                Ok(()) => Ok(()),
-                Err(e) => Err(e),
-            },
-            Err(e) => Err(e),
-        }
+        self.tbs().inspect_router(alloc, strict)?;
+        self.verify_issued(provider, issuer, at)
     }
 }

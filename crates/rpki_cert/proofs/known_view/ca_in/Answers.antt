@@ -11,13 +11,13 @@ use Rattle.rpki_cert.specs.Known.{basic_constraints}
 use Rattle.rpki_cert.proofs.KnownLaws.{not-read}
 use Rattle.rpki_cert.proofs.known_view.ca_in.Goals as goal
 
-pub returns-in-Err-constraints_of-clause-err : goal.returns-in-Err-constraints_of-clause-err
-returns-in-Err-constraints_of-clause-err c =
-    let x = c.in-Ok-Some.extension in
-    let some = rw c.in-Ok-Some.field-0-is at c.in-Ok-Some.ensures.some in
-    let wrong = rw (c.from_slice.ensures, c.octets.ensures) at c.in-Err-constraints_of.ensures in (
+pub returns-in-Err-clause-err : goal.returns-in-Err-clause-err
+returns-in-Err-clause-err c =
+    let x = c.in-Some.extension in
+    let some = rw c.in-Some.is at c.in_ok-found.ensures.some in
+    let wrong = rw (c.from_slice.ensures, c.octets.ensures) at c.in-Err.ensures in (
       refl,
-      λ xs k. not-read basic_constraints true SpellsConstraints xs IsConstraintsFault x c.in-Err-constraints_of.field-0 (some.1 xs k, some.0)
+      λ xs k. not-read basic_constraints true SpellsConstraints xs IsConstraintsFault x c.in-Err.field-0 (some.1 xs k, some.0)
           (λ h. inside-no-memory sequence true (FirstFault SpellsTrue IsTrueFault (λ v. IsEndFault)) x.content
           (λ d m. first-no-memory SpellsTrue IsTrueFault (λ v. IsEndFault) d (λ l. leaf-no-memory boolean false (IsOnly (boolean_contents true)) d OutOfMemory l refl) (λ v r l. end-no-memory r l) m) h) wrong,
     )

@@ -7,16 +7,16 @@ use Rattle.rpki_cert.proofs.known_view.overclaim_in.Goals as goal
 
 pub returns-in-Ok-clause-ok : goal.returns-in-Ok-clause-ok
 returns-in-Ok-clause-ok c =
-    let some = rw c.in-Ok-Some.field-0-is at c.in-Ok-Some.ensures.some in
+    let some = rw c.in-Some.is at c.in_ok-found.ensures.some in
     let read = rw (c.from_slice.ensures, c.octets.ensures) at c.in-Ok.ensures in
-    λ xs k. only-value certificate_policies true SpellsPolicies xs c.in-Ok-Some.extension c.in-Ok.found (some.1 xs k, some.0) read
+    λ xs k. only-value certificate_policies true SpellsPolicies xs c.in-Some.extension c.in-Ok.found (some.1 xs k, some.0) read
 
-pub returns-in-Err-overclaim_of-clause-err : goal.returns-in-Err-overclaim_of-clause-err
-returns-in-Err-overclaim_of-clause-err c =
-    let x = c.in-Ok-Some.extension in
-    let some = rw c.in-Ok-Some.field-0-is at c.in-Ok-Some.ensures.some in
-    let wrong = rw (c.from_slice.ensures, c.octets.ensures) at c.in-Err-overclaim_of.ensures in (
+pub returns-in-Err-clause-err : goal.returns-in-Err-clause-err
+returns-in-Err-clause-err c =
+    let x = c.in-Some.extension in
+    let some = rw c.in-Some.is at c.in_ok-found.ensures.some in
+    let wrong = rw (c.from_slice.ensures, c.octets.ensures) at c.in-Err.ensures in (
       refl,
-      λ xs k. not-read certificate_policies true SpellsPolicies xs IsPoliciesFault x c.in-Err-overclaim_of.field-0 (some.1 xs k, some.0)
+      λ xs k. not-read certificate_policies true SpellsPolicies xs IsPoliciesFault x c.in-Err.field-0 (some.1 xs k, some.0)
           (λ h. policies-no-memory x.content h) wrong,
     )
