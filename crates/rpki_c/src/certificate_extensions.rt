@@ -10,8 +10,8 @@ use crate::certificate::{part_number, place_of};
 use crate::place::Place;
 use rpki::crypto::KeyIdentifier;
 use rpki::oid;
-use rpki_cert::{CertView, KeyUsage, KnownPart, KnownView, Overclaim, Section, find_in};
-use rpki_der::{ConstOid, Constructed};
+use rpki_cert::{CertView, ExtensionIndex, KeyUsage, KnownPart, KnownView, Overclaim, Section};
+use rpki_der::ConstOid;
 
 /// An extension of a certificate, or that there is none.
 #[repr(C)]
@@ -114,14 +114,20 @@ fn octets_of(identifier: Option<KeyIdentifier>) -> [u8; 20]
     }
 }
 
-/// The extension of this identifier in the certificate that the octets are.
-fn extension_at(octets: &[u8], found: &CertView<'_>, id: ConstOid) -> KnownExtension
+/// The extension of this identifier in the certificate that the octets are, of whose extensions this is the index.
+fn extension_at(
+    octets: &[u8],
+    found: &CertView<'_>,
+    index: &ExtensionIndex<'_>,
+    id: ConstOid,
+) -> KnownExtension
+    requires { index.now ≡ found.now.tbs.named.keyed.extensions.octets.now }
     ensures { (x : CertParts) (h : IsCertAt octets.now found.now x)
         → IsFoundAt x octets.now h.spelled id.entry.0.now result }
 {
     let list = found.tbs.named.keyed.extensions;
     let end = octets.len().saturating_sub(found.parts.data.following);
-    match find_in(Constructed::from_slice(list.octets), id) {
+    match index.find(id) {
         Some((extension, following)) => {
             let section = Section {
                 octets: extension.octets(),
@@ -144,25 +150,31 @@ fn extension_at(octets: &[u8], found: &CertView<'_>, id: ConstOid) -> KnownExten
     }
 }
 
-/// The extensions of the certificate that the octets are, which say this.
-fn extensions_of(octets: &[u8], found: &CertView<'_>, known: KnownView) -> CertificateExtensions
-    requires { (x : CertParts) × IsCertAt octets.now found.now x × AreKnown x.tbs.extensions known }
+/// The extensions of the certificate that the octets are, of which this is the index, and which say this.
+fn extensions_of(
+    octets: &[u8],
+    found: &CertView<'_>,
+    index: &ExtensionIndex<'_>,
+    known: KnownView,
+) -> CertificateExtensions
+    requires cert { (x : CertParts) × IsCertAt octets.now found.now x × AreKnown x.tbs.extensions known }
+    requires index { index.now ≡ found.now.tbs.named.keyed.extensions.octets.now }
     ensures { HasExtensions octets.now result }
 {
     CertificateExtensions {
-        basic_constraints: extension_at(octets, found, oid::CE_BASIC_CONSTRAINTS),
-        subject_key_identifier: extension_at(octets, found, oid::CE_SUBJECT_KEY_IDENTIFIER),
-        authority_key_identifier: extension_at(octets, found, oid::CE_AUTHORITY_KEY_IDENTIFIER),
-        key_usage: extension_at(octets, found, oid::CE_KEY_USAGE),
-        extended_key_usage: extension_at(octets, found, oid::CE_EXTENDED_KEY_USAGE),
-        crl_distribution_points: extension_at(octets, found, oid::CE_CRL_DISTRIBUTION_POINTS),
-        authority_info_access: extension_at(octets, found, oid::PE_AUTHORITY_INFO_ACCESS),
-        subject_info_access: extension_at(octets, found, oid::PE_SUBJECT_INFO_ACCESS),
-        certificate_policies: extension_at(octets, found, oid::CE_CERTIFICATE_POLICIES),
-        ip_resources: extension_at(octets, found, oid::PE_IP_ADDR_BLOCK),
-        ip_resources_v2: extension_at(octets, found, oid::PE_IP_ADDR_BLOCK_V2),
-        as_resources: extension_at(octets, found, oid::PE_AUTONOMOUS_SYS_IDS),
-        as_resources_v2: extension_at(octets, found, oid::PE_AUTONOMOUS_SYS_IDS_V2),
+        basic_constraints: extension_at(octets, found, index, oid::CE_BASIC_CONSTRAINTS),
+        subject_key_identifier: extension_at(octets, found, index, oid::CE_SUBJECT_KEY_IDENTIFIER),
+        authority_key_identifier: extension_at(octets, found, index, oid::CE_AUTHORITY_KEY_IDENTIFIER),
+        key_usage: extension_at(octets, found, index, oid::CE_KEY_USAGE),
+        extended_key_usage: extension_at(octets, found, index, oid::CE_EXTENDED_KEY_USAGE),
+        crl_distribution_points: extension_at(octets, found, index, oid::CE_CRL_DISTRIBUTION_POINTS),
+        authority_info_access: extension_at(octets, found, index, oid::PE_AUTHORITY_INFO_ACCESS),
+        subject_info_access: extension_at(octets, found, index, oid::PE_SUBJECT_INFO_ACCESS),
+        certificate_policies: extension_at(octets, found, index, oid::CE_CERTIFICATE_POLICIES),
+        ip_resources: extension_at(octets, found, index, oid::PE_IP_ADDR_BLOCK),
+        ip_resources_v2: extension_at(octets, found, index, oid::PE_IP_ADDR_BLOCK_V2),
+        as_resources: extension_at(octets, found, index, oid::PE_AUTONOMOUS_SYS_IDS),
+        as_resources_v2: extension_at(octets, found, index, oid::PE_AUTONOMOUS_SYS_IDS_V2),
         subject_key: octets_of(known.subject_key_identifier),
         authority_key: octets_of(known.authority_key_identifier),
         is_ca: known.ca,
@@ -185,9 +197,10 @@ pub extern "C" fn rpki_certificate_extensions(octets: &[u8], out: &mut Certifica
         Ok(found) => found,
         Err(part) => return part_number(part),
     };
-    match found.tbs.named.keyed.known() {
+    let index = ExtensionIndex::of(found.tbs.named.keyed.extensions.octets);
+    match index.known() {
         Ok(known) => {
-            *out = extensions_of(octets, &found, known);
+            *out = extensions_of(octets, &found, &index, known);
             0
         }
         Err(part) => known_number(part),

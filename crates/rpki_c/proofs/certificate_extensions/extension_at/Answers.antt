@@ -12,8 +12,8 @@ returns-in-Some c = λ x h.
     let v = c.args.found.now in
     let k = h.tbs.named.keyed in
     let id = c.args.id.0.now in
-    let some = (rw c.from_slice.ensures at c.in-Some.ensures.some) x.tbs.extensions (listed s v x h) in
-    let at = subst (λ (l : List ℕ). (xs : List ExtensionParts) (each : SpellsEach SpellsExtension xs l) → c.in-Some.following ≡ length (behind_first id xs l each)) k.list_at.octets (rw c.from_slice.ensures at c.in-Some.ensures.place) in
+    let some = (rw c.requires at c.in-Some.ensures.some) x.tbs.extensions (listed s v x h) in
+    let at = subst (λ (l : List ℕ). (xs : List ExtensionParts) (each : SpellsEach SpellsExtension xs l) → c.in-Some.following ≡ length (behind_first id xs l each)) k.list_at.octets (rw c.requires at c.in-Some.ensures.place) in
     let behind = at x.tbs.extensions (list_in x s h.spelled).1 in
     let first = rw k.list_at.following at c.place_of.ensures.start in
     let place = found-place x s h.spelled id c.octets.result.now c.in-Some.extension c.saturating_sub-end.result v.parts.«data».following c.in-Some.following c.place_of.result some c.octets.ensures c.saturating_sub-end.ensures h.parts.signed.following behind first c.place_of.ensures.size in
@@ -22,5 +22,5 @@ returns-in-Some c = λ x h.
 pub returns-in-None : goal.returns-in-None
 returns-in-None c = λ x h.
     let s = c.args.octets.now in
-    let none = (rw c.from_slice.ensures at c.in-None.ensures.none) x.tbs.extensions (listed s c.args.found.now x h) in
+    let none = (rw c.requires at c.in-None.ensures.none) x.tbs.extensions (listed s c.args.found.now x h) in
     rw none (refl, refl, refl, refl)

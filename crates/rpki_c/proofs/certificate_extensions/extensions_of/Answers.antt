@@ -3,8 +3,7 @@ use Rattle.rpki_c.proofs.certificate_extensions.extensions_of.Goals as goal
 
 pub returns : goal.returns
 returns c =
-    let x = c.requires.0 in
-    let h = c.requires.1 in
+    let (x, h, known) = c.requires.cert in
     record {
       cert = x;
       spelled = h.spelled;
@@ -22,7 +21,7 @@ returns c =
       numbers = c.extension_at-12.ensures x h;
       numbers_v2 = c.extension_at-13.ensures x h;
       said = c.args.known;
-      known = c.requires.2;
+      known = known;
       ca = refl;
       purpose = c.usage_number.ensures;
       policy = c.policy_number.ensures;
