@@ -5,6 +5,7 @@
 -- Checks of profiles: ProfileLaws. Their rules: RuleLaws.
 -- Read in place: values, names, access descriptions, lists of extensions, fields, certificates: NestedLaws,
 --   NameViewLaws, ObjectAccessLaws, ListedLaws, FieldsLaws, ViewLaws. That what is wrong is no certificate: WrongLaws.
+--   Values, one after another, of which something is kept: GatherLaws.
 
 pub mod SomeLaws
 pub mod ExtensionListLaws

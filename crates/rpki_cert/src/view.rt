@@ -1,10 +1,10 @@
 //! Certificates, read in place without memory (RFC 5280 4.1).
 
-ghost use Rattle.std.specs.Prelude.{◌≡◌, ◌<◌, List, ℕ, Bool, IfOk, IfErr, length};
+ghost use Rattle.std.specs.Prelude.{◌<◌, IfOk, IfErr, length};
 ghost use Rattle.rpki_der.specs.Cursor.{left};
-ghost use Rattle.rpki.specs.SignedData.{SignedParts, SpellsSignature, IsSignedContents};
-ghost use Rattle.rpki_cert.specs.Cert.{CertParts, SpellsRpkiAlgorithm, SpellsCert};
-ghost use Rattle.rpki_cert.specs.View.{most_extensions, IsWholeOf, ArePartsIn, ArePartsWrong, IsCertAt, IsCertWrong};
+ghost use Rattle.rpki.specs.SignedData.{SpellsSignature};
+ghost use Rattle.rpki_cert.specs.Cert.{CertParts, SpellsCert};
+ghost use Rattle.rpki_cert.specs.View.{most_extensions, IsWholeOf, ArePartsAt, ArePartsWrong, IsCertAt, IsCertWrong};
 
 use crate::cert::is_same;
 use crate::cert_part::CertPart;
@@ -55,8 +55,7 @@ fn read_signature<'a>(rest: Constructed<'a>) -> Option<&'a [u8]>
 
 /// The parts of signed data, which are all of these contents.
 fn read_parts<'a>(contents: Constructed<'a>) -> Result<Parts<'a>, CertPart>
-    ensures ok { IfOk result (λ v. (x : SignedParts Bool)
-        × (h : IsSignedContents SpellsRpkiAlgorithm x (left contents.entry)) × ArePartsIn x (left contents.entry) h v) }
+    ensures ok { IfOk result (λ v. ArePartsAt (left contents.entry) v) }
     ensures err { IfErr result (λ q. ArePartsWrong (left contents.entry) q) }
 {
     let mut rest = contents;
