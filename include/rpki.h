@@ -619,8 +619,8 @@ rpki_status rpki_certificate_extensions(const uint8_t *octets, size_t size, stru
  * The status is from 85 to 111 where the octets are a certificate that breaks a rule of the profile: the first of these
  * that is broken. Of a trust anchor they are tested in the order 85, 86, 87, 94, 108, 109, 88, 90, 98, 92, 96, 101,
  * 103, 104, 105; of an authority as far as 96 in the same order, then 104, 105, 95, 100, 102; of an end entity as far
- * as 98, then 93, 97, 106, 111, 95, 100, 102; of a router as far as 109, then 89, 91, 93, 97, 110, 107, 99, 95, 100, 102. An
- * extension that a rule wants, and that is malformed or not as critical as it has to be, breaks the rule.
+ * as 98, then 93, 97, 106, 111, 95, 100, 102; of a router as far as 109, then 89, 91, 93, 97, 110, 107, 99, 95, 100,
+ * 102. An extension that a rule wants, and that is malformed or not as critical as it has to be, breaks the rule.
  * RPKI_NO_PROFILE: no profile has the number; then the octets are not looked at. Else, where it is not 0, it is that of
  * rpki_certificate.
  */

@@ -117,17 +117,14 @@ found-either false id l q z x y ys e first later = later e
 -- the octets of the extension that is found, and what follows it, are the end of the list
 pub found-ends : (id : List ℕ) (xs : List ExtensionParts) (l : List ℕ) (h : SpellsEach SpellsExtension xs l) (x : ExtensionParts) → find id xs ≡ Some x → EndsWith l (x.content ++ behind_first id xs l h)
 found-ends id [] l h x e = absurd cc
-found-ends id (y ∷ ys) l h x e = found-either (bytes_eq y.identifier id) id l h.0 (behind_first id ys h.0 h.2) x y ys e here there
+found-ends id (y ∷ ys) l h x e =
+    let later : find id ys ≡ Some x → EndsWith l (x.content ++ behind_first id ys h.0 h.2) =
+    λ more. ends-more l h.1.front h.0 (x.content ++ behind_first id ys h.0 h.2) h.1.parts (found-ends id ys h.0 h.2 x more) in
+    found-either (bytes_eq y.identifier id) id l h.0 (behind_first id ys h.0 h.2) x y ys e here later
   where
-    one : EndsWith h.1.front y.content
-    one = content-end h.1.front y h.1.spelled
-
     here : y ≡ x → EndsWith l (x.content ++ h.0)
     here same = subst (λ (z : ExtensionParts). EndsWith l (z.content ++ h.0)) same
-        (ends-inside l h.1.front y.content h.0 (record { front = []; parts = h.1.parts }) one)
-
-    there : find id ys ≡ Some x → EndsWith l (x.content ++ behind_first id ys h.0 h.2)
-    there more = ends-more l h.1.front h.0 (x.content ++ behind_first id ys h.0 h.2) h.1.parts (found-ends id ys h.0 h.2 x more)
+        (ends-inside l h.1.front y.content h.0 (record { front = []; parts = h.1.parts }) (content-end h.1.front y h.1.spelled))
 
 -- where it stands in a certificate
 pub found-place : (x : CertParts) (s : List ℕ) (h : SpellsCert x s) (id w : List ℕ) (y : ExtensionParts) (e n k : ℕ) (p : Place) → find id x.tbs.extensions ≡ Some y → w ≡ y.content → e ≡ length s - n → n ≡ length (behind_signed x s h)

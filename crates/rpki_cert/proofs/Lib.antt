@@ -6,6 +6,7 @@
 -- Read in place: values, names, access descriptions, lists of extensions, their index, fields, certificates: NestedLaws,
 --   NameViewLaws, ObjectAccessLaws, ListedLaws, ExtensionIndexLaws, FieldsLaws, ViewLaws. That what is signed is one
 --   value: TbsValueLaws. That what is wrong is no certificate: WrongLaws.
+--   Values, one after another, of which something is kept: GatherLaws.
 
 pub mod SomeLaws
 pub mod ExtensionListLaws

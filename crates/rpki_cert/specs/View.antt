@@ -88,6 +88,11 @@ abbrev pub behind_first : List ℕ → (xs : List ExtensionParts) (s : List ℕ)
 behind_first id [] s h = []
 behind_first id (x ∷ xs) s h = if bytes_eq x.identifier id then h.0 else behind_first id xs h.0 h.2
 
+-- so many octets follow the first extension in s with this identifier
+abbrev pub FollowFirst : List ℕ → List ℕ → ℕ → Type 0
+FollowFirst id s n =
+    (xs : List ExtensionParts) (h : SpellsEach SpellsExtension xs s) → n ≡ length (behind_first id xs s h)
+
 -- these octets are extensions, so many
 pub record HasCount (s : List ℕ) (n : ℕ) : Type 0 where
   pub extensions : List ExtensionParts
@@ -161,6 +166,11 @@ pub record ArePartsIn (x : SignedParts Bool) (s : List ℕ) (h : IsSignedContent
   pub algorithm : IsSection v.algorithm h.text h.bits
   pub signature : IsSection v.signature x.value []
 
+-- all of s is the three parts, of which these are the sections
+abbrev pub ArePartsAt : List ℕ → Parts → Type 0
+ArePartsAt s v =
+    (x : SignedParts Bool) × (h : IsSignedContents SpellsRpkiAlgorithm x s) × ArePartsIn x s h v
+
 -- the certificate x is all of s, and the sections are those of its parts, as the grammar divides s
 pub record IsCertAt (s : List ℕ) (v : CertView) (x : CertParts) : Type 0 where
   pub spelled : SpellsCert x s
@@ -195,8 +205,7 @@ pub data IsCertWrong (s : List ℕ) (q : CertPart) : Type 0 where
 
 -- where d is a value, and m follows it, these are the parts of signed data
 abbrev pub ArePartsBehind : List ℕ → List ℕ → Parts → Type 0
-ArePartsBehind d m v =
-    IsValue d → (x : SignedParts Bool) × (h : IsSignedContents SpellsRpkiAlgorithm x (d ++ m)) × ArePartsIn x (d ++ m) h v
+ArePartsBehind d m v = IsValue d → ArePartsAt (d ++ m) v
 
 -- a SEQUENCE of d, and of m behind it, is a certificate of these parts
 abbrev pub IsCertBehind : List ℕ → List ℕ → CertView → Type 0

@@ -1,10 +1,10 @@
 //! Extensions, one after another, by the last octets of their identifiers.
 
-ghost use Rattle.std.specs.Prelude.{◌≡◌, ◌<◌, List, ℕ, length, IfSome, IfNone, Some, None};
+ghost use Rattle.std.specs.Prelude.{◌≡◌, ◌<◌, List, IfSome, IfNone, Some, None};
 ghost use Rattle.rpki_der.specs.Each.{SpellsEach};
 ghost use Rattle.rpki.specs.ExtensionValue.{ExtensionParts, SpellsExtension};
 ghost use Rattle.rpki_cert.specs.Cert.{find};
-ghost use Rattle.rpki_cert.specs.View.{behind_first};
+ghost use Rattle.rpki_cert.specs.View.{FollowFirst};
 ghost use Rattle.rpki_cert.specs.ExtensionIndex.{last_bits};
 
 use crate::listed::{ending, find_in, skim};
@@ -76,8 +76,7 @@ impl<'a> ExtensionIndex<'a> {
             → find id.entry.0.now xs ≡ Some x.0) }
         ensures none { IfNone result ((xs : List ExtensionParts) → SpellsEach SpellsExtension xs self.now
             → find id.entry.0.now xs ≡ None) }
-        ensures place { IfSome result (λ x. (xs : List ExtensionParts) (h : SpellsEach SpellsExtension xs self.now)
-            → x.1 ≡ length (behind_first id.entry.0.now xs self.now h)) }
+        ensures place { IfSome result (λ x. FollowFirst id.entry.0.now self.now x.1) }
     {
         let left = self.starts[last_bits(id.0)];
         find_in(Constructed::from_slice(&self.list[self.list.len() - left..]), id)

@@ -7,7 +7,7 @@ ghost use Rattle.rpki_der.specs.Values.{SpellsContents};
 ghost use Rattle.rpki_der.specs.Each.{SpellsEach, SpellsSome};
 ghost use Rattle.rpki.specs.ExtensionValue.{ExtensionParts, SpellsExtension};
 ghost use Rattle.rpki_cert.specs.Cert.{find, are_unique};
-ghost use Rattle.rpki_cert.specs.View.{IsWholeOf, IsIdentified, ending, behind_first, SpellsFrame, AreExtensionsWrong, AreExtensionsAt, HasCount};
+ghost use Rattle.rpki_cert.specs.View.{IsWholeOf, IsIdentified, ending, FollowFirst, SpellsFrame, AreExtensionsWrong, AreExtensionsAt, HasCount};
 
 use crate::cert_part::CertPart;
 use crate::section::Section;
@@ -59,8 +59,7 @@ pub fn find_in<'a>(list: Constructed<'a>, id: Oid<&[u8]>) -> Option<(ExtensionVi
         → find id.entry.0.now xs ≡ Some x.0) }
     ensures none { IfNone result ((xs : List ExtensionParts) → SpellsEach SpellsExtension xs (left list.entry)
         → find id.entry.0.now xs ≡ None) }
-    ensures place { IfSome result (λ x. (xs : List ExtensionParts) (h : SpellsEach SpellsExtension xs (left list.entry))
-        → x.1 ≡ length (behind_first id.entry.0.now xs (left list.entry) h)) }
+    ensures place { IfSome result (λ x. FollowFirst id.entry.0.now (left list.entry) x.1) }
 {
     let mut rest = list;
     'extensions: while !rest.is_empty() {

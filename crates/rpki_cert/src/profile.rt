@@ -73,8 +73,8 @@ impl TbsCert {
         self.inspected().inspect_all(strict, ta_rules())
     }
 
-    /// Tests that the certificate has the profile of a trust anchor, as [TbsCert::inspect_ta] does; returns the rule that
-    /// it breaks first, in the order: serial number, critical extensions, issuer, subject key identifier, policies,
+    /// Tests that the certificate has the profile of a trust anchor, as [TbsCert::inspect_ta] does; returns the rule
+    /// that it breaks first, in the order: serial number, critical extensions, issuer, subject key identifier, policies,
     /// resources, subject, key, extended key usage, basic constraints, key usage, revocation list, certificate of the
     /// issuer, repository, manifest. An extension that a rule wants and that is malformed, or not as critical as it has
     /// to be, breaks the rule. Allocates nothing.
@@ -115,7 +115,8 @@ impl TbsCert {
 
     /// Tests that the certificate has the profile of an end entity that signs an object, as [TbsCert::inspect_ee] does;
     /// returns the rule that it breaks first, in the order: those of a trust anchor up to the
-    /// key usage; then signed object, authority key identifier, revocation list, certificate of the issuer.
+    /// key usage; then signed object, other access methods, authority key identifier, revocation list, certificate of
+    /// the issuer.
     pub fn test_ee(&self, strict: bool) -> Result<(), CertRule>
         ensures { TestsRules (IsEeProfile strict self.now) strict self.now ee_rules result }
     {
@@ -132,10 +133,10 @@ impl TbsCert {
         self.inspected().inspect_all(strict, router_rules())
     }
 
-    /// Tests that the certificate has the profile of a BGPsec router, as [TbsCert::inspect_router] does;
-    /// returns the rule that it breaks first, in the order: those of a trust anchor up to the
-    /// key; then basic constraints, key usage, numbers of autonomous systems, access to the subject, extended key usage,
-    /// authority key identifier, revocation list, certificate of the issuer.
+    /// Tests that the certificate has the profile of a BGPsec router, as [TbsCert::inspect_router] does; returns the
+    /// rule that it breaks first, in the order: those of a trust anchor up to the key; then basic constraints, key
+    /// usage, numbers of autonomous systems, access to the subject, extended key usage, authority key identifier,
+    /// revocation list, certificate of the issuer.
     pub fn test_router(&self, strict: bool) -> Result<(), CertRule>
         ensures { TestsRules (IsRouterProfile strict self.now) strict self.now router_rules result }
     {
@@ -165,8 +166,8 @@ impl CertView<'_> {
         self.inspected().test_all(strict, ca_rules())
     }
 
-    /// Tests that the certificate has the profile of an end entity that signs an object, as [TbsCert::test_ee] does. Allocates
-    /// nothing.
+    /// Tests that the certificate has the profile of an end entity that signs an object, as [TbsCert::test_ee] does.
+    /// Allocates nothing.
     pub fn test_ee(&self, strict: bool) -> Result<(), CertRule>
         requires { (s : List ℕ) × (x : CertParts) × IsCertAt s self.now x }
         ensures { (s : List ℕ) (x : CertParts) → IsCertAt s self.now x

@@ -1,9 +1,9 @@
 //! Certificates, read in place without memory (RFC 5280 4.1).
 
-ghost use Rattle.std.specs.Prelude.{◌≡◌, ◌<◌, List, ℕ, Bool, IfOk, IfErr, length};
+ghost use Rattle.std.specs.Prelude.{◌<◌, IfOk, IfErr, length};
 ghost use Rattle.rpki_der.specs.Cursor.{left};
-ghost use Rattle.rpki.specs.SignedData.{SignedParts, SpellsSignature, IsSignedContents};
-ghost use Rattle.rpki_cert.specs.Cert.{CertParts, SpellsRpkiAlgorithm, SpellsCert};
+ghost use Rattle.rpki.specs.SignedData.{SpellsSignature};
+ghost use Rattle.rpki_cert.specs.Cert.{CertParts, SpellsCert};
 ghost use Rattle.rpki_cert.specs.View.{most_extensions, IsWholeOf, ArePartsBehind, AreBehindWrong, IsCertBehind, IsWrongBehind, IsCertAt, IsCertWrong};
 
 use crate::cert::is_same;

@@ -64,14 +64,11 @@ pub enum CertRule {
     /// An end entity's access information has another method than those of the signed object and of the repository's
     /// notifications (RFC 6487 4.8.8.2, RFC 8182 3.2).
     ObjectAccess,
-    /// Allocation failed.
-    OutOfMemory,
 }
 
 impl CertRule {
     pub(super) fn from_status(status: Status) -> CertRule {
         match status {
-            7 => CertRule::OutOfMemory,
             85 => CertRule::SerialNumber,
             86 => CertRule::CriticalExtensions,
             87 => CertRule::Issuer,
@@ -134,7 +131,6 @@ impl fmt::Display for CertRule {
             CertRule::Resources => "missing resources, or ones that are not critical",
             CertRule::RouterNumbers => "missing AS numbers, or addresses are there",
             CertRule::ObjectAccess => "other access method of an end entity",
-            CertRule::OutOfMemory => "out of memory",
         })
     }
 }

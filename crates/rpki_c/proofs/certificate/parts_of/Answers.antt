@@ -33,10 +33,10 @@ returns c =
     record {
       cert = x;
       spelled = h;
-      signed = stands s (d ++ behind) d behind v.parts.«data».octets.now 0 v.parts.«data».following c.place_of.result whole refl p.signed.octets outer c.place_of.ensures.start c.place_of.ensures.size;
-      algorithm = stands s behind h.signed.spelled.text h.signed.spelled.bits v.parts.algorithm.octets.now 0 v.parts.algorithm.following c.place_of-2.result (algorithm-ends x s h) refl p.algorithm.octets p.algorithm.following c.place_of-2.ensures.start c.place_of-2.ensures.size;
+      signed = stands s (d ++ behind) d behind v.parts.«data».octets.now 0 v.parts.«data».following c.place_of.result whole refl p.signed.octets (omega (arith, outer)) c.place_of.ensures.start c.place_of.ensures.size;
+      algorithm = stands s behind h.signed.spelled.text h.signed.spelled.bits v.parts.algorithm.octets.now 0 v.parts.algorithm.following c.place_of-2.result (algorithm-ends x s h) refl p.algorithm.octets (omega (arith, p.algorithm.following)) c.place_of-2.ensures.start c.place_of-2.ensures.size;
       parameters = c.has_parameters.ensures ∙ p.same;
-      signature = stands s (x.signed.value ++ []) x.signed.value [] v.parts.signature.octets.now 0 v.parts.signature.following c.place_of-3.result (signature-ends x s h) refl p.signature.octets p.signature.following c.place_of-3.ensures.start c.place_of-3.ensures.size;
+      signature = stands s (x.signed.value ++ []) x.signed.value [] v.parts.signature.octets.now 0 v.parts.signature.following c.place_of-3.result (signature-ends x s h) refl p.signature.octets (omega (arith, p.signature.following)) c.place_of-3.ensures.start c.place_of-3.ensures.size;
       serial = c.into_array.ensures.value ∙ at.tbs.serial;
       not_before = subst (λ t. IsMoment t c.moment_of.result) from (moment period.start c.not_before.result c.moment_of.result one c.moment_of.ensures.since c.moment_of.ensures.date c.moment_of.ensures.clock);
       not_after = subst (λ t. IsMoment t c.moment_of-2.result) upto (moment period.end c.not_after.result c.moment_of-2.result two c.moment_of-2.ensures.since c.moment_of-2.ensures.date c.moment_of-2.ensures.clock);
