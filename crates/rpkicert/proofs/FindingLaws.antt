@@ -9,11 +9,10 @@ use Rattle.rpki.specs.declared.repository.error.ValidationError.{ValidationError
 use Rattle.rpki.specs.declared.repository.error.ValidationError.TheVariants.{Decoding, Inspection, Verification}
 use Rattle.rpki_cert.specs.Cert.{SpellsCert}
 use Rattle.rpki_cert.specs.CertFault.{IsCertFault}
-use Rattle.rpki_cert.specs.Known.{UnlessNoMemory}
+use Rattle.rpki_cert.specs.Known.{UnlessNoMemory, is_memory}
 use Rattle.rpkicert.specs.declared.profile.Profile.{Profile}
 use Rattle.rpkicert.specs.declared.fault.Fault.{Fault}
 use Rattle.rpkicert.specs.declared.fault.Fault.TheVariants.{Unreadable, TooLarge, OutOfMemory, Malformed, Refused, Violated}
-use Rattle.rpkicert.specs.Memory.{is_memory}
 use Rattle.rpkicert.specs.Fault.{refusal}
 use Rattle.rpkicert.specs.Finding.{Finding, IsRefusal, HoldsTo, FindsIn, Finds, IsRead}
 

@@ -1,10 +1,12 @@
 -- Which lemma file answers which question.
 --
 -- Names, what extensions say, findings: NameLaws, SaysLaws, FindingLaws. What words ask for, what is seen of a run:
--- RequestLaws, RunLaws.
+-- RequestLaws, RunLaws. That octets have one text, and inputs one answer: OneTextLaws, OneAnswerLaws.
 
 pub mod NameLaws
 pub mod FindingLaws
 pub mod SaysLaws
 pub mod RunLaws
 pub mod RequestLaws
+pub mod OneTextLaws
+pub mod OneAnswerLaws

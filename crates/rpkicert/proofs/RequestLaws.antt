@@ -2,7 +2,7 @@
 use Rattle.std.proofs.Common.{◌≡◌, ◌↔◌, ℕ, ◌<◌, false, List, [], ◌∷◌, ◌++◌, length, drop, ap, refl, arith}
 use Rattle.std.specs.Prelude.{Option, Some, None, IsSome, option_to_list, option_and_then, option_map, codes}
 use Rattle.clap.specs.Words.{Row, all_of, first_of}
-use Rattle.rpkicert.specs.declared.field.Form.{Form}
+use Rattle.rpkicert.specs.declared.rendering.Form.{Form}
 use Rattle.rpkicert.specs.declared.profile.Profile.{Profile}
 use Rattle.rpkicert.specs.Request.{Asked, asked, is_given, form_of, named_profile, some_files, request_of, files, wanted_in}
 

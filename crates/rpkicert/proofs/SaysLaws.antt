@@ -4,7 +4,7 @@ use Rattle.std.specs.Prelude.{Option, Result, Ok, Err, Vec, IfOk, MatchResult}
 use Rattle.std.specs.Option.{option_map}
 use Rattle.rpki.specs.declared.repository.error.ValidationError.{ValidationError}
 use Rattle.rpki_cert.specs.Known.{UnlessNoMemory}
-use Rattle.rpkicert.specs.Memory.{Shows}
+use Rattle.rpkicert.specs.View.{Shows}
 use Rattle.rpkicert.specs.CertText.{Says}
 use Rattle.rpkicert.proofs.FindingLaws.{unless-memory}
 

@@ -1,6 +1,5 @@
--- What is printed of a certificate.
-use Rattle.std.specs.Prelude.{◌≡◌, ◌⊎◌, ℕ, Bool, true, false, if◌then◌else◌, List, ◌++◌, codes, bytes_eq, Option, Some}
-use Rattle.std.specs.List.{flat_map}
+-- What is shown of a certificate: a list of fields.
+use Rattle.std.specs.Prelude.{◌≡◌, ◌⊎◌, ℕ, Bool, false, true, if◌then◌else◌, List, [], ◌∷◌, ◌++◌, map, codes, bytes_eq, Option, Some}
 use Rattle.std.specs.Option.{option_map}
 use Rattle.sha1.specs.Sha1.{sha1}
 use Rattle.sha2.specs.Sha256.{sha256}
@@ -17,8 +16,7 @@ use Rattle.rpki_cert.specs.Cert.{TbsParts}
 use Rattle.rpki_cert.specs.Known.{subject_key_identifier, key_usage, basic_constraints, crl_distribution_points, certificate_policies, authority_key_identifier, extended_key_usage, authority_info_access, subject_info_access, ip_addr_blocks, ip_addr_blocks_v2, autonomous_sys_ids, autonomous_sys_ids_v2, HasOnly, HasNone}
 use Rattle.rpki_cert.specs.ExtensionContent.{SpellsConstraints, SpellsAuthority, SpellsUsage, SpellsPurposes, SpellsPolicies}
 use Rattle.rpki_cert.specs.Access.{SpellsRsyncAccess, SpellsHttpsAccess, SpellsPoints, HasUri, ca_issuers, ca_repository, rpki_manifest, signed_object, rpki_notify}
-use Rattle.rpkicert.specs.declared.field.Form.{Form}
-use Rattle.rpkicert.specs.Field.{field, field_if}
+use Rattle.rpkicert.specs.Field.{FieldParts, field_parts, field_if}
 use Rattle.rpkicert.specs.ValueText.{hex_digits, colon_digits, IsNumberText, time_text}
 use Rattle.rpkicert.specs.NameText.{IsNameText}
 use Rattle.rpkicert.specs.KeySize.{IsSizeText}
@@ -26,32 +24,34 @@ use Rattle.rpkicert.specs.KeySize.{IsSizeText}
 -- ---- the fields that each certificate has (RFC 5280 4.1)
 
 -- version, serial number, signature algorithm and issuer
-abbrev pub IsHead : Form → TbsParts → List ℕ → Type 0
-IsHead form t text =
+abbrev pub AreHead : TbsParts → List FieldParts → Type 0
+AreHead t fields =
     (serial : List ℕ) × (issuer : List ℕ) × IsNumberText t.serial serial × IsNameText t.issuer issuer
-    × (text ≡ field form (codes "Version") (codes "3") ++ field form (codes "Serial Number") serial
-    ++ field form (codes "Signature Algorithm") (codes "sha256WithRSAEncryption")
-    ++ field form (codes "Issuer") issuer)
+    × (fields ≡ field_parts (codes "Version") (codes "3") ∷ field_parts (codes "Serial Number") serial
+    ∷ field_parts (codes "Signature Algorithm") (codes "sha256WithRSAEncryption")
+    ∷ field_parts (codes "Issuer") issuer ∷ [])
 
 -- the period and the subject
-abbrev pub IsMiddle : Form → TbsParts → List ℕ → Type 0
-IsMiddle form t text =
+abbrev pub AreMiddle : TbsParts → List FieldParts → Type 0
+AreMiddle t fields =
     (subject : List ℕ) × IsNameText t.subject subject
-    × (text ≡ field form (codes "Not Before") (time_text t.validity.not_before)
-    ++ field form (codes "Not After") (time_text t.validity.not_after) ++ field form (codes "Subject") subject)
+    × (fields ≡ field_parts (codes "Not Before") (time_text t.validity.not_before)
+    ∷ field_parts (codes "Not After") (time_text t.validity.not_after)
+    ∷ field_parts (codes "Subject") subject ∷ [])
 
 abbrev pub algorithm_text : PublicKeyFormat → List ℕ
 algorithm_text Rsa = codes "rsaEncryption"
 algorithm_text EcdsaP256 = codes "id-ecPublicKey prime256v1"
 
 -- a key of this size: its algorithm, the size, and the digest by SHA-1 of its bits (RFC 6487 4.8.2)
-abbrev pub key_text : Form → KeyParts → List ℕ → List ℕ
-key_text form k size =
-    field form (codes "Public Key Algorithm") (algorithm_text k.format) ++ field form (codes "Public Key Bits") size
-    ++ field form (codes "Public Key SHA-1") (colon_digits (sha1 k.bits.octets))
+abbrev pub key_fields : KeyParts → List ℕ → List FieldParts
+key_fields k size =
+    field_parts (codes "Public Key Algorithm") (algorithm_text k.format)
+    ∷ field_parts (codes "Public Key Bits") size
+    ∷ field_parts (codes "Public Key SHA-1") (colon_digits (sha1 k.bits.octets)) ∷ []
 
-abbrev pub IsKeyText : Form → KeyParts → List ℕ → Type 0
-IsKeyText form k text = (size : List ℕ) × IsSizeText k size × (text ≡ key_text form k size)
+abbrev pub AreKey : KeyParts → List FieldParts → Type 0
+AreKey k fields = (size : List ℕ) × IsSizeText k size × (fields ≡ key_fields k size)
 
 -- ---- what the extensions say (RFC 6487 4.8)
 
@@ -101,46 +101,46 @@ abbrev pub IsPolicyText : List ExtensionParts → Option (List ℕ) → Type 0
 IsPolicyText = SaysOnly certificate_policies true SpellsPolicies policy_text
 
 -- the identifiers of the keys of the subject and of the issuer
-abbrev pub AreIdentifiers : Form → List ExtensionParts → List ℕ → Type 0
-AreIdentifiers form xs text =
+abbrev pub AreIdentifiers : List ExtensionParts → List FieldParts → Type 0
+AreIdentifiers xs fields =
     (subject : Option (List ℕ)) × (authority : Option (List ℕ))
     × IsSubjectText xs subject × IsAuthorityText xs authority
-    × (text ≡ field_if form (codes "Subject Key Identifier") subject
-    ++ field_if form (codes "Authority Key Identifier") authority)
+    × (fields ≡ field_if (codes "Subject Key Identifier") subject
+    ++ field_if (codes "Authority Key Identifier") authority)
 
 -- what the key is for
-abbrev pub AreUses : Form → List ExtensionParts → List ℕ → Type 0
-AreUses form xs text =
+abbrev pub AreUses : List ExtensionParts → List FieldParts → Type 0
+AreUses xs fields =
     (constraints : Option (List ℕ)) × (usage : Option (List ℕ)) × (purposes : Option (List ℕ))
     × (policies : Option (List ℕ))
     × IsConstraintsText xs constraints × IsUsageText xs usage × IsPurposesText xs purposes
     × IsPolicyText xs policies
-    × (text ≡ field_if form (codes "Basic Constraints") constraints ++ field_if form (codes "Key Usage") usage
-    ++ field_if form (codes "Extended Key Usage") purposes ++ field_if form (codes "Certificate Policies") policies)
+    × (fields ≡ field_if (codes "Basic Constraints") constraints ++ field_if (codes "Key Usage") usage
+    ++ field_if (codes "Extended Key Usage") purposes ++ field_if (codes "Certificate Policies") policies)
 
 -- a URI as it is
 abbrev pub SaysUri : List ℕ → (Option (List ℕ) → List ℕ → Type 0) → List ExtensionParts → Option (List ℕ) → Type 0
 SaysUri id G xs o = Says (HasUri id G xs) (HasNone id false G xs) (λ uri. uri) o
 
 -- where the revocation list and the issuer's certificate are
-abbrev pub AreIssuerPlaces : Form → List ExtensionParts → List ℕ → Type 0
-AreIssuerPlaces form xs text =
+abbrev pub AreIssuerPlaces : List ExtensionParts → List FieldParts → Type 0
+AreIssuerPlaces xs fields =
     (revocation : Option (List ℕ)) × (issuer : Option (List ℕ))
     × SaysUri crl_distribution_points SpellsPoints xs revocation
     × SaysUri authority_info_access (SpellsRsyncAccess ca_issuers) xs issuer
-    × (text ≡ field_if form (codes "CRL Distribution Points") revocation ++ field_if form (codes "CA Issuers") issuer)
+    × (fields ≡ field_if (codes "CRL Distribution Points") revocation ++ field_if (codes "CA Issuers") issuer)
 
 -- where the subject publishes
-abbrev pub AreSubjectPlaces : Form → List ExtensionParts → List ℕ → Type 0
-AreSubjectPlaces form xs text =
+abbrev pub AreSubjectPlaces : List ExtensionParts → List FieldParts → Type 0
+AreSubjectPlaces xs fields =
     (repository : Option (List ℕ)) × (manifest : Option (List ℕ)) × (object : Option (List ℕ))
     × (notify : Option (List ℕ))
     × SaysUri subject_info_access (SpellsRsyncAccess ca_repository) xs repository
     × SaysUri subject_info_access (SpellsRsyncAccess rpki_manifest) xs manifest
     × SaysUri subject_info_access (SpellsRsyncAccess signed_object) xs object
     × SaysUri subject_info_access (SpellsHttpsAccess rpki_notify) xs notify
-    × (text ≡ field_if form (codes "CA Repository") repository ++ field_if form (codes "RPKI Manifest") manifest
-    ++ field_if form (codes "Signed Object") object ++ field_if form (codes "RPKI Notify") notify)
+    × (fields ≡ field_if (codes "CA Repository") repository ++ field_if (codes "RPKI Manifest") manifest
+    ++ field_if (codes "Signed Object") object ++ field_if (codes "RPKI Notify") notify)
 
 -- ---- the list of extensions
 
@@ -171,29 +171,30 @@ extension_name id =
 abbrev pub critical_text : Bool → List ℕ
 critical_text critical = if critical then codes "critical" else codes "not critical"
 
-abbrev pub extension_text : Form → ExtensionParts → List ℕ
-extension_text form x = field form (codes "Extension " ++ extension_name x.identifier) (critical_text x.critical)
+abbrev pub extension_field : ExtensionParts → FieldParts
+extension_field x = field_parts (codes "Extension " ++ extension_name x.identifier) (critical_text x.critical)
 
 -- ---- all of it
 
-abbrev pub fingerprint_text : Form → List ℕ → List ℕ
-fingerprint_text form octets = field form (codes "SHA-256 Fingerprint") (colon_digits (sha256 octets))
+-- the digest of the octets by SHA-256
+abbrev pub fingerprint_text : List ℕ → List ℕ
+fingerprint_text octets = colon_digits (sha256 octets)
 
--- the fields of the certificate that these octets are, in order; the last is the digest of the octets by SHA-256
-pub record AreFields (form : Form) (octets : List ℕ) (t : TbsParts) (text : List ℕ) : Type 0 where
-  pub head : List ℕ
-  pub middle : List ℕ
-  pub key : List ℕ
-  pub identifiers : List ℕ
-  pub uses : List ℕ
-  pub issuer : List ℕ
-  pub subject : List ℕ
-  pub is_head : IsHead form t head
-  pub is_middle : IsMiddle form t middle
-  pub is_key : IsKeyText form t.key key
-  pub are_identifiers : AreIdentifiers form t.extensions identifiers
-  pub are_uses : AreUses form t.extensions uses
-  pub are_issuer : AreIssuerPlaces form t.extensions issuer
-  pub are_subject : AreSubjectPlaces form t.extensions subject
-  pub fields : text ≡ head ++ middle ++ key ++ identifiers ++ uses ++ issuer ++ subject
-      ++ flat_map (extension_text form) t.extensions ++ fingerprint_text form octets
+-- the fields of the certificate that these octets are, in order
+pub record AreFields (octets : List ℕ) (t : TbsParts) (fields : List FieldParts) : Type 0 where
+  pub head : List FieldParts
+  pub middle : List FieldParts
+  pub key : List FieldParts
+  pub identifiers : List FieldParts
+  pub uses : List FieldParts
+  pub issuer : List FieldParts
+  pub subject : List FieldParts
+  pub are_head : AreHead t head
+  pub are_middle : AreMiddle t middle
+  pub are_key : AreKey t.key key
+  pub are_identifiers : AreIdentifiers t.extensions identifiers
+  pub are_uses : AreUses t.extensions uses
+  pub are_issuer : AreIssuerPlaces t.extensions issuer
+  pub are_subject : AreSubjectPlaces t.extensions subject
+  pub parts : fields ≡ head ++ middle ++ key ++ identifiers ++ uses ++ issuer ++ subject
+      ++ map extension_field t.extensions ++ field_parts (codes "SHA-256 Fingerprint") (fingerprint_text octets) ∷ []

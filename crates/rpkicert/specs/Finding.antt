@@ -68,6 +68,11 @@ Finds profile (Some input) finding =
     ((length input ≤ most_octets) × FindsIn profile input finding)
     ⊎ ((most_octets < length input) × (finding ≡ Err TooLarge)) ⊎ (finding ≡ Err OutOfMemory)
 
+-- where this certificate is found, nothing else is, unless allocation fails
+abbrev pub IsFoundAlone : Option Profile → Option (List ℕ) → List ℕ × CertParts → Type 0
+IsFoundAlone profile source found =
+    Finds profile source (Ok found) → (f : Finding) → Finds profile source f → (f ≡ Ok found) ⊎ (f ≡ Err OutOfMemory)
+
 -- What reading a file gives: all of its octets, which are few enough; or why not.
 abbrev pub IsRead : Option (List ℕ) → Result (List ℕ) Fault → Type 0
 IsRead (Some octets) (Ok read) = (read ≡ octets) × (length octets ≤ most_octets)

@@ -1,10 +1,11 @@
 -- Definitions: what the contracts say. They are trusted, and read against the standards.
-pub mod Field
+pub mod AtMostOne
 pub mod ValueText
 pub mod NameText
 pub mod KeySize
+pub mod Field
 pub mod CertText
-pub mod Memory
+pub mod Rendering
 pub mod Pem
 pub mod Fault
 pub mod Finding

@@ -5,8 +5,7 @@ use Rattle.std.specs.List.{flat_map}
 use Rattle.rpki_der.specs.Front.{front_contents}
 use Rattle.rpki_der.specs.Reading.{Spells}
 use Rattle.rpki.specs.Name.{Attribute, SpellsSome, SpellsRelative, SpellsName}
-use Rattle.rpkicert.specs.Field.{hex_pair}
-use Rattle.rpkicert.specs.ValueText.{hex_digits}
+use Rattle.rpkicert.specs.ValueText.{hex_pair, hex_digits}
 
 -- the name of an attribute's identifier, by the contents octets of that: 2.5.4.3, 2.5.4.5, 2.5.4.6, 2.5.4.10 and
 -- 2.5.4.11 (RFC 4514 3, RFC 5280 A.1); of another its octets

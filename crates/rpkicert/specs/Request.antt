@@ -4,8 +4,8 @@ use Rattle.clap.specs.Words.{App, Row, Rule, all_of, fault_of, first_of, matches
 use Rattle.clap.specs.Simple.{on_top}
 use Rattle.clap.specs.Walk.{is_empty}
 use Rattle.clap.specs.declared.builder.action.ArgAction.TheVariants.{Append, SetTrue}
-use Rattle.rpkicert.specs.declared.field.Form.{Form}
-use Rattle.rpkicert.specs.declared.field.Form.TheVariants.{Text, Json}
+use Rattle.rpkicert.specs.declared.rendering.Form.{Form}
+use Rattle.rpkicert.specs.declared.rendering.Form.TheVariants.{Text, Json}
 use Rattle.rpkicert.specs.declared.profile.Profile.{Profile}
 use Rattle.rpkicert.specs.declared.profile.Profile.TheVariants.{Ta, Ca, Ee, Router}
 

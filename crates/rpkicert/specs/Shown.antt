@@ -1,12 +1,16 @@
 -- What is shown of a file, and of a run.
-use Rattle.std.specs.Prelude.{◌≡◌, ◌⊎◌, ℕ, nat_lt, nat_eq, ◌||◌, max, if◌then◌else◌, List, [], ◌∷◌, ◌++◌, codes, Option, Some, None, Result, Ok, Err, IfSome}
+use Rattle.std.specs.Prelude.{◌≡◌, ◌⊎◌, ℕ, nat_lt, nat_eq, ◌||◌, max, if◌then◌else◌, List, [], ◌∷◌, ◌++◌, codes, Option, Some, None, Result, Ok, Err, IsSome, IfSome, All}
 use Rattle.std.specs.Io.KnownBytes.{Appends}
 use Rattle.std.specs.List.{flat_map}
 use Rattle.rpki_der.specs.Written.{AppendsBeginning, AppendsCut}
-use Rattle.rpkicert.specs.declared.field.Form.{Form}
-use Rattle.rpkicert.specs.declared.field.Form.TheVariants.{Text, Json}
+use Rattle.rpki_cert.specs.Cert.{TbsParts}
+use Rattle.rpkicert.specs.declared.rendering.Form.{Form}
+use Rattle.rpkicert.specs.declared.rendering.Form.TheVariants.{Text, Json}
 use Rattle.rpkicert.specs.declared.profile.Profile.{Profile}
-use Rattle.rpkicert.specs.Field.{hex_pair, json_text, field}
+use Rattle.rpkicert.specs.declared.fault.Fault.TheVariants.{OutOfMemory}
+use Rattle.rpkicert.specs.ValueText.{hex_pair}
+use Rattle.rpkicert.specs.Field.{FieldParts, field_parts}
+use Rattle.rpkicert.specs.Rendering.{rendering}
 use Rattle.rpkicert.specs.CertText.{AreFields}
 use Rattle.rpkicert.specs.Fault.{fault_text, status_of}
 use Rattle.rpkicert.specs.Finding.{Finding, Finds}
@@ -28,10 +32,16 @@ visible name = flat_map name_octet name
 abbrev pub line : List ℕ → List ℕ → List ℕ
 line name text = visible name ++ codes ": " ++ text ++ 10 ∷ []
 
--- the fields of a certificate, after the name of its file: lines, or an object on a line
-abbrev pub whole : Form → List ℕ → List ℕ → List ℕ
-whole Text name fields = field Text (codes "File") (visible name) ++ fields
-whole Json name fields = codes "{\"File\":" ++ json_text name ++ fields ++ codes "}\n"
+-- the name of a certificate's file: on a line as above, in JSON as it is
+abbrev pub file_text : Form → List ℕ → List ℕ
+file_text Text name = visible name
+file_text Json name = name
+
+-- the text of the certificate that these octets are: its file, and then its fields, in one form or the other
+abbrev pub IsTextOf : Form → List ℕ → List ℕ → TbsParts → List ℕ → Type 0
+IsTextOf form name octets t text =
+    (fields : List FieldParts) × AreFields octets t fields
+    × (text ≡ rendering form (field_parts (codes "File") (file_text form name) ∷ fields))
 
 -- what goes to the output, what goes to the faults, and the status
 pub record ShownParts : Type 0 where
@@ -47,7 +57,7 @@ abbrev pub IsShown : Option Form → List ℕ → Finding → ShownParts → Typ
 IsShown None name (Ok found) s = s ≡ shown_parts (line name (codes "OK")) [] 0
 IsShown None name (Err fault) s = s ≡ shown_parts (line name (fault_text fault)) [] (status_of fault)
 IsShown (Some form) name (Ok found) s =
-    (fields : List ℕ) × AreFields form found.0 found.1.tbs fields × (s ≡ shown_parts (whole form name fields) [] 0)
+    (text : List ℕ) × IsTextOf form name found.0 found.1.tbs text × (s ≡ shown_parts text [] 0)
 IsShown (Some form) name (Err fault) s =
     s ≡ shown_parts [] (codes "rpkicert: " ++ line name (fault_text fault)) (status_of fault)
 
@@ -56,6 +66,16 @@ abbrev pub IsSeen : Option Form → Option Profile → List ℕ → Option (List
 IsSeen form profile name source s =
     ((finding : Finding) × Finds profile source finding × IsShown form name finding s)
     ⊎ (s ≡ shown_parts [] memory_text 2)
+
+-- there was no memory to find what is shown, or to show it
+abbrev pub LacksMemory : Option Form → List ℕ → ShownParts → Type 0
+LacksMemory form name s = IsShown form name (Err OutOfMemory) s ⊎ (s ≡ shown_parts [] memory_text 2)
+
+-- where something is seen with the status 0, nothing else is, unless memory is lacking
+abbrev pub HasOneGoodAnswer : Option Form → Option Profile → List ℕ → Option (List ℕ) → Type 0
+HasOneGoodAnswer form profile name source =
+    (s t : ShownParts) → IsSeen form profile name source s → s.status ≡ 0 → IsSeen form profile name source t
+    → (t ≡ s) ⊎ LacksMemory form name t
 
 -- ---- a run
 
@@ -105,3 +125,18 @@ Sees holds a name s = IfSome (holds name) (λ source. IsSeen a.form a.profile na
 -- the run of what is asked for
 abbrev pub IsRunOf : (List ℕ → Option (Option (List ℕ))) → (old new was is : Option (List ℕ)) → ℕ → Asked → Type 0
 IsRunOf holds old new was is status a = IsRun (Sees holds a) a.files old new was is status
+
+-- what there is by each of these names is known
+abbrev pub AreKnown : (List ℕ → Option (Option (List ℕ))) → List (List ℕ) → Type 0
+AreKnown holds names = All (λ name. IsSome (holds name)) names
+
+-- each run of what is asked for that ends with the status 0 writes these texts, to the output and to the faults
+abbrev pub EndsWellWith : (List ℕ → Option (Option (List ℕ))) → Asked → (output said : List ℕ) → Type 0
+EndsWellWith holds a output said =
+    (old new was is : Option (List ℕ)) → IsRunOf holds old new was is 0 a → Appends old new output × Appends was is said
+
+-- where one run of it ends so, each that does writes the same
+abbrev pub RunsAlike : (List ℕ → Option (Option (List ℕ))) → Asked → Type 0
+RunsAlike holds a =
+    (old new was is : Option (List ℕ)) → IsRunOf holds old new was is 0 a
+    → (output : List ℕ) × (said : List ℕ) × EndsWellWith holds a output said

@@ -4,8 +4,12 @@ use Rattle.std.specs.List.{flat_map}
 use Rattle.jiff.specs.Types.{DateTime}
 use Rattle.rpki_der.specs.Number.{number_of}
 use Rattle.rpki_der.specs.Integer.{IsMagnitude}
+use Rattle.rpki_text.specs.HexText.{hex_digit}
 use Rattle.rpki_time.specs.TimeText.{two_digits, year_number}
-use Rattle.rpkicert.specs.Field.{hex_pair}
+
+-- two hexadecimal digits in upper case, the high one first
+abbrev pub hex_pair : ℕ → List ℕ
+hex_pair octet = hex_digit (octet / 16) ∷ hex_digit (octet % 16) ∷ []
 
 -- the digits of octets, one after another
 abbrev pub hex_digits : List ℕ → List ℕ

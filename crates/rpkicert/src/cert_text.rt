@@ -1,11 +1,10 @@
-//! What is printed of a certificate.
+//! What is shown of a certificate: a list of fields.
 
-ghost use Rattle.std.specs.Prelude.{◌≡◌, ◌++◌, OnOk, IfOk};
-ghost use Rattle.std.specs.List.{flat_map};
-ghost use Rattle.rpkicert.specs.CertText.{algorithm_text, IsHead, IsMiddle, key_text, IsKeyText, extension_name, private_name, critical_text, extension_text, fingerprint_text, AreFields};
+ghost use Rattle.std.specs.Prelude.{◌≡◌, ◌++◌, ◌∷◌, [], map, OnOk, IfOk};
+ghost use Rattle.rpkicert.specs.CertText.{algorithm_text, AreHead, AreMiddle, key_fields, AreKey, extension_name, private_name, critical_text, extension_field, fingerprint_text, AreFields};
 
 use crate::extension_text::{identifiers, uses};
-use crate::field::{Form, push_field};
+use crate::field::{Field, push_field};
 use crate::key_size::size_text;
 use crate::name::{name_text, push_digits};
 use crate::place_text::{issuer_places, subject_places};
@@ -20,45 +19,38 @@ use sha2::{Digest, Sha256};
 use std::alloc::{AllocError, Global};
 
 /// Version, serial number, signature algorithm and issuer.
-fn head(alloc: Global, form: Form, tbs: &TbsCert) -> Result<Vec<u8>, AllocError>
-    ensures { IfOk result (λ text. IsHead form tbs.now text.items) }
+fn head(alloc: Global, tbs: &TbsCert) -> Result<Vec<Field>, AllocError>
+    ensures { IfOk result (λ fields. AreHead tbs.now fields.items) }
 {
     let serial = serial_text(alloc, tbs.serial_number())?;
     let issuer = name_text(alloc, tbs.issuer())?;
-    let mut text = Vec::new(alloc);
-    push_field(&mut text, form, b"Version", b"3")?;
-    push_field(&mut text, form, b"Serial Number", serial.as_slice())?;
+    let mut fields = Vec::new(alloc);
+    push_field(&mut fields, b"Version", b"3")?;
+    push_field(&mut fields, b"Serial Number", serial.as_slice())?;
     push_field(
-        &mut text,
-        form,
+        &mut fields,
         b"Signature Algorithm",
         b"sha256WithRSAEncryption",
     )?;
-    push_field(&mut text, form, b"Issuer", issuer.as_slice())?;
-    Ok(text)
+    push_field(&mut fields, b"Issuer", issuer.as_slice())?;
+    Ok(fields)
 }
 
 /// The period and the subject.
-fn middle(alloc: Global, form: Form, tbs: &TbsCert) -> Result<Vec<u8>, AllocError>
-    ensures { IfOk result (λ text. IsMiddle form tbs.now text.items) }
+fn middle(alloc: Global, tbs: &TbsCert) -> Result<Vec<Field>, AllocError>
+    ensures { IfOk result (λ fields. AreMiddle tbs.now fields.items) }
 {
     let subject = name_text(alloc, tbs.subject())?;
     let validity = tbs.validity();
-    let mut text = Vec::new(alloc);
+    let mut fields = Vec::new(alloc);
     push_field(
-        &mut text,
-        form,
+        &mut fields,
         b"Not Before",
         &time_text(validity.not_before()),
     )?;
-    push_field(
-        &mut text,
-        form,
-        b"Not After",
-        &time_text(validity.not_after()),
-    )?;
-    push_field(&mut text, form, b"Subject", subject.as_slice())?;
-    Ok(text)
+    push_field(&mut fields, b"Not After", &time_text(validity.not_after()))?;
+    push_field(&mut fields, b"Subject", subject.as_slice())?;
+    Ok(fields)
 }
 
 /// The name of a format of keys.
@@ -72,34 +64,28 @@ fn algorithm_text(format: PublicKeyFormat) -> &'static [u8]
 }
 
 /// The fields of a key of this size.
-fn key_fields(
-    alloc: Global,
-    form: Form,
-    key: &PublicKey,
-    size: &[u8],
-) -> Result<Vec<u8>, AllocError>
-    ensures { IfOk result (λ text. text.items ≡ key_text form key.now size.now) }
+fn key_fields(alloc: Global, key: &PublicKey, size: &[u8]) -> Result<Vec<Field>, AllocError>
+    ensures { IfOk result (λ fields. fields.items ≡ key_fields key.now size.now) }
 {
     let identifier = colon_digits(alloc, &Sha1::digest(key.bits()))?;
-    let mut text = Vec::new(alloc);
+    let mut fields = Vec::new(alloc);
     push_field(
-        &mut text,
-        form,
+        &mut fields,
         b"Public Key Algorithm",
         algorithm_text(key.algorithm()),
     )?;
-    push_field(&mut text, form, b"Public Key Bits", size)?;
-    push_field(&mut text, form, b"Public Key SHA-1", identifier.as_slice())?;
-    Ok(text)
+    push_field(&mut fields, b"Public Key Bits", size)?;
+    push_field(&mut fields, b"Public Key SHA-1", identifier.as_slice())?;
+    Ok(fields)
 }
 
 /// The key.
-fn key(alloc: Global, form: Form, tbs: &TbsCert) -> Result<Vec<u8>, AllocError>
-    ensures { IfOk result (λ text. IsKeyText form tbs.now.key text.items) }
+fn key(alloc: Global, tbs: &TbsCert) -> Result<Vec<Field>, AllocError>
+    ensures { IfOk result (λ fields. AreKey tbs.now.key fields.items) }
 {
     let key = tbs.subject_public_key_info();
     let size = size_text(alloc, key)?;
-    key_fields(alloc, form, key, size.as_slice())
+    key_fields(alloc, key, size.as_slice())
 }
 
 /// Adds the name of an extension of RFC 5280 4.2.1; of another what [push_private_name] adds.
@@ -161,71 +147,60 @@ fn critical_text(critical: bool) -> &'static [u8]
 /// Adds the field of an extension.
 fn push_extension(
     alloc: Global,
-    text: &mut Vec<u8>,
-    form: Form,
+    fields: &mut Vec<Field>,
     extension: &CertExtension,
 ) -> Result<(), AllocError>
-    ensures { OnOk result (text.new.items ≡ text.old.items ++ extension_text form extension.now) }
+    ensures { OnOk result (fields.new.items ≡ fields.old.items ++ extension_field extension.now ∷ []) }
 {
     let mut label = Vec::from_slice(alloc, b"Extension ")?;
     push_name(&mut label, extension.id())?;
     push_field(
-        text,
-        form,
+        fields,
         label.as_slice(),
         critical_text(extension.critical()),
     )
 }
 
 /// A field for each extension.
-fn extensions(alloc: Global, form: Form, all: &[CertExtension]) -> Result<Vec<u8>, AllocError>
-    ensures { IfOk result (λ text. text.items ≡ flat_map (extension_text form) all.now) }
+fn extensions(alloc: Global, all: &[CertExtension]) -> Result<Vec<Field>, AllocError>
+    ensures { IfOk result (λ fields. fields.items ≡ map extension_field all.now) }
 {
-    let mut text = Vec::new(alloc);
+    let mut fields = Vec::new(alloc);
     'extensions: for extension in all {
-        push_extension(alloc, &mut text, form, extension)?;
+        push_extension(alloc, &mut fields, extension)?;
     }
-    Ok(text)
+    Ok(fields)
 }
 
-/// The digest of the octets.
-fn fingerprint(alloc: Global, form: Form, octets: &[u8]) -> Result<Vec<u8>, AllocError>
-    ensures { IfOk result (λ text. text.items ≡ fingerprint_text form octets.now) }
+/// The digest of the octets, in digits.
+fn fingerprint(alloc: Global, octets: &[u8]) -> Result<Vec<u8>, AllocError>
+    ensures { IfOk result (λ text. text.items ≡ fingerprint_text octets.now) }
 {
-    let digits = colon_digits(alloc, &Sha256::digest(octets))?;
-    let mut text = Vec::new(alloc);
-    push_field(&mut text, form, b"SHA-256 Fingerprint", digits.as_slice())?;
-    Ok(text)
+    colon_digits(alloc, &Sha256::digest(octets))
 }
 
 /// The fields of the certificate that these octets are.
 ///
 /// Returns `AllocError` if allocation fails.
-pub fn fields(
-    alloc: Global,
-    form: Form,
-    octets: &[u8],
-    tbs: &TbsCert,
-) -> Result<Vec<u8>, AllocError>
-    ensures { IfOk result (λ text. AreFields form octets.now tbs.now text.items) }
+pub fn fields(alloc: Global, octets: &[u8], tbs: &TbsCert) -> Result<Vec<Field>, AllocError>
+    ensures { IfOk result (λ fields. AreFields octets.now tbs.now fields.items) }
 {
-    let head = head(alloc, form, tbs)?;
-    let middle = middle(alloc, form, tbs)?;
-    let key = key(alloc, form, tbs)?;
-    let identifiers = identifiers(alloc, form, tbs)?;
-    let uses = uses(alloc, form, tbs)?;
-    let issuer = issuer_places(alloc, form, tbs)?;
-    let subject = subject_places(alloc, form, tbs)?;
-    let extensions = extensions(alloc, form, tbs.extensions())?;
-    let fingerprint = fingerprint(alloc, form, octets)?;
-    let mut text = head;
-    text.extend_from_slice(middle.as_slice())?;
-    text.extend_from_slice(key.as_slice())?;
-    text.extend_from_slice(identifiers.as_slice())?;
-    text.extend_from_slice(uses.as_slice())?;
-    text.extend_from_slice(issuer.as_slice())?;
-    text.extend_from_slice(subject.as_slice())?;
-    text.extend_from_slice(extensions.as_slice())?;
-    text.extend_from_slice(fingerprint.as_slice())?;
-    Ok(text)
+    let mut fields = head(alloc, tbs)?;
+    let mut middle = middle(alloc, tbs)?;
+    let mut key = key(alloc, tbs)?;
+    let mut identifiers = identifiers(alloc, tbs)?;
+    let mut uses = uses(alloc, tbs)?;
+    let mut issuer = issuer_places(alloc, tbs)?;
+    let mut subject = subject_places(alloc, tbs)?;
+    let mut extensions = extensions(alloc, tbs.extensions())?;
+    let fingerprint = fingerprint(alloc, octets)?;
+    fields.append(&mut middle)?;
+    fields.append(&mut key)?;
+    fields.append(&mut identifiers)?;
+    fields.append(&mut uses)?;
+    fields.append(&mut issuer)?;
+    fields.append(&mut subject)?;
+    fields.append(&mut extensions)?;
+    push_field(&mut fields, b"SHA-256 Fingerprint", fingerprint.as_slice())?;
+    Ok(fields)
 }

@@ -1,10 +1,10 @@
-//! What is printed of extensions: key identifiers, and what the key is for.
+//! What is shown of extensions: key identifiers, and what the key is for.
 
 ghost use Rattle.std.specs.Prelude.{◌≡◌, codes, IfOk, Some};
 ghost use Rattle.std.specs.Option.{option_map};
 ghost use Rattle.rpkicert.specs.CertText.{usage_text, purposes_text, policy_text, IsSubjectText, IsAuthorityText, IsConstraintsText, IsUsageText, IsPurposesText, IsPolicyText, AreIdentifiers, AreUses};
 
-use crate::field::{Form, push_field_if};
+use crate::field::{Field, push_field_if};
 use crate::memory::is_memory;
 use crate::value::colon_digits;
 use rpki_cert::{KeyUsage, Overclaim, TbsCert};
@@ -47,15 +47,15 @@ fn authority_identifier(alloc: Global, tbs: &TbsCert) -> Result<Option<Vec<u8>>,
 }
 
 /// The identifiers of the keys of the subject and of the issuer.
-pub fn identifiers(alloc: Global, form: Form, tbs: &TbsCert) -> Result<Vec<u8>, AllocError>
-    ensures { IfOk result (λ text. AreIdentifiers form tbs.now.extensions text.items) }
+pub fn identifiers(alloc: Global, tbs: &TbsCert) -> Result<Vec<Field>, AllocError>
+    ensures { IfOk result (λ fields. AreIdentifiers tbs.now.extensions fields.items) }
 {
     let subject = subject_identifier(alloc, tbs)?;
     let authority = authority_identifier(alloc, tbs)?;
-    let mut text = Vec::new(alloc);
-    push_field_if(&mut text, form, b"Subject Key Identifier", subject)?;
-    push_field_if(&mut text, form, b"Authority Key Identifier", authority)?;
-    Ok(text)
+    let mut fields = Vec::new(alloc);
+    push_field_if(&mut fields, b"Subject Key Identifier", subject)?;
+    push_field_if(&mut fields, b"Authority Key Identifier", authority)?;
+    Ok(fields)
 }
 
 /// What is shown of the basic constraints.
@@ -147,17 +147,17 @@ fn policies(alloc: Global, tbs: &TbsCert) -> Result<Option<Vec<u8>>, AllocError>
 }
 
 /// What the key is for.
-pub fn uses(alloc: Global, form: Form, tbs: &TbsCert) -> Result<Vec<u8>, AllocError>
-    ensures { IfOk result (λ text. AreUses form tbs.now.extensions text.items) }
+pub fn uses(alloc: Global, tbs: &TbsCert) -> Result<Vec<Field>, AllocError>
+    ensures { IfOk result (λ fields. AreUses tbs.now.extensions fields.items) }
 {
     let constraints = constraints(alloc, tbs)?;
     let usage = usage(alloc, tbs)?;
     let purposes = purposes(alloc, tbs)?;
     let policies = policies(alloc, tbs)?;
-    let mut text = Vec::new(alloc);
-    push_field_if(&mut text, form, b"Basic Constraints", constraints)?;
-    push_field_if(&mut text, form, b"Key Usage", usage)?;
-    push_field_if(&mut text, form, b"Extended Key Usage", purposes)?;
-    push_field_if(&mut text, form, b"Certificate Policies", policies)?;
-    Ok(text)
+    let mut fields = Vec::new(alloc);
+    push_field_if(&mut fields, b"Basic Constraints", constraints)?;
+    push_field_if(&mut fields, b"Key Usage", usage)?;
+    push_field_if(&mut fields, b"Extended Key Usage", purposes)?;
+    push_field_if(&mut fields, b"Certificate Policies", policies)?;
+    Ok(fields)
 }

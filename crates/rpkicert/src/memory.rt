@@ -1,7 +1,7 @@
 //! Allocation failures among errors.
 
 ghost use Rattle.std.specs.Prelude.{◌≡◌};
-ghost use Rattle.rpkicert.specs.Memory.{is_memory};
+ghost use Rattle.rpki_cert.specs.Known.{is_memory};
 
 use rpki::der::DecodeError;
 use rpki::repository::error::ValidationError;

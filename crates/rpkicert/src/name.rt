@@ -9,7 +9,7 @@ ghost use Rattle.rpki.specs.Name.{Attribute, attribute_of, SpellsAttribute, Spel
 ghost use Rattle.rpkicert.specs.NameText.{attribute_name, is_special, name_octet, value_text, plus_attribute, AddsRelative, AreRelatives, IsNameText};
 ghost use Rattle.rpkicert.specs.ValueText.{hex_digits};
 
-use crate::field::hex_pair;
+use crate::value::hex_pair;
 use rpki::der::{Constructed, DecodeError, Tag};
 use rpki::repository::x509::Name;
 use std::alloc::{AllocError, Global};

@@ -1,14 +1,14 @@
-//! What is printed of extensions: where things are.
+//! What is shown of extensions: where things are.
 
 ghost use Rattle.std.specs.Prelude.{IfOk};
 ghost use Rattle.std.specs.Option.{option_map};
 ghost use Rattle.rpki_cert.specs.Known.{crl_distribution_points, authority_info_access, subject_info_access};
 ghost use Rattle.rpki_cert.specs.Access.{SpellsRsyncAccess, SpellsHttpsAccess, SpellsPoints, ca_issuers, ca_repository, rpki_manifest, signed_object, rpki_notify};
 ghost use Rattle.rpkicert.specs.CertText.{SaysUri, AreIssuerPlaces, AreSubjectPlaces};
-ghost use Rattle.rpkicert.specs.Memory.{Shows};
+ghost use Rattle.rpkicert.specs.View.{Shows};
 
 use crate::extension_text::malformed;
-use crate::field::{Form, push_field_if};
+use crate::field::{Field, push_field_if};
 use crate::memory::is_memory;
 use rpki::repository::error::ValidationError;
 use rpki::uri::{Https, Rsync};
@@ -108,29 +108,29 @@ fn notify(alloc: Global, tbs: &TbsCert) -> Result<Option<Vec<u8>>, AllocError>
 }
 
 /// Where the revocation list and the issuer's certificate are.
-pub fn issuer_places(alloc: Global, form: Form, tbs: &TbsCert) -> Result<Vec<u8>, AllocError>
-    ensures { IfOk result (λ text. AreIssuerPlaces form tbs.now.extensions text.items) }
+pub fn issuer_places(alloc: Global, tbs: &TbsCert) -> Result<Vec<Field>, AllocError>
+    ensures { IfOk result (λ fields. AreIssuerPlaces tbs.now.extensions fields.items) }
 {
     let revocation = revocation(alloc, tbs)?;
     let issuer = issuer(alloc, tbs)?;
-    let mut text = Vec::new(alloc);
-    push_field_if(&mut text, form, b"CRL Distribution Points", revocation)?;
-    push_field_if(&mut text, form, b"CA Issuers", issuer)?;
-    Ok(text)
+    let mut fields = Vec::new(alloc);
+    push_field_if(&mut fields, b"CRL Distribution Points", revocation)?;
+    push_field_if(&mut fields, b"CA Issuers", issuer)?;
+    Ok(fields)
 }
 
 /// Where the subject publishes.
-pub fn subject_places(alloc: Global, form: Form, tbs: &TbsCert) -> Result<Vec<u8>, AllocError>
-    ensures { IfOk result (λ text. AreSubjectPlaces form tbs.now.extensions text.items) }
+pub fn subject_places(alloc: Global, tbs: &TbsCert) -> Result<Vec<Field>, AllocError>
+    ensures { IfOk result (λ fields. AreSubjectPlaces tbs.now.extensions fields.items) }
 {
     let repository = repository(alloc, tbs)?;
     let manifest = manifest(alloc, tbs)?;
     let object = object(alloc, tbs)?;
     let notify = notify(alloc, tbs)?;
-    let mut text = Vec::new(alloc);
-    push_field_if(&mut text, form, b"CA Repository", repository)?;
-    push_field_if(&mut text, form, b"RPKI Manifest", manifest)?;
-    push_field_if(&mut text, form, b"Signed Object", object)?;
-    push_field_if(&mut text, form, b"RPKI Notify", notify)?;
-    Ok(text)
+    let mut fields = Vec::new(alloc);
+    push_field_if(&mut fields, b"CA Repository", repository)?;
+    push_field_if(&mut fields, b"RPKI Manifest", manifest)?;
+    push_field_if(&mut fields, b"Signed Object", object)?;
+    push_field_if(&mut fields, b"RPKI Notify", notify)?;
+    Ok(fields)
 }

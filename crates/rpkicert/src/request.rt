@@ -5,8 +5,8 @@ ghost use Rattle.clap.specs.Words.{all_of, app_of, first_of, rule_of};
 ghost use Rattle.rpkicert.specs.Request.{flag, profile_option, files_rule, command_app, matched, is_given, form_of, named_profile, some_files, request_of};
 ghost use Rattle.rpkicert.specs.RequestView.{asked_of, rows_in};
 
-use crate::field::Form;
 use crate::profile::Profile;
+use crate::rendering::Form;
 use clap::error::ErrorKind;
 use clap::{Arg, ArgAction, ArgMatches, Command};
 use std::alloc::{AllocError, Global};

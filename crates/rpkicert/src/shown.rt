@@ -1,14 +1,16 @@
 //! What is shown of a file.
 
 ghost use Rattle.std.specs.Prelude.{◌≡◌, ◌++◌, OnOk, IfOk};
-ghost use Rattle.rpkicert.specs.Shown.{name_octet, visible, line, whole, IsShown};
+ghost use Rattle.rpkicert.specs.Shown.{name_octet, visible, line, file_text, IsTextOf, IsShown};
 ghost use Rattle.rpkicert.specs.FindingView.{finding_of};
 ghost use Rattle.rpkicert.specs.ShownView.{parts_of};
 
 use crate::cert_text::fields;
 use crate::fault::Fault;
-use crate::field::{Form, hex_pair, push_field, push_json};
+use crate::field::push_field;
 use crate::finding::Found;
+use crate::rendering::Form;
+use crate::value::hex_pair;
 use std::alloc::{AllocError, Global};
 
 /// What is shown of a file.
@@ -56,26 +58,31 @@ fn push_line(text: &mut Vec<u8>, name: &str, said: &[u8]) -> Result<(), AllocErr
     Ok(())
 }
 
-/// The fields of a certificate, after the name of its file.
-fn whole(alloc: Global, form: Form, name: &str, fields: &[u8]) -> Result<Vec<u8>, AllocError>
-    ensures { IfOk result (λ text. text.items ≡ whole form name.now fields.now) }
+/// The name of a certificate's file, in this form.
+fn file_text(alloc: Global, form: Form, name: &str) -> Result<Vec<u8>, AllocError>
+    ensures { IfOk result (λ text. text.items ≡ file_text form name.now) }
 {
-    let mut text = Vec::new(alloc);
     match form {
         Form::Text => {
-            let mut visible = Vec::new(alloc);
-            push_visible(&mut visible, name.as_bytes())?;
-            push_field(&mut text, form, b"File", visible.as_slice())?;
-            text.extend_from_slice(fields)?;
+            let mut text = Vec::new(alloc);
+            push_visible(&mut text, name.as_bytes())?;
+            Ok(text)
         }
-        Form::Json => {
-            text.extend_from_slice(b"{\"File\":")?;
-            push_json(&mut text, name.as_bytes())?;
-            text.extend_from_slice(fields)?;
-            text.extend_from_slice(b"}\n")?;
-        }
+        Form::Json => Vec::from_slice(alloc, name.as_bytes()),
     }
-    Ok(text)
+}
+
+/// The text of a certificate, in this form.
+fn text_of(alloc: Global, form: Form, name: &str, found: &Found) -> Result<Vec<u8>, AllocError>
+    ensures { IfOk result (λ text.
+        IsTextOf form name.now found.now.octets.items found.now.cert.tbs text.items) }
+{
+    let file = file_text(alloc, form, name)?;
+    let mut fields = fields(alloc, found.octets.as_slice(), found.cert.tbs())?;
+    let mut all = Vec::new(alloc);
+    push_field(&mut all, b"File", file.as_slice())?;
+    all.append(&mut fields)?;
+    form.render(alloc, all.as_slice())
 }
 
 /// What is shown of a certificate.
@@ -85,8 +92,7 @@ fn good(alloc: Global, form: Option<Form>, name: &str, found: &Found) -> Result<
     let faults = Vec::new(alloc);
     match form {
         Some(form) => {
-            let fields = fields(alloc, form, found.octets.as_slice(), found.cert.tbs())?;
-            let output = whole(alloc, form, name, fields.as_slice())?;
+            let output = text_of(alloc, form, name, found)?;
             Ok(Shown {
                 output,
                 faults,

@@ -1,15 +1,33 @@
 //! Values as texts: octets, numbers and times.
 
-ghost use Rattle.std.specs.Prelude.{◌≡◌, ◌++◌, ◌∷◌, IfOk, OnOk};
+ghost use Rattle.std.specs.Prelude.{◌≡◌, ◌<◌, ◌++◌, ◌∷◌, IfOk, OnOk};
 ghost use Rattle.std.specs.List.{flat_map};
+ghost use Rattle.rpki_text.specs.HexText.{hex_digit};
 ghost use Rattle.rpki_time.specs.TimeText.{two_digits};
-ghost use Rattle.rpkicert.specs.Field.{hex_pair};
-ghost use Rattle.rpkicert.specs.ValueText.{hex_digits, colon_digits, IsNumberText, time_text};
+ghost use Rattle.rpkicert.specs.ValueText.{hex_pair, hex_digits, colon_digits, IsNumberText, time_text};
 
-use crate::field::hex_pair;
 use rpki_der::Unsigned;
 use rpki_time::{Serial, Time};
 use std::alloc::{AllocError, Global};
+
+/// The hexadecimal digit of a number below 16, in upper case.
+fn hex_digit(number: u8) -> u8
+    requires { number < 16 }
+    ensures { result ≡ hex_digit number }
+{
+    if number < 10 {
+        b'0' + number
+    } else {
+        b'A' + (number - 10)
+    }
+}
+
+/// The two hexadecimal digits of an octet, in upper case, the high one first.
+pub fn hex_pair(octet: u8) -> [u8; 2]
+    ensures { result ≡ hex_pair octet }
+{
+    [hex_digit(octet / 16), hex_digit(octet % 16)]
+}
 
 /// Octets as hexadecimal digits in upper case, one octet after another.
 ///

@@ -1,7 +1,6 @@
-use Rattle.std.proofs.Common.{◌≡◌, take}
-use Rattle.std.specs.List.{flat_map}
-use Rattle.rpkicert.specs.CertText.{extension_text}
+use Rattle.std.proofs.Common.{◌≡◌, take, map}
+use Rattle.rpkicert.specs.CertText.{extension_field}
 use Rattle.rpkicert.proofs.cert_text.extensions.Given as goal
 
 abbrev pub invariant-extensions : goal.invariant-extensions
-invariant-extensions l = l.text.items ≡ flat_map (extension_text l.fn.form) (take l.extension-index l.all)
+invariant-extensions l = l.fields.items ≡ map extension_field (take l.extension-index l.all)

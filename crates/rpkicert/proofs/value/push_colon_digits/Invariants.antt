@@ -1,6 +1,6 @@
 use Rattle.std.proofs.Common.{◌≡◌, ◌∷◌, ◌++◌, take}
 use Rattle.std.specs.List.{flat_map}
-use Rattle.rpkicert.specs.Field.{hex_pair}
+use Rattle.rpkicert.specs.ValueText.{hex_pair}
 use Rattle.rpkicert.proofs.value.push_colon_digits.Given as goal
 
 abbrev pub invariant-octets : goal.invariant-octets

@@ -1,0 +1,8 @@
+use Rattle.rpkicert.proofs.OneAnswerLaws.{one-finding, one-seen}
+use Rattle.rpkicert.proofs.laws.one_answer.Goals as goal
+
+pub returns-clause-found : goal.returns-clause-found
+returns-clause-found c = one-finding
+
+pub returns-clause-seen : goal.returns-clause-seen
+returns-clause-seen c = one-seen

@@ -1,0 +1,32 @@
+//! Laws of what is printed: each function does nothing, and its contract is the law.
+
+ghost use Rattle.std.specs.Prelude.{ℕ, List, Option};
+ghost use Rattle.rpki_cert.specs.Cert.{TbsParts, CertParts};
+ghost use Rattle.rpkicert.specs.declared.profile.Profile.{Profile};
+ghost use Rattle.rpkicert.specs.declared.rendering.Form.{Form};
+ghost use Rattle.rpkicert.specs.AtMostOne.{AtMostOne};
+ghost use Rattle.rpkicert.specs.CertText.{AreFields};
+ghost use Rattle.rpkicert.specs.Finding.{IsCertificate, IsFoundAlone};
+ghost use Rattle.rpkicert.specs.Request.{Asked};
+ghost use Rattle.rpkicert.specs.Shown.{IsTextOf, HasOneGoodAnswer, AreKnown, RunsAlike};
+
+/// Octets are one certificate at most. It has one list of fields, and with the name of a file one text in each form.
+pub fn one_text()
+    ensures certificate { (octets : List ℕ) → AtMostOne (IsCertificate octets) }
+    ensures fields { (octets : List ℕ) (t : TbsParts) → AtMostOne (AreFields octets t) }
+    ensures text { (form : Form) (name octets : List ℕ) (t : TbsParts) → AtMostOne (IsTextOf form name octets t) }
+{}
+
+/// Where a certificate is found in a file, nothing else is found; and where it is shown, nothing else is seen; unless
+/// allocation fails.
+pub fn one_answer()
+    ensures found { (profile : Option Profile) (source : Option (List ℕ)) (found : List ℕ × CertParts)
+        → IsFoundAlone profile source found }
+    ensures seen { (form : Option Form) (profile : Option Profile) (name : List ℕ) (source : Option (List ℕ))
+        → HasOneGoodAnswer form profile name source }
+{}
+
+/// Where a run of what is asked for ends with the status 0, each run of it that does writes the same.
+pub fn one_output()
+    ensures { (holds : List ℕ → Option (Option (List ℕ))) (a : Asked) → AreKnown holds a.files → RunsAlike holds a }
+{}
