@@ -20,10 +20,7 @@ fn take_tagged(cons: &mut Constructed<'_>) -> Result<KeyIdentifier, DecodeError>
     ensures { Reads (λ k. k) SpellsTagged IsTaggedFault (left cons.old) (left cons.new) result }
 {
     let mut after = *cons;
-    let octets = match after.take_primitive_if(Tag::new(Class::Context, 0)) {
-        Ok(octets) => octets,
-        Err(e) => return Err(e),
-    };
+    let octets = after.take_primitive_if(Tag::new(Class::Context, 0))?;
     match KeyIdentifier::try_from(octets) {
         Ok(identifier) => {
             *cons = after;

@@ -71,11 +71,11 @@ fn take_some(
         return Err(DecodeError::Content(ContentError::from_static("no extensions")));
     }
     let all = take_each(alloc, contents)?;
-    match are_unique(alloc, all.as_slice()) {
-        Ok(true) => Ok(all),
-        Ok(false) => Err(DecodeError::Content(ContentError::from_static("duplicate extension"))),
-        Err(e) => Err(e),
+    let unique = are_unique(alloc, all.as_slice())?;
+    if !unique {
+        return Err(DecodeError::Content(ContentError::from_static("duplicate extension")));
     }
+    Ok(all)
 }
 
 /// A SEQUENCE of extensions.

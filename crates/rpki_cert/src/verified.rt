@@ -24,13 +24,8 @@ impl Cert {
         ensures { Checks (IsVerified (IsCaProfile strict) (P.rsa_of provider.now) (P.ecdsa_of provider.now)
             (P.sha1_of provider.now) issuer.now at self.now) result }
     {
-        match self.tbs().inspect_ca(strict) {
-            Ok(()) => match self.verify_issued(provider, issuer, at) {
-                Ok(()) => Ok(()),
-                Err(e) => Err(e),
-            },
-            Err(e) => Err(e),
-        }
+        self.tbs().inspect_ca(strict)?;
+        self.verify_issued(provider, issuer, at)
     }
 
     /// As [Cert::verify_ca], of an end entity that signs an object.
@@ -46,13 +41,8 @@ impl Cert {
         ensures { Checks (IsVerified (IsEeProfile strict) (P.rsa_of provider.now) (P.ecdsa_of provider.now)
             (P.sha1_of provider.now) issuer.now at self.now) result }
     {
-        match self.tbs().inspect_ee(strict) {
-            Ok(()) => match self.verify_issued(provider, issuer, at) {
-                Ok(()) => Ok(()),
-                Err(e) => Err(e),
-            },
-            Err(e) => Err(e),
-        }
+        self.tbs().inspect_ee(strict)?;
+        self.verify_issued(provider, issuer, at)
     }
 
     /// As [Cert::verify_ca], of a BGPsec router (RFC 8209 3.1).
@@ -68,12 +58,7 @@ impl Cert {
         ensures { Checks (IsVerifiedRouter strict (P.rsa_of provider.now) (P.ecdsa_of provider.now)
             (P.sha1_of provider.now) issuer.now at self.now) result }
     {
-        match self.tbs().inspect_router(strict) {
-            Ok(()) => match self.verify_issued(provider, issuer, at) {
-                Ok(()) => Ok(()),
-                Err(e) => Err(e),
-            },
-            Err(e) => Err(e),
-        }
+        self.tbs().inspect_router(strict)?;
+        self.verify_issued(provider, issuer, at)
     }
 }

@@ -65,10 +65,8 @@ fn take_opt_revoked(
     if !cons.has_tag(Tag::SEQUENCE) {
         return Ok(None);
     }
-    match cons.in_sequence(|contents| take_each_revoked(alloc, contents)) {
-        Ok(revoked) => Ok(Some(revoked)),
-        Err(e) => Err(e),
-    }
+    let revoked = cons.in_sequence(|contents| take_each_revoked(alloc, contents))?;
+    Ok(Some(revoked))
 }
 
 /// The extensions that these contents are, one after another.

@@ -23,22 +23,17 @@ returns-in_err-all c =
     tried-parts (λ v. v.items) AreExtensions AreExtensionsFault (left c.args.contents.now) _ e _ c.from_residual.ensures
     (UnlessMemory-weaker e (λ none xs k. none xs k.some.each) h.0, NotExtensions some h.1)
 
-pub returns-in-Ok-false : goal.returns-in-Ok-false
-returns-in-Ok-false c =
-    let one = c.in_ok-all.ensures.reads.0 c.in_ok-all.ensures.end in
-    let is = rw c.as_slice.ensures.value at c.in-Ok-false.ensures.answer in
-    let twice = not-true _ (sym is ∙ c.in-Ok-false.field-0-test) in
-    (repeated (left c.args.contents.now) c.in_ok-all.all.items one twice, Repeated c.in_ok-all.all.items one.0 twice c.from_static-in-Ok-false.ensures)
-
-pub returns-in-Ok-true : goal.returns-in-Ok-true
-returns-in-Ok-true c =
+pub returns-in_err-unique : goal.returns-in_err-unique
+returns-in_err-unique c =
     let some = iff_false c.is_empty.ensures c.if-is_empty.false in
     let one = c.in_ok-all.ensures.reads.0 c.in_ok-all.ensures.end in
-    let is = rw c.as_slice.ensures.value at c.in-Ok-true.ensures.answer in
-    (λ end. are-extensions (left c.args.contents.now) c.in_ok-all.all.items some one (sym is ∙ c.in-Ok-true.field-0-test), λ more. absurd (more c.in_ok-all.ensures.end))
+    let e = c.in_err-unique.field-0.0 in
+    tried-parts (λ v. v.items) AreExtensions AreExtensionsFault (left c.args.contents.now) _ e _ c.from_residual-in_err-unique.ensures
+    (no-room (left c.args.contents.now) c.in_ok-all.all.items e some one.0 c.in_err-unique.ensures.refused)
 
-pub returns-in-Err : goal.returns-in-Err
-returns-in-Err c =
-    let some = iff_false c.is_empty.ensures c.if-is_empty.false in
+pub returns-then-not-unique : goal.returns-then-not-unique
+returns-then-not-unique c =
     let one = c.in_ok-all.ensures.reads.0 c.in_ok-all.ensures.end in
-    no-room (left c.args.contents.now) c.in_ok-all.all.items c.in-Err.e some one.0 c.in-Err.ensures.refused
+    let is = rw c.as_slice.ensures.value at c.in_ok-unique.ensures.answer in
+    let twice = not-true _ (sym is ∙ c.if-not-unique.true) in
+    (repeated (left c.args.contents.now) c.in_ok-all.all.items one twice, Repeated c.in_ok-all.all.items one.0 twice c.from_static-then-not-unique.ensures)
