@@ -164,10 +164,20 @@ fn extensions_of(
     CertificateExtensions {
         basic_constraints: extension_at(octets, found, index, oid::CE_BASIC_CONSTRAINTS),
         subject_key_identifier: extension_at(octets, found, index, oid::CE_SUBJECT_KEY_IDENTIFIER),
-        authority_key_identifier: extension_at(octets, found, index, oid::CE_AUTHORITY_KEY_IDENTIFIER),
+        authority_key_identifier: extension_at(
+            octets,
+            found,
+            index,
+            oid::CE_AUTHORITY_KEY_IDENTIFIER,
+        ),
         key_usage: extension_at(octets, found, index, oid::CE_KEY_USAGE),
         extended_key_usage: extension_at(octets, found, index, oid::CE_EXTENDED_KEY_USAGE),
-        crl_distribution_points: extension_at(octets, found, index, oid::CE_CRL_DISTRIBUTION_POINTS),
+        crl_distribution_points: extension_at(
+            octets,
+            found,
+            index,
+            oid::CE_CRL_DISTRIBUTION_POINTS,
+        ),
         authority_info_access: extension_at(octets, found, index, oid::PE_AUTHORITY_INFO_ACCESS),
         subject_info_access: extension_at(octets, found, index, oid::PE_SUBJECT_INFO_ACCESS),
         certificate_policies: extension_at(octets, found, index, oid::CE_CERTIFICATE_POLICIES),

@@ -134,9 +134,9 @@ slot-within id s r n (inr (positive, within, seeks)) = within
 -- s is no extensions
 pub indexing-none : (s r starts : List ℕ) → r ≢ [] → Indexing s r starts → Refuses SpellsExtension r → AreStarts s starts
 indexing-none s r starts some h none id = (
-    slot-within id s r _ (h.slots id),
-    record { same = λ xs each. let (ys, those) = h.rest xs each in absurd (each-none r ys some none those) },
-  )
+  slot-within id s r _ (h.slots id),
+  record { same = λ xs each. let (ys, those) = h.rest xs each in absurd (each-none r ys some none those) },
+)
 
 -- ---- a search from there
 

@@ -303,9 +303,9 @@ headed-there s q o p w x a i j k = (a.spells.parts ∙ ap (λ (y : List ℕ). y 
 
 pub value-all : (s v r : List ℕ) → Accepts SpellsValue s v r → (r ≡ []) ↔ IsValue s
 value-all s v r a = (
-    λ end. let h = (all-read SpellsValue s v r a end).0 in subst IsValue (sym h.same) h.value,
-    λ one. sym (a.only s [] (spelled-whole SpellsValue s s (record { same = refl; value = one }))).1,
-  )
+  λ end. let h = (all-read SpellsValue s v r a end).0 in subst IsValue (sym h.same) h.value,
+  λ one. sym (a.only s [] (spelled-whole SpellsValue s s (record { same = refl; value = one }))).1,
+)
 
 pub value-nowhere : (s : List ℕ) → Refuses SpellsValue s → IsValue s → ⊥
 value-nowhere s none one = none s [] (spelled-whole SpellsValue s s (record { same = refl; value = one }))

@@ -79,6 +79,9 @@ impl<'a> ExtensionIndex<'a> {
         ensures place { IfSome result (λ x. FollowFirst id.entry.0.now self.now x.1) }
     {
         let left = self.starts[last_bits(id.0)];
-        find_in(Constructed::from_slice(&self.list[self.list.len() - left..]), id)
+        find_in(
+            Constructed::from_slice(&self.list[self.list.len() - left..]),
+            id,
+        )
     }
 }

@@ -59,7 +59,9 @@ impl<'a> ExtensionSource<'a> {
     {
         match self {
             ExtensionSource::Kept(all) => are_understood(all),
-            ExtensionSource::Listed(list) => are_understood_in(Constructed::from_slice(list.octets())),
+            ExtensionSource::Listed(list) => are_understood_in(Constructed::from_slice(
+                list.octets(),
+            )),
         }
     }
 }

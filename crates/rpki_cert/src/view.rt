@@ -1,6 +1,6 @@
 //! Certificates, read in place without memory (RFC 5280 4.1).
 
-ghost use Rattle.std.specs.Prelude.{◌<◌, IfOk, IfErr, length};
+ghost use Rattle.std.specs.Prelude.{◌≡◌, ◌<◌, IfOk, IfErr, length};
 ghost use Rattle.rpki_der.specs.Cursor.{left};
 ghost use Rattle.rpki.specs.SignedData.{SpellsSignature};
 ghost use Rattle.rpki_cert.specs.Cert.{CertParts, SpellsCert};
