@@ -66,7 +66,12 @@ fn ca_in(list: &[u8]) -> Result<bool, KnownPart>
     ensures err { IfErr result (λ q. (q ≡ KnownPart.BasicConstraints)
         × OfListed list.now (λ xs. IsKnownWrong xs KnownPart.BasicConstraints)) }
 {
-    let found = find_as(list, oid::CE_BASIC_CONSTRAINTS, true, KnownPart::BasicConstraints)?;
+    let found = find_as(
+        list,
+        oid::CE_BASIC_CONSTRAINTS,
+        true,
+        KnownPart::BasicConstraints,
+    )?;
     match found {
         Some(extension) => match constraints_of(Constructed::from_slice(extension.octets())) {
             Ok(()) => Ok(true),
@@ -83,7 +88,12 @@ fn subject_in(list: &[u8]) -> Result<Option<KeyIdentifier>, KnownPart>
     ensures err { IfErr result (λ q. (q ≡ KnownPart.SubjectKeyIdentifier)
         × OfListed list.now (λ xs. IsKnownWrong xs KnownPart.SubjectKeyIdentifier)) }
 {
-    let found = find_as(list, oid::CE_SUBJECT_KEY_IDENTIFIER, false, KnownPart::SubjectKeyIdentifier)?;
+    let found = find_as(
+        list,
+        oid::CE_SUBJECT_KEY_IDENTIFIER,
+        false,
+        KnownPart::SubjectKeyIdentifier,
+    )?;
     match found {
         Some(extension) => match identifier_of(Constructed::from_slice(extension.octets())) {
             Ok(found) => Ok(Some(found)),
@@ -100,7 +110,12 @@ fn authority_in(list: &[u8]) -> Result<Option<KeyIdentifier>, KnownPart>
     ensures err { IfErr result (λ q. (q ≡ KnownPart.AuthorityKeyIdentifier)
         × OfListed list.now (λ xs. IsKnownWrong xs KnownPart.AuthorityKeyIdentifier)) }
 {
-    let found = find_as(list, oid::CE_AUTHORITY_KEY_IDENTIFIER, false, KnownPart::AuthorityKeyIdentifier)?;
+    let found = find_as(
+        list,
+        oid::CE_AUTHORITY_KEY_IDENTIFIER,
+        false,
+        KnownPart::AuthorityKeyIdentifier,
+    )?;
     match found {
         Some(extension) => match authority_of(Constructed::from_slice(extension.octets())) {
             Ok(found) => Ok(Some(found)),
@@ -132,7 +147,12 @@ fn overclaim_in(list: &[u8]) -> Result<Option<Overclaim>, KnownPart>
     ensures err { IfErr result (λ q. (q ≡ KnownPart.CertificatePolicies)
         × OfListed list.now (λ xs. IsKnownWrong xs KnownPart.CertificatePolicies)) }
 {
-    let found = find_as(list, oid::CE_CERTIFICATE_POLICIES, true, KnownPart::CertificatePolicies)?;
+    let found = find_as(
+        list,
+        oid::CE_CERTIFICATE_POLICIES,
+        true,
+        KnownPart::CertificatePolicies,
+    )?;
     match found {
         Some(extension) => match overclaim_of(Constructed::from_slice(extension.octets())) {
             Ok(found) => Ok(Some(found)),
