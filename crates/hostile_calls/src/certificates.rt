@@ -42,29 +42,24 @@ fn tell_test(report: Report, word: &str, test: Result<(), ValidationError>) -> i
 
 /// Whether it is a certification authority's, as a part.
 fn constraints_part(tbs: &TbsCert) -> Result<Option<bool>, ValidationError> {
-    match tbs.basic_ca() {
-        Ok(ca) => Ok(Some(ca)),
-        Err(e) => Err(e),
-    }
+    Ok(Some(tbs.basic_ca()?))
 }
 
 /// Whether the key usage is that of a certification authority.
 fn usage_part(tbs: &TbsCert) -> Result<Option<bool>, ValidationError> {
-    match tbs.key_usage() {
-        Ok(Some(KeyUsage::Ca)) => Ok(Some(true)),
-        Ok(Some(KeyUsage::Ee)) => Ok(Some(false)),
-        Ok(None) => Ok(None),
-        Err(e) => Err(e),
+    match tbs.key_usage()? {
+        Some(KeyUsage::Ca) => Ok(Some(true)),
+        Some(KeyUsage::Ee) => Ok(Some(false)),
+        None => Ok(None),
     }
 }
 
 /// Whether resources that the issuer has not are trimmed.
 fn overclaim_part(tbs: &TbsCert) -> Result<Option<bool>, ValidationError> {
-    match tbs.overclaim() {
-        Ok(Some(Overclaim::Trim)) => Ok(Some(true)),
-        Ok(Some(Overclaim::Refuse)) => Ok(Some(false)),
-        Ok(None) => Ok(None),
-        Err(e) => Err(e),
+    match tbs.overclaim()? {
+        Some(Overclaim::Trim) => Ok(Some(true)),
+        Some(Overclaim::Refuse) => Ok(Some(false)),
+        None => Ok(None),
     }
 }
 
