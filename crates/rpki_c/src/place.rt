@@ -19,6 +19,7 @@ pub struct Place {
 }
 
 /// Where the contents of the value at the front stand.
+#[inline(always)]
 pub(crate) fn contents_of(octets: &[u8]) -> Place
     ensures { (t : TagName) (f : Bool) (c r : List ℕ) → Spells (SpellsContents t f) octets.now c r
         → ContentsStand octets.now result c r }
