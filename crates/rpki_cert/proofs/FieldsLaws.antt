@@ -1,5 +1,6 @@
 -- The fields of a TBSCertificate that is read in place.
-use Rattle.std.proofs.Common.{◌≡◌, ◌∙◌, ◌-◌, ℕ, Bool, true, false, List, ◌++◌, length, take, refl, ap}
+use Rattle.std.proofs.Common.{◌≡◌, ◌∙◌, ◌-◌, ℕ, Bool, true, false, List, ◌++◌, length, take, Result, Ok, Err, refl, ap}
+use Rattle.std.specs.Prelude.{IfOk, IfErr}
 use Rattle.rpki_der.specs.declared.error.DecodeError.{DecodeError}
 use Rattle.rpki_der.specs.declared.error.DecodeError.TheVariants.{OutOfMemory}
 use Rattle.rpki_der.specs.TagName.{sequence, integer}
@@ -24,7 +25,9 @@ use Rattle.rpki_cert.specs.declared.fields.Named.{Named}
 use Rattle.rpki_cert.specs.declared.fields.TbsView.{TbsView}
 use Rattle.rpki_cert.specs.Cert.{TbsParts, SpellsVersion, SpellsRpkiAlgorithm, AreFields, fields_of, SpellsTbs, version_tag, SpellsTwo}
 use Rattle.rpki_cert.specs.CertFault.{IsVersionFault, IsTwoFault}
-use Rattle.rpki_cert.specs.View.{IsSection, AreExtensionsAt, IsKeyedAt, IsNamedIn, IsTbsIn, AreNamed}
+use Rattle.rpki_cert.specs.declared.cert_part.CertPart.{CertPart}
+use Rattle.rpki_cert.specs.View.{IsSection, AreExtensionsAt, IsKeyedAt, IsNamedIn, IsTbsIn, AreNamed, AreFieldsWrong, IsTbsWrong}
+use Rattle.rpki_cert.specs.View.IsTbsWrong.{InTbs}
 use Rattle.rpki_der.specs.Leaves.{IsOnly}
 use Rattle.rpki_cert.specs.Cert.{two}
 use Rattle.rpki_der.specs.FirstFault.{FirstFault, IsEndFault}
@@ -108,3 +111,14 @@ fields-read s r q m n b v a c number d same k =
 
 pub tbs-read : (s c : List ℕ) (v : TbsView) → SpellsContents sequence true c s → ((t : TbsParts) × (h : AreFields (fields_of t) c) × IsTbsIn t c h v) → (t : TbsParts) × (h : SpellsTbs t s) × IsTbsIn t h.contents h.spelled v
 tbs-read s c v h k = let (t, spelled, there) = k in (t, record { contents = c; value = h; spelled = spelled }, there)
+
+-- the reader of the fields, whose result is handed on
+pub tbs-handed : (s c : List ℕ) (x : Result TbsView CertPart) → SpellsContents sequence true c s
+    → IfOk x (λ v. (t : TbsParts) × (h : AreFields (fields_of t) c) × IsTbsIn t c h v) → IfOk x (λ v. (t : TbsParts) × (h : SpellsTbs t s) × IsTbsIn t h.contents h.spelled v)
+tbs-handed s c (Ok v) h k = tbs-read s c v h k
+tbs-handed s c (Err q) h k = k
+
+pub tbs-handed-wrong : (s c : List ℕ) (x : Result TbsView CertPart) → SpellsContents sequence true c s
+    → IfErr x (λ q. AreFieldsWrong c q) → IfErr x (λ q. IsTbsWrong s q)
+tbs-handed-wrong s c (Ok v) h k = k
+tbs-handed-wrong s c (Err q) h k = InTbs c h k

@@ -6,7 +6,7 @@
 -- Read in place: values, names, access descriptions, lists of extensions, their index, fields, certificates: NestedLaws,
 --   NameViewLaws, ObjectAccessLaws, ListedLaws, ExtensionIndexLaws, FieldsLaws, ViewLaws. That what is signed is one
 --   value: TbsValueLaws. That what is wrong is no certificate: WrongLaws.
---   Values, one after another, of which something is kept: GatherLaws.
+--   Values, one after another, of which something is kept: GatherLaws. What a `?` hands on: TriedLaws.
 
 pub mod SomeLaws
 pub mod ExtensionListLaws
@@ -27,3 +27,4 @@ pub mod TbsValueLaws
 pub mod ViewLaws
 pub mod WrongLaws
 pub mod GatherLaws
+pub mod TriedLaws

@@ -16,10 +16,8 @@ use rpki::uri::RsyncView;
 fn take_uri<'a>(cons: &mut Constructed<'a>) -> Result<Option<&'a [u8]>, DecodeError>
     ensures { Gives option_copied SpellsUri (left cons.old) (left cons.new) result }
 {
-    match cons.take_primitive_if(Tag::CTX_6) {
-        Ok(text) => Ok(Some(text)),
-        Err(e) => Err(e),
-    }
+    let text = cons.take_primitive_if(Tag::CTX_6)?;
+    Ok(Some(text))
 }
 
 /// The text of a general name, if that is a URI.
@@ -50,18 +48,10 @@ fn access_in<'a>(
     ensures { GivesAll option_copied (IsAccess method.entry.0.now) (left contents.entry) result }
 {
     let mut rest = contents;
-    let same = match take_oid_as(&mut rest, method) {
-        Ok(same) => same,
-        Err(e) => return Err(e),
-    };
-    let name = match take_name(&mut rest) {
-        Ok(name) => name,
-        Err(e) => return Err(e),
-    };
-    match rest.finish() {
-        Ok(()) => Ok(choose(same, name)),
-        Err(e) => Err(e),
-    }
+    let same = take_oid_as(&mut rest, method)?;
+    let name = take_name(&mut rest)?;
+    rest.finish()?;
+    Ok(choose(same, name))
 }
 
 /// An access description: the text of its URI, if it is of this method.
@@ -71,10 +61,8 @@ fn take_access<'a>(
 ) -> Result<Option<&'a [u8]>, DecodeError>
     ensures { Gives option_copied (SpellsAccess method.entry.0.now) (left cons.old) (left cons.new) result }
 {
-    match cons.take_sequence() {
-        Ok(contents) => access_in(contents, method),
-        Err(e) => Err(e),
-    }
+    let contents = cons.take_sequence()?;
+    access_in(contents, method)
 }
 
 /// The text, if it is an rsync URI.
@@ -103,10 +91,8 @@ fn accesses_in<'a>(
     let mut rest = contents;
     let mut found = None;
     'accesses: while !rest.is_empty() {
-        match take_access(&mut rest, method) {
-            Ok(name) => found = found.or(rsync_in(name)),
-            Err(e) => return Err(e),
-        }
+        let name = take_access(&mut rest, method)?;
+        found = found.or(rsync_in(name));
     }
     Ok(found)
 }
@@ -121,10 +107,8 @@ fn uris_in<'a>(contents: Constructed<'a>) -> Result<Option<&'a [u8]>, DecodeErro
     let mut rest = contents;
     let mut found = None;
     'uris: while !rest.is_empty() {
-        match take_uri(&mut rest) {
-            Ok(name) => found = found.or(rsync_in(name)),
-            Err(e) => return Err(e),
-        }
+        let name = take_uri(&mut rest)?;
+        found = found.or(rsync_in(name));
     }
     Ok(found)
 }
@@ -137,10 +121,8 @@ pub fn read_accesses<'a>(
 ) -> Result<Option<&'a [u8]>, DecodeError>
     ensures { GivesAll option_copied (SpellsRsyncAccess method.entry.0.now) (left octets.entry) result }
 {
-    match inside(octets, Tag::SEQUENCE) {
-        Ok(contents) => accesses_in(contents, method),
-        Err(e) => Err(e),
-    }
+    let contents = inside(octets, Tag::SEQUENCE)?;
+    accesses_in(contents, method)
 }
 
 /// The name of a distribution point, in these contents of the point.
@@ -148,14 +130,9 @@ fn point_name<'a>(point: Constructed<'a>) -> Result<Option<&'a [u8]>, DecodeErro
     ensures { GivesAll option_copied SpellsPointName (left point.entry) result }
 {
     let tag = Tag::new(Class::Context, 0);
-    let name = match inside(point, tag) {
-        Ok(name) => name,
-        Err(e) => return Err(e),
-    };
-    match inside(name, tag) {
-        Ok(contents) => uris_in(contents),
-        Err(e) => Err(e),
-    }
+    let name = inside(point, tag)?;
+    let contents = inside(name, tag)?;
+    uris_in(contents)
 }
 
 /// CRL distribution points, as [take_points](crate::access::take_points) reads them, and nothing else. Allocates
@@ -163,12 +140,7 @@ fn point_name<'a>(point: Constructed<'a>) -> Result<Option<&'a [u8]>, DecodeErro
 pub fn read_points<'a>(octets: Constructed<'a>) -> Result<Option<&'a [u8]>, DecodeError>
     ensures { GivesAll option_copied SpellsPoints (left octets.entry) result }
 {
-    let points = match inside(octets, Tag::SEQUENCE) {
-        Ok(points) => points,
-        Err(e) => return Err(e),
-    };
-    match inside(points, Tag::SEQUENCE) {
-        Ok(point) => point_name(point),
-        Err(e) => Err(e),
-    }
+    let points = inside(octets, Tag::SEQUENCE)?;
+    let point = inside(points, Tag::SEQUENCE)?;
+    point_name(point)
 }

@@ -214,10 +214,10 @@ fn inspect_authority(found: Option<ExtensionView<'_>>) -> Result<(), ValidationE
 fn inspect_policy(found: Option<ExtensionView<'_>>) -> Result<(), ValidationError>
     ensures { Checks (SaysSome true SpellsPolicies found.entry) result }
 {
-    match overclaim_in(found) {
-        Ok(Some(_)) => Ok(()),
-        Ok(None) => Err(rejected(CertRule::CertificatePolicies)),
-        Err(e) => Err(e),
+    let said = overclaim_in(found)?;
+    match said {
+        Some(_) => Ok(()),
+        None => Err(rejected(CertRule::CertificatePolicies)),
     }
 }
 
@@ -225,11 +225,11 @@ fn inspect_policy(found: Option<ExtensionView<'_>>) -> Result<(), ValidationErro
 fn inspect_constraints(found: Option<ExtensionView<'_>>) -> Result<(), ValidationError>
     ensures { Checks (Says true SpellsConstraints found.entry (Some tt)) result }
 {
-    match constraints_in(found) {
-        Ok(true) => Ok(()),
-        Ok(false) => Err(rejected(CertRule::BasicConstraints)),
-        Err(e) => Err(e),
+    let said = constraints_in(found)?;
+    if !said {
+        return Err(rejected(CertRule::BasicConstraints));
     }
+    Ok(())
 }
 
 /// Whether this use of the key was found.
@@ -240,40 +240,32 @@ fn inspect_usage(
 ) -> Result<(), ValidationError>
     ensures { Checks (Says true SpellsUsage found.entry (Some wanted)) result }
 {
-    match usage_in(found) {
-        Ok(usage) => {
-            if is_there(usage, wanted) {
-                return Ok(());
-            }
-            Err(rejected(rule))
-        }
-        Err(e) => Err(e),
+    let usage = usage_in(found)?;
+    if is_there(usage, wanted) {
+        return Ok(());
     }
+    Err(rejected(rule))
 }
 
 /// Whether the purpose of a router was found.
 fn inspect_purpose(found: Option<ExtensionView<'_>>) -> Result<(), ValidationError>
     ensures { Checks (Says false SpellsPurposes found.entry (Some true)) result }
 {
-    match purposes_in(found) {
-        Ok(router) => {
-            if is_router(router) {
-                return Ok(());
-            }
-            Err(rejected(CertRule::RouterPurpose))
-        }
-        Err(e) => Err(e),
+    let router = purposes_in(found)?;
+    if is_router(router) {
+        return Ok(());
     }
+    Err(rejected(CertRule::RouterPurpose))
 }
 
 /// Whether the URI of a revocation list was found.
 fn inspect_revocation(found: Option<ExtensionView<'_>>) -> Result<(), ValidationError>
     ensures { Checks (SaysSomeUri SpellsPoints found.entry) result }
 {
-    match points_in(found) {
-        Ok(Some(_)) => Ok(()),
-        Ok(None) => Err(rejected(CertRule::RevocationList)),
-        Err(e) => Err(e),
+    let said = points_in(found)?;
+    match said {
+        Some(_) => Ok(()),
+        None => Err(rejected(CertRule::RevocationList)),
     }
 }
 
@@ -285,10 +277,10 @@ fn inspect_access(
 ) -> Result<(), ValidationError>
     ensures { Checks (SaysSomeUri (SpellsRsyncAccess method.entry.0.now) found.entry) result }
 {
-    match access_in(found, method) {
-        Ok(Some(_)) => Ok(()),
-        Ok(None) => Err(rejected(rule)),
-        Err(e) => Err(e),
+    let said = access_in(found, method)?;
+    match said {
+        Some(_) => Ok(()),
+        None => Err(rejected(rule)),
     }
 }
 

@@ -61,10 +61,7 @@ fn read_keyed<'a>(fields: Constructed<'a>) -> Result<Keyed<'a>, CertPart>
         Ok(key) => key,
         Err(_) => return Err(CertPart::PublicKey),
     };
-    let extensions = match read_extensions(rest) {
-        Ok(extensions) => extensions,
-        Err(part) => return Err(part),
-    };
+    let extensions = read_extensions(rest)?;
     let following = rest.rest();
     let octets = Section {
         octets: front_of(octets, following),
@@ -109,15 +106,13 @@ fn read_named<'a>(fields: Constructed<'a>) -> Result<Named<'a>, CertPart>
         Some(subject) => subject,
         None => return Err(CertPart::Subject),
     };
-    match read_keyed(rest) {
-        Ok(keyed) => Ok(Named {
-            issuer,
-            validity,
-            subject,
-            keyed,
-        }),
-        Err(part) => Err(part),
-    }
+    let keyed = read_keyed(rest)?;
+    Ok(Named {
+        issuer,
+        validity,
+        subject,
+        keyed,
+    })
 }
 
 /// The fields, which are all that is left.
@@ -139,14 +134,12 @@ fn read_fields<'a>(fields: Constructed<'a>) -> Result<TbsView<'a>, CertPart>
         Ok(signature) => signature,
         Err(_) => return Err(CertPart::TbsAlgorithm),
     };
-    match read_named(rest) {
-        Ok(named) => Ok(TbsView {
-            serial_number,
-            signature,
-            named,
-        }),
-        Err(part) => Err(part),
-    }
+    let named = read_named(rest)?;
+    Ok(TbsView {
+        serial_number,
+        signature,
+        named,
+    })
 }
 
 /// The TBSCertificate that these octets are; the sections stand in them.
@@ -156,10 +149,7 @@ pub fn read_tbs<'a>(signed: Constructed<'a>) -> Result<TbsView<'a>, CertPart>
     ensures err { IfErr result (λ q. IsTbsWrong (left signed.entry) q) }
 {
     match only_in(signed, Tag::SEQUENCE) {
-        Some(fields) => match read_fields(fields) {
-            Ok(view) => Ok(view),
-            Err(part) => Err(part),
-        },
+        Some(fields) => read_fields(fields),
         None => Err(CertPart::Tbs),
     }
 }

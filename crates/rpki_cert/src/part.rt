@@ -21,13 +21,9 @@ pub fn inside<'a>(octets: Constructed<'a>, tag: Tag) -> Result<Constructed<'a>, 
     ensures { GivesAll left (SpellsContents tag true) (left octets.entry) result }
 {
     let mut rest = octets;
-    match rest.take_constructed_if(tag) {
-        Ok(contents) => match rest.finish() {
-            Ok(()) => Ok(contents),
-            Err(e) => Err(e),
-        },
-        Err(e) => Err(e),
-    }
+    let contents = rest.take_constructed_if(tag)?;
+    rest.finish()?;
+    Ok(contents)
 }
 
 /// Moves past a primitive value of this tag with exactly these contents.

@@ -75,10 +75,8 @@ fn purposes_in(contents: Constructed<'_>) -> Result<bool, DecodeError>
     let mut rest = contents;
     let mut router = false;
     'purposes: while !rest.is_empty() {
-        match take_oid_as(&mut rest, oid::KP_BGPSEC_ROUTER) {
-            Ok(found) => router = is_either(router, found),
-            Err(e) => return Err(e),
-        }
+        let found = take_oid_as(&mut rest, oid::KP_BGPSEC_ROUTER)?;
+        router = is_either(router, found);
     }
     Ok(router)
 }
@@ -87,8 +85,6 @@ fn purposes_in(contents: Constructed<'_>) -> Result<bool, DecodeError>
 pub fn read_purposes(octets: Constructed<'_>) -> Result<bool, DecodeError>
     ensures { GivesAll (λ b. b) SpellsPurposes (left octets.entry) result }
 {
-    match inside(octets, Tag::SEQUENCE) {
-        Ok(contents) => purposes_in(contents),
-        Err(e) => Err(e),
-    }
+    let contents = inside(octets, Tag::SEQUENCE)?;
+    purposes_in(contents)
 }

@@ -96,10 +96,7 @@ fn read_behind<'a>(signed: &'a [u8], behind: Constructed<'a>) -> Result<CertView
         Ok(parts) => parts,
         Err(part) => return Err(part),
     };
-    let tbs = match read_tbs(Constructed::from_slice(signed)) {
-        Ok(tbs) => tbs,
-        Err(part) => return Err(part),
-    };
+    let tbs = read_tbs(Constructed::from_slice(signed))?;
     if !is_same(tbs.signature, parts.kind) {
         return Err(CertPart::SameAlgorithm);
     }

@@ -5,9 +5,10 @@ use Rattle.rpki_der.specs.Cursor.{left}
 use Rattle.rpki_der.specs.TagName.{sequence}
 use Rattle.rpki_der.proofs.EachLaws.{leaf-some}
 use Rattle.rpki_der.proofs.LeafValueLaws.{leaf-shorter}
-use Rattle.rpki_cert.specs.Access.{IsAccess, SpellsAccess, first_rsync}
+use Rattle.rpki_cert.specs.Access.{IsAccess, SpellsAccess, SpellsSomeRsync, first_rsync}
 use Rattle.rpki_cert.proofs.AccessLaws.{copied-or, or-none, next-rsync}
 use Rattle.rpki_cert.proofs.GatherLaws.{gathers-all, gathers-on, gathers-none, gathers-end, gathers-nothing}
+use Rattle.rpki_cert.proofs.TriedLaws.{tried-all}
 use Rattle.rpki_cert.proofs.access_view.accesses_in.Goals as goal
 
 pub returns-then-is_empty : goal.returns-then-is_empty
@@ -17,21 +18,22 @@ pub accesses-init : goal.accesses-init
 accesses-init c = gathers-all (SpellsAccess c.args.method.0.now) first_rsync (left c.args.contents) (λ u. option_or None u) (λ u. refl)
 
 pub accesses-smaller : goal.accesses-smaller
-accesses-smaller c = leaf-shorter sequence true (IsAccess c.args.method.0.now) _ _ _ c.in-Ok.ensures.spells
+accesses-smaller c = leaf-shorter sequence true (IsAccess c.args.method.0.now) _ _ _ c.in_ok-name.ensures.spells
 
 pub accesses-preserved : goal.accesses-preserved
 accesses-preserved c =
     let some = iff_false c.is_empty-in-accesses.ensures c.accesses-test.true in
     let a = option_copied c.accesses.found in
-    let v = option_copied c.in-Ok.name in
+    let v = option_copied c.in_ok-name.name in
     let b = option_copied c.or-found.result in
     let joined = ap option_copied c.or-found.ensures ∙ copied-or c.accesses.found c.rsync_in.result in
-    gathers-on (SpellsAccess c.args.method.0.now) first_rsync (left c.args.contents) (λ u. option_or a u) (λ u. option_or b u) _ _ v (next-rsync a v (option_copied c.rsync_in.result) b joined c.rsync_in.ensures) some c.accesses.invariant c.in-Ok.ensures
+    gathers-on (SpellsAccess c.args.method.0.now) first_rsync (left c.args.contents) (λ u. option_or a u) (λ u. option_or b u) _ _ v (next-rsync a v (option_copied c.rsync_in.result) b joined c.rsync_in.ensures) some c.accesses.invariant c.in_ok-name.ensures
 
-pub returns-in-Err : goal.returns-in-Err
-returns-in-Err c =
+pub returns-in_err-name : goal.returns-in_err-name
+returns-in_err-name c =
     let some = iff_false c.is_empty-in-accesses.ensures c.accesses-test.true in
-    gathers-none (SpellsAccess c.args.method.0.now) first_rsync (left c.args.contents) (λ u. option_or (option_copied c.accesses.found) u) _ some c.accesses.invariant c.in-Err.ensures
+    tried-all option_copied (SpellsSomeRsync c.args.method.0.now) _ (left c.args.contents) _ c.from_residual.ensures
+    (gathers-none (SpellsAccess c.args.method.0.now) first_rsync (left c.args.contents) (λ u. option_or (option_copied c.accesses.found) u) _ some c.accesses.invariant c.in_err-name.ensures)
 
 pub returns : goal.returns
 returns c =

@@ -1,17 +1,20 @@
 use Rattle.std.proofs.Common.{true}
 use Rattle.std.specs.Option.{option_copied}
 use Rattle.rpki_der.specs.TagName.{sequence}
-use Rattle.rpki_cert.specs.Access.{SpellsPointName, SpellsPoint}
+use Rattle.rpki_cert.specs.Access.{SpellsPointName, SpellsPoint, SpellsPoints}
 use Rattle.rpki_cert.proofs.GatherLaws.{leaf-all, leaf-none, leaf-nothing}
+use Rattle.rpki_cert.proofs.TriedLaws.{tried-all}
 use Rattle.rpki_cert.proofs.access_view.read_points.Goals as goal
 
-pub returns-in-Err : goal.returns-in-Err
-returns-in-Err c = leaf-none sequence true SpellsPoint _ c.in-Err.ensures
+pub returns-in_err-points : goal.returns-in_err-points
+returns-in_err-points c = tried-all option_copied SpellsPoints _ _ _ c.from_residual.ensures (leaf-none sequence true SpellsPoint _ c.in_err-points.ensures)
 
-pub returns-in-Err-inside : goal.returns-in-Err-inside
-returns-in-Err-inside c = leaf-nothing sequence true SpellsPoint _ _ c.in-Ok.ensures (leaf-none sequence true SpellsPointName _ c.in-Err-inside.ensures)
+pub returns-in_err-point : goal.returns-in_err-point
+returns-in_err-point c =
+    tried-all option_copied SpellsPoints _ _ _ c.from_residual-in_err-point.ensures
+    (leaf-nothing sequence true SpellsPoint _ _ c.in_ok-points.ensures (leaf-none sequence true SpellsPointName _ c.in_err-point.ensures))
 
-pub returns-in-Ok-inside : goal.returns-in-Ok-inside
-returns-in-Ok-inside c =
-    leaf-all sequence true SpellsPoint _ option_copied _ c.point_name.result c.in-Ok.ensures
-    (leaf-all sequence true SpellsPointName _ option_copied _ c.point_name.result c.in-Ok-inside.ensures c.point_name.ensures)
+pub returns : goal.returns
+returns c =
+    leaf-all sequence true SpellsPoint _ option_copied _ c.point_name.result c.in_ok-points.ensures
+    (leaf-all sequence true SpellsPointName _ option_copied _ c.point_name.result c.in_ok-point.ensures c.point_name.ensures)

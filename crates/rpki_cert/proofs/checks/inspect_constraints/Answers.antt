@@ -1,5 +1,6 @@
 use Rattle.std.proofs.Common.{Some}
+use Rattle.rpki_der.proofs.TriedLaws.{tried-match}
 use Rattle.rpki_cert.proofs.checks.inspect_constraints.Goals as goal
 
-pub returns-in-Err : goal.returns-in-Err
-returns-in-Err c = λ k. c.in-Err.ensures (Some tt) k
+pub returns-in_err-said : goal.returns-in_err-said
+returns-in_err-said c = tried-match _ _ _ _ c.from_residual.ensures (λ k. c.in_err-said.ensures (Some tt) k)

@@ -1,6 +1,7 @@
 use Rattle.std.proofs.Common.{refl}
 use Rattle.rpki_cert.specs.View.FirstWrong.{AtPart, Later}
 use Rattle.rpki_cert.proofs.FieldsLaws.{period-refused, named-read}
+use Rattle.rpki_cert.proofs.TriedLaws.{tried-error}
 use Rattle.rpki_cert.proofs.fields.read_named.Goals as goal
 
 pub returns-in-None-clause-err : goal.returns-in-None-clause-err
@@ -12,10 +13,11 @@ returns-in-Err-clause-err c = Later _ _ c.in-Some.ensures.1 (AtPart (period-refu
 pub returns-in-None-take_section-clause-err : goal.returns-in-None-take_section-clause-err
 returns-in-None-take_section-clause-err c = Later _ _ c.in-Some.ensures.1 (Later _ _ c.in-Ok.ensures (AtPart c.in-None-take_section.ensures refl))
 
-pub returns-in-Ok-read_keyed-clause-ok : goal.returns-in-Ok-read_keyed-clause-ok
-returns-in-Ok-read_keyed-clause-ok c =
-    named-read _ _ _ _ _ _ _ _ c.in-Some.ensures.1 c.in-Some.ensures.2 c.in-Ok.ensures refl c.in-Some-take_section.ensures.1 c.in-Some-take_section.ensures.2 c.in-Ok-read_keyed.ensures.ok
+pub returns-clause-ok : goal.returns-clause-ok
+returns-clause-ok c =
+    named-read _ _ _ _ _ _ _ _ c.in-Some.ensures.1 c.in-Some.ensures.2 c.in-Ok.ensures refl c.in-Some-take_section.ensures.1 c.in-Some-take_section.ensures.2 c.in_ok-keyed.ensures.ok
 
-pub returns-in-Err-read_keyed-clause-err : goal.returns-in-Err-read_keyed-clause-err
-returns-in-Err-read_keyed-clause-err c =
-    Later _ _ c.in-Some.ensures.1 (Later _ _ c.in-Ok.ensures (Later _ _ c.in-Some-take_section.ensures.1 c.in-Err-read_keyed.ensures.err))
+pub returns-in_err-keyed-clause-err : goal.returns-in_err-keyed-clause-err
+returns-in_err-keyed-clause-err c =
+    tried-error _ _ _ c.from_residual.ensures
+    (Later _ _ c.in-Some.ensures.1 (Later _ _ c.in-Ok.ensures (Later _ _ c.in-Some-take_section.ensures.1 c.in_err-keyed.ensures.err)))

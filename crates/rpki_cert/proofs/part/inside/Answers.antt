@@ -1,11 +1,17 @@
+use Rattle.std.proofs.Common.{true}
+use Rattle.rpki_der.specs.Cursor.{left}
+use Rattle.rpki_der.specs.Values.{SpellsContents}
 use Rattle.rpki_cert.proofs.ListedLaws.{only-all, only-more, only-none}
+use Rattle.rpki_cert.proofs.TriedLaws.{tried-all}
 use Rattle.rpki_cert.proofs.part.inside.Goals as goal
 
-pub returns-in-Ok-finish : goal.returns-in-Ok-finish
-returns-in-Ok-finish c = only-all c.args.tag _ _ _ c.in-Ok.ensures c.in-Ok-finish.ensures
+pub returns-in_err-contents : goal.returns-in_err-contents
+returns-in_err-contents c =
+    tried-all left (SpellsContents c.args.tag true) _ _ _ c.from_residual.ensures (only-none c.args.tag _ _ c.in_err-contents.field-0.0 c.in_err-contents.ensures)
 
-pub returns-in-Err-finish : goal.returns-in-Err-finish
-returns-in-Err-finish c = only-more c.args.tag _ _ _ c.in-Ok.ensures c.in-Err-finish.ensures.1
+pub returns-in_err-finish : goal.returns-in_err-finish
+returns-in_err-finish c =
+    tried-all left (SpellsContents c.args.tag true) _ _ _ c.from_residual-in_err-finish.ensures (only-more c.args.tag _ _ _ c.in_ok-contents.ensures c.in_err-finish.ensures.1)
 
-pub returns-in-Err : goal.returns-in-Err
-returns-in-Err c = only-none c.args.tag _ _ c.in-Err.e c.in-Err.ensures
+pub returns : goal.returns
+returns c = only-all c.args.tag _ _ _ c.in_ok-contents.ensures c.in_ok-finish.ensures
