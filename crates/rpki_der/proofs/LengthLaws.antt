@@ -293,3 +293,14 @@ turn-room i n d room small = let one : i + 1 ≡ suc i = omega arith in rw (one,
 
 pub before-room : (i n : ℕ) → i < 4 → n < 256 ^ i → n < 256 ^ 3
 before-room i n lt room = cube i n (omega arith) room
+
+-- two octets, of which the first isn't zero
+pub turn-two : (s : List ℕ) → 2 ≤ length s → (get_or s 0 0 ≡ 0 → ⊥) → octets_at 2 0 s ≡ Ok (get_or s 0 0 * 256 + get_or s 1 0, take (length s - 2) (drop 2 s))
+turn-two [] le ne = absurd (omega arith)
+turn-two (a ∷ []) le ne = absurd (omega arith)
+turn-two (a ∷ b ∷ s) le ne =
+    let first = octets-more 1 0 a (b ∷ s) (λ z. ne (omega (arith, z))) in
+    let second = octets-more 0 (0 * 256 + a) b s (λ z. ne (omega (arith, z))) in
+    let all = first ∙ second ∙ octets-done ((0 * 256 + a) * 256 + b) s (omega (arith, ne)) in
+    let same : 0 * 256 + a ≡ a = omega arith in
+    rw (take_rest (a ∷ b ∷ s) 2) (rw same at all)

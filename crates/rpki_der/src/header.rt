@@ -107,12 +107,27 @@ fn length(s: &[u8]) -> Result<(u32, &[u8]), DecodeError>
     long_length(usize::from(count), rest)
 }
 
-/// A length in this many octets, most significant first (X.690 8.1.3.5), and the rest.
+/// A length in this many octets, most significant first (X.690 8.1.3.5), and the rest. Two octets are read at once.
 ///
 /// Returns `Truncated` if the octets end within the length; else `BadLength` if fewer octets, or one below 128, would
 /// do.
 #[inline(always)]
 fn long_length(count: usize, s: &[u8]) -> Result<(u32, &[u8]), DecodeError>
+    requires { count ≤ 4 }
+    ensures { ReadsPart (λ x. (x.0, x.1.now)) (SpellsLongLength count) BadLength s.now result }
+{
+    if count == 2 {
+        if let [first, second, rest @ ..] = s {
+            if *first != 0 {
+                return Ok((u32::from(*first) * 256 + u32::from(*second), rest));
+            }
+        }
+    }
+    any_length(count, s)
+}
+
+/// The same, octet by octet.
+fn any_length(count: usize, s: &[u8]) -> Result<(u32, &[u8]), DecodeError>
     requires { count ≤ 4 }
     ensures { ReadsPart (λ x. (x.0, x.1.now)) (SpellsLongLength count) BadLength s.now result }
 {

@@ -43,6 +43,7 @@ pub(crate) fn is_named(found: &Oid<&[u8]>, expected: ConstOid) -> bool
 }
 
 /// Reads all of the contents: whether a NULL is there, and nothing else.
+#[inline(always)]
 pub(crate) fn take_null_or_nothing(contents: &mut Constructed<'_>) -> Result<bool, DecodeError>
     ensures { ReadsParts (λ b. b) IsParameters IsParametersFault (left contents.old) (left contents.new) result }
 {
