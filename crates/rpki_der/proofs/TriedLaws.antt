@@ -1,6 +1,6 @@
 -- What a reader returns where a `?` ends it.
 use Rattle.std.proofs.Common.{◌≡◌, ◌≢◌, ℕ, Bool, true, false, List, Result, Ok, Err, sym, subst}
-use Rattle.std.specs.Prelude.{◌↔◌, IsOk, IsErr, IsErrAnd, MatchResult}
+use Rattle.std.specs.Prelude.{◌↔◌, IsOk, IsErr, IsErrAnd, IfErr, MatchResult}
 use Rattle.std.proofs.lemmas.Bool.{false≢true}
 use Rattle.rpki_der.specs.declared.error.DecodeError.{DecodeError}
 use Rattle.rpki_der.specs.declared.error.DecodeError.TheVariants.{OutOfMemory}
@@ -33,6 +33,11 @@ tried-exactly view G s r d x h f none other =
     tried-inside view G (TakesNoMemory AnyFault) s r d x h (UnlessMemory-weaker d f none, record { other = other; kind = tt })
 
 -- ---- a function that is no reader
+
+-- what it says of its error
+pub tried-error : {X E : Type 0} (P : E → Type 0) (d : E) (x : Result X E) → IsErr x × IsErrAnd x (λ e. e ≡ d) → P d → IfErr x P
+tried-error P d (Ok x) h k = absurd h.1
+tried-error P d (Err e) h k = subst P (sym h.1) k
 
 -- one whose contract says of each error the same, by `MatchResult`
 pub tried-match : {X E : Type 0} (P : X → Type 0) (Q : Type 0) (F : E → Type 0) (x : Result X E) → IsErr x × IsErrAnd x F → Q → MatchResult x P (λ e. Q)

@@ -6,10 +6,11 @@ ghost use Rattle.rpki_der.specs.Reading.{Reads};
 ghost use Rattle.rpki_der.specs.Values.{SpellsContents, IsContentsFault};
 
 use crate::error::DecodeError;
-use crate::header::{begins_with, header, short_header};
+use crate::header::{HeaderAndRest, begins_with, header, short_header};
 use crate::tag::{Header, Steps, Tag};
 use bytes::Bytes;
 use std::alloc::{AllocError, Global};
+use std::marker::Model;
 
 /// A cursor over values: on octets ([Constructed]), or on captured values by their index
 /// ([IndexedCursor](crate::IndexedCursor)). A reader that is generic over it reads both.
@@ -58,6 +59,23 @@ pub struct Constructed<'a> {
     ghost same: { source_octets source place rest.now ≡ rest.now },
     ghost inside: { place + length rest.now ≤ source_room source },
     ghost bounded: { place + length rest.now < 2 ^ 64 },
+}
+
+/// A header that was read, and a cursor on what follows it.
+#[derive(Drop)]
+pub(crate) struct HeaderAndCursor<'a> {
+    pub(crate) header: Header,
+    pub(crate) following: Constructed<'a>,
+}
+
+impl<'a> Model for HeaderAndCursor<'a> {
+    ghost use Rattle.std.specs.Prelude.{ℕ, List};
+    ghost use Rattle.rpki_der.specs.declared.tag.Header.{Header};
+    ghost use Rattle.rpki_der.specs.Cursor.{left};
+
+    ghost Value = { Header × List ℕ };
+
+    ghost view = { λ x. (x.header, left x.following) };
 }
 
 impl<'a> Constructed<'a> {
@@ -154,21 +172,17 @@ impl<'a> Constructed<'a> {
     /// The header at the front, and a cursor on what follows.
     #[inline(always)]
     #[tactic(auto, unfolding(crate::specs::Cursor::left))]
-    pub(crate) fn after_header(&self) -> Result<(Header, Constructed<'a>), DecodeError>
-        ensures ok { IfOk result (λ x. Accepts SpellsHeader (left self.now) x.0 (left x.1)) }
+    pub(crate) fn after_header(&self) -> Result<HeaderAndCursor<'a>, DecodeError>
+        ensures ok { IfOk result (λ x. Accepts SpellsHeader (left self.now) x.0 x.1) }
         ensures err { IfErr result (λ e. Refuses SpellsHeader (left self.now) × IsHeaderFault (left self.now) e) }
     {
-        match header(self.rest) {
-            Ok((found, rest)) => Ok((
-                found,
-                Constructed {
-                    rest,
-                    source: self.source,
-                    place: self.place + (self.rest.len() - rest.len()),
-                },
-            )),
-            Err(e) => Err(e),
-        }
+        let HeaderAndRest { header, rest } = header(self.rest)?;
+        let following = Constructed {
+            rest,
+            source: self.source,
+            place: self.place + (self.rest.len() - rest.len()),
+        };
+        Ok(HeaderAndCursor { header, following })
     }
 
     /// The header at the front, and a cursor on what follows, where the header is two octets.
@@ -201,13 +215,9 @@ impl<'a> Constructed<'a> {
         ensures counted { steps.new ≡ steps.old + 1 }
     {
         steps.raise();
-        match self.after_header() {
-            Ok((found, following)) => {
-                *self = following;
-                Ok(found)
-            }
-            Err(e) => Err(e),
-        }
+        let HeaderAndCursor { header, following } = self.after_header()?;
+        *self = following;
+        Ok(header)
     }
 
     /// Whether what is left begins with the identifier octets of this tag, in either form.

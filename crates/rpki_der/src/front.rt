@@ -10,7 +10,7 @@ ghost use Rattle.rpki_der.specs.Walk.{HasConstructed, HasEither, CountsHeaders};
 ghost use Rattle.rpki_der.specs.Index.{Entry, IsIndex};
 
 use crate::error::DecodeError;
-use crate::header::header;
+use crate::header::{HeaderAndRest, header};
 use crate::index::HeaderEntry;
 use crate::tag::{Header, Steps};
 use crate::walk::walk_value;
@@ -25,10 +25,8 @@ pub fn read_header(octets: &[u8]) -> Result<(Header, usize), DecodeError>
     ensures ok { IfOk result (λ x. Accepts SpellsHeader octets.now x.0 (drop x.1 octets.now)) }
     ensures err { IfErr result (λ e. Refuses SpellsHeader octets.now × IsHeaderFault octets.now e) }
 {
-    match header(octets) {
-        Ok((found, rest)) => Ok((found, octets.len() - rest.len())),
-        Err(e) => Err(e),
-    }
+    let HeaderAndRest { header, rest } = header(octets)?;
+    Ok((header, octets.len() - rest.len()))
 }
 
 /// How many octets the value at the front takes, with everything nested in it (X.690 8.1.1, 8.1.2.5).

@@ -9,6 +9,23 @@ ghost use Rattle.rpki_der.specs.HeaderParts.{SpellsTagNumber, SpellsLength, Spel
 
 use crate::error::DecodeError;
 use crate::tag::{Class, Header, Tag};
+use std::marker::Model;
+
+/// A header that was read, and the octets that follow it.
+#[derive(Drop)]
+pub(crate) struct HeaderAndRest<'a> {
+    pub(crate) header: Header,
+    pub(crate) rest: &'a [u8],
+}
+
+impl<'a> Model for HeaderAndRest<'a> {
+    ghost use Rattle.std.specs.Prelude.{ℕ, List};
+    ghost use Rattle.rpki_der.specs.declared.tag.Header.{Header};
+
+    ghost Value = { Header × List ℕ };
+
+    ghost view = { λ x. (x.header, x.rest.now) };
+}
 
 /// The number of a tag, in digits of base 128 of which all but the last have the top bit set (X.690 8.1.2.4.2), and the
 /// rest. The number has at most four octets, and is the shortest form of a number of 31 or more.
@@ -169,24 +186,22 @@ fn low_identifier(s: &[u8]) -> Option<(Tag, bool)>
 
 /// The header at the front, and the rest, as [header] has them, by the reader of all identifier octets.
 #[inline(always)]
-fn any_header(s: &[u8]) -> Result<(Header, &[u8]), DecodeError>
-    ensures ok { IfOk result (λ x. Accepts SpellsHeader s.now x.0 x.1.now) }
+fn any_header(s: &[u8]) -> Result<HeaderAndRest<'_>, DecodeError>
+    ensures ok { IfOk result (λ x. Accepts SpellsHeader s.now x.0 x.1) }
     ensures err { IfErr result (λ e. Refuses SpellsHeader s.now × IsHeaderFault s.now e) }
 {
-    // `?` has no rule here, since a `Tag` is `Copy` with an `impl Model`, and stands beside a reference
+    // `?` has no rule here: a `Tag` is `Copy` with an `impl Model`, and stands beside a reference
     let (tag, constructed, rest) = match identifier(s) {
         Ok(found) => found,
         Err(e) => return Err(e),
     };
     let (length, rest) = length(rest)?;
-    Ok((
-        Header {
-            tag,
-            constructed,
-            length,
-        },
-        rest,
-    ))
+    let header = Header {
+        tag,
+        constructed,
+        length,
+    };
+    Ok(HeaderAndRest { header, rest })
 }
 
 /// The header at the front (X.690 8.1.2, 8.1.3), and the rest.
@@ -194,19 +209,19 @@ fn any_header(s: &[u8]) -> Result<(Header, &[u8]), DecodeError>
 /// The errors are `Truncated`, `BadTag` and `BadLength`: the first octet that cannot be continued to a legal encoding
 /// decides.
 #[inline(always)]
-pub(crate) fn header(s: &[u8]) -> Result<(Header, &[u8]), DecodeError>
-    ensures ok { IfOk result (λ x. Accepts SpellsHeader s.now x.0 x.1.now) }
+pub(crate) fn header(s: &[u8]) -> Result<HeaderAndRest<'_>, DecodeError>
+    ensures ok { IfOk result (λ x. Accepts SpellsHeader s.now x.0 x.1) }
     ensures err { IfErr result (λ e. Refuses SpellsHeader s.now × IsHeaderFault s.now e) }
 {
     match low_identifier(s) {
         Some((tag, constructed)) => {
             let (length, rest) = length(&s[1..])?;
-            let found = Header {
+            let header = Header {
                 tag,
                 constructed,
                 length,
             };
-            Ok((found, rest))
+            Ok(HeaderAndRest { header, rest })
         }
         None => any_header(s),
     }

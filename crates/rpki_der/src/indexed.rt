@@ -8,7 +8,7 @@ ghost use Rattle.std.proofs.Props.{props};
 use crate::captured::Captured;
 use crate::cursor::Cursor;
 use crate::error::DecodeError;
-use crate::header::header;
+use crate::header::{HeaderAndRest, header};
 use crate::index::HeaderEntry;
 use crate::tag::{Header, Tag};
 
@@ -142,19 +142,15 @@ impl<'a> IndexedCursor<'a> {
                 },
             ));
         }
-        match header(self.rest()) {
-            Ok((found, rest)) => Ok((
-                found,
-                IndexedCursor {
-                    source: self.source,
-                    start: self.end - rest.len(),
-                    end: self.end,
-                    index: self.index,
-                    next: self.next,
-                },
-            )),
-            Err(e) => Err(e),
-        }
+        let HeaderAndRest { header, rest } = header(self.rest())?;
+        let following = IndexedCursor {
+            source: self.source,
+            start: self.end - rest.len(),
+            end: self.end,
+            index: self.index,
+            next: self.next,
+        };
+        Ok((header, following))
     }
 
     /// The contents of a value of this tag and form; moves past the value.

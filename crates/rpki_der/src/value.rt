@@ -3,11 +3,12 @@
 ghost use Rattle.std.specs.Prelude.{◌≡◌, ◌<◌, ◌≤◌, ◌↔◌, IsTrue, IfOk, IfErr, IfSome, length, take, drop, true, false};
 ghost use Rattle.rpki_der.specs.Wanted.{IsWanted};
 
-use crate::cursor::Constructed;
+use crate::cursor::{Constructed, HeaderAndCursor};
 use crate::error::DecodeError;
 use crate::tag::{Header, Tag};
 use bytes::Bytes;
 use std::alloc::Global;
+use std::marker::Model;
 
 /// The contents of a value: octets, or values themselves (X.690 8.1.2.5).
 #[derive(Clone, Copy)]
@@ -41,6 +42,24 @@ fn is_wanted(wanted: Wanted, found: &Header) -> bool
     }
 }
 
+/// A value that was read: its tag, its form, and a cursor on its contents.
+#[derive(Drop)]
+struct FoundValue<'a> {
+    tag: Tag,
+    constructed: bool,
+    contents: Constructed<'a>,
+}
+
+impl<'a> Model for FoundValue<'a> {
+    ghost use Rattle.std.specs.Prelude.{ℕ, Bool, List};
+    ghost use Rattle.rpki_der.specs.TagName.{TagName};
+    ghost use Rattle.rpki_der.specs.Cursor.{left};
+
+    ghost Value = { TagName × Bool × List ℕ };
+
+    ghost view = { λ x. (x.tag, x.constructed, left x.contents) };
+}
+
 impl<'a> Constructed<'a> {
     ghost use Rattle.rpki_der.specs.Cursor.{left};
     ghost use Rattle.rpki_der.specs.ContentView.{is_constructed, octets_of};
@@ -72,24 +91,24 @@ impl<'a> Constructed<'a> {
     /// A value that is wanted: its tag, its form and a cursor on its contents, which are not validated. Moves past the
     /// value.
     #[inline(always)]
-    fn take_wanted(&mut self, wanted: Wanted) -> Result<(Tag, bool, Constructed<'a>), DecodeError>
-        ensures { ReadsWanted (λ x. (x.0, x.1, left x.2)) (IsWanted wanted)
-            (left self.old) (left self.new) result }
+    fn take_wanted(&mut self, wanted: Wanted) -> Result<FoundValue<'a>, DecodeError>
+        ensures { ReadsWanted (λ x. x) (IsWanted wanted) (left self.old) (left self.new) result }
     {
-        let (found, following) = match self.after_header() {
-            Ok(found) => found,
-            Err(e) => return Err(e),
-        };
-        if !is_wanted(wanted, &found) {
+        let HeaderAndCursor { header, following } = self.after_header()?;
+        if !is_wanted(wanted, &header) {
             return Err(DecodeError::Unexpected);
         }
-        let length = found.length as usize;
+        let length = header.length as usize;
         if following.len() < length {
             return Err(DecodeError::Truncated);
         }
         let (contents, after) = following.split_at(length);
         *self = after;
-        Ok((found.tag, found.constructed, contents))
+        Ok(FoundValue {
+            tag: header.tag,
+            constructed: header.constructed,
+            contents,
+        })
     }
 
     /// The contents of a value of this tag and form; moves past the value. The contents are not validated. What has a
@@ -122,10 +141,8 @@ impl<'a> Constructed<'a> {
         ensures { Reads left (SpellsContents tag constructed) (IsContentsFault tag constructed) (left self.old)
             (left self.new) result }
     {
-        match self.take_wanted(Wanted::Formed(tag, constructed)) {
-            Ok((_, _, contents)) => Ok(contents),
-            Err(e) => Err(e),
-        }
+        let found = self.take_wanted(Wanted::Formed(tag, constructed))?;
+        Ok(found.contents)
     }
 
     /// The value at the front, of any tag and form: its tag and its contents, which are not walked.
@@ -153,15 +170,11 @@ impl<'a> Constructed<'a> {
     fn take_any_value(&mut self) -> Result<(Tag, Content<'a>), DecodeError>
         ensures { ReadsWanted (λ x. (x.0, is_constructed x.1, octets_of x.1)) IsAnyTag (left self.old) (left self.new) result }
     {
-        match self.take_wanted(Wanted::Any) {
-            Ok(found) => {
-                if found.1 {
-                    Ok((found.0, Content::Constructed(found.2)))
-                } else {
-                    Ok((found.0, Content::Primitive(found.2.rest())))
-                }
-            }
-            Err(e) => Err(e),
+        let found = self.take_wanted(Wanted::Any)?;
+        if found.constructed {
+            Ok((found.tag, Content::Constructed(found.contents)))
+        } else {
+            Ok((found.tag, Content::Primitive(found.contents.rest())))
         }
     }
 
@@ -172,15 +185,11 @@ impl<'a> Constructed<'a> {
         ensures { ReadsWanted (λ x. (tag, is_constructed x, octets_of x)) (IsTagged tag) (left self.old)
             (left self.new) result }
     {
-        match self.take_wanted(Wanted::Tagged(tag)) {
-            Ok(found) => {
-                if found.1 {
-                    Ok(Content::Constructed(found.2))
-                } else {
-                    Ok(Content::Primitive(found.2.rest()))
-                }
-            }
-            Err(e) => Err(e),
+        let found = self.take_wanted(Wanted::Tagged(tag))?;
+        if found.constructed {
+            Ok(Content::Constructed(found.contents))
+        } else {
+            Ok(Content::Primitive(found.contents.rest()))
         }
     }
 
@@ -203,10 +212,8 @@ impl<'a> Constructed<'a> {
     pub fn take_primitive(&mut self) -> Result<(Tag, &'a [u8]), DecodeError>
         ensures { ReadsWanted (λ x. (x.0, false, x.1.now)) IsPrimitive (left self.old) (left self.new) result }
     {
-        match self.take_wanted(Wanted::Primitive) {
-            Ok(found) => Ok((found.0, found.2.rest())),
-            Err(e) => Err(e),
-        }
+        let found = self.take_wanted(Wanted::Primitive)?;
+        Ok((found.tag, found.contents.rest()))
     }
 
     /// The contents of a primitive value of this tag; moves past it. They are not validated.

@@ -16,7 +16,7 @@ use crate::captured::Captured;
 use crate::cursor::Constructed;
 use crate::error::DecodeError;
 use crate::front::{index_octets, walk_octets};
-use crate::header::header;
+use crate::header::{HeaderAndRest, header};
 use crate::index::HeaderEntry;
 use crate::tag::{Header, Steps};
 use std::alloc::Global;
@@ -32,14 +32,11 @@ fn take_header_within(octets: &[u8], steps: &mut Steps) -> Result<(Header, usize
     ensures refused { IfErr result (λ e. IsNestedFault octets.now e) }
 {
     steps.raise();
-    let (found, following) = match header(octets) {
-        Ok(found) => found,
-        Err(e) => return Err(e),
-    };
-    if following.len() < found.length as usize {
+    let HeaderAndRest { header, rest } = header(octets)?;
+    if rest.len() < header.length as usize {
         return Err(DecodeError::Truncated);
     }
-    Ok((found, octets.len() - following.len()))
+    Ok((header, octets.len() - rest.len()))
 }
 
 /// For how many entries room is made at first, where a constructed value of so many octets begins: more than

@@ -1,10 +1,14 @@
 use Rattle.rpki_der.specs.Cursor.{left}
+use Rattle.rpki_der.proofs.TriedLaws.{tried-refused}
 use Rattle.rpki_der.proofs.WantedLaws.{formed-found, formed-refusal}
 use Rattle.rpki_der.proofs.cursor.Constructed.take_any_contents.Goals as goal
 
-pub returns-in-Ok : goal.returns-in-Ok
-returns-in-Ok c =
-    formed-found c.args.tag c.args.constructed (left c.args.self.now) (c.in-Ok.field-0-0, c.in-Ok.field-0-1, left c.in-Ok.contents) (left c.take_wanted.new.self) c.in-Ok.ensures
+pub returns-in_err-found : goal.returns-in_err-found
+returns-in_err-found c =
+    tried-refused _ _ _ _ _ _ _ c.from_residual.ensures (formed-refusal c.args.tag c.args.constructed (left c.args.self.now) _ c.in_err-found.field-0.0 c.in_err-found.ensures)
 
-pub returns-in-Err : goal.returns-in-Err
-returns-in-Err c = formed-refusal c.args.tag c.args.constructed (left c.args.self.now) _ c.in-Err.e c.in-Err.ensures
+pub returns : goal.returns
+returns c =
+    let found = c.found.inside in
+    formed-found c.args.tag c.args.constructed (left c.args.self.now) (found.tag, found.constructed, left found.contents) (left c.take_wanted.new.self)
+    (rw (← c.found.view_is) at c.in_ok-found.ensures)

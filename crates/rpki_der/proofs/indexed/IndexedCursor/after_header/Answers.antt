@@ -2,25 +2,30 @@ use Rattle.std.proofs.Common.{sym, ◌∙◌}
 use Rattle.rpki_der.specs.IndexedCursor.{indexed_left}
 use Rattle.rpki_der.proofs.CursorLaws.{following-cut, rest-fits}
 use Rattle.rpki_der.proofs.IndexReadingLaws.{entry-read}
+use Rattle.rpki_der.proofs.TriedLaws.{tried-error}
 use Rattle.rpki_der.proofs.indexed.IndexedCursor.after_header.Goals as goal
 
-pub overflow_sub-result : goal.overflow_sub-result
+pub overflow_sub-following : goal.overflow_sub-following
 unfolding indexed_left
-overflow_sub-result c =
+overflow_sub-following c =
     let self = c.args.self.now in
-    let a = c.in-Ok.ensures.ok.spells in
-    (rest-fits self.source.now self.start self.end a.front c.in-Ok.rest.now self.ordered self.inside (sym c.rest.ensures ∙ a.parts)).0
+    let found = c.header-3.inside in
+    let h = rw (← c.header-3.view_is) at c.in_ok-header.ensures.ok in
+    let a = h.spells in
+    (rest-fits self.source.now self.start self.end a.front found.rest.now self.ordered self.inside (sym c.rest.ensures ∙ a.parts)).0
 
-pub returns-in-Ok-clause-ok : goal.returns-in-Ok-clause-ok
+pub returns-clause-ok : goal.returns-clause-ok
 unfolding indexed_left
-returns-in-Ok-clause-ok c =
+returns-clause-ok c =
     let self = c.args.self.now in
-    let a = c.in-Ok.ensures.ok.spells in
-    let e = following-cut self.source.now self.start self.end a.front c.in-Ok.rest.now self.ordered self.inside (sym c.rest.ensures ∙ a.parts) in
-    rw (e, ← c.rest.ensures) c.in-Ok.ensures.ok
+    let found = c.header-3.inside in
+    let h = rw (← c.header-3.view_is) at c.in_ok-header.ensures.ok in
+    let a = h.spells in
+    let e = following-cut self.source.now self.start self.end a.front found.rest.now self.ordered self.inside (sym c.rest.ensures ∙ a.parts) in
+    rw (e, ← c.rest.ensures) h
 
-pub returns-in-Err-clause-err : goal.returns-in-Err-clause-err
-returns-in-Err-clause-err c = rw (← c.rest.ensures) c.in-Err.ensures.err
+pub returns-in_err-header-clause-err : goal.returns-in_err-header-clause-err
+returns-in_err-header-clause-err c = tried-error _ _ _ c.from_residual.ensures (rw (← c.rest.ensures) c.in_err-header.ensures.err)
 
 pub returns-in-Some-clause-ok : goal.returns-in-Some-clause-ok
 unfolding indexed_left
