@@ -1,6 +1,6 @@
 -- What a reader in place returns where a `?` ends it.
-use Rattle.std.proofs.Common.{◌≡◌, ℕ, List, Result, Ok, Err, sym, subst}
-use Rattle.std.specs.Prelude.{IsErr, IsErrAnd, IfErr}
+use Rattle.std.proofs.Common.{ℕ, List, Result, Ok, Err}
+use Rattle.std.specs.Prelude.{IsErr, IsErrAnd}
 use Rattle.rpki_der.specs.Reading.{Refuses, SpellsNothing}
 use Rattle.rpki_cert.specs.InPlace.{Gives, GivesAll}
 
@@ -13,8 +13,3 @@ pub tried-all : {X V E : Type 0} (view : X → V) (G : V → List ℕ → Type 0
     → IsErr x × IsErrAnd x F → SpellsNothing G s → GivesAll view G s x
 tried-all view G F s (Ok x) h none = absurd h.1
 tried-all view G F s (Err e) h none = none
-
--- the error that is handed on
-pub tried-error : {X E : Type 0} (P : E → Type 0) (d : E) (x : Result X E) → IsErr x × IsErrAnd x (λ e. e ≡ d) → P d → IfErr x P
-tried-error P d (Ok x) h k = absurd h.1
-tried-error P d (Err e) h k = subst P (sym h.1) k

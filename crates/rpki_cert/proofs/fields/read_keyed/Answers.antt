@@ -1,7 +1,7 @@
 use Rattle.std.proofs.Common.{refl}
+use Rattle.rpki_der.proofs.TriedLaws.{tried-error}
 use Rattle.rpki_cert.specs.View.FirstWrong.{AtPart, Later}
 use Rattle.rpki_cert.proofs.FieldsLaws.{key-refused, keyed-read}
-use Rattle.rpki_cert.proofs.TriedLaws.{tried-error}
 use Rattle.rpki_cert.proofs.fields.read_keyed.Goals as goal
 
 pub returns-in-Err-clause-err : goal.returns-in-Err-clause-err

@@ -1,7 +1,7 @@
 use Rattle.std.proofs.Common.{refl}
+use Rattle.rpki_der.proofs.TriedLaws.{tried-error}
 use Rattle.rpki_cert.specs.View.FirstWrong.{AtPart, Later}
 use Rattle.rpki_cert.proofs.FieldsLaws.{period-refused, named-read}
-use Rattle.rpki_cert.proofs.TriedLaws.{tried-error}
 use Rattle.rpki_cert.proofs.fields.read_named.Goals as goal
 
 pub returns-in-None-clause-err : goal.returns-in-None-clause-err

@@ -2,11 +2,11 @@ use Rattle.std.proofs.Common.{◌∙◌, refl, sym, subst}
 use Rattle.std.proofs.lemmas.Bool.{iff_false}
 use Rattle.rpki_der.specs.Members.{IsValue}
 use Rattle.rpki_der.proofs.MembersLaws.{value-accepted}
+use Rattle.rpki_der.proofs.TriedLaws.{tried-error}
 use Rattle.rpki_cert.specs.View.IsCertWrong.{InParts}
 use Rattle.rpki_cert.specs.View.FirstWrong.{Later}
 use Rattle.rpki_cert.proofs.TbsValueLaws.{tbs-value}
 use Rattle.rpki_cert.proofs.ViewLaws.{in-signed, differ, cert-read}
-use Rattle.rpki_cert.proofs.TriedLaws.{tried-error}
 use Rattle.rpki_cert.proofs.view.read_behind.Goals as goal
 
 pub returns-in-Err-clause-err : goal.returns-in-Err-clause-err
