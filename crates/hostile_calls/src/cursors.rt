@@ -1,11 +1,13 @@
 //! Calls on a cursor.
 
+ghost use Rattle.rpki_der.specs.Cursor.{left};
+
 use crate::made::{Made, Outcome};
 use crate::readers;
 use crate::refusal::{Failure, Refusal};
 use crate::report::Report;
 use bytes::Bytes;
-use rpki::der::{Constructed, DecodeError, Steps, index_octets, walk_octets};
+use rpki::der::{Constructed, DecodeError, Keep, Shared, Steps, index_octets, walk_octets};
 use rpki::repository::x509::{CertExtension, Name, SignedData};
 use rpki::uri::{Https, Rsync};
 use std::alloc::Global;
@@ -53,33 +55,38 @@ fn index(alloc: Global, octets: &[u8]) -> Outcome {
 }
 
 /// Makes one call that reads a value of a certificate.
-fn take_value(alloc: Global, call: &str, cursor: &mut Constructed<'_>) -> Outcome {
+fn take_value<K: Keep>(keep: K, call: &str, cursor: &mut Constructed<'_>) -> Outcome
+    requires { K.holds keep (left cursor.old) }
+{
     match call {
-        "take_bit_string" => Ok(Made::Bits(readers::bits(alloc, cursor)?)),
-        "take_octets" => Ok(Made::Octets(readers::octets(alloc, cursor)?)),
-        "take_numbers" => Ok(Made::Data(readers::numbers(alloc, cursor)?)),
-        "take_rsync_name" => Ok(Made::Rsync(Rsync::take_general_name(alloc, cursor)?)),
-        "take_https_name" => Ok(Made::Https(Https::take_general_name(alloc, cursor)?)),
-        "take_key" => Ok(Made::Key(readers::key(alloc, cursor)?)),
-        "take_name" => Ok(Made::Name(Name::take_from(alloc, cursor)?)),
-        "take_signed" => Ok(Made::Signed(SignedData::take_from(alloc, cursor)?)),
-        "take_parts" => Ok(Made::Signed(SignedData::from_constructed(alloc, cursor)?)),
-        "take_extension" => Ok(Made::Extension(CertExtension::take_from(alloc, cursor)?)),
-        "take_opt_extension" => extension(CertExtension::take_opt_from(alloc, cursor)),
+        "take_bit_string" => Ok(Made::Bits(readers::bits(keep, cursor)?)),
+        "take_octets" => Ok(Made::Octets(readers::octets(keep, cursor)?)),
+        "take_numbers" => Ok(Made::Data(readers::numbers(keep.allocator(), cursor)?)),
+        "take_rsync_name" => Ok(Made::Rsync(Rsync::take_general_name(keep, cursor)?)),
+        "take_https_name" => Ok(Made::Https(Https::take_general_name(keep, cursor)?)),
+        "take_key" => Ok(Made::Key(readers::key(keep, cursor)?)),
+        "take_name" => Ok(Made::Name(Name::take_from(keep, cursor)?)),
+        "take_signed" => Ok(Made::Signed(SignedData::take_from(keep, cursor)?)),
+        "take_parts" => Ok(Made::Signed(SignedData::from_constructed(keep, cursor)?)),
+        "take_extension" => Ok(Made::Extension(CertExtension::take_from(keep, cursor)?)),
+        "take_opt_extension" => extension(CertExtension::take_opt_from(keep, cursor)),
         _ => Err(Refusal::NoCall),
     }
 }
 
 /// Makes one call that allocates. `walk` and `walk_octets` count.
-fn take(alloc: Global, call: &str, cursor: &mut Constructed<'_>, steps: &mut Steps) -> Outcome {
+fn take<K: Keep>(keep: K, call: &str, cursor: &mut Constructed<'_>, steps: &mut Steps) -> Outcome
+    requires { K.holds keep (left cursor.old) }
+{
+    let alloc = keep.allocator();
     match call {
-        "capture_one" => Ok(Made::Captured(cursor.capture_one(alloc)?)),
-        "capture" => Ok(Made::Captured(readers::kept(alloc, cursor)?)),
+        "capture_one" => Ok(Made::Captured(cursor.capture_one(keep)?)),
+        "capture" => Ok(Made::Captured(readers::kept(keep, cursor)?)),
         "skip_one" => walked(cursor.skip_one(alloc)),
         "walk" => walk(alloc, cursor, steps),
         "index_octets" => index(alloc, cursor.rest()),
         "walk_octets" => walk_left(alloc, cursor.rest(), steps),
-        _ => take_value(alloc, call, cursor),
+        _ => take_value(keep, call, cursor),
     }
 }
 
@@ -94,9 +101,31 @@ fn tell_header(report: Report, cursor: &mut Constructed<'_>, steps: &mut Steps) 
     }
 }
 
-/// Makes one call on a cursor on all of these octets, and reports what it makes, how many headers were counted, what is
-/// left, whether that is the end, and the octets that the cursor stands on. The cursor shares these octets, or borrows
-/// them.
+/// Makes one call, and reports what it makes, how many headers were counted, what is left, and whether that is the end.
+fn tell_call<K: Keep>(
+    keep: K,
+    report: Report,
+    call: &str,
+    mut cursor: Constructed<'_>,
+) -> io::Result<()>
+    requires { K.holds keep (left cursor) }
+{
+    let mut steps = Steps::new();
+    if call == "take_header" {
+        tell_header(report, &mut cursor, &mut steps)?;
+    } else {
+        report.outcome(take(keep, call, &mut cursor, &mut steps))?;
+    }
+    report.number("count", steps.count())?;
+    report.octets("left", cursor.rest())?;
+    match cursor.finish() {
+        Ok(()) => report.words("finished"),
+        Err(e) => report.number("unfinished", u64::from(e.number())),
+    }
+}
+
+/// Makes one call on a cursor on all of these octets, and reports it and the octets that the cursor stands on. The call
+/// shares what it keeps of them, or copies it.
 pub fn tell(
     alloc: Global,
     report: Report,
@@ -104,21 +133,12 @@ pub fn tell(
     octets: Vec<u8>,
 ) -> Result<(), Failure> {
     let source = Bytes::from_vec(octets)?;
-    let mut cursor = match group {
-        "slice" => readers::on_slice(source.as_slice()),
-        _ => Constructed::new(&source),
-    };
-    let mut steps = Steps::new();
-    if call == "take_header" {
-        tell_header(report, &mut cursor, &mut steps)?;
-    } else {
-        report.outcome(take(alloc, call, &mut cursor, &mut steps))?;
-    }
-    report.number("count", steps.count())?;
-    report.octets("left", cursor.rest())?;
-    match cursor.finish() {
-        Ok(()) => report.words("finished")?,
-        Err(e) => report.number("unfinished", u64::from(e.number()))?,
+    match group {
+        "slice" => tell_call(alloc, report, call, readers::on_slice(source.as_slice()))?,
+        _ => {
+            let keep = Shared::new(alloc, &source);
+            tell_call(keep, report, call, Constructed::new(&source))?;
+        }
     }
     report.octets("borrowed", source.as_slice())?;
     Ok(())

@@ -9,7 +9,8 @@ use rpki::crypto::{
     RpkiSignatureAlgorithm, SignatureAlgorithm,
 };
 use rpki::der::{
-    Captured, Constructed, Primitive, PrimitiveContent, Sequence, Set, Tag, Unsigned, Wrapped,
+    Captured, Constructed, Primitive, PrimitiveContent, Sequence, Set, Shared, Tag, Unsigned,
+    Wrapped,
 };
 use rpki::oid;
 use rpki::repository::x509::{Name, Serial, SignedData, Time, Validity, encode_extension};
@@ -41,7 +42,7 @@ fn tell_composed(
     octets: Vec<u8>,
 ) -> Result<(), Failure> {
     let source = Bytes::from_vec(octets)?;
-    let captured = Constructed::new(&source).capture_one(alloc)?;
+    let captured = Constructed::new(&source).capture_one(Shared::new(alloc, &source))?;
     let borrowed = &captured;
     match encoder {
         "captured" => writers::tell(alloc, report, &borrowed),
@@ -89,26 +90,27 @@ fn tell_key(alloc: Global, report: Report, encoder: &str, octets: Vec<u8>) -> Re
 /// Writes what was read.
 fn tell_read(alloc: Global, report: Report, encoder: &str, octets: Vec<u8>) -> Result<(), Failure> {
     let source = Bytes::from_vec(octets)?;
+    let keep = Shared::new(alloc, &source);
     let mut cursor = Constructed::new(&source);
     match encoder {
-        "bits" => writers::tell(alloc, report, &readers::bits(alloc, &mut cursor)?.encode()),
+        "bits" => writers::tell(alloc, report, &readers::bits(keep, &mut cursor)?.encode()),
         "borrowed_bits" => {
             writers::tell(
                 alloc,
                 report,
-                &readers::bits(alloc, &mut cursor)?.encode_ref(),
+                &readers::bits(keep, &mut cursor)?.encode_ref(),
             )
         }
         "name" => {
-            let name = Name::take_from(alloc, &mut cursor)?;
+            let name = Name::take_from(keep, &mut cursor)?;
             writers::tell(alloc, report, &name.encode_ref())
         }
         "signed" => {
-            let signed = SignedData::<RpkiSignatureAlgorithm>::take_from(alloc, &mut cursor)?;
+            let signed = SignedData::<RpkiSignatureAlgorithm>::take_from(keep, &mut cursor)?;
             writers::tell(alloc, report, &signed.encode_ref())
         }
         "extension" => {
-            let captured = cursor.capture_one(alloc)?;
+            let captured = cursor.capture_one(keep)?;
             let extension = encode_extension(oid::CE_BASIC_CONSTRAINTS, true, &captured);
             writers::tell(alloc, report, &extension)
         }

@@ -1,23 +1,29 @@
-//! The calls that read a value and may share or copy what they keep, each in one place.
+//! The calls that read a value and share or copy what they keep, each in one place.
+
+ghost use Rattle.rpki_der.specs.Cursor.{left};
 
 use bytes::Bytes;
 use rpki::crypto::PublicKey;
-use rpki::der::{BitString, Captured, Constructed, DecodeError, Tag};
+use rpki::der::{BitString, Captured, Constructed, DecodeError, Keep, Tag};
 use std::alloc::Global;
 
-/// A cursor on octets that it borrows: what a reader keeps of them is a copy.
+/// A cursor on octets that it borrows.
 pub fn on_slice(octets: &[u8]) -> Constructed<'_> {
     Constructed::from_slice(octets)
 }
 
 /// Reads a bit string.
-pub fn bits(alloc: Global, cursor: &mut Constructed<'_>) -> Result<BitString, DecodeError> {
-    cursor.take_bit_string(alloc)
+pub fn bits<K: Keep>(keep: K, cursor: &mut Constructed<'_>) -> Result<BitString, DecodeError>
+    requires { K.holds keep (left cursor.old) }
+{
+    cursor.take_bit_string(keep)
 }
 
 /// Reads the contents of an OCTET STRING, and keeps them.
-pub fn octets(alloc: Global, cursor: &mut Constructed<'_>) -> Result<Bytes, DecodeError> {
-    cursor.take_primitive_bytes_if(alloc, Tag::OCTET_STRING)
+pub fn octets<K: Keep>(keep: K, cursor: &mut Constructed<'_>) -> Result<Bytes, DecodeError>
+    requires { K.holds keep (left cursor.old) }
+{
+    cursor.take_primitive_bytes_if(keep, Tag::OCTET_STRING)
 }
 
 /// Reads numbers of an octet until nothing is left.
@@ -34,13 +40,18 @@ fn pass_one(alloc: Global, cursor: &mut Constructed<'_>) -> Result<(), DecodeErr
 }
 
 /// Keeps the octets of one value, as those that a reader of it reads.
-pub fn kept(alloc: Global, cursor: &mut Constructed<'_>) -> Result<Captured, DecodeError> {
-    cursor.capture(alloc, |value| pass_one(alloc, value))
+pub fn kept<K: Keep>(keep: K, cursor: &mut Constructed<'_>) -> Result<Captured, DecodeError>
+    requires { K.holds keep (left cursor.old) }
+{
+    let alloc = keep.allocator();
+    cursor.capture(keep, |value| pass_one(alloc, value))
 }
 
 /// Reads a public key.
-pub fn key(alloc: Global, cursor: &mut Constructed<'_>) -> Result<PublicKey, DecodeError> {
-    PublicKey::take_from(alloc, cursor)
+pub fn key<K: Keep>(keep: K, cursor: &mut Constructed<'_>) -> Result<PublicKey, DecodeError>
+    requires { K.holds keep (left cursor.old) }
+{
+    PublicKey::take_from(keep, cursor)
 }
 
 /// Reads a public key, and nothing else.

@@ -6,7 +6,7 @@ use crate::refusal::{Failure, Refusal};
 use crate::report::Report;
 use bytes::Bytes;
 use rpki::crypto::PublicKey;
-use rpki::der::{BitString, Captured, Constructed, Cursor, Sequence, Tag, Values};
+use rpki::der::{BitString, Captured, Constructed, Cursor, Sequence, Shared, Tag, Values};
 use rpki::repository::x509::{CertExtension, Name, SignedData};
 use rpki_digests::Digests;
 use std::alloc::Global;
@@ -152,7 +152,7 @@ pub fn tell_captured(
     octets: Vec<u8>,
 ) -> Result<(), Failure> {
     let source = Bytes::from_vec(octets)?;
-    let captured = Constructed::new(&source).capture_one(alloc)?;
+    let captured = Constructed::new(&source).capture_one(Shared::new(alloc, &source))?;
     report.outcome(of_captured(alloc, call, &captured))?;
     report.octets("held", captured.as_slice())?;
     Ok(())
@@ -201,7 +201,7 @@ pub fn tell_name(
     octets: Vec<u8>,
 ) -> Result<(), Failure> {
     let source = Bytes::from_vec(octets)?;
-    let name = Name::take_from(alloc, &mut Constructed::new(&source))?;
+    let name = Name::take_from(Shared::new(alloc, &source), &mut Constructed::new(&source))?;
     let outcome = match call {
         "clone" => name.clone().map(Made::Name).map_err(Refusal::from),
         _ => Err(Refusal::NoCall),
@@ -219,7 +219,10 @@ pub fn tell_extension(
     octets: Vec<u8>,
 ) -> Result<(), Failure> {
     let source = Bytes::from_vec(octets)?;
-    let extension = CertExtension::take_from(alloc, &mut Constructed::new(&source))?;
+    let extension = CertExtension::take_from(
+        Shared::new(alloc, &source),
+        &mut Constructed::new(&source),
+    )?;
     let outcome = match call {
         "clone" => extension
             .clone()

@@ -8,7 +8,7 @@ ghost use Rattle.rpki_der.specs.Each.{SpellsEach, SpellsSome, IsEachFault};
 ghost use Rattle.rpki_cert.specs.Access.{Through, IsKeptFault, SpellsName, IsUriFault, IsNameFault, SpellsUri, first_rsync, first_https, SpellsOidAs, IsOidAsFault, chosen, IsAccess, SpellsAccess, IsAccessPartsFault, IsAccessFault, ReadsEachAccess, SpellsSomeRsync, SpellsSomeHttps, SpellsRsyncAccess, SpellsHttpsAccess, AreAccessesFault, IsAccessesFault, SpellsFullName, IsFullNameFault, SpellsPointName, IsPointNameFault, SpellsPoint, IsPointFault, SpellsPoints, IsPointsFault};
 
 use bytes::Bytes;
-use rpki::der::{Class, ConstOid, Constructed, ContentError, DecodeError, Oid, Tag};
+use rpki::der::{Class, ConstOid, Constructed, DecodeError, Oid, Tag};
 use rpki::uri::{Https, Rsync};
 use std::alloc::{AllocError, Global};
 
@@ -21,7 +21,7 @@ pub fn take_oid_as(cons: &mut Constructed<'_>, expected: ConstOid) -> Result<boo
     let contents = after.take_primitive_if(Tag::OID)?;
     let found = Oid(contents);
     if !found.is_valid() {
-        return Err(DecodeError::Content(ContentError::from_static("malformed object identifier")));
+        return Err(DecodeError::content("malformed object identifier"));
     }
     *cons = after;
     Ok(found == expected)
@@ -151,7 +151,7 @@ fn take_some_rsync(
         (AreAccessesFault method.entry.0.now) (left contents.old) (left contents.new) result }
 {
     if contents.is_empty() {
-        return Err(DecodeError::Content(ContentError::from_static("empty SEQUENCE")));
+        return Err(DecodeError::content("empty SEQUENCE"));
     }
     let all = take_each_access(alloc, contents, method)?;
     match first_rsync(all.as_slice()) {
@@ -170,7 +170,7 @@ fn take_some_https(
         (AreAccessesFault method.entry.0.now) (left contents.old) (left contents.new) result }
 {
     if contents.is_empty() {
-        return Err(DecodeError::Content(ContentError::from_static("empty SEQUENCE")));
+        return Err(DecodeError::content("empty SEQUENCE"));
     }
     let all = take_each_access(alloc, contents, method)?;
     match first_https(all.as_slice()) {
@@ -188,7 +188,7 @@ fn take_some_uri(
         (left contents.old) (left contents.new) result }
 {
     if contents.is_empty() {
-        return Err(DecodeError::Content(ContentError::from_static("empty SEQUENCE")));
+        return Err(DecodeError::content("empty SEQUENCE"));
     }
     let all = take_each_uri(alloc, contents)?;
     match first_rsync(all.as_slice()) {

@@ -9,7 +9,7 @@ ghost use Rattle.rpki_cert.specs.Access.{Through, SpellsName, SpellsUri, first_r
 
 use crate::access::take_oid_as;
 use crate::part::inside;
-use rpki::der::{Class, ConstOid, Constructed, ContentError, DecodeError, Tag};
+use rpki::der::{Class, ConstOid, Constructed, DecodeError, Tag};
 use rpki::uri::RsyncView;
 
 /// The text of a general name that is a URI.
@@ -86,7 +86,7 @@ fn accesses_in<'a>(
     ensures { GivesAll option_copied (SpellsSomeRsync method.entry.0.now) (left contents.entry) result }
 {
     if contents.is_empty() {
-        return Err(DecodeError::Content(ContentError::from_static("empty SEQUENCE")));
+        return Err(DecodeError::content("empty SEQUENCE"));
     }
     let mut rest = contents;
     let mut found = None;
@@ -102,7 +102,7 @@ fn uris_in<'a>(contents: Constructed<'a>) -> Result<Option<&'a [u8]>, DecodeErro
     ensures { GivesAll option_copied (Through first_rsync (SpellsSome SpellsUri)) (left contents.entry) result }
 {
     if contents.is_empty() {
-        return Err(DecodeError::Content(ContentError::from_static("empty SEQUENCE")));
+        return Err(DecodeError::content("empty SEQUENCE"));
     }
     let mut rest = contents;
     let mut found = None;

@@ -2,6 +2,7 @@
 
 ghost use Rattle.std.specs.Prelude.{◌≡◌, ◌↔◌, IsTrue};
 ghost use Rattle.rpki_der.specs.Cursor.{left};
+ghost use Rattle.rpki_der.specs.Sharing.{CanShare};
 ghost use Rattle.rpki_der.specs.Reading.{Reads, Decodes, IsWholeFault};
 ghost use Rattle.rpki_cert.specs.Cert.{SpellsCert};
 ghost use Rattle.rpki_cert.specs.CertFault.{IsCertFault};
@@ -9,7 +10,7 @@ ghost use Rattle.rpki_cert.specs.CertFault.{IsCertFault};
 use crate::tbs::TbsCert;
 use bytes::Bytes;
 use rpki::crypto::RpkiSignatureAlgorithm;
-use rpki::der::{Constructed, ContentError, DecodeError};
+use rpki::der::{Constructed, DecodeError, Keep, Shared};
 use rpki::repository::x509::SignedData;
 use std::alloc::Global;
 use std::marker::Model;
@@ -41,33 +42,40 @@ pub fn is_same(one: RpkiSignatureAlgorithm, other: RpkiSignatureAlgorithm) -> bo
 
 impl Cert {
     /// A certificate: signed data whose signed value is a [TbsCert] that names the same algorithm (RFC 5280 4.1.1.2).
+    /// An allocator copies the signed value and the signature, and [Shared](rpki::der::Shared) shares them; requires
+    /// that `keep` can keep parts of what is left. The parts of the signed value share its octets.
     ///
     /// The errors are those of signed data; then those of [TbsCert::take_from] for what is signed; then `Content` with
     /// the text `signature algorithms differ`; and `OutOfMemory` if allocation fails, where the parts say so.
-    pub fn take_from(alloc: Global, cons: &mut Constructed<'_>) -> Result<Cert, DecodeError>
+    pub fn take_from<K: Keep>(keep: K, cons: &mut Constructed<'_>) -> Result<Cert, DecodeError>
+        requires { K.holds keep (left cons.old) }
         ensures { Reads (λ x. x) SpellsCert IsCertFault (left cons.old) (left cons.new) result }
     {
         let mut after = *cons;
-        let signed_data = SignedData::take_from(alloc, &mut after)?;
-        let mut signed = signed_data.data().cursor();
-        let tbs = TbsCert::take_from(alloc, &mut signed)?;
+        let signed_data = SignedData::take_from(keep, &mut after)?;
+        let data = signed_data.data();
+        let mut signed = data.cursor();
+        let tbs = TbsCert::take_from(data.shared(keep.allocator()), &mut signed)?;
         signed.finish()?;
         if !is_same(tbs.signature(), *signed_data.signature().algorithm()) {
-            return Err(DecodeError::Content(ContentError::from_static(
-                "signature algorithms differ",
-            )));
+            return Err(DecodeError::content("signature algorithms differ"));
         }
         *cons = after;
         Ok(Cert { signed_data, tbs })
     }
 
-    /// A certificate, and nothing else.
+    /// A certificate, and nothing else. It shares the octets.
     ///
     /// The errors are those of [Cert::take_from]; then `Trailing` if something follows the certificate.
     pub fn decode(alloc: Global, bytes: Bytes) -> Result<Cert, DecodeError>
         ensures { Decodes (λ x. x) SpellsCert (IsWholeFault SpellsCert IsCertFault) bytes result }
     {
-        Constructed::new(&bytes).whole(|cons| Cert::take_from(alloc, cons))
+        Constructed::new(&bytes).whole_with(
+            Shared::new(alloc, &bytes),
+            |cons, keep|
+                requires { CanShare keep (left cons.old) }
+            { Cert::take_from(keep, cons) },
+        )
     }
 
     /// The signed data: the signed octets as they came, and the signature.

@@ -6,7 +6,7 @@ ghost use Rattle.rpki_cert.specs.ExtensionContent.{SpellsConstraints, IsConstrai
 
 use crate::part::skip_primitive;
 use rpki::crypto::KeyIdentifier;
-use rpki::der::{Class, Constructed, ContentError, DecodeError, Tag};
+use rpki::der::{Class, Constructed, DecodeError, Tag};
 
 /// Moves past the basic constraints of a certification authority: a SEQUENCE of TRUE (RFC 6487 4.8.1).
 pub fn skip_constraints(cons: &mut Constructed<'_>) -> Result<(), DecodeError>
@@ -26,7 +26,7 @@ fn take_tagged(cons: &mut Constructed<'_>) -> Result<KeyIdentifier, DecodeError>
             *cons = after;
             Ok(identifier)
         }
-        Err(_) => Err(DecodeError::Content(ContentError::from_static("invalid key identifier"))),
+        Err(_) => Err(DecodeError::content("invalid key identifier")),
     }
 }
 

@@ -10,7 +10,7 @@ ghost use Rattle.rpki.specs.ExtensionValue.{SpellsExtension};
 ghost use Rattle.rpki_cert.specs.Cert.{find, are_unique, AreExtensions, SpellsExtensionList, SpellsExtensions};
 ghost use Rattle.rpki_cert.specs.CertFault.{IsEachExtensionFault, AreExtensionsFault, IsExtensionListFault, IsExtensionsFault};
 
-use rpki::der::{Class, Constructed, ContentError, DecodeError, Oid, Tag};
+use rpki::der::{Class, Constructed, DecodeError, Keep, Oid, Tag};
 use rpki::repository::x509::CertExtension;
 use std::alloc::Global;
 use std::collections::BTreeSet;
@@ -48,58 +48,79 @@ fn are_unique(alloc: Global, all: &[CertExtension]) -> Result<bool, DecodeError>
 }
 
 /// The extensions that these contents are, one after another.
-fn take_each(
-    alloc: Global,
+fn take_each<K: Keep>(
+    keep: K,
     contents: &mut Constructed<'_>,
 ) -> Result<Vec<CertExtension>, DecodeError>
+    requires { K.holds keep (left contents.old) }
     ensures reads { ReadsParts (λ v. v.items) (SpellsEach SpellsExtension) IsEachExtensionFault (left contents.old)
         (left contents.new) result }
     ensures end { IfOk result (λ _. left contents.new ≡ []) }
 {
-    contents.take_each(alloc, |rest| CertExtension::take_from(alloc, rest))
+    contents.take_each_with(
+        keep,
+        |rest, keep|
+            requires { K.holds keep (left rest.old) }
+        { CertExtension::take_from(keep, rest) },
+    )
 }
 
 /// The extensions that these contents are: one at least, and each identifier once.
-fn take_some(
-    alloc: Global,
+fn take_some<K: Keep>(
+    keep: K,
     contents: &mut Constructed<'_>,
 ) -> Result<Vec<CertExtension>, DecodeError>
+    requires { K.holds keep (left contents.old) }
     ensures { ReadsParts (λ v. v.items) AreExtensions AreExtensionsFault (left contents.old) (left contents.new)
         result }
 {
     if contents.is_empty() {
-        return Err(DecodeError::Content(ContentError::from_static("no extensions")));
+        return Err(DecodeError::content("no extensions"));
     }
-    let all = take_each(alloc, contents)?;
-    let unique = are_unique(alloc, all.as_slice())?;
+    let all = take_each(keep, contents)?;
+    let unique = are_unique(keep.allocator(), all.as_slice())?;
     if !unique {
-        return Err(DecodeError::Content(ContentError::from_static("duplicate extension")));
+        return Err(DecodeError::content("duplicate extension"));
     }
     Ok(all)
 }
 
 /// A SEQUENCE of extensions.
-fn take_list(alloc: Global, cons: &mut Constructed<'_>) -> Result<Vec<CertExtension>, DecodeError>
+fn take_list<K: Keep>(
+    keep: K,
+    cons: &mut Constructed<'_>,
+) -> Result<Vec<CertExtension>, DecodeError>
+    requires { K.holds keep (left cons.old) }
     ensures { Reads (λ v. v.items) SpellsExtensionList IsExtensionListFault (left cons.old) (left cons.new) result }
 {
-    cons.in_sequence(|contents| take_some(alloc, contents))
+    cons.in_sequence_with(
+        keep,
+        |contents, keep|
+            requires { K.holds keep (left contents.old) }
+        { take_some(keep, contents) },
+    )
 }
 
-/// The extensions of a certificate: a SEQUENCE of one at least, under the explicit tag 3, and each identifier once
-/// (RFC 5280 4.1.2.9, 4.2).
+/// The extensions of a certificate: a SEQUENCE of one at least, under the explicit tag 3, and each identifier once (RFC
+/// 5280 4.1.2.9, 4.2). An allocator copies their octets, and [Shared](rpki::der::Shared) shares them; requires that
+/// `keep` can keep parts of what is left.
 ///
 /// The errors are those of a constructed value of the tag; then those of a SEQUENCE; then `Content` with the text `no
 /// extensions` for an empty one, that of the first extension that isn't one, `Content` with the text `duplicate
 /// extension` where two have the same identifier; then `Trailing` for octets that follow; and `OutOfMemory` if
 /// allocation fails, only where an extension is there.
-pub fn take_extensions(
-    alloc: Global,
+pub fn take_extensions<K: Keep>(
+    keep: K,
     cons: &mut Constructed<'_>,
 ) -> Result<Vec<CertExtension>, DecodeError>
+    requires { K.holds keep (left cons.old) }
     ensures { Reads (λ v. v.items) SpellsExtensions IsExtensionsFault (left cons.old) (left cons.new) result }
 {
-    cons.in_constructed(
+    cons.in_constructed_with(
         Tag::new(Class::Context, 3),
-        |contents| take_list(alloc, contents),
+        keep,
+        |contents, keep|
+            requires { K.holds keep (left contents.old) }
+        { take_list(keep, contents) },
     )
 }

@@ -5,7 +5,7 @@ ghost use Rattle.rpki_der.specs.Cursor.{left};
 ghost use Rattle.rpki_der.specs.Reading.{Reads};
 ghost use Rattle.rpki_cert.specs.ExtensionContent.{IsUsage, SpellsUsage, IsUsageFault};
 
-use rpki::der::{Constructed, ContentError, DecodeError, Tag};
+use rpki::der::{Constructed, DecodeError, Tag};
 
 /// What the subject's key may be used for (RFC 6487 4.8.4).
 #[derive(Clone, Copy, Debug, PartialEq, Eq)]
@@ -43,7 +43,7 @@ impl KeyUsage {
                 *cons = after;
                 Ok(usage)
             }
-            None => Err(DecodeError::Content(ContentError::from_static("invalid key usage"))),
+            None => Err(DecodeError::content("invalid key usage")),
         }
     }
 }

@@ -138,7 +138,7 @@ fn count(list: Constructed<'_>) -> Option<usize>
     if list.is_empty() {
         return None;
     }
-    let mut rest = list;
+    let mut rest = Constructed::from_slice(list.rest());
     let mut count = 0;
     'extensions: while !rest.is_empty() {
         match ExtensionView::take_from(&mut rest) {

@@ -7,7 +7,7 @@ ghost use Rattle.rpki_der.specs.Values.{SpellsContents, SpellsLeaf, IsLeafFault}
 ghost use Rattle.rpki_der.specs.Leaves.{IsOnly};
 ghost use Rattle.rpki_cert.specs.InPlace.{GivesAll};
 
-use rpki::der::{Constructed, ContentError, DecodeError, Tag};
+use rpki::der::{Constructed, DecodeError, Tag};
 
 /// Whether these are the same octets.
 fn are_same(one: &[u8], other: &[u8]) -> bool
@@ -41,7 +41,7 @@ pub fn skip_primitive(
     let mut after = *cons;
     let contents = after.take_primitive_if(tag)?;
     if !are_same(contents, expected) {
-        return Err(DecodeError::Content(ContentError::from_static("unexpected value")));
+        return Err(DecodeError::content("unexpected value"));
     }
     *cons = after;
     Ok(())

@@ -9,7 +9,7 @@ ghost use Rattle.rpki_der.specs.Values.{IsLeafFault};
 ghost use Rattle.rpki_cert.specs.ExtensionContent.{IsPolicyName, SpellsPolicyName, IsPolicyNameFault, IsAnyIa5, SpellsStatement, AreQualifierParts, AreQualifierPartsFault, SpellsQualifier, IsQualifierFault, SpellsQualifiers, IsQualifiersFault, AreQualifiers, AreQualifiersFault, ArePolicyParts, ArePolicyPartsFault, SpellsPolicy, IsPolicyFault, SpellsPolicies, IsPoliciesFault};
 
 use crate::part::skip_primitive;
-use rpki::der::{Constructed, ContentError, DecodeError, Tag};
+use rpki::der::{Constructed, DecodeError, Tag};
 
 /// What is done where a certificate claims resources that its issuer's hasn't, as its policy says (RFC 8360 4).
 #[derive(Clone, Copy, Debug, PartialEq, Eq)]
@@ -43,7 +43,7 @@ fn skip_statement(cons: &mut Constructed<'_>) -> Result<(), DecodeError>
     let mut after = *cons;
     let contents = after.take_primitive_if(Tag::IA5_STRING)?;
     if !contents.is_ascii() {
-        return Err(DecodeError::Content(ContentError::from_static("malformed IA5String")));
+        return Err(DecodeError::content("malformed IA5String"));
     }
     *cons = after;
     Ok(())
@@ -94,9 +94,7 @@ impl Overclaim {
                 *cons = after;
                 Ok(overclaim)
             }
-            None => Err(DecodeError::Content(ContentError::from_static(
-                "unknown certificate policy",
-            ))),
+            None => Err(DecodeError::content("unknown certificate policy")),
         }
     }
 

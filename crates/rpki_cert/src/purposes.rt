@@ -10,7 +10,7 @@ ghost use Rattle.rpki_cert.specs.ExtensionContent.{SpellsPurpose, IsPurposeFault
 
 use crate::access::take_oid_as;
 use crate::part::inside;
-use rpki::der::{Constructed, ContentError, DecodeError, Tag};
+use rpki::der::{Constructed, DecodeError, Tag};
 use rpki::oid;
 use std::alloc::Global;
 
@@ -40,7 +40,7 @@ fn take_some(alloc: Global, contents: &mut Constructed<'_>) -> Result<bool, Deco
     ensures { ReadsParts (λ b. b) ArePurposes ArePurposesFault (left contents.old) (left contents.new) result }
 {
     if contents.is_empty() {
-        return Err(DecodeError::Content(ContentError::from_static("no key purposes")));
+        return Err(DecodeError::content("no key purposes"));
     }
     let all = take_each(alloc, contents)?;
     Ok(has_router(all.as_slice()))
@@ -70,7 +70,7 @@ fn purposes_in(contents: Constructed<'_>) -> Result<bool, DecodeError>
     ensures { GivesAll (λ b. b) ArePurposes (left contents.entry) result }
 {
     if contents.is_empty() {
-        return Err(DecodeError::Content(ContentError::from_static("no key purposes")));
+        return Err(DecodeError::content("no key purposes"));
     }
     let mut rest = contents;
     let mut router = false;

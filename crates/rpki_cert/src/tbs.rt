@@ -10,9 +10,8 @@ ghost use Rattle.rpki_cert.specs.CertFault.{AreFieldsFault, IsTbsFault};
 use crate::extensions::take_extensions;
 use crate::version::skip_version;
 use rpki::crypto::{PublicKey, RpkiSignatureAlgorithm, SignatureAlgorithm};
-use rpki::der::{Constructed, DecodeError};
+use rpki::der::{Constructed, DecodeError, Keep};
 use rpki::repository::x509::{CertExtension, Name, Serial, Validity};
-use std::alloc::Global;
 use std::marker::Model;
 
 /// The signed part of a certificate: TBSCertificate of the version v3 (RFC 5280 4.1, RFC 6487 4).
@@ -45,15 +44,19 @@ impl Model for TbsCert {
 
 impl TbsCert {
     /// The signed part: a SEQUENCE of the version v3(2), the serial number, the algorithm, the issuer, the validity
-    /// period, the subject, its key and the extensions, and nothing after them.
+    /// period, the subject, its key and the extensions, and nothing after them. An allocator copies what is kept of
+    /// them, and [Shared](rpki::der::Shared) shares it; requires that `keep` can keep parts of what is left.
     ///
     /// The errors are those of a SEQUENCE; then that of the first part that could not be read, `Trailing` for octets
     /// that follow them, and `OutOfMemory` if allocation fails, only in a name, the key or the extensions.
-    pub fn take_from(alloc: Global, cons: &mut Constructed<'_>) -> Result<TbsCert, DecodeError>
+    pub fn take_from<K: Keep>(keep: K, cons: &mut Constructed<'_>) -> Result<TbsCert, DecodeError>
+        requires { K.holds keep (left cons.old) }
         ensures { Reads (λ x. x) SpellsTbs IsTbsFault (left cons.old) (left cons.new) result }
     {
-        cons.in_sequence(
-            |contents|
+        cons.in_sequence_with(
+            keep,
+            |contents, keep|
+                requires { K.holds keep (left contents.old) }
                 ensures { ReadsParts fields_of AreFields AreFieldsFault (left contents.old) (left contents.new) result }
             {
                 skip_version(contents)?;
@@ -65,14 +68,14 @@ impl TbsCert {
                     Ok(signature) => signature,
                     Err(e) => return Err(e),
                 };
-                let issuer = Name::take_from(alloc, contents)?;
+                let issuer = Name::take_from(keep, contents)?;
                 let validity = match Validity::take_from(contents) {
                     Ok(validity) => validity,
                     Err(e) => return Err(e),
                 };
-                let subject = Name::take_from(alloc, contents)?;
-                let subject_public_key_info = PublicKey::take_from(alloc, contents)?;
-                let extensions = take_extensions(alloc, contents)?;
+                let subject = Name::take_from(keep, contents)?;
+                let subject_public_key_info = PublicKey::take_from(keep, contents)?;
+                let extensions = take_extensions(keep, contents)?;
                 Ok(TbsCert {
                     serial_number,
                     signature,

@@ -1,10 +1,7 @@
 -- What is left after a cursor.
 use Rattle.std.proofs.Common.{◌≡◌, ◌↔◌, IsTrue, Bool, true, false, ℕ, ◌+◌, ◌-◌, ◌≤◌, List, [], ◌++◌, length, take, drop, refl, sym, ap, ◌∙◌, arith, length-append}
 use Rattle.std.specs.Prelude.{slice_range}
-use Rattle.std.proofs.lemmas.List.{take-take, take_rest, drop_at, drop-take, drop-drop, length-take, length-take-le, length-drop}
-use Rattle.rpki_der.specs.declared.cursor.Source.{Source}
-use Rattle.rpki_der.specs.declared.cursor.Source.TheVariants.{Shared, Slice}
-use Rattle.rpki_der.specs.Source.{source_octets}
+use Rattle.std.proofs.lemmas.List.{take-take, take_rest, drop_at, drop-take, drop-drop, length-take, length-drop}
 
 pub length-cut : (s : List ℕ) (i j : ℕ) → i ≤ j → j ≤ length s → length (slice_range s i j) ≡ j - i
 length-cut s i j le in_s = omega (arith, length-take (j - i) (drop i s), length-drop i s)
@@ -56,33 +53,6 @@ back-of-cut s i j n le =
 -- a place within the cut is before its end
 pub seam-within : (s : List ℕ) (i j n : ℕ) → i ≤ j → j ≤ length s → n ≤ length (slice_range s i j) → i + n ≤ j
 seam-within s i j n le in_s fits = let size = length-cut s i j le in_s in omega arith
-
--- ---- the source of a cursor
-
--- a front of what is left stands where that stands
-pub source-front : (b : Source) (place n : ℕ) (s : List ℕ) → n ≤ length s → source_octets b place s ≡ s → source_octets b place (take n s) ≡ take n s
-source-front (Shared bytes) place n s le same =
-    let size : length (take n s) ≡ n = length-take-le n s le in
-    rw size (front-of-cut bytes.now place (place + length s) n (omega arith) ∙ ap (take n) same)
-source-front Slice place n s le same = refl
-
--- what follows it stands behind it
-pub source-back : (b : Source) (place n : ℕ) (s : List ℕ) → n ≤ length s → source_octets b place s ≡ s → source_octets b (place + n) (drop n s) ≡ drop n s
-source-back (Shared bytes) place n s le same =
-    let size = length-drop n s in
-    let end : place + n + length (drop n s) ≡ place + length s = omega arith in
-    rw end (back-of-cut bytes.now place (place + length s) n (omega arith) ∙ ap (drop n) same)
-source-back Slice place n s le same = refl
-
--- the same of a rest that was found
-pub source-rest : (b : Source) (place : ℕ) (s front rest : List ℕ) → s ≡ front ++ rest → source_octets b place s ≡ s
-    → source_octets b (place + (length s - length rest)) rest ≡ rest
-source-rest b place s front rest parts same =
-    let size = ap length parts ∙ length-append front rest in
-    let n : length s - length rest ≡ length front = omega arith in
-    let back : drop (length front) s ≡ rest = ap (drop (length front)) parts ∙ drop_at front rest (length front) refl in
-    let k = source-back b place (length front) s (omega arith) same in
-    rw n (rw back at k)
 
 -- ---- what the test for an end says
 

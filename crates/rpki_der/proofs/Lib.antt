@@ -1,7 +1,7 @@
 -- Which lemma file answers which question.
 --
 -- Crates above rest on ReadingLaws, LeavesLaws, ComposedLaws, InsideLaws, TriedLaws, FirstFaultLaws, PartsLaws,
--- EachLaws, CaptureLaws, EncodeLaws, WritingLaws and IntegerLaws: their names and statements stay.
+-- EachLaws, CaptureLaws, KeepLaws, EncodeLaws, WritingLaws and IntegerLaws: their names and statements stay.
 --
 -- How readings are put together, whatever the grammar: ReadingLaws, StepLaws.
 -- A leaf over its contents; a value over the reader of its contents: LeavesLaws, ComposedLaws, InsideLaws.
@@ -17,7 +17,7 @@
 -- An error excludes the others: HeaderFaultLaws, FaultKindLaws, NestedFaultLaws, SomeFaultLaws.
 -- A walk: in the middle, at its end: WalkingLaws, WalkLaws, MembersLaws.
 -- The index: IndexingLaws, IndexReadingLaws, IndexLaws, IndexOrderLaws.
--- A cursor: CursorLaws.
+-- A cursor; what can be kept of its octets: CursorLaws, KeepLaws.
 -- Contents: numbers, identifiers, strings: IntegerLaws, UnsignedLaws, OidLaws, TextLaws.
 -- What is hashed of octets and numbers: HashLaws.
 -- The octets of headers, their bits and how many they are: OctetBitLaws, HeaderSizeLaws.
@@ -36,6 +36,7 @@ pub mod HeaderLaws
 pub mod ReadingLaws
 pub mod HeaderReadingLaws
 pub mod CursorLaws
+pub mod KeepLaws
 pub mod ValuesLaws
 pub mod LeavesLaws
 pub mod WantedLaws

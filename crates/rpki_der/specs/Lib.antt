@@ -8,8 +8,8 @@ pub mod HeaderParts
 pub mod HeaderReading
 pub mod Reading
 pub mod Values
-pub mod Source
 pub mod Cursor
+pub mod Standing
 pub mod IndexedCursor
 pub mod Leaves
 pub mod WantedValue
@@ -37,6 +37,8 @@ pub mod Tree
 pub mod LeafLaws
 pub mod Inside
 pub mod Composed
+pub mod Keeping
+pub mod Sharing
 pub mod FirstFault
 pub mod Each
 pub mod Capture
@@ -48,3 +50,4 @@ pub mod EqualLaws
 pub mod ValueListLaws
 pub mod TreeLaws
 pub mod KindLaws
+pub mod StandingLaws

@@ -5,9 +5,10 @@ ghost use Rattle.rpki_der.specs.Leaves.{AreBits, bits_of};
 
 use crate::cursor::Constructed;
 use crate::error::DecodeError;
+use crate::keep::Keep;
 use crate::tag::Tag;
 use bytes::Bytes;
-use std::alloc::{AllocError, Global};
+use std::alloc::AllocError;
 use std::marker::Model;
 
 /// A bit string (X.690 8.6): shared octets, and how many bits of the last octet are not used.
@@ -180,11 +181,13 @@ impl<'a> Constructed<'a> {
         })
     }
 
-    /// A bit string (X.690 8.6, 11.2). It shares the octets with the input, or copies them where that is a slice.
+    /// A bit string (X.690 8.6, 11.2), whose octets are kept. An allocator copies them, and [Shared](crate::Shared)
+    /// shares them; requires that `keep` can keep parts of what is left.
     ///
     /// The errors are those of a header; then `Unexpected` for another tag or form; then `Truncated`; then `Content`
     /// for contents that are not those of a bit string; then `OutOfMemory` if allocation fails.
-    pub fn take_bit_string(&mut self, alloc: Global) -> Result<BitString, DecodeError>
+    pub fn take_bit_string<K: Keep>(&mut self, keep: K) -> Result<BitString, DecodeError>
+        requires { K.holds keep (left self.old) }
         ensures { ReadsKept (λ b. b) (SpellsLeaf bit_string false IsBits) (IsLeafFault bit_string false IsBits)
             (left self.old) (left self.new) result }
     {
@@ -196,7 +199,7 @@ impl<'a> Constructed<'a> {
         if !BitString::is_legal(*unused, octets) {
             return Err(DecodeError::content("malformed BIT STRING"));
         }
-        let bytes = contents.split_at(1).1.to_bytes(alloc)?;
+        let bytes = self.keep_part(keep, octets, &after)?;
         *self = after;
         Ok(BitString::new(*unused, bytes))
     }

@@ -8,8 +8,9 @@ ghost use Rattle.rpki_der.specs.IndexMembers.{HasEntry};
 
 use crate::cursor::Constructed;
 use crate::index::HeaderEntry;
+use crate::keep::Shared;
 use bytes::Bytes;
-use std::alloc::AllocError;
+use std::alloc::{AllocError, Global};
 use std::marker::Model;
 
 /// A list of values, as the octets that encode them one after another (X.690 8.1.1, 8.1.2.5). At every depth the
@@ -34,6 +35,7 @@ impl Model for Captured {
 
 impl Captured {
     ghost use Rattle.rpki_der.specs.Cursor.{left};
+    ghost use Rattle.rpki_der.specs.Sharing.{CanShare};
 
     /// Wraps the values that these octets encode, with their index.
     pub(crate) fn of_index(bytes: Bytes, index: Vec<HeaderEntry>) -> Captured
@@ -77,7 +79,14 @@ impl Captured {
         &self.index
     }
 
-    /// A cursor on all of the octets. What a reader keeps of them, it shares.
+    /// A keeper that shares parts of the octets, for a reader on [Captured::cursor].
+    pub fn shared(&self, alloc: Global) -> Shared<'_>
+        ensures { CanShare result self.now }
+    {
+        Shared::new(alloc, &self.bytes)
+    }
+
+    /// A cursor on all of the octets.
     pub fn cursor(&self) -> Constructed<'_>
         ensures { left result ≡ self.now }
     {

@@ -1,15 +1,15 @@
 //! A cursor over octets.
 
 ghost use Rattle.std.specs.Prelude.{◌≡◌, ◌≢◌, ◌≤◌, ◌<◌, ◌+◌, ◌-◌, ◌^◌, ℕ, List, [], length, take, drop, IsTrue, ◌↔◌, MatchResult, IfOk, IfErr, IfSome};
-ghost use Rattle.rpki_der.specs.Source.{source_octets, source_room};
 ghost use Rattle.rpki_der.specs.Reading.{Reads};
 ghost use Rattle.rpki_der.specs.Values.{SpellsContents, IsContentsFault};
 
 use crate::error::DecodeError;
 use crate::header::{HeaderAndRest, begins_with, header, short_header};
+use crate::keep::Keep;
 use crate::tag::{Header, Steps, Tag};
 use bytes::Bytes;
-use std::alloc::{AllocError, Global};
+use std::alloc::AllocError;
 use std::marker::Model;
 
 /// A cursor over values: on octets ([Constructed]), or on captured values by their index
@@ -37,28 +37,14 @@ pub trait Cursor: Copy {
             (octets_left self.old) (octets_left self.new) result };
 }
 
-/// In which octets a cursor stands, for a reader that keeps some of them.
-#[derive(Clone, Copy)]
-enum Source<'a> {
-    /// In shared octets, of which a part is shared once more.
-    Shared(&'a Bytes),
-    /// In a slice, of which a copy is made.
-    Slice,
-}
-
 /// What is left of octets, or of the contents of a value in them.
 ///
-/// A reader moves the cursor past what it reads. A reader that fails leaves it where it was. A cursor is a slice, and
-/// the place where that stands in shared octets, if it does; it reads the slice alone.
+/// A reader moves the cursor past what it reads. A reader that fails leaves it where it was. A cursor is a slice, two
+/// words, and doesn't know what octets that is a part of: a reader that keeps some of them asks for what it needs, a
+/// [Keep].
 #[derive(Clone, Copy)]
 pub struct Constructed<'a> {
     rest: &'a [u8],
-    source: Source<'a>,
-    /// How many of the source's octets stand before the rest.
-    place: usize,
-    ghost same: { source_octets source place rest.now ≡ rest.now },
-    ghost inside: { place + length rest.now ≤ source_room source },
-    ghost bounded: { place + length rest.now < 2 ^ 64 },
 }
 
 /// A header that was read, and a cursor on what follows it.
@@ -82,29 +68,22 @@ impl<'a> Constructed<'a> {
     ghost use Rattle.rpki_der.specs.Cursor.{left};
     ghost use Rattle.rpki_der.specs.Reading.{Reads, Accepts, Refuses};
     ghost use Rattle.rpki_der.specs.Values.{SpellsHeader, HasTag, IsHeaderFault};
+    ghost use Rattle.rpki_der.specs.Standing.{StandsBefore};
 
-    /// A cursor on all of the octets. What a reader keeps of them, it shares.
-    #[tactic(auto, using(crate::proofs::CursorLaws::cuts), unfolding(crate::specs::Cursor::left))]
+    /// A cursor on all of the octets. What a reader keeps of them, [Shared](crate::Shared) shares.
     pub fn new(source: &'a Bytes) -> Constructed<'a>
         ensures { left result ≡ source.now }
     {
-        Constructed {
-            rest: source.as_slice(),
-            source: Source::Shared(source),
-            place: 0,
-        }
+        Constructed::from_slice(source.as_slice())
     }
 
-    /// A cursor on all of the octets, without a copy. What a reader keeps of them, it copies.
-    #[tactic(auto, using(crate::proofs::CursorLaws::cuts), unfolding(crate::specs::Cursor::left))]
+    /// A cursor on all of the octets. What a reader keeps of them, an allocator copies.
+    #[inline(always)]
+    #[tactic(auto, unfolding(crate::specs::Cursor::left))]
     pub fn from_slice(octets: &'a [u8]) -> Constructed<'a>
         ensures { left result ≡ octets.now }
     {
-        Constructed {
-            rest: octets,
-            source: Source::Slice,
-            place: 0,
-        }
+        Constructed { rest: octets }
     }
 
     /// The octets that are left.
@@ -143,16 +122,8 @@ impl<'a> Constructed<'a> {
         ensures following { left result.1 ≡ drop at (left self.now) }
     {
         let (before, after) = self.rest.split_at(at);
-        let front = Constructed {
-            rest: before,
-            source: self.source,
-            place: self.place,
-        };
-        let following = Constructed {
-            rest: after,
-            source: self.source,
-            place: self.place + at,
-        };
+        let front = Constructed { rest: before };
+        let following = Constructed { rest: after };
         (front, following)
     }
 
@@ -177,11 +148,7 @@ impl<'a> Constructed<'a> {
         ensures err { IfErr result (λ e. Refuses SpellsHeader (left self.now) × IsHeaderFault (left self.now) e) }
     {
         let HeaderAndRest { header, rest } = header(self.rest)?;
-        let following = Constructed {
-            rest,
-            source: self.source,
-            place: self.place + (self.rest.len() - rest.len()),
-        };
+        let following = Constructed { rest };
         Ok(HeaderAndCursor { header, following })
     }
 
@@ -192,14 +159,7 @@ impl<'a> Constructed<'a> {
         ensures { IfSome result (λ x. Accepts SpellsHeader (left self.now) x.0 (left x.1)) }
     {
         match short_header(self.rest) {
-            Some((found, rest)) => Some((
-                found,
-                Constructed {
-                    rest,
-                    source: self.source,
-                    place: self.place + (self.rest.len() - rest.len()),
-                },
-            )),
+            Some((found, rest)) => Some((found, Constructed { rest })),
             None => None,
         }
     }
@@ -235,15 +195,21 @@ impl<'a> Constructed<'a> {
         self.rest() == expected
     }
 
-    /// The octets that are left, shared with the source, or copied where that is a slice.
+    /// Keeps a part of the octets that are left: that which stands before what is left of another cursor.
     #[tactic(auto, unfolding(crate::specs::Cursor::left))]
-    pub(crate) fn to_bytes(&self, alloc: Global) -> Result<Bytes, AllocError>
-        ensures { IfOk result (λ b. b ≡ left self.now) }
+    pub(crate) fn keep_part<K: Keep>(
+        &self,
+        keep: K,
+        part: &[u8],
+        after: &Constructed<'_>,
+    ) -> Result<Bytes, AllocError>
+        requires held { K.holds keep (left self.now) }
+        requires stands { StandsBefore (left self.now) part.now (left after.now) }
+        ensures { IfOk result (λ b. b ≡ part.now) }
     {
-        match self.source {
-            Source::Shared(bytes) => bytes.slice(self.place..self.place + self.rest.len()),
-            Source::Slice => Bytes::copy_from_slice(alloc, self.rest),
-        }
+        let end = self.rest.len() - after.rest.len();
+        let kept = keep.keep(self.rest, end - part.len(), end)?;
+        Ok(kept)
     }
 }
 

@@ -27,6 +27,23 @@ impl<'a> Model for HeaderAndRest<'a> {
     ghost view = { λ x. (x.header, x.rest.now) };
 }
 
+/// Identifier octets that were read, and the octets that follow them.
+#[derive(Drop)]
+struct IdentifierAndRest<'a> {
+    tag: Tag,
+    constructed: bool,
+    rest: &'a [u8],
+}
+
+impl<'a> Model for IdentifierAndRest<'a> {
+    ghost use Rattle.std.specs.Prelude.{ℕ, Bool, List};
+    ghost use Rattle.rpki_der.specs.TagName.{TagName};
+
+    ghost Value = { (TagName × Bool) × List ℕ };
+
+    ghost view = { λ x. ((x.tag, x.constructed), x.rest.now) };
+}
+
 /// The number of a tag, in digits of base 128 of which all but the last have the top bit set (X.690 8.1.2.4.2), and the
 /// rest. The number has at most four octets, and is the shortest form of a number of 31 or more.
 ///
@@ -60,8 +77,8 @@ fn tag_number(s: &[u8]) -> Result<(u32, &[u8]), DecodeError>
 ///
 /// The errors are `Truncated` and `BadTag`.
 #[inline(always)]
-fn identifier(s: &[u8]) -> Result<(Tag, bool, &[u8]), DecodeError>
-    ensures { ReadsPart (λ x. ((x.0, x.1), x.2.now)) SpellsIdentifier BadTag s.now result }
+fn identifier(s: &[u8]) -> Result<IdentifierAndRest<'_>, DecodeError>
+    ensures { ReadsPart (λ x. x) SpellsIdentifier BadTag s.now result }
 {
     let [first, rest @ ..] = s else {
         return Err(DecodeError::Truncated);
@@ -73,10 +90,18 @@ fn identifier(s: &[u8]) -> Result<(Tag, bool, &[u8]), DecodeError>
         if *first >> 6 == 0 && low == 0 {
             return Err(DecodeError::BadTag);
         }
-        return Ok((Tag::new(class, low), constructed, rest));
+        return Ok(IdentifierAndRest {
+            tag: Tag::new(class, low),
+            constructed,
+            rest,
+        });
     }
     let (number, rest) = tag_number(rest)?;
-    Ok((Tag::new(class, number), constructed, rest))
+    Ok(IdentifierAndRest {
+        tag: Tag::new(class, number),
+        constructed,
+        rest,
+    })
 }
 
 /// The class with this number, from 0 to 3 (X.690 8.1.2.2, table 1).
@@ -164,7 +189,8 @@ fn any_length(count: usize, s: &[u8]) -> Result<(u32, &[u8]), DecodeError>
     Ok((length, &s[count..]))
 }
 
-/// The tag and the form at the front, where they are one octet (X.690 8.1.2.2) and another octet follows: nearly always.
+/// The tag and the form at the front, where they are one octet (X.690 8.1.2.2) and another octet follows: nearly
+/// always.
 #[inline(always)]
 fn low_identifier(s: &[u8]) -> Option<(Tag, bool)>
     ensures there { IfSome result (λ _. 2 ≤ length s.now) }
@@ -190,11 +216,11 @@ fn any_header(s: &[u8]) -> Result<HeaderAndRest<'_>, DecodeError>
     ensures ok { IfOk result (λ x. Accepts SpellsHeader s.now x.0 x.1) }
     ensures err { IfErr result (λ e. Refuses SpellsHeader s.now × IsHeaderFault s.now e) }
 {
-    // `?` has no rule here: a `Tag` is `Copy` with an `impl Model`, and stands beside a reference
-    let (tag, constructed, rest) = match identifier(s) {
-        Ok(found) => found,
-        Err(e) => return Err(e),
-    };
+    let IdentifierAndRest {
+        tag,
+        constructed,
+        rest,
+    } = identifier(s)?;
     let (length, rest) = length(rest)?;
     let header = Header {
         tag,
@@ -259,7 +285,7 @@ pub(crate) fn begins_with(s: &[u8], tag: Tag) -> bool
     ensures { IsTrue result ↔ HasTag tag s.now }
 {
     match identifier(s) {
-        Ok(found) => found.0.is_same(tag),
+        Ok(found) => found.tag.is_same(tag),
         Err(_) => false,
     }
 }

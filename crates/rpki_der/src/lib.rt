@@ -1,6 +1,7 @@
 //! The distinguished encoding rules of X.690: headers, values, a cursor that reads them, and encoders.
 //!
 //! A reader takes a [Constructed], the cursor, and moves it past what it reads: `Constructed::new(&octets).take_oid()`.
+//! One that keeps octets asks for a [Keep]: an allocator, which copies them, or [Shared].
 //! An encoder implements the trait [Values]: call `fits`, then `write_encoded`, or `Captured::from_values` to keep its
 //! octets.
 //! `crates/rpki_examples/src/revoked.rt` reads a SEQUENCE of its own, and docs/CALLING.md explains it; `number_list.rt`
@@ -11,6 +12,7 @@ mod bit_string;
 mod capture;
 mod captured;
 mod composed;
+mod composed_with;
 mod contents;
 mod cursor;
 mod each;
@@ -22,6 +24,7 @@ mod header;
 mod index;
 mod indexed;
 mod integer;
+mod keep;
 mod kind;
 pub mod laws;
 mod leaf;
@@ -47,6 +50,7 @@ pub use front::{index_octets, read_header, walk_octets};
 pub use index::HeaderEntry;
 pub use indexed::IndexedCursor;
 pub use integer::{InvalidInteger, Unsigned};
+pub use keep::{Keep, Shared};
 pub use members::Members;
 pub use oid::{ConstOid, Oid};
 pub use tag::{Class, Header, Steps, Tag};

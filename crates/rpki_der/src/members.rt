@@ -181,8 +181,7 @@ impl Captured {
         &octets[found.contents()..found.past()]
     }
 
-    /// A cursor on the contents octets of the value whose entry has this number. What a reader keeps of them, it
-    /// shares. Allocates nothing.
+    /// A cursor on the contents octets of the value whose entry has this number. Allocates nothing.
     ///
     /// Requires that the number is below `headers().len()`.
     pub fn contents_cursor(&self, entry: usize) -> Constructed<'_>

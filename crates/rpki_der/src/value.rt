@@ -5,9 +5,9 @@ ghost use Rattle.rpki_der.specs.Wanted.{IsWanted};
 
 use crate::cursor::{Constructed, HeaderAndCursor};
 use crate::error::DecodeError;
+use crate::keep::Keep;
 use crate::tag::{Header, Tag};
 use bytes::Bytes;
-use std::alloc::Global;
 use std::marker::Model;
 
 /// The contents of a value: octets, or values themselves (X.690 8.1.2.5).
@@ -229,17 +229,22 @@ impl<'a> Constructed<'a> {
     }
 
     /// The contents of a primitive value of this tag, as of an OCTET STRING or of an implicit context tag (X.690 8.14);
-    /// moves past it. It shares the octets with the input, or copies them where that is a slice. They are not
-    /// validated.
+    /// moves past it. They are kept, and not validated. An allocator copies them, and [Shared](crate::Shared) shares
+    /// them; requires that `keep` can keep parts of what is left.
     ///
     /// The errors are those of [Constructed::take_primitive_if]; then `OutOfMemory` if allocation fails.
-    pub fn take_primitive_bytes_if(&mut self, alloc: Global, tag: Tag) -> Result<Bytes, DecodeError>
+    pub fn take_primitive_bytes_if<K: Keep>(
+        &mut self,
+        keep: K,
+        tag: Tag,
+    ) -> Result<Bytes, DecodeError>
+        requires { K.holds keep (left self.old) }
         ensures { ReadsKept (λ b. b) (SpellsContents tag false) (IsContentsFault tag false) (left self.old)
             (left self.new) result }
     {
         let mut after = *self;
         let contents = after.take_contents(tag, false)?;
-        let bytes = contents.to_bytes(alloc)?;
+        let bytes = self.keep_part(keep, contents.rest(), &after)?;
         *self = after;
         Ok(bytes)
     }

@@ -18,6 +18,7 @@ use crate::error::DecodeError;
 use crate::front::{index_octets, walk_octets};
 use crate::header::{HeaderAndRest, header};
 use crate::index::HeaderEntry;
+use crate::keep::Keep;
 use crate::tag::{Header, Steps};
 use std::alloc::Global;
 
@@ -196,19 +197,21 @@ impl<'a> Constructed<'a> {
         self.walk(alloc, &mut Steps::new())
     }
 
-    /// Exactly the octets of one value with everything nested in it, shared; moves past them.
+    /// Exactly the octets of one value with everything nested in it, kept; moves past them. An allocator copies them,
+    /// and [Shared](crate::Shared) shares them; requires that `keep` can keep parts of what is left.
     ///
     /// The errors are those of `walk`, with the cursor where it was, and `Truncated` if nothing is left. Returns
-    /// `OutOfMemory` also if the octets cannot be shared.
-    pub fn capture_one(&mut self, alloc: Global) -> Result<Captured, DecodeError>
+    /// `OutOfMemory` also if the octets cannot be kept.
+    pub fn capture_one<K: Keep>(&mut self, keep: K) -> Result<Captured, DecodeError>
+        requires { K.holds keep (left self.old) }
         ensures reads { Reads (λ c. c) SpellsValue (OrMemoryWhere HasEither IsCaptureFault) (left self.old)
             (left self.new) result }
         ensures fault { (e : DecodeError) → IsCaptureFault (left self.old) e
             → (result ≡ Err DecodeError.OutOfMemory) ⊎ (result ≡ Err e) }
     {
-        let (size, index) = index_octets(alloc, self.rest())?;
+        let (size, index) = index_octets(keep.allocator(), self.rest())?;
         let (value, following) = self.split_at(size);
-        let bytes = value.to_bytes(alloc)?;
+        let bytes = self.keep_part(keep, value.rest(), &following)?;
         *self = following;
         Ok(Captured::of_index(bytes, index))
     }

@@ -6,6 +6,7 @@ mod contents;
 mod encoders;
 mod headers;
 mod index;
+mod keeping;
 mod readers;
 mod verbs;
 mod walks;

@@ -3,6 +3,9 @@
 //! these files.
 #![tactic(auto)]
 
+ghost use Rattle.rpki_der.specs.Cursor.{left};
+ghost use Rattle.rpki_der.specs.Sharing.{CanShare};
+
 mod number_list;
 mod own_algorithm;
 mod own_provider;
@@ -96,10 +99,13 @@ fn greatest_number(alloc: Global) -> Result<(u8, Option<u64>), DecodeError> {
 /// How many certificates a list revokes.
 fn revocations(alloc: Global) -> Result<usize, DecodeError> {
     let signed = SignedData::<RpkiSignatureAlgorithm>::decode(alloc, Bytes::from_static(LIST))?;
-    let list = signed
-        .data()
-        .cursor()
-        .whole(|cons| RevocationList::take_from(alloc, cons))?;
+    let data = signed.data();
+    let list = data.cursor().whole_with(
+        data.shared(alloc),
+        |cons, keep|
+            requires { CanShare keep (left cons.old) }
+        { RevocationList::take_from(keep, cons) },
+    )?;
     match &list.revoked {
         Some(revoked) => Ok(revoked.len()),
         None => Ok(0),

@@ -20,7 +20,7 @@ ghost use Rattle.rpki_examples.specs.RevocationList.{entries_of, parts_of, Spell
 
 use crate::revoked::RevokedCertificate;
 use rpki::crypto::{RpkiSignatureAlgorithm, SignatureAlgorithm};
-use rpki::der::{Class, Constructed, DecodeError, Tag};
+use rpki::der::{Class, Constructed, DecodeError, Keep, Tag};
 use rpki::repository::x509::{CertExtension, Name, Time};
 use std::alloc::Global;
 
@@ -70,54 +70,74 @@ fn take_opt_revoked(
 }
 
 /// The extensions that these contents are, one after another.
-fn take_each_extension(
-    alloc: Global,
+fn take_each_extension<K: Keep>(
+    keep: K,
     contents: &mut Constructed<'_>,
 ) -> Result<Vec<CertExtension>, DecodeError>
+    requires { K.holds keep (left contents.old) }
     ensures { ReadsParts (λ v. v.items) SpellsEachExtension IsEachExtensionFault (left contents.old)
         (left contents.new) result }
 {
-    contents.take_each(alloc, |rest| CertExtension::take_from(alloc, rest))
+    contents.take_each_with(
+        keep,
+        |rest, keep|
+            requires { K.holds keep (left rest.old) }
+        { CertExtension::take_from(keep, rest) },
+    )
 }
 
 /// The SEQUENCE of extensions.
-fn take_extension_list(
-    alloc: Global,
+fn take_extension_list<K: Keep>(
+    keep: K,
     cons: &mut Constructed<'_>,
 ) -> Result<Vec<CertExtension>, DecodeError>
+    requires { K.holds keep (left cons.old) }
     ensures { Reads (λ v. v.items) SpellsExtensionList IsExtensionListFault (left cons.old) (left cons.new) result }
 {
-    cons.in_sequence(|contents| take_each_extension(alloc, contents))
+    cons.in_sequence_with(
+        keep,
+        |contents, keep|
+            requires { K.holds keep (left contents.old) }
+        { take_each_extension(keep, contents) },
+    )
 }
 
 /// The extensions, under the explicit context tag 0.
-fn take_extensions(
-    alloc: Global,
+fn take_extensions<K: Keep>(
+    keep: K,
     cons: &mut Constructed<'_>,
 ) -> Result<Vec<CertExtension>, DecodeError>
+    requires { K.holds keep (left cons.old) }
     ensures { Reads (λ v. v.items) SpellsExtensions IsExtensionsFault (left cons.old) (left cons.new) result }
 {
-    cons.in_constructed(
+    cons.in_constructed_with(
         Tag::new(Class::Context, 0),
-        |contents| take_extension_list(alloc, contents),
+        keep,
+        |contents, keep|
+            requires { K.holds keep (left contents.old) }
+        { take_extension_list(keep, contents) },
     )
 }
 
 impl RevocationList {
     /// Reads what is signed: a SEQUENCE of the parts, and nothing else. An empty list of entries is taken, although one
-    /// should be left out (RFC 5280 5.1.2.6).
+    /// should be left out (RFC 5280 5.1.2.6). An allocator copies what is kept of the issuer and of the extensions, and
+    /// [Shared](rpki::der::Shared) shares it; requires that `keep` can keep parts of what is left.
     ///
     /// Returns an error of [Constructed::in_sequence] if there is no SEQUENCE; else that of the first part that could
     /// not be read, or `Trailing` if more follows; `OutOfMemory` if allocation fails. An error leaves the cursor where
     /// it was.
-    pub fn take_from(
-        alloc: Global,
+    pub fn take_from<K: Keep>(
+        keep: K,
         cons: &mut Constructed<'_>,
     ) -> Result<RevocationList, DecodeError>
+        requires { K.holds keep (left cons.old) }
         ensures { Reads parts_of SpellsList IsListFault (left cons.old) (left cons.new) result }
     {
-        cons.in_sequence(
-            |contents|
+        cons.in_sequence_with(
+            keep,
+            |contents, keep|
+                requires { K.holds keep (left contents.old) }
                 ensures { ReadsParts parts_of AreParts ArePartsFault (left contents.old) (left contents.new) result }
             {
                 let version = contents.take_u8()?;
@@ -125,7 +145,7 @@ impl RevocationList {
                     Ok(signature) => signature,
                     Err(e) => return Err(e),
                 };
-                let issuer = Name::take_from(alloc, contents)?;
+                let issuer = Name::take_from(keep, contents)?;
                 let this_update = match Time::take_from(contents) {
                     Ok(time) => time,
                     Err(e) => return Err(e),
@@ -134,8 +154,8 @@ impl RevocationList {
                     Ok(time) => time,
                     Err(e) => return Err(e),
                 };
-                let revoked = take_opt_revoked(alloc, contents)?;
-                let extensions = take_extensions(alloc, contents)?;
+                let revoked = take_opt_revoked(keep.allocator(), contents)?;
+                let extensions = take_extensions(keep, contents)?;
                 Ok(RevocationList {
                     version,
                     signature,

@@ -7,7 +7,7 @@ ghost use Rattle.rpkibasic.specs.declared.command.Command.TheVariants.{Ext};
 
 use crate::fault::Fault;
 use bytes::Bytes;
-use rpki::der::{Constructed, Values};
+use rpki::der::{Constructed, Shared, Values};
 use rpki::repository::x509::CertExtension;
 use std::alloc::{AllocError, Global};
 
@@ -17,10 +17,11 @@ fn extensions(alloc: Global, input: Vec<u8>) -> Result<Vec<CertExtension>, Fault
         (λ f. UnlessMemory f (IsExtensionFault input.items f)) }
 {
     let octets = Bytes::from_vec(input)?;
+    let keep = Shared::new(alloc, &octets);
     let mut rest = Constructed::new(&octets);
     let mut all = Vec::new(alloc);
     'extensions: while !rest.is_empty() {
-        let extension = CertExtension::take_from(alloc, &mut rest)?;
+        let extension = CertExtension::take_from(keep, &mut rest)?;
         all.push(extension)?;
     }
     Ok(all)

@@ -11,7 +11,7 @@ ghost use Rattle.rpkibasic.specs.declared.command.Command.TheVariants as asked;
 use crate::fault::Fault;
 use crate::lines::push_line;
 use bytes::Bytes;
-use rpki::der::Constructed;
+use rpki::der::{Constructed, Shared};
 use rpki::repository::x509::Name;
 use std::alloc::{AllocError, Global};
 
@@ -22,7 +22,7 @@ fn decoded(alloc: Global, input: Vec<u8>) -> Result<Name, Fault>
 {
     let octets = Bytes::from_vec(input)?;
     let mut rest = Constructed::new(&octets);
-    let name = Name::take_from(alloc, &mut rest)?;
+    let name = Name::take_from(Shared::new(alloc, &octets), &mut rest)?;
     rest.finish()?;
     Ok(name)
 }

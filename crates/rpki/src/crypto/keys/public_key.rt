@@ -2,6 +2,7 @@
 
 ghost use Rattle.std.specs.Prelude.{◌≡◌, ◌↔◌, ◌<◌, ◌^◌, true, length, IsTrue, IfOk};
 ghost use Rattle.rpki_der.specs.Cursor.{left};
+ghost use Rattle.rpki_der.specs.Sharing.{CanShare};
 ghost use Rattle.rpki_der.specs.Reading.{Reads, Decodes, IsWholeFault};
 ghost use Rattle.rpki_der.specs.FirstFault.{ReadsParts};
 ghost use Rattle.rpki_der.specs.Leaves.{AreBits, bits_of};
@@ -13,7 +14,8 @@ use crate::crypto::Provider;
 use crate::crypto::digest::sha1_digest;
 use bytes::Bytes;
 use rpki_der::{
-    BitString, Captured, Constructed, DecodeError, Primitive, PrimitiveContent, Sequence, Values,
+    BitString, Captured, Constructed, DecodeError, Keep, Primitive, PrimitiveContent, Sequence,
+    Shared, Values,
 };
 use std::alloc::{AllocError, Global};
 use std::marker::Model;
@@ -111,29 +113,38 @@ impl PublicKey {
         })
     }
 
-    /// A public key (SubjectPublicKeyInfo, RFC 5280 4.1), and nothing else.
+    /// A public key (SubjectPublicKeyInfo, RFC 5280 4.1), and nothing else. It shares the octets of its bits.
     ///
     /// The errors are those of [PublicKey::take_from]; then `Trailing` if something follows the key.
     pub fn decode(alloc: Global, bytes: Bytes) -> Result<PublicKey, DecodeError>
         ensures { Decodes (λ k. k) SpellsKey (IsWholeFault SpellsKey IsKeyFault) bytes result }
     {
-        Constructed::new(&bytes).whole(|cons| PublicKey::take_from(alloc, cons))
+        Constructed::new(&bytes).whole_with(
+            Shared::new(alloc, &bytes),
+            |cons, keep|
+                requires { CanShare keep (left cons.old) }
+            { PublicKey::take_from(keep, cons) },
+        )
     }
 
-    /// A public key (SubjectPublicKeyInfo, RFC 5280 4.1): a SEQUENCE of a format and a BIT STRING, whose octets it
-    /// shares.
+    /// A public key (SubjectPublicKeyInfo, RFC 5280 4.1): a SEQUENCE of a format and a BIT STRING, whose octets are
+    /// kept. An allocator copies them, and [Shared](rpki_der::Shared) shares them; requires that `keep` can keep parts
+    /// of what is left.
     ///
     /// The errors are those of a SEQUENCE; then those of the parts, `Trailing` for octets that follow them, and
     /// `OutOfMemory` if allocation fails, only where both parts are there.
-    pub fn take_from(alloc: Global, cons: &mut Constructed<'_>) -> Result<PublicKey, DecodeError>
+    pub fn take_from<K: Keep>(keep: K, cons: &mut Constructed<'_>) -> Result<PublicKey, DecodeError>
+        requires { K.holds keep (left cons.old) }
         ensures { Reads (λ k. k) SpellsKey IsKeyFault (left cons.old) (left cons.new) result }
     {
-        cons.in_sequence(
-            |contents|
+        cons.in_sequence_with(
+            keep,
+            |contents, keep|
+                requires { K.holds keep (left contents.old) }
                 ensures { ReadsParts (λ k. k) IsKeyContents IsKeyPartsFault (left contents.old) (left contents.new) result }
             {
                 let algorithm = PublicKeyFormat::take_from(contents)?;
-                let bits = contents.take_bit_string(alloc)?;
+                let bits = contents.take_bit_string(keep)?;
                 Ok(PublicKey { algorithm, bits })
             },
         )

@@ -2,6 +2,7 @@
 
 ghost use Rattle.std.specs.Prelude.{◌≡◌, ◌<◌, ◌^◌, ◌↔◌, true, false, length, IfOk, IfSome, IfNone};
 ghost use Rattle.rpki_der.specs.Cursor.{left};
+ghost use Rattle.rpki_der.specs.Sharing.{CanShare};
 ghost use Rattle.rpki_der.specs.TagName.{sequence};
 ghost use Rattle.rpki_der.specs.Reading.{Reads, ReadsWhere, Decodes, IsWholeFault};
 ghost use Rattle.rpki_der.specs.Values.{HasTag};
@@ -17,7 +18,8 @@ use self::grammar::skip_extension;
 pub use self::view::ExtensionView;
 use bytes::Bytes;
 use rpki_der::{
-    Captured, Constructed, DecodeError, Oid, Primitive, PrimitiveContent, Sequence, Tag, Values,
+    Captured, Constructed, DecodeError, Keep, Oid, Primitive, PrimitiveContent, Sequence, Shared,
+    Tag, Values,
 };
 use std::alloc::{AllocError, Global};
 use std::marker::Model;
@@ -60,45 +62,53 @@ fn encode_parts<'a>(id: Oid<&'a [u8]>, critical: bool, octets: &'a [u8]) -> Exte
 }
 
 impl CertExtension {
-    /// An extension, and nothing else; it shares the octets.
+    /// An extension, and nothing else. It shares the octets.
     ///
     /// The errors are those of [CertExtension::take_from]; then `Trailing` if something follows the extension.
     pub fn decode(alloc: Global, bytes: Bytes) -> Result<CertExtension, DecodeError>
         ensures { Decodes (λ x. x) SpellsExtension (IsWholeFault SpellsExtension IsKeptExtensionFault) bytes result }
     {
-        Constructed::new(&bytes).whole(|cons| CertExtension::take_from(alloc, cons))
+        Constructed::new(&bytes).whole_with(
+            Shared::new(alloc, &bytes),
+            |cons, keep|
+                requires { CanShare keep (left cons.old) }
+            { CertExtension::take_from(keep, cons) },
+        )
     }
 
     /// An extension: a SEQUENCE of an OBJECT IDENTIFIER, of a BOOLEAN that says whether it is critical, and of an OCTET
     /// STRING. The BOOLEAN may be left out, which is FALSE; a FALSE that is spelled is read too, although X.690 11.5
-    /// forbids it.
+    /// forbids it. An allocator copies the octets, and [Shared](rpki_der::Shared) shares them; requires that `keep` can
+    /// keep parts of what is left.
     ///
     /// The errors are those of a SEQUENCE; then those of the parts, `Trailing` for octets that follow them, and
     /// `OutOfMemory` if allocation fails, only where an extension is there.
-    pub fn take_from(
-        alloc: Global,
+    pub fn take_from<K: Keep>(
+        keep: K,
         cons: &mut Constructed<'_>,
     ) -> Result<CertExtension, DecodeError>
+        requires { K.holds keep (left cons.old) }
         ensures { Reads (λ x. x) SpellsExtension IsKeptExtensionFault
             (left cons.old) (left cons.new) result }
     {
-        let captured = cons.capture(alloc, |cons| skip_extension(cons))?;
+        let captured = cons.capture(keep, |cons| skip_extension(cons))?;
         Ok(CertExtension { captured })
     }
 
     /// As [CertExtension::take_from] where what is left begins with the identifier octets of a SEQUENCE, in either
     /// form; else None, and the cursor stays where it is.
-    pub fn take_opt_from(
-        alloc: Global,
+    pub fn take_opt_from<K: Keep>(
+        keep: K,
         cons: &mut Constructed<'_>,
     ) -> Result<Option<CertExtension>, DecodeError>
+        requires { K.holds keep (left cons.old) }
         ensures { ReadsWhere (HasTag sequence) (λ x. x) SpellsExtension IsKeptExtensionFault
             (left cons.old) (left cons.new) result }
     {
         if !cons.has_tag(Tag::SEQUENCE) {
             return Ok(None);
         }
-        let extension = CertExtension::take_from(alloc, cons)?;
+        let extension = CertExtension::take_from(keep, cons)?;
         Ok(Some(extension))
     }
 

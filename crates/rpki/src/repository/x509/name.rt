@@ -6,6 +6,7 @@ ghost use Rattle.rpki.specs.ErrorContent.{content_of};
 ghost use Rattle.rpki.specs.NameRule.{BreaksRpkiRule, BreaksRouterRule, rpki_text, router_text};
 ghost use Rattle.rpki.specs.declared.repository.x509.name.rule.NameRule.{NameRule};
 ghost use Rattle.rpki_der.specs.Cursor.{left};
+ghost use Rattle.rpki_der.specs.Sharing.{CanShare};
 ghost use Rattle.rpki_der.specs.Reading.{Reads, Decodes, IsWholeFault};
 ghost use Rattle.rpki_der.specs.Members.{IsValue};
 ghost use Rattle.rpki_der.specs.TagName.{sequence};
@@ -28,7 +29,7 @@ pub use self::rule::NameRule;
 pub use self::view::NameView;
 use crate::repository::error::InspectionError;
 use bytes::Bytes;
-use rpki_der::{Captured, Constructed, DecodeError};
+use rpki_der::{Captured, Constructed, DecodeError, Keep, Shared};
 use std::alloc::{AllocError, Global};
 use std::marker::Model;
 
@@ -58,13 +59,18 @@ impl Name {
         Name { captured }
     }
 
-    /// A name, and nothing else; it shares the octets.
+    /// A name, and nothing else. It shares the octets.
     ///
     /// The errors are those of [Name::take_from]; then `Trailing` if something follows the name.
     pub fn decode(alloc: Global, bytes: Bytes) -> Result<Name, DecodeError>
         ensures { Decodes (λ n. n) SpellsNameOctets (IsWholeFault SpellsNameOctets IsNameFault) bytes result }
     {
-        Constructed::new(&bytes).whole(|cons| Name::take_from(alloc, cons))
+        Constructed::new(&bytes).whole_with(
+            Shared::new(alloc, &bytes),
+            |cons, keep|
+                requires { CanShare keep (left cons.old) }
+            { Name::take_from(keep, cons) },
+        )
     }
 
     /// Moves past a name, and keeps nothing of it. Allocates only for values in it that nest.
@@ -78,16 +84,19 @@ impl Name {
     }
 
     /// A name: a SEQUENCE of one relative distinguished name at least, each a SET of one attribute at least, each a
-    /// SEQUENCE of an OBJECT IDENTIFIER and of one value. The order within a SET is free.
+    /// SEQUENCE of an OBJECT IDENTIFIER and of one value. The order within a SET is free. An allocator copies the
+    /// octets, and [Shared](rpki_der::Shared) shares them; requires that `keep` can keep parts of what is left.
     ///
     /// The errors are those of a SEQUENCE; then `Content` with the text `empty distinguished name` for an empty
     /// SEQUENCE, `empty relative distinguished name` for an empty SET and `invalid name` for an attribute without a
     /// value, those of the parts, `Trailing` for what follows an attribute's value, and `OutOfMemory` if allocation
     /// fails, only where an attribute has a value.
-    pub fn take_from(alloc: Global, cons: &mut Constructed<'_>) -> Result<Name, DecodeError>
+    pub fn take_from<K: Keep>(keep: K, cons: &mut Constructed<'_>) -> Result<Name, DecodeError>
+        requires { K.holds keep (left cons.old) }
         ensures { Reads (λ n. n) SpellsNameOctets IsNameFault (left cons.old) (left cons.new) result }
     {
-        let captured = cons.capture(alloc, |cons| skip_name(alloc, cons))?;
+        let alloc = keep.allocator();
+        let captured = cons.capture(keep, |cons| skip_name(alloc, cons))?;
         Ok(Name { captured })
     }
 

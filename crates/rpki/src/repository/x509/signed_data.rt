@@ -18,8 +18,8 @@ use crate::crypto::{
 };
 use bytes::Bytes;
 use rpki_der::{
-    Captured, Constructed, DecodeError, Primitive, PrimitiveContent, Sequence, Tag, Values,
-    write_whole,
+    Captured, Constructed, DecodeError, Keep, Primitive, PrimitiveContent, Sequence, Shared, Tag,
+    Values, write_whole,
 };
 use std::alloc::{AllocError, Global};
 use std::io;
@@ -71,39 +71,48 @@ impl<Alg> SignedData<Alg> {
 
 impl<Alg: SignatureAlgorithm + Drop> SignedData<Alg> {
     /// Reads the three parts of signed data, with no SEQUENCE around them: one value, an algorithm identifier and a BIT
-    /// STRING. What follows them is left.
+    /// STRING. What follows them is left. An allocator copies the value and the signature, and
+    /// [Shared](rpki_der::Shared) shares them; requires that `keep` can keep parts of what is left.
     ///
     /// The errors are those of the parts; `OutOfMemory` if allocation fails, only where a value begins what is left.
-    pub fn from_constructed(
-        alloc: Global,
+    pub fn from_constructed<K: Keep>(
+        keep: K,
         cons: &mut Constructed<'_>,
     ) -> Result<SignedData<Alg>, DecodeError>
+        requires { K.holds keep (left cons.old) }
         ensures { Reads (λ x. x) (IsSignedContents Alg.spells) (IsSignedPartsFault Alg.spells Alg.fault)
             (left cons.old) (left cons.new) result }
     {
         let mut after = *cons;
-        let signed = after.capture_one(alloc)?;
+        let signed = after.capture_one(keep)?;
         let algorithm = Alg::x509_take_from(&mut after)?;
-        let value = signature_value(alloc, &mut after)?;
+        let value = signature_value(keep, &mut after)?;
         *cons = after;
         Ok(SignedData::new(signed, Signature::new(algorithm, value)))
     }
 
-    /// Signed data: a SEQUENCE of the three parts and of nothing else.
+    /// Signed data: a SEQUENCE of the three parts and of nothing else. An allocator copies the value and the signature,
+    /// and [Shared](rpki_der::Shared) shares them; requires that `keep` can keep parts of what is left.
     ///
     /// The errors are those of a SEQUENCE; then those of the parts, `Trailing` for octets that follow them, and
     /// `OutOfMemory` if allocation fails, only where a value begins the contents of the SEQUENCE.
-    pub fn take_from(
-        alloc: Global,
+    pub fn take_from<K: Keep>(
+        keep: K,
         cons: &mut Constructed<'_>,
     ) -> Result<SignedData<Alg>, DecodeError>
+        requires { K.holds keep (left cons.old) }
         ensures { Reads (λ x. x) (SpellsSigned Alg.spells) (IsSignedFault Alg.spells Alg.fault) (left cons.old)
             (left cons.new) result }
     {
-        cons.in_sequence(|contents| SignedData::from_constructed(alloc, contents))
+        cons.in_sequence_with(
+            keep,
+            |contents, keep|
+                requires { K.holds keep (left contents.old) }
+            { SignedData::from_constructed(keep, contents) },
+        )
     }
 
-    /// Signed data, and nothing else.
+    /// Signed data, and nothing else. It shares the octets.
     ///
     /// The errors are those of [SignedData::take_from]; then `Trailing` if something follows signed data.
     pub fn decode(alloc: Global, bytes: Bytes) -> Result<SignedData<Alg>, DecodeError>
@@ -115,7 +124,7 @@ impl<Alg: SignatureAlgorithm + Drop> SignedData<Alg> {
         ensures one_count { IfOk result (λ v. DiffersInCountAlone Alg.spells v bytes) }
     {
         let mut cons = Constructed::new(&bytes);
-        let found = SignedData::take_from(alloc, &mut cons)?;
+        let found = SignedData::take_from(Shared::new(alloc, &bytes), &mut cons)?;
         cons.finish()?;
         Ok(found)
     }
@@ -237,9 +246,10 @@ impl<'a, Alg> PrimitiveContent for SignatureValueContent<'a, Alg> {
 }
 
 /// The octets of a signature, with any count of unused bits.
-fn signature_value(alloc: Global, cons: &mut Constructed<'_>) -> Result<Bytes, DecodeError>
+fn signature_value<K: Keep>(keep: K, cons: &mut Constructed<'_>) -> Result<Bytes, DecodeError>
+    requires { K.holds keep (left cons.old) }
     ensures { Reads (λ v. v) SpellsSignature IsBitsFault (left cons.old) (left cons.new) result }
 {
-    let bits = cons.take_bit_string(alloc)?;
+    let bits = cons.take_bit_string(keep)?;
     Ok(bits.into_octets())
 }

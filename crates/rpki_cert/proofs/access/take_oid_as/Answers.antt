@@ -1,7 +1,7 @@
 use Rattle.std.proofs.Common.{false, refl, sym, ◌∙◌}
 use Rattle.std.proofs.lemmas.Bool.{iff_false}
 use Rattle.rpki_der.specs.TagName.{oid}
-use Rattle.rpki_der.proofs.LeavesLaws.{leaf-refused, leaf-accepted, leaf-bad}
+use Rattle.rpki_der.proofs.LeavesLaws.{leaf-refused, leaf-accepted, leaf-malformed}
 use Rattle.rpki_der.proofs.TriedLaws.{tried-refused}
 use Rattle.rpki_cert.specs.Access.{IsOidAs}
 use Rattle.rpki_cert.proofs.access.take_oid_as.Goals as goal
@@ -12,7 +12,7 @@ returns-in_err-contents c =
 
 pub returns-then-not-is_valid : goal.returns-then-not-is_valid
 returns-then-not-is_valid c =
-    leaf-bad oid false (IsOidAs c.args.expected.0.now) _ c.in_ok-contents.contents.now _ _ c.from_static.result refl c.in_ok-contents.ensures
+    leaf-malformed oid false (IsOidAs c.args.expected.0.now) _ c.in_ok-contents.contents.now _ _ _ _ c.content.ensures refl c.in_ok-contents.ensures
     (λ v h. iff_false c.is_valid.ensures c.if-not-is_valid.true h.0)
 
 pub returns : goal.returns

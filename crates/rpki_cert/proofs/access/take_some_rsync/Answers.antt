@@ -1,4 +1,4 @@
-use Rattle.std.proofs.Common.{true}
+use Rattle.std.proofs.Common.{refl, true}
 use Rattle.std.proofs.lemmas.Bool.{iff_false}
 use Rattle.rpki_der.specs.Cursor.{left}
 use Rattle.rpki_der.specs.TagName.{sequence}
@@ -12,7 +12,7 @@ use Rattle.rpki_cert.proofs.access.take_some_rsync.Goals as goal
 pub returns-then-is_empty : goal.returns-then-is_empty
 returns-then-is_empty c =
     let m = c.args.method.0.now in
-    some-empty first_rsync (SpellsAccess m) (IsAccessFault m) (left c.args.contents.now) (leaf-some sequence true (IsAccess m)) (c.is_empty.ensures.0 c.if-is_empty.true) c.from_static.result c.from_static.ensures
+    rw c.content.ensures (some-empty first_rsync (SpellsAccess m) (IsAccessFault m) (left c.args.contents.now) (leaf-some sequence true (IsAccess m)) (c.is_empty.ensures.0 c.if-is_empty.true) _ refl)
 
 pub returns-in_err-all : goal.returns-in_err-all
 returns-in_err-all c =

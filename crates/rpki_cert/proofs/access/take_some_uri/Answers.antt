@@ -1,3 +1,4 @@
+use Rattle.std.proofs.Common.{refl}
 use Rattle.std.proofs.lemmas.Bool.{iff_false}
 use Rattle.rpki_der.specs.Cursor.{left}
 use Rattle.rpki_der.specs.Each.{SpellsSome}
@@ -8,7 +9,7 @@ use Rattle.rpki_cert.proofs.access.take_some_uri.Goals as goal
 
 pub returns-then-is_empty : goal.returns-then-is_empty
 returns-then-is_empty c =
-    some-empty first_rsync SpellsUri IsUriFault (left c.args.contents.now) uri-some (c.is_empty.ensures.0 c.if-is_empty.true) c.from_static.result c.from_static.ensures
+    rw c.content.ensures (some-empty first_rsync SpellsUri IsUriFault (left c.args.contents.now) uri-some (c.is_empty.ensures.0 c.if-is_empty.true) _ refl)
 
 pub returns-in_err-all : goal.returns-in_err-all
 returns-in_err-all c =

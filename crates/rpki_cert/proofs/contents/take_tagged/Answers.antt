@@ -1,5 +1,5 @@
 use Rattle.std.proofs.Common.{false, refl, sym, ◌∙◌}
-use Rattle.rpki_der.proofs.LeavesLaws.{leaf-refused, leaf-accepted, leaf-bad}
+use Rattle.rpki_der.proofs.LeavesLaws.{leaf-refused, leaf-accepted, leaf-malformed}
 use Rattle.rpki_der.proofs.TriedLaws.{tried-refused}
 use Rattle.rpki.specs.KeyIdentifier.{IsKeyIdentifier}
 use Rattle.rpki_cert.specs.ExtensionContent.{identifier_tag, SpellsTagged, IsTaggedFault}
@@ -20,4 +20,4 @@ returns-in-Ok c =
 pub returns-in-Err : goal.returns-in-Err
 returns-in-Err c =
     let a = rw c.new.ensures at c.in_ok-octets.ensures in
-    leaf-bad identifier_tag false IsKeyIdentifier _ c.in_ok-octets.octets.now _ _ c.from_static.result refl a (λ v h. c.in-Err.ensures h.size)
+    leaf-malformed identifier_tag false IsKeyIdentifier _ c.in_ok-octets.octets.now _ _ _ _ c.content.ensures refl a (λ v h. c.in-Err.ensures h.size)

@@ -6,4 +6,4 @@ use Rattle.rpki_cert.specs.CertFault.{AreExtensionsFault}
 use Rattle.rpki_cert.proofs.extensions.take_list.Goals as goal
 
 pub returns : goal.returns
-returns c = read-parts-inside (λ v. v.items) sequence true AreExtensions AreExtensionsFault _ (λ b a x h. search rules) _ _ _ c.in_sequence.ensures
+returns g c = read-parts-inside (λ v. v.items) sequence true AreExtensions AreExtensionsFault _ (λ b a x h. search rules) _ _ _ c.in_sequence_with.ensures

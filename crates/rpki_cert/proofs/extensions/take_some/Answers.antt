@@ -1,4 +1,4 @@
-use Rattle.std.proofs.Common.{sym, ◌∙◌}
+use Rattle.std.proofs.Common.{refl, sym, ◌∙◌}
 use Rattle.std.proofs.lemmas.Bool.{iff_false}
 use Rattle.rpki_der.specs.Cursor.{left}
 use Rattle.rpki_der.proofs.ReadingLaws.{UnlessMemory-weaker}
@@ -11,12 +11,12 @@ use Rattle.rpki_cert.proofs.SomeLaws.{not-true}
 use Rattle.rpki_cert.proofs.extensions.take_some.Goals as goal
 
 pub returns-then-is_empty : goal.returns-then-is_empty
-returns-then-is_empty c =
+returns-then-is_empty g c =
     let end = c.is_empty.ensures.0 c.if-is_empty.true in
-    (none-there (left c.args.contents.now) end, NoExtension end c.from_static.ensures)
+    rw c.content.ensures (none-there (left c.args.contents.now) end, NoExtension end refl)
 
 pub returns-in_err-all : goal.returns-in_err-all
-returns-in_err-all c =
+returns-in_err-all g c =
     let e = c.in_err-all.field-0.0 in
     let h = c.in_err-all.ensures.reads in
     let some = iff_false c.is_empty.ensures c.if-is_empty.false in
@@ -24,7 +24,7 @@ returns-in_err-all c =
     (UnlessMemory-weaker e (λ none xs k. none xs k.some.each) h.0, NotExtensions some h.1)
 
 pub returns-in_err-unique : goal.returns-in_err-unique
-returns-in_err-unique c =
+returns-in_err-unique g c =
     let some = iff_false c.is_empty.ensures c.if-is_empty.false in
     let one = c.in_ok-all.ensures.reads.0 c.in_ok-all.ensures.end in
     let e = c.in_err-unique.field-0.0 in
@@ -32,8 +32,8 @@ returns-in_err-unique c =
     (no-room (left c.args.contents.now) c.in_ok-all.all.items e some one.0 c.in_err-unique.ensures.refused)
 
 pub returns-then-not-unique : goal.returns-then-not-unique
-returns-then-not-unique c =
+returns-then-not-unique g c =
     let one = c.in_ok-all.ensures.reads.0 c.in_ok-all.ensures.end in
     let is = rw c.as_slice.ensures.value at c.in_ok-unique.ensures.answer in
     let twice = not-true _ (sym is ∙ c.if-not-unique.true) in
-    (repeated (left c.args.contents.now) c.in_ok-all.all.items one twice, Repeated c.in_ok-all.all.items one.0 twice c.from_static-then-not-unique.ensures)
+    rw c.content-then-not-unique.ensures (repeated (left c.args.contents.now) c.in_ok-all.all.items one twice, Repeated c.in_ok-all.all.items one.0 twice refl)

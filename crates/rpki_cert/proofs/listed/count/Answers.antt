@@ -1,4 +1,4 @@
-use Rattle.std.proofs.Common.{arith, true}
+use Rattle.std.proofs.Common.{arith, ap, length, true}
 use Rattle.std.proofs.lemmas.Bool.{iff_false}
 use Rattle.rpki_der.specs.Cursor.{left}
 use Rattle.rpki_der.specs.TagName.{sequence}
@@ -14,7 +14,8 @@ pub overflow_add-count : goal.overflow_add-count
 unfolding left
 overflow_add-count c =
     let more = leaf-shorter sequence true IsExtensionContents _ _ _ c.in-Ok.ensures.spells in
-    omega (arith, c.extensions.invariant.room, more, c.args.list.bounded)
+    let room = c.rest.type_inv.0 in
+    omega (arith, c.extensions.invariant.room, more, room, ap length c.rest.ensures)
 
 pub extensions-preserved : goal.extensions-preserved
 extensions-preserved c =

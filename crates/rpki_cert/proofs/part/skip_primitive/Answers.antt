@@ -1,7 +1,7 @@
 use Rattle.std.proofs.Common.{false, refl}
 use Rattle.std.proofs.lemmas.Bool.{iff_false}
 use Rattle.rpki_der.specs.Leaves.{IsOnly}
-use Rattle.rpki_der.proofs.LeavesLaws.{leaf-refused, leaf-accepted, leaf-bad}
+use Rattle.rpki_der.proofs.LeavesLaws.{leaf-refused, leaf-accepted, leaf-malformed}
 use Rattle.rpki_der.proofs.TriedLaws.{tried-refused}
 use Rattle.rpki_cert.proofs.part.skip_primitive.Goals as goal
 
@@ -11,7 +11,7 @@ returns-in_err-contents c =
 
 pub returns-then-not-are_same : goal.returns-then-not-are_same
 returns-then-not-are_same c =
-    leaf-bad c.args.tag false (IsOnly c.args.expected.now) _ c.in_ok-contents.contents.now _ _ c.from_static.result refl c.in_ok-contents.ensures
+    leaf-malformed c.args.tag false (IsOnly c.args.expected.now) _ c.in_ok-contents.contents.now _ _ _ _ c.content.ensures refl c.in_ok-contents.ensures
     (λ v same. iff_false c.are_same.ensures c.if-not-are_same.true same)
 
 pub returns : goal.returns

@@ -1,4 +1,4 @@
-use Rattle.std.proofs.Common.{false, inl, inr, sym, ap, ◌∙◌}
+use Rattle.std.proofs.Common.{refl, false, inl, inr, sym, ap, ◌∙◌}
 use Rattle.std.proofs.lemmas.Bool.{iff_false}
 use Rattle.rpki_der.specs.Cursor.{left}
 use Rattle.rpki_der.specs.TagName.{oid}
@@ -13,7 +13,7 @@ use Rattle.rpki_cert.proofs.purposes.take_some.Goals as goal
 pub returns-then-is_empty : goal.returns-then-is_empty
 returns-then-is_empty c =
     let end = c.is_empty.ensures.0 c.if-is_empty.true in
-    (λ b k. none-some SpellsPurpose (leaf-some oid false (IsOidAs router_purpose)) (left c.args.contents.now) end k.purposes k.some, inl (end, c.from_static.ensures))
+    rw c.content.ensures (λ b k. none-some SpellsPurpose (leaf-some oid false (IsOidAs router_purpose)) (left c.args.contents.now) end k.purposes k.some, inl (end, refl))
 
 pub returns-in_err-all : goal.returns-in_err-all
 returns-in_err-all c =

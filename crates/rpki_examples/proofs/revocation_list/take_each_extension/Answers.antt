@@ -6,5 +6,5 @@ use Rattle.rpki.specs.ExtensionFault.{IsKeptExtensionFault}
 use Rattle.rpki_examples.proofs.revocation_list.take_each_extension.Goals as goal
 
 pub returns : goal.returns
-returns c =
-    read-each-itself SpellsExtension IsKeptExtensionFault _ (λ b a x h. search rules) (leaf-some sequence true IsExtensionContents) (λ v. v.items) _ _ _ c.take_each.ensures
+returns g c =
+    read-each-itself SpellsExtension IsKeptExtensionFault _ (λ b a x h. search rules) (leaf-some sequence true IsExtensionContents) (λ v. v.items) _ _ _ c.take_each_with.ensures

@@ -5,4 +5,4 @@ use Rattle.rpki_examples.specs.RevocationList.{SpellsEachExtension, IsEachExtens
 use Rattle.rpki_examples.proofs.revocation_list.take_extension_list.Goals as goal
 
 pub returns : goal.returns
-returns c = read-parts-inside (λ v. v.items) sequence true SpellsEachExtension IsEachExtensionFault _ (λ b a x h. search rules) _ _ _ c.in_sequence.ensures
+returns g c = read-parts-inside (λ v. v.items) sequence true SpellsEachExtension IsEachExtensionFault _ (λ b a x h. search rules) _ _ _ c.in_sequence_with.ensures

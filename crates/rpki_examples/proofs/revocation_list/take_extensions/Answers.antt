@@ -5,7 +5,7 @@ use Rattle.rpki_examples.specs.RevocationList.{extensions_tag, SpellsExtensionLi
 use Rattle.rpki_examples.proofs.revocation_list.take_extensions.Goals as goal
 
 pub returns : goal.returns
-returns c =
-    let is = rw c.new.ensures at c.in_constructed.ensures in
+returns g c =
+    let is = rw c.new.ensures at c.in_constructed_with.ensures in
     read-parts-inside (λ v. v.items) extensions_tag true SpellsExtensionList (FirstFault SpellsExtensionList IsExtensionListFault (λ v. IsEndFault)) _
     (λ b a x h. reads-one-part (λ v. v.items) SpellsExtensionList IsExtensionListFault _ _ x (search rules)) _ _ _ is

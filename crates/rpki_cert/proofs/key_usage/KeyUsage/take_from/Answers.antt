@@ -1,6 +1,6 @@
 use Rattle.std.proofs.Common.{◌≡◌, ℕ, List, [], ◌∷◌, false, refl, sym, ◌∙◌}
 use Rattle.rpki_der.specs.TagName.{bit_string}
-use Rattle.rpki_der.proofs.LeavesLaws.{leaf-refused, leaf-accepted, leaf-bad}
+use Rattle.rpki_der.proofs.LeavesLaws.{leaf-refused, leaf-accepted, leaf-malformed}
 use Rattle.rpki_der.proofs.TriedLaws.{tried-refused}
 use Rattle.rpki_cert.specs.declared.key_usage.KeyUsage.{KeyUsage}
 use Rattle.rpki_cert.specs.declared.key_usage.KeyUsage.TheVariants.{Ca, Ee}
@@ -25,4 +25,4 @@ returns-in-Some c =
 
 pub returns-in-None : goal.returns-in-None
 returns-in-None c =
-    leaf-bad bit_string false IsUsage _ c.in_ok-contents.contents.now _ _ c.from_static.result refl c.in_ok-contents.ensures c.in-None.ensures.none
+    leaf-malformed bit_string false IsUsage _ c.in_ok-contents.contents.now _ _ _ _ c.content.ensures refl c.in_ok-contents.ensures c.in-None.ensures.none

@@ -1,6 +1,6 @@
 use Rattle.std.proofs.Common.{◌≡◌, ℕ, List, [], ◌∷◌, false, refl, sym, ◌∙◌}
 use Rattle.rpki_der.specs.TagName.{oid}
-use Rattle.rpki_der.proofs.LeavesLaws.{leaf-refused, leaf-accepted, leaf-bad}
+use Rattle.rpki_der.proofs.LeavesLaws.{leaf-refused, leaf-accepted, leaf-malformed}
 use Rattle.rpki_der.proofs.TriedLaws.{tried-refused}
 use Rattle.rpki_cert.specs.declared.policy.Overclaim.{Overclaim}
 use Rattle.rpki_cert.specs.declared.policy.Overclaim.TheVariants.{Refuse, Trim}
@@ -28,4 +28,4 @@ returns-in-Some c =
 
 pub returns-in-None : goal.returns-in-None
 returns-in-None c =
-    leaf-bad oid false IsPolicyName _ c.in_ok-contents.contents.now _ _ c.from_static.result refl c.in_ok-contents.ensures c.in-None.ensures.none
+    leaf-malformed oid false IsPolicyName _ c.in_ok-contents.contents.now _ _ _ _ c.content.ensures refl c.in_ok-contents.ensures c.in-None.ensures.none

@@ -7,5 +7,5 @@ use Rattle.rpki_cert.proofs.CertLaws.{reads-tbs}
 use Rattle.rpki_cert.proofs.tbs.TbsCert.take_from.Goals as goal
 
 pub returns : goal.returns
-returns c =
-    reads-tbs IsTbsFault _ _ _ (read-parts-inside fields_of sequence true AreFields AreFieldsFault _ (λ b a x h. search rules) _ _ _ c.in_sequence.ensures)
+returns g c =
+    reads-tbs IsTbsFault _ _ _ (read-parts-inside fields_of sequence true AreFields AreFieldsFault _ (λ b a x h. search rules) _ _ _ c.in_sequence_with.ensures)

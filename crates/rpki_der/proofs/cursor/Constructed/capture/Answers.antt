@@ -4,6 +4,7 @@ use Rattle.rpki_der.specs.Cursor.{left}
 use Rattle.rpki_der.specs.Capture.NotCaptured.{RefusedCapture, Grown, NotKept}
 use Rattle.rpki_der.specs.Members.{IsValueList}
 use Rattle.rpki_der.proofs.CaptureLaws.{both-parts, as-many}
+use Rattle.rpki_der.proofs.KeepLaws.{front-stands}
 use Rattle.rpki_der.proofs.cursor.Constructed.capture.Goals as goal
 
 pub returns-in_err-op : goal.returns-in_err-op
@@ -75,6 +76,9 @@ returns g c = (
     read = record { shown = _; shows = refl; left = _; met = c.in_ok-op.ensures; leaves = refl };
     rest = refl;
   }),
-  rw (c.of_index.ensures, c.in-Ok.ensures) (both-parts _ _ _ _ c.split_at.ensures.front c.split_at.ensures.following),
+  rw (c.of_index.ensures, c.in-Ok.ensures, c.rest-2.ensures) (both-parts _ _ _ _ c.split_at.ensures.front c.split_at.ensures.following),
   as-many _ _ _ _ _ _ c.len.ensures c.len-2.ensures c.in-Some.ensures c.split_at.ensures.following,
 )
+
+pub keep_part-requires-clause-stands : goal.keep_part-requires-clause-stands
+keep_part-requires-clause-stands g c = rw c.rest-2.ensures (front-stands _ _ _ _ c.split_at.ensures.front c.split_at.ensures.following)

@@ -5,4 +5,4 @@ use Rattle.rpki_examples.specs.RevocationList.{parts_of, AreParts, ArePartsFault
 use Rattle.rpki_examples.proofs.revocation_list.RevocationList.take_from.Goals as goal
 
 pub returns : goal.returns
-returns c = read-parts-inside parts_of sequence true AreParts ArePartsFault _ (λ b a x h. search rules) _ _ _ c.in_sequence.ensures
+returns g c = read-parts-inside parts_of sequence true AreParts ArePartsFault _ (λ b a x h. search rules) _ _ _ c.in_sequence_with.ensures

@@ -4,8 +4,8 @@ use Rattle.rpki.proofs.SigningLaws.{signature-accepted, signature-refused}
 use Rattle.rpki.proofs.repository.x509.signed_data.signature_value.Goals as goal
 
 pub returns-in_err-bits : goal.returns-in_err-bits
-returns-in_err-bits c =
+returns-in_err-bits g c =
     tried-refused _ _ _ _ _ _ _ c.from_residual.ensures (signature-refused IsBitsFault _ _ c.in_err-bits.field-0.0 c.in_err-bits.ensures)
 
 pub returns : goal.returns
-returns c = signature-accepted _ _ _ _ c.into_octets.ensures c.in_ok-bits.ensures
+returns g c = signature-accepted _ _ _ _ c.into_octets.ensures c.in_ok-bits.ensures

@@ -9,17 +9,17 @@ use Rattle.rpki_text.specs.GeneralName.{IsRsyncText}
 use Rattle.rpki_text.proofs.uri.rsync.Rsync.take_general_name.Goals as goal
 
 pub returns-in_err-bytes : goal.returns-in_err-bytes
-returns-in_err-bytes c =
+returns-in_err-bytes g c =
     tried-refused _ _ _ _ _ _ _ c.from_residual.ensures
     (shared-refused (Finds (SpellsContents context_6 false)) context_6 false IsRsyncText _ _ _ c.in_err-bytes.field-0.0 refl c.in_err-bytes.ensures)
 
 pub returns-in-Ok : goal.returns-in-Ok
-returns-in-Ok c =
+returns-in-Ok g c =
     let is = c.in-Ok.ensures in
     leaf-accepted context_6 false IsRsyncText _ c.in_ok-bytes.bytes _ c.in-Ok.uri c.in_ok-bytes.ensures is (λ w h. h.0 ∙ sym is.0)
 
 pub returns-in-Err : goal.returns-in-Err
-returns-in-Err c =
+returns-in-Err g c =
     let why = c.in-Err.ensures in
     Refusal-or-memory-where (Finds (SpellsContents context_6 false)) (IsLeafFault context_6 false IsRsyncText) _ _ _ (λ z. absurd z)
     (leaf-malformed context_6 false IsRsyncText _ c.in_ok-bytes.bytes _ _ _ _ c.content.ensures refl c.in_ok-bytes.ensures (λ v h. let both = sym h.1 ∙ why in cc))

@@ -6,4 +6,4 @@ use Rattle.rpki.specs.KeyFault.{IsKeyPartsFault}
 use Rattle.rpki.proofs.crypto.keys.public_key.PublicKey.take_from.Goals as goal
 
 pub returns : goal.returns
-returns c = read-parts-inside (λ k. k) sequence true IsKeyContents IsKeyPartsFault _ (λ b a x h. search rules) _ _ _ c.in_sequence.ensures
+returns g c = read-parts-inside (λ k. k) sequence true IsKeyContents IsKeyPartsFault _ (λ b a x h. search rules) _ _ _ c.in_sequence_with.ensures

@@ -10,4 +10,4 @@ pub returns : goal.returns
 returns g c =
     let C = IsSignedContents g.Alg.SignatureAlgorithm.spells in
     let K = IsSignedPartsFault g.Alg.SignatureAlgorithm.spells g.Alg.SignatureAlgorithm.fault in
-    read-parts-inside (λ x. x) sequence true C (FirstFault C K (λ x. IsEndFault)) _ (λ b a x h. reads-one-part (λ x. x) C K _ _ x (search rules)) _ _ _ c.in_sequence.ensures
+    read-parts-inside (λ x. x) sequence true C (FirstFault C K (λ x. IsEndFault)) _ (λ b a x h. reads-one-part (λ x. x) C K _ _ x (search rules)) _ _ _ c.in_sequence_with.ensures

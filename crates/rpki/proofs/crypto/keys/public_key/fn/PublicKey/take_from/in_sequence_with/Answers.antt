@@ -14,10 +14,10 @@ use Rattle.rpki.specs.PublicKey.{IsKeyContents}
 use Rattle.rpki.specs.KeyFault.{IsBitsFault, IsKeyPartsFault}
 use Rattle.rpki_der.proofs.PartsLaws.{both-read, no-first, no-second}
 use Rattle.rpki.proofs.PublicKeyLaws.{only-key}
-use Rattle.rpki.proofs.crypto.keys.public_key.fn.PublicKey.take_from.in_sequence.Goals as goal
+use Rattle.rpki.proofs.crypto.keys.public_key.fn.PublicKey.take_from.in_sequence_with.Goals as goal
 
 pub returns-in_err-algorithm : goal.returns-in_err-algorithm
-returns-in_err-algorithm c =
+returns-in_err-algorithm g c =
     let s = left c.args.contents.now in
     let e = c.in_err-algorithm.field-0.0 in
     let h = c.in_err-algorithm.ensures.reads in
@@ -27,7 +27,7 @@ returns-in_err-algorithm c =
     )
 
 pub returns-in_err-bits : goal.returns-in_err-bits
-returns-in_err-bits c =
+returns-in_err-bits g c =
     let B = SpellsLeaf bit_string false IsBits in
     let s = left c.args.contents.now in
     let m = left c.take_from.new.cons in
@@ -40,7 +40,7 @@ returns-in_err-bits c =
     )
 
 pub returns : goal.returns
-returns c =
+returns g c =
     let B = SpellsLeaf bit_string false IsBits in
     let s = left c.args.contents.now in
     let a = c.in_ok-algorithm.ensures.reads in

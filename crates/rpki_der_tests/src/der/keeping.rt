@@ -1,0 +1,137 @@
+//! Octets that a reader keeps from within values, as a copy and shared, at each size.
+
+ghost use Rattle.rpki_der.specs.Cursor.{left};
+
+use bytes::Bytes;
+use rpki_der::*;
+use std::alloc::{AllocError, Global};
+
+/// How many octets a value has, and its length octets (X.690 8.1.3).
+const SIZES: &[(usize, &[u8])] = &[
+    (0, &[0]),
+    (1, &[1]),
+    (127, &[0x7f]),
+    (128, &[0x81, 0x80]),
+    (255, &[0x81, 0xff]),
+    (256, &[0x82, 0x01, 0x00]),
+    (65_535, &[0x82, 0xff, 0xff]),
+    (65_536, &[0x83, 0x01, 0x00, 0x00]),
+    (1_000_000, &[0x83, 0x0f, 0x42, 0x40]),
+];
+
+fn sizes() -> &'static [(usize, &'static [u8])] {
+    SIZES
+}
+
+/// Octets that differ from their neighbours.
+fn octets_of(alloc: Global, size: usize) -> Result<Vec<u8>, AllocError> {
+    let mut octets = Vec::new(alloc);
+    for place in 0..size {
+        octets.push((place % 251) as u8)?;
+    }
+    Ok(octets)
+}
+
+/// A SEQUENCE of a SEQUENCE of an OCTET STRING with these contents, and of a BIT STRING of these octets.
+fn nested(alloc: Global, contents: &[u8]) -> Result<Bytes, AllocError> {
+    let bits = BitString::new(0, Bytes::copy_from_slice(alloc, contents)?);
+    let values = Sequence::new((Sequence::new(contents.encode()), bits.encode_ref()));
+    if !values.fits() {
+        return Err(AllocError);
+    }
+    let octets = Captured::from_values(alloc, &values)?;
+    Ok(octets.into_bytes())
+}
+
+/// The OCTET STRING with its header, its contents, and the BIT STRING.
+type Kept = (Captured, Bytes, BitString);
+
+/// Keeps the OCTET STRING twice, from the inner SEQUENCE.
+fn take_inner<K: Keep>(
+    keep: K,
+    cons: &mut Constructed<'_>,
+) -> Result<(Captured, Bytes), DecodeError>
+    requires { K.holds keep (left cons.old) }
+{
+    let mut again = *cons;
+    let value = again.capture(keep, |cons| -> Result<(), DecodeError> {
+        cons.take_octets()?;
+        Ok(())
+    })?;
+    let octets = cons.take_primitive_bytes_if(keep, Tag::OCTET_STRING)?;
+    Ok((value, octets))
+}
+
+/// Reads all of it.
+fn take_nested<K: Keep>(keep: K, cons: &mut Constructed<'_>) -> Result<Kept, DecodeError>
+    requires { K.holds keep (left cons.old) }
+{
+    cons.in_sequence_with(
+        keep,
+        |cons, keep|
+            requires { K.holds keep (left cons.old) }
+        {
+            let mut again = *cons;
+            let (value, octets) = again.in_sequence_with(
+                keep,
+                |cons, keep|
+                    requires { K.holds keep (left cons.old) }
+                { take_inner(keep, cons) },
+            )?;
+            cons.capture_one(keep)?;
+            let bits = cons.take_bit_string(keep)?;
+            Ok((value, octets, bits))
+        },
+    )
+}
+
+/// Whether what is kept is this value, and these contents.
+fn is_kept<K: Keep>(keep: K, cons: &mut Constructed<'_>, value: &[u8], contents: &[u8]) -> bool
+    requires { K.holds keep (left cons.old) }
+{
+    match take_nested(keep, cons) {
+        Ok((captured, octets, bits)) => {
+            captured.as_slice() == value
+                && captured.headers().len() == 1
+                && octets.as_slice() == contents
+                && bits.octet_slice() == contents
+                && bits.unused() == 0
+                && cons.is_empty()
+        }
+        Err(_) => false,
+    }
+}
+
+/// An OCTET STRING with these length octets and contents.
+fn octet_string(alloc: Global, size: &[u8], contents: &[u8]) -> Result<Vec<u8>, AllocError> {
+    let mut value = Vec::from_slice(alloc, &[4])?;
+    value.extend_from_slice(size)?;
+    value.extend_from_slice(contents)?;
+    Ok(value)
+}
+
+#[test]
+fn parts_of_values_are_kept(rt: HostRuntime) -> Result<(), AllocError> {
+    for (count, size) in sizes() {
+        let contents = octets_of(rt.alloc(), *count)?;
+        let value = octet_string(rt.alloc(), size, contents.as_slice())?;
+        let octets = nested(rt.alloc(), contents.as_slice())?;
+        let mut copied = Constructed::new(&octets);
+        assert!(rt;
+            is_kept(
+                rt.alloc(),
+                &mut copied,
+                value.as_slice(),
+                contents.as_slice()
+            ),
+            "{count} copied"
+        );
+        let mut shared = Constructed::new(&octets);
+        let keep = Shared::new(rt.alloc(), &octets);
+        assert!(rt;
+            is_kept(keep, &mut shared, value.as_slice(), contents.as_slice()),
+            "{count} shared"
+        );
+    }
+    Ok(())
+}
