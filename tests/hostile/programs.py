@@ -2,9 +2,13 @@
 import os
 import re
 import subprocess
+import sys
 from typing import NamedTuple
 
 TOP = os.path.dirname(os.path.dirname(os.path.dirname(os.path.abspath(__file__))))
+sys.path.append(os.path.join(TOP, "tests", "gate"))
+
+import unproved  # noqa: E402
 
 
 class Seen(NamedTuple):
@@ -23,39 +27,30 @@ class Seen(NamedTuple):
 
 
 class Programs(NamedTuple):
-    """Both programs, as one compiler built them: `rpkibasic`, and `hostile_calls`, which makes one call."""
+    """Both programs: `rpkibasic`, as one compiler built it, and `hostile_calls`, which makes one call."""
 
     compiler: str
     basic: str
     calls: str
 
 
-def built(name, ending=""):
-    """Where a built program is, or would be."""
-    return os.path.join(TOP, "crates", name, "out", name + ending)
-
-
-def programs():
-    """The programs as LLVM built them, and as Rattle's own compiler did where it could. What no one built yet is
-    proved and built first."""
-    for name, words in [("rpkibasic", []), ("hostile_calls", ["text", "rsync_into_string"])]:
-        if not os.path.exists(built(name)):
-            folder = os.path.join(TOP, "crates", name)
-            subprocess.run(["rt", "run", "--", *words], cwd=folder, stdin=subprocess.DEVNULL, capture_output=True)
-    found = []
-    for compiler, ending in [("LLVM", ""), ("Rattle", ".by-rattle")]:
-        pair = Programs(compiler, built("rpkibasic", ending), built("hostile_calls", ending))
-        if compiler == "LLVM" or (os.path.exists(pair.basic) and os.path.exists(pair.calls)):
-            found.append(pair)
-    return found
+def programs(folder):
+    """The programs of a folder, for each compiler that built `rpkibasic`. What isn't there yet is built first, without
+    proof."""
+    for name in ("rpkibasic", "hostile_calls"):
+        if not os.path.exists(os.path.join(folder, name)):
+            unproved.build(name, os.path.join(folder, name))
+    files = [("LLVM", os.path.join(folder, "rpkibasic")), ("Rattle", os.path.join(folder, "rpkibasic.by-rattle"))]
+    calls = os.path.join(folder, "hostile_calls")
+    return [Programs(compiler, basic, calls) for compiler, basic in files if os.path.exists(basic)]
 
 
 def run(program, words, octets=b"", **options):
-    """A run of a program with these words over this input, for a minute at most. No allocation is refused."""
+    """A run of a program with these words over this input, for ten minutes at most. No allocation is refused."""
     return run_refused(program, words, octets, **options).after(0)
 
 
 def run_refused(program, words, octets=b"", **options):
     """The same where allocations may be refused."""
-    done = subprocess.run([program, *words], input=octets, capture_output=True, timeout=60, close_fds=False, **options)
+    done = subprocess.run([program, *words], input=octets, capture_output=True, timeout=600, close_fds=False, **options)
     return Seen(done.returncode, done.stdout, done.stderr)
