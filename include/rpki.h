@@ -7,7 +7,8 @@
  * (struct rpki_place): where they start, counted from the first octet that was passed, and how many octets they have.
  *
  * Where the status is not 0, `out` is left as it was; only `*count` of rpki_index, and `*written` of the calls that say
- * so, are written with RPKI_TOO_SMALL too.
+ * so, are written with RPKI_TOO_SMALL too, and `*at` of rpki_base64_read with RPKI_INVALID_SYMBOL to
+ * RPKI_INVALID_PADDING.
  *
  * What a call takes of memory it frees before it returns. At the peak rpki_walk, rpki_index, rpki_fault and
  * rpki_signed_data take up to 24 octets for each level of nesting, and 64 more; rpki_name_inspect takes the same of a
@@ -34,7 +35,7 @@
  *
  * Link with librpki.a, or with librpki.so: -lrpki, or what `pkg-config --cflags --libs rpki` says. The library needs
  * malloc, realloc, free, memcpy, memmove and memset alone. Each call of librpki.a is a section of its own: with
- * -Wl,--gc-sections a program holds those that it makes, 2 KB in place of 38 where that is rpki_header.
+ * -Wl,--gc-sections a program holds those that it makes, and no others.
  *
  * The processor is the one that the library was built for, and no call checks it. librpki.a and librpki.so of a package
  * run on every processor of their kind, x86-64 (v1) or aarch64. The library in the folder x86_64-v2 asks for x86-64-v2
@@ -112,20 +113,21 @@ enum {
 
     /* Of single calls, which name them. */
     RPKI_TOO_SMALL = 9,        /* the caller's array or buffer has no room */
-    RPKI_NO_ANSWER = 10,       /* there is nothing to answer: no path leads there, no parent, no fault */
+    RPKI_NO_ANSWER = 10,       /* there is nothing to answer: no path leads there, no parent, no fault, no such time */
     RPKI_NOT_OF_PROFILE = 11,  /* no call returns it: one of the statuses 32 to 37 says which rule is broken */
     RPKI_NO_PROFILE = 12,      /* no profile has this number */
     RPKI_OTHER_ALGORITHM = 13, /* an algorithm identifier, but of none of the algorithms that the call reads */
-    RPKI_OTHER_PARTS = 14,     /* the places are not laid out as those of the parts of a text of this size: one is
-                                  outside of it, or they don't follow each other to its end */
+    RPKI_OTHER_PARTS = 14,     /* the places are not laid out as those of the parts of a text of this size: the first
+                                  part begins right after the scheme and the slashes, each other one an octet after the
+                                  one before, or in an https URI right after it, and the last ends with the text */
     RPKI_TOO_LONG = 15,        /* what is written would have contents of 2^32 octets or more, or numbers have more
-                                  octets than a key may have */
+                                  octets than a key may have, or an arc more than rpki_oid_text writes */
 
     /* Of rpki_base64_read: why the text is not base 64. */
-    RPKI_INVALID_SYMBOL = 40,      /* an octet that is no symbol, or padding that is not at the end */
+    RPKI_INVALID_SYMBOL = 40,      /* an octet that is no symbol, or padding that is not at the end or too much */
     RPKI_INVALID_LENGTH = 41,      /* no octets have a text of this length */
     RPKI_INVALID_LAST_SYMBOL = 42, /* the last symbol has bits that stand for nothing */
-    RPKI_INVALID_PADDING = 43,     /* padding is missing, or there is too much of it */
+    RPKI_INVALID_PADDING = 43,     /* padding is missing */
 
     /* Of rpki_validity_at: why a period doesn't hold at a moment. */
     RPKI_TOO_NEW = 50, /* the period begins after the moment */
@@ -652,7 +654,7 @@ rpki_status rpki_rsync_relative_to(const uint8_t *uri, size_t uri_size, const ui
 /*
  * Writes `base` with `path` after it to `out`, which has room for `capacity` octets: `base` itself where the path is
  * empty, else with a slash between them where `base` ends with none. `*written` becomes the count of the octets; what
- * is after them in `out` stays. The text has at most base_size + 1 + path_size octets, and 3,079 are always enough.
+ * is after them in `out` stays. The text has at most base_size + 1 + path_size octets, and 3,080 are always enough.
  *
  * RPKI_TOO_SMALL: the text is longer than `capacity`; nothing is written. An RPKI_URI_ number: what is wrong with
  * `base`; with RPKI_SECOND added, where `base` is right, what is wrong with `path`, or last RPKI_URI_LONG_URI of the
@@ -803,8 +805,9 @@ rpki_status rpki_base64_write(const uint8_t *octets, size_t size, bool url_safe,
  * The octets of a text in base 64. `flavour` is one of the three below; another number is RPKI_BASE64_SLURM.
  *
  * RPKI_INVALID_SYMBOL to RPKI_INVALID_PADDING: the text is not base 64 of the flavour, and `*at` becomes the place of
- * the octet that is wrong, or that where the symbols end, or the size of the text for its padding. In the flavour of
- * XML it counts without white space, but for octets that are not UTF-8. Any other status leaves `*at`.
+ * the octet that is wrong, or that where the symbols end, or for missing padding the size of the text. In the flavour
+ * of XML a place counts without white space, but for octets that are not UTF-8, and the size with it. In the other two,
+ * octets that are not UTF-8 are no symbols. Any other status leaves `*at`.
  */
 enum {
     RPKI_BASE64_XML = 0,  /* the standard alphabet with padding; space, tab, line feed, form feed and carriage return
@@ -840,7 +843,7 @@ rpki_status rpki_public_key_write(const uint8_t *octets, size_t size, uint8_t *o
 
 /*
  * The RSA key of two numbers, the most significant octet first, as a public key. Leading zeros are left out.
- * RPKI_CONTENT: one of them has no octets. RPKI_TOO_LONG: they have more than 2^31 octets together.
+ * RPKI_TOO_LONG: they have more than 2^31 octets together. RPKI_CONTENT: they don't, and one of them has no octets.
  */
 rpki_status rpki_rsa_key_write(const uint8_t *modulus, size_t modulus_size, const uint8_t *exponent,
                                size_t exponent_size, uint8_t *out, size_t capacity, size_t *written);
@@ -973,7 +976,7 @@ static inline const char *rpki_status_text(int kind, rpki_status status) {
         case RPKI_CONTENT: return "malformed contents";
         case RPKI_TRAILING: return "octets after the value";
         case RPKI_OUT_OF_MEMORY: return "out of memory";
-        case RPKI_NO_ANSWER: return "no fault";
+        case RPKI_NO_ANSWER: return "no answer";
         case RPKI_NOT_OF_PROFILE: return "name not of the profile";
         case RPKI_NO_PROFILE: return "no such profile";
         case RPKI_OTHER_ALGORITHM: return "another algorithm";
@@ -1054,12 +1057,17 @@ static inline size_t rpki_first_child(const struct rpki_entry *entries, size_t c
 }
 
 /*
- * The number of the next entry in the value around entry `number`, or RPKI_NO_ENTRY. It is found by halving: entries
- * stand in order of place.
+ * The number of the next entry in the value around entry `number`, or RPKI_NO_ENTRY. Entries stand in order of place:
+ * it is found by steps that double, since it is often near, and then by halving.
  */
 static inline size_t rpki_next_sibling(const struct rpki_entry *entries, size_t count, size_t number) {
-    size_t low = number, high = count;
+    size_t low = number, high = count, step = 1;
     if (number >= count) return RPKI_NO_ENTRY;
+    while (step < count - low && entries[low + step].start < entries[number].end) {
+        low += step;
+        step *= 2;
+    }
+    if (step < count - low) high = low + step;
     while (high - low > 1) {
         size_t middle = low + (high - low) / 2;
         if (entries[middle].start < entries[number].end) {
@@ -1089,21 +1097,37 @@ static inline bool rpki_oid_insert(char *text, size_t capacity, size_t at, size_
     return true;
 }
 
+/* For rpki_oid_text: the octets of an arc, of which a UUID as an arc takes 19 (X.667). */
+#define RPKI_ARC_OCTETS 20
+
+/* For rpki_oid_text: whether these are the contents octets of an object identifier, with arcs that are not too long. */
+static inline rpki_status rpki_oid_check(const uint8_t *contents, size_t size) {
+    size_t place, first = 0;
+    bool is_long = false;
+    if (size == 0 || contents[size - 1] >= 0x80) return RPKI_CONTENT;
+    for (place = 0; place < size; place++) {
+        if (place == first && contents[place] == 0x80) return RPKI_CONTENT;
+        if (place - first >= RPKI_ARC_OCTETS) is_long = true;
+        if (contents[place] < 0x80) first = place + 1;
+    }
+    return is_long ? RPKI_TOO_LONG : RPKI_OK;
+}
+
 /*
  * Writes the dotted form of an object identifier, of which these are the contents octets (X.690 8.19), with a zero
- * after it: `2A 86 48` is "1.2.840". Arcs may have any size. `capacity` is the room at `text`; 4 * size + 3 is always
- * enough.
+ * after it: `2A 86 48` is "1.2.840". `capacity` is the room at `text`; 4 * size + 3 is always enough.
  *
- * RPKI_TOO_SMALL: `capacity` is too small. RPKI_CONTENT: the octets are no identifier: there are none, the last one is
- * not the last of an arc, or an arc begins with 0x80. In both cases `text` holds nothing of use.
+ * In this order: RPKI_CONTENT: the octets are no identifier: there are none, the last one is not the last of an arc, or
+ * an arc begins with 0x80. RPKI_TOO_LONG: an arc has more than 20 octets. RPKI_TOO_SMALL: `capacity` is too small; then
+ * `text` holds nothing of use.
  */
 static inline rpki_status rpki_oid_text(const uint8_t *contents, size_t size, char *text, size_t capacity) {
     size_t place, at = 0, end = 0; /* the arc that is read has the digits text[at] to text[end - 1] */
-    if (size == 0 || contents[size - 1] >= 0x80) return RPKI_CONTENT;
+    rpki_status status = rpki_oid_check(contents, size);
+    if (status != RPKI_OK) return status;
     for (place = 0; place < size; place++) {
         size_t digit;
         unsigned more = contents[place] & 0x7F;
-        if (at == end && contents[place] == 0x80) return RPKI_CONTENT;
         for (digit = end; digit > at; digit--) { /* the arc times 128, and seven bits more */
             more += 128 * (unsigned)(text[digit - 1] - '0');
             text[digit - 1] = (char)('0' + more % 10);

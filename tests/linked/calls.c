@@ -790,6 +790,23 @@ static bool takes_little(void) {
     return well;
 }
 
+/* An arc of twenty octets, and one of more, also where there is no room, or where what follows is no identifier. */
+static bool long_arcs(void) {
+    uint8_t octets[65536];
+    char text[4 * 21 + 3];
+    bool well;
+    memset(octets, 0xFF, sizeof octets);
+    octets[0] = 0x2A;
+    octets[20] = 0x7F;
+    well = rpki_oid_text(octets, 21, text, sizeof text) == RPKI_OK;
+    well = well && !strcmp(text, "1.2.1393796574908163946345982392040522594123775"); /* 2^140 - 1 */
+    octets[20] = 0xFF;
+    octets[sizeof octets - 1] = 0x7F;
+    well = well && rpki_oid_text(octets, sizeof octets, text, 0) == RPKI_TOO_LONG;
+    octets[sizeof octets - 1] = 0xFF;
+    return well && rpki_oid_text(octets, sizeof octets, text, sizeof text) == RPKI_CONTENT;
+}
+
 /* Contents octets of no object identifier, and one with an arc of 128 bits, a UUID (X.667 6.3). */
 static bool identifiers(void) {
     static const uint8_t none[] = {0x2A, 0x80, 0x01, 0x86};
@@ -797,7 +814,8 @@ static bool identifiers(void) {
         0x94, 0x8C, 0xC8, 0xF9, 0xD7, 0x76};
     static const char uuid_text[] = "2.25.329800735698586629295641978511506172918";
     char text[4 * sizeof uuid + 3];
-    bool well = rpki_oid_text(none, 0, text, sizeof text) == RPKI_CONTENT;
+    bool well = long_arcs() && rpki_oid_text(none, 0, text, sizeof text) == RPKI_CONTENT;
+    well = well && rpki_oid_text(none, 0, text, 0) == RPKI_CONTENT && rpki_oid_text(none, 4, text, 0) == RPKI_CONTENT;
     well = well && rpki_oid_text(none, 2, text, sizeof text) == RPKI_CONTENT;
     well = well && rpki_oid_text(none, 3, text, sizeof text) == RPKI_CONTENT;
     well = well && rpki_oid_text(none + 1, 2, text, sizeof text) == RPKI_CONTENT;
