@@ -44,6 +44,7 @@ NEEDS = [
     Need("qemu-aarch64", "qemu-user", ()),
     Need("aarch64-linux-gnu-gcc", "gcc-aarch64-linux-gnu", ()),
     Need("shellcheck", "shellcheck", ()),
+    Need("rpki-client", "rpki-client", ()),
 ]
 
 
