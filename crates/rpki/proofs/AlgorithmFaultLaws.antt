@@ -23,10 +23,6 @@ named-never o L s f =
 any-named-never : (L : List ℕ → List ℕ → DecodeError → Type 0) (s : List ℕ) → ((x r : List ℕ) → L x r OutOfMemory → ⊥) → IsAnyNamedFault L s OutOfMemory → ⊥
 any-named-never L s f = first-no-memory (SpellsLeaf oid false IsOidOf) (IsLeafFault oid false IsOidOf) L s (λ h. leaf-no-memory oid false IsOidOf s OutOfMemory h refl) f
 
-cms-rest-never : (x r : List ℕ) → IsCmsRestFault x r OutOfMemory → ⊥
-cms-rest-never x r (inl h) = parameters-never r h.1
-cms-rest-never x r (inr h) = h.1
-
 format-rest-never : (x r : List ℕ) → IsFormatRestFault x r OutOfMemory → ⊥
 format-rest-never x r (inl h) = parameters-never r h.1
 format-rest-never x r (inr (inl h)) = named-never secp256r1 IsEndFault r end-no-memory h.1
@@ -40,15 +36,8 @@ algorithm-outer o s e = inside-outer-exactly sequence true (IsNamedFault o IsPar
 pub bare-outer : (o s : List ℕ) (e : DecodeError) → IsBareFault o s e → IsOuterFault sequence true s e
 bare-outer o s e = inside-outer-exactly sequence true (IsNamedFault o IsEndFault) s e (λ c. named-never o IsEndFault c end-no-memory)
 
-pub cms-outer : (s : List ℕ) (e : DecodeError) → IsCmsFault s e → IsOuterFault sequence true s e
-cms-outer s e = inside-outer-exactly sequence true (IsAnyNamedFault IsCmsRestFault) s e (λ c. any-named-never IsCmsRestFault c cms-rest-never)
-
 pub format-outer : (s : List ℕ) (e : DecodeError) → IsFormatFault s e → IsOuterFault sequence true s e
 format-outer s e = inside-outer-exactly sequence true (IsAnyNamedFault IsFormatRestFault) s e (λ c. any-named-never IsFormatRestFault c format-rest-never)
-
-pub digest-set-outer : (s : List ℕ) (e : DecodeError) → IsDigestSetFault s e → IsOuterFault set true s e
-digest-set-outer s e =
-    inside-outer-exactly set true _ s e (λ c. first-no-memory SpellsDigest (IsAlgorithmFault sha256) (λ d. IsEndFault) c (λ h. (algorithm-outer sha256 c OutOfMemory h).other refl) (λ d r. end-no-memory r))
 
 -- ---- a reader of an algorithm identifier never returns that allocation failed
 

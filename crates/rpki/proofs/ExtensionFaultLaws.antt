@@ -38,10 +38,6 @@ parts-never c =
 pub extension-outer : (s : List ℕ) (e : DecodeError) → IsCertExtensionFault s e → IsOuterFault sequence true s e
 extension-outer s e = inside-outer-exactly sequence true IsExtensionPartsFault s e parts-never
 
--- where there is no SEQUENCE its error is the one of that
-pub kept-outer : (s : List ℕ) (e : DecodeError) → IsKeptExtensionFault s e → OrMemoryWhere (Finds SpellsExtension) (GivesOuterFault sequence true) s e
-kept-outer s e = or-memory-kind (Finds SpellsExtension) IsCertExtensionFault (GivesOuterFault sequence true) s e (λ d. inside-outer sequence true IsExtensionPartsFault s d)
-
 -- the SEQUENCE isn't there
 pub no-sequence : (s q : List ℕ) (e : DecodeError) → Refusal (SpellsContents sequence true) (IsContentsFault sequence true) s q e → Refusal SpellsExtension IsCertExtensionFault s s e
 no-sequence s q e h = record { unchanged = refl; refuses = (outer-refused sequence true IsExtensionContents s q s e refl h).refuses; kind = AtPart h.refuses h.kind }

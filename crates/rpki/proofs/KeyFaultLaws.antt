@@ -20,15 +20,6 @@ use Rattle.rpki.specs.KeyFault.{IsKeyPartsFault, IsKeyFault, IsKeyViewPartsFault
 use Rattle.rpki.proofs.PublicKeyLaws.{key-found}
 use Rattle.rpki.proofs.AlgorithmFaultLaws.{format-outer}
 
-key-parts-memory : (c : List ℕ) → IsKeyPartsFault c OutOfMemory → Finds IsKeyContents c
-key-parts-memory c (AtPart none k) = absurd ((format-outer c OutOfMemory k).other refl)
-key-parts-memory c (Later f r a (AtPart none k)) = key-found c r f a.spells k
-key-parts-memory c (Later f r a (Later b q d k)) = absurd (end-no-memory q k)
-
--- allocation may fail only where both parts are there
-pub key-outer : (s : List ℕ) (e : DecodeError) → IsKeyFault s e → OrMemoryWhere (HasInside sequence (Finds IsKeyContents)) (GivesOuterFault sequence true) s e
-key-outer s e = inside-outer-where sequence (Finds IsKeyContents) IsKeyPartsFault s e key-parts-memory
-
 view-parts-never : (c : List ℕ) → IsKeyViewPartsFault c OutOfMemory → ⊥
 view-parts-never c =
     let B = SpellsLeaf bit_string false IsBits in

@@ -100,6 +100,3 @@ pub kept-named : (s r c : List ℕ) → Accepts (SpellsKept AnyName) s c r → I
 kept-named s r c h = (octets-of c h.spells.front h.spells.spelled).named
 
 -- ---- the error of the SEQUENCE, where that isn't there
-
-pub name-outer : (s : List ℕ) (e : DecodeError) → IsNameFault s e → OrMemoryWhere HasNameValue (GivesOuterFault sequence true) s e
-name-outer s e = or-memory-kind HasNameValue IsWalkedNameFault (GivesOuterFault sequence true) s e (λ d. inside-outer sequence true IsRelativesFault s d)

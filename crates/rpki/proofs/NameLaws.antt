@@ -59,10 +59,6 @@ pub record Remains {V : Type 0} (t : TagName) (f : Bool) (C : V → List ℕ →
 pub remains-all : {V : Type 0} (t : TagName) (f : Bool) (C : V → List ℕ → Type 0) (c : List ℕ) → Remains t f C c c
 remains-all t f C c = record { whole = λ h. h; rest = λ h. h; before = ([], [], c, refl, refl, refl); passed = Here }
 
--- what begins what is left begins after such a list
-pub remains-after : {V : Type 0} (t : TagName) (f : Bool) (C : V → List ℕ → Type 0) (P : List ℕ → Type 0) (c m : List ℕ) → Remains t f C c m → P m → HasAfter (SpellsLeaf t f C) P c
-remains-after t f C P c m h p = let (vs, front, r, each, parts, same) = h.before in (vs, front, r, each, parts, subst P (sym same) p)
-
 pub remains-then : {V : Type 0} (t : TagName) (f : Bool) (C : V → List ℕ → Type 0) (c m r : List ℕ) → (m ≡ [] → ⊥) → Remains t f C c m → Accepts (SpellsLeaf t f (SpellsAny C)) m tt r → Remains t f C c r
 remains-then {V} t f C c m r some h a = record { whole = λ k. h.whole (longer k); rest = λ k. shorter (h.rest k); before = further; passed = passed-more (SpellsLeaf t f (SpellsAny C)) c m r tt h.passed a }
   where

@@ -29,17 +29,6 @@ pub bits-short : (k : KeyParts) → length (key_contents k) < 2 ^ 32 → length 
 bits-short k short =
     omega (arith, length-append (format_octets k.format) (tlv bit_string false (bits_contents k.bits)), tlv-at-least bit_string false (bits_contents k.bits))
 
-pub key-spelled : (k : KeyParts) → AreBits k.bits → length (key_contents k) < 2 ^ 32 → SpellsKey k (key_octets k)
-key-spelled k legal short =
-    let tag : IsTag bit_string = record { below = lit< tt; named = λ u. lit< tt } in
-    leaf-legal sequence true IsKeyContents k (key_contents k) sequence_legal short (record {
-      first = format_octets k.format;
-      second = tlv bit_string false (bits_contents k.bits);
-      parts = refl;
-      one = format-spelled k.format;
-      two = leaf-legal bit_string false IsBits k.bits (bits_contents k.bits) tag (bits-short k short) (bits-spelled k.bits legal);
-    })
-
 rsa-is-not-ec : (x y : List ℕ) → tlv oid false rsa_encryption ++ x ≡ tlv oid false ec_public_key ++ y → ⊥
 rsa-is-not-ec x y e = let same = (tlv-same-then oid false rsa_encryption ec_public_key x y (lit< tt) (lit< tt) e).0 in cc
 

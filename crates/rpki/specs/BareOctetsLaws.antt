@@ -25,10 +25,3 @@ bare-spelled o v short =
 pub bare-value : (o : List ℕ) (v : Unit {0}) (s : List ℕ) → SpellsBare o v s → IsValue s
 bare-value o v s h = composed-value-alone sequence (SpellsLeaf oid false (IsOnly o)) v s
     (λ c k. (1, leaf-value-alone oid (IsOnly o) v c k)) h
-
--- and is spelled in one way
-pub bare-is : (o : List ℕ) (v : Unit {0}) (s : List ℕ) → SpellsBare o v s → s ≡ bare_octets o
-bare-is o v s h =
-    let k = h.spelled in
-    h.value.octets ∙ ap (λ (c : List ℕ). tlv sequence true c)
-    (k.value.octets ∙ ap (λ (c : List ℕ). tlv oid false c) k.spelled)

@@ -34,13 +34,6 @@ tlv-at-least t f c =
     let b = (length-few (length c)).some in
     omega (arith, length-append (identifier_octets t f ++ length_octets (length c)) c, length-append (identifier_octets t f) (length_octets (length c)))
 
--- a tag number below 31 takes one octet
-pub tlv-at-most-six : (t : TagName) (f : Bool) (c : List ℕ) → t.number < 31 → length (tlv t f c) ≤ length c + 6
-tlv-at-most-six t f c low =
-    let a = identifier-short t f low in
-    let b = (length-few (length c)).few in
-    omega (arith, length-append (identifier_octets t f ++ length_octets (length c)) c, length-append (identifier_octets t f) (length_octets (length c)))
-
 -- a value is never empty
 pub tlv-some : (t : TagName) (f : Bool) (c : List ℕ) → tlv t f c ≡ [] → ⊥
 tlv-some t f c e = let h = tlv-at-least t f c in let g = ap length e in omega arith
@@ -112,9 +105,6 @@ pub tlv-front : (t : TagName) (f : Bool) (n : ℕ) → (front : List ℕ) × ((c
 tlv-front t f n = (identifier_octets t f ++ length_octets n, λ c e. ap (λ (k : ℕ). (identifier_octets t f ++ length_octets k) ++ c) e)
 
 -- ---- contents
-
-pub null-spelled : (v : Unit {0}) → IsNull v (null_contents v)
-null-spelled v = refl
 
 pub bits-spelled : (b : Bits) → AreBits b → IsBits b (bits_contents b)
 bits-spelled b legal = record { legal = legal; contents = refl }

@@ -35,22 +35,10 @@ pub at-second : {V W : Type 0} (G : V → List ℕ → Type 0) (K : Kind) (H : W
     → Accepts G s v r → Refusal H M r q e → FirstFault G K (λ v. FirstFault H M (L v)) s e
 at-second G K H M L s r q v e a h = Later v r a (at-part H M (L v) r q e h)
 
--- the third isn't
-pub at-third : {V W U : Type 0} (G : V → List ℕ → Type 0) (K : Kind) (H : W → List ℕ → Type 0) (M : Kind) (J : U → List ℕ → Type 0) (N : Kind) (L : V → W → U → Kind)
-    (s r q p : List ℕ) (v : V) (w : W) (e : DecodeError)
-    → Accepts G s v r → Accepts H r w q → Refusal J N q p e → FirstFault G K (λ v. FirstFault H M (λ w. FirstFault J N (L v w))) s e
-at-third G K H M J N L s r q p v w e a b h = Later v r a (at-second H M J N (L v) r q p w e b h)
-
 -- something follows the second
 pub after-second : {V W : Type 0} (G : V → List ℕ → Type 0) (K : Kind) (H : W → List ℕ → Type 0) (M : Kind) (s r q : List ℕ) (v : V) (w : W)
     → Accepts G s v r → Accepts H r w q → q ≢ [] → FirstFault G K (λ v. FirstFault H M (λ w. IsEndFault)) s Trailing
 after-second G K H M s r q v w a b some = Later v r a (Later w q b (some, refl))
-
--- something follows the third
-pub after-third : {V W U : Type 0} (G : V → List ℕ → Type 0) (K : Kind) (H : W → List ℕ → Type 0) (M : Kind) (J : U → List ℕ → Type 0) (N : Kind)
-    (s r q p : List ℕ) (v : V) (w : W) (u : U)
-    → Accepts G s v r → Accepts H r w q → Accepts J q u p → p ≢ [] → FirstFault G K (λ v. FirstFault H M (λ w. FirstFault J N (λ u. IsEndFault))) s Trailing
-after-third G K H M J N s r q p v w u a b c some = Later v r a (after-second H M J N r q p w u b c some)
 
 -- an optional part that is there in part alone
 pub at-optional : {V : Type 0} (B : List ℕ → Type 0) (G : V → List ℕ → Type 0) (K L : Kind) (s r : List ℕ) (e : DecodeError) → B s × Refusal G K s r e → OptionalFault B G K L s e
@@ -73,12 +61,6 @@ module _ {V : Type 0} (G : V → List ℕ → Type 0) (K : Kind) (L : V → Kind
   where-found (Later w q a l) n v r h =
       let is = a.only v r h in
       subst (λ (x : V). L x r e) (sym is.0) (subst (λ (x : List ℕ). L w x e) (sym is.1) l)
-
--- other kinds of the part, and of what follows it
-pub weaker : {V : Type 0} (G : V → List ℕ → Type 0) (K M : Kind) (L N : V → Kind) (s : List ℕ) (e : DecodeError) → (K s e → M s e) → ((v : V) (r : List ℕ) → L v r e → N v r e)
-    → FirstFault G K L s e → FirstFault G M N s e
-weaker G K M L N s e f g (AtPart none k) = AtPart none (f k)
-weaker G K M L N s e f g (Later v r a l) = Later v r a (g v r l)
 
 -- ---- where allocation fails
 
@@ -114,30 +96,6 @@ repeated-no-memory G K s f (AfterMember v r a h) = repeated-no-memory G K r f h
 abbrev pub IsOne : Kind → List ℕ → Type 0
 IsOne K s = (d e : DecodeError) → d ≢ OutOfMemory → e ≢ OutOfMemory → K s d → K s e → error_number d ≡ error_number e
 
-pub first-one : {V : Type 0} (G : V → List ℕ → Type 0) (K : Kind) (L : V → Kind) (s : List ℕ) → IsOne K s → ((v : V) (r : List ℕ) → IsOne (L v) r) → IsOne (FirstFault G K L) s
-first-one G K L s f g d e m n (AtPart none k) (AtPart not l) = f d e m n k l
-first-one G K L s f g d e m n (AtPart none k) (Later v r a l) = absurd (unless-memory d m none v r a.spells)
-first-one G K L s f g d e m n (Later v r a k) (AtPart none l) = absurd (unless-memory e n none v r a.spells)
-first-one {V} G K L s f g d e m n (Later v r a k) (Later w q b l) =
-    let is = a.only w q b.spells in
-    g v r d e m n k (subst (λ (x : V). L x r e) is.0 (subst (λ (x : List ℕ). L w x e) is.1 l))
-
-pub end-one : (s : List ℕ) → IsOne IsEndFault s
-end-one s d e m n h k = ap error_number (h.1 ∙ sym k.1)
-
-pub optional-one : {V : Type 0} (B : List ℕ → Type 0) (G : V → List ℕ → Type 0) (K L : Kind) (s : List ℕ) → IsOne K s → ((r : List ℕ) → IsOne L r) → IsOne (OptionalFault B G K L) s
-optional-one B G K L s f g d e m n h k =
-    elim h [
-      | inl (without, x) ↦ elim k [
-        | inl (neither, y) ↦ g s d e m n x y
-        | inr (there, y) ↦ absurd (without there)
-      ]
-      | inr (there, x) ↦ elim k [
-        | inl (neither, y) ↦ absurd (neither there)
-        | inr (also_there, y) ↦ first-one G K (λ v. L) s f (λ v r. g r) d e m n x y
-      ]
-    ]
-
 pub repeated-one : {V : Type 0} (G : V → List ℕ → Type 0) (K : Kind) (s : List ℕ) → ((r : List ℕ) → IsOne K r) → IsOne (RepeatedFault G K) s
 repeated-one G K s f d e m n (AtMember some none k) (AtMember some' not l) = f s d e m n k l
 repeated-one G K s f d e m n (AtMember some none k) (AfterMember v r a l) = absurd (unless-memory d m none v r a.spells)
@@ -145,9 +103,6 @@ repeated-one G K s f d e m n (AfterMember v r a k) (AtMember some none l) = absu
 repeated-one G K s f d e m n (AfterMember v r a k) (AfterMember w q b l) =
     let is = a.only w q b.spells in
     repeated-one G K r f d e m n k (subst (λ (x : List ℕ). RepeatedFault G K x e) is.1 l)
-
-pub inside-one : (t : TagName) (f : Bool) (L : Kind) (s : List ℕ) → ((c : List ℕ) → IsOne L c) → IsOne (IsInsideFault t f L) s
-inside-one t f L s g = first-one (SpellsContents t f) (IsContentsFault t f) (λ c r. L c) s (λ d e m n h k. ap error_number (one-contents-fault t f s d e h k)) (λ c r. g c)
 
 -- ---- a value around parts
 
@@ -223,26 +178,11 @@ pub reads-kind : {X V : Type 0} (view : X → V) (G : V → List ℕ → Type 0)
 reads-kind view G K L s r (Ok x) f h = h
 reads-kind view G K L s r (Err e) f h = record { unchanged = h.unchanged; refuses = h.refuses; kind = f e h.kind }
 
-pub refusal-kind : {V : Type 0} (G : V → List ℕ → Type 0) (K L : Kind) (s r : List ℕ) (e : DecodeError) → (K s e → L s e) → Refusal G K s r e → Refusal G L s r e
-refusal-kind G K L s r e f h = record { unchanged = h.unchanged; refuses = h.refuses; kind = f h.kind }
-
 -- ---- a reader of whole octets
 
 pub whole-kind : {V : Type 0} (G : V → List ℕ → Type 0) (K L : Kind) (s : List ℕ) (e : DecodeError) → ((d : DecodeError) → K s d → L s d) → IsWholeFault G K s e → IsWholeFault G L s e
 whole-kind G K L s e f h = record { trailing = h.trailing; kind = λ none. f e (h.kind none); memory = λ z. f OutOfMemory (h.memory z) }
 
-pub decodes-kind : {X V : Type 0} (view : X → V) (G : V → List ℕ → Type 0) (K L : Kind) (s : List ℕ) (x : Result X DecodeError)
-    → ((e : DecodeError) → K s e → L s e) → Decodes view G (IsWholeFault G K) s x → Decodes view G (IsWholeFault G L) s x
-decodes-kind view G K L s (Ok x) f h = h
-decodes-kind view G K L s (Err e) f h = (h.0, whole-kind G K L s e f h.1)
-
 -- where nothing is allocated there is no allocation failure
 pub whole-no-memory : {V : Type 0} (G : V → List ℕ → Type 0) (K : Kind) (s : List ℕ) (e : DecodeError) → (K s OutOfMemory → ⊥) → IsWholeFault G K s e → e ≢ OutOfMemory
 whole-no-memory G K s e f h z = f (h.memory z)
-
--- the error is one: of the beginning, where none is in the grammar; else Trailing
-pub whole-one : {V : Type 0} (G : V → List ℕ → Type 0) (K : Kind) (s : List ℕ) → IsOne K s → Refuses G s → IsOne (IsWholeFault G K) s
-whole-one G K s f none d e m n h k = f d e m n (h.kind none) (k.kind none)
-
-pub whole-trailing : {V : Type 0} (G : V → List ℕ → Type 0) (K : Kind) (s : List ℕ) (v : V) (b : ℕ) (more : List ℕ) → Spells G s v (b ∷ more) → IsOne (IsWholeFault G K) s
-whole-trailing G K s v b more p d e m n h k = ap error_number (unless-memory d m (h.trailing v b more p) ∙ sym (unless-memory e n (k.trailing v b more p)))

@@ -157,9 +157,6 @@ pub record IsIndexed (octets : List ℕ) (place : ℕ) (index : List Entry) : Ty
   pub low : place ≤ length octets
   pub read : IsIndex (take place octets) index
 
-pub indexed-none : (octets : List ℕ) → IsIndexed octets 0 []
-indexed-none octets = record { low = omega arith; read = record { members = Empty; legal = tt; spelled = refl; is = refl } }
-
 -- one more value
 indexed-more : {octets : List ℕ} {place : ℕ} {index : List Entry} (n : ℕ) (more : List Entry) → IsIndexed octets place index → n ≤ length (drop place octets) → IsListed place index (take n (drop place octets)) more → IsIndexed octets (place + n) more
 indexed-more {octets} {place} {index} n more i fits l =
@@ -190,10 +187,6 @@ indexed-more {octets} {place} {index} n more i fits l =
 pub indexed-rest : {octets rest : List ℕ} {place : ℕ} {index : List Entry} (n : ℕ) (more : List Entry) → rest ≡ drop place octets → IsIndexed octets place index → n ≤ length rest → IsListed place index (take n rest) more → IsIndexed octets (place + n) more
 indexed-rest {octets} {rest} {place} {index} n more is i fits l =
     indexed-more n more i (subst (λ (x : List ℕ). n ≤ length x) is fits) (subst (λ (x : List ℕ). IsListed place index (take n x) more) is l)
-
--- all values
-pub indexed-all : {octets : List ℕ} {place : ℕ} {index : List Entry} → length octets ≤ place → IsIndexed octets place index → IsIndex octets index
-indexed-all {octets} {place} {index} all i = subst (λ (x : List ℕ). IsIndex x index) (take_all place octets all) i.read
 
 -- one value, whose entries are all there are
 pub index-of-one : {octets : List ℕ} {none index : List Entry} → none ≡ [] → IsListed 0 none octets index → IsIndex octets index

@@ -224,18 +224,10 @@ some-inside {keep} {b} {old} {s} {names} {es} {q} {place} {n} last w =
     go [] h o l = absurd h
     go (e ∷ ends) h o l = (e, record { ends = ends; here = h.0; held = h.1; opened = o; listed = l })
 
--- the innermost value has an end
-pub end-known : {keep : Bool} {b : ℕ} {old : List Entry} {s names : List ℕ} {es : List Entry} {q place n : ℕ} → Innermost names q → IsWalking keep b old s names es place n → (e : ℕ) × ReadEnd keep b es q e
-end-known last w = let i = some-inside last w in (i.0, record { is = i.1.here })
-
 pub inside : {keep : Bool} {b : ℕ} {old : List Entry} {s names : List ℕ} {es : List Entry} {q e place n : ℕ} → Innermost names q → ReadEnd keep b es q e → IsWalking keep b old s names es place n → IsInside keep b old s names es q e place n
 inside {keep} {b} {old} {s} {names} {es} {q} {e} {place} {n} last r w =
     let i = some-inside last w in
     subst (λ (x : ℕ). IsInside keep b old s names es q x place n) (one-end keep b es q i.0 e i.1.here r.is) i.1
-
--- the part that is left of the innermost value
-pub inside-part : {keep : Bool} {b : ℕ} {old : List Entry} {s names : List ℕ} {es : List Entry} {q e place n : ℕ} → IsInside keep b old s names es q e place n → (place ≤ e) × (e ≤ length s)
-inside-part i = let level = i.opened in (level.low, level.high)
 
 -- it has a fault
 pub inside-fault : {keep : Bool} {b : ℕ} {old : List Entry} {s names : List ℕ} {es : List Entry} {q e place n : ℕ} {f : DecodeError} → IsInside keep b old s names es q e place n → IsNestedFault (between place e s) f → IsNestedFault s f

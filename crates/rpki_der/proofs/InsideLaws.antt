@@ -85,13 +85,6 @@ module _ {X V : Type 0} (view : X → V) (t : TagName) (f : Bool) (C : V → Lis
     read-inside-never s r (Ok x) h = read-inside s r (Ok x) h
     read-inside-never s r (Err e) h = without-memory (SpellsLeaf t f C) (GivesOuterFault t f) s r e (other s e h.1) (read-inside s r (Err e) h)
 
--- the same, where the closure says that it allocates nothing
-pub read-inside-exactly : {X V : Type 0} (view : X → V) (t : TagName) (f : Bool) (C : V → List ℕ → Type 0) (L : List ℕ → DecodeError → Type 0)
-    (reads : Constructed → Result X DecodeError → Constructed → Type 0)
-    (law : (b a : Constructed) (x : Result X DecodeError) → reads b x a → ReadsAll view C (TakesNoMemory L) (left b) (left a) x)
-    (s r : List ℕ) (x : Result X DecodeError) → ReadsInside t f Same reads s r x → Reads view (SpellsLeaf t f C) (IsOuterFault t f) s r x
-read-inside-exactly view t f C L reads law = read-inside-never view t f C (TakesNoMemory L) reads law (λ c k. k.other refl)
-
 -- the same, where it allocates only for contents that have P
 module _ {X V : Type 0} (view : X → V) (t : TagName) (C : V → List ℕ → Type 0) (P : List ℕ → Type 0) (L : List ℕ → DecodeError → Type 0)
     (reads : Constructed → Result X DecodeError → Constructed → Type 0)

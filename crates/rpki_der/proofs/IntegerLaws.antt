@@ -65,9 +65,6 @@ pub number-tail : (c : List ℕ) → get_or c 0 0 ≡ 0 → number_of (drop 1 c)
 number-tail [] e = refl
 number-tail (x ∷ xs) e = let zero_first : x ≡ 0 = e in rw zero_first (omega arith)
 
-pub number-rest : (c : List ℕ) → get_or c 0 0 ≡ 0 → number_of (mid_of 1 (length c - 1) c) ≡ number_of c
-number-rest c e = ap number_of (take_rest c 1) ∙ number-tail c e
-
 -- the shortest contents are minimal: else the first octet could be left out
 pub minimal-contents : (n : ℕ) (c : List ℕ) → IsUnsigned n c → IsMinimal c
 minimal-contents n c h = record {
@@ -142,13 +139,6 @@ no-contents n h = omega (arith, h.writes.nonempty)
 
 pub negative : (n : ℕ) (xs : List ℕ) → 128 ≤ get_or xs 0 0 → IsUnsigned n xs → ⊥
 negative n xs high h = omega (arith, h.writes.first_bit)
-
-pub zero-too-many : (n : ℕ) (xs : List ℕ) → 1 < length xs → get_or xs 0 0 ≡ 0 → get_or xs 1 0 < 128 → IsUnsigned n xs → ⊥
-zero-too-many n xs long none low h =
-    elim ((minimal-contents n xs h).nine_bits long) [
-      | inl some ↦ omega arith
-      | inr high ↦ omega arith
-    ]
 
 -- contents have one number
 pub one-number : (m n : ℕ) (xs : List ℕ) → IsUnsigned m xs → IsUnsigned n xs → m ≡ n

@@ -167,11 +167,6 @@ one-beginning a b x y v w e =
     let same = one-value v.members w.members x y v.legal w.legal v.counted w.counted e' in
     (v.spelled ∙ ap spell same ∙ sym w.spelled, same)
 
-pub one-count : (a b x y : List ℕ) (m n : ℕ) → IsValueOf m a → IsValueOf n b → a ++ x ≡ b ++ y → (a ≡ b) × (m ≡ n)
-one-count a b x y m n v w e =
-    let same = one-beginning a b x y v.0 w.0 e in
-    (same.0, sym v.1 ∙ ap header_count same.1 ∙ w.1)
-
 -- no proper beginning of a value is a value
 pub value-alone : (value other rest : List ℕ) → IsValue value → IsValue other → value ≡ other ++ rest → rest ≡ []
 value-alone value other rest v w is =

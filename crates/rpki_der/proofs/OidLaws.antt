@@ -14,9 +14,6 @@ pub record IsFine (s : List ℕ) (i : ℕ) : Type 0 where
   pub first : 0 < i → get_or s 0 0 ≢ 128
   pub shortest : (j : ℕ) → j + 1 < i → get_or s j 0 < 128 → get_or s (j + 1) 0 ≢ 128
 
-pub fine-none : (s : List ℕ) → IsFine s 0
-fine-none s = record { first = λ lt. absurd (omega arith); shortest = λ j lt low. absurd (omega arith) }
-
 pub fine-more : (s : List ℕ) (i : ℕ) → IsFine s i → (IsTrue (begins_at s i) → get_or s i 0 ≢ 128) → IsFine s (i + 1)
 fine-more s zero f here = record {
   first = λ _. here refl;
@@ -40,25 +37,3 @@ not-fine s (suc i) begins lt is h =
     let low : get_or s i 0 < 128 = ltb-true (get_or s i 0) 128 begins in
     let next : i + 1 ≡ suc i = omega arith in
     h.shortest i (omega arith) low (rw next is)
-
--- all of the octets, where the last subidentifier ends
-pub all-fine : (s : List ℕ) (i : ℕ) → i ≡ length s → IsFine s i → IsTrue (begins_at s i) → 0 < length s → IsOid s
-all-fine s zero e f ends some = absurd (omega arith)
-all-fine s (suc i) e f ends some =
-    let low : get_or s i 0 < 128 = ltb-true (get_or s i 0) 128 ends in
-    let last : length s - 1 ≡ i = omega arith in
-    record {
-      nonempty = some;
-      ends = rw last low;
-      first = f.first (omega arith);
-      shortest = λ j lt. f.shortest j (omega arith);
-    }
-
--- the last octet is not the last of a subidentifier
-pub not-ended : (s : List ℕ) (i : ℕ) → i ≡ length s → begins_at s i ≡ false → IsOid s → ⊥
-not-ended s zero e ends h = cc
-not-ended s (suc i) e ends h =
-    let last : length s - 1 ≡ i = omega arith in
-    let low : get_or s i 0 < 128 = rw (← last) h.ends in
-    let yes : nat_lt (get_or s i 0) 128 ≡ true = lt-ltb (get_or s i 0) 128 low in
-    cc

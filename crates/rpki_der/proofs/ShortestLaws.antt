@@ -132,10 +132,6 @@ length-forms n p lt =
 
 -- ---- tags
 
-continued-push : (xs : List ℕ) (x d : ℕ) → continued ((x ∷ xs) ++ d ∷ []) ≡ (128 + x) ∷ continued (xs ++ d ∷ [])
-continued-push [] x d = refl
-continued-push (y ∷ xs) x d = refl
-
 -- digits with their marks, and then one without
 marked : (b k n d : ℕ) (rest : List ℕ) → continued (digits b 0 k n ++ d ∷ rest) ≡ digits b 128 k n ++ continued (d ∷ rest)
 marked b zero n d rest = unfold digits in refl

@@ -20,18 +20,6 @@ pub tried-nothing : {X V : Type 0} (view : X → V) (G : V → List ℕ → Type
 tried-nothing view G K s d (Ok x) h k = absurd h.1
 tried-nothing view G K s d (Err e) h k = subst (λ q. UnlessMemory q (SpellsNothing G s) × K s q) (sym h.1) k
 
--- a reader of the whole of some contents
-pub tried-inside : {X V : Type 0} (view : X → V) (G : V → List ℕ → Type 0) (K : List ℕ → DecodeError → Type 0) (s r : List ℕ) (d : DecodeError) (x : Result X DecodeError)
-    → IsErr x × IsErrAnd x (λ e. e ≡ d) → UnlessMemory d (SpellsNothing G s) × K s d → ReadsAll view G K s r x
-tried-inside view G K s r d (Ok x) h k = absurd h.1
-tried-inside view G K s r d (Err e) h k = subst (λ q. UnlessMemory q (SpellsNothing G s) × K s q) (sym h.1) k
-
--- the same, where it allocates nothing
-pub tried-exactly : {X V : Type 0} {P : Type 0} (view : X → V) (G : V → List ℕ → Type 0) (s r : List ℕ) (d : DecodeError) (x : Result X DecodeError)
-    → IsErr x × IsErrAnd x (λ e. e ≡ d) → (P → SpellsNothing G s) → UnlessMemory d P → d ≢ OutOfMemory → ReadsAll view G (TakesNoMemory AnyFault) s r x
-tried-exactly view G s r d x h f none other =
-    tried-inside view G (TakesNoMemory AnyFault) s r d x h (UnlessMemory-weaker d f none, record { other = other; kind = tt })
-
 -- ---- a function that is no reader
 
 -- what it says of its error
@@ -43,16 +31,6 @@ tried-error P d (Err e) h k = subst P (sym h.1) k
 pub tried-match : {X E : Type 0} (P : X → Type 0) (Q : Type 0) (F : E → Type 0) (x : Result X E) → IsErr x × IsErrAnd x F → Q → MatchResult x P (λ e. Q)
 tried-match P Q F (Ok x) h q = absurd h.1
 tried-match P Q F (Err e) h q = q
-
--- one whose contract says of each error what the `?` says of it
-pub tried-match-error : {X E : Type 0} (P : X → Type 0) (F : E → Type 0) (x : Result X E) → IsErr x × IsErrAnd x F → MatchResult x P F
-tried-match-error P F (Ok x) h = absurd h.1
-tried-match-error P F (Err e) h = h.1
-
--- one that returns Ok exactly where V holds
-pub tried-refused-iff : {X E : Type 0} (V : Type 0) (F : E → Type 0) (x : Result X E) → IsErr x × IsErrAnd x F → (V → ⊥) → IsOk x ↔ V
-tried-refused-iff V F (Ok x) h none = absurd h.1
-tried-refused-iff V F (Err e) h none = (λ k. absurd (false≢true k), λ v. absurd (none v))
 
 -- the same of an error that is written out: an `Err` is not `IsOk`
 pub refused-iff : (V : Type 0) → (V → ⊥) → (◌≡◌ {A = Bool} false true) ↔ V

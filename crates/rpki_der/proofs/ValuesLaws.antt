@@ -24,15 +24,6 @@ value-header t f s c r v = record {
 pub no-header : (t : TagName) (f : Bool) (s : List ℕ) → Refuses SpellsHeader s → Refuses (SpellsContents t f) s
 no-header t f s none c r v = none (head-of t f (length c)) (c ++ r) (value-header t f s c r v)
 
-pub header-kind : (t : TagName) (f : Bool) (s : List ℕ) (e : DecodeError) → IsHeaderFault s e → IsContentsFault t f s e
-header-kind t f s Truncated h = inl h
-header-kind t f s BadTag h = h
-header-kind t f s BadLength h = h
-header-kind t f s Unexpected h = absurd h
-header-kind t f s (Content x) h = h
-header-kind t f s Trailing h = h
-header-kind t f s OutOfMemory h = h
-
 -- what a value's header says, where one was read
 pub record Told (t : TagName) (f : Bool) (h : Header) (c q r : List ℕ) : Type 0 where
   pub tag : h.tag ≡ t

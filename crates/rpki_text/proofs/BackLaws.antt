@@ -12,9 +12,6 @@ use Rattle.rpki_text.proofs.JoinLaws.{SlashCases, slash-cases, with_slash-dir, w
 use Rattle.rpki_text.proofs.RelativeLaws.{relative-other-module}
 use Rattle.rpki_text.proofs.BelowLaws.{AtOrBelow, relative-path_left, path_left-root, path_left-same, path_left-below, path_left-some, named-open}
 
-some-same : (x y : List ℕ) → Some x ≡ Some y → x ≡ y
-some-same x y h = cc
-
 -- below a base that has no slash last, the path is the base, a slash and what is left
 below-open : (path b p : List ℕ) → is_dir b ≡ false → 0 < length p → path_left path (pieces b) ≡ Some p → path ≡ (b ++ 47 ∷ []) ++ p
 below-open path b p o l h = by_cases (path_left-some path b p h) where

@@ -38,10 +38,6 @@ appends-append (Some xs) None new a b h k = absurd h
 appends-append (Some xs) (Some ys) None a b h k = absurd k
 appends-append (Some xs) (Some ys) (Some zs) a b h k = k ∙ ap (λ s. s ++ b) h ∙ append_assoc xs a b
 
-pub appends-nothing : (old : Option (List ℕ)) → Appends old old []
-appends-nothing None = tt
-appends-nothing (Some xs) = sym (append-nil xs)
-
 -- the part that is written, by how much of the buffer it is
 pub appends-taken : (old new : Option (List ℕ)) (out text : List ℕ) (n k : ℕ) → take n out ≡ text → k ≡ n → Appends old new (take k out) → Appends old new text
 appends-taken old new out text n k e s h = subst (λ (t : List ℕ). Appends old new t) (ap (λ j. take j out) s ∙ e) h

@@ -19,9 +19,6 @@ use Rattle.rpki_text.proofs.RelativeLaws.{relative-same_module}
 join-filled : (p : List ℕ) (qs : List (List ℕ)) → IsFilled qs → join_with_byte 47 (p ∷ qs) ≡ p ++ 47 ∷ join_with_byte 47 qs
 join-filled p qs f = rw f.is refl
 
-append-filled-left : (ps qs : List (List ℕ)) → IsFilled ps → IsFilled (ps ++ qs)
-append-filled-left ps qs f = record { first = f.first; others = f.others ++ qs; is = rw f.is refl }
-
 join-append : (ps qs : List (List ℕ)) → IsFilled ps → IsFilled qs → join_with_byte 47 (ps ++ qs) ≡ join_with_byte 47 ps ++ 47 ∷ join_with_byte 47 qs
 join-append [] qs f k = cc
 join-append (p ∷ []) qs f k = join-filled p qs k

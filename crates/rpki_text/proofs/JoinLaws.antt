@@ -332,13 +332,6 @@ unfolding joined
 joined-filled t [] l = absurd (omega arith)
 joined-filled t (b ∷ p) l = refl
 
-pub length-joined : (t : List ℕ) (m n : ℕ) → IsCut t m n → (p : List ℕ) → 0 < length p → length (joined t p) ≡ length t + cond (not (is_dir (path_of t))) 1 0 + length p
-length-joined t m n c p l =
-    ap length (joined-filled t p l) ∙ length-append (with_slash t) p ∙ ap (λ k. k + length p) (sym (ap length (with_slash-flag t m n c)) ∙ by_cases (is_dir (path_of t))) where
-      by_cases : (v : Bool) → length (cond (not v) (t ++ 47 ∷ []) t) ≡ length t + cond (not v) 1 0
-      by_cases true = omega arith
-      by_cases false = length-append t (47 ∷ [])
-
 pub join-refuses-characters : (t p : List ℕ) → 0 < length p → list_all is_uri_byte p ≡ false → join_refusal t p ≡ Some InvalidCharacters
 unfolding join_refusal
 join-refuses-characters t [] l h = absurd (omega arith)
@@ -497,9 +490,6 @@ parent_uri-none t e =
 
 pub cut-dir : (t : List ℕ) (m n : ℕ) → IsCut t m n → IsCut (with_slash t) m n
 cut-dir t m n c = subst (λ (s : List ℕ). IsCut s m n) (append-nil (with_slash t)) (cut-joined t m n c [] refl (ap names_refusal segments-empty))
-
-pub dir_text-dir : (t : List ℕ) (m n : ℕ) → IsCut t m n → is_dir (path_of t) ≡ true → with_slash t ≡ t
-dir_text-dir t m n c h = with_slash-dir t (is_dir-text t m n c ∙ h)
 
 pub dir_text-open : (t : List ℕ) (m n : ℕ) → IsCut t m n → is_dir (path_of t) ≡ false → with_slash t ≡ t ++ 47 ∷ []
 dir_text-open t m n c h = with_slash-open t (is_dir-text t m n c ∙ h)

@@ -102,11 +102,6 @@ unfolding path_text
 path_text-none true = refl
 path_text-none false = refl
 
--- what is left of a path is the text of its segments, with the mark of the whole
-pub path_text-left : (left : List ℕ) (dir : Bool) → (left ≡ []) ⊎ (is_dir left ≡ dir) → path_text (segments left) dir ≡ left
-path_text-left left dir (inl e) = rw e (rw segments-empty (path_text-none dir))
-path_text-left left dir (inr e) = rw (← e) (path_text-segments left)
-
 -- what `last` says of a path
 pub last-none : (t : List ℕ) → None ≡ slice_get t (length t - 1) → t ≡ []
 last-none [] h = refl

@@ -23,9 +23,6 @@ list-any-position (x ∷ xs) =
 pub after-first-drop : (n : ℕ) (t : List ℕ) → after_first is_slash (drop n t) ≡ drop (n + (position_or_len is_slash (drop n t) + 1)) t
 after-first-drop n t = drop-drop (position_or_len is_slash (drop n t) + 1) n t
 
-pub slash-within : (s : List ℕ) → position_or_len is_slash s ≤ length s
-slash-within s = prefix_len-le-length (λ b. not (is_slash b)) s
-
 -- the module stands where two slashes with something before each do
 pub has_module-places : (t : List ℕ) (a m : ℕ) → a ≡ position_or_len is_slash (drop 8 t) → m ≡ position_or_len is_slash (drop (9 + a) t)
     → has_module t ≡ (nat_lt 0 a && nat_lt 0 m && nat_lt m (length (drop (9 + a) t)))

@@ -45,10 +45,6 @@ times-fit t u = let few = times-few t u in omega arith
 
 -- ---- what they are read as
 
--- a value under a tag, and what follows
-pub under : (tag : TagName) (text rest : List ℕ) → IsTag tag → length text < 2 ^ 32 → Spells (SpellsContents tag false) (tlv tag false text ++ rest) text rest
-under tag text rest legal fits = record { front = tlv tag false text; parts = refl; spelled = tlv-legal tag false text legal fits }
-
 -- times that begin the octets are one
 pub time-there : (s : List ℕ) (t : DateTime) (r : List ℕ) → Spells SpellsTime s t r → Accepts SpellsTime s t r
 time-there s t r k =

@@ -21,8 +21,3 @@ cut-then a b c (Err e) xs ys p q = record {
   more = q.more;
   front = (xs ++ q.front.0, ap (λ (w : List ℕ). xs ++ w) q.front.1 ∙ sym (append_assoc xs q.front.0 (q.next ∷ q.more)), Appends-trans a b c xs q.front.0 p q.front.2);
 }
-
--- all of the octets are there, or a write failed before their end
-pub all-or-cut : {U E : Type 0} (a b : Option (List ℕ)) (r : Result U E) (octets : List ℕ) → WritesOrCuts a b r octets → Appends a b octets ⊎ AppendsCut a b octets
-all-or-cut a b (Ok u) octets p = inl p
-all-or-cut a b (Err e) octets p = inr p

@@ -8,8 +8,3 @@ use Rattle.rpkibasic.specs.Run.{Answer}
 abbrev pub answer_of : {Z : Type 0} → Result (Vec ℕ Z) Fault → Answer
 answer_of (Ok text) = Ok text.items
 answer_of (Err fault) = Err fault
-
--- a text that is borrowed
-abbrev pub borrowed_of : Result (Bor (List ℕ)) Fault → Answer
-borrowed_of (Ok text) = Ok text.now
-borrowed_of (Err fault) = Err fault
