@@ -1,5 +1,8 @@
 //! Times and periods of validity.
 
+mod calendar;
+mod text;
+
 use crate::crypto::keys::known;
 use crate::ffi::{self, Moment, Period};
 use crate::view::DecodeError;
@@ -9,20 +12,22 @@ use std::error::Error;
 use std::fmt;
 use std::hash::{Hash, Hasher};
 use std::ops::{Add, Sub};
-use std::str::FromStr;
 use std::time::{Duration, SystemTime};
+
+pub use text::TimeParseError;
 
 /// The seconds of a day.
 const DAY: i64 = 86_400;
 
-/// A time in UTC, to the second, of a year from 0 to 9999. Times are ordered as they follow each other, and shown as in
-/// RFC 3339.
+/// A time in UTC, to the second, of a year from 0 to 9999. Times are ordered as they follow each other, and shown as
+/// chrono shows them; Debug and what is serialized are of RFC 3339, as is the text of [`view::Time`](crate::view::Time).
 ///
 /// ```
-/// use rpki_proved::repository::x509::Time;
+/// use rpki_proved::{repository::x509::Time, view};
 ///
 /// let time = Time::utc(2020, 2, 29, 16, 39, 57);
-/// assert_eq!(Time::years_from_date(4, time).to_string(), "2024-02-28T16:39:57Z");
+/// assert_eq!(Time::years_from_date(4, time).to_string(), "2024-02-28 16:39:57 UTC");
+/// assert_eq!(view::Time::from(time).to_string(), "2020-02-29T16:39:57Z");
 /// assert_eq!(time.encode_varied(), &b"\x17\x0d200229163957Z"[..]);
 /// assert_eq!("2020-02-29T17:39:57+01:00".parse(), Ok(time));
 /// ```
@@ -31,22 +36,10 @@ pub struct Time {
     moment: Moment,
 }
 
-/// The first moment and the last. The library looks at their parts alone.
-const FIRST: Moment = Moment { seconds: 0, year: 0, month: 1, day: 1, hour: 0, minute: 0, second: 0 };
-const LAST: Moment = Moment { seconds: 0, year: 9999, month: 12, day: 31, hour: 23, minute: 59, second: 59 };
-
-/// 1970-01-01 00:00:00.
-const EPOCH: Moment = Moment { seconds: 0, year: 1970, month: 1, day: 1, hour: 0, minute: 0, second: 0 };
-
 impl Time {
     /// The time of these parts; `None` where the calendar or a clock has none, or the year is not of 0 to 9999.
     pub fn checked_utc(year: i32, month: u32, day: u32, hour: u32, minute: u32, second: u32) -> Option<Self> {
-        let moment = Moment { seconds: 0, year, month, day, hour, minute, second };
-        match ffi::time_write(&moment) {
-            Ok(octets) => Some(Time { moment: known(ffi::time(&octets)) }),
-            Err(ffi::CONTENT) => None,
-            Err(status) => known(Err(status)),
-        }
+        calendar::moment(year, month, day, hour, minute, second).map(|moment| Time { moment })
     }
 
     /// The time of these parts.
@@ -60,7 +53,7 @@ impl Time {
     /// The time so many seconds after 1970-01-01 00:00:00, every day with 86,400; `None` where its year is not of 0 to
     /// 9999.
     pub fn from_timestamp(seconds: i64) -> Option<Self> {
-        Time { moment: EPOCH }.checked_add_secs(seconds)
+        calendar::moment_at(seconds).map(|moment| Time { moment })
     }
 
     /// The time of the machine's clock, without parts of a second.
@@ -150,11 +143,17 @@ impl Time {
     }
 
     /// The value of the time as UTC time, with the last two digits of its year.
+    ///
+    /// # Panics
+    /// If allocation fails.
     pub fn encode_utc_time(self) -> Bytes {
         known(ffi::time_write_utc(&self.moment)).into()
     }
 
     /// The value of the time as generalized time.
+    ///
+    /// # Panics
+    /// If allocation fails.
     pub fn encode_generalized_time(self) -> Bytes {
         known(ffi::time_write_generalized(&self.moment)).into()
     }
@@ -199,12 +198,20 @@ impl Time {
         self.moment.second
     }
 
+    /// The time as the library has it.
+    pub(crate) fn moment(self) -> Moment {
+        self.moment
+    }
+
     /// Checks that the moment is not before this time.
     ///
     /// # Errors
     /// It is: too new.
     pub fn verify_not_before(self, now: Self) -> Result<(), ValidityPeriodError> {
-        Validity::new(self, Time { moment: LAST }).verify_at(now)
+        if now < self {
+            return Err(ValidityPeriodError { too_new: true });
+        }
+        Ok(())
     }
 
     /// Checks that the moment is not after this time.
@@ -212,7 +219,10 @@ impl Time {
     /// # Errors
     /// It is: too old.
     pub fn verify_not_after(self, now: Self) -> Result<(), ValidityPeriodError> {
-        Validity::new(Time { moment: FIRST }, self).verify_at(now)
+        if now > self {
+            return Err(ValidityPeriodError { too_new: false });
+        }
+        Ok(())
     }
 }
 
@@ -290,93 +300,6 @@ impl From<Time> for SystemTime {
     }
 }
 
-/// Digits of one number of a text, of this length; the text goes on behind them.
-fn number(text: &mut &str, digits: usize) -> Option<u32> {
-    let (found, rest) = text.split_at(text.char_indices().nth(digits).map_or(text.len(), |(place, _)| place));
-    if found.len() != digits || !found.bytes().all(|octet| octet.is_ascii_digit()) {
-        return None;
-    }
-    *text = rest;
-    found.parse().ok()
-}
-
-/// One of these characters; the text goes on behind it.
-fn one_of(text: &mut &str, of: &[char]) -> Option<char> {
-    let first = text.chars().next().filter(|first| of.contains(first))?;
-    *text = &text[first.len_utf8()..];
-    Some(first)
-}
-
-/// The time of a text of RFC 3339.
-fn read(mut text: &str) -> Option<Time> {
-    let text = &mut text;
-    let year = number(text, 4)?;
-    one_of(text, &['-'])?;
-    let month = number(text, 2)?;
-    one_of(text, &['-'])?;
-    let day = number(text, 2)?;
-    one_of(text, &['T', 't', ' '])?;
-    let hour = number(text, 2)?;
-    one_of(text, &[':'])?;
-    let minute = number(text, 2)?;
-    one_of(text, &[':'])?;
-    let second = number(text, 2)?;
-    if one_of(text, &['.']).is_some() {
-        number(text, 1)?;
-        while number(text, 1).is_some() {}
-    }
-    let time = Time::checked_utc(year as i32, month, day, hour, minute, second)?;
-    let sign = one_of(text, &['Z', 'z', '+', '-'])?;
-    if matches!(sign, 'Z' | 'z') {
-        return text.is_empty().then_some(time);
-    }
-    let hours = number(text, 2)?;
-    one_of(text, &[':'])?;
-    let minutes = number(text, 2)?;
-    if hours > 23 || minutes > 59 || !text.is_empty() {
-        return None;
-    }
-    let east = i64::from(3_600 * hours + 60 * minutes);
-    time.checked_add_secs(if sign == '+' { -east } else { east })
-}
-
-/// A text of RFC 3339, in any zone. Parts of a second are dropped.
-impl FromStr for Time {
-    type Err = TimeParseError;
-
-    fn from_str(s: &str) -> Result<Self, TimeParseError> {
-        read(s).ok_or(TimeParseError(()))
-    }
-}
-
-impl fmt::Display for Time {
-    fn fmt(&self, f: &mut fmt::Formatter) -> fmt::Result {
-        let Moment { year, month, day, hour, minute, second, .. } = self.moment;
-        f.pad(&format!("{year:04}-{month:02}-{day:02}T{hour:02}:{minute:02}:{second:02}Z"))
-    }
-}
-
-impl fmt::Debug for Time {
-    fn fmt(&self, f: &mut fmt::Formatter) -> fmt::Result {
-        write!(f, "Time({self})")
-    }
-}
-
-#[cfg(feature = "serde")]
-impl serde::Serialize for Time {
-    /// The text of RFC 3339.
-    fn serialize<S: serde::Serializer>(&self, serializer: S) -> Result<S::Ok, S::Error> {
-        serializer.serialize_str(&self.to_string())
-    }
-}
-
-#[cfg(feature = "serde")]
-impl<'de> serde::Deserialize<'de> for Time {
-    fn deserialize<D: serde::Deserializer<'de>>(deserializer: D) -> Result<Self, D::Error> {
-        crate::texts::string(deserializer)?.parse().map_err(serde::de::Error::custom)
-    }
-}
-
 /// Conversions from and to the types of the crate chrono.
 #[cfg(feature = "chrono")]
 mod with_chrono {
@@ -426,19 +349,8 @@ mod with_chrono {
     }
 }
 
-/// A text is no time of RFC 3339 of the years 0 to 9999.
-#[derive(Clone, Copy, Debug, PartialEq, Eq)]
-pub struct TimeParseError(());
-
-impl fmt::Display for TimeParseError {
-    fn fmt(&self, f: &mut fmt::Formatter) -> fmt::Result {
-        f.write_str("malformed time value")
-    }
-}
-
-impl Error for TimeParseError {}
-
-/// A period of validity (RFC 5280 4.1.2.5). Nothing is said of which of its times is earlier.
+/// A period of validity (RFC 5280 4.1.2.5), which lasts to the end of its last second. Nothing is said of which of its
+/// times is earlier.
 #[derive(Clone, Copy, Debug, PartialEq, Eq, Hash)]
 #[cfg_attr(feature = "serde", derive(serde::Serialize, serde::Deserialize))]
 pub struct Validity {
@@ -482,7 +394,7 @@ impl Validity {
 
     /// The period that both have in common: the later start and the earlier end.
     pub fn trim(self, other: Self) -> Self {
-        known(ffi::validity_trim(&self.parts(), &other.parts())).into()
+        Validity::new(self.not_before.max(other.not_before), self.not_after.min(other.not_after))
     }
 
     /// Reads a period that is all of the octets.
@@ -494,6 +406,9 @@ impl Validity {
     }
 
     /// The value of the period: a SEQUENCE of two times.
+    ///
+    /// # Panics
+    /// If allocation fails.
     pub fn encode(self) -> Bytes {
         known(ffi::validity_write(&self.parts())).into()
     }
@@ -506,17 +421,14 @@ impl Validity {
         self.verify_at(Time::now())
     }
 
-    /// Checks that the moment is in the period; both of its ends are.
+    /// Checks that the moment is in the period; both of its ends are, so a time that is cut down to the second is in it up
+    /// to the end of its last second.
     ///
     /// # Errors
     /// Too new; else too old.
     pub fn verify_at(self, now: Time) -> Result<(), ValidityPeriodError> {
-        match ffi::validity_at(&self.parts(), &now.moment) {
-            Ok(()) => Ok(()),
-            Err(ffi::TOO_NEW) => Err(ValidityPeriodError { too_new: true }),
-            Err(ffi::TOO_OLD) => Err(ValidityPeriodError { too_new: false }),
-            Err(status) => known(Err(status)),
-        }
+        self.not_before.verify_not_before(now)?;
+        self.not_after.verify_not_after(now)
     }
 
     /// The period as the library has it.
@@ -551,3 +463,32 @@ impl fmt::Display for ValidityPeriodError {
 }
 
 impl Error for ValidityPeriodError {}
+
+#[cfg(test)]
+mod tests {
+    use super::{Time, Validity};
+    use crate::ffi;
+
+    /// What is said of moments and periods in plain Rust is what the library's calls say.
+    #[test]
+    fn periods_are_those_of_the_library() {
+        let seconds = [i64::MIN, -62_167_219_200, -1, 0, 1, 951_782_399, 253_402_300_799, i64::MAX];
+        let times: Vec<Time> = seconds.iter().filter_map(|at| Time::from_timestamp(*at)).collect();
+        assert_eq!(times.len(), 6);
+        let periods = times.iter().flat_map(|from| times.iter().map(|to| Validity::new(*from, *to)));
+        let periods: Vec<Validity> = periods.collect();
+        for period in &periods {
+            for now in &times {
+                let told = match ffi::validity_at(&period.parts(), &now.moment) {
+                    Ok(()) => None,
+                    Err(status) => Some(status == ffi::TOO_NEW),
+                };
+                assert_eq!(period.verify_at(*now).err().map(|error| error.is_too_new()), told, "{period:?} {now:?}");
+            }
+            for other in &periods {
+                let told = Validity::from(ffi::validity_trim(&period.parts(), &other.parts()).unwrap());
+                assert_eq!(period.trim(*other), told, "{period:?} {other:?}");
+            }
+        }
+    }
+}
