@@ -601,3 +601,19 @@ pub(crate) fn validity_trim(period: &Period, other: &Period) -> Result<Period, S
     // SAFETY: both are borrowed for the call, and apart from `out`, which is the function's own.
     told(|out| unsafe { rpki_validity_trim(period, other, out) })
 }
+
+#[cfg(test)]
+mod tests {
+    use super::{fits, version, VERSION_MAJOR, VERSION_MINOR};
+
+    /// A library fits that has every call of the header, and each as it is there: what rpki.h says of its versions.
+    #[test]
+    fn versions() {
+        let number = |major: u32, minor: u32, patch: u32| major << 16 | minor << 8 | patch;
+        assert!(fits(version()));
+        assert!(fits(number(VERSION_MAJOR, VERSION_MINOR, 0)) && fits(number(VERSION_MAJOR, VERSION_MINOR, 255)));
+        assert!(fits(number(VERSION_MAJOR, VERSION_MINOR + 1, 0)));
+        assert!(!fits(number(VERSION_MAJOR, VERSION_MINOR - 1, 255)));
+        assert!(!fits(number(VERSION_MAJOR + 1, VERSION_MINOR, 0)) && !fits(number(7, 255, 0)));
+    }
+}

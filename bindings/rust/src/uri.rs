@@ -531,3 +531,63 @@ impl fmt::Display for Scheme {
         f.write_str("://")
     }
 }
+
+#[cfg(test)]
+mod tests {
+    use super::{Https, Rsync};
+    use std::collections::hash_map::DefaultHasher;
+    use std::hash::{Hash, Hasher};
+
+    const PATHS: [&str; 9] = ["", "a", "a/", "A", "ab", "a/b", "a/b/", "a/b/c", "a/B"];
+    const FRONTS: [&str; 5] = ["://host/m/", "://HOST/m/", "://host/M/", "://host/mm/", "://hos/tm/"];
+
+    fn texts(scheme: &str) -> Vec<String> {
+        let schemes = [scheme.to_string(), scheme.to_ascii_uppercase()];
+        let all = |scheme: &String| {
+            let fronts = FRONTS.iter().flat_map(|front| PATHS.iter().map(move |path| [*front, *path].concat()));
+            fronts.map(|rest| scheme.clone() + &rest).collect::<Vec<_>>()
+        };
+        schemes.iter().flat_map(all).collect()
+    }
+
+    fn hash_of(value: &impl Hash) -> u64 {
+        let mut state = DefaultHasher::new();
+        value.hash(&mut state);
+        state.finish()
+    }
+
+    /// What plain Rust says of two URIs is what the library says of their texts and their parts.
+    #[test]
+    fn rsync_uris_are_those_of_the_library() {
+        let uris: Vec<Rsync> = texts("rsync").iter().map(|text| text.parse().unwrap()).collect();
+        for one in &uris {
+            let canonical = one.parsed.canonical().unwrap();
+            assert_eq!(one.canonical_module().as_bytes(), &canonical[..one.module().len()]);
+            assert_eq!(one.canonical_authority().as_bytes(), &canonical[8..8 + one.authority().len()]);
+            for other in &uris {
+                let (parsed, others) = (&one.parsed, &other.parsed);
+                assert_eq!(one == other, parsed.equal(others).unwrap(), "{one} {other}");
+                assert_eq!(hash_of(one) == hash_of(other), one == other, "{one} {other}");
+                assert_eq!(one.is_parent_of(other), parsed.is_parent_of(others).unwrap(), "{one} {other}");
+                let place = parsed.relative_to(others).ok();
+                assert_eq!(one.relative_to(other), place.map(|place| place.of_text(one.as_str())), "{one} {other}");
+                assert_eq!(one.relative_to(other) == Some(""), one.is_identical_to(other), "{one} {other}");
+            }
+        }
+    }
+
+    #[test]
+    fn https_uris_are_those_of_the_library() {
+        let uris: Vec<Https> = texts("https").iter().map(|text| text.parse().unwrap()).collect();
+        for one in &uris {
+            let canonical = one.parsed.canonical().unwrap();
+            assert_eq!(one.canonical_authority().as_bytes(), &canonical[8..8 + one.authority().len()]);
+            for other in &uris {
+                assert_eq!(one == other, one.parsed.equal(&other.parsed).unwrap(), "{one} {other}");
+                assert_eq!(hash_of(one) == hash_of(other), one == other, "{one} {other}");
+                let is_same = one.canonical_authority() == other.canonical_authority();
+                assert_eq!(one.eq_authority(other), is_same, "{one} {other}");
+            }
+        }
+    }
+}
