@@ -52,7 +52,7 @@ fn pkg_config(words: &[&str]) -> Option<String> {
     let program = env::var_os("PKG_CONFIG").unwrap_or_else(|| "pkg-config".into());
     let told = Command::new(program).args(words).output().ok()?;
     let text = String::from_utf8_lossy(&told.stdout).trim().to_string();
-    (told.status.success() && !text.is_empty()).then(|| text)
+    (told.status.success() && !text.is_empty()).then_some(text)
 }
 
 /// Ends the build, and says why.

@@ -216,12 +216,11 @@ pub(crate) trait Parts: Copy {
     fn of(text: &[u8]) -> Result<Self, Status>;
 }
 
-/// Where the first parts of an rsync URI end, `rsync://AUTHORITY/MODULE/PATH`: what is left is the path. Its text has
-/// at most 3,080 octets.
+/// Where the first parts of an rsync URI end, `rsync://AUTHORITY/MODULE/PATH`: what is left is the path.
 #[derive(Clone, Copy)]
 pub(crate) struct RsyncEnds {
-    authority: u32,
-    module_name: u32,
+    authority: usize,
+    module_name: usize,
 }
 
 /// How many octets stand before the authority: `rsync://` or `https://`.
@@ -229,13 +228,15 @@ const SCHEME: usize = 8;
 
 impl RsyncEnds {
     /// The end of the authority.
+    #[inline]
     pub(crate) fn authority(self) -> usize {
-        self.authority as usize
+        self.authority
     }
 
     /// The end of the name of the module.
+    #[inline]
     pub(crate) fn module_name(self) -> usize {
-        self.module_name as usize
+        self.module_name
     }
 
     /// The places of the parts of a text of this size.
@@ -257,21 +258,21 @@ fn place(start: usize, end: usize) -> Place {
 impl Parts for RsyncEnds {
     fn of(text: &[u8]) -> Result<Self, Status> {
         let RsyncParts { authority, module_name, .. } = rsync_parse(text)?;
-        let end = |place: Place| place.range().end as u32;
-        Ok(RsyncEnds { authority: end(authority), module_name: end(module_name) })
+        Ok(RsyncEnds { authority: authority.range().end, module_name: module_name.range().end })
     }
 }
 
-/// Where the authority of an https URI ends, which has at most 255 octets: what is left is the path.
+/// Where the authority of an https URI ends: what is left is the path.
 #[derive(Clone, Copy)]
 pub(crate) struct HttpsEnds {
-    authority: u32,
+    authority: usize,
 }
 
 impl HttpsEnds {
     /// The end of the authority.
+    #[inline]
     pub(crate) fn authority(self) -> usize {
-        self.authority as usize
+        self.authority
     }
 
     /// The places of the parts of a text of this size.
@@ -283,7 +284,7 @@ impl HttpsEnds {
 
 impl Parts for HttpsEnds {
     fn of(text: &[u8]) -> Result<Self, Status> {
-        Ok(HttpsEnds { authority: https_parse(text)?.authority.range().end as u32 })
+        Ok(HttpsEnds { authority: https_parse(text)?.authority.range().end })
     }
 }
 
@@ -397,7 +398,7 @@ macro_rules! calls_on {
             }
 
             /// This with a slash last.
-            pub(crate) fn into_dir(&self) -> Result<Self, Status> {
+            pub(crate) fn as_dir(&self) -> Result<Self, Status> {
                 let (text, parts) = (&self.text, self.ends.places(self.text.len()));
                 // SAFETY: as above.
                 let text = unsafe {
@@ -576,6 +577,7 @@ pub(crate) fn time_write_generalized(moment: &Moment) -> Result<Vec<u8>, Status>
 }
 
 /// The moment so many seconds on.
+#[cfg(test)]
 pub(crate) fn time_seconds_on(moment: &Moment, seconds: i64) -> Result<Moment, Status> {
     // SAFETY: the moment is borrowed for the call, and apart from `out`, which is the function's own.
     told(|out| unsafe { rpki_time_seconds_on(moment, seconds, out) })

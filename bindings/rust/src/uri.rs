@@ -49,7 +49,7 @@ fn is_text(text: &[u8], front: usize, octets: &[u8]) -> bool {
         return false;
     }
     let ((front, rest), (octets, others)) = (text.split_at(front), octets.split_at(front));
-    rest == others && (front == octets || front.eq_ignore_ascii_case(octets))
+    rest == others && front.eq_ignore_ascii_case(octets)
 }
 
 /// Hashes the text with its first `front` octets in lower case; these are 263 at most.
@@ -67,8 +67,10 @@ fn hash_text<H: Hasher>(text: &[u8], front: usize, state: &mut H) {
 }
 
 /// The text in lower case, borrowed where it is spelled so.
+#[inline]
 fn in_lower_case(text: &str) -> Cow<'_, str> {
-    if text.bytes().any(|octet| octet.is_ascii_uppercase()) {
+    // All octets are looked at, several at a time.
+    if text.bytes().fold(false, |found, octet| found | octet.is_ascii_uppercase()) {
         Cow::Owned(text.to_ascii_lowercase())
     } else {
         Cow::Borrowed(text)
@@ -173,6 +175,7 @@ impl Rsync {
     }
 
     /// Where the path begins: after the slash after the module.
+    #[inline]
     fn path_start(&self) -> usize {
         self.parsed.ends().module_name() + 1
     }
@@ -195,7 +198,7 @@ impl Rsync {
     /// Puts a slash last, unless the path is empty or has one. The text may become too long to be read again.
     pub fn path_into_dir(&mut self) {
         if !self.path_is_dir() {
-            self.parsed = known(self.parsed.into_dir());
+            self.parsed = known(self.parsed.as_dir());
         }
     }
 
@@ -345,7 +348,9 @@ impl Https {
 
     /// Whether both have the same authority, without regard to case.
     pub fn eq_authority(&self, other: &Self) -> bool {
-        self.authority().eq_ignore_ascii_case(other.authority())
+        // Both have the same scheme.
+        let (end, other_end) = (self.parsed.ends().authority(), other.parsed.ends().authority());
+        self.as_slice()[..end].eq_ignore_ascii_case(&other.as_slice()[..other_end])
     }
 
     /// The path: empty, or with its slash in front.
@@ -369,7 +374,7 @@ impl Https {
     /// Puts a slash last, unless the path is empty or has one.
     pub fn path_into_dir(&mut self) {
         if !self.path_is_dir() {
-            self.parsed = known(self.parsed.into_dir());
+            self.parsed = known(self.parsed.as_dir());
         }
     }
 

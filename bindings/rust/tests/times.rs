@@ -26,7 +26,7 @@ fn order_and_periods() {
             assert!(after.err().map_or(true, |error| !error.is_too_new()));
             for end in times() {
                 let told = Validity::new(one, end).verify_at(other).err().map(|error| error.is_too_new());
-                let wanted = if b < a { Some(true) } else { (b > end.timestamp()).then(|| false) };
+                let wanted = if b < a { Some(true) } else { (b > end.timestamp()).then_some(false) };
                 assert_eq!(told, wanted, "{one} {end} {other}");
                 let common = Validity::new(one, end).trim(Validity::new(other, other));
                 assert_eq!((common.not_before(), common.not_after()), (one.max(other), end.min(other)));

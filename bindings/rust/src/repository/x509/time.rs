@@ -7,10 +7,8 @@ use crate::crypto::keys::known;
 use crate::ffi::{self, Moment, Period};
 use crate::view::DecodeError;
 use bytes::Bytes;
-use std::cmp::Ordering;
 use std::error::Error;
 use std::fmt;
-use std::hash::{Hash, Hasher};
 use std::ops::{Add, Sub};
 use std::time::{Duration, SystemTime};
 
@@ -31,15 +29,16 @@ const DAY: i64 = 86_400;
 /// assert_eq!(time.encode_varied(), &b"\x17\x0d200229163957Z"[..]);
 /// assert_eq!("2020-02-29T17:39:57+01:00".parse(), Ok(time));
 /// ```
-#[derive(Clone, Copy)]
+#[derive(Clone, Copy, PartialEq, Eq, PartialOrd, Ord, Hash)]
 pub struct Time {
-    moment: Moment,
+    /// The seconds since 1970-01-01 00:00:00, of a year from 0 to 9999.
+    seconds: i64,
 }
 
 impl Time {
     /// The time of these parts; `None` where the calendar or a clock has none, or the year is not of 0 to 9999.
     pub fn checked_utc(year: i32, month: u32, day: u32, hour: u32, minute: u32, second: u32) -> Option<Self> {
-        calendar::moment(year, month, day, hour, minute, second).map(|moment| Time { moment })
+        calendar::seconds_of(year, month, day, hour, minute, second).map(|seconds| Time { seconds })
     }
 
     /// The time of these parts.
@@ -53,7 +52,7 @@ impl Time {
     /// The time so many seconds after 1970-01-01 00:00:00, every day with 86,400; `None` where its year is not of 0 to
     /// 9999.
     pub fn from_timestamp(seconds: i64) -> Option<Self> {
-        calendar::moment_at(seconds).map(|moment| Time { moment })
+        calendar::SECONDS.contains(&seconds).then_some(Time { seconds })
     }
 
     /// The time of the machine's clock, without parts of a second.
@@ -107,8 +106,8 @@ impl Time {
 
     /// The same, and `None` where the year is not of 0 to 9999.
     pub fn checked_add_years(self, years: i32) -> Option<Self> {
-        match ffi::time_years_on(&self.moment, years) {
-            Ok(moment) => Some(Time { moment }),
+        match ffi::time_years_on(&self.moment(), years) {
+            Ok(moment) => Some(moment.into()),
             Err(ffi::NO_ANSWER) => None,
             Err(status) => known(Err(status)),
         }
@@ -116,11 +115,7 @@ impl Time {
 
     /// The time later by whole seconds; `None` where its year is not of 0 to 9999.
     pub fn checked_add_secs(self, seconds: i64) -> Option<Self> {
-        match ffi::time_seconds_on(&self.moment, seconds) {
-            Ok(moment) => Some(Time { moment }),
-            Err(ffi::NO_ANSWER) => None,
-            Err(status) => known(Err(status)),
-        }
+        self.seconds.checked_add(seconds).and_then(Time::from_timestamp)
     }
 
     /// Reads a time that is all of the octets: UTC time, of the years 1950 to 2049, or generalized time (RFC 5280
@@ -130,7 +125,7 @@ impl Time {
     /// `Content` where it is another primitive value, or a date or time of day that there is not; `Unexpected` where it
     /// is constructed; `Trailing` where octets follow it; and else why no beginning of the octets is a value.
     pub fn decode(octets: &[u8]) -> Result<Self, DecodeError> {
-        ffi::time(octets).map(|moment| Time { moment }).map_err(DecodeError::from_status)
+        ffi::time(octets).map(Time::from).map_err(DecodeError::from_status)
     }
 
     /// The value of the time as certificates have it: UTC time in the years 1950 to 2049, generalized time in the
@@ -139,7 +134,7 @@ impl Time {
     /// # Panics
     /// If allocation fails.
     pub fn encode_varied(self) -> Bytes {
-        known(ffi::time_write(&self.moment)).into()
+        known(ffi::time_write(&self.moment())).into()
     }
 
     /// The value of the time as UTC time, with the last two digits of its year.
@@ -147,7 +142,7 @@ impl Time {
     /// # Panics
     /// If allocation fails.
     pub fn encode_utc_time(self) -> Bytes {
-        known(ffi::time_write_utc(&self.moment)).into()
+        known(ffi::time_write_utc(&self.moment())).into()
     }
 
     /// The value of the time as generalized time.
@@ -155,52 +150,53 @@ impl Time {
     /// # Panics
     /// If allocation fails.
     pub fn encode_generalized_time(self) -> Bytes {
-        known(ffi::time_write_generalized(&self.moment)).into()
+        known(ffi::time_write_generalized(&self.moment())).into()
     }
 
     /// The seconds since 1970-01-01 00:00:00, every day with 86,400; negative before.
     pub fn to_binary_time(self) -> i64 {
-        self.moment.seconds
+        self.seconds
     }
 
     /// The same.
     pub fn timestamp(self) -> i64 {
-        self.moment.seconds
+        self.seconds
     }
 
     /// The year, 0 to 9999.
     pub fn year(self) -> i32 {
-        self.moment.year
+        self.moment().year
     }
 
     /// The month, 1 to 12.
     pub fn month(self) -> u32 {
-        self.moment.month
+        self.moment().month
     }
 
     /// The day of the month, 1 to 31.
     pub fn day(self) -> u32 {
-        self.moment.day
+        self.moment().day
     }
 
     /// The hour, 0 to 23.
     pub fn hour(self) -> u32 {
-        self.moment.hour
+        self.moment().hour
     }
 
     /// The minute, 0 to 59.
     pub fn minute(self) -> u32 {
-        self.moment.minute
+        self.moment().minute
     }
 
     /// The second, 0 to 59.
     pub fn second(self) -> u32 {
-        self.moment.second
+        self.moment().second
     }
 
     /// The time as the library has it.
+    #[inline]
     pub(crate) fn moment(self) -> Moment {
-        self.moment
+        calendar::moment_at(self.seconds)
     }
 
     /// Checks that the moment is not before this time.
@@ -226,29 +222,9 @@ impl Time {
     }
 }
 
-impl PartialEq for Time {
-    fn eq(&self, other: &Self) -> bool {
-        self.moment.seconds == other.moment.seconds
-    }
-}
-
-impl Eq for Time {}
-
-impl PartialOrd for Time {
-    fn partial_cmp(&self, other: &Self) -> Option<Ordering> {
-        Some(self.cmp(other))
-    }
-}
-
-impl Ord for Time {
-    fn cmp(&self, other: &Self) -> Ordering {
-        self.moment.seconds.cmp(&other.moment.seconds)
-    }
-}
-
-impl Hash for Time {
-    fn hash<H: Hasher>(&self, state: &mut H) {
-        self.moment.seconds.hash(state)
+impl From<Moment> for Time {
+    fn from(moment: Moment) -> Self {
+        Time { seconds: moment.seconds }
     }
 }
 
@@ -291,8 +267,8 @@ impl From<SystemTime> for Time {
 
 impl From<Time> for SystemTime {
     fn from(time: Time) -> Self {
-        let size = Duration::from_secs(time.moment.seconds.unsigned_abs());
-        if time.moment.seconds < 0 {
+        let size = Duration::from_secs(time.seconds.unsigned_abs());
+        if time.seconds < 0 {
             SystemTime::UNIX_EPOCH - size
         } else {
             SystemTime::UNIX_EPOCH + size
@@ -433,13 +409,13 @@ impl Validity {
 
     /// The period as the library has it.
     fn parts(self) -> Period {
-        Period { not_before: self.not_before.moment, not_after: self.not_after.moment }
+        Period { not_before: self.not_before.moment(), not_after: self.not_after.moment() }
     }
 }
 
 impl From<Period> for Validity {
     fn from(period: Period) -> Self {
-        Validity::new(Time { moment: period.not_before }, Time { moment: period.not_after })
+        Validity::new(period.not_before.into(), period.not_after.into())
     }
 }
 
@@ -479,7 +455,7 @@ mod tests {
         let periods: Vec<Validity> = periods.collect();
         for period in &periods {
             for now in &times {
-                let told = match ffi::validity_at(&period.parts(), &now.moment) {
+                let told = match ffi::validity_at(&period.parts(), &now.moment()) {
                     Ok(()) => None,
                     Err(status) => Some(status == ffi::TOO_NEW),
                 };

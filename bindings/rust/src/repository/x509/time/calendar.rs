@@ -11,7 +11,7 @@ const DAY: i64 = 86_400;
 const BEFORE_1970: i64 = 719_468;
 
 /// The seconds of the first moment and of the last, from 1970-01-01 00:00:00 on.
-const SECONDS: RangeInclusive<i64> = -62_167_219_200..=253_402_300_799;
+pub(super) const SECONDS: RangeInclusive<i64> = -62_167_219_200..=253_402_300_799;
 
 /// The days from 1970-01-01 to this date.
 pub(super) fn days_to(year: i64, month: u32, day: u32) -> i64 {
@@ -34,23 +34,20 @@ pub(super) fn days_of(year: i64, month: u32) -> u32 {
     }
 }
 
-/// The moment of these parts; `None` where the calendar or a clock has none, or the year is not of 0 to 9999.
+/// The seconds of the moment of these parts; `None` where the calendar or a clock has none, or the year is not of 0 to
+/// 9999.
 #[inline]
-pub(super) fn moment(year: i32, month: u32, day: u32, hour: u32, minute: u32, second: u32) -> Option<Moment> {
+pub(super) fn seconds_of(year: i32, month: u32, day: u32, hour: u32, minute: u32, second: u32) -> Option<i64> {
     let is_day = (0..=9_999).contains(&year) && day >= 1 && day <= days_of(year.into(), month);
     if !is_day || hour > 23 || minute > 59 || second > 59 {
         return None;
     }
-    let seconds = DAY * days_to(year.into(), month, day) + i64::from(3_600 * hour + 60 * minute + second);
-    Some(Moment { seconds, year, month, day, hour, minute, second })
+    Some(DAY * days_to(year.into(), month, day) + i64::from(3_600 * hour + 60 * minute + second))
 }
 
-/// The moment so many seconds after 1970-01-01 00:00:00; `None` where its year is not of 0 to 9999.
+/// The moment so many seconds after 1970-01-01 00:00:00, which are among `SECONDS`.
 #[inline]
-pub(super) fn moment_at(seconds: i64) -> Option<Moment> {
-    if !SECONDS.contains(&seconds) {
-        return None;
-    }
+pub(super) fn moment_at(seconds: i64) -> Moment {
     // Both are positive: there are 60 days of the year 0 before March.
     let days = (seconds.div_euclid(DAY) + BEFORE_1970 + 146_097) as u32;
     let clock = seconds.rem_euclid(DAY) as u32;
@@ -60,7 +57,7 @@ pub(super) fn moment_at(seconds: i64) -> Option<Moment> {
     let day = day - (365 * year + year / 4 - year / 100);
     let month = (5 * day + 2) / 153;
     let (is_next, month, day) = (month > 9, month, day - (153 * month + 2) / 5 + 1);
-    Some(Moment {
+    Moment {
         seconds,
         year: (400 * cycle + year + u32::from(is_next)) as i32 - 400,
         month: if is_next { month - 9 } else { month + 3 },
@@ -68,12 +65,12 @@ pub(super) fn moment_at(seconds: i64) -> Option<Moment> {
         hour: clock / 3_600,
         minute: clock / 60 % 60,
         second: clock % 60,
-    })
+    }
 }
 
 #[cfg(test)]
 mod tests {
-    use super::{days_of, moment, moment_at, DAY, SECONDS};
+    use super::{days_of, moment_at, seconds_of, DAY, SECONDS};
     use crate::ffi::{self, Moment};
 
     fn parts(moment: Moment) -> (i64, i32, [u32; 5]) {
@@ -93,17 +90,16 @@ mod tests {
         assert_eq!(days.end() - days.start() + 1, 3_652_425);
         for day in days {
             let seconds = day * DAY + (day * 7_919).rem_euclid(DAY);
-            let (told, found) = (counted(seconds).unwrap(), moment_at(seconds).unwrap());
+            let (told, found) = (counted(seconds).unwrap(), moment_at(seconds));
             assert_eq!(parts(found), parts(told));
             let Moment { year, month, day, hour, minute, second, .. } = found;
-            assert_eq!(moment(year, month, day, hour, minute, second).map(parts), Some(parts(told)));
+            assert_eq!(seconds_of(year, month, day, hour, minute, second), Some(seconds));
         }
         for seconds in [*SECONDS.start(), *SECONDS.end(), -1, 0, 59, 60, 3_599, 3_600] {
-            assert_eq!(moment_at(seconds).map(parts), counted(seconds).map(parts), "{seconds}");
-            assert!(moment_at(seconds).is_some());
+            assert_eq!(parts(moment_at(seconds)), parts(counted(seconds).unwrap()), "{seconds}");
         }
         for seconds in [SECONDS.start() - 1, SECONDS.end() + 1, i64::MIN, i64::MAX] {
-            assert!(moment_at(seconds).is_none() && counted(seconds).is_none(), "{seconds}");
+            assert!(counted(seconds).is_none(), "{seconds}");
         }
     }
 
@@ -115,7 +111,11 @@ mod tests {
             for month in numbers {
                 for day in numbers {
                     let written = ffi::time_write(&Moment { year, month, day, ..Moment::default() });
-                    assert_eq!(moment(year, month, day, 0, 0, 0).is_some(), written.is_ok(), "{year}-{month}-{day}");
+                    assert_eq!(
+                        seconds_of(year, month, day, 0, 0, 0).is_some(),
+                        written.is_ok(),
+                        "{year}-{month}-{day}"
+                    );
                 }
             }
         }
@@ -124,7 +124,7 @@ mod tests {
                 for second in numbers {
                     let written =
                         ffi::time_write(&Moment { year: 2020, month: 2, day: 29, hour, minute, second, seconds: 0 });
-                    let found = moment(2020, 2, 29, hour, minute, second);
+                    let found = seconds_of(2020, 2, 29, hour, minute, second);
                     assert_eq!(found.is_some(), written.is_ok(), "{hour}:{minute}:{second}");
                 }
             }

@@ -105,7 +105,7 @@ impl Reader<'_> {
     fn two_digits(&mut self) -> Option<i64> {
         let length = self.0.len();
         let number = self.digits(2)?;
-        (length - self.0.len() == 2).then(|| number)
+        (length - self.0.len() == 2).then_some(number)
     }
 }
 
@@ -172,14 +172,14 @@ impl fmt::Display for Time {
     /// The text that chrono shows, as `2020-02-29 16:39:57 UTC`, whatever width and precision are asked for.
     fn fmt(&self, f: &mut fmt::Formatter) -> fmt::Result {
         let mut text = *b"0000-00-00 00:00:00 UTC";
-        text[..19].copy_from_slice(&digits(&self.moment, b' '));
+        text[..19].copy_from_slice(&digits(&self.moment(), b' '));
         f.write_str(std::str::from_utf8(&text).expect("characters of ASCII"))
     }
 }
 
 impl fmt::Debug for Time {
     fn fmt(&self, f: &mut fmt::Formatter) -> fmt::Result {
-        with_rfc3339(&self.moment, |text| write!(f, "Time({text})"))
+        with_rfc3339(&self.moment(), |text| write!(f, "Time({text})"))
     }
 }
 
@@ -187,7 +187,7 @@ impl fmt::Debug for Time {
 impl serde::Serialize for Time {
     /// The text of RFC 3339.
     fn serialize<S: serde::Serializer>(&self, serializer: S) -> Result<S::Ok, S::Error> {
-        with_rfc3339(&self.moment, |text| serializer.serialize_str(text))
+        with_rfc3339(&self.moment(), |text| serializer.serialize_str(text))
     }
 }
 
