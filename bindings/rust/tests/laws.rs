@@ -307,6 +307,52 @@ fn small_types() {
     assert!(identifiers[0].1 == rpki::oid::AT_COMMON_NAME);
 }
 
+/// The types of `view`, which borrow their octets or are numbers.
+#[test]
+fn views() {
+    let serial = |octets: &[u8]| view::Serial::decode(octets).unwrap();
+    let serials = [(0, serial(b"\x02\x01\x00")), (1, serial(b"\x02\x01\x7f")), (2, serial(b"\x02\x02\x00\x80"))];
+    equality(&serials);
+    hashes(&serials);
+    order(&serials);
+    let identifiers = [0u8, 1, 0x80].map(|octet| (u32::from(octet), view::KeyIdentifier::from([octet; 20])));
+    equality(&identifiers);
+    hashes(&identifiers);
+    order(&identifiers);
+    let time = |octets: &[u8]| view::Time::decode(octets).unwrap();
+    let times = [
+        (0, time(b"\x18\x0f00000101000000Z")),
+        (1, time(b"\x17\x0d500101000000Z")),
+        (1, time(b"\x18\x0f19500101000000Z")),
+        (2, time(b"\x17\x0d691231235959Z")),
+        (3, time(b"\x17\x0d700101000000Z")),
+        (4, time(b"\x18\x0f20500101000000Z")),
+    ];
+    equality(&times);
+    hashes(&times);
+    order(&times);
+    let header = |octets: &[u8]| view::Header::read(octets).unwrap();
+    equality(&[
+        (0, header(b"\x30\x00")),
+        (0, header(b"\x30\x00\xff")),
+        (1, header(b"\x30\x01")),
+        (2, header(b"\x04\x00")),
+    ]);
+    let extension = |octets: &'static [u8]| view::Extension::decode(octets).unwrap().id();
+    let identifiers = [
+        (0, extension(b"\x30\x07\x06\x03\x55\x1d\x13\x04\x00")),
+        (0, extension(b"\x30\x08\x06\x03\x55\x1d\x13\x04\x01\x00")),
+        (1, extension(b"\x30\x07\x06\x03\x55\x1d\x0f\x04\x00")),
+    ];
+    equality(&identifiers);
+    hashes(&identifiers);
+    let version = |major, minor, patch| rpki::Version { major, minor, patch };
+    let versions = [(0, version(0, 1, 0)), (1, version(0, 1, 2)), (2, version(0, 2, 0)), (3, version(1, 0, 0))];
+    equality(&versions);
+    hashes(&versions);
+    order(&versions);
+}
+
 /// What is wrong with a serialized text is said with its place, at the top as inside of others; so is another type.
 #[cfg(feature = "serde")]
 #[test]

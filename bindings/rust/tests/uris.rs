@@ -3,6 +3,7 @@
 use bytes::Bytes;
 use rpki_proved::uri::{check_uri_ascii, starts_with_ignore_case, Error, Https, Rsync, Scheme};
 use rpki_proved::view;
+use std::hash::{BuildHasher, Hash, Hasher};
 
 fn rsync(text: &str) -> Rsync {
     text.parse().unwrap_or_else(|error| panic!("{text}: {error}"))
@@ -126,6 +127,27 @@ fn copies_and_parents_are_shared() {
     assert_eq!(copy.as_slice().as_ptr(), uri.as_slice().as_ptr());
     assert_eq!(parent.as_slice().as_ptr(), uri.as_slice().as_ptr());
     assert_eq!(uri.to_bytes().as_ptr(), uri.as_slice().as_ptr());
+}
+
+/// Authorities of every length up to the longest, 255, are compared and hashed in either case.
+#[test]
+fn authorities_of_every_length() {
+    let keys = std::collections::hash_map::RandomState::new();
+    for size in [1, 7, 8, 9, 31, 32, 33, 254, 255] {
+        let (lower, upper) = ("a".repeat(size), "A".repeat(size));
+        let of = |text: &str| [format!("rsync://{text}/m/{text}"), format!("https://{text}/{lower}")];
+        let ([one, https], [other, https_other]) = (of(&lower), of(&upper));
+        let rsync_hash = |text: &str| {
+            let mut state = keys.build_hasher();
+            rsync(text).hash(&mut state);
+            state.finish()
+        };
+        assert!(rsync(&one) != rsync(&other) && rsync_hash(&one) != rsync_hash(&other), "{size}");
+        let same = one.replacen(&lower, &upper, 1);
+        assert!(rsync(&one) == rsync(&same) && rsync_hash(&one) == rsync_hash(&same), "{size}");
+        let mut known = std::collections::HashSet::new();
+        assert!(known.insert(https.parse::<Https>().unwrap()) && !known.insert(https_other.parse().unwrap()), "{size}");
+    }
 }
 
 #[test]
