@@ -137,7 +137,7 @@ impl PublicKey {
     ///
     /// # Errors
     /// `OtherAlgorithm` where the algorithm identifier is well formed and another one; `Trailing` where octets follow a
-    /// key, `OutOfMemory`, and else why no beginning of the octets is a key.
+    /// key, and else why no beginning of the octets is a key.
     pub fn decode(octets: impl Into<Bytes>) -> Result<Self, DecodeError> {
         let octets = octets.into();
         let found = ffi::public_key(&octets).map_err(DecodeError::from_status)?;
@@ -171,10 +171,7 @@ impl PublicKey {
         self.algorithm.allow_router_cert()
     }
 
-    /// The key identifier: the SHA-1 digest of the bits (RFC 6487 4.8.2).
-    ///
-    /// # Panics
-    /// If allocation fails.
+    /// The key identifier: the SHA-1 digest of the bits (RFC 6487 4.8.2). Nothing is allocated.
     pub fn key_identifier(&self) -> KeyIdentifier {
         KeyIdentifier(known(ffi::key_identifier(&self.octets)))
     }
