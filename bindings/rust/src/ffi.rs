@@ -288,11 +288,22 @@ impl Parts for HttpsEnds {
     }
 }
 
+/// A text that a call has made of one that was read: its octets are characters of ASCII.
+pub(crate) struct Made(Vec<u8>);
+
 /// A text that a call has accepted, and where it found the parts; or one that a call has made of such a text.
-#[derive(Clone)]
 pub(crate) struct Parsed<P> {
     text: Bytes,
     ends: P,
+}
+
+/// Not derived: the text is made first, so that it need not be moved.
+impl<P: Copy> Clone for Parsed<P> {
+    #[inline]
+    fn clone(&self) -> Self {
+        let text = self.text.clone();
+        Parsed { text, ends: self.ends }
+    }
 }
 
 impl<P: Parts> Parsed<P> {
@@ -342,8 +353,17 @@ impl<P: Parts> Parsed<P> {
         self.text = Bytes::copy_from_slice(&self.text);
     }
 
+    /// The first octets of the text, which a call has found to be a URI.
+    #[inline]
+    pub(crate) fn front(&self, size: usize) -> Self {
+        let text = self.text.slice(..size);
+        Parsed { text, ends: self.ends }
+    }
+
     /// The text that a call has made of this one: its parts are the same, but the path, which ends with it.
-    fn with_end(&self, text: Bytes) -> Self {
+    #[inline]
+    pub(crate) fn with_text(&self, text: Made) -> Self {
+        let text = Bytes::from(text.0);
         Parsed { text, ends: self.ends }
     }
 }
@@ -377,15 +397,15 @@ macro_rules! calls_on {
                 }
             }
 
-            pub(crate) fn parent(&self) -> Result<Self, Status> {
+            /// How many octets of the text are its parent's.
+            pub(crate) fn parent(&self) -> Result<usize, Status> {
                 let (text, parts) = (&self.text, self.ends.places(self.text.len()));
                 // SAFETY: as above.
-                let size = told(|out| unsafe { $parent(text.as_ptr(), text.len(), &parts, out) })?;
-                Ok(self.with_end(text.slice(..size)))
+                told(|out| unsafe { $parent(text.as_ptr(), text.len(), &parts, out) })
             }
 
-            /// This with the path joined to it; `guess` is how many octets that has.
-            pub(crate) fn join(&self, path: &[u8], guess: usize) -> Result<Self, Status> {
+            /// The text with the path joined to it; `guess` is how many octets that has.
+            pub(crate) fn join(&self, path: &[u8], guess: usize) -> Result<Made, Status> {
                 let (base, parts) = (&self.text, self.ends.places(self.text.len()));
                 // SAFETY: as above.
                 let text = unsafe {
@@ -394,11 +414,11 @@ macro_rules! calls_on {
                         $join(base.as_ptr(), base.len(), &parts, path, size, out, capacity, written)
                     })
                 };
-                Ok(self.with_end(Bytes::from(text?)))
+                text.map(Made)
             }
 
-            /// This with a slash last.
-            pub(crate) fn as_dir(&self) -> Result<Self, Status> {
+            /// The text with a slash last.
+            pub(crate) fn as_dir(&self) -> Result<Made, Status> {
                 let (text, parts) = (&self.text, self.ends.places(self.text.len()));
                 // SAFETY: as above.
                 let text = unsafe {
@@ -406,7 +426,7 @@ macro_rules! calls_on {
                         $into_dir(text.as_ptr(), text.len(), &parts, out, capacity, written)
                     })
                 };
-                Ok(self.with_end(Bytes::from(text?)))
+                text.map(Made)
             }
         }
     };

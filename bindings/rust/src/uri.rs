@@ -198,7 +198,7 @@ impl Rsync {
     /// Puts a slash last, unless the path is empty or has one. The text may become too long to be read again.
     pub fn path_into_dir(&mut self) {
         if !self.path_is_dir() {
-            self.parsed = known(self.parsed.as_dir());
+            self.parsed = self.parsed.with_text(known(self.parsed.as_dir()));
         }
     }
 
@@ -211,7 +211,7 @@ impl Rsync {
     /// one's text.
     pub fn parent(&self) -> Option<Self> {
         match self.parsed.parent() {
-            Ok(parsed) => Some(Rsync { parsed }),
+            Ok(size) => Some(Rsync { parsed: self.parsed.front(size) }),
             Err(ffi::NO_ANSWER) => None,
             Err(status) => known(Err(status)),
         }
@@ -229,7 +229,8 @@ impl Rsync {
         }
         // No text has as many octets.
         let size = (self.as_slice().len() + usize::from(!self.path_is_dir()) + path.len()).min(3_072);
-        Ok(Rsync { parsed: self.parsed.join(path, size).map_err(UriError::from_status)? })
+        let text = self.parsed.join(path, size).map_err(UriError::from_status)?;
+        Ok(Rsync { parsed: self.parsed.with_text(text) })
     }
 
     /// The path that leads from the other URI to this one: its segments after those of the other, with the last slash.
@@ -374,7 +375,7 @@ impl Https {
     /// Puts a slash last, unless the path is empty or has one.
     pub fn path_into_dir(&mut self) {
         if !self.path_is_dir() {
-            self.parsed = known(self.parsed.as_dir());
+            self.parsed = self.parsed.with_text(known(self.parsed.as_dir()));
         }
     }
 
@@ -382,7 +383,7 @@ impl Https {
     /// where nothing is left. It shares this one's text.
     pub fn parent(&self) -> Option<Self> {
         match self.parsed.parent() {
-            Ok(parsed) => Some(Https { parsed }),
+            Ok(size) => Some(Https { parsed: self.parsed.front(size) }),
             Err(ffi::NO_ANSWER) => None,
             Err(status) => known(Err(status)),
         }
@@ -394,7 +395,8 @@ impl Https {
     /// `InvalidCharacters`.
     pub fn join(&self, path: &[u8]) -> Result<Self, Error> {
         let size = self.as_slice().len() + usize::from(!self.path().ends_with('/')) + path.len();
-        Ok(Https { parsed: self.parsed.join(path, size).map_err(UriError::from_status)? })
+        let text = self.parsed.join(path, size).map_err(UriError::from_status)?;
+        Ok(Https { parsed: self.parsed.with_text(text) })
     }
 }
 
