@@ -52,9 +52,16 @@ fn is_text(text: &[u8], front: usize, octets: &[u8]) -> bool {
     rest == others && front.eq_ignore_ascii_case(octets)
 }
 
-/// Hashes the text with its first `front` octets in lower case; these are 263 at most.
+/// Hashes the text with its first `front` octets in lower case, which are 263 at most, and an octet that no text has.
 #[inline]
 fn hash_text<H: Hasher>(text: &[u8], front: usize, state: &mut H) {
+    if text.len() < 128 {
+        // At once, since a hasher takes as long for each part as for a dozen of octets.
+        let mut room = [0xff; 128];
+        room[..text.len()].copy_from_slice(text);
+        room[..front].make_ascii_lowercase();
+        return state.write(&room[..=text.len()]);
+    }
     let (front, rest) = text.split_at(front);
     let mut room = [0; 264];
     let lower = &mut room[..front.len()];
@@ -62,7 +69,6 @@ fn hash_text<H: Hasher>(text: &[u8], front: usize, state: &mut H) {
     lower.make_ascii_lowercase();
     state.write(lower);
     state.write(rest);
-    // No text continues another one so.
     state.write_u8(0xff);
 }
 

@@ -133,7 +133,7 @@ fn copies_and_parents_are_shared() {
 #[test]
 fn authorities_of_every_length() {
     let keys = std::collections::hash_map::RandomState::new();
-    for size in [1, 7, 8, 9, 31, 32, 33, 254, 255] {
+    for size in [1, 7, 8, 9, 31, 32, 33, 57, 58, 59, 60, 254, 255] {
         let (lower, upper) = ("a".repeat(size), "A".repeat(size));
         let of = |text: &str| [format!("rsync://{text}/m/{text}"), format!("https://{text}/{lower}")];
         let ([one, https], [other, https_other]) = (of(&lower), of(&upper));
