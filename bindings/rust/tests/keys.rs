@@ -1,4 +1,5 @@
-//! Keys, signatures, algorithm identifiers and key identifiers: what a provider is asked, what is equal, what is written.
+//! Keys, signatures, algorithm identifiers and key identifiers: what a provider is asked, what is equal, what is
+//! written.
 
 use bytes::Bytes;
 use rpki::crypto::keys::{InvalidInteger, SignatureVerificationError};
@@ -197,7 +198,8 @@ fn keys_are_compared() {
     assert_eq!(key(BARE_RSA, b"\x00\x04"), keys[0]);
 }
 
-/// What is written is what was read, but for the parameters of RSA, which are NULL; nothing is copied where both are one.
+/// What is written is what was read, but for the parameters of RSA, which are NULL; nothing is copied where both are
+/// one.
 #[test]
 fn keys_are_written() {
     for bits in [&b"\x00\x04"[..], b"\x02\x04", b"\x00"] {

@@ -43,8 +43,8 @@ fn relations_are_those_of_the_library() {
     }
 }
 
-/// Two URIs are one where their texts are, but for the case of scheme and authority (RFC 3986 6.2.2.1): a slash last, and
-/// the case of the rest, make another.
+/// Two URIs are one where their texts are, but for the case of scheme and authority (RFC 3986 6.2.2.1): a slash last,
+/// and the case of the rest, make another.
 #[test]
 fn uris_are_one_where_their_texts_are() {
     let canonical = |text: &str| {

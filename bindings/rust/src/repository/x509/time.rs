@@ -18,7 +18,8 @@ pub use text::TimeParseError;
 const DAY: i64 = 86_400;
 
 /// A time in UTC, to the second, of a year from 0 to 9999. Times are ordered as they follow each other, and shown as
-/// chrono shows them; Debug and what is serialized are of RFC 3339, as is the text of [`view::Time`](crate::view::Time).
+/// chrono shows them; Debug and what is serialized are of RFC 3339, as is the text of
+/// [`view::Time`](crate::view::Time).
 ///
 /// ```
 /// use rpki_proved::{repository::x509::Time, view};
@@ -397,8 +398,8 @@ impl Validity {
         self.verify_at(Time::now())
     }
 
-    /// Checks that the moment is in the period; both of its ends are, so a time that is cut down to the second is in it up
-    /// to the end of its last second.
+    /// Checks that the moment is in the period; both of its ends are, so a time that is cut down to the second is in it
+    /// up to the end of its last second.
     ///
     /// # Errors
     /// Too new; else too old.

@@ -1,5 +1,5 @@
-//! Moments by the parts of their dates, and by seconds: the Gregorian calendar of the years 0 to 9999, and days of 86,400
-//! seconds.
+//! Moments by the parts of their dates, and by seconds: the Gregorian calendar of the years 0 to 9999, and days of
+//! 86,400 seconds.
 
 use crate::ffi::Moment;
 use std::ops::RangeInclusive;

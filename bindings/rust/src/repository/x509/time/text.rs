@@ -76,8 +76,8 @@ impl Reader<'_> {
         Some(())
     }
 
-    /// The seconds that the clocks of a zone are ahead: `Z`, `UTC` in any case, or a sign, two digits of hours, and two of
-    /// minutes behind any number of colons and white space.
+    /// The seconds that the clocks of a zone are ahead: `Z`, `UTC` in any case, or a sign, two digits of hours, and two
+    /// of minutes behind any number of colons and white space.
     fn zone(&mut self) -> Option<i64> {
         self.space();
         let first = self.0.chars().next()?;
@@ -132,8 +132,8 @@ fn seconds_of(text: &str) -> Option<i64> {
 }
 
 /// What the crate chrono (0.4.23) reads: a date, `T` or a space, a time of day, and a zone, as of RFC 3339, with white
-/// space between numbers; the zone may be `UTC`, and need not have a colon. Parts of a second are dropped, and second 60 is
-/// read as 59.
+/// space between numbers; the zone may be `UTC`, and need not have a colon. Parts of a second are dropped, and second
+/// 60 is read as 59.
 impl FromStr for Time {
     type Err = TimeParseError;
 
