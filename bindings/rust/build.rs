@@ -1,11 +1,42 @@
 //! Links the library, as `librpki.a` or, where only that is installed, as `librpki.so`: from the folder that
-//! `RPKI_ARCHIVE_DIR` names, or else from one beside this package, or else from where pkg-config finds it.
+//! `RPKI_ARCHIVE_DIR` names, or else from one beside this package, or else from where pkg-config finds it. A library of
+//! another major number than this package, or of an earlier minor number, is not linked.
 
 use std::env;
+use std::fs;
 use std::path::{Path, PathBuf};
 use std::process::{self, Command};
 
 const VARIABLE: &str = "RPKI_ARCHIVE_DIR";
+
+/// The major number and the minor number of a version.
+fn numbers(version: &str) -> Option<(u32, u32)> {
+    let mut parts = version.split('.').map(|part| part.parse().ok());
+    Some((parts.next()??, parts.next()??))
+}
+
+/// Whether this package can call a library of this version: one of its own major number, and of its own minor number or
+/// a later one.
+fn fits(version: &str) -> bool {
+    let own = numbers(env!("CARGO_PKG_VERSION")).expect("the version of a package");
+    numbers(version).map_or(false, |(major, minor)| major == own.0 && minor >= own.1)
+}
+
+/// The version that the file beside an archive names, where there is one that does.
+fn version_of(folder: &Path) -> Option<String> {
+    let proof = fs::read_to_string(folder.join("librpki.proof")).ok()?;
+    proof.split_whitespace().find_map(|word| word.strip_prefix("version=").map(String::from))
+}
+
+/// The folders that the variable names: a relative one below the folder that cargo was called in, or this package's.
+fn named(folder: PathBuf) -> Vec<PathBuf> {
+    if folder.is_absolute() {
+        return vec![folder];
+    }
+    println!("cargo:rerun-if-env-changed=PWD");
+    let bases = ["PWD", "CARGO_MANIFEST_DIR"].into_iter().filter_map(env::var_os);
+    bases.map(|base| PathBuf::from(base).join(&folder)).collect()
+}
 
 /// The folders beside this package that may have the archive for this architecture: what `bindings/archive` makes in a
 /// clone of the repository, which is for x86-64 where nothing else is said, and what a package of the library has.
@@ -16,16 +47,34 @@ fn beside(architecture: &str) -> Vec<PathBuf> {
     made.into_iter().chain([here.join("../../lib").join(architecture)]).collect()
 }
 
-/// The folder where the library of this version or a later one is installed, if pkg-config knows one.
-fn installed() -> Option<PathBuf> {
-    let pkg_config = env::var_os("PKG_CONFIG").unwrap_or_else(|| "pkg-config".into());
-    let wanted = format!("rpki >= {}", env!("CARGO_PKG_VERSION"));
-    let found = Command::new(pkg_config).args(["--variable=libdir", &wanted]).output().ok()?;
-    let folder = String::from_utf8(found.stdout).ok()?;
-    (found.status.success() && !folder.trim().is_empty()).then(|| PathBuf::from(folder.trim()))
+/// What pkg-config prints, where it succeeds and prints something.
+fn pkg_config(words: &[&str]) -> Option<String> {
+    let program = env::var_os("PKG_CONFIG").unwrap_or_else(|| "pkg-config".into());
+    let told = Command::new(program).args(words).output().ok()?;
+    let text = String::from_utf8_lossy(&told.stdout).trim().to_string();
+    (told.status.success() && !text.is_empty()).then_some(text)
 }
 
-fn link(folder: &Path, kind: &str) {
+/// Ends the build, and says why.
+fn stop(lines: &[String]) -> ! {
+    for line in lines {
+        eprintln!("{line}");
+    }
+    process::exit(1)
+}
+
+/// Ends the build where the library that was found is of another version.
+fn hold(version: &str, found: &Path) {
+    if !fits(version) {
+        let (major, minor) = numbers(env!("CARGO_PKG_VERSION")).expect("the version of a package");
+        let found = format!("the library in {} is of version {version}", found.display());
+        stop(&[found, format!("this package wants {major}.{minor} or a later one of {major}")]);
+    }
+}
+
+/// Links the library of this folder as an archive, if there is one, or else as a shared library.
+fn link(folder: &Path) {
+    let kind = if folder.join("librpki.a").is_file() { "static" } else { "dylib" };
     println!("cargo:rerun-if-changed={}", folder.display());
     println!("cargo:rustc-link-search=native={}", folder.display());
     println!("cargo:rustc-link-lib={kind}=rpki");
@@ -40,21 +89,26 @@ fn main() {
         return;
     }
     let architecture = env::var("CARGO_CFG_TARGET_ARCH").unwrap_or_default();
-    let named = env::var_os(VARIABLE).map(PathBuf::from);
-    let folders = named.clone().map_or_else(|| beside(&architecture), |folder| vec![folder]);
+    let variable = env::var_os(VARIABLE).map(PathBuf::from);
+    let is_named = variable.is_some();
+    let folders = variable.map_or_else(|| beside(&architecture), named);
     if let Some(folder) = folders.iter().find(|folder| folder.join("librpki.a").is_file()) {
-        return link(folder, "static");
-    }
-    match installed() {
-        Some(folder) if named.is_none() => {
-            let kind = if folder.join("librpki.a").is_file() { "static" } else { "dylib" };
-            link(&folder, kind);
+        if let Some(version) = version_of(folder) {
+            hold(&version, folder);
         }
-        _ => {
-            eprintln!("there is no librpki.a in any of {folders:?}, and pkg-config knows no rpki");
-            eprintln!("set {VARIABLE} to its folder: lib/{architecture} of an unpacked package of the library");
-            eprintln!("or, in a clone of the repository, make it by bindings/archive, which needs the toolchain");
-            process::exit(1);
+        return link(folder);
+    }
+    if !is_named {
+        if let (Some(version), Some(folder)) =
+            (pkg_config(&["--modversion", "rpki"]), pkg_config(&["--variable=libdir", "rpki"]))
+        {
+            hold(&version, Path::new(&folder));
+            return link(Path::new(&folder));
         }
     }
+    stop(&[
+        format!("there is no librpki.a in any of {folders:?}, and pkg-config knows no rpki"),
+        format!("set {VARIABLE} to its folder: lib/{architecture} of an unpacked package of the library"),
+        "or, in a clone of the repository, make it by bindings/archive, which needs the toolchain".into(),
+    ]);
 }

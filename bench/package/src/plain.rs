@@ -1,11 +1,12 @@
-//! rsync URIs in plain Rust, as a measure: read as the crate rpki 0.20 reads them, with a pass for each thing that is
-//! tested, and then used by where their parts are.
+//! URIs as the crate rpki 0.20 has them: read with a pass for each thing that is tested, and then used by where their
+//! module and their path start.
 
 use bytes::{Bytes, BytesMut};
+use std::borrow::Cow;
 use std::hash::{Hash, Hasher};
 
 #[derive(Clone)]
-pub struct Uri {
+pub struct Rsync {
     bytes: Bytes,
     module_start: usize,
     path_start: usize,
@@ -28,8 +29,17 @@ fn has_good_segments(path: &[u8]) -> bool {
     })
 }
 
-impl Uri {
-    pub fn from_bytes(bytes: Bytes) -> Option<Uri> {
+/// The authority in lower case, borrowed where it is that.
+fn in_lower_case(authority: &str) -> Cow<'_, str> {
+    if authority.bytes().any(|octet| octet.is_ascii_uppercase()) {
+        Cow::Owned(authority.to_ascii_lowercase())
+    } else {
+        Cow::Borrowed(authority)
+    }
+}
+
+impl Rsync {
+    pub fn from_bytes(bytes: Bytes) -> Option<Rsync> {
         if !bytes.iter().all(|octet| is_uri_octet(*octet)) {
             return None;
         }
@@ -41,7 +51,7 @@ impl Uri {
         let module = parts.next().filter(|part| !part.is_empty())?.len();
         parts.next()?;
         let module_start = 8 + authority + 1;
-        Some(Uri { bytes, module_start, path_start: module_start + module + 1 })
+        Some(Rsync { bytes, module_start, path_start: module_start + module + 1 })
     }
 
     pub fn as_str(&self) -> &str {
@@ -53,32 +63,57 @@ impl Uri {
         &self.as_str()[self.path_start..]
     }
 
+    pub fn path_is_dir(&self) -> bool {
+        self.path().is_empty() || self.path().ends_with('/')
+    }
+
+    pub fn path_into_dir(&mut self) {
+        if !self.path_is_dir() {
+            let mut bytes = BytesMut::with_capacity(self.bytes.len() + 1);
+            bytes.extend_from_slice(&self.bytes);
+            bytes.extend_from_slice(b"/");
+            self.bytes = bytes.freeze();
+        }
+    }
+
     fn authority(&self) -> &str {
         &self.as_str()[8..self.module_start - 1]
     }
 
-    fn has_module_of(&self, other: &Uri) -> bool {
-        self.authority().eq_ignore_ascii_case(other.authority())
-            && self.as_str()[self.module_start..self.path_start] == other.as_str()[other.module_start..other.path_start]
+    fn module(&self) -> &str {
+        &self.as_str()[..self.path_start]
     }
 
-    pub fn parent(&self) -> Option<Uri> {
+    pub fn canonical_authority(&self) -> Cow<'_, str> {
+        in_lower_case(self.authority())
+    }
+
+    pub fn canonical_module(&self) -> Cow<'_, str> {
+        match self.canonical_authority() {
+            Cow::Borrowed(_) => Cow::Borrowed(self.module()),
+            Cow::Owned(authority) => {
+                Cow::Owned(format!("rsync://{authority}/{}", &self.as_str()[self.module_start..self.path_start]))
+            }
+        }
+    }
+
+    pub fn parent(&self) -> Option<Rsync> {
         let path = self.path();
         if path.is_empty() {
             return None;
         }
         let size = path.strip_suffix('/').unwrap_or(path).rfind('/').map_or(0, |at| at + 1);
-        Some(Uri { bytes: self.bytes.slice(..self.path_start + size), ..*self })
+        Some(Rsync { bytes: self.bytes.slice(..self.path_start + size), ..*self })
     }
 
-    pub fn join(&self, path: &[u8]) -> Option<Uri> {
+    pub fn join(&self, path: &[u8]) -> Option<Rsync> {
         if path.is_empty() {
             return Some(self.clone());
         }
         if !path.iter().all(|octet| is_uri_octet(*octet)) || !has_good_segments(path) {
             return None;
         }
-        let slash = !self.path().is_empty() && !self.path().ends_with('/');
+        let slash = !self.path_is_dir();
         let size = self.bytes.len() + usize::from(slash) + path.len();
         if size >= 3_072 {
             return None;
@@ -89,11 +124,15 @@ impl Uri {
             bytes.extend_from_slice(b"/");
         }
         bytes.extend_from_slice(path);
-        Some(Uri { bytes: bytes.freeze(), ..*self })
+        Some(Rsync { bytes: bytes.freeze(), ..*self })
     }
 
-    pub fn relative_to(&self, base: &Uri) -> Option<&str> {
-        if !self.has_module_of(base) {
+    fn module_name(&self) -> &str {
+        &self.as_str()[self.module_start..self.path_start]
+    }
+
+    pub fn relative_to(&self, base: &Rsync) -> Option<&str> {
+        if !self.authority().eq_ignore_ascii_case(base.authority()) || self.module_name() != base.module_name() {
             return None;
         }
         let below = base.path().strip_suffix('/').unwrap_or(base.path());
@@ -107,19 +146,81 @@ impl Uri {
             rest.strip_prefix('/')
         }
     }
-}
 
-impl PartialEq for Uri {
-    fn eq(&self, other: &Uri) -> bool {
-        self.has_module_of(other) && self.path() == other.path()
+    pub fn is_parent_of(&self, other: &Rsync) -> bool {
+        other.relative_to(self).map_or(false, |path| !path.is_empty())
     }
 }
 
-impl Hash for Uri {
+impl AsRef<[u8]> for Rsync {
+    fn as_ref(&self) -> &[u8] {
+        &self.bytes
+    }
+}
+
+/// The front without case, and the rest exactly.
+impl<T: AsRef<[u8]>> PartialEq<T> for Rsync {
+    fn eq(&self, other: &T) -> bool {
+        let other = other.as_ref();
+        if self.bytes.len() != other.len() {
+            return false;
+        }
+        let (front, rest) = self.bytes.split_at(self.module_start);
+        let (others_front, others_rest) = other.split_at(self.module_start);
+        front.eq_ignore_ascii_case(others_front) && rest == others_rest
+    }
+}
+
+/// Of the module one octet alone is hashed, and nothing of the path.
+impl Hash for Rsync {
     fn hash<H: Hasher>(&self, state: &mut H) {
         for octet in &self.bytes[..self.module_start] {
             state.write_u8(octet.to_ascii_lowercase());
         }
-        self.bytes[self.module_start..].hash(state);
+        self.bytes[self.module_start].hash(state);
+    }
+}
+
+#[derive(Clone)]
+pub struct Https {
+    bytes: Bytes,
+    path_start: usize,
+}
+
+impl Https {
+    pub fn from_bytes(bytes: Bytes) -> Option<Https> {
+        if !bytes.iter().all(|octet| is_uri_octet(*octet)) {
+            return None;
+        }
+        if bytes.len() < 8 || !bytes[..8].eq_ignore_ascii_case(b"https://") {
+            return None;
+        }
+        let size = bytes[8..].iter().position(|octet| *octet == b'/').unwrap_or(bytes.len() - 8);
+        (size < 256).then(|| Https { path_start: 8 + size, bytes })
+    }
+
+    fn authority(&self) -> &[u8] {
+        &self.bytes[8..self.path_start]
+    }
+
+    pub fn eq_authority(&self, other: &Https) -> bool {
+        self.authority().eq_ignore_ascii_case(other.authority())
+    }
+}
+
+impl PartialEq for Https {
+    fn eq(&self, other: &Https) -> bool {
+        self.path_start == other.path_start
+            && self.bytes[..self.path_start].eq_ignore_ascii_case(&other.bytes[..other.path_start])
+            && self.bytes[self.path_start..] == other.bytes[other.path_start..]
+    }
+}
+
+impl Hash for Https {
+    fn hash<H: Hasher>(&self, state: &mut H) {
+        for octet in &self.bytes[..self.path_start] {
+            state.write_u8(octet.to_ascii_lowercase());
+        }
+        self.bytes[self.path_start..].hash(state);
     }
 }

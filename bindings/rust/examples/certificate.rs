@@ -53,8 +53,8 @@ fn main() -> Result<(), Box<dyn Error>> {
     println!("certificate: {} octets, {} headers", octets.len(), view::walk(&octets)?.headers());
     println!("version: 3");
     println!("serial number: {}", view::Serial::decode(&cert.serial_number().encode())?);
-    println!("not before: {}", cert.validity().not_before());
-    println!("not after: {}", cert.validity().not_after());
+    println!("not before: {}", view::Time::from(cert.validity().not_before()));
+    println!("not after: {}", view::Time::from(cert.validity().not_after()));
     print_name("issuer", cert.issuer())?;
     print_name("subject", cert.subject())?;
     print_key(&cert)?;

@@ -1,5 +1,6 @@
 //! Keys, digests and signatures.
 
+mod algorithm;
 pub mod digest;
 pub mod keys;
 pub mod signature;

@@ -25,6 +25,7 @@
 #![deny(unsafe_op_in_unsafe_fn)]
 
 pub mod crypto;
+mod encode;
 #[allow(unsafe_code)]
 mod ffi;
 pub mod oid;

@@ -1,27 +1,57 @@
-//! Texts in serialized values.
+//! Texts in serialized values. A text is read while the format is at its place, so that an error of a format that tells
+//! places has that of the text.
 
 use serde::de::{Deserializer, Error, Visitor};
 use std::fmt;
 
-struct Owned;
+/// Reads the texts of one kind of values, as this function does.
+struct Reading<F> {
+    expected: &'static str,
+    read: F,
+}
 
-impl Visitor<'_> for Owned {
-    type Value = String;
+impl<T, E: fmt::Display, F: FnOnce(String) -> Result<T, E>> Visitor<'_> for Reading<F> {
+    type Value = T;
 
     fn expecting(&self, f: &mut fmt::Formatter) -> fmt::Result {
-        f.write_str("a text")
+        f.write_str(self.expected)
     }
 
-    fn visit_str<E: Error>(self, text: &str) -> Result<String, E> {
-        Ok(text.into())
+    fn visit_str<D: Error>(self, text: &str) -> Result<T, D> {
+        self.visit_string(text.into())
     }
 
-    fn visit_string<E: Error>(self, text: String) -> Result<String, E> {
-        Ok(text)
+    fn visit_string<D: Error>(self, text: String) -> Result<T, D> {
+        (self.read)(text).map_err(D::custom)
     }
 }
 
-/// The text of a serialized value, in any form that the format hands it out.
-pub(crate) fn string<'de, D: Deserializer<'de>>(deserializer: D) -> Result<String, D::Error> {
-    deserializer.deserialize_string(Owned)
+/// The value of a serialized text, in any form that the format hands it out; `expected` says what is read.
+pub(crate) fn owned<'de, T, E: fmt::Display, D: Deserializer<'de>>(
+    deserializer: D,
+    expected: &'static str,
+    read: impl FnOnce(String) -> Result<T, E>,
+) -> Result<T, D::Error> {
+    deserializer.deserialize_string(Reading { expected, read })
+}
+
+/// The same by a function that borrows the text.
+pub(crate) fn borrowed<'de, T, E: fmt::Display, D: Deserializer<'de>>(
+    deserializer: D,
+    expected: &'static str,
+    read: impl FnOnce(&str) -> Result<T, E>,
+) -> Result<T, D::Error> {
+    owned(deserializer, expected, |text| read(&text))
+}
+
+/// The value of a serialized text of octets in base 64.
+pub(crate) fn octets<'de, T, E: fmt::Display, D: Deserializer<'de>>(
+    deserializer: D,
+    expected: &'static str,
+    read: impl FnOnce(Vec<u8>) -> Result<T, E>,
+) -> Result<T, D::Error> {
+    borrowed(deserializer, expected, |text| {
+        let octets = crate::util::base64::Serde.decode(text).map_err(|error| error.to_string())?;
+        read(octets).map_err(|error| error.to_string())
+    })
 }

@@ -3,7 +3,8 @@
 //! A URI keeps the text that it was read from, and shares it with its copies, its parents and the octets that it came
 //! from. It is read once: every later question is answered by where its parts stand.
 
-use crate::ffi::{self, HttpsParts, Parsed, RsyncParts};
+use crate::encode;
+use crate::ffi::{self, HttpsEnds, Parsed, RsyncEnds};
 use crate::view::UriError;
 use bytes::Bytes;
 use std::borrow::Cow;
@@ -36,20 +37,49 @@ pub fn check_uri_ascii<S: AsRef<[u8]>>(slice: S) -> Result<(), Error> {
     }
 }
 
-/// Whether these octets are the text, but for the case of its first `front` octets.
-fn is_text(text: &[u8], front: usize, octets: &[u8]) -> bool {
-    octets.len() == text.len()
-        && octets[..front].eq_ignore_ascii_case(&text[..front])
-        && octets[front..] == text[front..]
+/// Whether the octets of a text begin with those of another, without regard to case.
+pub fn starts_with_ignore_case(s: &[u8], expected: &[u8]) -> bool {
+    s.get(..expected.len()).map_or(false, |front| front.eq_ignore_ascii_case(expected))
 }
 
-/// A part of the canonical text, borrowed from the text as it is spelled where both are the same.
-fn canonical_part(canonical: Vec<u8>, spelled: &str, start: usize) -> Cow<'_, str> {
-    let part = &canonical[start..start + spelled.len()];
-    if part == spelled.as_bytes() {
-        Cow::Borrowed(spelled)
+/// Whether these octets are the text, but for the case of its first `front` octets.
+#[inline]
+fn is_text(text: &[u8], front: usize, octets: &[u8]) -> bool {
+    if octets.len() != text.len() {
+        return false;
+    }
+    let ((front, rest), (octets, others)) = (text.split_at(front), octets.split_at(front));
+    rest == others && front.eq_ignore_ascii_case(octets)
+}
+
+/// Hashes the text with its first `front` octets in lower case, which are 263 at most, and an octet that no text has.
+#[inline]
+fn hash_text<H: Hasher>(text: &[u8], front: usize, state: &mut H) {
+    if text.len() < 128 {
+        // At once, since a hasher takes as long for each part as for a dozen of octets.
+        let mut room = [0xff; 128];
+        room[..text.len()].copy_from_slice(text);
+        room[..front].make_ascii_lowercase();
+        return state.write(&room[..=text.len()]);
+    }
+    let (front, rest) = text.split_at(front);
+    let mut room = [0; 264];
+    let lower = &mut room[..front.len()];
+    lower.copy_from_slice(front);
+    lower.make_ascii_lowercase();
+    state.write(lower);
+    state.write(rest);
+    state.write_u8(0xff);
+}
+
+/// The text in lower case, borrowed where it is spelled so.
+#[inline]
+fn in_lower_case(text: &str) -> Cow<'_, str> {
+    // All octets are looked at, several at a time.
+    if text.bytes().fold(false, |found, octet| found | octet.is_ascii_uppercase()) {
+        Cow::Owned(text.to_ascii_lowercase())
     } else {
-        Cow::Owned(String::from_utf8_lossy(part).into_owned())
+        Cow::Borrowed(text)
     }
 }
 
@@ -71,7 +101,7 @@ fn canonical_part(canonical: Vec<u8>, spelled: &str, start: usize) -> Cow<'_, st
 /// ```
 #[derive(Clone)]
 pub struct Rsync {
-    parsed: Parsed<RsyncParts>,
+    parsed: Parsed<RsyncEnds>,
 }
 
 impl Rsync {
@@ -122,32 +152,43 @@ impl Rsync {
 
     /// The authority: a host, perhaps with a port, as it is spelled. Not empty.
     pub fn authority(&self) -> &str {
-        self.parsed.part(self.parsed.parts().authority)
+        self.parsed.authority(self.parsed.ends().authority())
     }
 
     /// The authority in lower case.
     pub fn canonical_authority(&self) -> Cow<'_, str> {
-        canonical_part(known(self.parsed.canonical()), self.authority(), self.parsed.parts().authority.start)
+        in_lower_case(self.authority())
     }
 
     /// The name of the module. Not empty.
     pub fn module_name(&self) -> &str {
-        self.parsed.part(self.parsed.parts().module_name)
+        let ends = self.parsed.ends();
+        &self.as_str()[ends.authority() + 1..ends.module_name()]
     }
 
     /// The text up to the path: the scheme, the authority and the module, with the slash after it.
     pub fn module(&self) -> &str {
-        &self.as_str()[..self.parsed.parts().path.start]
+        self.parsed.up_to(self.path_start())
     }
 
     /// The text up to the path, with the scheme and the authority in lower case.
     pub fn canonical_module(&self) -> Cow<'_, str> {
-        canonical_part(known(self.parsed.canonical()), self.module(), 0)
+        let (module, front) = (self.module(), self.parsed.ends().authority());
+        match in_lower_case(&module[..front]) {
+            Cow::Borrowed(_) => Cow::Borrowed(module),
+            Cow::Owned(lower) => Cow::Owned(lower + &module[front..]),
+        }
+    }
+
+    /// Where the path begins: after the slash after the module.
+    #[inline]
+    fn path_start(&self) -> usize {
+        self.parsed.ends().module_name() + 1
     }
 
     /// The path: what follows the slash after the module. May be empty.
     pub fn path(&self) -> &str {
-        self.parsed.part(self.parsed.parts().path)
+        &self.as_str()[self.path_start()..]
     }
 
     /// The path, in octets.
@@ -163,7 +204,7 @@ impl Rsync {
     /// Puts a slash last, unless the path is empty or has one. The text may become too long to be read again.
     pub fn path_into_dir(&mut self) {
         if !self.path_is_dir() {
-            self.parsed = known(self.parsed.into_dir());
+            self.parsed = self.parsed.with_text(known(self.parsed.as_dir()));
         }
     }
 
@@ -176,7 +217,7 @@ impl Rsync {
     /// one's text.
     pub fn parent(&self) -> Option<Self> {
         match self.parsed.parent() {
-            Ok(parsed) => Some(Rsync { parsed }),
+            Ok(size) => Some(Rsync { parsed: self.parsed.front(size) }),
             Err(ffi::NO_ANSWER) => None,
             Err(status) => known(Err(status)),
         }
@@ -194,44 +235,48 @@ impl Rsync {
         }
         // No text has as many octets.
         let size = (self.as_slice().len() + usize::from(!self.path_is_dir()) + path.len()).min(3_072);
-        Ok(Rsync { parsed: self.parsed.join(path, size).map_err(UriError::from_status)? })
+        let text = self.parsed.join(path, size).map_err(UriError::from_status)?;
+        Ok(Rsync { parsed: self.parsed.with_text(text) })
     }
 
     /// The path that leads from the other URI to this one: its segments after those of the other, with the last slash.
     /// `None` where they are in two modules or the other's segments do not begin this one's. Authorities are compared
     /// without regard to case, all else exactly.
     pub fn relative_to(&self, other: &Rsync) -> Option<&str> {
-        match self.parsed.relative_to(&other.parsed) {
-            Ok(place) => Some(self.parsed.part(place)),
-            Err(ffi::NO_ANSWER) => None,
-            Err(status) => known(Err(status)),
+        if !self.has_module_of(other) {
+            return None;
         }
+        let (path, below) = (self.path(), other.path());
+        let below = below.strip_suffix('/').unwrap_or(below);
+        if below.is_empty() {
+            return Some(path);
+        }
+        match path.strip_prefix(below)? {
+            rest if rest.is_empty() => Some(rest),
+            rest => rest.strip_prefix('/'),
+        }
+    }
+
+    /// Whether both are in the same module of the same authority.
+    #[inline]
+    fn has_module_of(&self, other: &Self) -> bool {
+        let front = self.parsed.ends().authority();
+        other.parsed.ends().authority() == front && is_text(self.module().as_bytes(), front, other.module().as_bytes())
     }
 
     /// Whether the other URI lies below this one: in the same module, with more segments that begin with this one's.
     pub fn is_parent_of(&self, other: &Self) -> bool {
-        known(self.parsed.is_parent_of(&other.parsed))
+        other.relative_to(self).map_or(false, |path| !path.is_empty())
+    }
+
+    /// The URI as a general name (RFC 5280 4.2.1.6): its text as it is spelled, under the context-specific tag 6.
+    pub fn encode_general_name(&self) -> Bytes {
+        encode::value(encode::CONTEXT_6, self.as_slice())
     }
 
     /// Whether both are in the same module and have the same segments, with a slash last or without.
     pub fn is_identical_to(&self, other: &Self) -> bool {
         known(self.parsed.is_identical_to(&other.parsed))
-    }
-}
-
-/// Texts of two lengths are two URIs; of others the library is asked.
-impl PartialEq for Rsync {
-    fn eq(&self, other: &Self) -> bool {
-        self.as_slice().len() == other.as_slice().len() && known(self.parsed.equal(&other.parsed))
-    }
-}
-
-impl Eq for Rsync {}
-
-impl Hash for Rsync {
-    /// Hashes the text in canonical form.
-    fn hash<H: Hasher>(&self, state: &mut H) {
-        known(self.parsed.canonical()).hash(state)
     }
 }
 
@@ -249,7 +294,7 @@ impl Hash for Rsync {
 /// ```
 #[derive(Clone)]
 pub struct Https {
-    parsed: Parsed<HttpsParts>,
+    parsed: Parsed<HttpsEnds>,
 }
 
 impl Https {
@@ -300,22 +345,32 @@ impl Https {
 
     /// The authority as it is spelled, which may be empty.
     pub fn authority(&self) -> &str {
-        self.parsed.part(self.parsed.parts().authority)
+        self.parsed.authority(self.parsed.ends().authority())
     }
 
     /// The authority in lower case.
     pub fn canonical_authority(&self) -> Cow<'_, str> {
-        canonical_part(known(self.parsed.canonical()), self.authority(), self.parsed.parts().authority.start)
+        in_lower_case(self.authority())
     }
 
     /// Whether both have the same authority, without regard to case.
     pub fn eq_authority(&self, other: &Self) -> bool {
-        self.canonical_authority() == other.canonical_authority()
+        // Both have the same scheme.
+        let (end, other_end) = (self.parsed.ends().authority(), other.parsed.ends().authority());
+        self.as_slice()[..end].eq_ignore_ascii_case(&other.as_slice()[..other_end])
     }
 
     /// The path: empty, or with its slash in front.
     pub fn path(&self) -> &str {
-        self.parsed.part(self.parsed.parts().path)
+        &self.as_str()[self.parsed.ends().authority()..]
+    }
+
+    /// The URI as a general name (RFC 5280 4.2.1.6): its text as it is spelled, under the context-specific tag 6.
+    ///
+    /// # Panics
+    /// If the text has 2^32 octets or more.
+    pub fn encode_general_name(&self) -> Bytes {
+        encode::value(encode::CONTEXT_6, self.as_slice())
     }
 
     /// Whether the path is empty or ends with a slash.
@@ -326,7 +381,7 @@ impl Https {
     /// Puts a slash last, unless the path is empty or has one.
     pub fn path_into_dir(&mut self) {
         if !self.path_is_dir() {
-            self.parsed = known(self.parsed.into_dir());
+            self.parsed = self.parsed.with_text(known(self.parsed.as_dir()));
         }
     }
 
@@ -334,7 +389,7 @@ impl Https {
     /// where nothing is left. It shares this one's text.
     pub fn parent(&self) -> Option<Self> {
         match self.parsed.parent() {
-            Ok(parsed) => Some(Https { parsed }),
+            Ok(size) => Some(Https { parsed: self.parsed.front(size) }),
             Err(ffi::NO_ANSWER) => None,
             Err(status) => known(Err(status)),
         }
@@ -346,29 +401,14 @@ impl Https {
     /// `InvalidCharacters`.
     pub fn join(&self, path: &[u8]) -> Result<Self, Error> {
         let size = self.as_slice().len() + usize::from(!self.path().ends_with('/')) + path.len();
-        Ok(Https { parsed: self.parsed.join(path, size).map_err(UriError::from_status)? })
+        let text = self.parsed.join(path, size).map_err(UriError::from_status)?;
+        Ok(Https { parsed: self.parsed.with_text(text) })
     }
 }
 
-/// Texts of two lengths are two URIs; of others the library is asked.
-impl PartialEq for Https {
-    fn eq(&self, other: &Self) -> bool {
-        self.as_slice().len() == other.as_slice().len() && known(self.parsed.equal(&other.parsed))
-    }
-}
-
-impl Eq for Https {}
-
-impl Hash for Https {
-    /// Hashes the text in canonical form.
-    fn hash<H: Hasher>(&self, state: &mut H) {
-        known(self.parsed.canonical()).hash(state)
-    }
-}
-
-/// The conversions that both kinds of URIs have, of which the scheme and the authority end at a place.
+/// The conversions that both kinds of URIs have.
 macro_rules! conversions {
-    ($uri:ident) => {
+    ($uri:ident, $what:literal) => {
         impl FromStr for $uri {
             type Err = Error;
 
@@ -400,6 +440,7 @@ macro_rules! conversions {
         }
 
         impl AsRef<[u8]> for $uri {
+            #[inline]
             fn as_ref(&self) -> &[u8] {
                 self.as_slice()
             }
@@ -412,8 +453,9 @@ macro_rules! conversions {
         }
 
         impl fmt::Display for $uri {
+            /// The text as it is spelled, whatever width and precision are asked for.
             fn fmt(&self, f: &mut fmt::Formatter) -> fmt::Result {
-                f.pad(self.as_str())
+                f.write_str(self.as_str())
             }
         }
 
@@ -423,14 +465,23 @@ macro_rules! conversions {
             }
         }
 
-        /// Whether these octets are the text, but for the case of its scheme and its authority.
-        impl PartialEq<[u8]> for $uri {
-            fn eq(&self, other: &[u8]) -> bool {
-                is_text(self.as_slice(), self.parsed.parts().authority.range().end, other)
+        /// Whether these octets are the text, but for the case of its scheme and its authority: another URI of this
+        /// kind, or anything else that has octets.
+        impl<T: AsRef<[u8]> + ?Sized> PartialEq<T> for $uri {
+            #[inline]
+            fn eq(&self, other: &T) -> bool {
+                is_text(self.as_slice(), self.parsed.ends().authority(), other.as_ref())
             }
         }
 
-        equal_to!($uri: &[u8], str, &str, String, Vec<u8>, Bytes);
+        impl Eq for $uri {}
+
+        impl Hash for $uri {
+            /// Hashes the text with its scheme and its authority in lower case.
+            fn hash<H: Hasher>(&self, state: &mut H) {
+                hash_text(self.as_slice(), self.parsed.ends().authority(), state)
+            }
+        }
 
         #[cfg(feature = "serde")]
         impl serde::Serialize for $uri {
@@ -443,26 +494,14 @@ macro_rules! conversions {
         #[cfg(feature = "serde")]
         impl<'de> serde::Deserialize<'de> for $uri {
             fn deserialize<D: serde::Deserializer<'de>>(deserializer: D) -> Result<Self, D::Error> {
-                $uri::from_string(crate::texts::string(deserializer)?).map_err(serde::de::Error::custom)
+                crate::texts::owned(deserializer, $what, $uri::from_string)
             }
         }
     };
 }
 
-/// Equality with what has octets, by that with the octets.
-macro_rules! equal_to {
-    ($uri:ident: $($other:ty),*) => {
-        $(impl PartialEq<$other> for $uri {
-            fn eq(&self, other: &$other) -> bool {
-                let octets: &[u8] = other.as_ref();
-                *self == *octets
-            }
-        })*
-    };
-}
-
-conversions!(Rsync);
-conversions!(Https);
+conversions!(Rsync, "a string containing an rsync URI");
+conversions!(Https, "a string containing a HTTPS URI");
 
 /// The scheme of a URI.
 #[derive(Clone, Copy, Debug, PartialEq, Eq)]
@@ -501,6 +540,67 @@ impl Scheme {
 impl fmt::Display for Scheme {
     /// The scheme, a colon and two slashes.
     fn fmt(&self, f: &mut fmt::Formatter) -> fmt::Result {
-        write!(f, "{}://", self.as_str())
+        f.write_str(self.as_str())?;
+        f.write_str("://")
+    }
+}
+
+#[cfg(test)]
+mod tests {
+    use super::{Https, Rsync};
+    use std::collections::hash_map::DefaultHasher;
+    use std::hash::{Hash, Hasher};
+
+    const PATHS: [&str; 9] = ["", "a", "a/", "A", "ab", "a/b", "a/b/", "a/b/c", "a/B"];
+    const FRONTS: [&str; 5] = ["://host/m/", "://HOST/m/", "://host/M/", "://host/mm/", "://hos/tm/"];
+
+    fn texts(scheme: &str) -> Vec<String> {
+        let schemes = [scheme.to_string(), scheme.to_ascii_uppercase()];
+        let all = |scheme: &String| {
+            let fronts = FRONTS.iter().flat_map(|front| PATHS.iter().map(move |path| [*front, *path].concat()));
+            fronts.map(|rest| scheme.clone() + &rest).collect::<Vec<_>>()
+        };
+        schemes.iter().flat_map(all).collect()
+    }
+
+    fn hash_of(value: &impl Hash) -> u64 {
+        let mut state = DefaultHasher::new();
+        value.hash(&mut state);
+        state.finish()
+    }
+
+    /// What plain Rust says of two URIs is what the library says of their texts and their parts.
+    #[test]
+    fn rsync_uris_are_those_of_the_library() {
+        let uris: Vec<Rsync> = texts("rsync").iter().map(|text| text.parse().unwrap()).collect();
+        for one in &uris {
+            let canonical = one.parsed.canonical().unwrap();
+            assert_eq!(one.canonical_module().as_bytes(), &canonical[..one.module().len()]);
+            assert_eq!(one.canonical_authority().as_bytes(), &canonical[8..8 + one.authority().len()]);
+            for other in &uris {
+                let (parsed, others) = (&one.parsed, &other.parsed);
+                assert_eq!(one == other, parsed.equal(others).unwrap(), "{one} {other}");
+                assert_eq!(hash_of(one) == hash_of(other), one == other, "{one} {other}");
+                assert_eq!(one.is_parent_of(other), parsed.is_parent_of(others).unwrap(), "{one} {other}");
+                let place = parsed.relative_to(others).ok();
+                assert_eq!(one.relative_to(other), place.map(|place| place.of_text(one.as_str())), "{one} {other}");
+                assert_eq!(one.relative_to(other) == Some(""), one.is_identical_to(other), "{one} {other}");
+            }
+        }
+    }
+
+    #[test]
+    fn https_uris_are_those_of_the_library() {
+        let uris: Vec<Https> = texts("https").iter().map(|text| text.parse().unwrap()).collect();
+        for one in &uris {
+            let canonical = one.parsed.canonical().unwrap();
+            assert_eq!(one.canonical_authority().as_bytes(), &canonical[8..8 + one.authority().len()]);
+            for other in &uris {
+                assert_eq!(one == other, one.parsed.equal(&other.parsed).unwrap(), "{one} {other}");
+                assert_eq!(hash_of(one) == hash_of(other), one == other, "{one} {other}");
+                let is_same = one.canonical_authority() == other.canonical_authority();
+                assert_eq!(one.eq_authority(other), is_same, "{one} {other}");
+            }
+        }
     }
 }

@@ -1,6 +1,7 @@
 //! Certificates, read by [Cert], compared with the rows that tests/linked/certificate/rows.py writes. The variable
 //! `RPKI_CERTIFICATE_ROWS` names their file; without it the certificate of examples/ alone is read.
 
+use rpki_proved::crypto::{RpkiSignatureAlgorithm, SignatureAlgorithm};
 use rpki_proved::repository::cert::{Cert, CertError, CertRule, ExtensionError, KeyUsage, Overclaim};
 
 const ERRORS: [CertError; 16] = [
@@ -72,7 +73,10 @@ fn compare(number: usize, octets: &[u8], cert: &Cert, words: &[&str]) {
         let length: usize = words[2 * index + 1].parse().unwrap();
         &octets[start..start + length]
     };
-    assert_eq!(cert.signed(), part(0), "row {number}");
+    assert_eq!((&cert.to_bytes()[..], &cert.signed()[..]), (octets, part(0)), "row {number}");
+    let algorithm = cert.signature().algorithm();
+    assert_eq!(RpkiSignatureAlgorithm::x509_decode(part(1)), Ok(*algorithm), "row {number}");
+    assert_eq!(*algorithm == RpkiSignatureAlgorithm::default(), words[17] == "1", "row {number}");
     assert_eq!(&cert.signature().value()[..], part(2), "row {number}");
     assert_eq!(cert.issuer().as_slice(), part(3), "row {number}");
     assert_eq!(cert.subject().as_slice(), part(4), "row {number}");
@@ -110,9 +114,11 @@ fn compare_extensions(number: usize, octets: &[u8], cert: &Cert, words: &[&str])
         let wanted = (words[0] == "1").then(|| (words[1] == "1", &octets[start..start + length]));
         assert_eq!(each.as_ref().map(|it| (it.critical, &it.octets[..])), wanted, "row {number}");
     }
-    let keys = [&found.subject_key, &found.authority_key];
-    for (key, digits) in keys.iter().zip(&words[53..]) {
-        assert!(key.map_or(true, |key| key.as_ref() == octets_of(digits)), "row {number}");
+    // The words of an extension are four, and say first whether it is there: of the subject's key and the issuer's.
+    let keys = [(found.subject_key, 5, 53), (found.authority_key, 9, 54)];
+    for (key, is_there, digits) in keys {
+        let wanted = (words[is_there] == "1").then(|| octets_of(words[digits]));
+        assert_eq!(key.map(|key| key.as_slice().to_vec()), wanted, "row {number}");
     }
     assert_eq!(found.basic_ca, words[55] == "1", "row {number}");
     let usages = [None, Some(KeyUsage::Ca), Some(KeyUsage::Ee)];
@@ -135,11 +141,12 @@ fn compare_inspections(number: usize, cert: &Cert, words: &[&str]) {
 
 #[test]
 fn certificates() {
-    let Some(path) = std::env::var_os("RPKI_CERTIFICATE_ROWS") else {
-        return;
+    let path = match std::env::var_os("RPKI_CERTIFICATE_ROWS") {
+        Some(path) => path,
+        None => return,
     };
     let rows = std::fs::read_to_string(path).unwrap();
-    assert!(rows.lines().count() > 70);
+    assert!(rows.lines().count() > 90);
     for (number, row) in rows.lines().enumerate() {
         let (parts, more) = row.split_once(" | ").unwrap();
         let (extensions, inspections) = more.split_once(" | ").unwrap();

@@ -328,7 +328,7 @@ fn times() {
     ];
     for (octets, text) in rows {
         let time = Time::decode(octets).unwrap();
-        assert_eq!((time.to_string(), text.parse()), (text.to_string(), Ok(time)));
+        assert_eq!((format!("{time:?}"), text.parse()), (format!("Time({text})"), Ok(time)));
         assert_eq!(Time::from_timestamp(time.timestamp()), Some(time));
     }
     let bad: [&[u8]; 5] = [

@@ -139,6 +139,7 @@ fn errors_have_texts() {
         (DecodeError::Trailing, "octets after the value"),
         (DecodeError::OutOfMemory, "out of memory"),
         (DecodeError::OtherAlgorithm, "another algorithm"),
+        (DecodeError::TooLong, "too long to be written"),
     ];
     for (error, text) in decoding {
         assert_eq!(error.to_string(), text);

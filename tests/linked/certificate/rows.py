@@ -150,6 +150,12 @@ OTHER_NAMES = [
 ]
 
 
+def without_parameters(it):
+    """Both algorithm identifiers have no parameters."""
+    for algorithm in (it.algorithm, it.inner_algorithm):
+        algorithm.inside = algorithm.inside[:1]
+
+
 def changed(*changes):
     it = certificates.Certificate()
     for change in changes:
@@ -167,6 +173,7 @@ def main():
     for name, change in OTHER_NAMES:
         print(line(changed(change), 0))
         print(line(changed(certificates.router, change), 0))
+    print(line(changed(without_parameters), 0))
 
 
 main()

@@ -1,10 +1,13 @@
 //! Public keys and their identifiers.
 
-use crate::crypto::signature::{
-    Provider, RpkiSignatureAlgorithm, Signature, SignatureAlgorithm, SignatureVerificationError,
-};
+use crate::crypto::algorithm;
+pub use crate::crypto::signature::SignatureVerificationError;
+use crate::crypto::signature::{Provider, RpkiSignatureAlgorithm, Signature, SignatureAlgorithm};
+use crate::encode;
 use crate::ffi;
-use crate::view::DecodeError;
+use crate::repository::x509::Name;
+use crate::util::hex;
+use crate::view::{DecodeError, Header};
 use bytes::Bytes;
 use std::error::Error;
 use std::fmt;
@@ -31,7 +34,32 @@ impl PublicKeyFormat {
     pub fn allow_router_cert(self) -> bool {
         self == PublicKeyFormat::EcdsaP256
     }
+
+    /// Reads an algorithm identifier that is all of the octets: rsaEncryption, with NULL for parameters or with none,
+    /// or id-ecPublicKey with secp256r1.
+    ///
+    /// # Errors
+    /// `OtherAlgorithm` for any other value; else why there is no value, or `Trailing`.
+    pub fn decode(octets: &[u8]) -> Result<Self, DecodeError> {
+        use PublicKeyFormat::{EcdsaP256, Rsa};
+        algorithm::decode(octets, &[(RSA, Rsa), (BARE_RSA, Rsa), (P256, EcdsaP256)])
+    }
+
+    /// The algorithm identifier as it is written, with NULL for the parameters of RSA.
+    pub fn encode(self) -> &'static [u8] {
+        match self {
+            PublicKeyFormat::Rsa => RSA,
+            PublicKeyFormat::EcdsaP256 => P256,
+        }
+    }
 }
+
+/// rsaEncryption as an algorithm identifier, with NULL for parameters and with none (RFC 3279 2.3.1).
+const RSA: &[u8] = b"\x30\x0d\x06\x09\x2a\x86\x48\x86\xf7\x0d\x01\x01\x01\x05\x00";
+const BARE_RSA: &[u8] = b"\x30\x0b\x06\x09\x2a\x86\x48\x86\xf7\x0d\x01\x01\x01";
+
+/// id-ecPublicKey with secp256r1 as an algorithm identifier (RFC 5480 2.1.1).
+const P256: &[u8] = b"\x30\x13\x06\x07\x2a\x86\x48\xce\x3d\x02\x01\x06\x08\x2a\x86\x48\xce\x3d\x03\x01\x07";
 
 impl From<RpkiSignatureAlgorithm> for PublicKeyFormat {
     fn from(_: RpkiSignatureAlgorithm) -> Self {
@@ -99,7 +127,8 @@ impl PublicKey {
     /// The RSA key with these bits: a SEQUENCE of two non-negative INTEGERs, and nothing else.
     ///
     /// # Errors
-    /// Why the octets are no such SEQUENCE; `OutOfMemory`.
+    /// Why the octets are no such SEQUENCE; `TooLong` where the key would have contents of 2^32 octets or more;
+    /// `OutOfMemory`.
     pub fn rsa_from_bits_bytes(bytes: Bytes) -> Result<Self, DecodeError> {
         PublicKey::decode(ffi::rsa_key_of_bits(&bytes).map_err(DecodeError::from_status)?)
     }
@@ -108,7 +137,7 @@ impl PublicKey {
     ///
     /// # Errors
     /// `OtherAlgorithm` where the algorithm identifier is well formed and another one; `Trailing` where octets follow a
-    /// key, `OutOfMemory`, and else why no beginning of the octets is a key.
+    /// key, and else why no beginning of the octets is a key.
     pub fn decode(octets: impl Into<Bytes>) -> Result<Self, DecodeError> {
         let octets = octets.into();
         let found = ffi::public_key(&octets).map_err(DecodeError::from_status)?;
@@ -142,10 +171,7 @@ impl PublicKey {
         self.algorithm.allow_router_cert()
     }
 
-    /// The key identifier: the SHA-1 digest of the bits (RFC 6487 4.8.2).
-    ///
-    /// # Panics
-    /// If allocation fails.
+    /// The key identifier: the SHA-1 digest of the bits (RFC 6487 4.8.2). Nothing is allocated.
     pub fn key_identifier(&self) -> KeyIdentifier {
         KeyIdentifier(known(ffi::key_identifier(&self.octets)))
     }
@@ -173,12 +199,34 @@ impl PublicKey {
         }
     }
 
-    /// The key as it is written, with NULL for the parameters of RSA.
+    /// The key as it is written, with NULL for the parameters of RSA: the octets that it was read from, shared, where
+    /// they are that already.
     ///
     /// # Panics
     /// If allocation fails.
     pub fn to_info_bytes(&self) -> Bytes {
+        // Lengths have one spelling in DER, so only the algorithm identifier can be spelled in two ways.
+        let header = Header::read(&self.octets).expect("a key that was read").size();
+        if self.octets[header..].starts_with(self.algorithm.encode()) {
+            return self.octets.clone();
+        }
         known(ffi::public_key_write(&self.octets)).into()
+    }
+
+    /// The name of the subject with this key (RFC 6487 4.5), as [`Name::from_pub_key`].
+    ///
+    /// # Panics
+    /// If allocation fails.
+    pub fn to_subject_name(&self) -> Name {
+        Name::from_pub_key(self)
+    }
+
+    /// The octets of that name.
+    ///
+    /// # Panics
+    /// If allocation fails.
+    pub fn encode_subject_name(&self) -> Bytes {
+        self.to_subject_name().to_bytes()
     }
 
     /// All of the octets as they were read.
@@ -215,7 +263,7 @@ impl fmt::Debug for PublicKey {
 
 #[cfg(feature = "serde")]
 impl serde::Serialize for PublicKey {
-    /// The key as it is written, in base 64.
+    /// The key as it is written, in base 64. Panics if allocation fails.
     fn serialize<S: serde::Serializer>(&self, serializer: S) -> Result<S::Ok, S::Error> {
         serializer.serialize_str(&crate::util::base64::Serde.encode(&self.to_info_bytes()))
     }
@@ -224,15 +272,12 @@ impl serde::Serialize for PublicKey {
 #[cfg(feature = "serde")]
 impl<'de> serde::Deserialize<'de> for PublicKey {
     fn deserialize<D: serde::Deserializer<'de>>(deserializer: D) -> Result<Self, D::Error> {
-        use serde::de::Error;
-        let octets =
-            crate::util::base64::Serde.decode(&crate::texts::string(deserializer)?).map_err(D::Error::custom)?;
-        PublicKey::decode(octets).map_err(D::Error::custom)
+        crate::texts::octets(deserializer, "a public key in base 64", PublicKey::decode)
     }
 }
 
 /// A key identifier, 20 octets (RFC 6487 4.8.2). It is shown as 40 hexadecimal digits, in upper case.
-#[derive(Clone, Copy, PartialEq, Eq, PartialOrd, Ord, Hash)]
+#[derive(Clone, Copy, Eq, PartialOrd, Ord)]
 pub struct KeyIdentifier([u8; 20]);
 
 impl KeyIdentifier {
@@ -251,7 +296,28 @@ impl KeyIdentifier {
 
     /// The 40 digits.
     pub fn into_hex(self) -> [u8; 40] {
-        known(ffi::hex(&self.0)).try_into().expect("two digits an octet")
+        let mut digits = [0; 40];
+        hex::encode(&self.0, &mut digits);
+        digits
+    }
+
+    /// The value of the identifier, as extensions have it: an OCTET STRING of 20.
+    pub fn encode(self) -> Bytes {
+        encode::value(encode::OCTET_STRING, &self.0)
+    }
+}
+
+/// Whether these are the octets of the identifier: another one, or anything else that has octets.
+impl<T: AsRef<[u8]> + ?Sized> PartialEq<T> for KeyIdentifier {
+    #[inline]
+    fn eq(&self, other: &T) -> bool {
+        self.0 == *other.as_ref()
+    }
+}
+
+impl Hash for KeyIdentifier {
+    fn hash<H: Hasher>(&self, state: &mut H) {
+        self.0.hash(state)
     }
 }
 
@@ -281,18 +347,6 @@ impl TryFrom<&'_ [u8]> for KeyIdentifier {
     }
 }
 
-impl PartialEq<[u8]> for KeyIdentifier {
-    fn eq(&self, other: &[u8]) -> bool {
-        self.0 == *other
-    }
-}
-
-impl PartialEq<&[u8]> for KeyIdentifier {
-    fn eq(&self, other: &&[u8]) -> bool {
-        self.0 == **other
-    }
-}
-
 /// Forty hexadecimal digits, of either case.
 impl FromStr for KeyIdentifier {
     type Err = ParseKeyIdentifierError;
@@ -304,7 +358,7 @@ impl FromStr for KeyIdentifier {
 
 impl fmt::Display for KeyIdentifier {
     fn fmt(&self, f: &mut fmt::Formatter) -> fmt::Result {
-        f.write_str(std::str::from_utf8(&self.into_hex()).expect("digits"))
+        f.write_str(hex::encode(&self.0, &mut [0; 40]))
     }
 }
 
@@ -318,14 +372,14 @@ impl fmt::Debug for KeyIdentifier {
 impl serde::Serialize for KeyIdentifier {
     /// The 40 digits.
     fn serialize<S: serde::Serializer>(&self, serializer: S) -> Result<S::Ok, S::Error> {
-        serializer.serialize_str(&self.to_string())
+        serializer.serialize_str(hex::encode(&self.0, &mut [0; 40]))
     }
 }
 
 #[cfg(feature = "serde")]
 impl<'de> serde::Deserialize<'de> for KeyIdentifier {
     fn deserialize<D: serde::Deserializer<'de>>(deserializer: D) -> Result<Self, D::Error> {
-        crate::texts::string(deserializer)?.parse().map_err(serde::de::Error::custom)
+        crate::texts::borrowed(deserializer, "a key identifier of 40 hexadecimal digits", str::parse)
     }
 }
 

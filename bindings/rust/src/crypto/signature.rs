@@ -1,6 +1,8 @@
 //! Signatures.
 
+use crate::crypto::algorithm;
 use crate::crypto::keys::PublicKeyFormat;
+use crate::view::DecodeError;
 use bytes::Bytes;
 use std::error::Error;
 use std::fmt;
@@ -63,7 +65,26 @@ pub trait SignatureAlgorithm: Sized {
     fn public_key_format(&self) -> PublicKeyFormat {
         self.signing_algorithm().public_key_format()
     }
+
+    /// Reads the algorithm identifier of certificates that is all of the octets.
+    ///
+    /// # Errors
+    /// `OtherAlgorithm` for any other value; else why there is no value, or `Trailing`.
+    fn x509_decode(octets: &[u8]) -> Result<Self, DecodeError>;
+
+    /// The algorithm identifier of certificates, as it is written.
+    fn x509_encode(&self) -> &'static [u8];
 }
+
+/// sha256WithRSAEncryption and rsaEncryption as algorithm identifiers, each with NULL for parameters and with none
+/// (RFC 4055 5, RFC 7935 2).
+const SIGNATURE: &[u8] = b"\x30\x0d\x06\x09\x2a\x86\x48\x86\xf7\x0d\x01\x01\x0b\x05\x00";
+const BARE_SIGNATURE: &[u8] = b"\x30\x0b\x06\x09\x2a\x86\x48\x86\xf7\x0d\x01\x01\x0b";
+const ENCRYPTION: &[u8] = b"\x30\x0d\x06\x09\x2a\x86\x48\x86\xf7\x0d\x01\x01\x01\x05\x00";
+const BARE_ENCRYPTION: &[u8] = b"\x30\x0b\x06\x09\x2a\x86\x48\x86\xf7\x0d\x01\x01\x01";
+
+/// ecdsa-with-SHA256 as an algorithm identifier, without parameters (RFC 5758 3.2).
+const ECDSA: &[u8] = b"\x30\x0a\x06\x08\x2a\x86\x48\xce\x3d\x04\x03\x02";
 
 /// The signature algorithm of the RPKI, RSA with SHA-256 (RFC 7935 2). It remembers whether its identifier had
 /// parameters.
@@ -79,9 +100,41 @@ impl Default for RpkiSignatureAlgorithm {
     }
 }
 
+/// An identifier with parameters.
+const FULL: RpkiSignatureAlgorithm = RpkiSignatureAlgorithm { has_parameters: true };
+/// An identifier without parameters.
+const BARE: RpkiSignatureAlgorithm = RpkiSignatureAlgorithm { has_parameters: false };
+
+impl RpkiSignatureAlgorithm {
+    /// Reads the algorithm identifier of signed objects that is all of the octets (RFC 7935 2): rsaEncryption or
+    /// sha256WithRSAEncryption, with NULL for parameters or with none.
+    ///
+    /// # Errors
+    /// `OtherAlgorithm` for any other value; else why there is no value, or `Trailing`.
+    pub fn cms_decode(octets: &[u8]) -> Result<Self, DecodeError> {
+        let spellings = [(ENCRYPTION, FULL), (BARE_ENCRYPTION, BARE), (SIGNATURE, FULL), (BARE_SIGNATURE, BARE)];
+        algorithm::decode(octets, &spellings)
+    }
+
+    /// The algorithm identifier of signed objects, as it is written: rsaEncryption with NULL for parameters.
+    pub fn cms_encode(self) -> &'static [u8] {
+        ENCRYPTION
+    }
+}
+
 impl SignatureAlgorithm for RpkiSignatureAlgorithm {
     fn signing_algorithm(&self) -> SigningAlgorithm {
         SigningAlgorithm::RsaSha256
+    }
+
+    /// sha256WithRSAEncryption, with NULL for parameters or with none.
+    fn x509_decode(octets: &[u8]) -> Result<Self, DecodeError> {
+        algorithm::decode(octets, &[(SIGNATURE, FULL), (BARE_SIGNATURE, BARE)])
+    }
+
+    /// sha256WithRSAEncryption with NULL for parameters.
+    fn x509_encode(&self) -> &'static [u8] {
+        SIGNATURE
     }
 }
 
@@ -92,6 +145,15 @@ pub struct BgpsecSignatureAlgorithm(());
 impl SignatureAlgorithm for BgpsecSignatureAlgorithm {
     fn signing_algorithm(&self) -> SigningAlgorithm {
         SigningAlgorithm::EcdsaP256Sha256
+    }
+
+    /// ecdsa-with-SHA256, without parameters.
+    fn x509_decode(octets: &[u8]) -> Result<Self, DecodeError> {
+        algorithm::decode(octets, &[(ECDSA, ())]).map(BgpsecSignatureAlgorithm)
+    }
+
+    fn x509_encode(&self) -> &'static [u8] {
+        ECDSA
     }
 }
 

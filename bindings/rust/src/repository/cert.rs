@@ -3,7 +3,7 @@
 use crate::crypto::keys::{KeyIdentifier, PublicKey};
 use crate::crypto::signature::{RpkiSignature, RpkiSignatureAlgorithm, Signature};
 use crate::ffi::{self, Status};
-use crate::repository::x509::{Name, Serial, Time, Validity};
+use crate::repository::x509::{Name, Serial, Validity};
 use crate::view::{DecodeError, Extension};
 use bytes::Bytes;
 use std::error::Error;
@@ -50,8 +50,6 @@ pub enum CertError {
     ExtensionIdentifiers,
     /// The two algorithm identifiers differ.
     SameAlgorithm,
-    /// Allocation failed, in a name that has an attribute whose value is constructed.
-    OutOfMemory,
 }
 
 impl CertError {
@@ -97,7 +95,6 @@ impl fmt::Display for CertError {
             CertError::ExtensionCount => "too many extensions",
             CertError::ExtensionIdentifiers => "duplicate extension",
             CertError::SameAlgorithm => "signature algorithms differ",
-            CertError::OutOfMemory => "out of memory",
         })
     }
 }
@@ -135,20 +132,17 @@ impl Cert {
     pub fn decode(octets: impl Into<Bytes>) -> Result<Self, CertError> {
         let octets = octets.into();
         let found = ffi::certificate(&octets).map_err(CertError::from_status)?;
-        // What the call has found to be names and a key is read as such: only allocation may fail.
-        let name = |place: ffi::Place| Name::decode(octets.slice(place.range())).map_err(|_| CertError::OutOfMemory);
-        let key = PublicKey::decode(octets.slice(found.public_key.range())).map_err(|_| CertError::OutOfMemory)?;
+        // What the call has found to be names and a key is that.
+        let name = |place: ffi::Place| Name::read(octets.slice(place.range()));
+        let key = PublicKey::decode(octets.slice(found.public_key.range())).expect("a key that was read");
         let algorithm = RpkiSignatureAlgorithm { has_parameters: found.has_parameters };
         Ok(Cert {
             signed: octets.slice(found.data.range()),
             signature: Signature::new(algorithm, octets.slice(found.signature.range())),
             serial_number: Serial::from_array(found.serial_number).expect("a serial number that was read"),
-            issuer: name(found.issuer)?,
-            validity: Validity::new(
-                Time::from_timestamp(found.validity.not_before.seconds).expect("a time that was read"),
-                Time::from_timestamp(found.validity.not_after.seconds).expect("a time that was read"),
-            ),
-            subject: name(found.subject)?,
+            issuer: name(found.issuer),
+            validity: Validity::from(found.validity),
+            subject: name(found.subject),
             subject_public_key_info: key,
             extensions: octets.slice(found.extensions.range()),
             octets,

@@ -37,8 +37,8 @@ pub struct InspectionError(ContentError);
 
 impl InspectionError {
     /// The error with what is wrong.
-    pub fn new(error: ContentError) -> Self {
-        InspectionError(error)
+    pub fn new(error: impl Into<ContentError>) -> Self {
+        InspectionError(error.into())
     }
 }
 
@@ -68,8 +68,8 @@ pub struct VerificationError(ContentError);
 
 impl VerificationError {
     /// The error with what is wrong.
-    pub fn new(error: ContentError) -> Self {
-        VerificationError(error)
+    pub fn new(error: impl Into<ContentError>) -> Self {
+        VerificationError(error.into())
     }
 }
 

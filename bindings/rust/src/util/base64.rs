@@ -9,7 +9,6 @@
 //! # Ok::<(), rpki_proved::util::base64::DecodeError>(())
 //! ```
 
-use crate::crypto::keys::known;
 use crate::ffi;
 use std::error::Error;
 use std::fmt;
@@ -26,6 +25,8 @@ pub enum DecodeError {
     InvalidLastSymbol(usize, u8),
     /// Padding is missing, or there is too much of it.
     InvalidPadding,
+    /// Allocation failed.
+    OutOfMemory,
 }
 
 impl fmt::Display for DecodeError {
@@ -35,30 +36,71 @@ impl fmt::Display for DecodeError {
             DecodeError::InvalidLength(at) => write!(f, "Invalid input length: {at}"),
             DecodeError::InvalidLastSymbol(at, octet) => write!(f, "Invalid last symbol {octet}, offset {at}."),
             DecodeError::InvalidPadding => f.write_str("Invalid padding"),
+            DecodeError::OutOfMemory => f.write_str("out of memory"),
         }
     }
 }
 
 impl Error for DecodeError {}
 
-/// The numbers of the flavours.
-const XML: u8 = 0;
-const SERDE: u8 = 1;
-const SLURM: u8 = 2;
+/// Why a text in XML is not base 64.
+pub type XmlDecodeError = DecodeError;
 
-fn encoded(octets: &[u8], url_safe: bool) -> String {
-    String::from_utf8(known(ffi::base64_write(octets, url_safe))).expect("symbols of ASCII")
+/// Why a text has no octets, or none that a buffer has room for.
+#[derive(Clone, Copy, Debug, PartialEq, Eq)]
+#[non_exhaustive]
+pub enum DecodeSliceError {
+    /// The text is not base 64.
+    DecodeError(DecodeError),
+    /// There are more octets than the buffer has room for.
+    OutputSliceTooSmall,
 }
 
-/// The octets of a text. Places count in `bare`, which is the text without what the flavour does not count.
-fn decoded(text: &[u8], flavour: u8, bare: impl FnOnce(usize) -> u8) -> Result<Vec<u8>, DecodeError> {
-    ffi::base64_read(text, flavour).map_err(|(status, at)| match status {
+impl From<DecodeError> for DecodeSliceError {
+    fn from(error: DecodeError) -> Self {
+        DecodeSliceError::DecodeError(error)
+    }
+}
+
+impl fmt::Display for DecodeSliceError {
+    fn fmt(&self, f: &mut fmt::Formatter) -> fmt::Result {
+        match self {
+            DecodeSliceError::DecodeError(error) => write!(f, "DecodeError: {error}"),
+            DecodeSliceError::OutputSliceTooSmall => f.write_str("Output slice too small"),
+        }
+    }
+}
+
+impl Error for DecodeSliceError {
+    fn source(&self) -> Option<&(dyn Error + 'static)> {
+        match self {
+            DecodeSliceError::DecodeError(error) => Some(error),
+            DecodeSliceError::OutputSliceTooSmall => None,
+        }
+    }
+}
+
+/// The text of the octets; `None` where allocation failed.
+fn encoded(octets: &[u8], url_safe: bool) -> Option<String> {
+    let symbols = ffi::base64_write(octets, url_safe).ok()?;
+    Some(String::from_utf8(symbols).expect("symbols of ASCII"))
+}
+
+/// What a call says of a text. Places count in `bare`, which is the text without what the flavour does not count.
+fn fault((status, at): (ffi::Status, usize), bare: impl FnOnce(usize) -> u8) -> DecodeError {
+    match status {
         ffi::INVALID_SYMBOL => DecodeError::InvalidByte(at, bare(at)),
         ffi::INVALID_LENGTH => DecodeError::InvalidLength(at),
         ffi::INVALID_LAST_SYMBOL => DecodeError::InvalidLastSymbol(at, bare(at)),
         ffi::INVALID_PADDING => DecodeError::InvalidPadding,
-        status => known(Err(status)),
-    })
+        ffi::OUT_OF_MEMORY => DecodeError::OutOfMemory,
+        status => unreachable!("{status} is the status of no text in base 64"),
+    }
+}
+
+/// The octets of a text, of which every octet counts.
+fn decoded(text: &str, flavour: u8) -> Result<Vec<u8>, DecodeError> {
+    ffi::base64_read(text.as_bytes(), flavour).map_err(|found| fault(found, |at| text.as_bytes()[at]))
 }
 
 /// Base 64 in XML documents: the standard alphabet with padding, and white space anywhere: space, tab, line feed, form
@@ -69,11 +111,8 @@ impl Xml {
     /// The octets of a text. Its white space is not looked at, and places of errors count without it.
     ///
     /// # Errors
-    /// The rest is not base 64.
-    ///
-    /// # Panics
-    /// If allocation fails, as all calls of this module.
-    pub fn decode(self, input: &str) -> Result<Vec<u8>, DecodeError> {
+    /// The rest is not base 64, or allocation failed.
+    pub fn decode(self, input: &str) -> Result<Vec<u8>, XmlDecodeError> {
         self.decode_bytes(input.as_bytes())
     }
 
@@ -81,16 +120,20 @@ impl Xml {
     ///
     /// # Errors
     /// Those of [`Xml::decode`].
-    pub fn decode_bytes(self, input: &[u8]) -> Result<Vec<u8>, DecodeError> {
-        decoded(input, XML, |at| match std::str::from_utf8(input) {
+    pub fn decode_bytes(self, input: &[u8]) -> Result<Vec<u8>, XmlDecodeError> {
+        let bare = |at| match std::str::from_utf8(input) {
             Ok(_) => input.iter().copied().filter(|octet| !octet.is_ascii_whitespace()).nth(at).unwrap_or_default(),
             Err(_) => input[at],
-        })
+        };
+        ffi::base64_read(input, ffi::BASE64_XML).map_err(|found| fault(found, bare))
     }
 
     /// The text of octets.
+    ///
+    /// # Panics
+    /// If allocation fails.
     pub fn encode(self, data: &[u8]) -> String {
-        encoded(data, false)
+        encoded(data, false).expect("out of memory")
     }
 }
 
@@ -103,12 +146,15 @@ impl Serde {
     /// # Errors
     /// It is not base 64 with its padding.
     pub fn decode(self, input: &str) -> Result<Vec<u8>, DecodeError> {
-        decoded(input.as_bytes(), SERDE, |at| input.as_bytes()[at])
+        decoded(input, ffi::BASE64_SERDE)
     }
 
     /// The text of octets.
+    ///
+    /// # Panics
+    /// If allocation fails.
     pub fn encode(self, data: &[u8]) -> String {
-        encoded(data, false)
+        encoded(data, false).expect("out of memory")
     }
 }
 
@@ -122,28 +168,45 @@ impl Slurm {
     /// # Errors
     /// It is not base 64 of this alphabet.
     pub fn decode(self, input: &str) -> Result<Vec<u8>, DecodeError> {
-        decoded(input.as_bytes(), SLURM, |at| input.as_bytes()[at])
+        decoded(input, ffi::BASE64_SLURM)
+    }
+
+    /// Writes the octets of a text to the front of the buffer, and says how many they are. Where that fails, nothing is
+    /// said of what is in the buffer.
+    ///
+    /// # Errors
+    /// It is not base 64 of this alphabet, there are more octets than the buffer has room for, or allocation failed.
+    pub fn decode_slice(self, input: &str, output: &mut [u8]) -> Result<usize, DecodeSliceError> {
+        match ffi::base64_read_into(input.as_bytes(), ffi::BASE64_SLURM, output) {
+            Ok(size) => Ok(size),
+            Err((ffi::TOO_SMALL, _)) => Err(DecodeSliceError::OutputSliceTooSmall),
+            Err(found) => Err(fault(found, |at| input.as_bytes()[at]).into()),
+        }
     }
 
     /// The text of octets.
+    ///
+    /// # Panics
+    /// If allocation fails.
     pub fn encode(self, data: &[u8]) -> String {
-        encoded(data, true)
+        encoded(data, true).expect("out of memory")
     }
 
     /// Writes the text of octets.
     ///
     /// # Errors
-    /// Those of the writer.
+    /// Those of the writer; one of the kind `OutOfMemory` where allocation failed.
     pub fn write_encoded_slice(self, data: &[u8], target: &mut impl std::io::Write) -> Result<(), std::io::Error> {
-        target.write_all(self.encode(data).as_bytes())
+        let text = encoded(data, true).ok_or(std::io::ErrorKind::OutOfMemory)?;
+        target.write_all(text.as_bytes())
     }
 
-    /// The octets, to be shown as their text.
+    /// The octets, to be shown as their text. Where allocation fails, that is an error of the formatter.
     pub fn display(self, data: &[u8]) -> impl fmt::Display + '_ {
         struct Shown<'a>(&'a [u8]);
         impl fmt::Display for Shown<'_> {
             fn fmt(&self, f: &mut fmt::Formatter) -> fmt::Result {
-                f.write_str(&Slurm.encode(self.0))
+                f.write_str(&encoded(self.0, true).ok_or(fmt::Error)?)
             }
         }
         Shown(data)

@@ -19,7 +19,6 @@ pub fn encode<'a>(src: &[u8], dest: &'a mut [u8]) -> &'a str {
 
 /// The two digits of an octet, the high one first.
 pub fn encode_u8(byte: u8) -> [u8; 2] {
-    let mut digits = [0; 2];
-    encode(&[byte], &mut digits);
-    digits
+    const DIGITS: &[u8; 16] = b"0123456789ABCDEF";
+    [DIGITS[usize::from(byte >> 4)], DIGITS[usize::from(byte & 15)]]
 }

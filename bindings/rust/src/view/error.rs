@@ -25,6 +25,8 @@ pub enum DecodeError {
     OutOfMemory,
     /// An algorithm identifier, but of none of the algorithms that are read (RFC 5280 4.1.1.2).
     OtherAlgorithm,
+    /// What would be made has contents of 2^32 octets or more. No call that reads alone returns it.
+    TooLong,
 }
 
 impl DecodeError {
@@ -38,6 +40,7 @@ impl DecodeError {
             6 => DecodeError::Trailing,
             7 => DecodeError::OutOfMemory,
             13 => DecodeError::OtherAlgorithm,
+            15 => DecodeError::TooLong,
             _ => unreachable!("{status} is the status of no call that reads DER"),
         }
     }
@@ -54,6 +57,7 @@ impl fmt::Display for DecodeError {
             DecodeError::Trailing => "octets after the value",
             DecodeError::OutOfMemory => "out of memory",
             DecodeError::OtherAlgorithm => "another algorithm",
+            DecodeError::TooLong => "too long to be written",
         })
     }
 }
@@ -227,6 +231,7 @@ mod tests {
             (6, DecodeError::Trailing),
             (7, DecodeError::OutOfMemory),
             (13, DecodeError::OtherAlgorithm),
+            (15, DecodeError::TooLong),
         ];
         for (status, error) in decoding {
             assert_eq!(DecodeError::from_status(status), error, "{status}");

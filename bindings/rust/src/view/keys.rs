@@ -38,7 +38,7 @@ impl<'a> PublicKey<'a> {
     ///
     /// # Errors
     /// `OtherAlgorithm` where the algorithm identifier is well formed and another one; `Trailing` where octets follow a
-    /// key, `OutOfMemory`, and else why no beginning of the octets is a key.
+    /// key, and else why no beginning of the octets is a key.
     pub fn decode(octets: &'a [u8]) -> Result<PublicKey<'a>, DecodeError> {
         let found = ffi::public_key(octets).map_err(DecodeError::from_status)?;
         Ok(PublicKey {
@@ -75,7 +75,7 @@ impl<'a> PublicKey<'a> {
     /// The key identifier: the SHA-1 digest of the bits (RFC 5280 4.2.1.2).
     ///
     /// # Errors
-    /// `OutOfMemory`.
+    /// There are none of a key that was read.
     pub fn identifier(&self) -> Result<KeyIdentifier, DecodeError> {
         KeyIdentifier::of_key(self.octets)
     }

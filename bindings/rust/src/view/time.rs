@@ -79,6 +79,13 @@ impl From<ffi::Moment> for Time {
     }
 }
 
+/// The same time, which is shown as in RFC 3339 then.
+impl From<crate::repository::x509::Time> for Time {
+    fn from(time: crate::repository::x509::Time) -> Time {
+        time.moment().into()
+    }
+}
+
 impl fmt::Display for Time {
     fn fmt(&self, f: &mut fmt::Formatter) -> fmt::Result {
         let Time { year, month, day, hour, minute, second, .. } = self;

@@ -29,6 +29,7 @@ fn text(error: InspectError, string: &'static str) -> InspectionError {
         InspectError::SecondSerialNumber => "multiple serial numbers",
         InspectError::SecondOrganizationName => "multiple organization names",
         InspectError::StringNotPermitted => string,
+        InspectError::Decode(DecodeError::OutOfMemory) => "out of memory",
         _ => "invalid name",
     }))
 }
@@ -55,19 +56,31 @@ impl Name {
     /// Inspects the name of a certificate of the RPKI (RFC 6487 4.4); any name will do where `strict` is false.
     ///
     /// # Errors
-    /// The rule that the name breaks first, from the left.
+    /// The rule that the name breaks first, from the left; `out of memory` where allocation failed.
     pub fn inspect_rpki(&self, strict: bool) -> Result<(), InspectionError> {
-        let told = ffi::name_inspect(&self.octets, 0, strict);
-        told.map_err(|status| text(InspectError::from_status(status), "invalid name"))
+        self.inspect(ffi::PROFILE_RPKI, strict, "invalid name")
     }
 
     /// Inspects the name of a router's certificate (RFC 8209 3.1.1); any name will do where `strict` is false.
     ///
     /// # Errors
-    /// The rule that the name breaks first, from the left.
+    /// The rule that the name breaks first, from the left; `out of memory` where allocation failed.
     pub fn inspect_router(&self, strict: bool) -> Result<(), InspectionError> {
-        let told = ffi::name_inspect(&self.octets, 1, strict);
-        told.map_err(|status| text(InspectError::from_status(status), "unpermitted string variant in common name"))
+        self.inspect(ffi::PROFILE_ROUTER, strict, "unpermitted string variant in common name")
+    }
+
+    /// Inspects the name by the profile of this number. `string` is the text of a string that is not permitted.
+    fn inspect(&self, profile: u8, strict: bool, string: &'static str) -> Result<(), InspectionError> {
+        if !strict {
+            return Ok(());
+        }
+        let told = ffi::name_inspect(&self.octets, profile, true);
+        told.map_err(|status| text(InspectError::from_status(status), string))
+    }
+
+    /// The name of octets that a call has found to be one.
+    pub(crate) fn read(octets: Bytes) -> Self {
+        Name { octets }
     }
 
     /// All of the octets, as they were read.
@@ -84,5 +97,33 @@ impl Name {
 impl AsRef<[u8]> for Name {
     fn as_ref(&self) -> &[u8] {
         &self.octets
+    }
+}
+
+#[cfg(feature = "serde")]
+impl serde::Serialize for Name {
+    /// The octets in base 64. Panics if allocation fails.
+    fn serialize<S: serde::Serializer>(&self, serializer: S) -> Result<S::Ok, S::Error> {
+        serializer.serialize_str(&crate::util::base64::Serde.encode(&self.octets))
+    }
+}
+
+#[cfg(feature = "serde")]
+impl<'de> serde::Deserialize<'de> for Name {
+    fn deserialize<D: serde::Deserializer<'de>>(deserializer: D) -> Result<Self, D::Error> {
+        crate::texts::octets(deserializer, "a name in base 64", Name::decode)
+    }
+}
+
+#[cfg(test)]
+mod tests {
+    use super::text;
+    use crate::view::{DecodeError, InspectError};
+
+    /// Where memory ends nothing is said of the name.
+    #[test]
+    fn an_allocation_failure_is_no_fault_of_the_name() {
+        let told = text(InspectError::Decode(DecodeError::OutOfMemory), "a string");
+        assert_eq!(told.to_string(), "out of memory");
     }
 }

@@ -2,6 +2,7 @@
 
 use crate::crypto::keys::known;
 use crate::ffi;
+use crate::repository::error::ContentError;
 use crate::view::DecodeError;
 use bytes::Bytes;
 use std::error::Error;
@@ -125,9 +126,11 @@ impl TryFrom<String> for Serial {
 }
 
 impl fmt::Display for Serial {
+    /// The decimal number, whatever width, sign and precision are asked for.
     fn fmt(&self, f: &mut fmt::Formatter) -> fmt::Result {
-        let digits = known(ffi::serial_decimal(&self.0));
-        f.pad_integral(true, "", std::str::from_utf8(&digits).expect("digits"))
+        let mut digits = [0; 48];
+        let size = known(ffi::serial_decimal(&self.0, &mut digits));
+        f.write_str(std::str::from_utf8(&digits[..size]).expect("digits"))
     }
 }
 
@@ -147,8 +150,12 @@ impl serde::Serialize for Serial {
 
 #[cfg(feature = "serde")]
 impl<'de> serde::Deserialize<'de> for Serial {
+    /// A decimal number, or the empty text, which the crate rpki writes of the number 0.
     fn deserialize<D: serde::Deserializer<'de>>(deserializer: D) -> Result<Self, D::Error> {
-        crate::texts::string(deserializer)?.parse().map_err(serde::de::Error::custom)
+        crate::texts::borrowed(deserializer, "a decimal number", |text| match text {
+            "" => Ok(Serial::default()),
+            digits => digits.parse(),
+        })
     }
 }
 
@@ -162,12 +169,25 @@ pub enum SerialSliceError {
     Long,
 }
 
-impl fmt::Display for SerialSliceError {
-    fn fmt(&self, f: &mut fmt::Formatter) -> fmt::Result {
-        f.write_str(match self {
+impl SerialSliceError {
+    /// What is wrong, in a few words.
+    fn text(self) -> &'static str {
+        match self {
             SerialSliceError::Empty => "empty serial number",
             SerialSliceError::Long => "serial number longer than 20 bytes",
-        })
+        }
+    }
+}
+
+impl fmt::Display for SerialSliceError {
+    fn fmt(&self, f: &mut fmt::Formatter) -> fmt::Result {
+        f.write_str(self.text())
+    }
+}
+
+impl From<SerialSliceError> for ContentError {
+    fn from(error: SerialSliceError) -> Self {
+        ContentError::from_static(error.text())
     }
 }
 

@@ -26,38 +26,34 @@ use bytes::Bytes;
 /// # Ok::<(), rpki_proved::DecodeError>(())
 /// ```
 #[derive(Clone, Debug)]
-pub struct SignedData {
+pub struct SignedData<Alg = RpkiSignatureAlgorithm> {
     /// All of the octets, as they were read or made.
     octets: Bytes,
+    /// Whether they are as they are written: the algorithm with parameters, and no unused bits.
+    is_written: bool,
     data: Bytes,
-    signature: RpkiSignature,
+    signature: Signature<Alg>,
 }
 
 /// Two values are equal where their signed octets and their signatures are.
-impl PartialEq for SignedData {
+impl<Alg: PartialEq> PartialEq for SignedData<Alg> {
     fn eq(&self, other: &Self) -> bool {
         self.data == other.data && self.signature == other.signature
     }
 }
 
-impl Eq for SignedData {}
+impl<Alg: Eq> Eq for SignedData<Alg> {}
 
 impl SignedData {
     /// The value, and a signature over it.
     ///
     /// # Errors
-    /// The octets are not exactly one value, with all that is nested in it; `OutOfMemory`.
-    ///
-    /// # Panics
-    /// If it would have contents of 2^32 octets or more.
+    /// The octets are not exactly one value, with all that is nested in it; `TooLong` where the signed data would have
+    /// contents of 2^32 octets or more; `OutOfMemory`.
     pub fn new(data: impl Into<Bytes>, signature: RpkiSignature) -> Result<Self, DecodeError> {
         let data = data.into();
-        let octets = match ffi::signed_data_make(&data, signature.value()) {
-            Ok(octets) => octets.into(),
-            Err(ffi::TOO_LONG) => known(Err(ffi::TOO_LONG)),
-            Err(status) => return Err(DecodeError::from_status(status)),
-        };
-        Ok(SignedData { octets, data, signature })
+        let octets = ffi::signed_data_make(&data, signature.value()).map_err(DecodeError::from_status)?.into();
+        Ok(SignedData { octets, is_written: true, data, signature })
     }
 
     /// Reads signed data that is all of the octets.
@@ -70,7 +66,8 @@ impl SignedData {
         let found = ffi::signed_data(&octets).map_err(DecodeError::from_status)?;
         let algorithm = RpkiSignatureAlgorithm { has_parameters: found.has_parameters };
         let signature = Signature::new(algorithm, octets.slice(found.signature.range()));
-        Ok(SignedData { data: octets.slice(found.data.range()), signature, octets })
+        let is_written = found.has_parameters && found.unused == 0;
+        Ok(SignedData { data: octets.slice(found.data.range()), is_written, signature, octets })
     }
 
     /// The value, as exactly the octets that are signed.
@@ -96,11 +93,15 @@ impl SignedData {
     }
 
     /// The signed data as it is written: exactly the signed octets, the algorithm with parameters, and the signature
-    /// with no unused bits.
+    /// with no unused bits. They are the octets that it was read from, shared, where those are that already.
     ///
     /// # Panics
     /// If allocation fails.
     pub fn to_bytes(&self) -> Bytes {
+        // Lengths have one spelling in DER, so nothing else can be spelled in two ways.
+        if self.is_written {
+            return self.octets.clone();
+        }
         known(ffi::signed_data_write(&self.octets)).into()
     }
 }

@@ -1,52 +1,45 @@
 //! Times and periods of validity.
 
+mod calendar;
+mod text;
+
 use crate::crypto::keys::known;
 use crate::ffi::{self, Moment, Period};
 use crate::view::DecodeError;
 use bytes::Bytes;
-use std::cmp::Ordering;
 use std::error::Error;
 use std::fmt;
-use std::hash::{Hash, Hasher};
 use std::ops::{Add, Sub};
-use std::str::FromStr;
 use std::time::{Duration, SystemTime};
+
+pub use text::TimeParseError;
 
 /// The seconds of a day.
 const DAY: i64 = 86_400;
 
-/// A time in UTC, to the second, of a year from 0 to 9999. Times are ordered as they follow each other, and shown as in
-/// RFC 3339.
+/// A time in UTC, to the second, of a year from 0 to 9999. Times are ordered as they follow each other, and shown as
+/// chrono shows them; Debug and what is serialized are of RFC 3339, as is the text of
+/// [`view::Time`](crate::view::Time).
 ///
 /// ```
-/// use rpki_proved::repository::x509::Time;
+/// use rpki_proved::{repository::x509::Time, view};
 ///
 /// let time = Time::utc(2020, 2, 29, 16, 39, 57);
-/// assert_eq!(Time::years_from_date(4, time).to_string(), "2024-02-28T16:39:57Z");
+/// assert_eq!(Time::years_from_date(4, time).to_string(), "2024-02-28 16:39:57 UTC");
+/// assert_eq!(view::Time::from(time).to_string(), "2020-02-29T16:39:57Z");
 /// assert_eq!(time.encode_varied(), &b"\x17\x0d200229163957Z"[..]);
 /// assert_eq!("2020-02-29T17:39:57+01:00".parse(), Ok(time));
 /// ```
-#[derive(Clone, Copy)]
+#[derive(Clone, Copy, PartialEq, Eq, PartialOrd, Ord, Hash)]
 pub struct Time {
-    moment: Moment,
+    /// The seconds since 1970-01-01 00:00:00, of a year from 0 to 9999.
+    seconds: i64,
 }
-
-/// The first moment and the last. The library looks at their parts alone.
-const FIRST: Moment = Moment { seconds: 0, year: 0, month: 1, day: 1, hour: 0, minute: 0, second: 0 };
-const LAST: Moment = Moment { seconds: 0, year: 9999, month: 12, day: 31, hour: 23, minute: 59, second: 59 };
-
-/// 1970-01-01 00:00:00.
-const EPOCH: Moment = Moment { seconds: 0, year: 1970, month: 1, day: 1, hour: 0, minute: 0, second: 0 };
 
 impl Time {
     /// The time of these parts; `None` where the calendar or a clock has none, or the year is not of 0 to 9999.
     pub fn checked_utc(year: i32, month: u32, day: u32, hour: u32, minute: u32, second: u32) -> Option<Self> {
-        let moment = Moment { seconds: 0, year, month, day, hour, minute, second };
-        match ffi::time_write(&moment) {
-            Ok(octets) => Some(Time { moment: known(ffi::time(&octets)) }),
-            Err(ffi::CONTENT) => None,
-            Err(status) => known(Err(status)),
-        }
+        calendar::seconds_of(year, month, day, hour, minute, second).map(|seconds| Time { seconds })
     }
 
     /// The time of these parts.
@@ -60,7 +53,7 @@ impl Time {
     /// The time so many seconds after 1970-01-01 00:00:00, every day with 86,400; `None` where its year is not of 0 to
     /// 9999.
     pub fn from_timestamp(seconds: i64) -> Option<Self> {
-        Time { moment: EPOCH }.checked_add_secs(seconds)
+        calendar::SECONDS.contains(&seconds).then_some(Time { seconds })
     }
 
     /// The time of the machine's clock, without parts of a second.
@@ -114,8 +107,8 @@ impl Time {
 
     /// The same, and `None` where the year is not of 0 to 9999.
     pub fn checked_add_years(self, years: i32) -> Option<Self> {
-        match ffi::time_years_on(&self.moment, years) {
-            Ok(moment) => Some(Time { moment }),
+        match ffi::time_years_on(&self.moment(), years) {
+            Ok(moment) => Some(moment.into()),
             Err(ffi::NO_ANSWER) => None,
             Err(status) => known(Err(status)),
         }
@@ -123,11 +116,7 @@ impl Time {
 
     /// The time later by whole seconds; `None` where its year is not of 0 to 9999.
     pub fn checked_add_secs(self, seconds: i64) -> Option<Self> {
-        match ffi::time_seconds_on(&self.moment, seconds) {
-            Ok(moment) => Some(Time { moment }),
-            Err(ffi::NO_ANSWER) => None,
-            Err(status) => known(Err(status)),
-        }
+        self.seconds.checked_add(seconds).and_then(Time::from_timestamp)
     }
 
     /// Reads a time that is all of the octets: UTC time, of the years 1950 to 2049, or generalized time (RFC 5280
@@ -137,7 +126,7 @@ impl Time {
     /// `Content` where it is another primitive value, or a date or time of day that there is not; `Unexpected` where it
     /// is constructed; `Trailing` where octets follow it; and else why no beginning of the octets is a value.
     pub fn decode(octets: &[u8]) -> Result<Self, DecodeError> {
-        ffi::time(octets).map(|moment| Time { moment }).map_err(DecodeError::from_status)
+        ffi::time(octets).map(Time::from).map_err(DecodeError::from_status)
     }
 
     /// The value of the time as certificates have it: UTC time in the years 1950 to 2049, generalized time in the
@@ -146,57 +135,69 @@ impl Time {
     /// # Panics
     /// If allocation fails.
     pub fn encode_varied(self) -> Bytes {
-        known(ffi::time_write(&self.moment)).into()
+        known(ffi::time_write(&self.moment())).into()
     }
 
     /// The value of the time as UTC time, with the last two digits of its year.
+    ///
+    /// # Panics
+    /// If allocation fails.
     pub fn encode_utc_time(self) -> Bytes {
-        known(ffi::time_write_utc(&self.moment)).into()
+        known(ffi::time_write_utc(&self.moment())).into()
     }
 
     /// The value of the time as generalized time.
+    ///
+    /// # Panics
+    /// If allocation fails.
     pub fn encode_generalized_time(self) -> Bytes {
-        known(ffi::time_write_generalized(&self.moment)).into()
+        known(ffi::time_write_generalized(&self.moment())).into()
     }
 
     /// The seconds since 1970-01-01 00:00:00, every day with 86,400; negative before.
     pub fn to_binary_time(self) -> i64 {
-        self.moment.seconds
+        self.seconds
     }
 
     /// The same.
     pub fn timestamp(self) -> i64 {
-        self.moment.seconds
+        self.seconds
     }
 
     /// The year, 0 to 9999.
     pub fn year(self) -> i32 {
-        self.moment.year
+        self.moment().year
     }
 
     /// The month, 1 to 12.
     pub fn month(self) -> u32 {
-        self.moment.month
+        self.moment().month
     }
 
     /// The day of the month, 1 to 31.
     pub fn day(self) -> u32 {
-        self.moment.day
+        self.moment().day
     }
 
     /// The hour, 0 to 23.
     pub fn hour(self) -> u32 {
-        self.moment.hour
+        self.moment().hour
     }
 
     /// The minute, 0 to 59.
     pub fn minute(self) -> u32 {
-        self.moment.minute
+        self.moment().minute
     }
 
     /// The second, 0 to 59.
     pub fn second(self) -> u32 {
-        self.moment.second
+        self.moment().second
+    }
+
+    /// The time as the library has it.
+    #[inline]
+    pub(crate) fn moment(self) -> Moment {
+        calendar::moment_at(self.seconds)
     }
 
     /// Checks that the moment is not before this time.
@@ -204,7 +205,10 @@ impl Time {
     /// # Errors
     /// It is: too new.
     pub fn verify_not_before(self, now: Self) -> Result<(), ValidityPeriodError> {
-        Validity::new(self, Time { moment: LAST }).verify_at(now)
+        if now < self {
+            return Err(ValidityPeriodError { too_new: true });
+        }
+        Ok(())
     }
 
     /// Checks that the moment is not after this time.
@@ -212,33 +216,16 @@ impl Time {
     /// # Errors
     /// It is: too old.
     pub fn verify_not_after(self, now: Self) -> Result<(), ValidityPeriodError> {
-        Validity::new(Time { moment: FIRST }, self).verify_at(now)
+        if now > self {
+            return Err(ValidityPeriodError { too_new: false });
+        }
+        Ok(())
     }
 }
 
-impl PartialEq for Time {
-    fn eq(&self, other: &Self) -> bool {
-        self.moment.seconds == other.moment.seconds
-    }
-}
-
-impl Eq for Time {}
-
-impl PartialOrd for Time {
-    fn partial_cmp(&self, other: &Self) -> Option<Ordering> {
-        Some(self.cmp(other))
-    }
-}
-
-impl Ord for Time {
-    fn cmp(&self, other: &Self) -> Ordering {
-        self.moment.seconds.cmp(&other.moment.seconds)
-    }
-}
-
-impl Hash for Time {
-    fn hash<H: Hasher>(&self, state: &mut H) {
-        self.moment.seconds.hash(state)
+impl From<Moment> for Time {
+    fn from(moment: Moment) -> Self {
+        Time { seconds: moment.seconds }
     }
 }
 
@@ -281,99 +268,12 @@ impl From<SystemTime> for Time {
 
 impl From<Time> for SystemTime {
     fn from(time: Time) -> Self {
-        let size = Duration::from_secs(time.moment.seconds.unsigned_abs());
-        if time.moment.seconds < 0 {
+        let size = Duration::from_secs(time.seconds.unsigned_abs());
+        if time.seconds < 0 {
             SystemTime::UNIX_EPOCH - size
         } else {
             SystemTime::UNIX_EPOCH + size
         }
-    }
-}
-
-/// Digits of one number of a text, of this length; the text goes on behind them.
-fn number(text: &mut &str, digits: usize) -> Option<u32> {
-    let (found, rest) = text.split_at(text.char_indices().nth(digits).map_or(text.len(), |(place, _)| place));
-    if found.len() != digits || !found.bytes().all(|octet| octet.is_ascii_digit()) {
-        return None;
-    }
-    *text = rest;
-    found.parse().ok()
-}
-
-/// One of these characters; the text goes on behind it.
-fn one_of(text: &mut &str, of: &[char]) -> Option<char> {
-    let first = text.chars().next().filter(|first| of.contains(first))?;
-    *text = &text[first.len_utf8()..];
-    Some(first)
-}
-
-/// The time of a text of RFC 3339.
-fn read(mut text: &str) -> Option<Time> {
-    let text = &mut text;
-    let year = number(text, 4)?;
-    one_of(text, &['-'])?;
-    let month = number(text, 2)?;
-    one_of(text, &['-'])?;
-    let day = number(text, 2)?;
-    one_of(text, &['T', 't', ' '])?;
-    let hour = number(text, 2)?;
-    one_of(text, &[':'])?;
-    let minute = number(text, 2)?;
-    one_of(text, &[':'])?;
-    let second = number(text, 2)?;
-    if one_of(text, &['.']).is_some() {
-        number(text, 1)?;
-        while number(text, 1).is_some() {}
-    }
-    let time = Time::checked_utc(year as i32, month, day, hour, minute, second)?;
-    let sign = one_of(text, &['Z', 'z', '+', '-'])?;
-    if matches!(sign, 'Z' | 'z') {
-        return text.is_empty().then_some(time);
-    }
-    let hours = number(text, 2)?;
-    one_of(text, &[':'])?;
-    let minutes = number(text, 2)?;
-    if hours > 23 || minutes > 59 || !text.is_empty() {
-        return None;
-    }
-    let east = i64::from(3_600 * hours + 60 * minutes);
-    time.checked_add_secs(if sign == '+' { -east } else { east })
-}
-
-/// A text of RFC 3339, in any zone. Parts of a second are dropped.
-impl FromStr for Time {
-    type Err = TimeParseError;
-
-    fn from_str(s: &str) -> Result<Self, TimeParseError> {
-        read(s).ok_or(TimeParseError(()))
-    }
-}
-
-impl fmt::Display for Time {
-    fn fmt(&self, f: &mut fmt::Formatter) -> fmt::Result {
-        let Moment { year, month, day, hour, minute, second, .. } = self.moment;
-        f.pad(&format!("{year:04}-{month:02}-{day:02}T{hour:02}:{minute:02}:{second:02}Z"))
-    }
-}
-
-impl fmt::Debug for Time {
-    fn fmt(&self, f: &mut fmt::Formatter) -> fmt::Result {
-        write!(f, "Time({self})")
-    }
-}
-
-#[cfg(feature = "serde")]
-impl serde::Serialize for Time {
-    /// The text of RFC 3339.
-    fn serialize<S: serde::Serializer>(&self, serializer: S) -> Result<S::Ok, S::Error> {
-        serializer.serialize_str(&self.to_string())
-    }
-}
-
-#[cfg(feature = "serde")]
-impl<'de> serde::Deserialize<'de> for Time {
-    fn deserialize<D: serde::Deserializer<'de>>(deserializer: D) -> Result<Self, D::Error> {
-        crate::texts::string(deserializer)?.parse().map_err(serde::de::Error::custom)
     }
 }
 
@@ -426,19 +326,8 @@ mod with_chrono {
     }
 }
 
-/// A text is no time of RFC 3339 of the years 0 to 9999.
-#[derive(Clone, Copy, Debug, PartialEq, Eq)]
-pub struct TimeParseError(());
-
-impl fmt::Display for TimeParseError {
-    fn fmt(&self, f: &mut fmt::Formatter) -> fmt::Result {
-        f.write_str("malformed time value")
-    }
-}
-
-impl Error for TimeParseError {}
-
-/// A period of validity (RFC 5280 4.1.2.5). Nothing is said of which of its times is earlier.
+/// A period of validity (RFC 5280 4.1.2.5), which lasts to the end of its last second. Nothing is said of which of its
+/// times is earlier.
 #[derive(Clone, Copy, Debug, PartialEq, Eq, Hash)]
 #[cfg_attr(feature = "serde", derive(serde::Serialize, serde::Deserialize))]
 pub struct Validity {
@@ -482,7 +371,7 @@ impl Validity {
 
     /// The period that both have in common: the later start and the earlier end.
     pub fn trim(self, other: Self) -> Self {
-        known(ffi::validity_trim(&self.parts(), &other.parts())).into()
+        Validity::new(self.not_before.max(other.not_before), self.not_after.min(other.not_after))
     }
 
     /// Reads a period that is all of the octets.
@@ -494,6 +383,9 @@ impl Validity {
     }
 
     /// The value of the period: a SEQUENCE of two times.
+    ///
+    /// # Panics
+    /// If allocation fails.
     pub fn encode(self) -> Bytes {
         known(ffi::validity_write(&self.parts())).into()
     }
@@ -506,28 +398,25 @@ impl Validity {
         self.verify_at(Time::now())
     }
 
-    /// Checks that the moment is in the period; both of its ends are.
+    /// Checks that the moment is in the period; both of its ends are, so a time that is cut down to the second is in it
+    /// up to the end of its last second.
     ///
     /// # Errors
     /// Too new; else too old.
     pub fn verify_at(self, now: Time) -> Result<(), ValidityPeriodError> {
-        match ffi::validity_at(&self.parts(), &now.moment) {
-            Ok(()) => Ok(()),
-            Err(ffi::TOO_NEW) => Err(ValidityPeriodError { too_new: true }),
-            Err(ffi::TOO_OLD) => Err(ValidityPeriodError { too_new: false }),
-            Err(status) => known(Err(status)),
-        }
+        self.not_before.verify_not_before(now)?;
+        self.not_after.verify_not_after(now)
     }
 
     /// The period as the library has it.
     fn parts(self) -> Period {
-        Period { not_before: self.not_before.moment, not_after: self.not_after.moment }
+        Period { not_before: self.not_before.moment(), not_after: self.not_after.moment() }
     }
 }
 
 impl From<Period> for Validity {
     fn from(period: Period) -> Self {
-        Validity::new(Time { moment: period.not_before }, Time { moment: period.not_after })
+        Validity::new(period.not_before.into(), period.not_after.into())
     }
 }
 
@@ -551,3 +440,32 @@ impl fmt::Display for ValidityPeriodError {
 }
 
 impl Error for ValidityPeriodError {}
+
+#[cfg(test)]
+mod tests {
+    use super::{Time, Validity};
+    use crate::ffi;
+
+    /// What is said of moments and periods in plain Rust is what the library's calls say.
+    #[test]
+    fn periods_are_those_of_the_library() {
+        let seconds = [i64::MIN, -62_167_219_200, -1, 0, 1, 951_782_399, 253_402_300_799, i64::MAX];
+        let times: Vec<Time> = seconds.iter().filter_map(|at| Time::from_timestamp(*at)).collect();
+        assert_eq!(times.len(), 6);
+        let periods = times.iter().flat_map(|from| times.iter().map(|to| Validity::new(*from, *to)));
+        let periods: Vec<Validity> = periods.collect();
+        for period in &periods {
+            for now in &times {
+                let told = match ffi::validity_at(&period.parts(), &now.moment()) {
+                    Ok(()) => None,
+                    Err(status) => Some(status == ffi::TOO_NEW),
+                };
+                assert_eq!(period.verify_at(*now).err().map(|error| error.is_too_new()), told, "{period:?} {now:?}");
+            }
+            for other in &periods {
+                let told = Validity::from(ffi::validity_trim(&period.parts(), &other.parts()).unwrap());
+                assert_eq!(period.trim(*other), told, "{period:?} {other:?}");
+            }
+        }
+    }
+}

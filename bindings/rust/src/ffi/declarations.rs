@@ -1,0 +1,556 @@
+//! The constants, structs and calls of `include/rpki.h`, by `bindings/declarations`: not to be changed by hand.
+
+// All of the header is here, also what this package doesn't use.
+#![allow(dead_code)]
+
+use std::mem::size_of;
+
+/// What a call returns: 0, or the number of what is wrong.
+pub(crate) type Status = u8;
+
+pub(crate) const VERSION_MAJOR: u32 = 0;
+pub(crate) const VERSION_MINOR: u32 = 1;
+pub(crate) const VERSION_PATCH: u32 = 0;
+pub(crate) const NO_PARENT: usize = usize::MAX;
+pub(crate) const MOST_EXTENSIONS: usize = 64;
+pub(crate) const OK: Status = 0;
+pub(crate) const TRUNCATED: Status = 1;
+pub(crate) const BAD_TAG: Status = 2;
+pub(crate) const BAD_LENGTH: Status = 3;
+pub(crate) const UNEXPECTED: Status = 4;
+pub(crate) const CONTENT: Status = 5;
+pub(crate) const TRAILING: Status = 6;
+pub(crate) const OUT_OF_MEMORY: Status = 7;
+pub(crate) const URI_INVALID_CHARACTERS: Status = 1;
+pub(crate) const URI_BAD_URI: Status = 2;
+pub(crate) const URI_LONG_URI: Status = 3;
+pub(crate) const URI_BAD_SCHEME: Status = 4;
+pub(crate) const URI_DOT_SEGMENTS: Status = 5;
+pub(crate) const URI_EMPTY_SEGMENTS: Status = 6;
+pub(crate) const URI_LONG_SEGMENTS: Status = 7;
+pub(crate) const URI_OUT_OF_MEMORY: Status = 8;
+pub(crate) const TOO_SMALL: Status = 9;
+pub(crate) const NO_ANSWER: Status = 10;
+pub(crate) const NOT_OF_PROFILE: Status = 11;
+pub(crate) const NO_PROFILE: Status = 12;
+pub(crate) const OTHER_ALGORITHM: Status = 13;
+pub(crate) const OTHER_PARTS: Status = 14;
+pub(crate) const TOO_LONG: Status = 15;
+pub(crate) const INVALID_SYMBOL: Status = 40;
+pub(crate) const INVALID_LENGTH: Status = 41;
+pub(crate) const INVALID_LAST_SYMBOL: Status = 42;
+pub(crate) const INVALID_PADDING: Status = 43;
+pub(crate) const TOO_NEW: Status = 50;
+pub(crate) const TOO_OLD: Status = 51;
+pub(crate) const PART_CERTIFICATE: Status = 64;
+pub(crate) const PART_SIGNED: Status = 65;
+pub(crate) const PART_ALGORITHM: Status = 66;
+pub(crate) const PART_SIGNATURE: Status = 67;
+pub(crate) const PART_TBS: Status = 68;
+pub(crate) const PART_VERSION: Status = 69;
+pub(crate) const PART_SERIAL_NUMBER: Status = 70;
+pub(crate) const PART_TBS_ALGORITHM: Status = 71;
+pub(crate) const PART_ISSUER: Status = 72;
+pub(crate) const PART_VALIDITY: Status = 73;
+pub(crate) const PART_SUBJECT: Status = 74;
+pub(crate) const PART_PUBLIC_KEY: Status = 75;
+pub(crate) const PART_EXTENSIONS: Status = 76;
+pub(crate) const PART_EXTENSION_COUNT: Status = 77;
+pub(crate) const PART_EXTENSION_IDENTIFIERS: Status = 78;
+pub(crate) const PART_SAME_ALGORITHM: Status = 79;
+pub(crate) const WRONG_BASIC_CONSTRAINTS: Status = 80;
+pub(crate) const WRONG_SUBJECT_KEY_IDENTIFIER: Status = 81;
+pub(crate) const WRONG_AUTHORITY_KEY_IDENTIFIER: Status = 82;
+pub(crate) const WRONG_KEY_USAGE: Status = 83;
+pub(crate) const WRONG_CERTIFICATE_POLICIES: Status = 84;
+pub(crate) const RULE_SERIAL_NUMBER: Status = 85;
+pub(crate) const RULE_CRITICAL_EXTENSIONS: Status = 86;
+pub(crate) const RULE_ISSUER: Status = 87;
+pub(crate) const RULE_SUBJECT: Status = 88;
+pub(crate) const RULE_ROUTER_SUBJECT: Status = 89;
+pub(crate) const RULE_RSA_KEY: Status = 90;
+pub(crate) const RULE_ROUTER_KEY: Status = 91;
+pub(crate) const RULE_BASIC_CONSTRAINTS: Status = 92;
+pub(crate) const RULE_NO_BASIC_CONSTRAINTS: Status = 93;
+pub(crate) const RULE_SUBJECT_KEY_IDENTIFIER: Status = 94;
+pub(crate) const RULE_AUTHORITY_KEY_IDENTIFIER: Status = 95;
+pub(crate) const RULE_AUTHORITY_USAGE: Status = 96;
+pub(crate) const RULE_END_USAGE: Status = 97;
+pub(crate) const RULE_NO_EXTENDED_KEY_USAGE: Status = 98;
+pub(crate) const RULE_ROUTER_PURPOSE: Status = 99;
+pub(crate) const RULE_REVOCATION_LIST: Status = 100;
+pub(crate) const RULE_NO_REVOCATION_LIST: Status = 101;
+pub(crate) const RULE_ISSUER_CERTIFICATE: Status = 102;
+pub(crate) const RULE_NO_ISSUER_CERTIFICATE: Status = 103;
+pub(crate) const RULE_REPOSITORY: Status = 104;
+pub(crate) const RULE_MANIFEST: Status = 105;
+pub(crate) const RULE_SIGNED_OBJECT: Status = 106;
+pub(crate) const RULE_NO_SUBJECT_ACCESS: Status = 107;
+pub(crate) const RULE_CERTIFICATE_POLICIES: Status = 108;
+pub(crate) const RULE_RESOURCES: Status = 109;
+pub(crate) const RULE_ROUTER_NUMBERS: Status = 110;
+pub(crate) const RULE_OBJECT_ACCESS: Status = 111;
+pub(crate) const SECOND: Status = 16;
+pub(crate) const MISSING_COMMON_NAME: Status = 32;
+pub(crate) const SECOND_COMMON_NAME: Status = 33;
+pub(crate) const SECOND_SERIAL_NUMBER: Status = 34;
+pub(crate) const SECOND_ORGANIZATION_NAME: Status = 35;
+pub(crate) const STRING_NOT_PERMITTED: Status = 36;
+pub(crate) const ATTRIBUTE_NOT_PERMITTED: Status = 37;
+pub(crate) const UNIVERSAL: u8 = 0;
+pub(crate) const APPLICATION: u8 = 1;
+pub(crate) const CONTEXT: u8 = 2;
+pub(crate) const PRIVATE: u8 = 3;
+pub(crate) const RSA: u8 = 0;
+pub(crate) const ECDSA_P256: u8 = 1;
+pub(crate) const PROFILE_RPKI: u8 = 0;
+pub(crate) const PROFILE_ROUTER: u8 = 1;
+pub(crate) const CERTIFICATE_TA: u8 = 0;
+pub(crate) const CERTIFICATE_CA: u8 = 1;
+pub(crate) const CERTIFICATE_EE: u8 = 2;
+pub(crate) const CERTIFICATE_ROUTER: u8 = 3;
+pub(crate) const USAGE_NONE: u8 = 0;
+pub(crate) const USAGE_CA: u8 = 1;
+pub(crate) const USAGE_EE: u8 = 2;
+pub(crate) const POLICY_NONE: u8 = 0;
+pub(crate) const POLICY_REFUSE: u8 = 1;
+pub(crate) const POLICY_TRIM: u8 = 2;
+pub(crate) const BASE64_XML: u8 = 0;
+pub(crate) const BASE64_SERDE: u8 = 1;
+pub(crate) const BASE64_SLURM: u8 = 2;
+
+const _: () = assert!(size_of::<usize>() == 8 && size_of::<bool>() == 1);
+
+#[repr(C)]
+#[derive(Clone, Copy, Default)]
+pub(crate) struct Place {
+    pub(crate) start: usize,
+    pub(crate) length: usize,
+}
+const _: () = assert!(size_of::<Place>() == 16);
+
+#[repr(C)]
+#[derive(Clone, Copy, Default)]
+pub(crate) struct HeaderParts {
+    pub(crate) tag_class: u8,
+    pub(crate) constructed: bool,
+    pub(crate) number: u32,
+    pub(crate) length: u32,
+    pub(crate) size: usize,
+}
+const _: () = assert!(size_of::<HeaderParts>() == 24);
+
+#[repr(C)]
+#[derive(Clone, Copy, Default)]
+pub(crate) struct Walked {
+    pub(crate) headers: u64,
+    pub(crate) size: usize,
+}
+const _: () = assert!(size_of::<Walked>() == 16);
+
+#[repr(C)]
+#[derive(Clone, Copy, Default)]
+pub(crate) struct Entry {
+    pub(crate) start: usize,
+    pub(crate) contents: usize,
+    pub(crate) end: usize,
+    pub(crate) parent: usize,
+    pub(crate) number: u32,
+    pub(crate) tag_class: u8,
+    pub(crate) constructed: bool,
+}
+const _: () = assert!(size_of::<Entry>() == 40);
+
+#[repr(C)]
+#[derive(Clone, Copy, Default)]
+pub(crate) struct SignedParts {
+    pub(crate) data: Place,
+    pub(crate) algorithm: Place,
+    pub(crate) signature: Place,
+    pub(crate) unused: u8,
+    pub(crate) has_parameters: bool,
+}
+const _: () = assert!(size_of::<SignedParts>() == 56);
+
+#[repr(C)]
+#[derive(Clone, Copy, Default)]
+pub(crate) struct KeyParts {
+    pub(crate) format: u8,
+    pub(crate) unused: u8,
+    pub(crate) bits: Place,
+}
+const _: () = assert!(size_of::<KeyParts>() == 24);
+
+#[repr(C)]
+#[derive(Clone, Copy, Default)]
+pub(crate) struct Moment {
+    pub(crate) seconds: i64,
+    pub(crate) year: i32,
+    pub(crate) month: u32,
+    pub(crate) day: u32,
+    pub(crate) hour: u32,
+    pub(crate) minute: u32,
+    pub(crate) second: u32,
+}
+const _: () = assert!(size_of::<Moment>() == 32);
+
+#[repr(C)]
+#[derive(Clone, Copy, Default)]
+pub(crate) struct Period {
+    pub(crate) not_before: Moment,
+    pub(crate) not_after: Moment,
+}
+const _: () = assert!(size_of::<Period>() == 64);
+
+#[repr(C)]
+#[derive(Clone, Copy, Default)]
+pub(crate) struct ExtensionParts {
+    pub(crate) id: Place,
+    pub(crate) octets: Place,
+    pub(crate) critical: bool,
+}
+const _: () = assert!(size_of::<ExtensionParts>() == 40);
+
+#[repr(C)]
+#[derive(Clone, Copy, Default)]
+pub(crate) struct CertificateParts {
+    pub(crate) data: Place,
+    pub(crate) algorithm: Place,
+    pub(crate) signature: Place,
+    pub(crate) issuer: Place,
+    pub(crate) subject: Place,
+    pub(crate) public_key: Place,
+    pub(crate) extensions: Place,
+    pub(crate) validity: Period,
+    pub(crate) serial_number: [u8; 20],
+    pub(crate) key_format: u8,
+    pub(crate) key_unused: u8,
+    pub(crate) has_parameters: bool,
+}
+const _: () = assert!(size_of::<CertificateParts>() == 200);
+
+#[repr(C)]
+#[derive(Clone, Copy, Default)]
+pub(crate) struct KnownExtension {
+    pub(crate) octets: Place,
+    pub(crate) is_there: bool,
+    pub(crate) critical: bool,
+}
+const _: () = assert!(size_of::<KnownExtension>() == 24);
+
+#[repr(C)]
+#[derive(Clone, Copy, Default)]
+pub(crate) struct CertificateExtensions {
+    pub(crate) basic_constraints: KnownExtension,
+    pub(crate) subject_key_identifier: KnownExtension,
+    pub(crate) authority_key_identifier: KnownExtension,
+    pub(crate) key_usage: KnownExtension,
+    pub(crate) extended_key_usage: KnownExtension,
+    pub(crate) crl_distribution_points: KnownExtension,
+    pub(crate) authority_info_access: KnownExtension,
+    pub(crate) subject_info_access: KnownExtension,
+    pub(crate) certificate_policies: KnownExtension,
+    pub(crate) ip_resources: KnownExtension,
+    pub(crate) ip_resources_v2: KnownExtension,
+    pub(crate) as_resources: KnownExtension,
+    pub(crate) as_resources_v2: KnownExtension,
+    pub(crate) subject_key: [u8; 20],
+    pub(crate) authority_key: [u8; 20],
+    pub(crate) is_ca: bool,
+    pub(crate) usage: u8,
+    pub(crate) policy: u8,
+}
+const _: () = assert!(size_of::<CertificateExtensions>() == 360);
+
+#[repr(C)]
+#[derive(Clone, Copy, Default)]
+pub(crate) struct RsyncParts {
+    pub(crate) authority: Place,
+    pub(crate) module_name: Place,
+    pub(crate) path: Place,
+}
+const _: () = assert!(size_of::<RsyncParts>() == 48);
+
+#[repr(C)]
+#[derive(Clone, Copy, Default)]
+pub(crate) struct HttpsParts {
+    pub(crate) authority: Place,
+    pub(crate) path: Place,
+}
+const _: () = assert!(size_of::<HttpsParts>() == 32);
+
+extern "C" {
+    pub(super) fn rpki_version() -> u32;
+    pub(super) fn rpki_header(octets: *const u8, size: usize, out: *mut HeaderParts) -> Status;
+    pub(super) fn rpki_walk(octets: *const u8, size: usize, out: *mut Walked) -> Status;
+    pub(super) fn rpki_index(
+        octets: *const u8,
+        size: usize,
+        entries: *mut Entry,
+        capacity: usize,
+        count: *mut usize,
+    ) -> Status;
+    pub(super) fn rpki_fault(octets: *const u8, size: usize, at: *mut usize) -> Status;
+    pub(super) fn rpki_signed_data(octets: *const u8, size: usize, out: *mut SignedParts) -> Status;
+    pub(super) fn rpki_public_key(octets: *const u8, size: usize, out: *mut KeyParts) -> Status;
+    pub(super) fn rpki_key_identifier(octets: *const u8, size: usize, out: *mut [u8; 20]) -> Status;
+    pub(super) fn rpki_name_inspect(octets: *const u8, size: usize, profile: u8, strict: bool) -> Status;
+    pub(super) fn rpki_serial(octets: *const u8, size: usize, out: *mut [u8; 20]) -> Status;
+    pub(super) fn rpki_time(octets: *const u8, size: usize, out: *mut Moment) -> Status;
+    pub(super) fn rpki_validity(octets: *const u8, size: usize, out: *mut Period) -> Status;
+    pub(super) fn rpki_extension(octets: *const u8, size: usize, out: *mut ExtensionParts) -> Status;
+    pub(super) fn rpki_certificate(octets: *const u8, size: usize, out: *mut CertificateParts) -> Status;
+    pub(super) fn rpki_certificate_extensions(
+        octets: *const u8,
+        size: usize,
+        out: *mut CertificateExtensions,
+    ) -> Status;
+    pub(super) fn rpki_certificate_inspect(octets: *const u8, size: usize, profile: u8, strict: bool) -> Status;
+    pub(super) fn rpki_rsync_parse(text: *const u8, size: usize, out: *mut RsyncParts) -> Status;
+    pub(super) fn rpki_rsync_relative_to(
+        uri: *const u8,
+        uri_size: usize,
+        base: *const u8,
+        base_size: usize,
+        out: *mut Place,
+    ) -> Status;
+    pub(super) fn rpki_rsync_join(
+        base: *const u8,
+        base_size: usize,
+        path: *const u8,
+        path_size: usize,
+        out: *mut u8,
+        capacity: usize,
+        written: *mut usize,
+    ) -> Status;
+    pub(super) fn rpki_rsync_parent(text: *const u8, size: usize, out: *mut usize) -> Status;
+    pub(super) fn rpki_https_parse(text: *const u8, size: usize, out: *mut HttpsParts) -> Status;
+    pub(super) fn rpki_rsync_parts_relative_to(
+        uri: *const u8,
+        uri_size: usize,
+        parts: *const RsyncParts,
+        base: *const u8,
+        base_size: usize,
+        base_parts: *const RsyncParts,
+        out: *mut Place,
+    ) -> Status;
+    pub(super) fn rpki_rsync_parts_equal(
+        uri: *const u8,
+        uri_size: usize,
+        parts: *const RsyncParts,
+        other: *const u8,
+        other_size: usize,
+        other_parts: *const RsyncParts,
+        out: *mut bool,
+    ) -> Status;
+    pub(super) fn rpki_rsync_parts_is_parent_of(
+        uri: *const u8,
+        uri_size: usize,
+        parts: *const RsyncParts,
+        other: *const u8,
+        other_size: usize,
+        other_parts: *const RsyncParts,
+        out: *mut bool,
+    ) -> Status;
+    pub(super) fn rpki_rsync_parts_is_identical_to(
+        uri: *const u8,
+        uri_size: usize,
+        parts: *const RsyncParts,
+        other: *const u8,
+        other_size: usize,
+        other_parts: *const RsyncParts,
+        out: *mut bool,
+    ) -> Status;
+    pub(super) fn rpki_rsync_parts_canonical(
+        text: *const u8,
+        size: usize,
+        parts: *const RsyncParts,
+        out: *mut u8,
+        capacity: usize,
+        written: *mut usize,
+    ) -> Status;
+    pub(super) fn rpki_rsync_parts_parent(
+        text: *const u8,
+        size: usize,
+        parts: *const RsyncParts,
+        out: *mut usize,
+    ) -> Status;
+    pub(super) fn rpki_rsync_parts_join(
+        base: *const u8,
+        base_size: usize,
+        parts: *const RsyncParts,
+        path: *const u8,
+        path_size: usize,
+        out: *mut u8,
+        capacity: usize,
+        written: *mut usize,
+    ) -> Status;
+    pub(super) fn rpki_rsync_parts_into_dir(
+        text: *const u8,
+        size: usize,
+        parts: *const RsyncParts,
+        out: *mut u8,
+        capacity: usize,
+        written: *mut usize,
+    ) -> Status;
+    pub(super) fn rpki_https_parts_equal(
+        uri: *const u8,
+        uri_size: usize,
+        parts: *const HttpsParts,
+        other: *const u8,
+        other_size: usize,
+        other_parts: *const HttpsParts,
+        out: *mut bool,
+    ) -> Status;
+    pub(super) fn rpki_https_parts_canonical(
+        text: *const u8,
+        size: usize,
+        parts: *const HttpsParts,
+        out: *mut u8,
+        capacity: usize,
+        written: *mut usize,
+    ) -> Status;
+    pub(super) fn rpki_https_parts_parent(
+        text: *const u8,
+        size: usize,
+        parts: *const HttpsParts,
+        out: *mut usize,
+    ) -> Status;
+    pub(super) fn rpki_https_parts_join(
+        base: *const u8,
+        base_size: usize,
+        parts: *const HttpsParts,
+        path: *const u8,
+        path_size: usize,
+        out: *mut u8,
+        capacity: usize,
+        written: *mut usize,
+    ) -> Status;
+    pub(super) fn rpki_https_parts_into_dir(
+        text: *const u8,
+        size: usize,
+        parts: *const HttpsParts,
+        out: *mut u8,
+        capacity: usize,
+        written: *mut usize,
+    ) -> Status;
+    pub(super) fn rpki_hex(
+        octets: *const u8,
+        size: usize,
+        out: *mut u8,
+        capacity: usize,
+        written: *mut usize,
+    ) -> Status;
+    pub(super) fn rpki_serial_write(
+        serial: *const [u8; 20],
+        out: *mut u8,
+        capacity: usize,
+        written: *mut usize,
+    ) -> Status;
+    pub(super) fn rpki_time_write(moment: *const Moment, out: *mut u8, capacity: usize, written: *mut usize) -> Status;
+    pub(super) fn rpki_time_years_on(moment: *const Moment, years: i32, out: *mut Moment) -> Status;
+    pub(super) fn rpki_base64_write(
+        octets: *const u8,
+        size: usize,
+        url_safe: bool,
+        out: *mut u8,
+        capacity: usize,
+        written: *mut usize,
+    ) -> Status;
+    pub(super) fn rpki_base64_read(
+        text: *const u8,
+        size: usize,
+        flavour: u8,
+        out: *mut u8,
+        capacity: usize,
+        written: *mut usize,
+        at: *mut usize,
+    ) -> Status;
+    pub(super) fn rpki_signed_data_write(
+        octets: *const u8,
+        size: usize,
+        out: *mut u8,
+        capacity: usize,
+        written: *mut usize,
+    ) -> Status;
+    pub(super) fn rpki_signed_data_make(
+        value: *const u8,
+        size: usize,
+        signature: *const u8,
+        signature_size: usize,
+        out: *mut u8,
+        capacity: usize,
+        written: *mut usize,
+    ) -> Status;
+    pub(super) fn rpki_public_key_write(
+        octets: *const u8,
+        size: usize,
+        out: *mut u8,
+        capacity: usize,
+        written: *mut usize,
+    ) -> Status;
+    pub(super) fn rpki_rsa_key_write(
+        modulus: *const u8,
+        modulus_size: usize,
+        exponent: *const u8,
+        exponent_size: usize,
+        out: *mut u8,
+        capacity: usize,
+        written: *mut usize,
+    ) -> Status;
+    pub(super) fn rpki_rsa_key_of_bits(
+        bits: *const u8,
+        size: usize,
+        out: *mut u8,
+        capacity: usize,
+        written: *mut usize,
+    ) -> Status;
+    pub(super) fn rpki_name_of_key(
+        octets: *const u8,
+        size: usize,
+        out: *mut u8,
+        capacity: usize,
+        written: *mut usize,
+    ) -> Status;
+    pub(super) fn rpki_extension_write(
+        id: *const u8,
+        id_size: usize,
+        critical: bool,
+        octets: *const u8,
+        size: usize,
+        out: *mut u8,
+        capacity: usize,
+        written: *mut usize,
+    ) -> Status;
+    pub(super) fn rpki_serial_decimal(
+        serial: *const [u8; 20],
+        out: *mut u8,
+        capacity: usize,
+        written: *mut usize,
+    ) -> Status;
+    pub(super) fn rpki_serial_of_decimal(text: *const u8, size: usize, out: *mut [u8; 20]) -> Status;
+    pub(super) fn rpki_serial_of_octets(octets: *const u8, size: usize, out: *mut [u8; 20]) -> Status;
+    pub(super) fn rpki_key_identifier_read(octets: *const u8, size: usize, out: *mut [u8; 20]) -> Status;
+    pub(super) fn rpki_key_identifier_of_hex(text: *const u8, size: usize, out: *mut [u8; 20]) -> Status;
+    pub(super) fn rpki_time_write_utc(
+        moment: *const Moment,
+        out: *mut u8,
+        capacity: usize,
+        written: *mut usize,
+    ) -> Status;
+    pub(super) fn rpki_time_write_generalized(
+        moment: *const Moment,
+        out: *mut u8,
+        capacity: usize,
+        written: *mut usize,
+    ) -> Status;
+    pub(super) fn rpki_time_seconds_on(moment: *const Moment, seconds: i64, out: *mut Moment) -> Status;
+    pub(super) fn rpki_validity_write(
+        period: *const Period,
+        out: *mut u8,
+        capacity: usize,
+        written: *mut usize,
+    ) -> Status;
+    pub(super) fn rpki_validity_at(period: *const Period, moment: *const Moment) -> Status;
+    pub(super) fn rpki_validity_trim(period: *const Period, other: *const Period, out: *mut Period) -> Status;
+}
