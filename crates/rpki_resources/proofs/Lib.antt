@@ -1,0 +1,9 @@
+-- Which lemma file answers which question.
+--
+-- Sets of blocks: BlocksLaws. Prefixes: PrefixLaws.
+pub mod BlocksLaws
+pub mod PrefixLaws
+pub mod OctetsLaws
+pub mod AddressLaws
+pub mod RangeLaws
+pub mod ListLaws

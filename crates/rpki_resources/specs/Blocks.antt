@@ -1,0 +1,27 @@
+-- Sets of numbers, as lists of blocks (RFC 3779 2.2.3.6, 2.2.3.7, 3.2.3.4).
+use Rattle.std.specs.Prelude.{◌≤◌, ◌<◌, ◌⊎◌, ℕ, suc, List, [], ◌∷◌}
+use Rattle.rpki_resources.specs.declared.block.Block.{Block}
+
+-- the numbers of a block: from its lowest to its highest, both among them
+abbrev pub IsIn : ℕ → Block → Type 0
+IsIn n b = (b.low ≤ n) × (n ≤ b.high)
+
+-- the numbers of blocks
+abbrev pub IsAmong : ℕ → List Block → Type 0
+IsAmong n [] = ⊥
+IsAmong n (b ∷ bs) = IsIn n b ⊎ IsAmong n bs
+
+-- each number of the one is a number of the other
+abbrev pub IsSubset : List Block → List Block → Type 0
+IsSubset part whole = (n : ℕ) → IsAmong n part → IsAmong n whole
+
+-- the blocks begin past this number and the one after it
+abbrev pub IsPast : ℕ → List Block → Type 0
+IsPast high [] = Unit {0}
+IsPast high (b ∷ bs) = suc high < b.low
+
+-- Canonical form: no block is empty, and each begins above the one before it, with a number between them at least. So
+-- they are in order, none overlaps another, and none continues another.
+abbrev pub AreCanonical : List Block → Type 0
+AreCanonical [] = Unit {0}
+AreCanonical (b ∷ bs) = (b.low ≤ b.high) × IsPast b.high bs × AreCanonical bs

@@ -1,0 +1,24 @@
+//! Resources of the RPKI: blocks of IP addresses and of AS numbers (RFC 3779).
+//!
+//! `IpResources::decode` and `AsResources::decode` read the contents of the two extensions of certificates in exactly
+//! their canonical form. What they return is a set of numbers: `encompasses` says whether one is a part of another.
+#![tactic(auto)]
+
+mod address;
+mod as_blocks;
+mod block;
+mod blocks;
+mod canonical;
+mod choice;
+mod family;
+mod ip_blocks;
+pub mod laws;
+mod prefix;
+
+pub use address::Address;
+pub use as_blocks::{AsBlocks, AsResources, take_as_number};
+pub use block::Block;
+pub use blocks::Blocks;
+pub use choice::ResourcesChoice;
+pub use family::AddressFamily;
+pub use ip_blocks::{IpBlocks, IpResources, take_family};
