@@ -118,3 +118,9 @@ bits-found xs u n m o few none is e even =
     let some : 0 < m = rw is (pow_pos u) in
     let number : number_of xs ≡ n / m * 2 ^ u = sym e ∙ whole-part n m some even ∙ ap (λ (k : ℕ). n / m * k) is in
     record { size = size; number = number; below = few-bits xs u (length xs * 8 - u) (n / m) o size number }
+
+-- a prefix isn't empty
+pub prefix-ascends : (w : ℕ) (x : Address) → low_end w x ≤ high_end w x
+prefix-ascends w x =
+    let some : 0 < 2 ^ (w - x.size) = pow_pos (w - x.size) in
+    omega (arith, some)

@@ -6,4 +6,6 @@ pub mod PrefixLaws
 pub mod OctetsLaws
 pub mod AddressLaws
 pub mod RangeLaws
-pub mod ListLaws
+pub mod ComposingLaws
+pub mod AsNumberLaws
+pub mod FollowLaws

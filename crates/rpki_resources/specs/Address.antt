@@ -2,9 +2,11 @@
 use Rattle.std.specs.Prelude.{◌≡◌, ◌≤◌, ◌<◌, ◌⊎◌, ◌+◌, ◌*◌, ◌-◌, ◌^◌, ◌%◌, ℕ, suc, false, true, List, [], ◌∷◌, length}
 use Rattle.rpki_der.specs.Number.{number_of}
 use Rattle.rpki_der.specs.TagName.{bit_string, sequence}
-use Rattle.rpki_der.specs.Values.{SpellsLeaf}
+use Rattle.rpki_der.specs.Values.{SpellsLeaf, IsLeafFault}
 use Rattle.rpki_der.specs.Leaves.{Bits, IsBits}
-use Rattle.rpki_der.specs.Parts.{Then}
+use Rattle.rpki_der.specs.declared.error.DecodeError.{DecodeError}
+use Rattle.rpki_der.specs.FirstFault.{IsInsideFault}
+use Rattle.rpki_resources.specs.Composing.{SpellsFor, SpellsEnds, SpellsEither, IsEndsFault, IsEitherFault}
 use Rattle.rpki_resources.specs.declared.family.AddressFamily.{AddressFamily}
 use Rattle.rpki_resources.specs.declared.family.AddressFamily.TheVariants.{Ipv4, Ipv6}
 use Rattle.rpki_resources.specs.declared.address.Address.{Address}
@@ -52,10 +54,8 @@ IsPrefix low high = (q k : ℕ) × (low ≡ q * 2 ^ k) × (suc high ≡ suc q * 
 abbrev pub prefix_block : ℕ → Address → Block
 prefix_block w x = record { low = low_end w x; high = high_end w x }
 
-pub record SpellsPrefix (w : ℕ) (b : Block) (p : List ℕ) : Type 0 where
-  pub address : Address
-  pub spelled : SpellsAddress w address p
-  pub is : b ≡ prefix_block w address
+abbrev pub SpellsPrefix : ℕ → Block → List ℕ → Type 0
+SpellsPrefix w = SpellsFor (SpellsAddress w) (λ b x. b ≡ prefix_block w x)
 
 -- ---- a block as a range
 
@@ -80,15 +80,25 @@ pub record IsRange (w : ℕ) (b : Block) (x : Address × Address) : Type 0 where
   pub some : b.low ≤ b.high
   pub no_prefix : IsPrefix b.low b.high → ⊥
 
-pub record IsRangeContents (w : ℕ) (b : Block) (c : List ℕ) : Type 0 where
-  pub ends : Address × Address
-  pub spelled : Then (SpellsAddress w) (SpellsAddress w) ends c
-  pub is : IsRange w b ends
-
 abbrev pub SpellsRange : ℕ → Block → List ℕ → Type 0
-SpellsRange w = SpellsLeaf sequence true (IsRangeContents w)
+SpellsRange w = SpellsLeaf sequence true (SpellsEnds (SpellsAddress w) (IsRange w))
 
 -- ---- a block
 
 abbrev pub SpellsBlock : ℕ → Block → List ℕ → Type 0
-SpellsBlock w b p = SpellsPrefix w b p ⊎ SpellsRange w b p
+SpellsBlock w = SpellsEither (SpellsRange w) (SpellsPrefix w)
+
+-- ---- the errors
+
+abbrev pub IsAddressFault : ℕ → List ℕ → DecodeError → Type 0
+IsAddressFault w = IsLeafFault bit_string false (IsAddress w)
+
+abbrev pub IsRangeContentsFault : ℕ → List ℕ → DecodeError → Type 0
+IsRangeContentsFault w = IsEndsFault (SpellsAddress w) (IsAddressFault w) (IsRange w)
+
+abbrev pub IsRangeFault : ℕ → List ℕ → DecodeError → Type 0
+IsRangeFault w = IsInsideFault sequence true (IsRangeContentsFault w)
+
+-- where a SEQUENCE is there, that of a range; else that of an address
+abbrev pub IsBlockFault : ℕ → List ℕ → DecodeError → Type 0
+IsBlockFault w = IsEitherFault sequence (IsRangeFault w) (IsAddressFault w)

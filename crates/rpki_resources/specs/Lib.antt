@@ -1,4 +1,7 @@
 -- Definitions: what the contracts say. They are trusted, and read against the standards.
 pub mod Blocks
+pub mod Composing
 pub mod Address
-pub mod Block
+pub mod AsNumber
+pub mod Listed
+pub mod InPlace

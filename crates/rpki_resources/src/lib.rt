@@ -5,20 +5,21 @@
 #![tactic(auto)]
 
 mod address;
-mod as_blocks;
+mod as_number;
 mod block;
 mod blocks;
 mod canonical;
-mod choice;
 mod family;
-mod ip_blocks;
+mod kind;
+mod listed;
 pub mod laws;
 mod prefix;
+mod view;
 
 pub use address::Address;
-pub use as_blocks::{AsBlocks, AsResources, take_as_number};
+pub use as_number::take_as_number;
 pub use block::Block;
 pub use blocks::Blocks;
-pub use choice::ResourcesChoice;
 pub use family::AddressFamily;
-pub use ip_blocks::{IpBlocks, IpResources, take_family};
+pub use kind::ResourceKind;
+pub use view::BlocksView;

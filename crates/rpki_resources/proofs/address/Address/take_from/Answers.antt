@@ -2,8 +2,7 @@ use Rattle.std.proofs.Common.{false, refl}
 use Rattle.rpki_der.specs.TagName.{bit_string}
 use Rattle.rpki_der.proofs.LeavesLaws.{leaf-refused, leaf-accepted, leaf-malformed}
 use Rattle.rpki_der.proofs.TriedLaws.{tried-refused}
-use Rattle.rpki_resources.specs.Address.{width, IsAddress, SpellsAddress}
-use Rattle.rpki_resources.specs.Block.{IsAddressFault}
+use Rattle.rpki_resources.specs.Address.{width, IsAddress, SpellsAddress, IsAddressFault}
 use Rattle.rpki_resources.proofs.AddressLaws.{one-address}
 use Rattle.rpki_resources.proofs.address.Address.take_from.Goals as goal
 
