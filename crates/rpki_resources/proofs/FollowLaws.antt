@@ -117,7 +117,7 @@ pub next-no-memory : (kind : ResourceKind) (last : Option ℕ) (s : List ℕ) (e
 next-no-memory kind last s e (InBlock none k) = block-no-memory kind s e k
 next-no-memory kind last s e (OutOfOrder b r a not k) = λ z. subst IsContentError z k
 
-next-some : (kind : ResourceKind) (last : Option ℕ) (b : Block) (r : List ℕ) → Spells (SpellsNext kind last) [] b r → ⊥
+pub next-some : (kind : ResourceKind) (last : Option ℕ) (b : Block) (r : List ℕ) → Spells (SpellsNext kind last) [] b r → ⊥
 next-some kind last b r h = block-some kind b (subst (SpellsBlockOf kind b) (none h.front r h.parts) h.spelled.block) where
   none : (p q : List ℕ) → [] ≡ p ++ q → p ≡ []
   none [] q e = refl

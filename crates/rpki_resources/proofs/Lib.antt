@@ -9,3 +9,5 @@ pub mod RangeLaws
 pub mod ComposingLaws
 pub mod AsNumberLaws
 pub mod FollowLaws
+pub mod ViewLaws
+pub mod ExtensionLaws

@@ -12,6 +12,9 @@ pub record Octets : Type 0 where
   pub octets : List ℕ
   pub count : ℕ
 
+abbrev pub octets_of : ResourceKind → List ℕ → ℕ → Octets
+octets_of kind octets count = record { kind = kind; octets = octets; count = count }
+
 -- they are these blocks
 pub record Holds (x : Octets) (bs : List Block) : Type 0 where
   pub blocks : AreBlocks x.kind bs x.octets
@@ -36,6 +39,9 @@ pub record Rest : Type 0 where
   pub kind : ResourceKind
   pub last : Option ℕ
   pub octets : List ℕ
+
+abbrev pub rest_of : ResourceKind → Option ℕ → List ℕ → Rest
+rest_of kind last octets = record { kind = kind; last = last; octets = octets }
 
 -- these blocks are left
 abbrev pub IsLeft : Rest → List Block → Type 0

@@ -5,3 +5,4 @@ pub mod Address
 pub mod AsNumber
 pub mod Listed
 pub mod InPlace
+pub mod Extension
