@@ -11,3 +11,4 @@ pub mod AsNumberLaws
 pub mod FollowLaws
 pub mod ViewLaws
 pub mod ExtensionLaws
+pub mod FamilyLaws

@@ -91,6 +91,9 @@ pub data AreFamilies (x : IpResourcesView) (c : List ℕ) : Type 0 where
   BothFamilies : (v4 v6 : ChoiceView) → x ≡ families v4 v6 → SpellsBoth SpellsNamed SpellsNamed (Ipv4, v4) (Ipv6, v6) c
       → AreFamilies x c
 
+abbrev pub SpellsV6 : ChoiceView → List ℕ → Type 0
+SpellsV6 v c = SpellsNamed (Ipv6, v) c
+
 -- what is wrong behind the second family: it isn't IP version 6; else something follows
 abbrev pub IsAfterSecondFault : AddressFamily × ChoiceView → List ℕ → DecodeError → Type 0
 IsAfterSecondFault (Ipv4, v) r e = IsContentError e

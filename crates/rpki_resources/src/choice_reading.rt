@@ -49,8 +49,8 @@ pub fn take_choice<'a>(
         cons.take_null()?;
         return Ok(ChoiceView::Inherit);
     }
-    let blocks = take_listed(cons, kind)?;
-    Ok(ChoiceView::Blocks(blocks))
+    let listed = take_listed(cons, kind)?;
+    Ok(ChoiceView::Blocks(listed))
 }
 
 /// The AS numbers, under the explicit tag 0.

@@ -30,18 +30,18 @@ returns-then-has_tag c =
     (c.has_tag.ensures.0 c.if-has_tag.true)
     (for-accepted (SpellsLeaf null false IsNull) (λ (v : ChoiceView) (u : Unit {0}). v ≡ Inherit) _ _ Inherit tt c.in_ok-take_null.ensures refl (λ w k. k))
 
-pub returns-in_err-blocks : goal.returns-in_err-blocks
-returns-in_err-blocks c =
+pub returns-in_err-listed : goal.returns-in_err-listed
+returns-in_err-listed c =
     let kind = c.args.kind in
-    let e = c.in_err-blocks.field-0.0 in
-    tried-refused (λ v. v) (SpellsChoice kind) (IsChoiceFault kind) _ _ e _ c.from_residual-in_err-blocks.ensures
+    let e = c.in_err-listed.field-0.0 in
+    tried-refused (λ v. v) (SpellsChoice kind) (IsChoiceFault kind) _ _ e _ c.from_residual-in_err-listed.ensures
     (other-refused null SpellsInherit (SpellsListed kind) (IsLeafFault null false IsNull) (IsInsideFault sequence true (AreBlocksFault kind None)) inherit-tag (listed-tag kind) _ _ e
         (iff_false c.has_tag.ensures c.if-has_tag.false)
-        (for-refuses (SpellsLeaf sequence true (IsListed kind)) (λ (v : ChoiceView) (x : Octets). v ≡ Blocks x) _ _ (IsInsideFault sequence true (AreBlocksFault kind None)) e c.in_err-blocks.ensures))
+        (for-refuses (SpellsLeaf sequence true (IsListed kind)) (λ (v : ChoiceView) (x : Octets). v ≡ Blocks x) _ _ (IsInsideFault sequence true (AreBlocksFault kind None)) e c.in_err-listed.ensures))
 
 pub returns : goal.returns
 returns c =
     let kind = c.args.kind in
-    other-accepted null SpellsInherit (SpellsListed kind) (IsLeafFault null false IsNull) (IsInsideFault sequence true (AreBlocksFault kind None)) inherit-tag (listed-tag kind) _ _ (Blocks c.in_ok-blocks.blocks)
+    other-accepted null SpellsInherit (SpellsListed kind) (IsLeafFault null false IsNull) (IsInsideFault sequence true (AreBlocksFault kind None)) inherit-tag (listed-tag kind) _ _ (Blocks c.in_ok-listed.listed)
     (iff_false c.has_tag.ensures c.if-has_tag.false)
-    (for-accepted (SpellsLeaf sequence true (IsListed kind)) (λ (v : ChoiceView) (x : Octets). v ≡ Blocks x) _ _ (Blocks c.in_ok-blocks.blocks) c.in_ok-blocks.blocks c.in_ok-blocks.ensures refl (λ w k. k))
+    (for-accepted (SpellsLeaf sequence true (IsListed kind)) (λ (v : ChoiceView) (x : Octets). v ≡ Blocks x) _ _ (Blocks c.in_ok-listed.listed) c.in_ok-listed.listed c.in_ok-listed.ensures refl (λ w k. k))
