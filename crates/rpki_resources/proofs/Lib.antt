@@ -12,3 +12,5 @@ pub mod FollowLaws
 pub mod ViewLaws
 pub mod ExtensionLaws
 pub mod FamilyLaws
+pub mod KeptLaws
+pub mod NoMemoryLaws

@@ -20,6 +20,10 @@ pub record Holds (x : Octets) (bs : List Block) : Type 0 where
   pub blocks : AreBlocks x.kind bs x.octets
   pub count : length bs ≡ x.count
 
+-- and no others
+abbrev pub HoldsOnly : Octets → List Block → Type 0
+HoldsOnly x bs = Holds x bs × ((ds : List Block) → Holds x ds → ds ≡ bs)
+
 -- contents that are the octets of x, which are blocks of the kind
 pub record IsListed (kind : ResourceKind) (x : Octets) (c : List ℕ) : Type 0 where
   pub kind_is : x.kind ≡ kind

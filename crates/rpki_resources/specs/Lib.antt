@@ -6,3 +6,4 @@ pub mod AsNumber
 pub mod Listed
 pub mod InPlace
 pub mod Extension
+pub mod Kept

@@ -1,11 +1,13 @@
 //! Sets of numbers.
 
-ghost use Rattle.std.specs.Prelude.{◌≡◌, ◌≤◌, ◌↔◌, [], ◌∷◌, IsTrue, IfSome, IfNone};
+ghost use Rattle.std.specs.Prelude.{◌≡◌, ◌≤◌, ◌↔◌, [], ◌∷◌, IsTrue, IfSome, IfNone, IfOk};
 ghost use Rattle.rpki_resources.specs.Blocks.{IsAmong, IsSubset, AreCanonical};
+ghost use Rattle.rpki_resources.specs.InPlace.{HoldsOnly};
 
 use crate::block::Block;
 use crate::canonical::are_canonical;
-use std::alloc::Global;
+use crate::view::BlocksView;
+use std::alloc::{AllocError, Global};
 use std::marker::Model;
 
 /// A set of numbers, as the blocks that it is made of: in canonical form, so that a set has one list.
@@ -86,6 +88,20 @@ impl Blocks {
             return None;
         }
         Some(Blocks { items })
+    }
+
+    /// Keeps the blocks that were read in place. They are allocated once.
+    ///
+    /// Returns `AllocError` if allocation fails.
+    pub fn from_view(alloc: Global, view: &BlocksView<'_>) -> Result<Blocks, AllocError>
+        ensures { IfOk result (λ bs. HoldsOnly view.now bs) }
+    {
+        let mut items = Vec::with_capacity(alloc, view.count())?;
+        let mut rest = view.blocks();
+        'each: while let Some(block) = rest.next_block() {
+            items.push(block)?;
+        }
+        Ok(Blocks { items })
     }
 
     /// The blocks, in order.

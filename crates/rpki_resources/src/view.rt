@@ -1,6 +1,6 @@
 //! Blocks in place: octets that were validated once, and a cursor over their blocks.
 
-ghost use Rattle.std.specs.Prelude.{◌≡◌, List};
+ghost use Rattle.std.specs.Prelude.{◌≡◌, ◌<◌, List, length, IfSome};
 ghost use Rattle.rpki_der.specs.Cursor.{left};
 ghost use Rattle.rpki_der.specs.FirstFault.{ReadsParts};
 ghost use Rattle.rpki_resources.specs.declared.block.Block.{Block};
@@ -117,7 +117,8 @@ impl<'a> BlocksView<'a> {
 
     /// A cursor over the blocks, in order.
     pub fn blocks(&self) -> BlockCursor<'a>
-        ensures { (bs : List Block) → Holds self.now bs → IsLeft result bs }
+        ensures blocks { (bs : List Block) → Holds self.now bs → IsLeft result bs }
+        ensures held { (bs : List Block) × Holds self.now bs }
     {
         BlockCursor {
             kind: self.kind,
@@ -130,7 +131,8 @@ impl<'a> BlocksView<'a> {
 impl<'a> BlockCursor<'a> {
     /// The next block; None where none is left.
     pub fn next_block(&mut self) -> Option<Block>
-        ensures { (bs : List Block) → IsLeft self.old bs → Gives bs result self.new }
+        ensures given { (bs : List Block) → IsLeft self.old bs → Gives bs result self.new }
+        ensures shorter { IfSome result (λ _. length self.new.octets < length self.old.octets) }
     {
         if self.rest.is_empty() {
             return None;
