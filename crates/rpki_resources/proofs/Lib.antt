@@ -14,3 +14,5 @@ pub mod ExtensionLaws
 pub mod FamilyLaws
 pub mod KeptLaws
 pub mod NoMemoryLaws
+pub mod MergeLaws
+pub mod SettledLaws

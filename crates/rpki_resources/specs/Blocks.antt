@@ -1,5 +1,5 @@
 -- Sets of numbers, as lists of blocks (RFC 3779 2.2.3.6, 2.2.3.7, 3.2.3.4).
-use Rattle.std.specs.Prelude.{◌≤◌, ◌<◌, ◌⊎◌, ℕ, suc, List, [], ◌∷◌}
+use Rattle.std.specs.Prelude.{◌≤◌, ◌<◌, ◌⊎◌, ◌↔◌, ℕ, suc, List, [], ◌∷◌, Option, Some, None}
 use Rattle.rpki_resources.specs.declared.block.Block.{Block}
 
 -- the numbers of a block: from its lowest to its highest, both among them
@@ -25,3 +25,20 @@ IsPast high (b ∷ bs) = suc high < b.low
 abbrev pub AreCanonical : List Block → Type 0
 AreCanonical [] = Unit {0}
 AreCanonical (b ∷ bs) = (b.low ≤ b.high) × IsPast b.high bs × AreCanonical bs
+
+-- ---- operations on sets
+
+-- no block, or one
+abbrev pub blocks_of : Option Block → List Block
+blocks_of None = []
+blocks_of (Some b) = b ∷ []
+
+-- the numbers of both blocks
+pub record IsOverlap (x y : Block) (o : Option Block) : Type 0 where
+  pub numbers : (n : ℕ) → IsAmong n (blocks_of o) ↔ (IsIn n x × IsIn n y)
+  pub canonical : AreCanonical (blocks_of o)
+
+-- the numbers of both lists, in canonical form
+pub record AreShared (xs ys found : List Block) : Type 0 where
+  pub numbers : (n : ℕ) → IsAmong n found ↔ (IsAmong n xs × IsAmong n ys)
+  pub canonical : AreCanonical found

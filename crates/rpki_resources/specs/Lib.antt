@@ -7,3 +7,4 @@ pub mod Listed
 pub mod InPlace
 pub mod Extension
 pub mod Kept
+pub mod Settled

@@ -1,11 +1,12 @@
 //! Sets of numbers.
 
 ghost use Rattle.std.specs.Prelude.{◌≡◌, ◌≤◌, ◌↔◌, [], ◌∷◌, IsTrue, IfSome, IfNone, IfOk};
-ghost use Rattle.rpki_resources.specs.Blocks.{IsAmong, IsSubset, AreCanonical};
+ghost use Rattle.rpki_resources.specs.Blocks.{IsAmong, IsSubset, AreCanonical, AreShared};
 ghost use Rattle.rpki_resources.specs.InPlace.{HoldsOnly};
 
 use crate::block::Block;
 use crate::canonical::are_canonical;
+use crate::merge::shared;
 use crate::view::BlocksView;
 use std::alloc::{AllocError, Global};
 use std::marker::Model;
@@ -139,5 +140,25 @@ impl Blocks {
         ensures { IsTrue result ↔ IsSubset (block ∷ []) self.now }
     {
         is_part(&[block], self.as_slice())
+    }
+
+    /// A copy of the set, which is allocated once.
+    ///
+    /// Returns `AllocError` if allocation fails.
+    pub fn clone(&self, alloc: Global) -> Result<Blocks, AllocError>
+        ensures { IfOk result (λ x. x ≡ self.now) }
+    {
+        let items = Vec::from_slice(alloc, self.items.as_slice())?;
+        Ok(Blocks { items })
+    }
+
+    /// The numbers that are in both sets. It goes over the blocks of both once.
+    ///
+    /// Returns `AllocError` if allocation fails.
+    pub fn intersection(&self, alloc: Global, other: &Blocks) -> Result<Blocks, AllocError>
+        ensures { IfOk result (λ x. AreShared self.now other.now x) }
+    {
+        let items = shared(alloc, self.as_slice(), other.as_slice())?;
+        Ok(Blocks { items })
     }
 }

@@ -19,8 +19,10 @@ mod kept;
 mod kind;
 mod listed;
 pub mod laws;
+mod merge;
 mod prefix;
 mod resources;
+mod settled;
 mod view;
 
 pub use address::Address;
@@ -35,4 +37,5 @@ pub use choice_view::ChoiceView;
 pub use ip_reading::{take_family, take_ip_resources};
 pub use ip_view::IpResourcesView;
 pub use kind::ResourceKind;
+pub use settled::SettleError;
 pub use view::{BlockCursor, BlocksView};
