@@ -1,5 +1,5 @@
 -- Sets of numbers, as lists of blocks.
-use Rattle.std.proofs.Common.{◌≡◌, ◌≤◌, ◌<◌, ◌↔◌, ℕ, suc, List, [], ◌∷◌, inl, inr, refl, sym, ap, ◌∙◌, subst, length, arith}
+use Rattle.std.proofs.Common.{◌≡◌, ◌≤◌, ◌<◌, ◌⊎◌, ◌↔◌, ℕ, zero, suc, List, [], ◌∷◌, inl, inr, refl, sym, ap, ◌∙◌, subst, length, arith}
 use Rattle.rpki_resources.specs.declared.block.Block.{Block}
 use Rattle.rpki_resources.specs.Blocks.{IsIn, IsAmong, IsSubset, IsPast, AreCanonical}
 
@@ -178,3 +178,10 @@ not-canonical xs ys bs b e same wrong c =
 
 pub all-canonical : (xs ys : List Block) → ys ≡ [] → AreCanonical xs ↔ AreCanonical ys → AreCanonical xs
 all-canonical xs ys e same = same.1 (subst AreCanonical (sym e) tt)
+
+-- ---- a number is below another, or not
+
+pub split : (n m : ℕ) → (n < m) ⊎ (m ≤ n)
+split n zero = inr (omega arith)
+split zero (suc m) = inl (omega arith)
+split (suc n) (suc m) = elim (split n m) [ inl h ↦ inl (omega (arith, h)) | inr h ↦ inr (omega (arith, h)) ]

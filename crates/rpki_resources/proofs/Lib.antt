@@ -15,4 +15,5 @@ pub mod FamilyLaws
 pub mod KeptLaws
 pub mod NoMemoryLaws
 pub mod MergeLaws
+pub mod DifferenceLaws
 pub mod SettledLaws

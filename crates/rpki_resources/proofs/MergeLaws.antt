@@ -52,7 +52,7 @@ overlap-swapped x y o h = record {
 }
 
 -- what is found in one block and goes before what is found behind it
-put-before : (x : Block) (later ms : List Block) (o : Option Block) → AreCanonical (x ∷ later) → ((n : ℕ) → IsAmong n (blocks_of o) → IsIn n x) → AreCanonical (blocks_of o) → AreCanonical ms
+pub put-before : (x : Block) (later ms : List Block) (o : Option Block) → AreCanonical (x ∷ later) → ((n : ℕ) → IsAmong n (blocks_of o) → IsIn n x) → AreCanonical (blocks_of o) → AreCanonical ms
     → IsSubset ms later → AreCanonical (blocks_of o ++ ms)
 put-before x later ms None c within h d sub = d
 put-before x later ms (Some b) c within h d sub = (h.0, past ms d sub, d) where

@@ -42,3 +42,18 @@ pub record IsOverlap (x y : Block) (o : Option Block) : Type 0 where
 pub record AreShared (xs ys found : List Block) : Type 0 where
   pub numbers : (n : ℕ) → IsAmong n found ↔ (IsAmong n xs × IsAmong n ys)
   pub canonical : AreCanonical found
+
+-- the number is below the first block
+abbrev pub IsBelow : ℕ → List Block → Type 0
+IsBelow n [] = Unit {0}
+IsBelow n (b ∷ bs) = n < b.low
+
+-- the numbers of x from this one on that are below the first of ys
+pub record IsGap (x : Block) (from : ℕ) (ys : List Block) (o : Option Block) : Type 0 where
+  pub numbers : (n : ℕ) → IsAmong n (blocks_of o) ↔ (IsIn n x × (from ≤ n) × IsBelow n ys)
+  pub canonical : AreCanonical (blocks_of o)
+
+-- the numbers of the one list that aren't in the other, in canonical form
+pub record AreLacking (xs ys found : List Block) : Type 0 where
+  pub numbers : (n : ℕ) → IsAmong n found ↔ (IsAmong n xs × (IsAmong n ys → ⊥))
+  pub canonical : AreCanonical found

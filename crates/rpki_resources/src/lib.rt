@@ -12,6 +12,7 @@ mod choice_reading;
 mod choice_view;
 mod blocks;
 mod canonical;
+mod difference;
 mod family;
 mod ip_reading;
 mod ip_view;

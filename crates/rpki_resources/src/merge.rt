@@ -19,7 +19,7 @@ fn overlap(one: Block, other: Block) -> Option<Block>
 }
 
 /// Appends the block, where there is one.
-fn push_some(blocks: &mut Vec<Block>, block: Option<Block>) -> Result<(), AllocError>
+pub fn push_some(blocks: &mut Vec<Block>, block: Option<Block>) -> Result<(), AllocError>
     ensures { IfOk result (λ _. blocks.new.items ≡ blocks.old.items ++ blocks_of block) }
 {
     match block {
