@@ -16,4 +16,5 @@ pub mod KeptLaws
 pub mod NoMemoryLaws
 pub mod MergeLaws
 pub mod DifferenceLaws
+pub mod UnionLaws
 pub mod SettledLaws

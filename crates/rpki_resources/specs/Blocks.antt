@@ -57,3 +57,8 @@ pub record IsGap (x : Block) (from : ℕ) (ys : List Block) (o : Option Block) :
 pub record AreLacking (xs ys found : List Block) : Type 0 where
   pub numbers : (n : ℕ) → IsAmong n found ↔ (IsAmong n xs × (IsAmong n ys → ⊥))
   pub canonical : AreCanonical found
+
+-- the numbers of both lists together, in canonical form
+pub record AreUnited (xs ys found : List Block) : Type 0 where
+  pub numbers : (n : ℕ) → IsAmong n found ↔ (IsAmong n xs ⊎ IsAmong n ys)
+  pub canonical : AreCanonical found

@@ -1,12 +1,14 @@
 //! Sets of numbers.
 
 ghost use Rattle.std.specs.Prelude.{◌≡◌, ◌≤◌, ◌↔◌, [], ◌∷◌, IsTrue, IfSome, IfNone, IfOk};
-ghost use Rattle.rpki_resources.specs.Blocks.{IsAmong, IsSubset, AreCanonical, AreShared};
+ghost use Rattle.rpki_resources.specs.Blocks.{IsAmong, IsSubset, AreCanonical, AreShared, AreUnited, AreLacking};
 ghost use Rattle.rpki_resources.specs.InPlace.{HoldsOnly};
 
 use crate::block::Block;
 use crate::canonical::are_canonical;
+use crate::difference::lacking;
 use crate::merge::shared;
+use crate::union::united;
 use crate::view::BlocksView;
 use std::alloc::{AllocError, Global};
 use std::marker::Model;
@@ -159,6 +161,26 @@ impl Blocks {
         ensures { IfOk result (λ x. AreShared self.now other.now x) }
     {
         let items = shared(alloc, self.as_slice(), other.as_slice())?;
+        Ok(Blocks { items })
+    }
+
+    /// The numbers that are in one of the sets, or in both. It goes over the blocks of both once.
+    ///
+    /// Returns `AllocError` if allocation fails.
+    pub fn union(&self, alloc: Global, other: &Blocks) -> Result<Blocks, AllocError>
+        ensures { IfOk result (λ x. AreUnited self.now other.now x) }
+    {
+        let items = united(alloc, self.as_slice(), other.as_slice())?;
+        Ok(Blocks { items })
+    }
+
+    /// The numbers of this set that aren't in the other. It goes over the blocks of both once.
+    ///
+    /// Returns `AllocError` if allocation fails.
+    pub fn difference(&self, alloc: Global, other: &Blocks) -> Result<Blocks, AllocError>
+        ensures { IfOk result (λ x. AreLacking self.now other.now x) }
+    {
+        let items = lacking(alloc, self.as_slice(), other.as_slice())?;
         Ok(Blocks { items })
     }
 }

@@ -24,6 +24,7 @@ mod merge;
 mod prefix;
 mod resources;
 mod settled;
+mod union;
 mod view;
 
 pub use address::Address;

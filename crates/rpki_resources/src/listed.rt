@@ -7,6 +7,7 @@ ghost use Rattle.rpki_resources.specs.Listed.{SpellsBlockOf, IsBlockFaultOf, Fol
 
 use crate::as_number;
 use crate::block::Block;
+use crate::canonical::begins_past;
 use crate::kind::ResourceKind;
 use crate::prefix;
 use rpki_der::{Constructed, DecodeError};
@@ -26,7 +27,7 @@ fn follows(last: Option<u128>, block: Block) -> bool
     ensures { IsTrue result ↔ Follows last block }
 {
     match last {
-        Some(high) => block.low > high && block.low - high > 1,
+        Some(high) => begins_past(high, block),
         None => true,
     }
 }
