@@ -9,3 +9,4 @@ pub mod InPlace
 pub mod Extension
 pub mod Kept
 pub mod Settled
+pub mod Text

@@ -6,6 +6,7 @@
 
 mod address;
 mod as_number;
+mod as_text;
 mod block;
 mod choice;
 mod choice_reading;
@@ -16,6 +17,7 @@ mod difference;
 mod family;
 mod ip_reading;
 mod ip_view;
+mod ip_text;
 mod kept;
 mod kind;
 mod listed;
@@ -29,6 +31,7 @@ mod view;
 
 pub use address::Address;
 pub use as_number::take_as_number;
+pub use as_text::{AsBlock, AsRange, Asn};
 pub use block::Block;
 pub use blocks::Blocks;
 pub use family::AddressFamily;
@@ -37,6 +40,7 @@ pub use resources::{AsResources, IpResources};
 pub use choice_reading::take_as_resources;
 pub use choice_view::ChoiceView;
 pub use ip_reading::{take_family, take_ip_resources};
+pub use ip_text::{AddressRange, IpBlock, Prefix};
 pub use ip_view::IpResourcesView;
 pub use kind::ResourceKind;
 pub use settled::SettleError;
