@@ -1,6 +1,6 @@
 //! The resources that certificates have, down a chain (RFC 6487 7.2, RFC 8360 4.2).
 
-ghost use Rattle.std.specs.Prelude.{◌≡◌, ◌≢◌, ◌↔◌, IsTrue, IfOk, IfErr};
+ghost use Rattle.std.specs.Prelude.{◌≡◌, ◌≢◌, ◌↔◌, IsTrue, IsOk, IfOk, IfErr};
 ghost use Rattle.rpki_resources.specs.Settled.{IsWithin, IsAnchored, IsSettled, IsTrimmed};
 
 use crate::blocks::Blocks;
@@ -67,6 +67,7 @@ impl ResourcesChoice {
         ensures settled { IfOk result (λ x. IsAnchored self.now x) }
         ensures refused { IfErr result (λ e. (e ≡ SettleError.Inherits) ↔ (self.now ≡ ResourcesChoice.Inherit)) }
         ensures other { IfErr result (λ e. e ≢ SettleError.Overclaim) }
+        ensures none { self.now ≡ ResourcesChoice.Missing → IsOk result }
     {
         match self {
             ResourcesChoice::Missing => Ok(Blocks::empty(alloc)),
@@ -79,11 +80,12 @@ impl ResourcesChoice {
     /// the issuer's, or those that are listed.
     ///
     /// Returns `Overclaim` exactly where resources are listed that the issuer doesn't have; else `OutOfMemory` if
-    /// allocation fails.
+    /// allocation fails, which nothing is allocated for where there are none.
     pub fn settle(&self, alloc: Global, issuer: &Blocks) -> Result<Blocks, SettleError>
         ensures settled { IfOk result (λ x. IsSettled self.now issuer.now x) }
         ensures refused { IfErr result (λ e. (e ≡ SettleError.Overclaim) ↔ ¬ IsWithin self.now issuer.now) }
         ensures other { IfErr result (λ e. e ≢ SettleError.Inherits) }
+        ensures none { self.now ≡ ResourcesChoice.Missing → IsOk result }
     {
         if !self.is_within(issuer) {
             return Err(SettleError::Overclaim);
@@ -100,7 +102,8 @@ impl ResourcesChoice {
     ///
     /// Returns `AllocError` if allocation fails.
     pub fn trim(&self, alloc: Global, issuer: &Blocks) -> Result<Blocks, AllocError>
-        ensures { IfOk result (λ x. IsTrimmed self.now issuer.now x) }
+        ensures trimmed { IfOk result (λ x. IsTrimmed self.now issuer.now x) }
+        ensures none { self.now ≡ ResourcesChoice.Missing → IsOk result }
     {
         match self {
             ResourcesChoice::Missing => Ok(Blocks::empty(alloc)),

@@ -5,15 +5,21 @@
 
 mod accepted;
 mod chains;
-mod hostile;
+mod hostile_around;
+mod hostile_ipv4;
+mod hostile_ipv6;
+mod hostile_numbers;
 mod pairs;
 mod sets;
 mod sizes;
+
+ghost use Rattle.std.specs.Prelude.{◌<◌};
 
 use rpki_der::{Constructed, DecodeError};
 use rpki_der_tests::kinds::{Outcome, refused};
 use rpki_resources::*;
 use std::alloc::{AllocError, Global};
+use std::net::{IpAddr, Ipv4Addr, Ipv6Addr};
 use std::test::Fail;
 
 /// The extension that a row has.
@@ -63,11 +69,10 @@ fn digit(code: u8) -> u8
 
 /// The octets that hexadecimal digits write.
 fn octets_of(alloc: Global, text: &str) -> Result<Vec<u8>, AllocError> {
+    let digits = text.as_bytes();
     let mut octets = Vec::new(alloc);
-    let mut rest = text.as_bytes();
-    while let [high, low, following @ ..] = rest {
-        octets.push(digit(*high) * 16 + digit(*low))?;
-        rest = following;
+    for index in 0..digits.len() / 2 {
+        octets.push(digit(digits[2 * index]) * 16 + digit(digits[2 * index + 1]))?;
     }
     Ok(octets)
 }
@@ -107,20 +112,18 @@ fn is_choice(choice: &ResourcesChoice, expected: Choice) -> bool {
 
 /// Whether the blocks that were read in place are these.
 fn are_blocks_in_place(view: &BlocksView<'_>, expected: &[(u128, u128)]) -> bool {
-    let mut rest = expected;
     let mut blocks = view.blocks();
-    while let Some(block) = blocks.next_block() {
-        match rest.split_first() {
-            Some(((low, high), following)) => {
+    for (low, high) in expected {
+        match blocks.next_block() {
+            Some(block) => {
                 if block.low != *low || block.high != *high {
                     return false;
                 }
-                rest = following;
             }
             None => return false,
         }
     }
-    rest.is_empty() && view.count() == expected.len()
+    blocks.next_block().is_none() && view.count() == expected.len()
 }
 
 /// Whether the choice that was read in place is this.
@@ -201,19 +204,56 @@ fn accepted_contents(rt: HostRuntime) -> Result<(), Fail> {
     Ok(())
 }
 
-#[test]
-fn hostile_contents(rt: HostRuntime) -> Result<(), Fail> {
-    for (name, kind, text, expected) in hostile::rows() {
-        let octets = octets_of(rt.alloc(), text)?;
-        assert!(rt;
-            is_kept(rt.alloc(), *kind, octets.as_slice(), *expected),
-            "{name}"
-        );
-        assert!(rt;
-            is_in_place(*kind, octets.as_slice(), *expected),
-            "{name}, in place"
-        );
+/// Whether each of the rows is rejected as it says, kept and in place; else the name of the first that isn't.
+fn unlike(
+    alloc: Global,
+    rows: &'static [(&'static str, Kind, &'static str, Found)],
+) -> Result<Option<&'static str>, AllocError> {
+    for (name, kind, text, expected) in rows {
+        let octets = octets_of(alloc, text)?;
+        if !is_kept(alloc, *kind, octets.as_slice(), *expected) {
+            return Ok(Some(*name));
+        }
+        if !is_in_place(*kind, octets.as_slice(), *expected) {
+            return Ok(Some(*name));
+        }
     }
+    Ok(None)
+}
+
+#[test]
+fn hostile_families(rt: HostRuntime) -> Result<(), Fail> {
+    let first = unlike(rt.alloc(), hostile_around::first())?;
+    assert!(rt; first.is_none(), "{first:?}");
+    let second = unlike(rt.alloc(), hostile_around::second())?;
+    assert!(rt; second.is_none(), "{second:?}");
+    Ok(())
+}
+
+#[test]
+fn hostile_blocks(rt: HostRuntime) -> Result<(), Fail> {
+    let first = unlike(rt.alloc(), hostile_ipv4::first())?;
+    assert!(rt; first.is_none(), "{first:?}");
+    let second = unlike(rt.alloc(), hostile_ipv4::second())?;
+    assert!(rt; second.is_none(), "{second:?}");
+    Ok(())
+}
+
+#[test]
+fn hostile_blocks_of_version_6(rt: HostRuntime) -> Result<(), Fail> {
+    let first = unlike(rt.alloc(), hostile_ipv6::first())?;
+    assert!(rt; first.is_none(), "{first:?}");
+    let second = unlike(rt.alloc(), hostile_ipv6::second())?;
+    assert!(rt; second.is_none(), "{second:?}");
+    Ok(())
+}
+
+#[test]
+fn hostile_as_identifiers(rt: HostRuntime) -> Result<(), Fail> {
+    let first = unlike(rt.alloc(), hostile_numbers::first())?;
+    assert!(rt; first.is_none(), "{first:?}");
+    let second = unlike(rt.alloc(), hostile_numbers::second())?;
+    assert!(rt; second.is_none(), "{second:?}");
     Ok(())
 }
 
@@ -227,4 +267,63 @@ fn blocks_of(alloc: Global, blocks: &[(u128, u128)]) -> Result<Option<Blocks>, A
         })?;
     }
     Ok(Blocks::from_canonical(items))
+}
+
+/// A block of AS numbers, and its text; None where it has none.
+const NUMBER_TEXTS: &[(u128, u128, Option<&str>)] = &[
+    (64496, 64496, Some("AS64496")),
+    (1, 5, Some("AS1-AS5")),
+    (0, 4_294_967_295, Some("AS0-AS4294967295")),
+    (4_294_967_295, 4_294_967_295, Some("AS4294967295")),
+    (0, 4_294_967_296, None),
+    (5, 1, None),
+];
+
+fn number_texts() -> &'static [(u128, u128, Option<&'static str>)] {
+    NUMBER_TEXTS
+}
+
+/// Whether the block has this text.
+fn has_text(alloc: Global, block: Block, expected: Option<&str>) -> Result<bool, AllocError> {
+    match (AsBlock::of(block), expected) {
+        (Some(found), Some(expected)) => {
+            let text = format!(in alloc; "{found}")?;
+            Ok(text.as_str() == expected)
+        }
+        (None, None) => Ok(true),
+        _ => Ok(false),
+    }
+}
+
+#[test]
+fn texts_of_numbers(rt: HostRuntime) -> Result<(), Fail> {
+    for (low, high, expected) in number_texts() {
+        let block = Block {
+            low: *low,
+            high: *high,
+        };
+        assert!(rt; has_text(rt.alloc(), block, *expected)?, "{low} {high}");
+    }
+    Ok(())
+}
+
+/// Whether prefixes and ranges have the texts of RFC 5952 and of dotted octets.
+fn have_texts(alloc: Global) -> Result<bool, AllocError> {
+    let v4 = IpAddr::V4(Ipv4Addr::new(10, 0, 0, 0));
+    let last = IpAddr::V4(Ipv4Addr::new(10, 0, 0, 5));
+    let v6 = IpAddr::V6(Ipv6Addr::new(0x2001, 0xdb8, 0, 0, 0, 0, 0, 0));
+    let prefix = IpBlock::Prefix(Prefix { addr: v4, len: 8 });
+    let range = IpBlock::Range(AddressRange { min: v4, max: last });
+    let long = IpBlock::Prefix(Prefix { addr: v6, len: 32 });
+    Ok(
+        format!(in alloc; "{prefix}")?.as_str() == "10.0.0.0/8"
+            && format!(in alloc; "{range}")?.as_str() == "10.0.0.0-10.0.0.5"
+            && format!(in alloc; "{long}")?.as_str() == "2001:db8::/32",
+    )
+}
+
+#[test]
+fn texts_of_addresses(rt: HostRuntime) -> Result<(), Fail> {
+    assert!(rt; have_texts(rt.alloc())?);
+    Ok(())
 }
