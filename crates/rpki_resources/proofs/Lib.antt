@@ -17,4 +17,5 @@ pub mod NoMemoryLaws
 pub mod MergeLaws
 pub mod DifferenceLaws
 pub mod UnionLaws
+pub mod EqualBlocksLaws
 pub mod SettledLaws

@@ -10,3 +10,7 @@ pub mod Extension
 pub mod Kept
 pub mod Settled
 pub mod Text
+pub mod Equal
+
+-- Lemmas that an `impl` cites.
+pub mod EqualLaws

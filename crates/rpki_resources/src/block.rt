@@ -4,7 +4,7 @@ ghost use Rattle.std.specs.Prelude.{◌↔◌, IsTrue};
 ghost use Rattle.rpki_resources.specs.Blocks.{IsIn};
 
 /// The numbers from one to another, both among them: addresses of one family, or AS numbers.
-#[derive(Clone, Copy, Debug, PartialEq, Eq)]
+#[derive(Clone, Copy, Debug)]
 pub struct Block {
     /// The lowest number.
     pub low: u128,
@@ -19,4 +19,25 @@ impl Block {
     {
         self.low <= number && number <= self.high
     }
+}
+
+/// Two blocks are equal where their lowest and their highest numbers are.
+impl PartialEq for Block {
+    ghost use Rattle.std.specs.Cmp.{partial_equiv_from_equiv};
+    ghost use Rattle.rpki_resources.specs.Equal.{same_block};
+    ghost use Rattle.rpki_resources.specs.EqualLaws.{same_block_equivalence};
+
+    ghost eq = { same_block };
+
+    ghost laws = { partial_equiv_from_equiv same_block_equivalence };
+
+    fn eq(&self, other: &Block) -> bool {
+        self.low == other.low && self.high == other.high
+    }
+}
+
+impl Eq for Block {
+    ghost use Rattle.rpki_resources.specs.EqualLaws.{same_block_equivalence};
+
+    ghost laws = { same_block_equivalence };
 }

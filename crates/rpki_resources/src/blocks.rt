@@ -184,3 +184,24 @@ impl Blocks {
         Ok(Blocks { items })
     }
 }
+
+/// Two sets are equal where they have the same numbers (`laws::equal_blocks_are_one_set`).
+impl PartialEq for Blocks {
+    ghost use Rattle.std.specs.Cmp.{partial_equiv_from_equiv};
+    ghost use Rattle.rpki_resources.specs.Equal.{same_blocks};
+    ghost use Rattle.rpki_resources.specs.EqualLaws.{same_blocks_equivalence};
+
+    ghost eq = { same_blocks };
+
+    ghost laws = { partial_equiv_from_equiv same_blocks_equivalence };
+
+    fn eq(&self, other: &Blocks) -> bool {
+        self.as_slice() == other.as_slice()
+    }
+}
+
+impl Eq for Blocks {
+    ghost use Rattle.rpki_resources.specs.EqualLaws.{same_blocks_equivalence};
+
+    ghost laws = { same_blocks_equivalence };
+}

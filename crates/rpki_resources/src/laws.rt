@@ -1,6 +1,7 @@
 //! Laws of the definitions.
 
-ghost use Rattle.std.specs.Prelude.{◌≡◌, ◌↔◌, ◌++◌, List};
+ghost use Rattle.std.specs.Prelude.{◌≡◌, ◌↔◌, ◌++◌, List, IsTrue};
+ghost use Rattle.rpki_resources.specs.Equal.{same_blocks};
 ghost use Rattle.rpki_resources.specs.declared.choice.ResourcesChoice.{ResourcesChoice};
 ghost use Rattle.rpki_resources.specs.Settled.{SettlesDown};
 ghost use Rattle.rpki_resources.specs.declared.block.Block.{Block};
@@ -21,4 +22,10 @@ pub fn chains_settle_within()
 pub fn chains_join()
     ensures { (top bottom : List Block) (upper lower : List ResourcesChoice) → SettlesDown top (upper ++ lower) bottom
         ↔ ((middle : List Block) × SettlesDown top upper middle × SettlesDown middle lower bottom) }
+{}
+
+/// What `==` says of two sets: they have the same numbers.
+pub fn equal_blocks_are_one_set()
+    ensures { (xs ys : List Block) → AreCanonical xs → AreCanonical ys
+        → IsTrue (same_blocks xs ys) ↔ (IsSubset xs ys × IsSubset ys xs) }
 {}
