@@ -40,9 +40,9 @@ module _ {V : Type 0} (t : TagName) (G H : V → List ℕ → Type 0) (K L : Kin
   one-refused e tag h = record {
     unchanged = h.unchanged;
     refuses = UnlessMemory-weaker e (λ none w q k. elim k.spelled [
-        | inl g ↦ none w q (as-one w q k g)
-        | inr g ↦ untagged s w q (as-other w q k g) tag
-      ]) h.refuses;
+      | inl g ↦ none w q (as-one w q k g)
+      | inr g ↦ untagged s w q (as-other w q k g) tag
+    ]) h.refuses;
     kind = inl (tag, h.kind);
   }
 
@@ -59,9 +59,9 @@ module _ {V : Type 0} (t : TagName) (G H : V → List ℕ → Type 0) (K L : Kin
   other-refused e other h = record {
     unchanged = h.unchanged;
     refuses = UnlessMemory-weaker e (λ none w q k. elim k.spelled [
-        | inl g ↦ other (tagged s w q (as-one w q k g))
-        | inr g ↦ none w q (as-other w q k g)
-      ]) h.refuses;
+      | inl g ↦ other (tagged s w q (as-one w q k g))
+      | inr g ↦ none w q (as-other w q k g)
+    ]) h.refuses;
     kind = inr (other, h.kind);
   }
 

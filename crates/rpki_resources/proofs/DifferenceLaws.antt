@@ -64,9 +64,9 @@ module _ (one other found xs ys : List Block) (from : ℕ) (m : Lacking one othe
       room-then : (ms : List Block) → AreCanonical ms → ((n : ℕ) → IsAmong n ms → Lacks start vs ws n) → AreCanonical ((found ++ blocks_of o) ++ ms)
       room-then ms c a =
           let all : (n : ℕ) → IsAmong n (blocks_of o ++ ms) → Lacks from xs ys n = λ n h. elim ((among-append n (blocks_of o) ms).0 h) [
-              | inl k ↦ of-gap n k
-              | inr k ↦ back n (a n k)
-            ] in
+            | inl k ↦ of-gap n k
+            | inr k ↦ back n (a n k)
+          ] in
           subst AreCanonical (sym (append_assoc found (blocks_of o) ms)) (m.room (blocks_of o ++ ms) (before ms c a) all)
 
     -- the block of the one is done with: the other has none, or one that ends behind it
@@ -146,10 +146,13 @@ module _ (one other found xs ys : List Block) (from : ℕ) (m : Lacking one othe
   -- the one list is gone
   pub all-lacking : xs ≡ [] → AreLacking one other found
   all-lacking end = record {
-    numbers = λ n. (λ a. (m.same n).1 (inl a), λ a. elim ((m.same n).0 a) [
+    numbers = λ n. (
+      λ a. (m.same n).1 (inl a),
+      λ a. elim ((m.same n).0 a) [
         | inl b ↦ b
         | inr b ↦ absurd (subst (IsAmong n) end b.0)
-      ]);
+      ],
+    );
     canonical = subst AreCanonical (append-nil found) (m.room [] tt (λ n a. absurd a));
   }
 

@@ -67,9 +67,9 @@ put-before x later ms (Some b) c within h d sub = (h.0, past ms d sub, d) where
 module _ (one other found later others : List Block) (x y : Block) (o : Option Block) (m : Merging one other found (x ∷ later) (y ∷ others)) (overlap : IsOverlap x y o) (first : x.high ≤ y.high) where
   forth : (n : ℕ) → IsAmong n one × IsAmong n other → IsAmong n (found ++ blocks_of o) ⊎ (IsAmong n later × IsAmong n (y ∷ others))
   forth n a = elim ((m.same n).0 a) [
-      | inl b ↦ inl ((among-append n found (blocks_of o)).1 (inl b))
-      | inr b ↦ both b.0 b.1
-    ] where
+    | inl b ↦ inl ((among-append n found (blocks_of o)).1 (inl b))
+    | inr b ↦ both b.0 b.1
+  ] where
     both : IsAmong n (x ∷ later) → IsAmong n (y ∷ others) → IsAmong n (found ++ blocks_of o) ⊎ (IsAmong n later × IsAmong n (y ∷ others))
     both (inl p) (inl q) = inl ((among-append n found (blocks_of o)).1 (inr ((overlap.numbers n).1 (p, q))))
     both (inl p) (inr q) =
@@ -80,22 +80,22 @@ module _ (one other found later others : List Block) (x y : Block) (o : Option B
 
   back : (n : ℕ) → IsAmong n (found ++ blocks_of o) ⊎ (IsAmong n later × IsAmong n (y ∷ others)) → IsAmong n one × IsAmong n other
   back n (inl a) = elim ((among-append n found (blocks_of o)).0 a) [
-      | inl b ↦ (m.same n).1 (inl b)
-      | inr b ↦ (let k = (overlap.numbers n).0 b in (m.same n).1 (inr (inl k.0, inl k.1)))
-    ]
+    | inl b ↦ (m.same n).1 (inl b)
+    | inr b ↦ (let k = (overlap.numbers n).0 b in (m.same n).1 (inr (inl k.0, inl k.1)))
+  ]
   back n (inr a) = (m.same n).1 (inr (inr a.0, a.1))
 
   fits : (ms : List Block) → AreCanonical ms → IsSubset ms later → IsSubset ms (y ∷ others) → AreCanonical ((found ++ blocks_of o) ++ ms)
   fits ms c a b =
       let both = put-before x later ms o m.xs_are (λ n k. ((overlap.numbers n).0 k).0) overlap.canonical c a in
       let in_xs : IsSubset (blocks_of o ++ ms) (x ∷ later) = λ n k. elim ((among-append n (blocks_of o) ms).0 k) [
-          | inl h ↦ inl ((overlap.numbers n).0 h).0
-          | inr h ↦ inr (a n h)
-        ] in
+        | inl h ↦ inl ((overlap.numbers n).0 h).0
+        | inr h ↦ inr (a n h)
+      ] in
       let in_ys : IsSubset (blocks_of o ++ ms) (y ∷ others) = λ n k. elim ((among-append n (blocks_of o) ms).0 k) [
-          | inl h ↦ inl ((overlap.numbers n).0 h).1
-          | inr h ↦ b n h
-        ] in
+        | inl h ↦ inl ((overlap.numbers n).0 h).1
+        | inr h ↦ b n h
+      ] in
       subst AreCanonical (sym (append_assoc found (blocks_of o) ms)) (m.room (blocks_of o ++ ms) both in_xs in_ys)
 
   pub one-done : Merging one other (found ++ blocks_of o) later (y ∷ others)
@@ -110,10 +110,13 @@ other-done one other found later others x y o m overlap first =
 -- a list is gone
 pub all-shared : (one other found xs ys : List Block) → Merging one other found xs ys → xs ≡ [] → AreShared one other found
 all-shared one other found xs ys m end = record {
-  numbers = λ n. (λ a. (m.same n).1 (inl a), λ a. elim ((m.same n).0 a) [
+  numbers = λ n. (
+    λ a. (m.same n).1 (inl a),
+    λ a. elim ((m.same n).0 a) [
       | inl b ↦ b
       | inr b ↦ absurd (subst (λ (zs : List Block). IsAmong n zs) end b.0)
-    ]);
+    ],
+  );
   canonical = subst AreCanonical (append-nil found) (m.room [] tt (λ n a. absurd a) (λ n a. absurd a));
 }
 

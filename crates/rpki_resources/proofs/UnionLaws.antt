@@ -72,15 +72,15 @@ pub record Uniting (one other found : List Block) (before : Block) (xs ys : List
 -- the first block of lists, and the others
 first-some : (xs ys later others : List Block) (b : Block) → AreCanonical xs → AreCanonical ys → IsNext xs ys b later others → b.low ≤ b.high
 first-some xs ys later others b c d h = elim h.taken [
-    | inl t ↦ (let k : AreCanonical (b ∷ later) = subst AreCanonical t.0 c in k.0)
-    | inr t ↦ (let k : AreCanonical (b ∷ others) = subst AreCanonical t.0 d in k.0)
-  ]
+  | inl t ↦ (let k : AreCanonical (b ∷ later) = subst AreCanonical t.0 c in k.0)
+  | inr t ↦ (let k : AreCanonical (b ∷ others) = subst AreCanonical t.0 d in k.0)
+]
 
 rest-canonical : (xs ys later others : List Block) (b : Block) → AreCanonical xs → AreCanonical ys → IsNext xs ys b later others → AreCanonical later × AreCanonical others
 rest-canonical xs ys later others b c d h = elim h.taken [
-    | inl t ↦ (let k : AreCanonical (b ∷ later) = subst AreCanonical t.0 c in (k.2, subst AreCanonical t.1 d))
-    | inr t ↦ (let k : AreCanonical (b ∷ others) = subst AreCanonical t.0 d in (subst AreCanonical t.1 c, k.2))
-  ]
+  | inl t ↦ (let k : AreCanonical (b ∷ later) = subst AreCanonical t.0 c in (k.2, subst AreCanonical t.1 d))
+  | inr t ↦ (let k : AreCanonical (b ∷ others) = subst AreCanonical t.0 d in (subst AreCanonical t.1 c, k.2))
+]
 
 past-from : (low high : ℕ) (bs : List Block) → low ≤ high → IsPast high bs → IsFrom low bs
 past-from low high [] le p = tt
@@ -92,9 +92,9 @@ lower low high (b ∷ bs) le h = omega (arith, le, h)
 
 rest-from : (xs ys later others : List Block) (b : Block) → AreCanonical xs → AreCanonical ys → IsNext xs ys b later others → IsFrom b.low later × IsFrom b.low others
 rest-from xs ys later others b c d h = elim h.taken [
-    | inl t ↦ (let k : AreCanonical (b ∷ later) = subst AreCanonical t.0 c in (past-from b.low b.high later k.0 k.1, subst (IsFrom b.low) t.1 h.first.1))
-    | inr t ↦ (let k : AreCanonical (b ∷ others) = subst AreCanonical t.0 d in (subst (IsFrom b.low) t.1 h.first.0, past-from b.low b.high others k.0 k.1))
-  ]
+  | inl t ↦ (let k : AreCanonical (b ∷ later) = subst AreCanonical t.0 c in (past-from b.low b.high later k.0 k.1, subst (IsFrom b.low) t.1 h.first.1))
+  | inr t ↦ (let k : AreCanonical (b ∷ others) = subst AreCanonical t.0 d in (subst (IsFrom b.low) t.1 h.first.0, past-from b.low b.high others k.0 k.1))
+]
 
 rest-numbers : (xs ys later others : List Block) (b : Block) → IsNext xs ys b later others → (n : ℕ) → (IsAmong n xs ⊎ IsAmong n ys) ↔ (IsIn n b ⊎ (IsAmong n later ⊎ IsAmong n others))
 rest-numbers xs ys later others b h n = elim h.taken [ inl t ↦ of_one t.0 t.1 | inr t ↦ of_other t.0 t.1 ] where
@@ -114,9 +114,9 @@ rest-numbers xs ys later others b h n = elim h.taken [ inl t ↦ of_one t.0 t.1 
 
 shorter-by : (xs ys later others : List Block) (b : Block) → IsNext xs ys b later others → suc (length later + length others) ≡ length xs + length ys
 shorter-by xs ys later others b h = elim h.taken [
-    | inl t ↦ omega (arith, ap length t.0, ap length t.1)
-    | inr t ↦ omega (arith, ap length t.0, ap length t.1)
-  ]
+  | inl t ↦ omega (arith, ap length t.0, ap length t.1)
+  | inr t ↦ omega (arith, ap length t.0, ap length t.1)
+]
 
 pub next-shorter : (xs ys later others : List Block) (b : Block) → IsNext xs ys b later others → length later + length others < length xs + length ys
 next-shorter xs ys later others b h = omega (arith, shorter-by xs ys later others b h)
@@ -155,31 +155,31 @@ module _ (one other found xs ys : List Block) (before : Block) (m : Uniting one 
           canonical = g.canonical found m.canonical;
           above = (lower last.low b.low later g.low from.0, lower last.low b.low others g.low from.1);
         }) where
-      placed : (n : ℕ) → IsIn n before ⊎ IsIn n b → (IsAmong n (found ++ blocks_of closed) ⊎ IsIn n last) ⊎ (IsAmong n later ⊎ IsAmong n others)
-      placed n a = elim ((g.numbers n).1 a) [ inl p ↦ inl (inl ((among-append n found (blocks_of closed)).1 (inr p))) | inr p ↦ inl (inr p) ]
+          placed : (n : ℕ) → IsIn n before ⊎ IsIn n b → (IsAmong n (found ++ blocks_of closed) ⊎ IsIn n last) ⊎ (IsAmong n later ⊎ IsAmong n others)
+          placed n a = elim ((g.numbers n).1 a) [ inl p ↦ inl (inl ((among-append n found (blocks_of closed)).1 (inr p))) | inr p ↦ inl (inr p) ]
 
-      forth : (n : ℕ) → (IsAmong n found ⊎ IsIn n before) ⊎ (IsAmong n xs ⊎ IsAmong n ys) → (IsAmong n (found ++ blocks_of closed) ⊎ IsIn n last) ⊎ (IsAmong n later ⊎ IsAmong n others)
-      forth n (inl (inl a)) = inl (inl ((among-append n found (blocks_of closed)).1 (inl a)))
-      forth n (inl (inr a)) = placed n (inl a)
-      forth n (inr a) = elim ((rest-numbers xs ys later others b h n).0 a) [ inl p ↦ placed n (inr p) | inr p ↦ inr p ]
+          forth : (n : ℕ) → (IsAmong n found ⊎ IsIn n before) ⊎ (IsAmong n xs ⊎ IsAmong n ys) → (IsAmong n (found ++ blocks_of closed) ⊎ IsIn n last) ⊎ (IsAmong n later ⊎ IsAmong n others)
+          forth n (inl (inl a)) = inl (inl ((among-append n found (blocks_of closed)).1 (inl a)))
+          forth n (inl (inr a)) = placed n (inl a)
+          forth n (inr a) = elim ((rest-numbers xs ys later others b h n).0 a) [ inl p ↦ placed n (inr p) | inr p ↦ inr p ]
 
-      taken : (n : ℕ) → IsIn n before ⊎ IsIn n b → (IsAmong n found ⊎ IsIn n before) ⊎ (IsAmong n xs ⊎ IsAmong n ys)
-      taken n (inl a) = inl (inr a)
-      taken n (inr a) = inr ((rest-numbers xs ys later others b h n).1 (inl a))
+          taken : (n : ℕ) → IsIn n before ⊎ IsIn n b → (IsAmong n found ⊎ IsIn n before) ⊎ (IsAmong n xs ⊎ IsAmong n ys)
+          taken n (inl a) = inl (inr a)
+          taken n (inr a) = inr ((rest-numbers xs ys later others b h n).1 (inl a))
 
-      back : (n : ℕ) → (IsAmong n (found ++ blocks_of closed) ⊎ IsIn n last) ⊎ (IsAmong n later ⊎ IsAmong n others) → (IsAmong n found ⊎ IsIn n before) ⊎ (IsAmong n xs ⊎ IsAmong n ys)
-      back n (inl (inl a)) = elim ((among-append n found (blocks_of closed)).0 a) [ inl p ↦ inl (inl p) | inr p ↦ taken n ((g.numbers n).0 (inl p)) ]
-      back n (inl (inr a)) = taken n ((g.numbers n).0 (inr a))
-      back n (inr a) = inr ((rest-numbers xs ys later others b h n).1 (inr a))
+          back : (n : ℕ) → (IsAmong n (found ++ blocks_of closed) ⊎ IsIn n last) ⊎ (IsAmong n later ⊎ IsAmong n others) → (IsAmong n found ⊎ IsIn n before) ⊎ (IsAmong n xs ⊎ IsAmong n ys)
+          back n (inl (inl a)) = elim ((among-append n found (blocks_of closed)).0 a) [ inl p ↦ inl (inl p) | inr p ↦ taken n ((g.numbers n).0 (inl p)) ]
+          back n (inl (inr a)) = taken n ((g.numbers n).0 (inr a))
+          back n (inr a) = inr ((rest-numbers xs ys later others b h n).1 (inr a))
 
   pub all-united : (next : List Block) → next ≡ found ++ (before ∷ []) → xs ≡ [] → ys ≡ [] → AreUnited one other next
   all-united next e ex ey = subst (AreUnited one other) (sym e) (record {
-      numbers = λ n. (
-        λ a. (m.same n).1 (elim ((among-append n found (before ∷ [])).0 a) [ inl p ↦ inl (inl p) | inr p ↦ elim p [ inl q ↦ inl (inr q) | inr q ↦ absurd q ] ]),
-        λ a. ends n ((m.same n).0 a),
-      );
-      canonical = m.canonical;
-    }) where
+    numbers = λ n. (
+      λ a. (m.same n).1 (elim ((among-append n found (before ∷ [])).0 a) [ inl p ↦ inl (inl p) | inr p ↦ elim p [ inl q ↦ inl (inr q) | inr q ↦ absurd q ] ]),
+      λ a. ends n ((m.same n).0 a),
+    );
+    canonical = m.canonical;
+  }) where
     ends : (n : ℕ) → (IsAmong n found ⊎ IsIn n before) ⊎ (IsAmong n xs ⊎ IsAmong n ys) → IsAmong n (found ++ (before ∷ []))
     ends n (inl (inl a)) = (among-append n found (before ∷ [])).1 (inl a)
     ends n (inl (inr a)) = (among-append n found (before ∷ [])).1 (inr (inl a))
@@ -188,6 +188,6 @@ module _ (one other found xs ys : List Block) (before : Block) (m : Uniting one 
 
 pub none-united : (one other found : List Block) → one ≡ [] → other ≡ [] → found ≡ [] → AreUnited one other found
 none-united one other found ex ey e = subst (λ (xs : List Block). AreUnited xs other found) (sym ex) (subst (λ (ys : List Block). AreUnited [] ys found) (sym ey) (subst (AreUnited [] []) (sym e) (record {
-        numbers = λ n. (λ a. absurd a, λ a. elim a [ inl p ↦ p | inr p ↦ p ]);
-        canonical = tt;
-      })))
+  numbers = λ n. (λ a. absurd a, λ a. elim a [ inl p ↦ p | inr p ↦ p ]);
+  canonical = tt;
+})))

@@ -11,6 +11,5 @@ pub mod Kept
 pub mod Settled
 pub mod Text
 pub mod Equal
-
 -- Lemmas that an `impl` cites.
 pub mod EqualLaws

@@ -18,7 +18,11 @@ fn gap(block: Block, from: u128, others: &[Block]) -> Option<Block>
                 return None;
             }
             let below = first.low - 1;
-            let high = if block.high < below { block.high } else { below };
+            let high = if block.high < below {
+                block.high
+            } else {
+                below
+            };
             if high < low {
                 return None;
             }

@@ -1,7 +1,7 @@
 //! Address families.
 
 ghost use Rattle.std.specs.Prelude.{◌≡◌};
-ghost use Rattle.rpki_resources.specs.Address.{width, family_octets};
+ghost use Rattle.rpki_resources.specs.Address.{width};
 
 /// A family of addresses (RFC 3779 2.2.3.3). The octets that name it are those of its AFI; the RPKI has no SAFI.
 #[derive(Clone, Copy, Debug, PartialEq, Eq)]
@@ -20,14 +20,6 @@ impl AddressFamily {
         match self {
             AddressFamily::Ipv4 => 32,
             AddressFamily::Ipv6 => 128,
-        }
-    }
-
-    /// The last of the two octets that name the family; the first is 0.
-    pub fn number(self) -> u8 {
-        match self {
-            AddressFamily::Ipv4 => 1,
-            AddressFamily::Ipv6 => 2,
         }
     }
 }

@@ -119,9 +119,7 @@ fn take_families<'a>(contents: &mut Constructed<'a>) -> Result<IpResourcesView<'
 /// version 4 first. It takes no memory.
 ///
 /// The error is that of the leftmost part that isn't there.
-pub fn take_ip_resources<'a>(
-    cons: &mut Constructed<'a>,
-) -> Result<IpResourcesView<'a>, DecodeError>
+pub fn take_ip_resources<'a>(cons: &mut Constructed<'a>) -> Result<IpResourcesView<'a>, DecodeError>
     ensures { Reads (λ x. x) SpellsIpResources IsIpResourcesFault (left cons.old) (left cons.new) result }
 {
     cons.in_sequence(

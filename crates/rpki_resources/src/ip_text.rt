@@ -1,8 +1,15 @@
 //! Texts of prefixes and ranges of addresses: `10.0.0.0/8`, `10.0.0.0-10.0.0.5`.
 
+ghost use Rattle.std.specs.Prelude.{◌≡◌, ◌≤◌, ◌<◌, ◌-◌, ◌^◌, IfSome, IfNone};
+ghost use Rattle.rpki_resources.specs.Address.{width, IsPrefix};
+ghost use Rattle.rpki_resources.specs.Text.{IsAddressOfNumber, IsPrefixOf, IsBlockOfFamily, IsIpBlockOf};
+
+use crate::block::Block;
+use crate::family::AddressFamily;
+use crate::prefix::{is_prefix, missing_bits};
 use std::fmt;
 use std::fmt::Display;
-use std::net::IpAddr;
+use std::net::{IpAddr, Ipv4Addr, Ipv6Addr};
 
 /// The addresses that begin alike. Its text is `10.0.0.0/8`; an IPv6 address is written as RFC 5952 says.
 #[derive(Clone, Copy, Debug, PartialEq, Eq)]
@@ -66,5 +73,64 @@ impl Display for IpBlock {
             IpBlock::Prefix(prefix) => Display::fmt(prefix, f),
             IpBlock::Range(range) => Display::fmt(range, f),
         }
+    }
+}
+
+/// The highest number of an address of the family.
+fn last_of(family: AddressFamily) -> u128
+    ensures { result ≡ 2 ^ width family - 1 }
+{
+    match family {
+        AddressFamily::Ipv4 => 4294967295,
+        AddressFamily::Ipv6 => u128::MAX,
+    }
+}
+
+/// The address of the family that is this number.
+fn address_of(family: AddressFamily, number: u128) -> IpAddr
+    requires { number < 2 ^ width family }
+    ensures { IsAddressOfNumber family result number }
+{
+    match family {
+        AddressFamily::Ipv4 => IpAddr::V4(Ipv4Addr::from_bits(number as u32)),
+        AddressFamily::Ipv6 => IpAddr::V6(Ipv6Addr::from_bits(number)),
+    }
+}
+
+/// The prefix of the family whose numbers these are.
+fn prefix_of(family: AddressFamily, low: u128, high: u128) -> Prefix
+    requires prefix { IsPrefix low high }
+    requires order { low ≤ high }
+    requires fits { high < 2 ^ width family }
+    ensures { IsPrefixOf family result low high }
+{
+    let len = family.width() - missing_bits(low, high);
+    Prefix {
+        addr: address_of(family, low),
+        len,
+    }
+}
+
+impl IpBlock {
+    /// The block of these numbers, which are addresses of the family: a prefix where they are one, else a range.
+    ///
+    /// Returns None where the block is empty, or has a number that is no address of the family.
+    pub fn of(family: AddressFamily, block: Block) -> Option<IpBlock>
+        ensures some { IfSome result (λ b. IsIpBlockOf family b block) }
+        ensures none { IfNone result (IsBlockOfFamily family block → ⊥) }
+    {
+        if block.low > block.high {
+            return None;
+        }
+        if block.high > last_of(family) {
+            return None;
+        }
+        if is_prefix(block.low, block.high) {
+            return Some(IpBlock::Prefix(prefix_of(family, block.low, block.high)));
+        }
+        Some(IpBlock::Range(AddressRange {
+            min: address_of(family, block.low),
+            max: address_of(family, block.high),
+        }))
     }
 }

@@ -37,10 +37,7 @@ impl IpResources {
     ///
     /// The error is that of the leftmost part that isn't there; `OutOfMemory` if allocation fails, only where all parts
     /// are there. An error leaves the cursor where it was.
-    pub fn take_from(
-        alloc: Global,
-        cons: &mut Constructed<'_>,
-    ) -> Result<IpResources, DecodeError>
+    pub fn take_from(alloc: Global, cons: &mut Constructed<'_>) -> Result<IpResources, DecodeError>
         ensures { Reads (λ v. v) SpellsIp IsIpFault (left cons.old) (left cons.new) result }
     {
         let mut after = *cons;
@@ -64,10 +61,7 @@ impl AsResources {
     ///
     /// The error is that of the leftmost part that isn't there; `OutOfMemory` if allocation fails, only where all parts
     /// are there. An error leaves the cursor where it was.
-    pub fn take_from(
-        alloc: Global,
-        cons: &mut Constructed<'_>,
-    ) -> Result<AsResources, DecodeError>
+    pub fn take_from(alloc: Global, cons: &mut Constructed<'_>) -> Result<AsResources, DecodeError>
         ensures { Reads (λ v. v) SpellsAs IsAsFault (left cons.old) (left cons.new) result }
     {
         let mut after = *cons;

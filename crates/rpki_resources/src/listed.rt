@@ -5,11 +5,10 @@ ghost use Rattle.rpki_der.specs.Cursor.{left};
 ghost use Rattle.rpki_der.specs.Reading.{Reads};
 ghost use Rattle.rpki_resources.specs.Listed.{SpellsBlockOf, IsBlockFaultOf, Follows, SpellsNext, IsNextFault};
 
-use crate::as_number;
 use crate::block::Block;
 use crate::canonical::begins_past;
 use crate::kind::ResourceKind;
-use crate::prefix;
+use crate::{as_number, prefix};
 use rpki_der::{Constructed, DecodeError};
 
 /// A block of the kind.

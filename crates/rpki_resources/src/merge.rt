@@ -10,8 +10,16 @@ use std::alloc::{AllocError, Global};
 fn overlap(one: Block, other: Block) -> Option<Block>
     ensures { IsOverlap one other result }
 {
-    let low = if one.low < other.low { other.low } else { one.low };
-    let high = if one.high < other.high { one.high } else { other.high };
+    let low = if one.low < other.low {
+        other.low
+    } else {
+        one.low
+    };
+    let high = if one.high < other.high {
+        one.high
+    } else {
+        other.high
+    };
     if high < low {
         return None;
     }

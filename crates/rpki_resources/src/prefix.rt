@@ -1,6 +1,6 @@
 //! Blocks of addresses, each as a prefix or as a range (RFC 3779 2.2.3.7 to 2.2.3.9).
 
-ghost use Rattle.std.specs.Prelude.{◌↔◌, IsTrue, IfSome, IfNone};
+ghost use Rattle.std.specs.Prelude.{◌≡◌, ◌*◌, ◌^◌, ◌↔◌, ℕ, suc, IsTrue, IfSome, IfNone};
 ghost use Rattle.rpki_der.specs.Cursor.{left};
 ghost use Rattle.rpki_der.specs.Reading.{Reads};
 ghost use Rattle.rpki_der.specs.FirstFault.{ReadsParts};
@@ -30,6 +30,22 @@ pub fn is_prefix(low: u128, high: u128) -> bool
         last /= 2;
     }
     first == last
+}
+
+/// How many bits the numbers of a prefix don't share.
+pub fn missing_bits(low: u128, high: u128) -> u8
+    requires { IsPrefix low high }
+    ensures { (q : ℕ) × (low ≡ q * 2 ^ result) × (suc high ≡ suc q * 2 ^ result) }
+{
+    let mut first = low;
+    let mut last = high;
+    let mut count = 0;
+    'bits: while first < last {
+        first /= 2;
+        last /= 2;
+        count += 1;
+    }
+    count
 }
 
 /// Whether the last bit is there and is 1, or there is none: no zero could be left out at the end.

@@ -20,6 +20,7 @@ pub enum SettleError {
 
 impl From<AllocError> for SettleError {
     ghost from_gives = { λ _ e. e ≡ OutOfMemory };
+
     ghost use Rattle.rpki_resources.specs.declared.settled.SettleError.TheVariants.{OutOfMemory};
 
     fn from(_error: AllocError) -> SettleError {

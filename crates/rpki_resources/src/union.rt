@@ -73,7 +73,11 @@ fn grow(before: Block, block: Block) -> Grown
             last: block,
         };
     }
-    let high = if before.high < block.high { block.high } else { before.high };
+    let high = if before.high < block.high {
+        block.high
+    } else {
+        before.high
+    };
     Grown {
         closed: None,
         last: Block {

@@ -19,7 +19,6 @@ use rpki_der::{Constructed, DecodeError};
 use rpki_der_tests::kinds::{Outcome, refused};
 use rpki_resources::*;
 use std::alloc::{AllocError, Global};
-use std::net::{IpAddr, Ipv4Addr, Ipv6Addr};
 use std::test::Fail;
 
 /// The extension that a row has.
@@ -307,23 +306,83 @@ fn texts_of_numbers(rt: HostRuntime) -> Result<(), Fail> {
     Ok(())
 }
 
-/// Whether prefixes and ranges have the texts of RFC 5952 and of dotted octets.
-fn have_texts(alloc: Global) -> Result<bool, AllocError> {
-    let v4 = IpAddr::V4(Ipv4Addr::new(10, 0, 0, 0));
-    let last = IpAddr::V4(Ipv4Addr::new(10, 0, 0, 5));
-    let v6 = IpAddr::V6(Ipv6Addr::new(0x2001, 0xdb8, 0, 0, 0, 0, 0, 0));
-    let prefix = IpBlock::Prefix(Prefix { addr: v4, len: 8 });
-    let range = IpBlock::Range(AddressRange { min: v4, max: last });
-    let long = IpBlock::Prefix(Prefix { addr: v6, len: 32 });
-    Ok(
-        format!(in alloc; "{prefix}")?.as_str() == "10.0.0.0/8"
-            && format!(in alloc; "{range}")?.as_str() == "10.0.0.0-10.0.0.5"
-            && format!(in alloc; "{long}")?.as_str() == "2001:db8::/32",
-    )
+/// A family, a block of its addresses, and the text; None where it has none. The texts are by Python's `ipaddress`.
+const ADDRESS_TEXTS: &[(AddressFamily, u128, u128, Option<&str>)] = &[
+    (
+        AddressFamily::Ipv4,
+        0x0a000000,
+        0x0affffff,
+        Some("10.0.0.0/8"),
+    ),
+    (
+        AddressFamily::Ipv4,
+        0x0a000000,
+        0x0a000005,
+        Some("10.0.0.0-10.0.0.5"),
+    ),
+    (AddressFamily::Ipv4, 0, 0xffffffff, Some("0.0.0.0/0")),
+    (
+        AddressFamily::Ipv4,
+        0xffffffff,
+        0xffffffff,
+        Some("255.255.255.255/32"),
+    ),
+    (AddressFamily::Ipv4, 0, 0x1_0000_0000, None),
+    (AddressFamily::Ipv4, 5, 1, None),
+    (AddressFamily::Ipv6, 0, u128::MAX, Some("::/0")),
+    (AddressFamily::Ipv6, 1, 1, Some("::1/128")),
+    (
+        AddressFamily::Ipv6,
+        0,
+        u128::MAX - 1,
+        Some("::-ffff:ffff:ffff:ffff:ffff:ffff:ffff:fffe"),
+    ),
+    (
+        AddressFamily::Ipv6,
+        0x20010db8_00000000_00000000_00000000,
+        0x20010db8_ffffffff_ffffffff_ffffffff,
+        Some("2001:db8::/32"),
+    ),
+    (
+        AddressFamily::Ipv6,
+        0x20010db8_00000001_00000000_00000001,
+        0x20010db8_00000001_00000000_00000002,
+        Some("2001:db8:0:1::1-2001:db8:0:1::2"),
+    ),
+];
+
+fn address_texts() -> &'static [(AddressFamily, u128, u128, Option<&'static str>)] {
+    ADDRESS_TEXTS
+}
+
+/// Whether the block of addresses has this text.
+fn has_address_text(
+    alloc: Global,
+    family: AddressFamily,
+    block: Block,
+    expected: Option<&str>,
+) -> Result<bool, AllocError> {
+    match (IpBlock::of(family, block), expected) {
+        (Some(found), Some(expected)) => {
+            let text = format!(in alloc; "{found}")?;
+            Ok(text.as_str() == expected)
+        }
+        (None, None) => Ok(true),
+        _ => Ok(false),
+    }
 }
 
 #[test]
 fn texts_of_addresses(rt: HostRuntime) -> Result<(), Fail> {
-    assert!(rt; have_texts(rt.alloc())?);
+    for (family, low, high, expected) in address_texts() {
+        let block = Block {
+            low: *low,
+            high: *high,
+        };
+        assert!(rt;
+            has_address_text(rt.alloc(), *family, block, *expected)?,
+            "{low} {high}"
+        );
+    }
     Ok(())
 }

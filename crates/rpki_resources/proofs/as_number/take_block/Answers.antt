@@ -15,7 +15,7 @@ returns-in_err-take_as_number c =
     let e = c.in_err-take_as_number.field-0.0 in
     tried-refused (λ b. b) SpellsAsBlock IsAsBlockFault _ _ e _ c.from_residual.ensures
     (other-refused sequence SpellsAsRange SpellsAsId IsAsRangeFault IsAsNumberFault as-range-tag as-id-tag _ _ e (iff_false c.has_tag.ensures c.if-has_tag.false)
-        (for-refuses SpellsAsNumber IsOneNumber _ _ IsAsNumberFault e c.in_err-take_as_number.ensures))
+    (for-refuses SpellsAsNumber IsOneNumber _ _ IsAsNumberFault e c.in_err-take_as_number.ensures))
 
 pub returns : goal.returns
 returns c =

@@ -20,8 +20,8 @@ returns-in_err-take_null c =
     let e = c.in_err-take_null.field-0.0 in
     tried-refused (λ v. v) (SpellsChoice kind) (IsChoiceFault kind) _ _ e _ c.from_residual.ensures
     (one-refused null SpellsInherit (SpellsListed kind) (IsLeafFault null false IsNull) (IsInsideFault sequence true (AreBlocksFault kind None)) inherit-tag (listed-tag kind) _ _ e
-        (c.has_tag.ensures.0 c.if-has_tag.true)
-        (for-refuses (SpellsLeaf null false IsNull) (λ (v : ChoiceView) (u : Unit {0}). v ≡ Inherit) _ _ (IsLeafFault null false IsNull) e c.in_err-take_null.ensures))
+    (c.has_tag.ensures.0 c.if-has_tag.true)
+    (for-refuses (SpellsLeaf null false IsNull) (λ (v : ChoiceView) (u : Unit {0}). v ≡ Inherit) _ _ (IsLeafFault null false IsNull) e c.in_err-take_null.ensures))
 
 pub returns-then-has_tag : goal.returns-then-has_tag
 returns-then-has_tag c =
@@ -36,8 +36,8 @@ returns-in_err-listed c =
     let e = c.in_err-listed.field-0.0 in
     tried-refused (λ v. v) (SpellsChoice kind) (IsChoiceFault kind) _ _ e _ c.from_residual-in_err-listed.ensures
     (other-refused null SpellsInherit (SpellsListed kind) (IsLeafFault null false IsNull) (IsInsideFault sequence true (AreBlocksFault kind None)) inherit-tag (listed-tag kind) _ _ e
-        (iff_false c.has_tag.ensures c.if-has_tag.false)
-        (for-refuses (SpellsLeaf sequence true (IsListed kind)) (λ (v : ChoiceView) (x : Octets). v ≡ Blocks x) _ _ (IsInsideFault sequence true (AreBlocksFault kind None)) e c.in_err-listed.ensures))
+    (iff_false c.has_tag.ensures c.if-has_tag.false)
+    (for-refuses (SpellsLeaf sequence true (IsListed kind)) (λ (v : ChoiceView) (x : Octets). v ≡ Blocks x) _ _ (IsInsideFault sequence true (AreBlocksFault kind None)) e c.in_err-listed.ensures))
 
 pub returns : goal.returns
 returns c =

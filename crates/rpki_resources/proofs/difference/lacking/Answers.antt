@@ -9,19 +9,19 @@ pub pairs-preserved-then-y-x : goal.pairs-preserved-then-y-x
 pairs-preserved-then-y-x c =
     extended c.args.one.now c.args.other.now c.pairs.found.items _ c.pairs.xs.now c.in-Some-split_first.others.now _ c.gap.result c.in_ok-push_some.ensures
     (other-done c.args.one.now c.args.other.now c.pairs.found.items c.pairs.xs.now c.pairs.ys.now c.pairs.from c.pairs.invariant c.in-Some.x.now c.in-Some.later.now c.in-Some.ensures.cases.0 c.gap.result c.gap.ensures
-        c.in-Some-split_first.y.now c.in-Some-split_first.others.now c.in-Some-split_first.ensures.cases.0 c.if-y-x.true)
+    c.in-Some-split_first.y.now c.in-Some-split_first.others.now c.in-Some-split_first.ensures.cases.0 c.if-y-x.true)
 
 pub pairs-preserved-else-y-x : goal.pairs-preserved-else-y-x
 pairs-preserved-else-y-x c =
     extended c.args.one.now c.args.other.now c.pairs.found.items _ c.in-Some.later.now c.pairs.ys.now _ c.gap.result c.in_ok-push_some.ensures
     (block-done c.args.one.now c.args.other.now c.pairs.found.items c.pairs.xs.now c.pairs.ys.now c.pairs.from c.pairs.invariant c.in-Some.x.now c.in-Some.later.now c.in-Some.ensures.cases.0 c.gap.result c.gap.ensures
-        (done-behind c.in-Some.x.now c.in-Some-split_first.y.now c.pairs.ys.now c.in-Some-split_first.others.now c.in-Some-split_first.ensures.cases.0 c.if-y-x.false))
+    (done-behind c.in-Some.x.now c.in-Some-split_first.y.now c.pairs.ys.now c.in-Some-split_first.others.now c.in-Some-split_first.ensures.cases.0 c.if-y-x.false))
 
 pub pairs-preserved : goal.pairs-preserved
 pairs-preserved c =
     extended c.args.one.now c.args.other.now c.pairs.found.items _ c.in-Some.later.now c.pairs.ys.now _ c.gap.result c.in_ok-push_some.ensures
     (block-done c.args.one.now c.args.other.now c.pairs.found.items c.pairs.xs.now c.pairs.ys.now c.pairs.from c.pairs.invariant c.in-Some.x.now c.in-Some.later.now c.in-Some.ensures.cases.0 c.gap.result c.gap.ensures
-        (done-none c.in-Some.x.now c.pairs.ys.now (empty _ c.in-None.ensures.cases)))
+    (done-none c.in-Some.x.now c.pairs.ys.now (empty _ c.in-None.ensures.cases)))
 
 pub returns : goal.returns
 returns c = all-lacking c.args.one.now c.args.other.now c.pairs.found.items c.pairs.xs.now c.pairs.ys.now c.pairs.from c.pairs.invariant (empty _ c.in_default.ensures.cases)

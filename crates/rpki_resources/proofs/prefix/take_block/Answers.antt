@@ -20,11 +20,11 @@ returns-in_err-address c =
     let e = c.in_err-address.field-0.0 in
     tried-refused (λ b. b) (SpellsBlock w) (IsBlockFault w) _ _ e _ c.from_residual.ensures
     (other-refused sequence (SpellsRange w) (SpellsPrefix w) (IsRangeFault w) (IsAddressFault w) (range-tag w) (prefix-tag w) _ _ e (iff_false c.has_tag.ensures c.if-has_tag.false)
-        (for-refuses (SpellsAddress w) (λ (b : Block) (x : Address). b ≡ prefix_block w x) _ _ (IsAddressFault w) e c.in_err-address.ensures))
+    (for-refuses (SpellsAddress w) (λ (b : Block) (x : Address). b ≡ prefix_block w x) _ _ (IsAddressFault w) e c.in_err-address.ensures))
 
 pub returns : goal.returns
 returns c =
     let w = width c.args.family in
     rw c.prefix.ensures
     (other-accepted sequence (SpellsRange w) (SpellsPrefix w) (IsRangeFault w) (IsAddressFault w) (range-tag w) (prefix-tag w) _ _ _ (iff_false c.has_tag.ensures c.if-has_tag.false)
-        (for-accepted (SpellsAddress w) (λ (b : Block) (x : Address). b ≡ prefix_block w x) _ _ (prefix_block w c.in_ok-address.address) c.in_ok-address.address c.in_ok-address.ensures refl (λ d k. k)))
+    (for-accepted (SpellsAddress w) (λ (b : Block) (x : Address). b ≡ prefix_block w x) _ _ (prefix_block w c.in_ok-address.address) c.in_ok-address.address c.in_ok-address.ensures refl (λ d k. k)))
