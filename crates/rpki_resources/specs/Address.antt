@@ -80,8 +80,11 @@ pub record IsRange (w : ℕ) (b : Block) (x : Address × Address) : Type 0 where
   pub some : b.low ≤ b.high
   pub no_prefix : IsPrefix b.low b.high → ⊥
 
+abbrev pub SpellsRangeEnds : ℕ → Block → List ℕ → Type 0
+SpellsRangeEnds w = SpellsEnds (SpellsAddress w) (IsRange w)
+
 abbrev pub SpellsRange : ℕ → Block → List ℕ → Type 0
-SpellsRange w = SpellsLeaf sequence true (SpellsEnds (SpellsAddress w) (IsRange w))
+SpellsRange w = SpellsLeaf sequence true (SpellsRangeEnds w)
 
 -- ---- a block
 

@@ -28,14 +28,20 @@ pub record IsAsRange (b : Block) (x : ℕ × ℕ) : Type 0 where
   pub high : b.high ≡ x.1
   pub ascends : x.0 < x.1
 
+abbrev pub SpellsAsEnds : Block → List ℕ → Type 0
+SpellsAsEnds = SpellsEnds SpellsAsNumber IsAsRange
+
+abbrev pub IsAsEndsFault : List ℕ → DecodeError → Type 0
+IsAsEndsFault = IsEndsFault SpellsAsNumber IsAsNumberFault IsAsRange
+
 abbrev pub SpellsAsRange : Block → List ℕ → Type 0
-SpellsAsRange = SpellsLeaf sequence true (SpellsEnds SpellsAsNumber IsAsRange)
+SpellsAsRange = SpellsLeaf sequence true SpellsAsEnds
 
 abbrev pub SpellsAsBlock : Block → List ℕ → Type 0
 SpellsAsBlock = SpellsEither SpellsAsRange SpellsAsId
 
 abbrev pub IsAsRangeFault : List ℕ → DecodeError → Type 0
-IsAsRangeFault = IsInsideFault sequence true (IsEndsFault SpellsAsNumber IsAsNumberFault IsAsRange)
+IsAsRangeFault = IsInsideFault sequence true IsAsEndsFault
 
 -- where a SEQUENCE is there, that of a range; else that of a number
 abbrev pub IsAsBlockFault : List ℕ → DecodeError → Type 0

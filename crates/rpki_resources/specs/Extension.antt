@@ -17,7 +17,7 @@ use Rattle.rpki_resources.specs.declared.ip_view.IpResourcesView.{IpResourcesVie
 use Rattle.rpki_resources.specs.Composing.{IsContentError, SpellsFor, SpellsEither, IsEitherFault}
 use Rattle.rpki_resources.specs.Address.{family_octets}
 use Rattle.rpki_resources.specs.Listed.{AreBlocksFault}
-use Rattle.rpki_resources.specs.InPlace.{IsListed}
+use Rattle.rpki_resources.specs.InPlace.{Octets, IsListed}
 
 -- ---- a choice (RFC 3779 2.2.3.4, 3.2.3.2)
 
@@ -26,15 +26,20 @@ abbrev pub SpellsInherit : ChoiceView → List ℕ → Type 0
 SpellsInherit = SpellsFor (SpellsLeaf null false IsNull) (λ v nothing. v ≡ Inherit)
 
 -- a SEQUENCE of blocks
+abbrev pub SpellsList : ResourceKind → Octets → List ℕ → Type 0
+SpellsList kind = SpellsLeaf sequence true (IsListed kind)
+
+abbrev pub IsListFault : ResourceKind → List ℕ → DecodeError → Type 0
+IsListFault kind = IsInsideFault sequence true (AreBlocksFault kind None)
+
 abbrev pub SpellsListed : ResourceKind → ChoiceView → List ℕ → Type 0
-SpellsListed kind = SpellsFor (SpellsLeaf sequence true (IsListed kind)) (λ v x. v ≡ Blocks x)
+SpellsListed kind = SpellsFor (SpellsList kind) (λ v x. v ≡ Blocks x)
 
 abbrev pub SpellsChoice : ResourceKind → ChoiceView → List ℕ → Type 0
 SpellsChoice kind = SpellsEither SpellsInherit (SpellsListed kind)
 
 abbrev pub IsChoiceFault : ResourceKind → List ℕ → DecodeError → Type 0
-IsChoiceFault kind =
-    IsEitherFault null (IsLeafFault null false IsNull) (IsInsideFault sequence true (AreBlocksFault kind None))
+IsChoiceFault kind = IsEitherFault null (IsLeafFault null false IsNull) (IsListFault kind)
 
 -- ---- AS identifiers (RFC 3779 3.2.3.1): the numbers, and no routing domain identifiers
 

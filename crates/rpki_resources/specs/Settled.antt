@@ -43,3 +43,8 @@ abbrev pub SettlesDown : List Block → List ResourcesChoice → List Block → 
 SettlesDown top [] bottom = bottom ≡ top
 SettlesDown top (choice ∷ choices) bottom =
     (subject : List Block) × IsSettledByEither choice top subject × SettlesDown subject choices bottom
+
+-- Down the upper part of a chain, and from what that settles down the lower part.
+abbrev pub SettlesThrough : List Block → List ResourcesChoice → List ResourcesChoice → List Block → Type 0
+SettlesThrough top upper lower bottom =
+    (middle : List Block) × SettlesDown top upper middle × SettlesDown middle lower bottom

@@ -5,8 +5,7 @@ ghost use Rattle.rpki_der.specs.Cursor.{left};
 ghost use Rattle.rpki_der.specs.Reading.{Reads};
 ghost use Rattle.rpki_der.specs.FirstFault.{ReadsParts};
 ghost use Rattle.rpki_resources.specs.declared.block.Block.{Block};
-ghost use Rattle.rpki_resources.specs.Composing.{SpellsEnds, IsEndsFault};
-ghost use Rattle.rpki_resources.specs.AsNumber.{SpellsAsNumber, IsAsNumberFault, IsAsRange, SpellsAsRange, IsAsRangeFault, SpellsAsBlock, IsAsBlockFault};
+ghost use Rattle.rpki_resources.specs.AsNumber.{SpellsAsNumber, IsAsNumberFault, IsAsRange, SpellsAsEnds, IsAsEndsFault, SpellsAsRange, IsAsRangeFault, SpellsAsBlock, IsAsBlockFault};
 
 use crate::block::Block;
 use rpki_der::{Constructed, DecodeError, Tag};
@@ -43,8 +42,7 @@ fn range_of(low: u32, high: u32) -> Option<Block>
 
 /// The block whose two ends these contents are, one after the other.
 fn take_ends(contents: &mut Constructed<'_>) -> Result<Block, DecodeError>
-    ensures { ReadsParts (λ b. b) (SpellsEnds SpellsAsNumber IsAsRange)
-        (IsEndsFault SpellsAsNumber IsAsNumberFault IsAsRange) (left contents.old) (left contents.new) result }
+    ensures { ReadsParts (λ b. b) SpellsAsEnds IsAsEndsFault (left contents.old) (left contents.new) result }
 {
     let lowest = take_as_number(contents)?;
     let highest = take_as_number(contents)?;

@@ -7,15 +7,13 @@
 //! ASId               ::= INTEGER (0..4294967295)
 //! ```
 
-ghost use Rattle.std.specs.Prelude.{true, None};
+ghost use Rattle.std.specs.Prelude.{None};
 ghost use Rattle.rpki_der.specs.Cursor.{left};
-ghost use Rattle.rpki_der.specs.Reading.{Reads, NeverMemory, Decodes};
-ghost use Rattle.rpki_der.specs.TagName.{sequence};
-ghost use Rattle.rpki_der.specs.Values.{SpellsLeaf};
-ghost use Rattle.rpki_der.specs.FirstFault.{IsInsideFault, ReadsParts};
+ghost use Rattle.rpki_der.specs.Reading.{Reads};
+ghost use Rattle.rpki_der.specs.FirstFault.{ReadsParts};
 ghost use Rattle.rpki_resources.specs.Listed.{AreBlocksFault};
 ghost use Rattle.rpki_resources.specs.InPlace.{IsListed};
-ghost use Rattle.rpki_resources.specs.Extension.{SpellsChoice, IsChoiceFault, SpellsAsNumbers, IsAsNumbersFault, SpellsAsResources, IsAsResourcesFault};
+ghost use Rattle.rpki_resources.specs.Extension.{SpellsList, IsListFault, SpellsChoice, IsChoiceFault, SpellsAsNumbers, IsAsNumbersFault, SpellsAsResources, IsAsResourcesFault};
 
 use crate::choice_view::ChoiceView;
 use crate::kind::ResourceKind;
@@ -27,8 +25,7 @@ fn take_listed<'a>(
     cons: &mut Constructed<'a>,
     kind: ResourceKind,
 ) -> Result<BlocksView<'a>, DecodeError>
-    ensures { Reads (λ x. x) (SpellsLeaf sequence true (IsListed kind))
-        (IsInsideFault sequence true (AreBlocksFault kind None)) (left cons.old) (left cons.new) result }
+    ensures { Reads (λ x. x) (SpellsList kind) (IsListFault kind) (left cons.old) (left cons.new) result }
 {
     cons.in_sequence(
         |contents|

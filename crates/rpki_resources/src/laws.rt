@@ -3,7 +3,7 @@
 ghost use Rattle.std.specs.Prelude.{◌≡◌, ◌↔◌, ◌++◌, List, IsTrue};
 ghost use Rattle.rpki_resources.specs.Equal.{same_blocks};
 ghost use Rattle.rpki_resources.specs.declared.choice.ResourcesChoice.{ResourcesChoice};
-ghost use Rattle.rpki_resources.specs.Settled.{SettlesDown};
+ghost use Rattle.rpki_resources.specs.Settled.{SettlesDown, SettlesThrough};
 ghost use Rattle.rpki_resources.specs.declared.block.Block.{Block};
 ghost use Rattle.rpki_resources.specs.Blocks.{IsSubset, AreCanonical};
 
@@ -20,8 +20,8 @@ pub fn chains_settle_within()
 
 /// A chain is settled link by link: what the upper part of it settles is what the lower part begins with.
 pub fn chains_join()
-    ensures { (top bottom : List Block) (upper lower : List ResourcesChoice) → SettlesDown top (upper ++ lower) bottom
-        ↔ ((middle : List Block) × SettlesDown top upper middle × SettlesDown middle lower bottom) }
+    ensures { (top bottom : List Block) (upper lower : List ResourcesChoice)
+        → SettlesDown top (upper ++ lower) bottom ↔ SettlesThrough top upper lower bottom }
 {}
 
 /// What `==` says of two sets: they have the same numbers.

@@ -5,8 +5,7 @@ ghost use Rattle.rpki_der.specs.Cursor.{left};
 ghost use Rattle.rpki_der.specs.Reading.{Reads};
 ghost use Rattle.rpki_der.specs.FirstFault.{ReadsParts};
 ghost use Rattle.rpki_resources.specs.declared.block.Block.{Block};
-ghost use Rattle.rpki_resources.specs.Composing.{SpellsEnds};
-ghost use Rattle.rpki_resources.specs.Address.{width, IsPrefix, HasNoZeros, HasNoOnes, IsAddressOf, IsRange, SpellsAddress, SpellsRange, SpellsBlock, IsRangeContentsFault, IsRangeFault, IsBlockFault};
+ghost use Rattle.rpki_resources.specs.Address.{width, IsPrefix, HasNoZeros, HasNoOnes, IsAddressOf, IsRange, SpellsRangeEnds, SpellsRange, SpellsBlock, IsRangeContentsFault, IsRangeFault, IsBlockFault};
 
 use crate::address::Address;
 use crate::block::Block;
@@ -97,8 +96,8 @@ fn take_range(cons: &mut Constructed<'_>, family: AddressFamily) -> Result<Block
 
 /// The block whose two ends these contents are, one after the other.
 fn take_ends(contents: &mut Constructed<'_>, family: AddressFamily) -> Result<Block, DecodeError>
-    ensures { ReadsParts (λ b. b) (SpellsEnds (SpellsAddress (width family)) (IsRange (width family)))
-        (IsRangeContentsFault (width family)) (left contents.old) (left contents.new) result }
+    ensures { ReadsParts (λ b. b) (SpellsRangeEnds (width family)) (IsRangeContentsFault (width family))
+        (left contents.old) (left contents.new) result }
 {
     let lowest = Address::take_from(contents, family)?;
     let highest = Address::take_from(contents, family)?;

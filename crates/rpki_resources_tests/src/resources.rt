@@ -386,3 +386,35 @@ fn texts_of_addresses(rt: HostRuntime) -> Result<(), Fail> {
     }
     Ok(())
 }
+
+/// Whether the parts of contents are read by themselves: a family, an AS number, an address, and blocks in place.
+fn are_parts_read(octets: &[u8]) -> bool {
+    let mut cons = Constructed::from_slice(octets);
+    let Ok(family) = take_family(&mut cons) else {
+        return false;
+    };
+    let Ok(number) = take_as_number(&mut cons) else {
+        return false;
+    };
+    let Ok(address) = Address::take_from(&mut cons, family) else {
+        return false;
+    };
+    let kind = ResourceKind::Addresses(family);
+    let Ok(blocks) = BlocksView::take_contents(&mut cons, kind) else {
+        return false;
+    };
+    family == AddressFamily::Ipv4
+        && number == 64496
+        && address.number == 10
+        && address.size == 8
+        && blocks.kind() == kind
+        && blocks.count() == 1
+        && blocks.octets() == b"\x03\x02\0\x0b".as_slice()
+        && cons.is_empty()
+}
+
+#[test]
+fn parts_of_contents(rt: HostRuntime) {
+    let octets = b"\x04\x02\0\x01\x02\x03\0\xfb\xf0\x03\x02\0\x0a\x03\x02\0\x0b";
+    assert!(rt; are_parts_read(octets));
+}

@@ -12,6 +12,7 @@ fn is_right(alloc: Global, row: SetRow) -> Result<bool, AllocError> {
     let difference = one.difference(alloc, &other)?;
     Ok(
         one.encompasses(&other) == row.encompasses
+            && (one == other) == are_blocks(one.as_slice(), row.other)
             && are_blocks(intersection.as_slice(), row.intersection)
             && are_blocks(union.as_slice(), row.union)
             && are_blocks(difference.as_slice(), row.difference),
