@@ -11,8 +11,7 @@ use Rattle.rpki_der.specs.FirstFault.{FirstFault, IsEndFault}
 use Rattle.rpki_der.specs.FirstFault.FirstFault.{AtPart, Later}
 use Rattle.rpki_der.proofs.ReadingLaws.{UnlessMemory-weaker}
 use Rattle.rpki_der.proofs.PartsLaws.{Returned, Failed, first-refused, then-refused, then-read, last-read, last-refused}
-use Rattle.rpki_resources.specs.Composing.{SpellsEither, IsEitherFault, SpellsFor, IsForFault, SpellsEnds, IsEndsFault}
-use Rattle.rpki_resources.specs.Composing.IsForFault.{InValue, StandsForNothing}
+use Rattle.rpki_resources.specs.Composing.{SpellsEither, IsEitherFault, SpellsFor, SpellsEnds, IsEndsFault}
 
 abbrev pub Kind : Type 1
 Kind = List ℕ → DecodeError → Type 0
@@ -89,19 +88,6 @@ module _ {V O : Type 0} (G : O → List ℕ → Type 0) (R : V → O → Type 0)
   -- whatever the kind of error is
   pub for-refuses : (K : Kind) (e : DecodeError) → Refusal G K s r e → Refusal (SpellsFor G R) K s r e
   for-refuses K e h = record { unchanged = h.unchanged; refuses = UnlessMemory-weaker e (λ none v q k. none k.spelled.value q (value-of G R s v q k)) h.refuses; kind = h.kind }
-
-  pub for-refused : (K : Kind) (e : DecodeError) → Refusal G K s r e → Refusal (SpellsFor G R) (IsForFault G K R) s r e
-  for-refused K e h = record { unchanged = h.unchanged; refuses = (for-refuses K e h).refuses; kind = InValue h.refuses h.kind }
-
-pub for-nothing : {V O : Type 0} (G : O → List ℕ → Type 0) (R : V → O → Type 0) (K : Kind) (s q r : List ℕ) (o : O) (x : ContentError) → Accepts G s o q → ((v : V) → R v o → ⊥) → r ≡ s
-    → Refusal (SpellsFor G R) (IsForFault G K R) s r (Content x)
-for-nothing G R K s q r o x a none same = record {
-  unchanged = same;
-  refuses = λ v p h.
-      let e = a.only h.spelled.value p (value-of G R s v p h) in
-      none v (subst (R v) e.0 h.spelled.stands);
-  kind = StandsForNothing o q a none tt;
-}
 
 -- ---- two ends
 

@@ -1,12 +1,10 @@
 -- Blocks that are kept as they are given.
 use Rattle.std.proofs.Common.{◌≡◌, ℕ, List, [], ◌∷◌, ◌++◌, Option, Some, None, refl, sym, ap, ◌∙◌, subst, append_assoc}
 use Rattle.std.proofs.lemmas.List.{append-nil}
-use Rattle.std.specs.Prelude.{Result, IsErr, IsErrAnd}
 use Rattle.rpki_der.specs.declared.error.DecodeError.{DecodeError}
 use Rattle.rpki_der.specs.declared.error.DecodeError.TheVariants.{OutOfMemory}
-use Rattle.rpki_der.specs.Reading.{Accepts, Refusal, Reads, Finds, OrMemoryWhere}
+use Rattle.rpki_der.specs.Reading.{Refusal, Finds, OrMemoryWhere}
 use Rattle.rpki_der.proofs.ReadingLaws.{UnlessMemory-weaker, or-memory-where}
-use Rattle.rpki_der.proofs.TriedLaws.{tried-refused}
 use Rattle.rpki_resources.specs.declared.block.Block.{Block}
 use Rattle.rpki_resources.specs.declared.choice.ResourcesChoice.{ResourcesChoice}
 use Rattle.rpki_resources.specs.declared.choice.ResourcesChoice.TheVariants.{Missing as NoneKept, Inherit as InheritKept, Blocks as BlocksKept}
@@ -92,11 +90,3 @@ module _ {V O : Type 0} (G : O → List ℕ → Type 0) (R : V → O → Type 0)
     refuses = UnlessMemory-weaker e (λ none v p k. none k.spelled.value p (value-of G R s v p k)) h.refuses;
     kind = or-memory-where (Finds G) K s e (λ k. absurd (never k)) h.kind;
   }
-
-  pub not-kept : (o : O) (q : List ℕ) → r ≡ s → Accepts G s o q → Refusal (SpellsFor G R) (OrMemoryWhere (Finds G) K) s r OutOfMemory
-  not-kept o q same a = record { unchanged = same; refuses = tt; kind = (o, q, a.spells) }
-
--- an error that says why there is no memory
-pub tried-memory : {V : Type 0} (H : V → List ℕ → Type 0) (K : List ℕ → DecodeError → Type 0) (s r : List ℕ) (x : Result V DecodeError)
-    → IsErr x × IsErrAnd x (λ e. e ≡ OutOfMemory) → Refusal H K s r OutOfMemory → Reads (λ v. v) H K s r x
-tried-memory H K s r x h k = tried-refused (λ v. v) H K s r OutOfMemory x h k

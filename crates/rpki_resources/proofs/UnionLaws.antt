@@ -185,9 +185,3 @@ module _ (one other found xs ys : List Block) (before : Block) (m : Uniting one 
     ends n (inl (inr a)) = (among-append n found (before ∷ [])).1 (inr (inl a))
     ends n (inr (inl a)) = absurd (subst (IsAmong n) ex a)
     ends n (inr (inr a)) = absurd (subst (IsAmong n) ey a)
-
-pub none-united : (one other found : List Block) → one ≡ [] → other ≡ [] → found ≡ [] → AreUnited one other found
-none-united one other found ex ey e = subst (λ (xs : List Block). AreUnited xs other found) (sym ex) (subst (λ (ys : List Block). AreUnited [] ys found) (sym ey) (subst (AreUnited [] []) (sym e) (record {
-  numbers = λ n. (λ a. absurd a, λ a. elim a [ inl p ↦ p | inr p ↦ p ]);
-  canonical = tt;
-})))

@@ -3,7 +3,6 @@ use Rattle.std.specs.Prelude.{◌⊎◌, ℕ, List}
 use Rattle.rpki_der.specs.declared.error.DecodeError.{DecodeError}
 use Rattle.rpki_der.specs.declared.error.DecodeError.TheVariants.{Truncated, BadTag, BadLength, Unexpected, Content, Trailing, OutOfMemory}
 use Rattle.rpki_der.specs.TagName.{TagName}
-use Rattle.rpki_der.specs.Reading.{Accepts, Refuses, UnlessMemory}
 use Rattle.rpki_der.specs.Values.{HasTag}
 use Rattle.rpki_der.specs.Parts.{Then}
 use Rattle.rpki_der.specs.FirstFault.{FirstFault, IsEndFault}
@@ -36,13 +35,6 @@ pub record SpellsFor {V O : Type 0} (G : O → List ℕ → Type 0) (R : V → O
   pub value : O
   pub spelled : G value p
   pub stands : R v value
-
--- the error of G where nothing of G begins s; or a value of G begins it, and nothing stands for that
-pub data IsForFault {V O : Type 0} (G : O → List ℕ → Type 0) (K : List ℕ → DecodeError → Type 0) (R : V → O → Type 0)
-    (s : List ℕ) (e : DecodeError) : Type 0 where
-  InValue : UnlessMemory e (Refuses G s) → K s e → IsForFault G K R s e
-  StandsForNothing : (o : O) (r : List ℕ) → Accepts G s o r → ((v : V) → R v o → ⊥) → IsContentError e
-      → IsForFault G K R s e
 
 -- ---- two ends
 
