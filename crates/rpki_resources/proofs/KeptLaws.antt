@@ -1,0 +1,92 @@
+-- Blocks that are kept as they are given.
+use Rattle.std.proofs.Common.{◌≡◌, ℕ, List, [], ◌∷◌, ◌++◌, Option, Some, None, refl, sym, ap, ◌∙◌, subst, append_assoc}
+use Rattle.std.proofs.lemmas.List.{append-nil}
+use Rattle.rpki_der.specs.declared.error.DecodeError.{DecodeError}
+use Rattle.rpki_der.specs.declared.error.DecodeError.TheVariants.{OutOfMemory}
+use Rattle.rpki_der.specs.Reading.{Refusal, Finds, OrMemoryWhere}
+use Rattle.rpki_der.proofs.ReadingLaws.{UnlessMemory-weaker, or-memory-where}
+use Rattle.rpki_resources.specs.declared.block.Block.{Block}
+use Rattle.rpki_resources.specs.declared.choice.ResourcesChoice.{ResourcesChoice}
+use Rattle.rpki_resources.specs.declared.choice.ResourcesChoice.TheVariants.{Missing as NoneKept, Inherit as InheritKept, Blocks as BlocksKept}
+use Rattle.rpki_resources.specs.declared.choice_view.ChoiceView.{ChoiceView}
+use Rattle.rpki_resources.specs.declared.choice_view.ChoiceView.TheVariants.{Missing, Inherit, Blocks}
+use Rattle.rpki_resources.specs.declared.resources.IpResources.{IpResources}
+use Rattle.rpki_resources.specs.declared.resources.AsResources.{AsResources}
+use Rattle.rpki_resources.specs.declared.ip_view.IpResourcesView.{IpResourcesView}
+use Rattle.rpki_resources.specs.Composing.{SpellsFor}
+use Rattle.rpki_resources.specs.Kept.{IsChoiceOf, IsOnlyChoiceOf, AreIpResourcesOf, AreAsResourcesOf}
+use Rattle.rpki_resources.proofs.ComposingLaws.{value-of}
+use Rattle.rpki_resources.specs.Blocks.{AreCanonical}
+use Rattle.rpki_resources.specs.InPlace.{Octets, Holds, HoldsOnly, Rest, IsLeft, Gives}
+
+-- the blocks that x holds are xs, and those that are left of them
+abbrev pub Kept : Octets → List Block → Rest → Type 0
+Kept x xs rest = (bs : List Block) → Holds x bs → (ds : List Block) × IsLeft rest ds × (bs ≡ xs ++ ds)
+
+module _ (x : Octets) (xs : List Block) (before : Rest) (kept : Kept x xs before) (found : Option Block) (after : Rest)
+    (given : (bs : List Block) → IsLeft before bs → Gives bs found after) where
+  pub one-kept : (b : Block) → found ≡ Some b → Kept x (xs ++ (b ∷ [])) after
+  one-kept b is bs h = let k = kept bs h in step k.0 k.2 (given k.0 k.1) where
+    step : (ds : List Block) → bs ≡ xs ++ ds → Gives ds found after → (es : List Block) × IsLeft after es × (bs ≡ (xs ++ (b ∷ [])) ++ es)
+    step [] e g = let no : Some b ≡ None = sym is ∙ g.0 in absurd (cc)
+    step (d ∷ ds) e g =
+        let same : Some b ≡ Some d = sym is ∙ g.0 in
+        let one : b ≡ d = cc in
+        (ds, g.1, e ∙ ap (λ (y : Block). xs ++ (y ∷ ds)) (sym one) ∙ sym (append_assoc xs (b ∷ []) ds))
+
+  pub all-kept : found ≡ None → (bs : List Block) → Holds x bs → bs ≡ xs
+  all-kept is bs h = let k = kept bs h in step k.0 k.2 (given k.0 k.1) where
+    step : (ds : List Block) → bs ≡ xs ++ ds → Gives ds found after → bs ≡ xs
+    step [] e g = e ∙ append-nil xs
+    step (d ∷ ds) e g = let no : Some d ≡ None = sym g.0 ∙ is in absurd (cc)
+
+pub held-only : (x : Octets) (xs : List Block) → ((bs : List Block) × Holds x bs) → ((bs : List Block) → Holds x bs → bs ≡ xs) → HoldsOnly x xs
+held-only x xs some all = (subst (Holds x) (all some.0 some.1) some.1, all)
+
+pub kept-canonical : (x : Octets) (xs : List Block) → HoldsOnly x xs → AreCanonical xs
+kept-canonical x xs h = h.0.blocks.canonical
+
+-- ---- choices
+
+pub missing-only : IsOnlyChoiceOf NoneKept Missing
+missing-only = (tt, only) where
+  only : (w : ResourcesChoice) → IsChoiceOf w Missing → w ≡ NoneKept
+  only NoneKept h = refl
+  only InheritKept h = absurd h
+  only (BlocksKept bs) h = absurd h
+
+pub inherit-only : IsOnlyChoiceOf InheritKept Inherit
+inherit-only = (tt, only) where
+  only : (w : ResourcesChoice) → IsChoiceOf w Inherit → w ≡ InheritKept
+  only NoneKept h = absurd h
+  only InheritKept h = refl
+  only (BlocksKept bs) h = absurd h
+
+pub blocks-only : (x : Octets) (bs : List Block) → HoldsOnly x bs → IsOnlyChoiceOf (BlocksKept bs) (Blocks x)
+blocks-only x bs k = (k.0, only) where
+  only : (w : ResourcesChoice) → IsChoiceOf w (Blocks x) → w ≡ BlocksKept bs
+  only NoneKept h = absurd h
+  only InheritKept h = absurd h
+  only (BlocksKept ds) h = ap (λ (ys : List Block). BlocksKept ys) (k.1 ds h)
+
+abbrev pub ip_of : ResourcesChoice → ResourcesChoice → IpResources
+ip_of v4 v6 = record { v4 = v4; v6 = v6 }
+
+abbrev pub as_of : ResourcesChoice → AsResources
+as_of numbers = record { numbers = numbers }
+
+pub ip-only : (x : IpResourcesView) (v4 v6 : ResourcesChoice) → IsOnlyChoiceOf v4 x.v4 → IsOnlyChoiceOf v6 x.v6 → (w : IpResources) → AreIpResourcesOf w x → w ≡ ip_of v4 v6
+ip-only x v4 v6 h k w both = ap (λ (y : ResourcesChoice). ip_of y w.v6) (h.1 w.v4 both.0) ∙ ap (λ (y : ResourcesChoice). ip_of v4 y) (k.1 w.v6 both.1)
+
+pub as-only : (x : ChoiceView) (v : ResourcesChoice) → IsOnlyChoiceOf v x → (w : AsResources) → AreAsResourcesOf w x → w ≡ as_of v
+as-only x v h w k = ap (λ (y : ResourcesChoice). as_of y) (h.1 w.numbers k)
+
+-- ---- readers that keep what was read
+
+module _ {V O : Type 0} (G : O → List ℕ → Type 0) (R : V → O → Type 0) (K : List ℕ → DecodeError → Type 0) (s r : List ℕ) where
+  pub not-read : (q : List ℕ) (e : DecodeError) → r ≡ s → (K s OutOfMemory → ⊥) → Refusal G K s q e → Refusal (SpellsFor G R) (OrMemoryWhere (Finds G) K) s r e
+  not-read q e same never h = record {
+    unchanged = same;
+    refuses = UnlessMemory-weaker e (λ none v p k. none k.spelled.value p (value-of G R s v p k)) h.refuses;
+    kind = or-memory-where (Finds G) K s e (λ k. absurd (never k)) h.kind;
+  }

@@ -1,0 +1,51 @@
+-- Resources that are kept, beside those that were read in place.
+use Rattle.std.specs.Prelude.{◌≡◌, ℕ, List}
+use Rattle.rpki_der.specs.declared.error.DecodeError.{DecodeError}
+use Rattle.rpki_der.specs.Reading.{Finds, OrMemoryWhere}
+use Rattle.rpki_resources.specs.declared.choice.ResourcesChoice.{ResourcesChoice}
+use Rattle.rpki_resources.specs.declared.choice.ResourcesChoice.TheVariants.{Missing as NoneKept, Inherit as InheritKept, Blocks as BlocksKept}
+use Rattle.rpki_resources.specs.declared.choice_view.ChoiceView.{ChoiceView}
+use Rattle.rpki_resources.specs.declared.choice_view.ChoiceView.TheVariants.{Missing, Inherit, Blocks}
+use Rattle.rpki_resources.specs.declared.resources.IpResources.{IpResources}
+use Rattle.rpki_resources.specs.declared.resources.AsResources.{AsResources}
+use Rattle.rpki_resources.specs.declared.ip_view.IpResourcesView.{IpResourcesView}
+use Rattle.rpki_resources.specs.Composing.{SpellsFor}
+use Rattle.rpki_resources.specs.InPlace.{Holds}
+use Rattle.rpki_resources.specs.Extension.{SpellsIpResources, IsIpResourcesFault, SpellsAsResources, IsAsResourcesFault}
+
+-- the choice that is kept says what the other says, and lists the blocks that it holds
+abbrev pub IsChoiceOf : ResourcesChoice → ChoiceView → Type 0
+IsChoiceOf NoneKept Missing = Unit {0}
+IsChoiceOf NoneKept Inherit = ⊥
+IsChoiceOf NoneKept (Blocks x) = ⊥
+IsChoiceOf InheritKept Missing = ⊥
+IsChoiceOf InheritKept Inherit = Unit {0}
+IsChoiceOf InheritKept (Blocks x) = ⊥
+IsChoiceOf (BlocksKept bs) Missing = ⊥
+IsChoiceOf (BlocksKept bs) Inherit = ⊥
+IsChoiceOf (BlocksKept bs) (Blocks x) = Holds x bs
+
+-- and it alone does
+abbrev pub IsOnlyChoiceOf : ResourcesChoice → ChoiceView → Type 0
+IsOnlyChoiceOf v x = IsChoiceOf v x × ((w : ResourcesChoice) → IsChoiceOf w x → w ≡ v)
+
+abbrev pub AreIpResourcesOf : IpResources → IpResourcesView → Type 0
+AreIpResourcesOf v x = IsChoiceOf v.v4 x.v4 × IsChoiceOf v.v6 x.v6
+
+abbrev pub AreAsResourcesOf : AsResources → ChoiceView → Type 0
+AreAsResourcesOf v x = IsChoiceOf v.numbers x
+
+-- the contents of the extension of IP address blocks
+abbrev pub SpellsIp : IpResources → List ℕ → Type 0
+SpellsIp = SpellsFor SpellsIpResources AreIpResourcesOf
+
+-- the error; allocation fails only where resources are there
+abbrev pub IsIpFault : List ℕ → DecodeError → Type 0
+IsIpFault = OrMemoryWhere (Finds SpellsIpResources) IsIpResourcesFault
+
+-- the contents of the extension of AS identifiers
+abbrev pub SpellsAs : AsResources → List ℕ → Type 0
+SpellsAs = SpellsFor SpellsAsResources AreAsResourcesOf
+
+abbrev pub IsAsFault : List ℕ → DecodeError → Type 0
+IsAsFault = OrMemoryWhere (Finds SpellsAsResources) IsAsResourcesFault

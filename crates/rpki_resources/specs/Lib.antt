@@ -1,0 +1,15 @@
+-- Definitions: what the contracts say. They are trusted, and read against the standards.
+pub mod Blocks
+pub mod Union
+pub mod Composing
+pub mod Address
+pub mod AsNumber
+pub mod Listed
+pub mod InPlace
+pub mod Extension
+pub mod Kept
+pub mod Settled
+pub mod Text
+pub mod Equal
+-- Lemmas that an `impl` cites.
+pub mod EqualLaws

@@ -1,0 +1,60 @@
+-- Lists of blocks in canonical form, as contents of a SEQUENCE (RFC 3779 2.2.3.5, 2.2.3.6, 3.2.3.3, 3.2.3.4).
+use Rattle.std.specs.Prelude.{◌≡◌, ◌≢◌, ◌<◌, ℕ, suc, List, [], ◌∷◌, Option, Some, None}
+use Rattle.rpki_der.specs.declared.error.DecodeError.{DecodeError}
+use Rattle.rpki_der.specs.Reading.{Spells, Accepts, Refuses}
+use Rattle.rpki_der.specs.Each.{SpellsEach}
+use Rattle.rpki_resources.specs.declared.block.Block.{Block}
+use Rattle.rpki_resources.specs.declared.kind.ResourceKind.{ResourceKind}
+use Rattle.rpki_resources.specs.declared.kind.ResourceKind.TheVariants.{Addresses, AsNumbers}
+use Rattle.rpki_resources.specs.Blocks.{AreCanonical}
+use Rattle.rpki_resources.specs.Composing.{IsContentError}
+use Rattle.rpki_resources.specs.Address.{width, SpellsBlock, IsBlockFault}
+use Rattle.rpki_resources.specs.AsNumber.{SpellsAsBlock, IsAsBlockFault}
+
+-- a block of a kind
+abbrev pub SpellsBlockOf : ResourceKind → Block → List ℕ → Type 0
+SpellsBlockOf (Addresses family) = SpellsBlock (width family)
+SpellsBlockOf AsNumbers = SpellsAsBlock
+
+abbrev pub IsBlockFaultOf : ResourceKind → List ℕ → DecodeError → Type 0
+IsBlockFaultOf (Addresses family) = IsBlockFault (width family)
+IsBlockFaultOf AsNumbers = IsAsBlockFault
+
+-- Contents of the SEQUENCE: blocks in canonical form, one at least.
+pub record AreBlocks (kind : ResourceKind) (bs : List Block) (c : List ℕ) : Type 0 where
+  pub each : SpellsEach (SpellsBlockOf kind) bs c
+  pub canonical : AreCanonical bs
+  pub some : bs ≢ []
+
+-- ---- block by block
+
+-- the block begins past the highest number before it, and a number is between them; the first begins anywhere
+abbrev pub Follows : Option ℕ → Block → Type 0
+Follows None b = Unit {0}
+Follows (Some high) b = suc high < b.low
+
+-- a block that may stand behind that number
+pub record SpellsNext (kind : ResourceKind) (last : Option ℕ) (b : Block) (p : List ℕ) : Type 0 where
+  pub block : SpellsBlockOf kind b p
+  pub follows : Follows last b
+
+-- blocks, each of which may stand behind the one before it
+abbrev pub SpellsFollowing : ResourceKind → Option ℕ → List Block → List ℕ → Type 0
+SpellsFollowing kind last [] c = c ≡ []
+SpellsFollowing kind last (b ∷ bs) c =
+    (rest : List ℕ) × Spells (SpellsNext kind last) c b rest × SpellsFollowing kind (Some b.high) bs rest
+
+-- no block is there, and the error is that of a block; or one is there, and may not stand behind that number
+pub data IsNextFault (kind : ResourceKind) (last : Option ℕ) (s : List ℕ) (e : DecodeError) : Type 0 where
+  InBlock : Refuses (SpellsBlockOf kind) s → IsBlockFaultOf kind s e → IsNextFault kind last s e
+  OutOfOrder : (b : Block) (r : List ℕ) → Accepts (SpellsBlockOf kind) s b r → (Follows last b → ⊥) → IsContentError e
+      → IsNextFault kind last s e
+
+-- The error of blocks that are to fill s: that of the first that isn't there, or isn't in canonical form; or there is
+-- none at all.
+pub data AreBlocksFault (kind : ResourceKind) : Option ℕ → List ℕ → DecodeError → Type 0 where
+  NoBlock : {e : DecodeError} → IsContentError e → AreBlocksFault kind None [] e
+  AtBlock : {last : Option ℕ} {s : List ℕ} {e : DecodeError} → s ≢ [] → IsNextFault kind last s e
+      → AreBlocksFault kind last s e
+  AfterBlock : {last : Option ℕ} {s : List ℕ} {e : DecodeError} (b : Block) (r : List ℕ)
+      → Accepts (SpellsNext kind last) s b r → AreBlocksFault kind (Some b.high) r e → AreBlocksFault kind last s e

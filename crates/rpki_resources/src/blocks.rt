@@ -1,0 +1,207 @@
+//! Sets of numbers.
+
+ghost use Rattle.std.specs.Prelude.{◌≡◌, ◌≤◌, ◌↔◌, [], ◌∷◌, IsTrue, IfSome, IfNone, IfOk};
+ghost use Rattle.rpki_resources.specs.Blocks.{IsAmong, IsSubset, AreCanonical, AreShared, AreUnited, AreLacking};
+ghost use Rattle.rpki_resources.specs.InPlace.{HoldsOnly};
+
+use crate::block::Block;
+use crate::canonical::are_canonical;
+use crate::difference::lacking;
+use crate::merge::shared;
+use crate::union::united;
+use crate::view::BlocksView;
+use std::alloc::{AllocError, Global};
+use std::marker::Model;
+
+/// A set of numbers, as the blocks that it is made of: in canonical form, so that a set has one list.
+#[derive(Debug, Drop)]
+pub struct Blocks {
+    items: Vec<Block>,
+}
+
+impl Model for Blocks {
+    ghost use Rattle.std.specs.Prelude.{List};
+    ghost use Rattle.rpki_resources.specs.declared.block.Block.{Block};
+    ghost use Rattle.rpki_resources.specs.Blocks.{AreCanonical};
+
+    ghost Value = { List Block };
+
+    ghost view = { λ x. x.items.items };
+
+    ghost invariant = { λ x. AreCanonical x.items.items };
+}
+
+/// Whether each number of some blocks is in others. It goes over both once.
+fn is_part(part: &[Block], whole: &[Block]) -> bool
+    requires part { AreCanonical part.now }
+    requires whole { AreCanonical whole.now }
+    ensures { IsTrue result ↔ IsSubset part.now whole.now }
+{
+    let mut inners = part;
+    let mut outers = whole;
+    'pairs: while let Some((inner, later)) = inners.split_first() {
+        match outers.split_first() {
+            Some((outer, others)) => {
+                if outer.high < inner.low {
+                    outers = others;
+                } else if inner.low < outer.low {
+                    return false;
+                } else if outer.high < inner.high {
+                    return false;
+                } else {
+                    inners = later;
+                }
+            }
+            None => return false,
+        }
+    }
+    true
+}
+
+/// Whether the number is in one of the blocks.
+fn is_among(number: u128, blocks: &[Block]) -> bool
+    ensures { IsTrue result ↔ IsAmong number blocks.now }
+{
+    let mut rest = blocks;
+    'each: while let Some((first, following)) = rest.split_first() {
+        if first.contains(number) {
+            return true;
+        }
+        rest = following;
+    }
+    false
+}
+
+impl Blocks {
+    /// The empty set.
+    pub fn empty(alloc: Global) -> Blocks
+        ensures { result ≡ [] }
+    {
+        Blocks {
+            items: Vec::new(alloc),
+        }
+    }
+
+    /// The set of these blocks, where they are in canonical form.
+    pub fn from_canonical(items: Vec<Block>) -> Option<Blocks>
+        ensures some { IfSome result (λ x. (x ≡ items.items) × AreCanonical items.items) }
+        ensures none { IfNone result (AreCanonical items.items → ⊥) }
+    {
+        if !are_canonical(items.as_slice()) {
+            return None;
+        }
+        Some(Blocks { items })
+    }
+
+    /// Keeps the blocks that were read in place. They are allocated once.
+    ///
+    /// Returns `AllocError` if allocation fails.
+    pub fn from_view(alloc: Global, view: &BlocksView<'_>) -> Result<Blocks, AllocError>
+        ensures { IfOk result (λ bs. HoldsOnly view.now bs) }
+    {
+        let mut items = Vec::with_capacity(alloc, view.count())?;
+        let mut rest = view.blocks();
+        'each: while let Some(block) = rest.next_block() {
+            items.push(block)?;
+        }
+        Ok(Blocks { items })
+    }
+
+    /// The blocks, in order.
+    pub fn as_slice(&self) -> &[Block]
+        ensures blocks { result.now ≡ self.now }
+        ensures canonical { AreCanonical self.now }
+    {
+        self.items.as_slice()
+    }
+
+    /// Whether the set has no number.
+    pub fn is_empty(&self) -> bool
+        ensures { IsTrue result ↔ (self.now ≡ []) }
+    {
+        self.items.is_empty()
+    }
+
+    /// Whether the number is in the set.
+    pub fn contains(&self, number: u128) -> bool
+        ensures { IsTrue result ↔ IsAmong number self.now }
+    {
+        is_among(number, self.as_slice())
+    }
+
+    /// Whether each number of the other set is in this one. It goes over the blocks of both once.
+    pub fn encompasses(&self, other: &Blocks) -> bool
+        ensures { IsTrue result ↔ IsSubset other.now self.now }
+    {
+        is_part(other.as_slice(), self.as_slice())
+    }
+
+    /// Whether each number of the block is in the set.
+    pub fn contains_block(&self, block: Block) -> bool
+        requires { block.low ≤ block.high }
+        ensures { IsTrue result ↔ IsSubset (block ∷ []) self.now }
+    {
+        is_part(&[block], self.as_slice())
+    }
+
+    /// A copy of the set, which is allocated once.
+    ///
+    /// Returns `AllocError` if allocation fails.
+    pub fn clone(&self, alloc: Global) -> Result<Blocks, AllocError>
+        ensures { IfOk result (λ x. x ≡ self.now) }
+    {
+        let items = Vec::from_slice(alloc, self.items.as_slice())?;
+        Ok(Blocks { items })
+    }
+
+    /// The numbers that are in both sets. It goes over the blocks of both once.
+    ///
+    /// Returns `AllocError` if allocation fails.
+    pub fn intersection(&self, alloc: Global, other: &Blocks) -> Result<Blocks, AllocError>
+        ensures { IfOk result (λ x. AreShared self.now other.now x) }
+    {
+        let items = shared(alloc, self.as_slice(), other.as_slice())?;
+        Ok(Blocks { items })
+    }
+
+    /// The numbers that are in one of the sets, or in both. It goes over the blocks of both once.
+    ///
+    /// Returns `AllocError` if allocation fails.
+    pub fn union(&self, alloc: Global, other: &Blocks) -> Result<Blocks, AllocError>
+        ensures { IfOk result (λ x. AreUnited self.now other.now x) }
+    {
+        let items = united(alloc, self.as_slice(), other.as_slice())?;
+        Ok(Blocks { items })
+    }
+
+    /// The numbers of this set that aren't in the other. It goes over the blocks of both once.
+    ///
+    /// Returns `AllocError` if allocation fails.
+    pub fn difference(&self, alloc: Global, other: &Blocks) -> Result<Blocks, AllocError>
+        ensures { IfOk result (λ x. AreLacking self.now other.now x) }
+    {
+        let items = lacking(alloc, self.as_slice(), other.as_slice())?;
+        Ok(Blocks { items })
+    }
+}
+
+/// Two sets are equal where they have the same numbers (`laws::equal_blocks_are_one_set`).
+impl PartialEq for Blocks {
+    ghost use Rattle.std.specs.Cmp.{partial_equiv_from_equiv};
+    ghost use Rattle.rpki_resources.specs.Equal.{same_blocks};
+    ghost use Rattle.rpki_resources.specs.EqualLaws.{same_blocks_equivalence};
+
+    ghost eq = { same_blocks };
+
+    ghost laws = { partial_equiv_from_equiv same_blocks_equivalence };
+
+    fn eq(&self, other: &Blocks) -> bool {
+        self.as_slice() == other.as_slice()
+    }
+}
+
+impl Eq for Blocks {
+    ghost use Rattle.rpki_resources.specs.EqualLaws.{same_blocks_equivalence};
+
+    ghost laws = { same_blocks_equivalence };
+}

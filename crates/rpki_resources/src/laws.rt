@@ -1,0 +1,31 @@
+//! Laws of the definitions.
+
+ghost use Rattle.std.specs.Prelude.{◌≡◌, ◌↔◌, ◌++◌, List, IsTrue};
+ghost use Rattle.rpki_resources.specs.Equal.{same_blocks};
+ghost use Rattle.rpki_resources.specs.declared.choice.ResourcesChoice.{ResourcesChoice};
+ghost use Rattle.rpki_resources.specs.Settled.{SettlesDown, SettlesThrough};
+ghost use Rattle.rpki_resources.specs.declared.block.Block.{Block};
+ghost use Rattle.rpki_resources.specs.Blocks.{IsSubset, AreCanonical};
+
+/// A set has one list of blocks in canonical form.
+pub fn canonical_lists_are_sets()
+    ensures { (xs ys : List Block) → AreCanonical xs → AreCanonical ys → IsSubset xs ys → IsSubset ys xs → xs ≡ ys }
+{}
+
+/// Down a chain nobody has more than an issuer above: what a chain settles, from any certificate in it on, is within
+/// what that certificate has.
+pub fn chains_settle_within()
+    ensures { (top bottom : List Block) (choices : List ResourcesChoice) → SettlesDown top choices bottom → IsSubset bottom top }
+{}
+
+/// A chain is settled link by link: what the upper part of it settles is what the lower part begins with.
+pub fn chains_join()
+    ensures { (top bottom : List Block) (upper lower : List ResourcesChoice)
+        → SettlesDown top (upper ++ lower) bottom ↔ SettlesThrough top upper lower bottom }
+{}
+
+/// What `==` says of two sets: they have the same numbers.
+pub fn equal_blocks_are_one_set()
+    ensures { (xs ys : List Block) → AreCanonical xs → AreCanonical ys
+        → IsTrue (same_blocks xs ys) ↔ (IsSubset xs ys × IsSubset ys xs) }
+{}

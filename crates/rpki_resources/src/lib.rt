@@ -1,0 +1,47 @@
+//! Resources of the RPKI: blocks of IP addresses and of AS numbers (RFC 3779).
+//!
+//! `IpResources::decode` and `AsResources::decode` read the contents of the two extensions of certificates in exactly
+//! their canonical form. What they return is a set of numbers: `encompasses` says whether one is a part of another.
+#![tactic(auto)]
+
+mod address;
+mod as_number;
+mod as_text;
+mod block;
+mod blocks;
+mod canonical;
+mod choice;
+mod choice_reading;
+mod choice_view;
+mod difference;
+mod family;
+mod ip_reading;
+mod ip_text;
+mod ip_view;
+mod kept;
+mod kind;
+pub mod laws;
+mod listed;
+mod merge;
+mod prefix;
+mod resources;
+mod settled;
+mod union;
+mod view;
+
+pub use address::Address;
+pub use as_number::take_as_number;
+pub use as_text::{AsBlock, AsRange, Asn};
+pub use block::Block;
+pub use blocks::Blocks;
+pub use choice::ResourcesChoice;
+pub use choice_reading::take_as_resources;
+pub use choice_view::ChoiceView;
+pub use family::AddressFamily;
+pub use ip_reading::{take_family, take_ip_resources};
+pub use ip_text::{AddressRange, IpBlock, Prefix};
+pub use ip_view::IpResourcesView;
+pub use kind::ResourceKind;
+pub use resources::{AsResources, IpResources};
+pub use settled::SettleError;
+pub use view::{BlockCursor, BlocksView};
