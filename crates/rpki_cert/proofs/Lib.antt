@@ -2,7 +2,7 @@
 --
 -- Values, one at least; lists of extensions; each identifier once: SomeLaws, ExtensionListLaws, UniqueLaws.
 -- What is signed, and a certificate around it: CertLaws. What an extension says: KnownLaws, PolicyLaws, AccessLaws.
--- Checks of profiles: ProfileLaws. Their rules: RuleLaws.
+-- Keys: KeyLaws. Checks of profiles: ProfileLaws. Their rules: RuleLaws. What is verified: VerifiedLaws.
 -- Read in place: values, names, access descriptions, lists of extensions, their index, fields, certificates: NestedLaws,
 --   NameViewLaws, ObjectAccessLaws, ListedLaws, ExtensionIndexLaws, FieldsLaws, ViewLaws. That what is signed is one
 --   value: TbsValueLaws. That what is wrong is no certificate: WrongLaws.
@@ -15,8 +15,10 @@ pub mod CertLaws
 pub mod KnownLaws
 pub mod PolicyLaws
 pub mod AccessLaws
+pub mod KeyLaws
 pub mod ProfileLaws
 pub mod RuleLaws
+pub mod VerifiedLaws
 pub mod NestedLaws
 pub mod NameViewLaws
 pub mod ObjectAccessLaws
