@@ -1,7 +1,7 @@
 -- Which lemma file answers which question.
 --
 -- Values, one at least; lists of extensions; each identifier once: SomeLaws, ExtensionListLaws, UniqueLaws.
--- What is signed, and a certificate around it: CertLaws. What an extension says: KnownLaws, PolicyLaws, AccessLaws.
+-- Signed data without unused bits: WholeLaws. What is signed, and a certificate around it: CertLaws. What an extension says: KnownLaws, PolicyLaws, AccessLaws.
 -- Keys: KeyLaws. Checks of profiles: ProfileLaws. Their rules: RuleLaws. What is verified: VerifiedLaws.
 -- Read in place: values, names, access descriptions, lists of extensions, their index, fields, certificates: NestedLaws,
 --   NameViewLaws, ObjectAccessLaws, ListedLaws, ExtensionIndexLaws, FieldsLaws, ViewLaws. That what is signed is one
@@ -11,6 +11,7 @@
 pub mod SomeLaws
 pub mod ExtensionListLaws
 pub mod UniqueLaws
+pub mod WholeLaws
 pub mod CertLaws
 pub mod KnownLaws
 pub mod PolicyLaws
