@@ -6,6 +6,7 @@ use Rattle.rpki_der.specs.Reading.{UnlessMemory, TakesNoMemory}
 use Rattle.rpki.specs.ErrorContent.{content_of}
 use Rattle.rpki_der.specs.declared.error.DecodeError.{DecodeError}
 use Rattle.rpki_der.specs.declared.error.DecodeError.TheVariants.{Truncated, BadTag, BadLength, Unexpected, Content, Trailing, OutOfMemory}
+use Rattle.rpki.specs.declared.repository.error.InspectionError.{InspectionError}
 use Rattle.rpki.specs.declared.repository.error.ValidationError.{ValidationError}
 use Rattle.rpki.specs.declared.repository.error.ValidationError.TheVariants.{Decoding, Inspection, Verification}
 use Rattle.rpki_cert.specs.Cert.{find}
@@ -127,12 +128,16 @@ HasText text (Verification e) = ⊥
 abbrev pub critical_text : List ℕ
 critical_text = codes "extension is not as critical as it has to be"
 
+-- what is found isn't as critical as it has to be, and the text says so
+abbrev pub IsOtherCritical : Bool → Option ExtensionParts → InspectionError → Type 0
+IsOtherCritical critical found e =
+    (text_of (content_of e) ≡ critical_text) × (x : ExtensionParts) × (found ≡ Some x) × (x.critical ≡ critical → ⊥)
+
 -- what is found is as critical as it has to be, and K is the error of its octets; or it isn't, and the text says so
 abbrev pub IsFoundFault : Bool → (List ℕ → DecodeError → Type 0) → Option ExtensionParts → ValidationError → Type 0
 IsFoundFault critical K found (Decoding e) =
     (x : ExtensionParts) × (found ≡ Some x) × (x.critical ≡ critical) × TakesNoMemory K x.content e
-IsFoundFault critical K found (Inspection e) =
-    (text_of (content_of e) ≡ critical_text) × (x : ExtensionParts) × (found ≡ Some x) × (x.critical ≡ critical → ⊥)
+IsFoundFault critical K found (Inspection e) = IsOtherCritical critical found e
 IsFoundFault critical K found (Verification e) = ⊥
 
 -- what is found is malformed, or not as critical as it has to be, and this is its error

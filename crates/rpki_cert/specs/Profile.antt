@@ -129,11 +129,14 @@ pub record HasIssuer (xs : List ExtensionParts) : Type 0 where
   pub certificate : HasSomeUri authority_info_access (SpellsRsyncAccess ca_issuers) xs
 
 -- issued by itself: the authority key identifier is left out, or is the subject key identifier (RFC 6487 4.8.3)
+abbrev pub SaysOwn : Option ExtensionParts → Option ExtensionParts → Type 0
+SaysOwn authority subject =
+    (authority ≡ None)
+    ⊎ ((identifier : List ℕ) × Says false SpellsAuthority authority (Some identifier)
+    × Says false SpellsKeyIdentifier subject (Some identifier))
+
 abbrev pub HasOwnAuthority : List ExtensionParts → Type 0
-HasOwnAuthority xs =
-    (find authority_key_identifier xs ≡ None)
-    ⊎ ((identifier : List ℕ) × HasExtension authority_key_identifier false SpellsAuthority xs (Some identifier)
-    × HasExtension subject_key_identifier false SpellsKeyIdentifier xs (Some identifier))
+HasOwnAuthority xs = SaysOwn (find authority_key_identifier xs) (find subject_key_identifier xs)
 
 -- ---- the profiles
 

@@ -1,5 +1,5 @@
 -- Which error a check of a rule returns for a certificate that breaks it.
-use Rattle.std.specs.Prelude.{ℕ, Bool, true, false, List, Option, Result, MatchResult}
+use Rattle.std.specs.Prelude.{ℕ, Bool, true, false, List, Option, Result, MatchResult, Some}
 use Rattle.rpki_der.specs.declared.error.DecodeError.{DecodeError}
 use Rattle.rpki_der.specs.Reading.{AnyFault}
 use Rattle.rpki.specs.declared.repository.error.ValidationError.{ValidationError}
@@ -10,7 +10,8 @@ use Rattle.rpki.specs.ExtensionValue.{ExtensionParts}
 use Rattle.rpki_cert.specs.declared.rule.CertRule.{CertRule}
 use Rattle.rpki_cert.specs.declared.rule.CertRule.TheVariants.{SerialNumber, CriticalExtensions, Issuer, Validity, Subject, RouterSubject, RsaKey, RouterKey, BasicConstraints, NoBasicConstraints, SubjectKeyIdentifier, AuthorityKeyIdentifier, OwnAuthority, SelfIssued, AuthorityUsage, EndUsage, NoExtendedKeyUsage, RouterPurpose, RevocationList, NoRevocationList, IssuerCertificate, NoIssuerCertificate, Repository, Manifest, SignedObject, ObjectAccess, NoSubjectAccess, CertificatePolicies, Resources, ResourceVersion, RouterNumbers}
 use Rattle.rpki_cert.specs.Cert.{TbsParts, find}
-use Rattle.rpki_cert.specs.Known.{subject_key_identifier, key_usage, basic_constraints, crl_distribution_points, certificate_policies, authority_key_identifier, extended_key_usage, authority_info_access, subject_info_access, HasText, IsOtherwise}
+use Rattle.rpki_cert.specs.Known.{subject_key_identifier, key_usage, basic_constraints, crl_distribution_points, certificate_policies, authority_key_identifier, extended_key_usage, authority_info_access, subject_info_access, Says, HasText, IsOtherwise}
+use Rattle.rpki_cert.specs.Profile.{SaysSome, SaysSomeUri, SaysOwn, HasOneVersion}
 use Rattle.rpki_cert.specs.ExtensionContent.{SpellsConstraints, IsWholeConstraintsFault, IsWholeSubjectFault, SpellsAuthority, IsWholeAuthorityFault, SpellsUsage, IsWholeUsageFault, SpellsPurposes, SpellsPolicies, IsWholePoliciesFault}
 use Rattle.rpki_cert.specs.Access.{SpellsRsyncAccess, SpellsPoints, ca_issuers, ca_repository, rpki_manifest, signed_object}
 use Rattle.rpki_cert.specs.Rule.{IsFirstBroken, rule_text}
@@ -28,6 +29,30 @@ SaysRule rule = HasText (rule_text rule)
 abbrev pub SaysFound : {V : Type 0} → Bool → (V → List ℕ → Type 0) → (List ℕ → DecodeError → Type 0) → CertRule
     → Option ExtensionParts → ValidationError → Type 0
 SaysFound critical G K rule found = IsOtherwise critical G K found (SaysRule rule)
+
+-- checks of what an extension says: something; this value; a URI; the policy and the version of the resources; an
+-- authority key identifier of its own
+abbrev pub ChecksSome : {V : Type 0} → Bool → (V → List ℕ → Type 0) → (List ℕ → DecodeError → Type 0) → CertRule
+    → Option ExtensionParts → Result (Unit {0}) ValidationError → Type 0
+ChecksSome critical G K rule found = ChecksBy (SaysSome critical G found) (SaysFound critical G K rule found)
+
+abbrev pub ChecksValue : {V : Type 0} → Bool → (V → List ℕ → Type 0) → (List ℕ → DecodeError → Type 0) → CertRule
+    → Option ExtensionParts → V → Result (Unit {0}) ValidationError → Type 0
+ChecksValue critical G K rule found v = ChecksBy (Says critical G found (Some v)) (SaysFound critical G K rule found)
+
+abbrev pub ChecksUri : (Option (List ℕ) → List ℕ → Type 0) → CertRule → Option ExtensionParts
+    → Result (Unit {0}) ValidationError → Type 0
+ChecksUri G rule found = ChecksBy (SaysSomeUri G found) (SaysFound false G AnyFault rule found)
+
+abbrev pub ChecksVersion : List ExtensionParts → Result (Unit {0}) ValidationError → Type 0
+ChecksVersion xs =
+    ChecksBy (HasOneVersion xs)
+    (SaysFound true SpellsPolicies IsWholePoliciesFault ResourceVersion (find certificate_policies xs))
+
+abbrev pub ChecksOwn : Option ExtensionParts → Option ExtensionParts → Result (Unit {0}) ValidationError → Type 0
+ChecksOwn authority subject =
+    ChecksBy (SaysOwn authority subject)
+    (SaysFound false SpellsAuthority IsWholeAuthorityFault OwnAuthority authority)
 
 -- of a rule on a name: the text of the rule of names that is broken first
 abbrev pub SaysName : (NameRule → List ℕ → Type 0) → (NameRule → List ℕ) → List ℕ → ValidationError → Type 0
@@ -78,6 +103,10 @@ IsRuleError t Resources = SaysRule Resources
 IsRuleError t ResourceVersion = SaysFound true SpellsPolicies IsWholePoliciesFault
     ResourceVersion (find certificate_policies t.extensions)
 IsRuleError t RouterNumbers = SaysRule RouterNumbers
+
+-- the rule is the first that is broken, and this its error
+abbrev pub BreaksWith : Bool → TbsParts → List CertRule → CertRule → ValidationError → Type 0
+BreaksWith strict t rules rule e = IsFirstBroken strict t rules rule × IsRuleError t rule e
 
 -- the error is that of the rule that is broken first
 pub record IsFirstError (strict : Bool) (t : TbsParts) (rules : List CertRule) (e : ValidationError) : Type 0 where

@@ -1,6 +1,6 @@
 -- Certificates that are verified: each has its profile, and a path of authorities leads from it to a trust anchor
 -- (RFC 5280 6.1, RFC 6487 7.2); resources aside.
-use Rattle.std.specs.Prelude.{ℕ, Bool, List}
+use Rattle.std.specs.Prelude.{ℕ, Bool, List, Result}
 use Rattle.jiff.specs.Types.{DateTime}
 use Rattle.rpki_time.specs.Validity.{Period, HoldsAt}
 use Rattle.rpki.specs.Provider.{Check}
@@ -9,7 +9,7 @@ use Rattle.rpki_cert.specs.declared.rule.CertRule.{CertRule}
 use Rattle.rpki_cert.specs.Cert.{TbsParts, CertParts}
 use Rattle.rpki_cert.specs.Profile.{IsTaProfile, IsCaProfile}
 use Rattle.rpki_cert.specs.Rule.{ta_rules}
-use Rattle.rpki_cert.specs.RuleError.{IsFirstError}
+use Rattle.rpki_cert.specs.RuleError.{ChecksBy, IsFirstError}
 use Rattle.rpki_cert.specs.Valid.{IsIssued, IsAnchor, IsPeriodError, Unless, IsUnissued, IsNoAnchor}
 
 -- what a provider checks and digests with
@@ -20,6 +20,9 @@ pub record Checkers : Type 0 where
 
 abbrev pub checkers_of : Check → Check → (List ℕ → List ℕ) → Checkers
 checkers_of rsa ecdsa sha1 = record { rsa = rsa; ecdsa = ecdsa; sha1 = sha1 }
+
+abbrev pub checkers_by : {X : Type 0} → (X → Check) → (X → Check) → (X → List ℕ → List ℕ) → X → Checkers
+checkers_by rsa ecdsa sha1 provider = checkers_of (rsa provider) (ecdsa provider) (sha1 provider)
 
 -- a certificate of this profile that the issuer has issued, valid at the moment
 pub record IsLink (HasProfile : TbsParts → Type 0) (by : Checkers) (at : DateTime) (issuer x : CertParts) : Type 0 where
@@ -58,7 +61,7 @@ abbrev pub verified_by : {X : Type 0} → (X → Check) → (X → Check) → (X
 verified_by rsa ecdsa sha1 a = record {
   cert = a.cert;
   period = a.period;
-  by = checkers_of (rsa a.provider) (ecdsa a.provider) (sha1 a.provider);
+  by = checkers_by rsa ecdsa sha1 a.provider;
 }
 
 -- all of its path is valid at each moment of the period
@@ -98,3 +101,16 @@ IsUnverified HasProfile strict rules issuer at x =
 abbrev pub IsNoRoot : Bool → Checkers → DateTime → CertParts → ValidationError → Type 0
 IsNoRoot strict by at x =
     Unless (IsTaProfile strict x.tbs) (IsFirstError strict x.tbs ta_rules) (IsNoAnchor by.rsa by.ecdsa by.sha1 at x)
+
+-- ---- checks
+
+abbrev pub ChecksPath : Verified → DateTime → CertParts → Result (Unit {0}) ValidationError → Type 0
+ChecksPath issuer at x = ChecksBy (IsOnPath issuer at x) (IsOffPath issuer at x)
+
+abbrev pub ChecksLink : (TbsParts → Type 0) → Bool → List CertRule → Verified → DateTime → CertParts
+    → Result (Unit {0}) ValidationError → Type 0
+ChecksLink HasProfile strict rules issuer at x =
+    ChecksBy (IsVerifiedBy HasProfile issuer at x) (IsUnverified HasProfile strict rules issuer at x)
+
+abbrev pub ChecksRoot : Bool → Checkers → DateTime → CertParts → Result (Unit {0}) ValidationError → Type 0
+ChecksRoot strict by at x = ChecksBy (IsRoot strict by at x) (IsNoRoot strict by at x)

@@ -16,7 +16,7 @@ ghost use Rattle.rpki_cert.specs.Keys.{IsRpkiKey, IsRouterKey};
 ghost use Rattle.rpki_cert.specs.Profile.{SaysSome, SaysSomeUri, IsOrdered, has_addresses, has_numbers, is_critical, has_resources, is_of_version, HasOneVersion};
 ghost use Rattle.rpki_cert.specs.Inspected.{AreIn, IsReadOf};
 ghost use Rattle.rpki_cert.specs.Rule.{Obeys};
-ghost use Rattle.rpki_cert.specs.RuleError.{ChecksBy, SaysRule, SaysFound, SaysName, IsRuleError};
+ghost use Rattle.rpki_cert.specs.RuleError.{ChecksBy, SaysRule, SaysName, ChecksSome, ChecksValue, ChecksUri, ChecksVersion, ChecksOwn, IsRuleError};
 
 use crate::extension_source::ExtensionSource;
 use crate::inspected::Inspected;
@@ -132,9 +132,7 @@ fn is_of_version(policy: Overclaim, all: &ExtensionSource<'_>) -> bool
 
 /// Whether the policy is there, and no resources of another version.
 fn inspect_version(all: &ExtensionSource<'_>) -> Result<(), ValidationError>
-    ensures { (xs : List ExtensionParts) → AreIn xs all.now → ChecksBy (HasOneVersion xs)
-        (SaysFound true SpellsPolicies IsWholePoliciesFault CertRule.ResourceVersion
-        (find certificate_policies xs)) result }
+    ensures { (xs : List ExtensionParts) → AreIn xs all.now → ChecksVersion xs result }
 {
     match overclaim_in(all.find(oid::CE_CERTIFICATE_POLICIES)) {
         Ok(Some(policy)) => {
@@ -257,8 +255,8 @@ fn inspect_router_name(name: &NameView<'_>, strict: bool) -> Result<(), Validati
 
 /// Whether a subject key identifier was found.
 fn inspect_identifier(found: Option<ExtensionView<'_>>) -> Result<(), ValidationError>
-    ensures { ChecksBy (SaysSome false SpellsKeyIdentifier found.entry)
-        (SaysFound false SpellsKeyIdentifier IsWholeSubjectFault CertRule.SubjectKeyIdentifier found.entry) result }
+    ensures { ChecksSome false SpellsKeyIdentifier IsWholeSubjectFault CertRule.SubjectKeyIdentifier found.entry
+        result }
 {
     match subject_in(found) {
         Ok(Some(_)) => Ok(()),
@@ -269,8 +267,8 @@ fn inspect_identifier(found: Option<ExtensionView<'_>>) -> Result<(), Validation
 
 /// Whether an authority key identifier was found.
 fn inspect_authority(found: Option<ExtensionView<'_>>) -> Result<(), ValidationError>
-    ensures { ChecksBy (SaysSome false SpellsAuthority found.entry)
-        (SaysFound false SpellsAuthority IsWholeAuthorityFault CertRule.AuthorityKeyIdentifier found.entry) result }
+    ensures { ChecksSome false SpellsAuthority IsWholeAuthorityFault CertRule.AuthorityKeyIdentifier found.entry
+        result }
 {
     match authority_in(found) {
         Ok(Some(_)) => Ok(()),
@@ -294,11 +292,7 @@ fn inspect_own_authority(
     found: Option<ExtensionView<'_>>,
     subject: Option<ExtensionView<'_>>,
 ) -> Result<(), ValidationError>
-    ensures { ChecksBy ((found.entry ≡ None) ⊎ ((identifier : List ℕ)
-        × Says false SpellsAuthority found.entry (Some identifier)
-        × Says false SpellsKeyIdentifier subject.entry (Some identifier)))
-        (SaysFound false SpellsAuthority IsWholeAuthorityFault CertRule.OwnAuthority
-        found.entry) result }
+    ensures { ChecksOwn found.entry subject.entry result }
 {
     match authority_in(found) {
         Ok(Some(identifier)) => {
@@ -314,8 +308,7 @@ fn inspect_own_authority(
 
 /// Whether a policy was found.
 fn inspect_policy(found: Option<ExtensionView<'_>>) -> Result<(), ValidationError>
-    ensures { ChecksBy (SaysSome true SpellsPolicies found.entry)
-        (SaysFound true SpellsPolicies IsWholePoliciesFault CertRule.CertificatePolicies found.entry) result }
+    ensures { ChecksSome true SpellsPolicies IsWholePoliciesFault CertRule.CertificatePolicies found.entry result }
 {
     match overclaim_in(found) {
         Ok(Some(_)) => Ok(()),
@@ -326,8 +319,8 @@ fn inspect_policy(found: Option<ExtensionView<'_>>) -> Result<(), ValidationErro
 
 /// Whether basic constraints were found.
 fn inspect_constraints(found: Option<ExtensionView<'_>>) -> Result<(), ValidationError>
-    ensures { ChecksBy (Says true SpellsConstraints found.entry (Some tt))
-        (SaysFound true SpellsConstraints IsWholeConstraintsFault CertRule.BasicConstraints found.entry) result }
+    ensures { ChecksValue true SpellsConstraints IsWholeConstraintsFault CertRule.BasicConstraints found.entry tt
+        result }
 {
     match constraints_in(found) {
         Ok(true) => Ok(()),
@@ -342,8 +335,7 @@ fn inspect_usage(
     wanted: KeyUsage,
     rule: CertRule,
 ) -> Result<(), ValidationError>
-    ensures { ChecksBy (Says true SpellsUsage found.entry (Some wanted))
-        (SaysFound true SpellsUsage IsWholeUsageFault rule found.entry) result }
+    ensures { ChecksValue true SpellsUsage IsWholeUsageFault rule found.entry wanted result }
 {
     match usage_in(found) {
         Ok(usage) => {
@@ -358,8 +350,7 @@ fn inspect_usage(
 
 /// Whether the purpose of a router was found.
 fn inspect_purpose(found: Option<ExtensionView<'_>>) -> Result<(), ValidationError>
-    ensures { ChecksBy (Says false SpellsPurposes found.entry (Some true))
-        (SaysFound false SpellsPurposes AnyFault CertRule.RouterPurpose found.entry) result }
+    ensures { ChecksValue false SpellsPurposes AnyFault CertRule.RouterPurpose found.entry true result }
 {
     match purposes_in(found) {
         Ok(purpose) => {
@@ -374,8 +365,7 @@ fn inspect_purpose(found: Option<ExtensionView<'_>>) -> Result<(), ValidationErr
 
 /// Whether the URI of a revocation list was found.
 fn inspect_revocation(found: Option<ExtensionView<'_>>) -> Result<(), ValidationError>
-    ensures { ChecksBy (SaysSomeUri SpellsPoints found.entry)
-        (SaysFound false SpellsPoints AnyFault CertRule.RevocationList found.entry) result }
+    ensures { ChecksUri SpellsPoints CertRule.RevocationList found.entry result }
 {
     match points_in(found) {
         Ok(Some(_)) => Ok(()),
@@ -390,8 +380,7 @@ fn inspect_access(
     method: ConstOid,
     rule: CertRule,
 ) -> Result<(), ValidationError>
-    ensures { ChecksBy (SaysSomeUri (SpellsRsyncAccess method.entry.0.now) found.entry)
-        (SaysFound false (SpellsRsyncAccess method.entry.0.now) AnyFault rule found.entry) result }
+    ensures { ChecksUri (SpellsRsyncAccess method.entry.0.now) rule found.entry result }
 {
     match access_in(found, method) {
         Ok(Some(_)) => Ok(()),

@@ -9,7 +9,7 @@ ghost use Rattle.rpki_der.specs.ErrorText.{text_of};
 ghost use Rattle.rpki.specs.ErrorContent.{content_of};
 ghost use Rattle.rpki.specs.ExtensionValue.{ExtensionParts};
 ghost use Rattle.rpki_cert.specs.Cert.{find};
-ghost use Rattle.rpki_cert.specs.Known.{subject_key_identifier, key_usage, basic_constraints, authority_key_identifier, extended_key_usage, certificate_policies, critical_text, IsSaid, IsSaidThere, FindsOnly, FindsKept, FindsThere};
+ghost use Rattle.rpki_cert.specs.Known.{subject_key_identifier, key_usage, basic_constraints, authority_key_identifier, extended_key_usage, certificate_policies, critical_text, IsOtherCritical, IsSaid, IsSaidThere, FindsOnly, FindsKept, FindsThere};
 ghost use Rattle.rpki_cert.specs.Access.{SpellsRsyncAccess, SpellsPoints, IsSaidUri};
 ghost use Rattle.rpki_cert.specs.ExtensionContent.{SpellsConstraints, IsWholeConstraintsFault, IsWholeSubjectFault, SpellsAuthority, IsWholeAuthorityFault, SpellsUsage, IsWholeUsageFault, SpellsPurposes, IsPurposesFault, SpellsPolicies, IsWholePoliciesFault};
 
@@ -44,8 +44,7 @@ pub fn find_as<'a>(
     ensures some { IfOk result (λ o. IfSome o (λ x. (find id.entry.0.now all.now ≡ Some x.now)
         × (x.now.critical ≡ critical))) }
     ensures none { IfOk result (λ o. IfNone o (find id.entry.0.now all.now ≡ None)) }
-    ensures err { IfErr result (λ e. (text_of (content_of e) ≡ critical_text) × (x : ExtensionParts)
-        × (find id.entry.0.now all.now ≡ Some x) × (x.critical ≡ critical → ⊥)) }
+    ensures err { IfErr result (λ e. IsOtherCritical critical (find id.entry.0.now all.now) e) }
 {
     match find(all, id) {
         Some(extension) => {
@@ -65,8 +64,7 @@ fn wanted<'a>(
 ) -> Result<Option<ExtensionView<'a>>, InspectionError>
     ensures some { IfOk result (λ o. IfSome o (λ x. (found.entry ≡ Some x) × (x.critical ≡ critical))) }
     ensures none { IfOk result (λ o. IfNone o (found.entry ≡ None)) }
-    ensures err { IfErr result (λ e. (text_of (content_of e) ≡ critical_text) × (x : ExtensionParts)
-        × (found.entry ≡ Some x) × (x.critical ≡ critical → ⊥)) }
+    ensures err { IfErr result (λ e. IsOtherCritical critical found.entry e) }
 {
     match found {
         Some(extension) => {

@@ -6,7 +6,7 @@ ghost use Rattle.rpki_cert.specs.View.{IsCertAt};
 ghost use Rattle.rpki_cert.specs.Inspected.{IsReadOf};
 ghost use Rattle.rpki_cert.specs.Profile.{IsTaProfile, IsCaProfile, IsEeProfile, IsDetachedProfile, IsRouterProfile};
 ghost use Rattle.rpki_cert.specs.Rule.{Obeys, IsFirstBroken, TestsRules, ta_rules, ca_rules, ee_rules, detached_rules, router_rules};
-ghost use Rattle.rpki_cert.specs.RuleError.{InspectsRules, IsRuleError};
+ghost use Rattle.rpki_cert.specs.RuleError.{InspectsRules, BreaksWith};
 
 use crate::inspected::Inspected;
 use crate::rule::{CertRule, ca_rules, detached_rules, ee_rules, router_rules, ta_rules};
@@ -28,7 +28,7 @@ impl Inspected<'_> {
     fn inspect_rules(&self, strict: bool, rules: &[CertRule]) -> Result<(), Refusal>
         ensures { (t : TbsParts) → IsReadOf t self.now → MatchResult result
             (λ _. All (Obeys strict t) rules.now)
-            (λ x. IsFirstBroken strict t rules.now x.rule × IsRuleError t x.rule x.error) }
+            (λ x. BreaksWith strict t rules.now x.rule x.error) }
     {
         'rules: for rule in rules {
             match self.inspect_rule(strict, *rule) {

@@ -5,8 +5,7 @@ ghost use Rattle.jiff.specs.Types.{DateTime as Civil};
 ghost use Rattle.rpki_time.specs.Validity.{HoldsAt};
 ghost use Rattle.rpki_cert.specs.Profile.{IsCaProfile, IsEeProfile, IsDetachedProfile, IsRouterProfile};
 ghost use Rattle.rpki_cert.specs.Rule.{ca_rules, ee_rules, detached_rules, router_rules};
-ghost use Rattle.rpki_cert.specs.RuleError.{ChecksBy};
-ghost use Rattle.rpki_cert.specs.Verified.{checkers_of, verified_by, IsRoot, IsNoRoot, IsVerified, IsVerifiedBy, IsOnPath, IsOffPath, IsUnverified, HasPath};
+ghost use Rattle.rpki_cert.specs.Verified.{checkers_by, verified_by, IsRoot, IsNoRoot, IsVerified, IsVerifiedBy, IsUnverified, HasPath, ChecksPath, ChecksLink, ChecksRoot};
 
 use crate::cert::Cert;
 use crate::verify::verify_period;
@@ -72,13 +71,13 @@ impl Cert {
         strict: bool,
         at: Time,
     ) -> Result<ResourceCert<'p, P>, ValidationError>
-        ensures ok { IfOk result (λ _. IsRoot strict (checkers_of (P.rsa_of provider.now) (P.ecdsa_of provider.now)
-            (P.sha1_of provider.now)) at self) }
+        ensures ok { IfOk result (λ _. IsRoot strict
+            (checkers_by P.rsa_of P.ecdsa_of P.sha1_of provider.now) at self) }
         ensures cert { IfOk result (λ v. v.cert ≡ self) }
         ensures period { IfOk result (λ v. v.period ≡ self.tbs.validity) }
         ensures provider { IfOk result (λ v. v.provider ≡ provider.now) }
-        ensures err { IfErr result (λ e. IsNoRoot strict (checkers_of (P.rsa_of provider.now)
-            (P.ecdsa_of provider.now) (P.sha1_of provider.now)) at self e) }
+        ensures err { IfErr result (λ e. IsNoRoot strict
+            (checkers_by P.rsa_of P.ecdsa_of P.sha1_of provider.now) at self e) }
     {
         self.check_ta(provider, strict, at)?;
         let period = self.tbs().validity();
@@ -95,8 +94,7 @@ impl Cert {
         issuer: &ResourceCert<'_, P>,
         at: Time,
     ) -> Result<(), ValidationError>
-        ensures exactly { ChecksBy (IsOnPath (verified_by P.rsa_of P.ecdsa_of P.sha1_of issuer.now) at self.now)
-            (IsOffPath (verified_by P.rsa_of P.ecdsa_of P.sha1_of issuer.now) at self.now) result }
+        ensures exactly { ChecksPath (verified_by P.rsa_of P.ecdsa_of P.sha1_of issuer.now) at self.now result }
         ensures verified { IsVerified (verified_by P.rsa_of P.ecdsa_of P.sha1_of issuer.now) }
     {
         let authority = issuer.cert();
@@ -111,10 +109,8 @@ impl Cert {
         strict: bool,
         at: Time,
     ) -> Result<(), ValidationError>
-        ensures exactly { ChecksBy (IsVerifiedBy (IsCaProfile strict)
-            (verified_by P.rsa_of P.ecdsa_of P.sha1_of issuer.now) at self.now)
-            (IsUnverified (IsCaProfile strict) strict ca_rules
-            (verified_by P.rsa_of P.ecdsa_of P.sha1_of issuer.now) at self.now) result }
+        ensures exactly { ChecksLink (IsCaProfile strict) strict ca_rules
+            (verified_by P.rsa_of P.ecdsa_of P.sha1_of issuer.now) at self.now result }
         ensures verified { IfOk result (λ _. IsVerified (verified_by P.rsa_of P.ecdsa_of P.sha1_of issuer.now)) }
     {
         self.tbs().inspect_ca(strict)?;
@@ -128,9 +124,7 @@ impl Cert {
         strict: bool,
         at: Time,
     ) -> Result<(), ValidationError>
-        ensures { ChecksBy (IsRoot strict (checkers_of (P.rsa_of provider.now) (P.ecdsa_of provider.now)
-            (P.sha1_of provider.now)) at self.now) (IsNoRoot strict (checkers_of (P.rsa_of provider.now)
-            (P.ecdsa_of provider.now) (P.sha1_of provider.now)) at self.now) result }
+        ensures { ChecksRoot strict (checkers_by P.rsa_of P.ecdsa_of P.sha1_of provider.now) at self.now result }
     {
         self.tbs().inspect_ta(strict)?;
         self.verify_anchor(provider, at)
@@ -150,8 +144,8 @@ impl Cert {
     ) -> Result<ResourceCert<'p, P>, ValidationError>
         ensures ok { IfOk result (λ _. IsVerifiedBy (IsCaProfile strict)
             (verified_by P.rsa_of P.ecdsa_of P.sha1_of issuer.now) at self) }
-        ensures path { IfOk result (λ _. HasPath (IsCaProfile strict) (checkers_of (P.rsa_of issuer.now.provider)
-            (P.ecdsa_of issuer.now.provider) (P.sha1_of issuer.now.provider)) at self) }
+        ensures path { IfOk result (λ _. HasPath (IsCaProfile strict)
+            (checkers_by P.rsa_of P.ecdsa_of P.sha1_of issuer.now.provider) at self) }
         ensures cert { IfOk result (λ v. v.cert ≡ self) }
         ensures period { IfOk result (λ v. (m : Civil)
             → HoldsAt v.period m ↔ (HoldsAt issuer.now.period m × HoldsAt self.tbs.validity m)) }
@@ -177,11 +171,10 @@ impl Cert {
         strict: bool,
         at: Time,
     ) -> Result<(), ValidationError>
-        ensures exactly { ChecksBy (IsVerifiedBy (IsEeProfile strict) (verified_by P.rsa_of P.ecdsa_of P.sha1_of issuer.now) at self.now)
-            (IsUnverified (IsEeProfile strict) strict ee_rules
-            (verified_by P.rsa_of P.ecdsa_of P.sha1_of issuer.now) at self.now) result }
-        ensures path { IfOk result (λ _. HasPath (IsEeProfile strict) (checkers_of (P.rsa_of issuer.now.provider)
-            (P.ecdsa_of issuer.now.provider) (P.sha1_of issuer.now.provider)) at self.now) }
+        ensures exactly { ChecksLink (IsEeProfile strict) strict ee_rules
+            (verified_by P.rsa_of P.ecdsa_of P.sha1_of issuer.now) at self.now result }
+        ensures path { IfOk result (λ _. HasPath (IsEeProfile strict)
+            (checkers_by P.rsa_of P.ecdsa_of P.sha1_of issuer.now.provider) at self.now) }
     {
         self.tbs().inspect_ee(strict)?;
         self.verify_path(issuer, at)
@@ -196,11 +189,10 @@ impl Cert {
         strict: bool,
         at: Time,
     ) -> Result<(), ValidationError>
-        ensures exactly { ChecksBy (IsVerifiedBy (IsDetachedProfile strict) (verified_by P.rsa_of P.ecdsa_of P.sha1_of issuer.now) at self.now)
-            (IsUnverified (IsDetachedProfile strict) strict detached_rules
-            (verified_by P.rsa_of P.ecdsa_of P.sha1_of issuer.now) at self.now) result }
-        ensures path { IfOk result (λ _. HasPath (IsDetachedProfile strict) (checkers_of (P.rsa_of issuer.now.provider)
-            (P.ecdsa_of issuer.now.provider) (P.sha1_of issuer.now.provider)) at self.now) }
+        ensures exactly { ChecksLink (IsDetachedProfile strict) strict detached_rules
+            (verified_by P.rsa_of P.ecdsa_of P.sha1_of issuer.now) at self.now result }
+        ensures path { IfOk result (λ _. HasPath (IsDetachedProfile strict)
+            (checkers_by P.rsa_of P.ecdsa_of P.sha1_of issuer.now.provider) at self.now) }
     {
         self.tbs().inspect_detached_ee(strict)?;
         self.verify_path(issuer, at)
@@ -215,11 +207,10 @@ impl Cert {
         strict: bool,
         at: Time,
     ) -> Result<(), ValidationError>
-        ensures exactly { ChecksBy (IsVerifiedBy (IsRouterProfile strict) (verified_by P.rsa_of P.ecdsa_of P.sha1_of issuer.now) at self.now)
-            (IsUnverified (IsRouterProfile strict) strict router_rules
-            (verified_by P.rsa_of P.ecdsa_of P.sha1_of issuer.now) at self.now) result }
-        ensures path { IfOk result (λ _. HasPath (IsRouterProfile strict) (checkers_of (P.rsa_of issuer.now.provider)
-            (P.ecdsa_of issuer.now.provider) (P.sha1_of issuer.now.provider)) at self.now) }
+        ensures exactly { ChecksLink (IsRouterProfile strict) strict router_rules
+            (verified_by P.rsa_of P.ecdsa_of P.sha1_of issuer.now) at self.now result }
+        ensures path { IfOk result (λ _. HasPath (IsRouterProfile strict)
+            (checkers_by P.rsa_of P.ecdsa_of P.sha1_of issuer.now.provider) at self.now) }
     {
         self.tbs().inspect_router(strict)?;
         self.verify_path(issuer, at)

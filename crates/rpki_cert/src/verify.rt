@@ -2,13 +2,11 @@
 
 ghost use Rattle.std.specs.Prelude.{◌≡◌, ◌↔◌, ◌⊎◌, false, None, Option, IsTrue, codes};
 ghost use Rattle.rpki.specs.ErrorTexts.{verification_text};
-ghost use Rattle.rpki.specs.KeyIdentifier.{SpellsKeyIdentifier};
 ghost use Rattle.rpki_time.specs.Validity.{HoldsAt};
 ghost use Rattle.rpki_cert.specs.Cert.{find};
-ghost use Rattle.rpki_cert.specs.Known.{subject_key_identifier, authority_key_identifier, HasExtension, are_understood, IsOtherwise};
-ghost use Rattle.rpki_cert.specs.ExtensionContent.{IsWholeSubjectFault};
+ghost use Rattle.rpki_cert.specs.Known.{authority_key_identifier, are_understood};
 ghost use Rattle.rpki_cert.specs.RuleError.{ChecksBy};
-ghost use Rattle.rpki_cert.specs.Valid.{HasReason, IsPeriodError, IsSignedBy, IsSigned, IsUnsigned, HasAuthority, IsOtherAuthority, IsIssued, IsUnissued, IsAnchor, IsNoAnchor};
+ghost use Rattle.rpki_cert.specs.Valid.{HasReason, IsPeriodError, IsSignedBy, HasSubject, IsOtherSubject, ChecksSigned, HasAuthority, IsOtherAuthority, ChecksIssued, ChecksAnchor};
 
 use crate::cert::Cert;
 use crate::extensions::find;
@@ -83,10 +81,7 @@ impl TbsCert {
 
     /// Whether the identifier of the subject's key is there and is this one.
     fn verify_subject(&self, wanted: KeyIdentifier) -> Result<(), ValidationError>
-        ensures { ChecksBy (HasExtension subject_key_identifier false SpellsKeyIdentifier self.now.extensions
-            (Option.Some wanted)) (IsOtherwise false SpellsKeyIdentifier IsWholeSubjectFault
-            (find subject_key_identifier self.now.extensions) (HasReason (codes "subject key identifier mismatch")))
-            result }
+        ensures { ChecksBy (HasSubject wanted self.now) (IsOtherSubject self.now) result }
     {
         match self.subject_key_identifier() {
             Ok(found) => {
@@ -146,9 +141,8 @@ impl Cert {
         issuer_key: &PublicKey,
         at: Time,
     ) -> Result<(), ValidationError>
-        ensures { ChecksBy (IsSigned (P.rsa_of provider.now) (P.ecdsa_of provider.now) (P.sha1_of provider.now)
-            issuer.now issuer_key.now at self.now) (IsUnsigned (P.rsa_of provider.now) (P.ecdsa_of provider.now)
-            (P.sha1_of provider.now) issuer.now issuer_key.now at self.now) result }
+        ensures { ChecksSigned (P.rsa_of provider.now) (P.ecdsa_of provider.now) (P.sha1_of provider.now) issuer.now
+            issuer_key.now at self.now result }
     {
         let own = self.tbs();
         verify_signature(self.signed_data(), provider, issuer_key)?;
@@ -172,9 +166,8 @@ impl Cert {
         issuer: &TbsCert,
         at: Time,
     ) -> Result<(), ValidationError>
-        ensures { ChecksBy (IsIssued (P.rsa_of provider.now) (P.ecdsa_of provider.now) (P.sha1_of provider.now)
-            issuer.now at self.now) (IsUnissued (P.rsa_of provider.now) (P.ecdsa_of provider.now)
-            (P.sha1_of provider.now) issuer.now at self.now) result }
+        ensures { ChecksIssued (P.rsa_of provider.now) (P.ecdsa_of provider.now) (P.sha1_of provider.now) issuer.now
+            at self.now result }
     {
         self.verify_signed(
             provider,
@@ -195,9 +188,8 @@ impl Cert {
         provider: &P,
         at: Time,
     ) -> Result<(), ValidationError>
-        ensures { ChecksBy (IsAnchor (P.rsa_of provider.now) (P.ecdsa_of provider.now) (P.sha1_of provider.now) at
-            self.now) (IsNoAnchor (P.rsa_of provider.now) (P.ecdsa_of provider.now) (P.sha1_of provider.now) at
-            self.now) result }
+        ensures { ChecksAnchor (P.rsa_of provider.now) (P.ecdsa_of provider.now) (P.sha1_of provider.now) at self.now
+            result }
     {
         let own = self.tbs();
         self.verify_signed(provider, own.subject(), own.subject_public_key_info(), at)?;
