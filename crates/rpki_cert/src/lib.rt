@@ -2,8 +2,7 @@
 //!
 //! `Cert::decode` reads one, and `tbs()` of it says what the extensions are. `inspect_ca` and its kin hold it to a
 //! profile; `verify_ta` and `verify_ca` make a [ResourceCert], which issues what is verified. Resources (RFC 3779) are
-//! octets of their
-//! extensions, which nothing here reads.
+//! octets of their extensions, which nothing here reads.
 #![tactic(auto)]
 
 mod access;
