@@ -144,8 +144,25 @@ fn is_authority(cert: &Cert) -> bool {
     }
 }
 
+/// Whether the authority has issued the certificate, of a router where the key is one of a router's, else of an end entity.
+fn tell_end(
+    report: Report,
+    cert: &Cert,
+    issuer: &ResourceCert<'_, Stamps>,
+    at: Time,
+) -> io::Result<()> {
+    if cert.tbs().subject_public_key_info().allow_router_cert() {
+        return tell_test(
+            report,
+            "verify_router",
+            cert.verify_router(issuer, true, at),
+        );
+    }
+    tell_test(report, "verify_ee", cert.verify_ee(issuer, true, at))
+}
+
 /// Whether each of the certificates that are left is issued by the authority before it, which is verified at this moment:
-/// as an authority, until one is not, or as an end entity.
+/// as an authority, until one is not, as a router or as an end entity.
 fn tell_path(
     alloc: Global,
     report: Report,
@@ -165,7 +182,7 @@ fn tell_path(
             cert.verify_issued(&Stamps, issuer.cert().tbs(), at),
         )?;
         if !is_authority(&cert) {
-            tell_test(report, "verify_ee", cert.verify_ee(&issuer, true, at))?;
+            tell_end(report, &cert, &issuer, at)?;
             continue;
         }
         match cert.verify_ca(&issuer, true, at) {
