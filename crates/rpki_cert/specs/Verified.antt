@@ -104,6 +104,15 @@ IsNoRoot strict by at x =
 
 -- ---- checks
 
+-- it isn't one, and this is the error
+abbrev pub IsRefusedLink : (TbsParts → Type 0) → Bool → List CertRule → Verified → DateTime → CertParts
+    → ValidationError → Type 0
+IsRefusedLink HasProfile strict rules issuer at x e =
+    (IsVerifiedBy HasProfile issuer at x → ⊥) × IsUnverified HasProfile strict rules issuer at x e
+
+abbrev pub IsRefusedRoot : Bool → Checkers → DateTime → CertParts → ValidationError → Type 0
+IsRefusedRoot strict by at x e = (IsRoot strict by at x → ⊥) × IsNoRoot strict by at x e
+
 abbrev pub ChecksPath : Verified → DateTime → CertParts → Result (Unit {0}) ValidationError → Type 0
 ChecksPath issuer at x = ChecksBy (IsOnPath issuer at x) (IsOffPath issuer at x)
 

@@ -5,7 +5,7 @@ ghost use Rattle.jiff.specs.Types.{DateTime as Civil};
 ghost use Rattle.rpki_time.specs.Validity.{HoldsAt};
 ghost use Rattle.rpki_cert.specs.Profile.{IsCaProfile, IsEeProfile, IsDetachedProfile, IsRouterProfile};
 ghost use Rattle.rpki_cert.specs.Rule.{ca_rules, ee_rules, detached_rules, router_rules};
-ghost use Rattle.rpki_cert.specs.Verified.{checkers_by, verified_by, IsRoot, IsNoRoot, IsVerified, IsVerifiedBy, IsUnverified, HasPath, ChecksPath, ChecksLink, ChecksRoot};
+ghost use Rattle.rpki_cert.specs.Verified.{checkers_by, verified_by, IsRoot, IsVerified, IsVerifiedBy, HasPath, ChecksPath, ChecksLink, ChecksRoot, IsRefusedLink, IsRefusedRoot};
 
 use crate::cert::Cert;
 use crate::verify::verify_period;
@@ -76,7 +76,7 @@ impl Cert {
         ensures cert { IfOk result (λ v. v.cert ≡ self) }
         ensures period { IfOk result (λ v. v.period ≡ self.tbs.validity) }
         ensures provider { IfOk result (λ v. v.provider ≡ provider.now) }
-        ensures err { IfErr result (λ e. IsNoRoot strict
+        ensures err { IfErr result (λ e. IsRefusedRoot strict
             (checkers_by P.rsa_of P.ecdsa_of P.sha1_of provider.now) at self e) }
     {
         self.check_ta(provider, strict, at)?;
@@ -150,7 +150,7 @@ impl Cert {
         ensures period { IfOk result (λ v. (m : Civil)
             → HoldsAt v.period m ↔ (HoldsAt issuer.now.period m × HoldsAt self.tbs.validity m)) }
         ensures provider { IfOk result (λ v. v.provider ≡ issuer.now.provider) }
-        ensures err { IfErr result (λ e. IsUnverified (IsCaProfile strict) strict ca_rules
+        ensures err { IfErr result (λ e. IsRefusedLink (IsCaProfile strict) strict ca_rules
             (verified_by P.rsa_of P.ecdsa_of P.sha1_of issuer.now) at self e) }
     {
         self.check_ca(issuer, strict, at)?;

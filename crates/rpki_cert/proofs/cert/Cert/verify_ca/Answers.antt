@@ -6,7 +6,7 @@ use Rattle.rpki_cert.proofs.VerifiedLaws.{has-path, issued-at}
 use Rattle.rpki_cert.proofs.cert.Cert.verify_ca.Goals as goal
 
 pub returns-in_err-check_ca-clause-err : goal.returns-in_err-check_ca-clause-err
-returns-in_err-check_ca-clause-err g c = tried-error _ _ _ c.from_residual.ensures c.in_err-check_ca.ensures.exactly.1
+returns-in_err-check_ca-clause-err g c = tried-error _ _ _ c.from_residual.ensures c.in_err-check_ca.ensures.exactly
 
 pub invariant_of-result : goal.invariant_of-result
 invariant_of-result g c = λ m h.

@@ -4,7 +4,7 @@ use Rattle.rpki_cert.proofs.VerifiedLaws.{root-at}
 use Rattle.rpki_cert.proofs.cert.Cert.verify_ta.Goals as goal
 
 pub returns-in_err-check_ta-clause-err : goal.returns-in_err-check_ta-clause-err
-returns-in_err-check_ta-clause-err g c = tried-error _ _ _ c.from_residual.ensures c.in_err-check_ta.ensures.1
+returns-in_err-check_ta-clause-err g c = tried-error _ _ _ c.from_residual.ensures c.in_err-check_ta.ensures
 
 pub invariant_of-result : goal.invariant_of-result
 invariant_of-result g c = λ m h.
