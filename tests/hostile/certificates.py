@@ -393,7 +393,7 @@ VARIANTS = [
     ("a trust anchor with a critical authority key identifier", anchor_with(turn(AUTHORITY_KEY)),
      {"inspect_ta": NOT_AS_CRITICAL}),
     ("a trust anchor with a malformed authority key identifier", anchor_with(put(AUTHORITY_KEY, tlv(5, b""))),
-     {"inspect_ta": "unexpected type"}),
+     {"inspect_ta": "unexpected value"}),
     ("a trust anchor of another issuer", anchor_with(lambda it: it.tbs.inside.__setitem__(3, named("another"))),
      {"inspect_ta": NOT_SELF_ISSUED}),
     ("a key of other octets", key_bits(b"junk"), {"inspect_ca": NO_RSA_KEY}),
