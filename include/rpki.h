@@ -137,7 +137,7 @@ enum {
     RPKI_PART_CERTIFICATE = 64,           /* the SEQUENCE around all: it isn't there, or something follows it */
     RPKI_PART_SIGNED = 65,                /* what is signed is no value, with everything nested in it */
     RPKI_PART_ALGORITHM = 66,             /* the algorithm identifier behind it is not that of RSA with SHA-256 */
-    RPKI_PART_SIGNATURE = 67,             /* the signature: it is no BIT STRING, or something follows it */
+    RPKI_PART_SIGNATURE = 67,             /* the signature: it is no BIT STRING, has unused bits, or something follows */
     RPKI_PART_TBS = 68,                   /* what is signed is no SEQUENCE */
     RPKI_PART_VERSION = 69,               /* the version is not v3 */
     RPKI_PART_SERIAL_NUMBER = 70,         /* the serial number is no unsigned INTEGER of at most 20 octets */
@@ -164,8 +164,8 @@ enum {
     RPKI_RULE_ISSUER = 87,                   /* a name of the RPKI (RFC 6487 4.4) */
     RPKI_RULE_SUBJECT = 88,                  /* a name of the RPKI (RFC 6487 4.5) */
     RPKI_RULE_ROUTER_SUBJECT = 89,           /* a name of a router (RFC 8209 3.1.1) */
-    RPKI_RULE_RSA_KEY = 90,                  /* RSA (RFC 7935 3) */
-    RPKI_RULE_ROUTER_KEY = 91,               /* P-256 (RFC 8608 3.1) */
+    RPKI_RULE_RSA_KEY = 90,                  /* RSA: 2,048 bits, exponent 65537 (RFC 7935 3) */
+    RPKI_RULE_ROUTER_KEY = 91,               /* P-256: 65 octets that begin with 04 (RFC 8608 3.1) */
     RPKI_RULE_BASIC_CONSTRAINTS = 92,        /* there, and as 80 has it (RFC 6487 4.8.1) */
     RPKI_RULE_NO_BASIC_CONSTRAINTS = 93,     /* not there (RFC 6487 4.8.1) */
     RPKI_RULE_SUBJECT_KEY_IDENTIFIER = 94,   /* there, and as 81 has it (RFC 6487 4.8.2) */
@@ -181,11 +181,15 @@ enum {
     RPKI_RULE_REPOSITORY = 104,              /* an rsync URI (RFC 6487 4.8.8.1) */
     RPKI_RULE_MANIFEST = 105,                /* an rsync URI (RFC 6487 4.8.8.1) */
     RPKI_RULE_SIGNED_OBJECT = 106,           /* an rsync URI (RFC 6487 4.8.8.2) */
-    RPKI_RULE_NO_SUBJECT_ACCESS = 107,       /* no subject information access (RFC 8209 3.1.3.3) */
+    RPKI_RULE_NO_SUBJECT_ACCESS = 107,       /* no subject information access (RFC 8209, RFC 9323) */
     RPKI_RULE_CERTIFICATE_POLICIES = 108,    /* there, and as 84 has it (RFC 6487 4.8.9) */
     RPKI_RULE_RESOURCES = 109,               /* there, each critical (RFC 6487 4.8.10, 4.8.11) */
     RPKI_RULE_ROUTER_NUMBERS = 110,          /* AS numbers, and no addresses (RFC 8209 3.1.3.4) */
     RPKI_RULE_OBJECT_ACCESS = 111,           /* no method but signedObject and rpkiNotify (RFC 6487 4.8.8.2) */
+    RPKI_RULE_VALIDITY = 112,            /* ends no earlier than it begins (RFC 5280 4.1.2.5) */
+    RPKI_RULE_OWN_AUTHORITY = 113,       /* of a trust anchor: none, or its own (RFC 6487 4.8.3) */
+    RPKI_RULE_SELF_ISSUED = 114,         /* the issuer of a trust anchor is its subject (RFC 8630 2.3) */
+    RPKI_RULE_RESOURCE_VERSION = 115,    /* policy and resources of one version (RFC 8360 4.2) */
 
     /* Calls on two texts add this to the number of what is wrong with the second. */
     RPKI_SECOND = 16,
@@ -274,10 +278,11 @@ enum {
 
 /* Profiles of certificates. */
 enum {
-    RPKI_CERTIFICATE_TA = 0,    /* of trust anchors (RFC 6487 4) */
-    RPKI_CERTIFICATE_CA = 1,    /* of certification authorities (RFC 6487 4) */
-    RPKI_CERTIFICATE_EE = 2,    /* of end entities that sign an object (RFC 6487 4) */
-    RPKI_CERTIFICATE_ROUTER = 3 /* of BGPsec routers (RFC 8209 3.1) */
+    RPKI_CERTIFICATE_TA = 0,         /* of trust anchors (RFC 6487 4) */
+    RPKI_CERTIFICATE_CA = 1,         /* of certification authorities (RFC 6487 4) */
+    RPKI_CERTIFICATE_EE = 2,         /* of end entities that sign an object (RFC 6487 4) */
+    RPKI_CERTIFICATE_ROUTER = 3,     /* of BGPsec routers (RFC 8209 3.1) */
+    RPKI_CERTIFICATE_DETACHED_EE = 4 /* of end entities without subject information access (RFC 9323 2) */
 };
 
 /* A moment in UTC. */
@@ -614,15 +619,16 @@ rpki_status rpki_certificate_extensions(const uint8_t *octets, size_t size, stru
 
 /*
  * Reads a resource certificate, as rpki_certificate does, and holds it to the profile of this number, an
- * RPKI_CERTIFICATE_ constant (RFC 6487 4, RFC 8209 3.1). With `strict` false the names are not held to theirs. The
- * octets of resources are not read, and whether the signature is that of a key, or a moment is in the period, is not
- * looked at. Takes no memory.
+ * RPKI_CERTIFICATE_ constant (RFC 6487 4, RFC 8209 3.1, RFC 9323 2). With `strict` false the names are not held to
+ * theirs. The octets of resources are not read, and whether the signature is that of a key, or a moment is in the
+ * period, is not looked at. Takes no memory.
  *
- * The status is from 85 to 111 where the octets are a certificate that breaks a rule of the profile: the first of these
- * that is broken. Of a trust anchor they are tested in the order 85, 86, 87, 94, 108, 109, 88, 90, 98, 92, 96, 101,
- * 103, 104, 105; of an authority as far as 96 in the same order, then 104, 105, 95, 100, 102; of an end entity as far
- * as 98, then 93, 97, 106, 111, 95, 100, 102; of a router as far as 109, then 89, 91, 93, 97, 110, 107, 99, 95, 100,
- * 102. An extension that a rule wants, and that is malformed or not as critical as it has to be, breaks the rule.
+ * The status is from 85 to 115 where the octets are a certificate that breaks a rule of the profile: the first of these
+ * that is broken. Of a trust anchor they are tested in the order 85, 86, 87, 112, 94, 108, 109, 115, 88, 90, 98, 92,
+ * 96, 101, 103, 104, 105, 114, 113; of an authority as far as 96 in the same order, then 104, 105, 95, 100, 102; of an
+ * end entity as far as 98, then 93, 97, 106, 111, 95, 100, 102; of one without subject information access as far as 97,
+ * then 107, 95, 100, 102; of a router as far as 115, then 89, 91, 93, 97, 110, 107, 99, 95, 100, 102. An extension
+ * that a rule wants, and that is malformed or not as critical as it has to be, breaks the rule.
  * RPKI_NO_PROFILE: no profile has the number; then the octets are not looked at. Else, where it is not 0, it is that of
  * rpki_certificate.
  */
@@ -1013,8 +1019,8 @@ static inline const char *rpki_status_text(int kind, rpki_status status) {
         case RPKI_RULE_ISSUER: return "issuer has no name of the RPKI";
         case RPKI_RULE_SUBJECT: return "subject has no name of the RPKI";
         case RPKI_RULE_ROUTER_SUBJECT: return "subject has no name of a router";
-        case RPKI_RULE_RSA_KEY: return "key is no RSA key";
-        case RPKI_RULE_ROUTER_KEY: return "key is no P-256 key";
+        case RPKI_RULE_RSA_KEY: return "key is no RSA key of 2048 bits and the exponent 65537";
+        case RPKI_RULE_ROUTER_KEY: return "key is no uncompressed point on P-256";
         case RPKI_RULE_BASIC_CONSTRAINTS: return "missing basic constraints";
         case RPKI_RULE_NO_BASIC_CONSTRAINTS: return "basic constraints are there";
         case RPKI_RULE_SUBJECT_KEY_IDENTIFIER: return "missing subject key identifier";
@@ -1035,6 +1041,10 @@ static inline const char *rpki_status_text(int kind, rpki_status status) {
         case RPKI_RULE_RESOURCES: return "missing resources, or ones that are not critical";
         case RPKI_RULE_ROUTER_NUMBERS: return "missing AS numbers, or addresses are there";
         case RPKI_RULE_OBJECT_ACCESS: return "other access method of an end entity";
+        case RPKI_RULE_VALIDITY: return "period ends before it begins";
+        case RPKI_RULE_OWN_AUTHORITY: return "authority key identifier of a trust anchor is not its own";
+        case RPKI_RULE_SELF_ISSUED: return "issuer of a trust anchor is not its subject";
+        case RPKI_RULE_RESOURCE_VERSION: return "policy and resources of two versions";
         case RPKI_MISSING_COMMON_NAME: return "missing common name";
         case RPKI_SECOND_COMMON_NAME: return "multiple common names";
         case RPKI_SECOND_SERIAL_NUMBER: return "multiple serial numbers";

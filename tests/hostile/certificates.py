@@ -55,6 +55,7 @@ CONSTRAINTS, SUBJECT_KEY, AUTHORITY_KEY, USAGE = "2.5.29.19", "2.5.29.14", "2.5.
 REVOCATION, POLICIES, PURPOSES = "2.5.29.31", "2.5.29.32", "2.5.29.37"
 AUTHORITY_ACCESS, SUBJECT_ACCESS = "1.3.6.1.5.5.7.1.1", "1.3.6.1.5.5.7.1.11"
 ADDRESSES, NUMBERS, UNKNOWN = "1.3.6.1.5.5.7.1.7", "1.3.6.1.5.5.7.1.8", "1.3.6.1.4.1.99999.1"
+ADDRESSES_V2, NUMBERS_V2 = "1.3.6.1.5.5.7.1.28", "1.3.6.1.5.5.7.1.29"
 CA_ISSUERS, OCSP, REPOSITORY = "1.3.6.1.5.5.7.48.2", "1.3.6.1.5.5.7.48.1", "1.3.6.1.5.5.7.48.5"
 MANIFEST, OBJECT, NOTIFY = "1.3.6.1.5.5.7.48.10", "1.3.6.1.5.5.7.48.11", "1.3.6.1.5.5.7.48.13"
 POLICY, POLICY_V2 = "1.3.6.1.5.5.7.14.2", "1.3.6.1.5.5.7.14.3"
@@ -135,7 +136,13 @@ def accesses(*pairs):
 # What is expected of an error, whatever its text.
 SOME_ERROR = "an error"
 NOT_AS_CRITICAL = "extension is not as critical as it has to be"
-OTHER_METHOD = "other access method of an end entity"
+OTHER_METHOD = "RFC 6487 4.8.8.2: other access method of an end entity"
+NO_RSA_KEY = "RFC 7935 3: key is no RSA key of 2048 bits and the exponent 65537"
+NO_POINT = "RFC 8608 3.1: key is no uncompressed point on P-256"
+TWO_VERSIONS = "RFC 8360 4.2: policy and resources of two versions"
+NOT_OWN = "RFC 6487 4.8.3: authority key identifier of a trust anchor is not its own"
+NOT_SELF_ISSUED = "RFC 8630 2.3: issuer of a trust anchor is not its subject"
+UNUSED_BITS = "signature has unused bits"
 
 
 def version(octet):
@@ -207,7 +214,63 @@ def end_entity(*pairs):
 
 
 def anchor(it):
+    """A trust anchor, whose authority key identifier is its subject key identifier."""
     it.remove(REVOCATION, AUTHORITY_ACCESS)
+    it.tbs.inside[3] = it.issuer = it.subject
+    it.put(AUTHORITY_KEY, sequence(tlv(0x80, values_of(it.extension(SUBJECT_KEY).inside[-1].inside)[0].inside)))
+
+
+def anchor_with(change):
+    def both(it):
+        anchor(it)
+        change(it)
+    return both
+
+
+def own_issuer_without_identifier(it):
+    anchor(it)
+    it.remove(AUTHORITY_KEY)
+
+
+def detached(it):
+    """An end entity without subject information access (RFC 9323 2)."""
+    it.remove(CONSTRAINTS, SUBJECT_ACCESS)
+    it.put(USAGE, END_ENTITY_USAGE)
+
+
+def key_bits(octets, unused=0):
+    """Other bits of the key."""
+    def change(it):
+        it.key.inside[1].inside = bytes([unused]) + octets
+    return change
+
+
+def rsa_numbers(modulus, exponent):
+    return sequence(tlv(2, modulus), tlv(2, exponent))
+
+
+EXPONENT = bytes.fromhex("010001")
+MODULUS = b"\0" + b"\x80" + bytes(254) + b"\x01"
+
+
+def router_bits(octets):
+    def change(it):
+        router(it)
+        it.key.inside[1].inside = b"\0" + octets
+    return change
+
+
+def version_2(it):
+    """The policy and the resources of RFC 8360."""
+    it.put(POLICIES, policies(policy(POLICY_V2)))
+    for old, new in ((ADDRESSES, ADDRESSES_V2), (NUMBERS, NUMBERS_V2)):
+        it.extension(old).inside[0].inside = oid(new)
+
+
+def period(first, last):
+    def change(it):
+        it.validity.inside = [Value(0x17, first.encode()), Value(0x17, last.encode())]
+    return change
 
 
 def router(it):
@@ -239,7 +302,7 @@ VARIANTS = [
      {"rejected": "duplicate extension"}),
     ("an unknown extension twice", add(UNKNOWN, b"", times=2), {"rejected": "duplicate extension"}),
     ("an unknown extension", add(UNKNOWN, b""), {"inspect_ca": "ok", "extensions": "11"}),
-    ("an unknown critical extension", add(UNKNOWN, b"", critical=True), {"inspect_ca": "unknown critical extension"}),
+    ("an unknown critical extension", add(UNKNOWN, b"", critical=True), {"inspect_ca": "RFC 5280 4.2: unknown critical extension"}),
     ("a value after the extensions", after_extensions, {"rejected": "trailing data"}),
     ("a value after their list", after_list, {"rejected": "trailing data"}),
     ("basic constraints, not critical", turn(CONSTRAINTS),
@@ -269,8 +332,11 @@ VARIANTS = [
     ("another purpose", add(PURPOSES, names(SERVER)), {"extended_key_usage": "false"}),
     ("two purposes", add(PURPOSES, names(SERVER, ROUTER)), {"extended_key_usage": "true"}),
     ("no purpose", add(PURPOSES, sequence()), {"extended_key_usage": SOME_ERROR}),
-    ("the policy of RFC 8360", put(POLICIES, policies(policy(POLICY_V2))),
-     {"overclaim_trims": "true", "inspect_ca": "ok"}),
+    ("the policy and the resources of RFC 8360", version_2, {"overclaim_trims": "true", "inspect_ca": "ok"}),
+    ("the policy of RFC 8360 alone", put(POLICIES, policies(policy(POLICY_V2))),
+     {"overclaim_trims": "true", "inspect_ca": TWO_VERSIONS}),
+    ("addresses of RFC 8360 beside others", add(ADDRESSES_V2, sequence(), critical=True), {"inspect_ca": TWO_VERSIONS}),
+    ("numbers of RFC 8360 beside others", add(NUMBERS_V2, sequence(), critical=True), {"inspect_ca": TWO_VERSIONS}),
     ("any policy", put(POLICIES, policies(policy("2.5.29.32.0"))), {"overclaim_trims": SOME_ERROR}),
     ("two policies", put(POLICIES, policies(policy(POLICY), policy(POLICY_V2))), {"overclaim_trims": SOME_ERROR}),
     ("no policy", put(POLICIES, policies()), {"overclaim_trims": SOME_ERROR}),
@@ -320,7 +386,43 @@ VARIANTS = [
     ("an end entity with an unknown method", end_entity(SIGNED, (NOTIFY, uri(SECURE)), (UNKNOWN, uri(SECURE))),
      {"inspect_ee": OTHER_METHOD}),
     ("an end entity with notifications alone", end_entity((NOTIFY, uri(SECURE))), {"inspect_ee": SOME_ERROR}),
-    ("a trust anchor", anchor, {"inspect_ta": "ok", "inspect_ca": SOME_ERROR}),
+    ("a trust anchor", anchor, {"inspect_ta": "ok", "inspect_ca": "RFC 6487 4.8.6: missing URI of the revocation list"}),
+    ("a trust anchor without an authority key identifier", own_issuer_without_identifier, {"inspect_ta": "ok"}),
+    ("a trust anchor with another's key identifier", anchor_with(
+        put(AUTHORITY_KEY, sequence(tlv(0x80, bytes(20))))), {"inspect_ta": NOT_OWN}),
+    ("a trust anchor with a critical authority key identifier", anchor_with(turn(AUTHORITY_KEY)),
+     {"inspect_ta": NOT_AS_CRITICAL}),
+    ("a trust anchor with a malformed authority key identifier", anchor_with(put(AUTHORITY_KEY, tlv(5, b""))),
+     {"inspect_ta": "unexpected value"}),
+    ("a trust anchor of another issuer", anchor_with(lambda it: it.tbs.inside.__setitem__(3, named("another"))),
+     {"inspect_ta": NOT_SELF_ISSUED}),
+    ("a key of other octets", key_bits(b"junk"), {"inspect_ca": NO_RSA_KEY}),
+    ("a key of no bits", key_bits(b""), {"inspect_ca": NO_RSA_KEY}),
+    ("a key with an octet after it", key_bits(rsa_numbers(MODULUS, EXPONENT) + b"\0"), {"inspect_ca": NO_RSA_KEY}),
+    ("a key with unused bits", key_bits(rsa_numbers(MODULUS, EXPONENT)[:-1] + b"\0", 1), {"inspect_ca": NO_RSA_KEY}),
+    ("a key of the least modulus", key_bits(rsa_numbers(MODULUS, EXPONENT)), {"inspect_ca": "ok"}),
+    ("a key of the greatest modulus", key_bits(rsa_numbers(b"\0" + b"\xff" * 256, EXPONENT)), {"inspect_ca": "ok"}),
+    ("a key of 2,047 bits", key_bits(rsa_numbers(b"\x7f" + b"\xff" * 255, EXPONENT)), {"inspect_ca": NO_RSA_KEY}),
+    ("a key of 2,049 bits", key_bits(rsa_numbers(b"\x01" + bytes(256), EXPONENT)), {"inspect_ca": NO_RSA_KEY}),
+    ("a key of 1,024 bits", key_bits(rsa_numbers(b"\0" + b"\xff" * 128, EXPONENT)), {"inspect_ca": NO_RSA_KEY}),
+    ("a key of 4,096 bits", key_bits(rsa_numbers(b"\0" + b"\xff" * 512, EXPONENT)), {"inspect_ca": NO_RSA_KEY}),
+    ("a key with the exponent 3", key_bits(rsa_numbers(MODULUS, b"\x03")), {"inspect_ca": NO_RSA_KEY}),
+    ("a key with the exponent 1", key_bits(rsa_numbers(MODULUS, b"\x01")), {"inspect_ca": NO_RSA_KEY}),
+    ("a modulus below 0", key_bits(rsa_numbers(b"\x80" + bytes(255), EXPONENT)), {"inspect_ca": NO_RSA_KEY}),
+    ("a key with a third number", key_bits(sequence(tlv(2, MODULUS), tlv(2, EXPONENT), tlv(2, b"\x01"))),
+     {"inspect_ca": NO_RSA_KEY}),
+    ("a period of one second", period("270101000000Z", "270101000000Z"), {"inspect_ca": "ok"}),
+    ("a period that ends first", period("270101000001Z", "270101000000Z"),
+     {"inspect_ca": "RFC 5280 4.1.2.5: period ends before it begins"}),
+    ("a signature with unused bits", lambda it: setattr(it.signature, "inside", b"\1" + bytes(256)),
+     {"rejected": UNUSED_BITS}),
+    ("an end entity without access", detached,
+     {"inspect_detached_ee": "ok", "inspect_ee": "RFC 6487 4.8.8.2: missing URI of the signed object"}),
+    ("a router with other bits", router_bits(b"junk"), {"inspect_router": NO_POINT}),
+    ("a router without bits", router_bits(b""), {"inspect_router": NO_POINT}),
+    ("a router with a compressed point", router_bits(b"\2" + bytes(32)), {"inspect_router": NO_POINT}),
+    ("a router with a point that begins with 02", router_bits(b"\2" + bytes(64)), {"inspect_router": NO_POINT}),
+    ("a router with an octet more", router_bits(b"\4" + bytes(65)), {"inspect_router": NO_POINT}),
     ("a router", router, {"inspect_router": "ok", "inspect_ee": SOME_ERROR}),
     ("a router with addresses", router_with_addresses, {"inspect_router": SOME_ERROR}),
 ]
@@ -339,6 +441,7 @@ WRONG_PARTS = {
     "an unknown extension twice": 78,
     "a value after the extensions": 76,
     "a value after their list": 76,
+    "a signature with unused bits": 67,
 }
 
 
@@ -393,6 +496,8 @@ OTHER_PARTS = [
     ("another algorithm", other_algorithm, 66),
     ("a signature with a count of 8", other_signature(bytes.fromhex("030208aa")), 67),
     ("a value after the signature", after_signature, 67),
+    ("a signature with one unused bit", other_signature(tlv(3, b"\1" + bytes(256))), 67),
+    ("a signature with seven unused bits", other_signature(tlv(3, b"\7" + bytes(256))), 67),
     ("a SET in place of what is signed", no_sequence, 68),
     ("another algorithm in what is signed", other_inner_algorithm, 71),
     ("an empty issuer", in_place(3, sequence()), 72),
@@ -468,14 +573,18 @@ def period_of(it, first, last):
 
 
 MOMENT = "2027-06-01T00:00:00Z"
-OK_ANCHOR, OK_ISSUED = "verify_ta ok", "verify_issued ok"
+OK_ANCHOR, OK_AUTHORITY = "verify_ta ok", ["verify_issued ok", "verify_ca ok"]
+OK_ENTITY = ["verify_issued ok", "verify_ee ok"]
+NO_ENTITY = ["verify_issued error", "verify_ee error"]
 
 
 def chain():
     """An anchor, an authority, and an end entity, whose periods are the same."""
     first = issued("anchor", 1)
+    first.remove(REVOCATION, AUTHORITY_ACCESS)
     second = issued("authority", 2, first)
     third = issued("entity", 3, second)
+    end_entity(SIGNED)(third)
     for it in (first, second, third):
         period_of(it, "270101000000Z", "280101000000Z")
     return first, second, third
@@ -521,21 +630,36 @@ MOMENTS = [
 ]
 
 
+def issued_by_an_entity():
+    """An authority that the key of the end entity of the chain has signed."""
+    _, _, third = chain()
+    it = issued("beyond", 4, third)
+    period_of(it, "270101000000Z", "280101000000Z")
+    return it.stamp()
+
+
 def certificate_chains(programs):
     """A chain is verified exactly where each certificate is issued by the one before it, at this moment."""
     first, second, third = (it.stamp() for it in chain())
-    yield "in order", verified(programs, first + second + third), (0, [OK_ANCHOR, OK_ISSUED, OK_ISSUED])
-    yield "one left out", verified(programs, first + third), (0, [OK_ANCHOR, "verify_issued error"])
+    all_good = [OK_ANCHOR, *OK_AUTHORITY, *OK_ENTITY]
+    yield "in order", verified(programs, first + second + third), (0, all_good)
+    yield "one left out", verified(programs, first + third), (0, [OK_ANCHOR, *NO_ENTITY])
     yield "no anchor first", verified(programs, second), (0, ["verify_ta error"])
+    yield "an end entity issues", verified(programs, first + second + third + issued_by_an_entity()), (
+        0, [*all_good, "verify_issued error", "verify_ca error"])
     for name, moment, good in MOMENTS:
-        expected = [OK_ANCHOR, OK_ISSUED] if good else ["verify_ta error", "verify_issued error"]
+        expected = [OK_ANCHOR, *OK_AUTHORITY] if good else ["verify_ta error"]
         yield name, verified(programs, first + second, moment), (0, expected)
+    anchor_, authority, entity = chain()
+    period_of(authority, "270101000000Z", "270301000000Z")
+    octets = anchor_.stamp() + authority.stamp() + entity.stamp()
+    yield "an authority whose period is over", verified(programs, octets), (
+        0, [OK_ANCHOR, "verify_issued error", "verify_ca error"])
     for name, change, good in LINKS:
         anchor_, authority, entity = chain()
         change(anchor_, entity)
         octets = anchor_.stamp() + authority.stamp() + entity.stamp()
-        last = OK_ISSUED if good else "verify_issued error"
-        yield name, verified(programs, octets), (0, [OK_ANCHOR, OK_ISSUED, last])
+        yield name, verified(programs, octets), (0, [OK_ANCHOR, *OK_AUTHORITY, *(OK_ENTITY if good else NO_ENTITY)])
 
 
 def changed_certificates(programs):

@@ -6,7 +6,7 @@ use crate::report::Report;
 use bytes::Bytes;
 use rpki::repository::error::ValidationError;
 use rpki::repository::x509::Time;
-use rpki_cert::{Cert, KeyUsage, Overclaim, TbsCert};
+use rpki_cert::{Cert, KeyUsage, Overclaim, ResourceCert, TbsCert};
 use rpki_der::{Constructed, DecodeError};
 use std::alloc::Global;
 use std::{fmt, io};
@@ -109,6 +109,7 @@ fn tell_inspections(report: Report, tbs: &TbsCert) -> io::Result<()> {
     tell_test(report, "inspect_ta", tbs.inspect_ta(true))?;
     tell_test(report, "inspect_ca", tbs.inspect_ca(true))?;
     tell_test(report, "inspect_ee", tbs.inspect_ee(true))?;
+    tell_test(report, "inspect_detached_ee", tbs.inspect_detached_ee(true))?;
     tell_test(report, "inspect_router", tbs.inspect_router(true))
 }
 
@@ -135,28 +136,87 @@ fn next(alloc: Global, cursor: &mut Constructed<'_>) -> Result<Cert, Refusal> {
     Ok(Cert::take_from(alloc, cursor)?)
 }
 
-/// Whether the first certificate is a trust anchor at this moment, and each later one is issued by the one before it.
+/// Whether the certificate is one of a certification authority.
+fn is_authority(cert: &Cert) -> bool {
+    match cert.tbs().basic_ca() {
+        Ok(authority) => authority,
+        Err(_) => false,
+    }
+}
+
+/// Whether the authority has issued the certificate, of a router where the key is one of a router's, else of an end entity.
+fn tell_end(
+    report: Report,
+    cert: &Cert,
+    issuer: &ResourceCert<'_, Stamps>,
+    at: Time,
+) -> io::Result<()> {
+    if cert.tbs().subject_public_key_info().allow_router_cert() {
+        return tell_test(
+            report,
+            "verify_router",
+            cert.verify_router(issuer, true, at),
+        );
+    }
+    tell_test(report, "verify_ee", cert.verify_ee(issuer, true, at))
+}
+
+/// Whether each of the certificates that are left is issued by the authority before it, which is verified at this moment:
+/// as an authority, until one is not, as a router or as an end entity.
+fn tell_path(
+    alloc: Global,
+    report: Report,
+    anchor: ResourceCert<'_, Stamps>,
+    cursor: &mut Constructed<'_>,
+    at: Time,
+) -> Result<(), Failure> {
+    let mut issuer = anchor;
+    for _ in 0..cursor.rest().len() {
+        if cursor.is_empty() {
+            break;
+        }
+        let cert = next(alloc, cursor)?;
+        tell_test(
+            report,
+            "verify_issued",
+            cert.verify_issued(&Stamps, issuer.cert().tbs(), at),
+        )?;
+        if !is_authority(&cert) {
+            tell_end(report, &cert, &issuer, at)?;
+            continue;
+        }
+        match cert.verify_ca(&issuer, true, at) {
+            Ok(authority) => {
+                report.shown("verify_ca", &"ok")?;
+                issuer = authority;
+            }
+            Err(e) => {
+                tell_error(report, "verify_ca", e)?;
+                break;
+            }
+        }
+    }
+    Ok(())
+}
+
+/// Whether the first certificate is a trust anchor at this moment, and then whether the others are verified by it.
 fn tell_chain(alloc: Global, report: Report, moment: &str, octets: Vec<u8>) -> Result<(), Failure> {
     let Ok(at) = moment.parse::<Time>() else {
         return Err(Failure::Usage);
     };
     let source = Bytes::from_vec(octets)?;
     let mut cursor = Constructed::new(&source);
-    let mut issuer = next(alloc, &mut cursor)?;
-    tell_test(report, "verify_ta", issuer.verify_ta(&Stamps, at))?;
-    for _ in 0..source.len() {
-        if cursor.is_empty() {
-            break;
+    let anchor = next(alloc, &mut cursor)?;
+    match anchor.verify_ta(&Stamps, true, at) {
+        Ok(anchor) => {
+            report.shown("verify_ta", &"ok")?;
+            tell_path(alloc, report, anchor, &mut cursor, at)
         }
-        let cert = next(alloc, &mut cursor)?;
-        tell_test(
-            report,
-            "verify_issued",
-            cert.verify_issued(&Stamps, issuer.tbs(), at),
-        )?;
-        issuer = cert;
+        Err(e) => {
+            tell_error(report, "verify_ta", e)?;
+            Ok(())
+        }
     }
-    Ok(())
 }
 
 /// Reports on a certificate, or on a chain of them at a moment.

@@ -2,12 +2,12 @@
 use Rattle.std.specs.Prelude.{◌≡◌, ◌⊎◌, ◌<◌, ℕ, Bool, List}
 use Rattle.rpki_cert.specs.declared.cert_part.CertPart.{CertPart}
 use Rattle.rpki_cert.specs.declared.rule.CertRule.{CertRule}
-use Rattle.rpki_cert.specs.declared.rule.CertRule.TheVariants.{SerialNumber, CriticalExtensions, Issuer, Subject, RouterSubject, RsaKey, RouterKey, BasicConstraints, NoBasicConstraints, SubjectKeyIdentifier, AuthorityKeyIdentifier, AuthorityUsage, EndUsage, NoExtendedKeyUsage, RouterPurpose, RevocationList, NoRevocationList, IssuerCertificate, NoIssuerCertificate, Repository, Manifest, SignedObject, NoSubjectAccess, CertificatePolicies, Resources, RouterNumbers, ObjectAccess}
+use Rattle.rpki_cert.specs.declared.rule.CertRule.TheVariants.{SerialNumber, CriticalExtensions, Issuer, Validity, Subject, RouterSubject, RsaKey, RouterKey, BasicConstraints, NoBasicConstraints, SubjectKeyIdentifier, AuthorityKeyIdentifier, OwnAuthority, SelfIssued, AuthorityUsage, EndUsage, NoExtendedKeyUsage, RouterPurpose, RevocationList, NoRevocationList, IssuerCertificate, NoIssuerCertificate, Repository, Manifest, SignedObject, NoSubjectAccess, CertificatePolicies, Resources, ResourceVersion, RouterNumbers, ObjectAccess}
 use Rattle.rpki_c.specs.declared.certificate_inspection.CertificateProfile.{CertificateProfile}
-use Rattle.rpki_c.specs.declared.certificate_inspection.CertificateProfile.TheVariants.{Ta, Ca, Ee, Router}
+use Rattle.rpki_c.specs.declared.certificate_inspection.CertificateProfile.TheVariants.{Ta, Ca, Ee, Router, Detached}
 use Rattle.rpki_cert.specs.Cert.{TbsParts, CertParts, SpellsCert}
-use Rattle.rpki_cert.specs.Profile.{IsTaProfile, IsCaProfile, IsEeProfile, IsRouterProfile}
-use Rattle.rpki_cert.specs.Rule.{IsFirstBroken, ta_rules, ca_rules, ee_rules, router_rules}
+use Rattle.rpki_cert.specs.Profile.{IsTaProfile, IsCaProfile, IsEeProfile, IsDetachedProfile, IsRouterProfile}
+use Rattle.rpki_cert.specs.Rule.{IsFirstBroken, ta_rules, ca_rules, ee_rules, detached_rules, router_rules}
 use Rattle.rpki_cert.specs.View.{IsCertWrong}
 use Rattle.rpki_c.specs.Certificate.{part_number}
 use Rattle.rpki_c.specs.Status.{no_profile}
@@ -41,6 +41,10 @@ cert_rule_number CertificatePolicies = 108
 cert_rule_number Resources = 109
 cert_rule_number RouterNumbers = 110
 cert_rule_number ObjectAccess = 111
+cert_rule_number Validity = 112
+cert_rule_number OwnAuthority = 113
+cert_rule_number SelfIssued = 114
+cert_rule_number ResourceVersion = 115
 
 -- how a profile is passed
 abbrev pub profile_number : CertificateProfile → ℕ
@@ -48,12 +52,14 @@ profile_number Ta = 0
 profile_number Ca = 1
 profile_number Ee = 2
 profile_number Router = 3
+profile_number Detached = 4
 
 abbrev pub HasProfile : CertificateProfile → Bool → TbsParts → Type 0
 HasProfile Ta strict t = IsTaProfile strict t
 HasProfile Ca strict t = IsCaProfile strict t
 HasProfile Ee strict t = IsEeProfile strict t
 HasProfile Router strict t = IsRouterProfile strict t
+HasProfile Detached strict t = IsDetachedProfile strict t
 
 -- its rules, in the order in which they are tested
 abbrev pub rules_of : CertificateProfile → List CertRule
@@ -61,6 +67,7 @@ rules_of Ta = ta_rules
 rules_of Ca = ca_rules
 rules_of Ee = ee_rules
 rules_of Router = router_rules
+rules_of Detached = detached_rules
 
 -- the octets are a certificate of the profile
 pub record IsOfProfile (s : List ℕ) (profile : CertificateProfile) (strict : Bool) : Type 0 where
@@ -75,7 +82,7 @@ pub record BreaksRule (s : List ℕ) (profile : CertificateProfile) (strict : Bo
   pub first : IsFirstBroken strict cert.tbs (rules_of profile) rule
   pub other : HasProfile profile strict cert.tbs → ⊥
 
--- Status 0: the octets are a certificate of the profile. 85 to 111: they are a certificate, which breaks the rule of
+-- Status 0: the octets are a certificate of the profile. 85 to 115: they are a certificate, which breaks the rule of
 -- this number first. Else the number of the part that is wrong.
 abbrev pub IsInspectedAs : List ℕ → CertificateProfile → Bool → ℕ → Type 0
 IsInspectedAs s profile strict status =
@@ -87,4 +94,4 @@ IsInspectedAs s profile strict status =
 abbrev pub IsCertificateInspected : List ℕ → ℕ → Bool → ℕ → Type 0
 IsCertificateInspected s number strict status =
     ((profile : CertificateProfile) × (number ≡ profile_number profile) × IsInspectedAs s profile strict status)
-    ⊎ ((3 < number) × (status ≡ no_profile))
+    ⊎ ((4 < number) × (status ≡ no_profile))

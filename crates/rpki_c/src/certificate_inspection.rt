@@ -10,7 +10,7 @@ use crate::certificate::part_number;
 use crate::status::NO_PROFILE;
 use rpki_cert::{CertRule, CertView};
 
-/// A profile of certificates (RFC 6487 4, RFC 8209 3.1).
+/// A profile of certificates (RFC 6487 4, RFC 8209 3.1, RFC 9323 2).
 #[derive(Clone, Copy)]
 enum CertificateProfile {
     /// That of trust anchors.
@@ -21,6 +21,8 @@ enum CertificateProfile {
     Ee,
     /// That of BGPsec routers.
     Router,
+    /// That of end entities without subject information access.
+    Detached,
 }
 
 /// How a rule is passed.
@@ -55,19 +57,24 @@ fn cert_rule_number(rule: CertRule) -> u8
         CertRule::Resources => 109,
         CertRule::RouterNumbers => 110,
         CertRule::ObjectAccess => 111,
+        CertRule::Validity => 112,
+        CertRule::OwnAuthority => 113,
+        CertRule::SelfIssued => 114,
+        CertRule::ResourceVersion => 115,
     }
 }
 
 /// The profile of this number.
 fn profile_of(number: u8) -> Option<CertificateProfile>
     ensures some { IfSome result (λ p. number ≡ profile_number p) }
-    ensures none { IfNone result (3 < number) }
+    ensures none { IfNone result (4 < number) }
 {
     match number {
         0 => Some(CertificateProfile::Ta),
         1 => Some(CertificateProfile::Ca),
         2 => Some(CertificateProfile::Ee),
         3 => Some(CertificateProfile::Router),
+        4 => Some(CertificateProfile::Detached),
         _ => None,
     }
 }
@@ -83,6 +90,7 @@ fn test(cert: &CertView<'_>, profile: CertificateProfile, strict: bool) -> Resul
         CertificateProfile::Ca => cert.test_ca(strict),
         CertificateProfile::Ee => cert.test_ee(strict),
         CertificateProfile::Router => cert.test_router(strict),
+        CertificateProfile::Detached => cert.test_detached_ee(strict),
     }
 }
 
@@ -99,11 +107,11 @@ fn inspect(octets: &[u8], profile: CertificateProfile, strict: bool) -> u8
     }
 }
 
-/// Reads a resource certificate, and tests it by the profile of this number (RFC 6487 4, RFC 8209 3.1): 0 is that of
-/// trust anchors, 1 that of certification authorities, 2 that of end entities that sign an object, 3 that of BGPsec
-/// routers. The names are looked at if `strict`.
+/// Reads a resource certificate, and tests it by the profile of this number (RFC 6487 4, RFC 8209 3.1, RFC 9323 2): 0
+/// is that of trust anchors, 1 that of certification authorities, 2 that of end entities that sign an object, 3 that of
+/// BGPsec routers, 4 that of end entities without subject information access. The names are looked at if `strict`.
 ///
-/// The status is 0; 85 to 111 where the certificate is not of the profile, by the rule that it breaks first; 64 to 79
+/// The status is 0; 85 to 115 where the certificate is not of the profile, by the rule that it breaks first; 64 to 79
 /// where the octets are no certificate, as that of [crate::certificate::rpki_certificate]; 12 for another number of a
 /// profile, before the octets are looked at. Nothing is allocated.
 #[unsafe(no_mangle)]

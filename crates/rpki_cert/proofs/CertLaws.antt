@@ -17,11 +17,10 @@ use Rattle.rpki_time.specs.PeriodValue.{SpellsPeriod}
 use Rattle.rpki.specs.Name.{SpellsNameOctets}
 use Rattle.rpki.specs.PublicKey.{KeyParts, SpellsKey}
 use Rattle.rpki.specs.ExtensionValue.{ExtensionParts}
-use Rattle.rpki.specs.SignedData.{SignedParts, SpellsSigned}
-use Rattle.rpki.specs.SignedFault.{IsSignedFault}
+use Rattle.rpki.specs.SignedData.{SignedParts}
 use Rattle.rpki.specs.UnknownAlgorithm.{IsContentWith}
-use Rattle.rpki_cert.specs.Cert.{TbsParts, CertParts, cert_parts, SpellsExtensions, SpellsRpkiAlgorithm, Fields, fields_of, AreFields, SpellsTbs, SpellsCert}
-use Rattle.rpki_cert.specs.CertFault.{IsRpkiAlgorithmFault, IsTbsFault, IsCertFault}
+use Rattle.rpki_cert.specs.Cert.{TbsParts, CertParts, cert_parts, SpellsExtensions, SpellsRpkiAlgorithm, Fields, fields_of, AreFields, SpellsTbs, SpellsWhole, SpellsCert}
+use Rattle.rpki_cert.specs.CertFault.{IsWholeSignedFault, IsTbsFault, IsCertFault}
 
 -- ---- what follows each field
 
@@ -84,17 +83,14 @@ module _ {V W : Type 0} (f : V → W) (back : W → V) (same : (v : V) → back 
 
 -- ---- a certificate
 
-abbrev Signed : SignedParts Bool → List ℕ → Type 0
-Signed = SpellsSigned SpellsRpkiAlgorithm
-
-as-signed : (s : List ℕ) (x : CertParts) (r : List ℕ) → Spells SpellsCert s x r → Spells Signed s x.signed r
-as-signed s x r h = record { front = h.front; parts = h.parts; spelled = h.spelled.signed }
+as-signed : (s : List ℕ) (x : CertParts) (r : List ℕ) → Spells SpellsCert s x r → Spells SpellsWhole s x.signed r
+as-signed s x r h = record { front = h.front; parts = h.parts; spelled = record { signed = h.spelled.signed; used = h.spelled.used } }
 
 -- there is no signed data
-pub unsigned : (s r : List ℕ) (e : DecodeError) → Refusal Signed (IsSignedFault SpellsRpkiAlgorithm IsRpkiAlgorithmFault) s r e → Refusal SpellsCert IsCertFault s s e
+pub unsigned : (s r : List ℕ) (e : DecodeError) → Refusal SpellsWhole IsWholeSignedFault s r e → Refusal SpellsCert IsCertFault s s e
 unsigned s r e h = record { unchanged = refl; refuses = UnlessMemory-weaker e (λ none x q k. none x.signed q (as-signed s x q k)) h.refuses; kind = AtPart h.refuses h.kind }
 
-module _ (s r : List ℕ) (d : SignedParts Bool) (a : Accepts Signed s d r) where
+module _ (s r : List ℕ) (d : SignedParts Bool) (a : Accepts SpellsWhole s d r) where
   not-inside : SpellsNothing SpellsTbs d.signed → (x : CertParts) (q : List ℕ) → Spells SpellsCert s x q → ⊥
   not-inside none x q k =
       let one = a.only x.signed q (as-signed s x q k) in
@@ -138,7 +134,7 @@ module _ (s r : List ℕ) (d : SignedParts Bool) (a : Accepts Signed s d r) wher
       -- they are the same
       pub is-cert : t.algorithm ≡ d.algorithm → Accepts SpellsCert s (cert_parts d t) r
       is-cert same = record {
-        spells = record { front = a.spells.front; parts = a.spells.parts; spelled = record { signed = a.spells.spelled; tbs = one.0; same = same } };
+        spells = record { front = a.spells.front; parts = a.spells.parts; spelled = record { signed = a.spells.spelled.signed; used = a.spells.spelled.used; tbs = one.0; same = same } };
         only = λ x p k.
             let f = a.only x.signed p (as-signed s x p k) in
             let g = one.1 x.tbs (subst (λ (y : SignedParts Bool). SpellsTbs x.tbs y.signed) f.0 k.spelled.tbs) in

@@ -1,16 +1,16 @@
 -- Extensions by their identifiers, and what their octets say.
-use Rattle.std.proofs.Common.{◌≡◌, ℕ, Bool, List, Option, Some, None, Result, Ok, Err, refl, sym, ap, subst, ◌∙◌}
+use Rattle.std.proofs.Common.{◌≡◌, ◌≢◌, ℕ, Bool, List, Option, Some, None, Result, Ok, Err, refl, sym, ap, subst, ◌∙◌}
 use Rattle.rpki_der.specs.declared.error.DecodeError.{DecodeError}
 use Rattle.rpki_der.specs.declared.error.DecodeError.TheVariants.{OutOfMemory}
 use Rattle.std.specs.Prelude.{IsErr, IsErrAnd, MatchResult}
 use Rattle.rpki_der.proofs.ReadingLaws.{UnlessMemory-weaker, UnlessMemory-from}
 use Rattle.rpki.specs.declared.repository.error.ValidationError.{ValidationError}
 use Rattle.rpki.specs.declared.repository.error.ValidationError.TheVariants.{Decoding, Inspection, Verification}
-use Rattle.rpki_der.specs.Reading.{SpellsNothing, UnlessMemory, IsWholeFault}
+use Rattle.rpki_der.specs.Reading.{AnyFault, SpellsNothing, UnlessMemory, IsWholeFault}
 use Rattle.rpki_der.proofs.InsideLaws.{unless-memory}
 use Rattle.rpki_der.proofs.FirstFaultLaws.{whole-no-memory}
 use Rattle.rpki.specs.ExtensionValue.{ExtensionParts}
-use Rattle.rpki_cert.specs.Known.{Says, SaysOnly, SaysNone, UnlessNoMemory}
+use Rattle.rpki_cert.specs.Known.{Says, SaysOnly, SaysNone, IsFoundWrong, UnlessNoMemory}
 
 one-of : (x y : ExtensionParts) → ◌≡◌ {A = Option ExtensionParts} (Some x) (Some y) → x ≡ y
 one-of x y e = cc
@@ -42,6 +42,17 @@ module _ {V : Type 0} (critical : Bool) (G : V → List ℕ → Type 0) (found :
   pub not-read : (K : List ℕ → DecodeError → Type 0) (x : ExtensionParts) (e : DecodeError) → (found ≡ Some x) × (x.critical ≡ critical) → (K x.content OutOfMemory → ⊥)
       → UnlessMemory e (SpellsNothing G x.content) × IsWholeFault G K x.content e → SaysNone critical G found
   not-read K x e is never h = no-value x is (unless-memory e (whole-no-memory G K x.content e never h.1) h.0)
+
+  -- it is, and a reader that takes no memory says which error its octets have
+  pub read-wrong : (K : List ℕ → DecodeError → Type 0) (x : ExtensionParts) (e : DecodeError) → (found ≡ Some x) × (x.critical ≡ critical) → (K x.content OutOfMemory → ⊥)
+      → UnlessMemory e (SpellsNothing G x.content) × IsWholeFault G K x.content e → IsFoundWrong critical G (IsWholeFault G K) found (Decoding e)
+  read-wrong K x e is never h =
+      (not-read K x e is never h, (x, is.0, is.1, record { other = whole-no-memory G K x.content e never h.1; kind = h.1 }))
+
+  -- the same of a reader in place
+  pub given-wrong : (x : ExtensionParts) (e : DecodeError) → (found ≡ Some x) × (x.critical ≡ critical) → SpellsNothing G x.content → e ≢ OutOfMemory
+      → IsFoundWrong critical G AnyFault found (Decoding e)
+  given-wrong x e is none other = (no-value x is none, (x, is.0, is.1, record { other = other; kind = tt }))
 
   -- it is not as critical as it has to be
   pub other-critical : (x : ExtensionParts) × (found ≡ Some x) × (x.critical ≡ critical → ⊥) → SaysNone critical G found

@@ -1,8 +1,8 @@
 -- Which lemma file answers which question.
 --
 -- Values, one at least; lists of extensions; each identifier once: SomeLaws, ExtensionListLaws, UniqueLaws.
--- What is signed, and a certificate around it: CertLaws. What an extension says: KnownLaws, PolicyLaws, AccessLaws.
--- Checks of profiles: ProfileLaws. Their rules: RuleLaws.
+-- Signed data without unused bits: WholeLaws. What is signed, and a certificate around it: CertLaws. What an extension says: KnownLaws, PolicyLaws, AccessLaws.
+-- Keys: KeyLaws. Checks of profiles: ProfileLaws. Their rules: RuleLaws. What is verified: VerifiedLaws.
 -- Read in place: values, names, access descriptions, lists of extensions, their index, fields, certificates: NestedLaws,
 --   NameViewLaws, ObjectAccessLaws, ListedLaws, ExtensionIndexLaws, FieldsLaws, ViewLaws. That what is signed is one
 --   value: TbsValueLaws. That what is wrong is no certificate: WrongLaws.
@@ -11,12 +11,15 @@
 pub mod SomeLaws
 pub mod ExtensionListLaws
 pub mod UniqueLaws
+pub mod WholeLaws
 pub mod CertLaws
 pub mod KnownLaws
 pub mod PolicyLaws
 pub mod AccessLaws
+pub mod KeyLaws
 pub mod ProfileLaws
 pub mod RuleLaws
+pub mod VerifiedLaws
 pub mod NestedLaws
 pub mod NameViewLaws
 pub mod ObjectAccessLaws

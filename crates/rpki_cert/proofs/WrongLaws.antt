@@ -2,10 +2,10 @@
 use Rattle.std.proofs.Common.{◌≡◌, ◌∙◌, ◌<◌, ℕ, Bool, true, false, List, [], ◌∷◌, ◌++◌, length, drop, refl, sym, ap, subst, arith, append_assoc}
 use Rattle.std.specs.Prelude.{IsTrue}
 use Rattle.std.proofs.lemmas.List.{drop_at, append-nil}
-use Rattle.rpki_der.specs.TagName.{TagName, sequence, integer, oid, null}
+use Rattle.rpki_der.specs.TagName.{TagName, sequence, integer, oid, null, bit_string}
 use Rattle.rpki_der.specs.Reading.{Spells}
 use Rattle.rpki_der.specs.Values.{SpellsContents, SpellsLeaf}
-use Rattle.rpki_der.specs.Leaves.{IsOnly, IsNull}
+use Rattle.rpki_der.specs.Leaves.{IsOnly, IsNull, IsBits, bits_of}
 use Rattle.rpki_der.specs.Parts.{SpellsBoth}
 use Rattle.rpki_der.specs.Each.{SpellsEach}
 use Rattle.rpki_der.specs.Members.{SpellsValue}
@@ -14,12 +14,12 @@ use Rattle.rpki_der.proofs.MembersLaws.{one-beginning}
 use Rattle.rpki_der.proofs.LeafValueLaws.{leaf-shorter}
 use Rattle.rpki.specs.Oids.{sha256_with_rsa_encryption}
 use Rattle.rpki.specs.Algorithm.{IsParameters, IsIdentified}
-use Rattle.rpki.specs.SignedData.{SignedParts, SpellsSignature, IsSignedContents}
+use Rattle.rpki.specs.SignedData.{SignedParts, IsSignedContents}
 use Rattle.rpki.specs.ExtensionValue.{ExtensionParts, SpellsExtension, IsExtensionContents}
 use Rattle.rpki.proofs.ExtensionLaws.{one-contents}
 use Rattle.rpki_cert.specs.declared.cert_part.CertPart.{CertPart}
 use Rattle.rpki_cert.specs.Cert.{TbsParts, CertParts, version_tag, extensions_tag, are_unique, SpellsTwo, SpellsExtensions, SpellsRpkiAlgorithm, AreFields, fields_of, SpellsTbs, SpellsCert}
-use Rattle.rpki_cert.specs.View.{most_extensions, FirstWrong, SpellsListed, AreExtensionsWrong, AreFieldsWrong, IsTbsWrong, ArePartsWrong, IsSignatureWrong, IsCertWrong}
+use Rattle.rpki_cert.specs.View.{most_extensions, SpellsUsed, FirstWrong, SpellsListed, AreExtensionsWrong, AreFieldsWrong, IsTbsWrong, ArePartsWrong, IsSignatureWrong, IsCertWrong}
 use Rattle.rpki_cert.specs.View.FirstWrong.{AtPart, Later}
 use Rattle.rpki_cert.specs.View.AreExtensionsWrong.{NotListed, TooMany, Repeated}
 use Rattle.rpki_cert.specs.View.IsTbsWrong.{NoTbs, InTbs}
@@ -122,13 +122,16 @@ tbs-same t u d h k =
 abbrev Contents : SignedParts Bool → List ℕ → Type 0
 Contents = IsSignedContents SpellsRpkiAlgorithm
 
-parts-wrong : (x : SignedParts Bool) (c : List ℕ) (q : CertPart) → ArePartsWrong c q → Contents x c → ⊥
-parts-wrong x c q w h =
+abbrev Used : SignedParts Bool → List ℕ → Type 0
+Used x c = (h : Contents x c) × (h.signature.unused ≡ 0)
+
+parts-wrong : (x : SignedParts Bool) (c : List ℕ) (q : CertPart) → ArePartsWrong c q → Used x c → ⊥
+parts-wrong x c q w (h, used) =
     let value : Spells SpellsValue c x.signed (h.text ++ h.bits) = record { front = x.signed; parts = h.parts ∙ append_assoc x.signed h.text h.bits; spelled = record { same = refl; value = h.one } } in
     let algorithm = behind _ _ _ _ _ q x.signed w value in
     let signature = behind _ _ _ _ _ q x.algorithm algorithm (record { front = h.text; parts = refl; spelled = h.named }) in
-    signature-wrong x.value h.bits signature h.signature where
-      signature-wrong : (v s : List ℕ) → IsSignatureWrong s q → SpellsSignature v s → ⊥
+    signature-wrong x.value h.bits signature (subst (λ (u : ℕ). SpellsLeaf bit_string false IsBits (bits_of u x.value) h.bits) used h.signature.string) where
+      signature-wrong : (v s : List ℕ) → IsSignatureWrong s q → SpellsUsed v s → ⊥
       signature-wrong v s (NoSignature none is) k = none v k
 
 record AreSame (x y : SignedParts Bool) : Type 0 where
@@ -146,10 +149,10 @@ contents-one x y c h k =
 -- no certificate of few extensions is wrong
 pub cert-wrong : (s : List ℕ) (q : CertPart) → IsCertWrong s q → (x : CertParts) → SpellsCert x s → most_extensions < length x.tbs.extensions
 cert-wrong s q (NoCert none is) x h = absurd (none h.signed.contents h.signed.value)
-cert-wrong s q (InParts c k w) x h = absurd (parts-wrong x.signed c q w (subst (Contents x.signed) (contents-same sequence true h.signed.contents c s h.signed.value k) h.signed.spelled))
-cert-wrong s q (InSigned c y k g w) x h =
+cert-wrong s q (InParts c k w) x h = absurd (parts-wrong x.signed c q w (subst (Used x.signed) (contents-same sequence true h.signed.contents c s h.signed.value k) (h.signed.spelled, h.used)))
+cert-wrong s q (InSigned c y k g used w) x h =
     let same = contents-one y x.signed c g (subst (Contents x.signed) (contents-same sequence true h.signed.contents c s h.signed.value k) h.signed.spelled) in
     tbs-wrong x.tbs y.signed q w (subst (SpellsTbs x.tbs) (sym same.signed) h.tbs)
-cert-wrong s q (Differ c y t k g tbs other is) x h =
+cert-wrong s q (Differ c y t k g used tbs other is) x h =
     let same = contents-one y x.signed c g (subst (Contents x.signed) (contents-same sequence true h.signed.contents c s h.signed.value k) h.signed.spelled) in
     absurd (other (tbs-same t x.tbs y.signed tbs (subst (SpellsTbs x.tbs) (sym same.signed) h.tbs) ∙ h.same ∙ sym same.algorithm))

@@ -5,7 +5,7 @@ use Rattle.std.specs.Option.{is_some}
 use Rattle.rpki_der.specs.declared.error.DecodeError.{DecodeError}
 use Rattle.rpki_der.specs.declared.tag.Class.TheVariants.{Context}
 use Rattle.rpki_der.specs.TagName.{TagName, tag_of, context_6, oid, sequence}
-use Rattle.rpki_der.specs.Reading.{Finds, Decodes, OrMemoryWhere, IsWholeFault}
+use Rattle.rpki_der.specs.Reading.{AnyFault, Finds, Decodes, OrMemoryWhere, IsWholeFault}
 use Rattle.rpki_der.specs.Values.{SpellsContents, SpellsLeaf, HasTag, IsContentsFault, IsLeafFault}
 use Rattle.rpki_der.specs.WantedValue.{SpellsWanted, IsAnyTag, IsWantedFault}
 use Rattle.rpki_der.specs.Leaves.{IsOid, IsOidOf}
@@ -18,7 +18,7 @@ use Rattle.rpki.specs.UnknownAlgorithm.{IsContentWith}
 use Rattle.rpki.specs.ExtensionValue.{ExtensionParts}
 use Rattle.rpki.specs.declared.repository.error.ValidationError.{ValidationError}
 use Rattle.rpki_cert.specs.Cert.{find}
-use Rattle.rpki_cert.specs.Known.{SaysOnly, SaysNone, HasNone, UnlessNoMemory}
+use Rattle.rpki_cert.specs.Known.{SaysOnly, IsFoundWrong, HasNone, UnlessNoMemory}
 
 -- what f makes of some value that is spelled
 abbrev pub Through : {V W : Type 0} → (W → V) → (W → List ℕ → Type 0) → V → List ℕ → Type 0
@@ -212,11 +212,11 @@ flat (Some uri) = uri
 abbrev pub SaysUri : (Option (List ℕ) → List ℕ → Type 0) → Option ExtensionParts → Option (List ℕ) → Type 0
 SaysUri G found uri = (v : Option (Option (List ℕ))) × SaysOnly false G found v × (uri ≡ flat v)
 
--- the same, as it is read; the error says that the extension is another
+-- the same, as it is read; or the error of an extension that is another
 abbrev pub IsSaidUri : {X : Type 0} → (X → Option (List ℕ)) → (Option (List ℕ) → List ℕ → Type 0)
     → Option ExtensionParts → Result X ValidationError → Type 0
 IsSaidUri view G found result =
-    MatchResult result (λ x. SaysUri G found (view x)) (λ _. SaysNone {V = Option (List ℕ)} false G found)
+    MatchResult result (λ x. SaysUri G found (view x)) (IsFoundWrong false G AnyFault found)
 
 -- the same of the extension of this identifier
 abbrev pub HasUri : List ℕ → (Option (List ℕ) → List ℕ → Type 0) → List ExtensionParts → Option (List ℕ) → Type 0

@@ -103,8 +103,14 @@ pub record CertParts : Type 0 where
 abbrev pub cert_parts : SignedParts Bool → TbsParts → CertParts
 cert_parts signed tbs = record { signed = signed; tbs = tbs }
 
--- signed data whose signed octets are a TBSCertificate that names the same algorithm (RFC 5280 4.1.1.2)
+-- signed data whose signature is whole octets, as those of RSA are (RFC 8017 8.2.1): no bit of it is unused
+pub record SpellsWhole (x : SignedParts Bool) (p : List ℕ) : Type 0 where
+  pub signed : SpellsSigned SpellsRpkiAlgorithm x p
+  pub used : signed.spelled.signature.unused ≡ 0
+
+-- such signed data whose signed octets are a TBSCertificate that names the same algorithm (RFC 5280 4.1.1.2)
 pub record SpellsCert (x : CertParts) (p : List ℕ) : Type 0 where
   pub signed : SpellsSigned SpellsRpkiAlgorithm x.signed p
+  pub used : signed.spelled.signature.unused ≡ 0
   pub tbs : SpellsTbs x.tbs x.signed.signed
   pub same : x.tbs.algorithm ≡ x.signed.algorithm

@@ -3,6 +3,7 @@
 use Rattle.std.specs.Prelude.{◌≡◌, ◌≢◌, ◌⊎◌, ℕ, Bool, true, false, List, [], IsTrue, codes}
 use Rattle.rpki_der.specs.declared.error.DecodeError.{DecodeError}
 use Rattle.rpki_der.specs.TagName.{integer, sequence}
+use Rattle.rpki_der.specs.Reading.{Finds}
 use Rattle.rpki_der.specs.Values.{IsLeafFault}
 use Rattle.rpki_der.specs.Leaves.{IsOnly}
 use Rattle.rpki_der.specs.Each.{SpellsEach, IsEachFault}
@@ -20,7 +21,7 @@ use Rattle.rpki.specs.ExtensionValue.{ExtensionParts, SpellsExtension}
 use Rattle.rpki.specs.ExtensionFault.{IsKeptExtensionFault}
 use Rattle.rpki.specs.SignedData.{SignedParts, SpellsSigned}
 use Rattle.rpki.specs.SignedFault.{IsSignedFault}
-use Rattle.rpki_cert.specs.Cert.{TbsParts, version_tag, two, SpellsTwo, SpellsVersion, are_unique, SpellsExtensionList, extensions_tag, SpellsExtensions, SpellsRpkiAlgorithm, SpellsTbs}
+use Rattle.rpki_cert.specs.Cert.{TbsParts, version_tag, two, SpellsTwo, SpellsVersion, are_unique, SpellsExtensionList, extensions_tag, SpellsExtensions, SpellsRpkiAlgorithm, SpellsTbs, SpellsWhole}
 
 -- ---- the version
 
@@ -83,7 +84,12 @@ abbrev pub IsInnerFault : SignedParts Bool → List ℕ → DecodeError → Type
 IsInnerFault signed r e =
     FirstFault SpellsTbs IsTbsFault (λ tbs rest d. IsEndFault rest d ⊎ DifferFault signed tbs d) signed.signed e
 
--- not signed data; or signed data of which what is signed is rejected
+-- not signed data; or signed data of whose signature bits are unused
+abbrev pub IsWholeSignedFault : List ℕ → DecodeError → Type 0
+IsWholeSignedFault s e =
+    IsSignedFault SpellsRpkiAlgorithm IsRpkiAlgorithmFault s e
+    ⊎ (Finds (SpellsSigned SpellsRpkiAlgorithm) s × IsContentWith (codes "signature has unused bits") e)
+
+-- the same; or signed data of which what is signed is rejected
 abbrev pub IsCertFault : List ℕ → DecodeError → Type 0
-IsCertFault =
-    FirstFault (SpellsSigned SpellsRpkiAlgorithm) (IsSignedFault SpellsRpkiAlgorithm IsRpkiAlgorithmFault) IsInnerFault
+IsCertFault = FirstFault SpellsWhole IsWholeSignedFault IsInnerFault

@@ -11,7 +11,8 @@ use Rattle.rpki_der.specs.Each.{SpellsSome, IsEachFault}
 use Rattle.rpki_der.specs.FirstFault.{FirstFault, IsEndFault, IsInsideFault}
 use Rattle.std.specs.Str.{IsAscii}
 use Rattle.rpki.specs.UnknownAlgorithm.{IsContentWith}
-use Rattle.rpki.specs.KeyIdentifier.{IsKeyIdentifier}
+use Rattle.rpki_der.specs.Reading.{IsWholeFault}
+use Rattle.rpki.specs.KeyIdentifier.{SpellsKeyIdentifier, IsKeyIdentifier, IsIdentifierFault}
 use Rattle.rpki_cert.specs.Access.{SpellsOidAs, IsOidAsFault}
 use Rattle.rpki_cert.specs.declared.key_usage.KeyUsage.{KeyUsage}
 use Rattle.rpki_cert.specs.declared.key_usage.KeyUsage.TheVariants.{Ca, Ee}
@@ -43,6 +44,16 @@ SpellsAuthority = SpellsLeaf sequence true SpellsTagged
 abbrev pub IsAuthorityFault : List ℕ → DecodeError → Type 0
 IsAuthorityFault = IsInsideFault sequence true (FirstFault SpellsTagged IsTaggedFault (λ identifier. IsEndFault))
 
+-- the error of octets that are to be an authority key identifier, a subject key identifier or basic constraints
+abbrev pub IsWholeAuthorityFault : List ℕ → DecodeError → Type 0
+IsWholeAuthorityFault = IsWholeFault SpellsAuthority IsAuthorityFault
+
+abbrev pub IsWholeSubjectFault : List ℕ → DecodeError → Type 0
+IsWholeSubjectFault = IsWholeFault SpellsKeyIdentifier (IsIdentifierFault IsKeyIdentifier)
+
+abbrev pub IsWholeConstraintsFault : List ℕ → DecodeError → Type 0
+IsWholeConstraintsFault = IsWholeFault SpellsConstraints IsConstraintsFault
+
 -- ---- key usage: a BIT STRING (RFC 5280 4.2.1.3, RFC 6487 4.8.4)
 
 -- of an authority exactly the bits 5 and 6 are set, keyCertSign and cRLSign; of an end entity exactly the bit 0,
@@ -56,6 +67,9 @@ SpellsUsage = SpellsLeaf bit_string false IsUsage
 
 abbrev pub IsUsageFault : List ℕ → DecodeError → Type 0
 IsUsageFault = IsLeafFault bit_string false IsUsage
+
+abbrev pub IsWholeUsageFault : List ℕ → DecodeError → Type 0
+IsWholeUsageFault = IsWholeFault SpellsUsage IsUsageFault
 
 -- ---- extended key usage: object identifiers of purposes, one at least (RFC 5280 4.2.1.12)
 
@@ -165,3 +179,6 @@ IsPolicyFault = IsInsideFault sequence true ArePolicyPartsFault
 
 abbrev pub IsPoliciesFault : List ℕ → DecodeError → Type 0
 IsPoliciesFault = IsInsideFault sequence true (FirstFault SpellsPolicy IsPolicyFault (λ policy. IsEndFault))
+
+abbrev pub IsWholePoliciesFault : List ℕ → DecodeError → Type 0
+IsWholePoliciesFault = IsWholeFault SpellsPolicies IsPoliciesFault

@@ -1,9 +1,12 @@
 -- Extensions by their identifiers (RFC 6487 4.8).
-use Rattle.std.specs.Prelude.{◌≡◌, ℕ, Bool, true, false, not, ◌||◌, ◌&&◌, List, [], ◌∷◌, Option, Some, None, Result, MatchResult, bytes_eq}
+use Rattle.std.specs.Prelude.{◌≡◌, ◌⊎◌, ℕ, Bool, true, false, not, ◌||◌, ◌&&◌, List, [], ◌∷◌, Option, Some, None, Result, MatchResult, bytes_eq, codes}
 use Rattle.rpki.specs.ExtensionValue.{ExtensionParts}
-use Rattle.rpki_der.specs.Reading.{UnlessMemory}
+use Rattle.rpki_der.specs.ErrorText.{text_of}
+use Rattle.rpki_der.specs.Reading.{UnlessMemory, TakesNoMemory}
+use Rattle.rpki.specs.ErrorContent.{content_of}
 use Rattle.rpki_der.specs.declared.error.DecodeError.{DecodeError}
 use Rattle.rpki_der.specs.declared.error.DecodeError.TheVariants.{Truncated, BadTag, BadLength, Unexpected, Content, Trailing, OutOfMemory}
+use Rattle.rpki.specs.declared.repository.error.InspectionError.{InspectionError}
 use Rattle.rpki.specs.declared.repository.error.ValidationError.{ValidationError}
 use Rattle.rpki.specs.declared.repository.error.ValidationError.TheVariants.{Decoding, Inspection, Verification}
 use Rattle.rpki_cert.specs.Cert.{find}
@@ -115,21 +118,53 @@ present false = None
 
 -- ---- what is read of an extension
 
--- the value of what is found; the error says that it is another
-abbrev pub IsSaid : {V : Type 0} → Bool → (V → List ℕ → Type 0) → Option ExtensionParts
-    → Result (Option V) ValidationError → Type 0
-IsSaid critical G found result = MatchResult result (SaysOnly critical G found) (λ _. SaysNone critical G found)
+-- the error of an inspection, of this text
+abbrev pub HasText : List ℕ → ValidationError → Type 0
+HasText text (Decoding e) = ⊥
+HasText text (Inspection e) = text_of (content_of e) ≡ text
+HasText text (Verification e) = ⊥
 
--- that something is found; the error says that it is another
-abbrev pub IsSaidThere : Bool → (Unit {0} → List ℕ → Type 0) → Option ExtensionParts → Result Bool ValidationError
-    → Type 0
-IsSaidThere critical G found result =
-    MatchResult result (λ b. SaysOnly critical G found (present b)) (λ _. SaysNone critical G found)
+-- the text of an extension that isn't as critical as it has to be
+abbrev pub critical_text : List ℕ
+critical_text = codes "extension is not as critical as it has to be"
+
+-- what is found isn't as critical as it has to be, and the text says so
+abbrev pub IsOtherCritical : Bool → Option ExtensionParts → InspectionError → Type 0
+IsOtherCritical critical found e =
+    (text_of (content_of e) ≡ critical_text) × (x : ExtensionParts) × (found ≡ Some x) × (x.critical ≡ critical → ⊥)
+
+-- what is found is as critical as it has to be, and K is the error of its octets; or it isn't, and the text says so
+abbrev pub IsFoundFault : Bool → (List ℕ → DecodeError → Type 0) → Option ExtensionParts → ValidationError → Type 0
+IsFoundFault critical K found (Decoding e) =
+    (x : ExtensionParts) × (found ≡ Some x) × (x.critical ≡ critical) × TakesNoMemory K x.content e
+IsFoundFault critical K found (Inspection e) = IsOtherCritical critical found e
+IsFoundFault critical K found (Verification e) = ⊥
+
+-- what is found is malformed, or not as critical as it has to be, and this is its error
+abbrev pub IsFoundWrong : {V : Type 0} → Bool → (V → List ℕ → Type 0) → (List ℕ → DecodeError → Type 0)
+    → Option ExtensionParts → ValidationError → Type 0
+IsFoundWrong critical G K found e = SaysNone critical G found × IsFoundFault critical K found e
+
+-- the error of what is found where that is wrong; and else, where it says something else, one of E
+abbrev pub IsOtherwise : {V : Type 0} → Bool → (V → List ℕ → Type 0) → (List ℕ → DecodeError → Type 0)
+    → Option ExtensionParts → (ValidationError → Type 0) → ValidationError → Type 0
+IsOtherwise critical G K found E e = ((SaysNone critical G found → ⊥) × E e) ⊎ IsFoundFault critical K found e
+
+-- the value of what is found; or the error of what is another
+abbrev pub IsSaid : {V : Type 0} → Bool → (V → List ℕ → Type 0) → (List ℕ → DecodeError → Type 0)
+    → Option ExtensionParts → Result (Option V) ValidationError → Type 0
+IsSaid critical G K found result = MatchResult result (SaysOnly critical G found) (IsFoundWrong critical G K found)
+
+-- that something is found; or the error of what is another
+abbrev pub IsSaidThere : Bool → (Unit {0} → List ℕ → Type 0) → (List ℕ → DecodeError → Type 0)
+    → Option ExtensionParts → Result Bool ValidationError → Type 0
+IsSaidThere critical G K found result =
+    MatchResult result (λ b. SaysOnly critical G found (present b)) (IsFoundWrong critical G K found)
 
 -- the same of the extension of this identifier
-abbrev pub FindsOnly : {V : Type 0} → List ℕ → Bool → (V → List ℕ → Type 0) → List ExtensionParts
-    → Result (Option V) ValidationError → Type 0
-FindsOnly id critical G xs = IsSaid critical G (find id xs)
+abbrev pub FindsOnly : {V : Type 0} → List ℕ → Bool → (V → List ℕ → Type 0) → (List ℕ → DecodeError → Type 0)
+    → List ExtensionParts → Result (Option V) ValidationError → Type 0
+FindsOnly id critical G K xs = IsSaid critical G K (find id xs)
 
 -- the same where allocation can fail
 abbrev pub FindsKept : {V : Type 0} → List ℕ → Bool → (V → List ℕ → Type 0) → List ExtensionParts
@@ -137,9 +172,9 @@ abbrev pub FindsKept : {V : Type 0} → List ℕ → Bool → (V → List ℕ �
 FindsKept id critical G xs result =
     MatchResult result (HasOnly id critical G xs) (λ e. UnlessNoMemory e (HasNone id critical G xs))
 
-abbrev pub FindsThere : List ℕ → Bool → (Unit {0} → List ℕ → Type 0) → List ExtensionParts
-    → Result Bool ValidationError → Type 0
-FindsThere id critical G xs = IsSaidThere critical G (find id xs)
+abbrev pub FindsThere : List ℕ → Bool → (Unit {0} → List ℕ → Type 0) → (List ℕ → DecodeError → Type 0)
+    → List ExtensionParts → Result Bool ValidationError → Type 0
+FindsThere id critical G K xs = IsSaidThere critical G K (find id xs)
 
 -- ---- critical extensions
 

@@ -8,8 +8,10 @@ pub mod InPlace
 pub mod View
 pub mod ExtensionIndex
 pub mod KnownView
-pub mod Valid
 pub mod Inspected
+pub mod Keys
 pub mod Profile
 pub mod Rule
+pub mod RuleError
+pub mod Valid
 pub mod Verified

@@ -1,13 +1,18 @@
--- The profiles of certificates: trust anchors, certification authorities and end entities (RFC 6487 4), and BGPsec
--- routers (RFC 8209 3.1). A name is held to its profile where this is asked for.
-use Rattle.std.specs.Prelude.{◌≡◌, ◌<◌, ◌||◌, ◌&&◌, not, ℕ, Bool, true, false, List, Option, Some, None, IsTrue, Result, MatchResult}
-use Rattle.rpki.specs.declared.crypto.keys.PublicKeyFormat.TheVariants.{Rsa, EcdsaP256}
+-- The profiles of certificates: trust anchors, certification authorities and end entities (RFC 6487 4), end entities
+-- without subject information access (RFC 9323 2), and BGPsec routers (RFC 8209 3.1). A name is held to its profile
+-- where this is asked for.
+use Rattle.std.specs.Prelude.{◌≡◌, ◌<◌, ◌≤ℤ◌, ◌⊎◌, ◌||◌, ◌&&◌, not, ℕ, Bool, true, false, List, Option, Some, None, IsTrue, Result, MatchResult}
+use Rattle.jiff.specs.Words.{civil_nanos}
+use Rattle.rpki_time.specs.Validity.{Period}
 use Rattle.rpki.specs.KeyIdentifier.{SpellsKeyIdentifier}
 use Rattle.rpki.specs.StrictName.{IsRpkiName, IsRouterName}
 use Rattle.rpki.specs.ExtensionValue.{ExtensionParts}
 use Rattle.rpki.specs.declared.repository.error.ValidationError.{ValidationError}
 use Rattle.rpki_cert.specs.declared.key_usage.KeyUsage.TheVariants.{Ca, Ee}
+use Rattle.rpki_cert.specs.declared.policy.Overclaim.{Overclaim}
+use Rattle.rpki_cert.specs.declared.policy.Overclaim.TheVariants.{Refuse, Trim}
 use Rattle.rpki_cert.specs.Cert.{TbsParts, find, is_there}
+use Rattle.rpki_cert.specs.Keys.{IsRpkiKey, IsRouterKey}
 use Rattle.rpki_cert.specs.Known.{subject_key_identifier, key_usage, basic_constraints, crl_distribution_points, certificate_policies, authority_key_identifier, extended_key_usage, authority_info_access, subject_info_access, ip_addr_blocks, ip_addr_blocks_v2, autonomous_sys_ids, autonomous_sys_ids_v2, Says, HasExtension, are_understood}
 use Rattle.rpki_cert.specs.ExtensionContent.{SpellsConstraints, SpellsAuthority, SpellsUsage, SpellsPurposes, SpellsPolicies}
 use Rattle.rpki_cert.specs.Access.{SpellsRsyncAccess, SpellsPoints, SpellsObjectAccess, SaysUri, ca_issuers, ca_repository, rpki_manifest, signed_object}
@@ -63,23 +68,43 @@ has_resources xs =
     && is_critical (find ip_addr_blocks_v2 xs) && is_critical (find autonomous_sys_ids xs)
     && is_critical (find autonomous_sys_ids_v2 xs)
 
+-- the resources of the other version than the policy's are not there: with id-cp-ipAddr-asNumber only the extensions of
+-- RFC 3779, with id-cp-ipAddr-asNumber-v2 only those of RFC 8360 (RFC 8360 4.2)
+abbrev pub is_of_version : Overclaim → List ExtensionParts → Bool
+is_of_version Refuse xs =
+    not (is_there (find ip_addr_blocks_v2 xs)) && not (is_there (find autonomous_sys_ids_v2 xs))
+is_of_version Trim xs = not (is_there (find ip_addr_blocks xs)) && not (is_there (find autonomous_sys_ids xs))
+
+-- the policy is there, and all resources are of its version
+abbrev pub HasOneVersion : List ExtensionParts → Type 0
+HasOneVersion xs =
+    (policy : Overclaim) × HasExtension certificate_policies true SpellsPolicies xs (Some policy)
+    × IsTrue (is_of_version policy xs)
+
 -- ---- what certificates have in common
 
+-- the period ends no earlier than it begins (RFC 5280 4.1.2.5, RFC 6487 4.6)
+abbrev pub IsOrdered : Period → Type 0
+IsOrdered p = civil_nanos p.not_before ≤ℤ civil_nanos p.not_after
+
 -- the serial number is positive (RFC 5280 4.1.2.2); every critical extension is known; the issuer has a name of the
--- RPKI; the subject key identifier, the policy and resources are there (RFC 6487 4.2, 4.4, 4.8)
+-- RPKI; the period is one; the subject key identifier, the policy and resources of its version are there (RFC 6487 4.2,
+-- 4.4, 4.6, 4.8, RFC 8360 4.2)
 pub record IsBasic (strict : Bool) (t : TbsParts) : Type 0 where
   pub serial : 0 < t.serial
   pub understood : IsTrue (are_understood t.extensions)
   pub issuer : IsTrue strict → IsRpkiName t.issuer
+  pub validity : IsOrdered t.validity
   pub identifier : HasSome subject_key_identifier false SpellsKeyIdentifier t.extensions
   pub policy : HasSome certificate_policies true SpellsPolicies t.extensions
   pub resources : IsTrue (has_resources t.extensions)
+  pub version : HasOneVersion t.extensions
 
 -- a subject with a name of the RPKI and an RSA key (RFC 6487 4.5, RFC 7935 3), for no extended purpose (RFC 6487 4.8.5)
 pub record IsOrdinary (strict : Bool) (t : TbsParts) : Type 0 where
   pub basic : IsBasic strict t
   pub subject : IsTrue strict → IsRpkiName t.subject
-  pub key : t.key.format ≡ Rsa
+  pub key : IsRpkiKey t.key
   pub purposes : HasNot extended_key_usage t.extensions
 
 -- a certification authority: cA is TRUE, and its key signs certificates and revocation lists (RFC 6487 4.8.1, 4.8.4)
@@ -103,15 +128,28 @@ pub record HasIssuer (xs : List ExtensionParts) : Type 0 where
   pub revocation : HasSomeUri crl_distribution_points SpellsPoints xs
   pub certificate : HasSomeUri authority_info_access (SpellsRsyncAccess ca_issuers) xs
 
+-- issued by itself: the authority key identifier is left out, or is the subject key identifier (RFC 6487 4.8.3)
+abbrev pub SaysOwn : Option ExtensionParts → Option ExtensionParts → Type 0
+SaysOwn authority subject =
+    (authority ≡ None)
+    ⊎ ((identifier : List ℕ) × Says false SpellsAuthority authority (Some identifier)
+    × Says false SpellsKeyIdentifier subject (Some identifier))
+
+abbrev pub HasOwnAuthority : List ExtensionParts → Type 0
+HasOwnAuthority xs = SaysOwn (find authority_key_identifier xs) (find subject_key_identifier xs)
+
 -- ---- the profiles
 
--- a trust anchor: without a revocation list and a certificate of the issuer
+-- a trust anchor: it is its own issuer (RFC 8630 2.3, RFC 5280 3.2), without a revocation list and a certificate of
+-- another issuer
 pub record IsTaProfile (strict : Bool) (t : TbsParts) : Type 0 where
   pub ordinary : IsOrdinary strict t
   pub authority : IsAuthority t.extensions
   pub repository : HasRepository t.extensions
   pub revocation : HasNot crl_distribution_points t.extensions
   pub certificate : HasNot authority_info_access t.extensions
+  pub issuer : t.issuer ≡ t.subject
+  pub identifier : HasOwnAuthority t.extensions
 
 pub record IsCaProfile (strict : Bool) (t : TbsParts) : Type 0 where
   pub ordinary : IsOrdinary strict t
@@ -128,11 +166,19 @@ pub record IsEeProfile (strict : Bool) (t : TbsParts) : Type 0 where
   pub methods : HasOnlyMethods t.extensions
   pub issuer : HasIssuer t.extensions
 
+-- an end entity without subject information access, whose key signs what is in no repository, as a signed checklist
+-- (RFC 9323 2)
+pub record IsDetachedProfile (strict : Bool) (t : TbsParts) : Type 0 where
+  pub ordinary : IsOrdinary strict t
+  pub end : IsEnd t.extensions
+  pub access : HasNot subject_info_access t.extensions
+  pub issuer : HasIssuer t.extensions
+
 -- a router: a P-256 key for a router's purpose, numbers without addresses, and no access information of the subject
 pub record IsRouterProfile (strict : Bool) (t : TbsParts) : Type 0 where
   pub basic : IsBasic strict t
   pub subject : IsTrue strict → IsRouterName t.subject
-  pub key : t.key.format ≡ EcdsaP256
+  pub key : IsRouterKey t.key
   pub end : IsEnd t.extensions
   pub purpose : HasExtension extended_key_usage false SpellsPurposes t.extensions (Some true)
   pub numbers : IsTrue (has_numbers t.extensions && not (has_addresses t.extensions))

@@ -1,30 +1,33 @@
 -- The rules of the profiles of certificates (RFC 6487 4, RFC 8209 3.1), one by one, and which of them is broken first.
 use Rattle.std.specs.Prelude.{◌≡◌, ◌<◌, ◌&&◌, not, ℕ, Bool, true, false, List, [], ◌∷◌, ◌++◌, Some, IsTrue, All, codes, Result, MatchResult}
-use Rattle.rpki.specs.declared.crypto.keys.PublicKeyFormat.TheVariants.{Rsa, EcdsaP256}
 use Rattle.rpki.specs.KeyIdentifier.{SpellsKeyIdentifier}
 use Rattle.rpki.specs.StrictName.{IsRpkiName, IsRouterName}
 use Rattle.rpki_cert.specs.declared.key_usage.KeyUsage.TheVariants.{Ca, Ee}
 use Rattle.rpki_cert.specs.declared.rule.CertRule.{CertRule}
-use Rattle.rpki_cert.specs.declared.rule.CertRule.TheVariants.{SerialNumber, CriticalExtensions, Issuer, Subject, RouterSubject, RsaKey, RouterKey, BasicConstraints, NoBasicConstraints, SubjectKeyIdentifier, AuthorityKeyIdentifier, AuthorityUsage, EndUsage, NoExtendedKeyUsage, RouterPurpose, RevocationList, NoRevocationList, IssuerCertificate, NoIssuerCertificate, Repository, Manifest, SignedObject, ObjectAccess, NoSubjectAccess, CertificatePolicies, Resources, RouterNumbers}
+use Rattle.rpki_cert.specs.declared.rule.CertRule.TheVariants.{SerialNumber, CriticalExtensions, Issuer, Validity, Subject, RouterSubject, RsaKey, RouterKey, BasicConstraints, NoBasicConstraints, SubjectKeyIdentifier, AuthorityKeyIdentifier, OwnAuthority, SelfIssued, AuthorityUsage, EndUsage, NoExtendedKeyUsage, RouterPurpose, RevocationList, NoRevocationList, IssuerCertificate, NoIssuerCertificate, Repository, Manifest, SignedObject, ObjectAccess, NoSubjectAccess, CertificatePolicies, Resources, ResourceVersion, RouterNumbers}
 use Rattle.rpki_cert.specs.Cert.{TbsParts}
 use Rattle.rpki_cert.specs.Known.{subject_key_identifier, key_usage, basic_constraints, crl_distribution_points, certificate_policies, authority_key_identifier, extended_key_usage, authority_info_access, subject_info_access, HasExtension, are_understood}
 use Rattle.rpki_cert.specs.ExtensionContent.{SpellsConstraints, SpellsAuthority, SpellsUsage, SpellsPurposes, SpellsPolicies}
 use Rattle.rpki_cert.specs.Access.{SpellsRsyncAccess, SpellsPoints, ca_issuers, ca_repository, rpki_manifest, signed_object}
-use Rattle.rpki_cert.specs.Profile.{HasSome, HasNot, HasSomeUri, HasOnlyMethods, has_addresses, has_numbers, has_resources}
+use Rattle.rpki_cert.specs.Keys.{IsRpkiKey, IsRouterKey}
+use Rattle.rpki_cert.specs.Profile.{HasSome, HasNot, HasSomeUri, HasOnlyMethods, IsOrdered, HasOwnAuthority, has_addresses, has_numbers, has_resources, HasOneVersion}
 
 -- what the rule says of a certificate, in the words of the profiles; a name is held to its profile where strict is true
 abbrev pub Obeys : Bool → TbsParts → CertRule → Type 0
 Obeys strict t SerialNumber = 0 < t.serial
 Obeys strict t CriticalExtensions = IsTrue (are_understood t.extensions)
 Obeys strict t Issuer = IsTrue strict → IsRpkiName t.issuer
+Obeys strict t Validity = IsOrdered t.validity
 Obeys strict t Subject = IsTrue strict → IsRpkiName t.subject
 Obeys strict t RouterSubject = IsTrue strict → IsRouterName t.subject
-Obeys strict t RsaKey = t.key.format ≡ Rsa
-Obeys strict t RouterKey = t.key.format ≡ EcdsaP256
+Obeys strict t RsaKey = IsRpkiKey t.key
+Obeys strict t RouterKey = IsRouterKey t.key
 Obeys strict t BasicConstraints = HasExtension basic_constraints true SpellsConstraints t.extensions (Some tt)
 Obeys strict t NoBasicConstraints = HasNot basic_constraints t.extensions
 Obeys strict t SubjectKeyIdentifier = HasSome subject_key_identifier false SpellsKeyIdentifier t.extensions
 Obeys strict t AuthorityKeyIdentifier = HasSome authority_key_identifier false SpellsAuthority t.extensions
+Obeys strict t OwnAuthority = HasOwnAuthority t.extensions
+Obeys strict t SelfIssued = t.issuer ≡ t.subject
 Obeys strict t AuthorityUsage = HasExtension key_usage true SpellsUsage t.extensions (Some Ca)
 Obeys strict t EndUsage = HasExtension key_usage true SpellsUsage t.extensions (Some Ee)
 Obeys strict t NoExtendedKeyUsage = HasNot extended_key_usage t.extensions
@@ -40,33 +43,40 @@ Obeys strict t ObjectAccess = HasOnlyMethods t.extensions
 Obeys strict t NoSubjectAccess = HasNot subject_info_access t.extensions
 Obeys strict t CertificatePolicies = HasSome certificate_policies true SpellsPolicies t.extensions
 Obeys strict t Resources = IsTrue (has_resources t.extensions)
+Obeys strict t ResourceVersion = HasOneVersion t.extensions
 Obeys strict t RouterNumbers = IsTrue (has_numbers t.extensions && not (has_addresses t.extensions))
 
 -- ---- the rules of each profile, in the order in which they are tested
 
 abbrev pub ta_rules : List CertRule
 ta_rules =
-    SerialNumber ∷ CriticalExtensions ∷ Issuer ∷ SubjectKeyIdentifier ∷ CertificatePolicies ∷ Resources ∷ Subject
-    ∷ RsaKey ∷ NoExtendedKeyUsage ∷ BasicConstraints ∷ AuthorityUsage ∷ NoRevocationList ∷ NoIssuerCertificate
-    ∷ Repository ∷ Manifest ∷ []
+    SerialNumber ∷ CriticalExtensions ∷ Issuer ∷ Validity ∷ SubjectKeyIdentifier ∷ CertificatePolicies ∷ Resources
+    ∷ ResourceVersion ∷ Subject ∷ RsaKey ∷ NoExtendedKeyUsage ∷ BasicConstraints ∷ AuthorityUsage ∷ NoRevocationList
+    ∷ NoIssuerCertificate ∷ Repository ∷ Manifest ∷ SelfIssued ∷ OwnAuthority ∷ []
 
 abbrev pub ca_rules : List CertRule
 ca_rules =
-    SerialNumber ∷ CriticalExtensions ∷ Issuer ∷ SubjectKeyIdentifier ∷ CertificatePolicies ∷ Resources ∷ Subject
-    ∷ RsaKey ∷ NoExtendedKeyUsage ∷ BasicConstraints ∷ AuthorityUsage ∷ Repository ∷ Manifest ∷ AuthorityKeyIdentifier
-    ∷ RevocationList ∷ IssuerCertificate ∷ []
+    SerialNumber ∷ CriticalExtensions ∷ Issuer ∷ Validity ∷ SubjectKeyIdentifier ∷ CertificatePolicies ∷ Resources
+    ∷ ResourceVersion ∷ Subject ∷ RsaKey ∷ NoExtendedKeyUsage ∷ BasicConstraints ∷ AuthorityUsage ∷ Repository
+    ∷ Manifest ∷ AuthorityKeyIdentifier ∷ RevocationList ∷ IssuerCertificate ∷ []
 
 abbrev pub ee_rules : List CertRule
 ee_rules =
-    SerialNumber ∷ CriticalExtensions ∷ Issuer ∷ SubjectKeyIdentifier ∷ CertificatePolicies ∷ Resources ∷ Subject
-    ∷ RsaKey ∷ NoExtendedKeyUsage ∷ NoBasicConstraints ∷ EndUsage ∷ SignedObject ∷ ObjectAccess
+    SerialNumber ∷ CriticalExtensions ∷ Issuer ∷ Validity ∷ SubjectKeyIdentifier ∷ CertificatePolicies ∷ Resources
+    ∷ ResourceVersion ∷ Subject ∷ RsaKey ∷ NoExtendedKeyUsage ∷ NoBasicConstraints ∷ EndUsage ∷ SignedObject
+    ∷ ObjectAccess ∷ AuthorityKeyIdentifier ∷ RevocationList ∷ IssuerCertificate ∷ []
+
+abbrev pub detached_rules : List CertRule
+detached_rules =
+    SerialNumber ∷ CriticalExtensions ∷ Issuer ∷ Validity ∷ SubjectKeyIdentifier ∷ CertificatePolicies ∷ Resources
+    ∷ ResourceVersion ∷ Subject ∷ RsaKey ∷ NoExtendedKeyUsage ∷ NoBasicConstraints ∷ EndUsage ∷ NoSubjectAccess
     ∷ AuthorityKeyIdentifier ∷ RevocationList ∷ IssuerCertificate ∷ []
 
 abbrev pub router_rules : List CertRule
 router_rules =
-    SerialNumber ∷ CriticalExtensions ∷ Issuer ∷ SubjectKeyIdentifier ∷ CertificatePolicies ∷ Resources ∷ RouterSubject
-    ∷ RouterKey ∷ NoBasicConstraints ∷ EndUsage ∷ RouterNumbers ∷ NoSubjectAccess ∷ RouterPurpose
-    ∷ AuthorityKeyIdentifier ∷ RevocationList ∷ IssuerCertificate ∷ []
+    SerialNumber ∷ CriticalExtensions ∷ Issuer ∷ Validity ∷ SubjectKeyIdentifier ∷ CertificatePolicies ∷ Resources
+    ∷ ResourceVersion ∷ RouterSubject ∷ RouterKey ∷ NoBasicConstraints ∷ EndUsage ∷ RouterNumbers ∷ NoSubjectAccess
+    ∷ RouterPurpose ∷ AuthorityKeyIdentifier ∷ RevocationList ∷ IssuerCertificate ∷ []
 
 -- ---- which is broken
 
@@ -85,30 +95,34 @@ TestsRules P strict t rules r = MatchResult r (λ _. P) (λ rule. IsFirstBroken 
 -- ---- the texts of the errors
 
 abbrev pub rule_text : CertRule → List ℕ
-rule_text SerialNumber = codes "serial number is 0"
-rule_text CriticalExtensions = codes "unknown critical extension"
-rule_text Issuer = codes "issuer has no name of the RPKI"
-rule_text Subject = codes "subject has no name of the RPKI"
-rule_text RouterSubject = codes "subject has no name of a router"
-rule_text RsaKey = codes "key is no RSA key"
-rule_text RouterKey = codes "key is no P-256 key"
-rule_text BasicConstraints = codes "missing basic constraints"
-rule_text NoBasicConstraints = codes "extension is there that may not be"
-rule_text SubjectKeyIdentifier = codes "missing subject key identifier"
-rule_text AuthorityKeyIdentifier = codes "missing authority key identifier"
-rule_text AuthorityUsage = codes "missing or another key usage"
-rule_text EndUsage = codes "missing or another key usage"
-rule_text NoExtendedKeyUsage = codes "extension is there that may not be"
-rule_text RouterPurpose = codes "missing purpose of a router"
-rule_text RevocationList = codes "missing URI of the revocation list"
-rule_text NoRevocationList = codes "extension is there that may not be"
-rule_text IssuerCertificate = codes "missing URI of the issuer's certificate"
-rule_text NoIssuerCertificate = codes "extension is there that may not be"
-rule_text Repository = codes "missing URI of the repository"
-rule_text Manifest = codes "missing URI of the manifest"
-rule_text SignedObject = codes "missing URI of the signed object"
-rule_text ObjectAccess = codes "other access method of an end entity"
-rule_text NoSubjectAccess = codes "extension is there that may not be"
-rule_text CertificatePolicies = codes "missing certificate policies"
-rule_text Resources = codes "missing resources, or ones that are not critical"
-rule_text RouterNumbers = codes "missing numbers, or addresses are there"
+rule_text SerialNumber = codes "RFC 5280 4.1.2.2: serial number is 0"
+rule_text CriticalExtensions = codes "RFC 5280 4.2: unknown critical extension"
+rule_text Issuer = codes "RFC 6487 4.4: issuer has no name of the RPKI"
+rule_text Validity = codes "RFC 5280 4.1.2.5: period ends before it begins"
+rule_text Subject = codes "RFC 6487 4.5: subject has no name of the RPKI"
+rule_text RouterSubject = codes "RFC 8209 3.1.1: subject has no name of a router"
+rule_text RsaKey = codes "RFC 7935 3: key is no RSA key of 2048 bits and the exponent 65537"
+rule_text RouterKey = codes "RFC 8608 3.1: key is no uncompressed point on P-256"
+rule_text BasicConstraints = codes "RFC 6487 4.8.1: missing basic constraints"
+rule_text NoBasicConstraints = codes "RFC 6487 4.8.1: basic constraints of an end entity"
+rule_text SubjectKeyIdentifier = codes "RFC 6487 4.8.2: missing subject key identifier"
+rule_text AuthorityKeyIdentifier = codes "RFC 6487 4.8.3: missing authority key identifier"
+rule_text OwnAuthority = codes "RFC 6487 4.8.3: authority key identifier of a trust anchor is not its own"
+rule_text SelfIssued = codes "RFC 8630 2.3: issuer of a trust anchor is not its subject"
+rule_text AuthorityUsage = codes "RFC 6487 4.8.4: missing or another key usage"
+rule_text EndUsage = codes "RFC 6487 4.8.4: missing or another key usage"
+rule_text NoExtendedKeyUsage = codes "RFC 6487 4.8.5: extended key usage of a key of the RPKI"
+rule_text RouterPurpose = codes "RFC 8209 3.1.3.2: missing purpose of a router"
+rule_text RevocationList = codes "RFC 6487 4.8.6: missing URI of the revocation list"
+rule_text NoRevocationList = codes "RFC 6487 4.8.6: CRL distribution points of a trust anchor"
+rule_text IssuerCertificate = codes "RFC 6487 4.8.7: missing URI of the issuer's certificate"
+rule_text NoIssuerCertificate = codes "RFC 6487 4.8.7: authority information access of a trust anchor"
+rule_text Repository = codes "RFC 6487 4.8.8.1: missing URI of the repository"
+rule_text Manifest = codes "RFC 6487 4.8.8.1: missing URI of the manifest"
+rule_text SignedObject = codes "RFC 6487 4.8.8.2: missing URI of the signed object"
+rule_text ObjectAccess = codes "RFC 6487 4.8.8.2: other access method of an end entity"
+rule_text NoSubjectAccess = codes "RFC 8209 3.1.3.3, RFC 9323 2: subject information access"
+rule_text CertificatePolicies = codes "RFC 6487 4.8.9: missing certificate policies"
+rule_text Resources = codes "RFC 6487 4.8.10, 4.8.11: missing resources, or ones that are not critical"
+rule_text ResourceVersion = codes "RFC 8360 4.2: policy and resources of two versions"
+rule_text RouterNumbers = codes "RFC 8209 3.1.3.4, 3.1.3.5: missing numbers, or addresses are there"

@@ -1,15 +1,43 @@
 -- Certificates that are valid at a moment (RFC 5280 6.1.3, RFC 6487 7.2), but for their resources.
-use Rattle.std.specs.Prelude.{◌≡◌, ◌⊎◌, ℕ, false, List, Some, None, IsTrue}
+use Rattle.std.specs.Prelude.{◌≡◌, ◌⊎◌, ◌<ℤ◌, ℕ, false, List, Some, None, IsTrue, codes, Result}
 use Rattle.jiff.specs.Types.{DateTime}
-use Rattle.rpki_time.specs.Validity.{HoldsAt}
+use Rattle.jiff.specs.Words.{civil_nanos}
+use Rattle.rpki_der.specs.ErrorText.{text_of}
+use Rattle.rpki_time.specs.declared.validity.ValidityPeriodError.TheVariants.{TooNew, TooOld}
+use Rattle.rpki_time.specs.Validity.{Period, HoldsAt}
+use Rattle.rpki.specs.declared.repository.error.ValidationError.{ValidationError}
+use Rattle.rpki.specs.declared.repository.error.ValidationError.TheVariants.{Decoding, Inspection, Verification}
+use Rattle.rpki.specs.ErrorContent.{verification_content}
+use Rattle.rpki.specs.ErrorTexts.{verification_text, period_text}
 use Rattle.rpki.specs.declared.crypto.keys.PublicKeyFormat.TheVariants.{Rsa}
 use Rattle.rpki.specs.Provider.{Check, Verifies}
 use Rattle.rpki.specs.PublicKey.{KeyParts}
 use Rattle.rpki.specs.KeyIdentifier.{SpellsKeyIdentifier}
 use Rattle.rpki.specs.SignedData.{SignedParts}
 use Rattle.rpki_cert.specs.Cert.{TbsParts, CertParts, find}
-use Rattle.rpki_cert.specs.Known.{subject_key_identifier, authority_key_identifier, HasExtension, are_understood}
-use Rattle.rpki_cert.specs.ExtensionContent.{SpellsAuthority}
+use Rattle.rpki_cert.specs.Known.{subject_key_identifier, authority_key_identifier, HasExtension, are_understood, IsOtherwise}
+use Rattle.rpki_cert.specs.RuleError.{ChecksBy}
+use Rattle.rpki_cert.specs.ExtensionContent.{SpellsAuthority, IsWholeAuthorityFault, IsWholeSubjectFault}
+
+-- ---- the errors of verification
+
+-- the error of a verification, of this text
+abbrev pub HasReason : List ℕ → ValidationError → Type 0
+HasReason text (Decoding e) = ⊥
+HasReason text (Inspection e) = ⊥
+HasReason text (Verification e) = text_of (verification_content e) ≡ text
+
+-- the error of a moment outside a period: that the period begins later, or that it ended before
+abbrev pub IsPeriodError : Period → DateTime → ValidationError → Type 0
+IsPeriodError p at e =
+    ((civil_nanos at <ℤ civil_nanos p.not_before) × HasReason (period_text TooNew) e)
+    ⊎ ((civil_nanos at <ℤ civil_nanos p.not_before → ⊥) × HasReason (period_text TooOld) e)
+
+-- P doesn't hold, and the error is one of E; or it holds, and the error is one of F
+abbrev pub Unless : Type 0 → (ValidationError → Type 0) → (ValidationError → Type 0) → ValidationError → Type 0
+Unless P E F e = ((P → ⊥) × E e) ⊎ (P × F e)
+
+-- ---- a certificate and its issuer's name and key
 
 -- the key, of RSA, has signed the signed octets
 abbrev pub IsSignedBy : {A : Type 0} → Check → Check → KeyParts → SignedParts A → Type 0
@@ -26,6 +54,26 @@ pub record IsSigned (rsa ecdsa : Check) (sha1 : List ℕ → List ℕ) (name : L
   pub subject : HasExtension subject_key_identifier false SpellsKeyIdentifier x.tbs.extensions
       (Some (sha1 x.tbs.key.bits.octets))
 
+-- the subject key identifier is this one; and the error of one that is another
+abbrev pub HasSubject : List ℕ → TbsParts → Type 0
+HasSubject identifier t =
+    HasExtension subject_key_identifier false SpellsKeyIdentifier t.extensions (Some identifier)
+
+abbrev pub IsOtherSubject : TbsParts → ValidationError → Type 0
+IsOtherSubject t =
+    IsOtherwise false SpellsKeyIdentifier IsWholeSubjectFault (find subject_key_identifier t.extensions)
+    (HasReason (codes "subject key identifier mismatch"))
+
+-- the error where one of them doesn't hold: of the first, in this order
+abbrev pub IsUnsigned : Check → Check → (List ℕ → List ℕ) → List ℕ → KeyParts → DateTime → CertParts
+    → ValidationError → Type 0
+IsUnsigned rsa ecdsa sha1 name key at x =
+    Unless (IsSignedBy rsa ecdsa key x.signed) (HasReason verification_text)
+    (Unless (HoldsAt x.tbs.validity at) (IsPeriodError x.tbs.validity at)
+    (Unless (x.tbs.issuer ≡ name) (HasReason (codes "issuer name mismatch"))
+    (Unless (IsTrue (are_understood x.tbs.extensions)) (HasReason (codes "unknown critical extension"))
+    (IsOtherSubject x.tbs))))
+
 -- the authority key identifier is there, and is this one (RFC 6487 4.8.3)
 abbrev pub HasAuthority : List ℕ → TbsParts → Type 0
 HasAuthority identifier t =
@@ -37,8 +85,41 @@ pub record IsIssued (rsa ecdsa : Check) (sha1 : List ℕ → List ℕ) (issuer :
   pub signed : IsSigned rsa ecdsa sha1 issuer.subject issuer.key at x
   pub authority : HasAuthority (sha1 issuer.key.bits.octets) x.tbs
 
+-- the error of an authority key identifier that is another
+abbrev pub IsOtherAuthority : TbsParts → ValidationError → Type 0
+IsOtherAuthority t =
+    IsOtherwise false SpellsAuthority IsWholeAuthorityFault (find authority_key_identifier t.extensions)
+    (HasReason (codes "authority key identifier mismatch"))
+
+-- a check of what IsSigned says
+abbrev pub ChecksSigned : Check → Check → (List ℕ → List ℕ) → List ℕ → KeyParts → DateTime → CertParts
+    → Result (Unit {0}) ValidationError → Type 0
+ChecksSigned rsa ecdsa sha1 name key at x =
+    ChecksBy (IsSigned rsa ecdsa sha1 name key at x) (IsUnsigned rsa ecdsa sha1 name key at x)
+
+abbrev pub IsUnissued : Check → Check → (List ℕ → List ℕ) → TbsParts → DateTime → CertParts → ValidationError → Type 0
+IsUnissued rsa ecdsa sha1 issuer at x =
+    Unless (IsSigned rsa ecdsa sha1 issuer.subject issuer.key at x)
+    (IsUnsigned rsa ecdsa sha1 issuer.subject issuer.key at x) (IsOtherAuthority x.tbs)
+
+-- a check of what IsIssued says
+abbrev pub ChecksIssued : Check → Check → (List ℕ → List ℕ) → TbsParts → DateTime → CertParts
+    → Result (Unit {0}) ValidationError → Type 0
+ChecksIssued rsa ecdsa sha1 issuer at x =
+    ChecksBy (IsIssued rsa ecdsa sha1 issuer at x) (IsUnissued rsa ecdsa sha1 issuer at x)
+
 -- a trust anchor: its own key has signed it, and the authority key identifier is left out, or is that of its key
 pub record IsAnchor (rsa ecdsa : Check) (sha1 : List ℕ → List ℕ) (at : DateTime) (x : CertParts) : Type 0 where
   pub signed : IsSigned rsa ecdsa sha1 x.tbs.subject x.tbs.key at x
   pub authority : (find authority_key_identifier x.tbs.extensions ≡ None)
       ⊎ HasAuthority (sha1 x.tbs.key.bits.octets) x.tbs
+
+abbrev pub IsNoAnchor : Check → Check → (List ℕ → List ℕ) → DateTime → CertParts → ValidationError → Type 0
+IsNoAnchor rsa ecdsa sha1 at x =
+    Unless (IsSigned rsa ecdsa sha1 x.tbs.subject x.tbs.key at x)
+    (IsUnsigned rsa ecdsa sha1 x.tbs.subject x.tbs.key at x) (IsOtherAuthority x.tbs)
+
+-- a check of what IsAnchor says
+abbrev pub ChecksAnchor : Check → Check → (List ℕ → List ℕ) → DateTime → CertParts
+    → Result (Unit {0}) ValidationError → Type 0
+ChecksAnchor rsa ecdsa sha1 at x = ChecksBy (IsAnchor rsa ecdsa sha1 at x) (IsNoAnchor rsa ecdsa sha1 at x)

@@ -1,8 +1,9 @@
 -- Certificates that are read in place: what stands where, and which part is wrong (RFC 5280 4.1).
 use Rattle.std.specs.Prelude.{◌≡◌, ◌≤◌, ◌<◌, ◌++◌, ◌-◌, ℕ, Bool, true, false, List, slice_index, Option, Some, None, IsTrue, length, bytes_eq, if◌then◌else◌, [], ◌∷◌}
-use Rattle.rpki_der.specs.TagName.{sequence, oid}
+use Rattle.rpki_der.specs.TagName.{sequence, oid, bit_string}
 use Rattle.rpki_der.specs.Reading.{Accepts, Refuses, SpellsNothing}
 use Rattle.rpki_der.specs.Values.{SpellsContents, SpellsLeaf}
+use Rattle.rpki_der.specs.Leaves.{IsBits, bits_of}
 use Rattle.rpki_der.specs.Each.{SpellsEach, SpellsSome}
 use Rattle.rpki_der.specs.Members.{SpellsValue, IsValue}
 use Rattle.rpki_der.specs.Parts.{Then, SpellsBoth}
@@ -10,7 +11,7 @@ use Rattle.rpki_time.specs.Serial.{SpellsSerial}
 use Rattle.rpki_time.specs.PeriodValue.{SpellsPeriod}
 use Rattle.rpki.specs.Name.{SpellsNameOctets}
 use Rattle.rpki.specs.PublicKey.{KeyParts, SpellsKey}
-use Rattle.rpki.specs.SignedData.{SignedParts, SpellsSignature, IsSignedContents}
+use Rattle.rpki.specs.SignedData.{SignedParts, IsSignedContents}
 use Rattle.rpki.specs.ExtensionValue.{ExtensionParts, SpellsExtension}
 use Rattle.rpki_cert.specs.declared.cert_part.CertPart.{CertPart}
 use Rattle.rpki_cert.specs.declared.cert_part.CertPart.TheVariants.{Certificate, Signed, Algorithm, Signature, Tbs, Version, SerialNumber, TbsAlgorithm, Issuer, Validity, Subject, PublicKey, Extensions, ExtensionCount, ExtensionIdentifiers, SameAlgorithm}
@@ -158,6 +159,10 @@ pub data IsTbsWrong (d : List ℕ) (q : CertPart) : Type 0 where
 
 -- ---- a certificate
 
+-- the BIT STRING of a signature, no bit of which is unused
+abbrev pub SpellsUsed : List ℕ → List ℕ → Type 0
+SpellsUsed value p = SpellsLeaf bit_string false IsBits (bits_of 0 value) p
+
 -- the sections are those of the three parts of signed data
 pub record ArePartsIn (x : SignedParts Bool) (s : List ℕ) (h : IsSignedContents SpellsRpkiAlgorithm x s) (v : Parts)
     : Type 0 where
@@ -165,6 +170,7 @@ pub record ArePartsIn (x : SignedParts Bool) (s : List ℕ) (h : IsSignedContent
   pub same : v.kind ≡ x.algorithm
   pub algorithm : IsSection v.algorithm h.text h.bits
   pub signature : IsSection v.signature x.value []
+  pub used : h.signature.unused ≡ 0
 
 -- all of s is the three parts, of which these are the sections
 abbrev pub ArePartsAt : List ℕ → Parts → Type 0
@@ -177,9 +183,9 @@ pub record IsCertAt (s : List ℕ) (v : CertView) (x : CertParts) : Type 0 where
   pub parts : ArePartsIn x.signed spelled.signed.contents spelled.signed.spelled v.parts
   pub tbs : IsTbsIn x.tbs spelled.tbs.contents spelled.tbs.spelled v.tbs
 
--- all of the rest is to be a signature
+-- all of the rest is to be a signature without unused bits
 pub data IsSignatureWrong (s : List ℕ) (q : CertPart) : Type 0 where
-  NoSignature : SpellsNothing SpellsSignature s → q ≡ Signature → IsSignatureWrong s q
+  NoSignature : SpellsNothing SpellsUsed s → q ≡ Signature → IsSignatureWrong s q
 
 -- the algorithm and the signature
 abbrev pub AreBehindWrong : List ℕ → CertPart → Type 0
@@ -196,9 +202,10 @@ pub data IsCertWrong (s : List ℕ) (q : CertPart) : Type 0 where
   NoCert : SpellsNothing (SpellsContents sequence true) s → q ≡ Certificate → IsCertWrong s q
   InParts : (c : List ℕ) → SpellsContents sequence true c s → ArePartsWrong c q → IsCertWrong s q
   InSigned : (c : List ℕ) (x : SignedParts Bool) → SpellsContents sequence true c s
-      → IsSignedContents SpellsRpkiAlgorithm x c → IsTbsWrong x.signed q → IsCertWrong s q
+      → (h : IsSignedContents SpellsRpkiAlgorithm x c) → h.signature.unused ≡ 0 → IsTbsWrong x.signed q
+      → IsCertWrong s q
   Differ : (c : List ℕ) (x : SignedParts Bool) (t : TbsParts) → SpellsContents sequence true c s
-      → IsSignedContents SpellsRpkiAlgorithm x c → SpellsTbs t x.signed → (t.algorithm ≡ x.algorithm → ⊥)
+      → (h : IsSignedContents SpellsRpkiAlgorithm x c) → h.signature.unused ≡ 0 → SpellsTbs t x.signed → (t.algorithm ≡ x.algorithm → ⊥)
       → q ≡ SameAlgorithm → IsCertWrong s q
 
 -- ---- a certificate, of whose signed part the header alone was read

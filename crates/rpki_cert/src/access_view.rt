@@ -1,6 +1,6 @@
 //! The URIs of certificates, read in place without memory (RFC 6487 4.8.6 to 4.8.8).
 
-ghost use Rattle.std.specs.Prelude.{◌≡◌, ◌∷◌, []};
+ghost use Rattle.std.specs.Prelude.{◌≡◌, ◌≢◌, ◌∷◌, [], IfErr};
 ghost use Rattle.std.specs.Option.{option_copied};
 ghost use Rattle.rpki_der.specs.Cursor.{left};
 ghost use Rattle.rpki_der.specs.Each.{SpellsSome};
@@ -14,7 +14,8 @@ use rpki::uri::RsyncView;
 
 /// The text of a general name that is a URI.
 fn take_uri<'a>(cons: &mut Constructed<'a>) -> Result<Option<&'a [u8]>, DecodeError>
-    ensures { Gives option_copied SpellsUri (left cons.old) (left cons.new) result }
+    ensures gives { Gives option_copied SpellsUri (left cons.old) (left cons.new) result }
+    ensures kind { IfErr result (λ e. e ≢ DecodeError.OutOfMemory) }
 {
     let text = cons.take_primitive_if(Tag::CTX_6)?;
     Ok(Some(text))
@@ -22,7 +23,8 @@ fn take_uri<'a>(cons: &mut Constructed<'a>) -> Result<Option<&'a [u8]>, DecodeEr
 
 /// The text of a general name, if that is a URI.
 fn take_name<'a>(cons: &mut Constructed<'a>) -> Result<Option<&'a [u8]>, DecodeError>
-    ensures { Gives option_copied SpellsName (left cons.old) (left cons.new) result }
+    ensures gives { Gives option_copied SpellsName (left cons.old) (left cons.new) result }
+    ensures kind { IfErr result (λ e. e ≢ DecodeError.OutOfMemory) }
 {
     if cons.has_tag(Tag::CTX_6) {
         return take_uri(cons);
@@ -45,7 +47,8 @@ fn access_in<'a>(
     contents: Constructed<'a>,
     method: ConstOid,
 ) -> Result<Option<&'a [u8]>, DecodeError>
-    ensures { GivesAll option_copied (IsAccess method.entry.0.now) (left contents.entry) result }
+    ensures gives { GivesAll option_copied (IsAccess method.entry.0.now) (left contents.entry) result }
+    ensures kind { IfErr result (λ e. e ≢ DecodeError.OutOfMemory) }
 {
     let mut rest = contents;
     let same = take_oid_as(&mut rest, method)?;
@@ -59,7 +62,8 @@ fn take_access<'a>(
     cons: &mut Constructed<'a>,
     method: ConstOid,
 ) -> Result<Option<&'a [u8]>, DecodeError>
-    ensures { Gives option_copied (SpellsAccess method.entry.0.now) (left cons.old) (left cons.new) result }
+    ensures gives { Gives option_copied (SpellsAccess method.entry.0.now) (left cons.old) (left cons.new) result }
+    ensures kind { IfErr result (λ e. e ≢ DecodeError.OutOfMemory) }
 {
     let contents = cons.take_sequence()?;
     access_in(contents, method)
@@ -83,7 +87,8 @@ fn accesses_in<'a>(
     contents: Constructed<'a>,
     method: ConstOid,
 ) -> Result<Option<&'a [u8]>, DecodeError>
-    ensures { GivesAll option_copied (SpellsSomeRsync method.entry.0.now) (left contents.entry) result }
+    ensures gives { GivesAll option_copied (SpellsSomeRsync method.entry.0.now) (left contents.entry) result }
+    ensures kind { IfErr result (λ e. e ≢ DecodeError.OutOfMemory) }
 {
     if contents.is_empty() {
         return Err(DecodeError::content("empty SEQUENCE"));
@@ -99,7 +104,8 @@ fn accesses_in<'a>(
 
 /// The first rsync URI of the names that these contents are, each a URI; there is one at least.
 fn uris_in<'a>(contents: Constructed<'a>) -> Result<Option<&'a [u8]>, DecodeError>
-    ensures { GivesAll option_copied (Through first_rsync (SpellsSome SpellsUri)) (left contents.entry) result }
+    ensures gives { GivesAll option_copied (Through first_rsync (SpellsSome SpellsUri)) (left contents.entry) result }
+    ensures kind { IfErr result (λ e. e ≢ DecodeError.OutOfMemory) }
 {
     if contents.is_empty() {
         return Err(DecodeError::content("empty SEQUENCE"));
@@ -119,7 +125,8 @@ pub fn read_accesses<'a>(
     octets: Constructed<'a>,
     method: ConstOid,
 ) -> Result<Option<&'a [u8]>, DecodeError>
-    ensures { GivesAll option_copied (SpellsRsyncAccess method.entry.0.now) (left octets.entry) result }
+    ensures gives { GivesAll option_copied (SpellsRsyncAccess method.entry.0.now) (left octets.entry) result }
+    ensures kind { IfErr result (λ e. e ≢ DecodeError.OutOfMemory) }
 {
     let contents = inside(octets, Tag::SEQUENCE)?;
     accesses_in(contents, method)
@@ -127,7 +134,8 @@ pub fn read_accesses<'a>(
 
 /// The name of a distribution point, in these contents of the point.
 fn point_name<'a>(point: Constructed<'a>) -> Result<Option<&'a [u8]>, DecodeError>
-    ensures { GivesAll option_copied SpellsPointName (left point.entry) result }
+    ensures gives { GivesAll option_copied SpellsPointName (left point.entry) result }
+    ensures kind { IfErr result (λ e. e ≢ DecodeError.OutOfMemory) }
 {
     let tag = Tag::new(Class::Context, 0);
     let name = inside(point, tag)?;
@@ -138,7 +146,8 @@ fn point_name<'a>(point: Constructed<'a>) -> Result<Option<&'a [u8]>, DecodeErro
 /// CRL distribution points, as [take_points](crate::access::take_points) reads them, and nothing else. Allocates
 /// nothing.
 pub fn read_points<'a>(octets: Constructed<'a>) -> Result<Option<&'a [u8]>, DecodeError>
-    ensures { GivesAll option_copied SpellsPoints (left octets.entry) result }
+    ensures gives { GivesAll option_copied SpellsPoints (left octets.entry) result }
+    ensures kind { IfErr result (λ e. e ≢ DecodeError.OutOfMemory) }
 {
     let points = inside(octets, Tag::SEQUENCE)?;
     let point = inside(points, Tag::SEQUENCE)?;

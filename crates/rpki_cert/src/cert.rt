@@ -1,11 +1,11 @@
 //! Certificates.
 
-ghost use Rattle.std.specs.Prelude.{◌≡◌, ◌↔◌, IsTrue};
+ghost use Rattle.std.specs.Prelude.{◌≡◌, ◌↔◌, ◌∷◌, ◌++◌, ℕ, List, length, IsTrue};
 ghost use Rattle.rpki_der.specs.Cursor.{left};
 ghost use Rattle.rpki_der.specs.Sharing.{CanShare};
 ghost use Rattle.rpki_der.specs.Reading.{Reads, Decodes, IsWholeFault};
-ghost use Rattle.rpki_cert.specs.Cert.{SpellsCert};
-ghost use Rattle.rpki_cert.specs.CertFault.{IsCertFault};
+ghost use Rattle.rpki_cert.specs.Cert.{SpellsWhole, SpellsCert};
+ghost use Rattle.rpki_cert.specs.CertFault.{IsWholeSignedFault, IsCertFault};
 
 use crate::tbs::TbsCert;
 use bytes::Bytes;
@@ -40,19 +40,49 @@ pub fn is_same(one: RpkiSignatureAlgorithm, other: RpkiSignatureAlgorithm) -> bo
     one.has_parameters() == other.has_parameters()
 }
 
+/// Whether the octet is 0 that stands in front of the last ones, of which there are so many.
+fn is_zero_before(octets: &[u8], last: usize) -> bool
+    ensures { (front : List ℕ) (octet : ℕ) (end : List ℕ) → octets.now ≡ front ++ octet ∷ end → length end ≡ last
+        → IsTrue result ↔ (octet ≡ 0) }
+{
+    if octets.len() <= last {
+        return false;
+    }
+    octets[octets.len() - last - 1] == 0
+}
+
+/// Signed data whose signature has no unused bits: the octet in front of its octets counts them.
+///
+/// The errors are those of signed data; then `Content` with the text `signature has unused bits`.
+fn take_signed<K: Keep>(keep: K, cons: &mut Constructed<'_>) -> Result<SignedData, DecodeError>
+    requires { K.holds keep (left cons.old) }
+    ensures { Reads (λ x. x) SpellsWhole IsWholeSignedFault (left cons.old) (left cons.new) result }
+{
+    let mut after = *cons;
+    let octets = cons.rest();
+    let signed_data = SignedData::take_from(keep, &mut after)?;
+    let last = signed_data.signature().value().len() + after.rest().len();
+    if !is_zero_before(octets, last) {
+        return Err(DecodeError::content("signature has unused bits"));
+    }
+    *cons = after;
+    Ok(signed_data)
+}
+
 impl Cert {
     /// A certificate: signed data whose signed value is a [TbsCert] that names the same algorithm (RFC 5280 4.1.1.2).
+    /// No bit of the signature is unused.
     /// An allocator copies the signed value and the signature, and [Shared](rpki::der::Shared) shares them; requires
     /// that `keep` can keep parts of what is left. The parts of the signed value share its octets.
     ///
-    /// The errors are those of signed data; then those of [TbsCert::take_from] for what is signed; then `Content` with
+    /// The errors are those of signed data; then `Content` with the text `signature has unused bits`; then those of [TbsCert::take_from] for what is signed; then `Content` with
     /// the text `signature algorithms differ`; and `OutOfMemory` if allocation fails, where the parts say so.
     pub fn take_from<K: Keep>(keep: K, cons: &mut Constructed<'_>) -> Result<Cert, DecodeError>
         requires { K.holds keep (left cons.old) }
         ensures { Reads (λ x. x) SpellsCert IsCertFault (left cons.old) (left cons.new) result }
     {
         let mut after = *cons;
-        let signed_data = SignedData::take_from(keep, &mut after)?;
+        let signed_data = take_signed(keep, &mut after)?;
         let data = signed_data.data();
         let mut signed = data.cursor();
         let tbs = TbsCert::take_from(data.shared(keep.allocator()), &mut signed)?;

@@ -1,35 +1,46 @@
 //! The rules of the profiles of certificates, one by one (RFC 6487 4, RFC 8209 3.1).
 
-ghost use Rattle.std.specs.Prelude.{◌≡◌, ◌<◌, ◌↔◌, ◌&&◌, not, true, false, List, None, Some, Option, IsTrue};
-ghost use Rattle.rpki.specs.declared.crypto.keys.PublicKeyFormat.TheVariants.{Rsa, EcdsaP256};
+ghost use Rattle.std.specs.Prelude.{◌≡◌, ◌<◌, ◌⊎◌, ◌↔◌, ◌&&◌, not, true, false, ℕ, List, None, Some, Option, IsTrue};
+ghost use Rattle.rpki_der.specs.Reading.{AnyFault};
+ghost use Rattle.rpki_der.specs.Leaves.{bits_of};
 ghost use Rattle.rpki.specs.KeyIdentifier.{SpellsKeyIdentifier};
+ghost use Rattle.rpki.specs.NameRule.{BreaksRpkiRule, BreaksRouterRule, rpki_text, router_text};
+ghost use Rattle.rpki.specs.PublicKey.{key_of};
 ghost use Rattle.rpki.specs.StrictName.{IsRpkiName, IsRouterName};
 ghost use Rattle.rpki.specs.ExtensionValue.{ExtensionParts};
 ghost use Rattle.rpki_cert.specs.Cert.{TbsParts, find};
-ghost use Rattle.rpki_cert.specs.Known.{Says};
-ghost use Rattle.rpki_cert.specs.ExtensionContent.{SpellsConstraints, SpellsAuthority, SpellsUsage, SpellsPurposes, SpellsPolicies};
+ghost use Rattle.rpki_cert.specs.Known.{Says, certificate_policies};
+ghost use Rattle.rpki_cert.specs.ExtensionContent.{SpellsConstraints, IsWholeConstraintsFault, IsWholeSubjectFault, SpellsAuthority, IsWholeAuthorityFault, SpellsUsage, IsWholeUsageFault, SpellsPurposes, SpellsPolicies, IsWholePoliciesFault};
 ghost use Rattle.rpki_cert.specs.Access.{SpellsRsyncAccess, SpellsPoints, SpellsObjectAccess};
-ghost use Rattle.rpki_cert.specs.Profile.{Checks, SaysSome, SaysSomeUri, has_addresses, has_numbers, is_critical, has_resources};
+ghost use Rattle.rpki_cert.specs.Keys.{IsRpkiKey, IsRouterKey};
+ghost use Rattle.rpki_cert.specs.Profile.{SaysSome, SaysSomeUri, IsOrdered, has_addresses, has_numbers, is_critical, has_resources, is_of_version, HasOneVersion};
 ghost use Rattle.rpki_cert.specs.Inspected.{AreIn, IsReadOf};
 ghost use Rattle.rpki_cert.specs.Rule.{Obeys};
+ghost use Rattle.rpki_cert.specs.RuleError.{ChecksBy, SaysRule, SaysName, ChecksSome, ChecksValue, ChecksUri, ChecksVersion, ChecksOwn, IsRuleError};
 
 use crate::extension_source::ExtensionSource;
 use crate::inspected::Inspected;
+use crate::key_rule::KeyBits;
 use crate::key_usage::KeyUsage;
 use crate::known::{
     access_in, authority_in, constraints_in, overclaim_in, points_in, purposes_in, subject_in,
     usage_in,
 };
 use crate::object_access::is_object_access;
+use crate::part::are_same;
+use crate::policy::Overclaim;
 use crate::rule::CertRule;
-use rpki::crypto::PublicKeyFormat;
+use crate::verify::is_identifier;
+use rpki::crypto::KeyIdentifier;
 use rpki::der::{ConstOid, Constructed};
 use rpki::oid;
 use rpki::repository::error::ValidationError;
-use rpki::repository::x509::{ExtensionView, NameView, Serial};
+use rpki::repository::x509::{ExtensionView, NameView, Serial, Validity};
 
 /// The error of a certificate that breaks the rule.
-fn rejected(rule: CertRule) -> ValidationError {
+fn rejected(rule: CertRule) -> ValidationError
+    ensures { SaysRule rule result }
+{
     ValidationError::Inspection(rule.error())
 }
 
@@ -103,6 +114,38 @@ fn has_numbers_alone(all: &ExtensionSource<'_>) -> bool
     has_numbers(all) && !has_addresses(all)
 }
 
+/// Whether no resources are there of the other version than the policy's.
+fn is_of_version(policy: Overclaim, all: &ExtensionSource<'_>) -> bool
+    ensures { (xs : List ExtensionParts) → AreIn xs all.now → result ≡ is_of_version policy xs }
+{
+    match policy {
+        Overclaim::Refuse => {
+            all.find(oid::PE_IP_ADDR_BLOCK_V2).is_none()
+                && all.find(oid::PE_AUTONOMOUS_SYS_IDS_V2).is_none()
+        }
+        Overclaim::Trim => {
+            all.find(oid::PE_IP_ADDR_BLOCK).is_none()
+                && all.find(oid::PE_AUTONOMOUS_SYS_IDS).is_none()
+        }
+    }
+}
+
+/// Whether the policy is there, and no resources of another version.
+fn inspect_version(all: &ExtensionSource<'_>) -> Result<(), ValidationError>
+    ensures { (xs : List ExtensionParts) → AreIn xs all.now → ChecksVersion xs result }
+{
+    match overclaim_in(all.find(oid::CE_CERTIFICATE_POLICIES)) {
+        Ok(Some(policy)) => {
+            if is_of_version(policy, all) {
+                return Ok(());
+            }
+            Err(rejected(CertRule::ResourceVersion))
+        }
+        Ok(None) => Err(rejected(CertRule::ResourceVersion)),
+        Err(e) => Err(e),
+    }
+}
+
 /// Whether access information was found that is not critical, of no method but those of end entities.
 fn has_only_methods(found: Option<ExtensionView<'_>>) -> bool
     ensures { IsTrue result ↔ SaysSome false SpellsObjectAccess found.entry }
@@ -117,7 +160,7 @@ fn has_only_methods(found: Option<ExtensionView<'_>>) -> bool
 
 /// Whether nothing was found, as the rule has it.
 fn inspect_absent(found: Option<ExtensionView<'_>>, rule: CertRule) -> Result<(), ValidationError>
-    ensures { Checks (found.entry ≡ None) result }
+    ensures { ChecksBy (found.entry ≡ None) (SaysRule rule) result }
 {
     match found {
         Some(_) => Err(rejected(rule)),
@@ -127,14 +170,14 @@ fn inspect_absent(found: Option<ExtensionView<'_>>, rule: CertRule) -> Result<()
 
 /// Whether this holds, as the rule has it.
 fn inspect_that(holds: bool, rule: CertRule) -> Result<(), ValidationError>
-    ensures { Checks (IsTrue holds) result }
+    ensures { ChecksBy (IsTrue holds) (SaysRule rule) result }
 {
     if holds { Ok(()) } else { Err(rejected(rule)) }
 }
 
 /// Whether the serial number is positive.
 fn inspect_serial(serial: Serial) -> Result<(), ValidationError>
-    ensures { Checks (0 < serial) result }
+    ensures { ChecksBy (0 < serial) (SaysRule CertRule.SerialNumber) result }
 {
     if is_zero(serial) {
         return Err(rejected(CertRule::SerialNumber));
@@ -142,29 +185,51 @@ fn inspect_serial(serial: Serial) -> Result<(), ValidationError>
     Ok(())
 }
 
-/// Whether the key has the format of the RPKI's certificates.
-fn inspect_key(format: PublicKeyFormat) -> Result<(), ValidationError>
-    ensures { Checks (format ≡ Rsa) result }
+/// Whether the period ends no earlier than it begins.
+fn inspect_validity(period: Validity) -> Result<(), ValidationError>
+    ensures { ChecksBy (IsOrdered period) (SaysRule CertRule.Validity) result }
 {
-    if !format.allow_rpki_cert() {
+    match period.not_before().verify_not_before(period.not_after()) {
+        Ok(()) => Ok(()),
+        Err(_) => Err(rejected(CertRule::Validity)),
+    }
+}
+
+/// Whether the key is one of the RPKI's certificates.
+fn inspect_key(key: &KeyBits<'_>) -> Result<(), ValidationError>
+    ensures { ChecksBy (IsRpkiKey (key_of key.now.format (bits_of key.now.unused key.now.octets.now)))
+        (SaysRule CertRule.RsaKey) result }
+{
+    if !key.is_rpki_key() {
         return Err(rejected(CertRule::RsaKey));
     }
     Ok(())
 }
 
-/// Whether the key has the format of routers' certificates.
-fn inspect_router_key(format: PublicKeyFormat) -> Result<(), ValidationError>
-    ensures { Checks (format ≡ EcdsaP256) result }
+/// Whether the key is one of routers' certificates.
+fn inspect_router_key(key: &KeyBits<'_>) -> Result<(), ValidationError>
+    ensures { ChecksBy (IsRouterKey (key_of key.now.format (bits_of key.now.unused key.now.octets.now)))
+        (SaysRule CertRule.RouterKey) result }
 {
-    if !format.allow_router_cert() {
+    if !key.is_router_key() {
         return Err(rejected(CertRule::RouterKey));
+    }
+    Ok(())
+}
+
+/// Whether the names have the same octets.
+fn inspect_same(issuer: &NameView<'_>, subject: &NameView<'_>) -> Result<(), ValidationError>
+    ensures { ChecksBy (issuer.now ≡ subject.now) (SaysRule CertRule.SelfIssued) result }
+{
+    if !are_same(issuer.octets(), subject.octets()) {
+        return Err(rejected(CertRule::SelfIssued));
     }
     Ok(())
 }
 
 /// Whether the name is one of the RPKI.
 fn inspect_name(name: &NameView<'_>, strict: bool) -> Result<(), ValidationError>
-    ensures { Checks (IsTrue strict → IsRpkiName name.now) result }
+    ensures { ChecksBy (IsTrue strict → IsRpkiName name.now) (SaysName BreaksRpkiRule rpki_text name.now) result }
 {
     if !strict {
         return Ok(());
@@ -177,7 +242,7 @@ fn inspect_name(name: &NameView<'_>, strict: bool) -> Result<(), ValidationError
 
 /// Whether the name is one of a router.
 fn inspect_router_name(name: &NameView<'_>, strict: bool) -> Result<(), ValidationError>
-    ensures { Checks (IsTrue strict → IsRouterName name.now) result }
+    ensures { ChecksBy (IsTrue strict → IsRouterName name.now) (SaysName BreaksRouterRule router_text name.now) result }
 {
     if !strict {
         return Ok(());
@@ -190,7 +255,8 @@ fn inspect_router_name(name: &NameView<'_>, strict: bool) -> Result<(), Validati
 
 /// Whether a subject key identifier was found.
 fn inspect_identifier(found: Option<ExtensionView<'_>>) -> Result<(), ValidationError>
-    ensures { Checks (SaysSome false SpellsKeyIdentifier found.entry) result }
+    ensures { ChecksSome false SpellsKeyIdentifier IsWholeSubjectFault CertRule.SubjectKeyIdentifier found.entry
+        result }
 {
     match subject_in(found) {
         Ok(Some(_)) => Ok(()),
@@ -201,7 +267,8 @@ fn inspect_identifier(found: Option<ExtensionView<'_>>) -> Result<(), Validation
 
 /// Whether an authority key identifier was found.
 fn inspect_authority(found: Option<ExtensionView<'_>>) -> Result<(), ValidationError>
-    ensures { Checks (SaysSome false SpellsAuthority found.entry) result }
+    ensures { ChecksSome false SpellsAuthority IsWholeAuthorityFault CertRule.AuthorityKeyIdentifier found.entry
+        result }
 {
     match authority_in(found) {
         Ok(Some(_)) => Ok(()),
@@ -210,26 +277,56 @@ fn inspect_authority(found: Option<ExtensionView<'_>>) -> Result<(), ValidationE
     }
 }
 
+/// Whether the subject key identifier was found and is this one.
+fn has_identifier(found: Option<ExtensionView<'_>>, wanted: KeyIdentifier) -> bool
+    ensures { IsTrue result ↔ Says false SpellsKeyIdentifier found.entry (Some wanted) }
+{
+    match subject_in(found) {
+        Ok(identifier) => is_identifier(identifier, wanted),
+        Err(_) => false,
+    }
+}
+
+/// Whether no authority key identifier was found, or one that is the subject key identifier.
+fn inspect_own_authority(
+    found: Option<ExtensionView<'_>>,
+    subject: Option<ExtensionView<'_>>,
+) -> Result<(), ValidationError>
+    ensures { ChecksOwn found.entry subject.entry result }
+{
+    match authority_in(found) {
+        Ok(Some(identifier)) => {
+            if has_identifier(subject, identifier) {
+                return Ok(());
+            }
+            Err(rejected(CertRule::OwnAuthority))
+        }
+        Ok(None) => Ok(()),
+        Err(e) => Err(e),
+    }
+}
+
 /// Whether a policy was found.
 fn inspect_policy(found: Option<ExtensionView<'_>>) -> Result<(), ValidationError>
-    ensures { Checks (SaysSome true SpellsPolicies found.entry) result }
+    ensures { ChecksSome true SpellsPolicies IsWholePoliciesFault CertRule.CertificatePolicies found.entry result }
 {
-    let said = overclaim_in(found)?;
-    match said {
-        Some(_) => Ok(()),
-        None => Err(rejected(CertRule::CertificatePolicies)),
+    match overclaim_in(found) {
+        Ok(Some(_)) => Ok(()),
+        Ok(None) => Err(rejected(CertRule::CertificatePolicies)),
+        Err(e) => Err(e),
     }
 }
 
 /// Whether basic constraints were found.
 fn inspect_constraints(found: Option<ExtensionView<'_>>) -> Result<(), ValidationError>
-    ensures { Checks (Says true SpellsConstraints found.entry (Some tt)) result }
+    ensures { ChecksValue true SpellsConstraints IsWholeConstraintsFault CertRule.BasicConstraints found.entry tt
+        result }
 {
-    let said = constraints_in(found)?;
-    if !said {
-        return Err(rejected(CertRule::BasicConstraints));
+    match constraints_in(found) {
+        Ok(true) => Ok(()),
+        Ok(false) => Err(rejected(CertRule::BasicConstraints)),
+        Err(e) => Err(e),
     }
-    Ok(())
 }
 
 /// Whether this use of the key was found.
@@ -238,34 +335,42 @@ fn inspect_usage(
     wanted: KeyUsage,
     rule: CertRule,
 ) -> Result<(), ValidationError>
-    ensures { Checks (Says true SpellsUsage found.entry (Some wanted)) result }
+    ensures { ChecksValue true SpellsUsage IsWholeUsageFault rule found.entry wanted result }
 {
-    let usage = usage_in(found)?;
-    if is_there(usage, wanted) {
-        return Ok(());
+    match usage_in(found) {
+        Ok(usage) => {
+            if is_there(usage, wanted) {
+                return Ok(());
+            }
+            Err(rejected(rule))
+        }
+        Err(e) => Err(e),
     }
-    Err(rejected(rule))
 }
 
 /// Whether the purpose of a router was found.
 fn inspect_purpose(found: Option<ExtensionView<'_>>) -> Result<(), ValidationError>
-    ensures { Checks (Says false SpellsPurposes found.entry (Some true)) result }
+    ensures { ChecksValue false SpellsPurposes AnyFault CertRule.RouterPurpose found.entry true result }
 {
-    let router = purposes_in(found)?;
-    if is_router(router) {
-        return Ok(());
+    match purposes_in(found) {
+        Ok(purpose) => {
+            if is_router(purpose) {
+                return Ok(());
+            }
+            Err(rejected(CertRule::RouterPurpose))
+        }
+        Err(e) => Err(e),
     }
-    Err(rejected(CertRule::RouterPurpose))
 }
 
 /// Whether the URI of a revocation list was found.
 fn inspect_revocation(found: Option<ExtensionView<'_>>) -> Result<(), ValidationError>
-    ensures { Checks (SaysSomeUri SpellsPoints found.entry) result }
+    ensures { ChecksUri SpellsPoints CertRule.RevocationList found.entry result }
 {
-    let said = points_in(found)?;
-    match said {
-        Some(_) => Ok(()),
-        None => Err(rejected(CertRule::RevocationList)),
+    match points_in(found) {
+        Ok(Some(_)) => Ok(()),
+        Ok(None) => Err(rejected(CertRule::RevocationList)),
+        Err(e) => Err(e),
     }
 }
 
@@ -275,18 +380,18 @@ fn inspect_access(
     method: ConstOid,
     rule: CertRule,
 ) -> Result<(), ValidationError>
-    ensures { Checks (SaysSomeUri (SpellsRsyncAccess method.entry.0.now) found.entry) result }
+    ensures { ChecksUri (SpellsRsyncAccess method.entry.0.now) rule found.entry result }
 {
-    let said = access_in(found, method)?;
-    match said {
-        Some(_) => Ok(()),
-        None => Err(rejected(rule)),
+    match access_in(found, method) {
+        Ok(Some(_)) => Ok(()),
+        Ok(None) => Err(rejected(rule)),
+        Err(e) => Err(e),
     }
 }
 
 /// Whether access information of an end entity was found.
 fn inspect_methods(found: Option<ExtensionView<'_>>) -> Result<(), ValidationError>
-    ensures { Checks (SaysSome false SpellsObjectAccess found.entry) result }
+    ensures { ChecksBy (SaysSome false SpellsObjectAccess found.entry) (SaysRule CertRule.ObjectAccess) result }
 {
     if !has_only_methods(found) {
         return Err(rejected(CertRule::ObjectAccess));
@@ -297,21 +402,25 @@ fn inspect_methods(found: Option<ExtensionView<'_>>) -> Result<(), ValidationErr
 impl Inspected<'_> {
     /// Whether the certificate obeys the rule. The names are looked at if `strict`.
     pub(crate) fn inspect_rule(&self, strict: bool, rule: CertRule) -> Result<(), ValidationError>
-        ensures { (t : TbsParts) → IsReadOf t self.now → Checks (Obeys strict t rule) result }
+        ensures { (t : TbsParts) → IsReadOf t self.now → ChecksBy (Obeys strict t rule) (IsRuleError t rule) result }
     {
         let all = &self.extensions;
         match rule {
             CertRule::SerialNumber => inspect_serial(self.serial_number),
-            CertRule::CriticalExtensions => inspect_that(all.are_understood(), rule),
+            CertRule::CriticalExtensions => inspect_that(
+                all.are_understood(),
+                CertRule::CriticalExtensions,
+            ),
             CertRule::Issuer => inspect_name(&self.issuer, strict),
+            CertRule::Validity => inspect_validity(self.validity),
             CertRule::Subject => inspect_name(&self.subject, strict),
             CertRule::RouterSubject => inspect_router_name(&self.subject, strict),
-            CertRule::RsaKey => inspect_key(self.key),
-            CertRule::RouterKey => inspect_router_key(self.key),
+            CertRule::RsaKey => inspect_key(&self.key),
+            CertRule::RouterKey => inspect_router_key(&self.key),
             CertRule::BasicConstraints => inspect_constraints(all.find(oid::CE_BASIC_CONSTRAINTS)),
             CertRule::NoBasicConstraints => inspect_absent(
                 all.find(oid::CE_BASIC_CONSTRAINTS),
-                rule,
+                CertRule::NoBasicConstraints,
             ),
             CertRule::SubjectKeyIdentifier => inspect_identifier(all.find(
                 oid::CE_SUBJECT_KEY_IDENTIFIER,
@@ -319,15 +428,24 @@ impl Inspected<'_> {
             CertRule::AuthorityKeyIdentifier => inspect_authority(all.find(
                 oid::CE_AUTHORITY_KEY_IDENTIFIER,
             )),
+            CertRule::OwnAuthority => inspect_own_authority(
+                all.find(oid::CE_AUTHORITY_KEY_IDENTIFIER),
+                all.find(oid::CE_SUBJECT_KEY_IDENTIFIER),
+            ),
+            CertRule::SelfIssued => inspect_same(&self.issuer, &self.subject),
             CertRule::AuthorityUsage => inspect_usage(
                 all.find(oid::CE_KEY_USAGE),
                 KeyUsage::Ca,
-                rule,
+                CertRule::AuthorityUsage,
             ),
-            CertRule::EndUsage => inspect_usage(all.find(oid::CE_KEY_USAGE), KeyUsage::Ee, rule),
+            CertRule::EndUsage => inspect_usage(
+                all.find(oid::CE_KEY_USAGE),
+                KeyUsage::Ee,
+                CertRule::EndUsage,
+            ),
             CertRule::NoExtendedKeyUsage => inspect_absent(
                 all.find(oid::CE_EXTENDED_KEY_USAGE),
-                rule,
+                CertRule::NoExtendedKeyUsage,
             ),
             CertRule::RouterPurpose => inspect_purpose(all.find(oid::CE_EXTENDED_KEY_USAGE)),
             CertRule::RevocationList => inspect_revocation(all.find(
@@ -335,40 +453,44 @@ impl Inspected<'_> {
             )),
             CertRule::NoRevocationList => inspect_absent(
                 all.find(oid::CE_CRL_DISTRIBUTION_POINTS),
-                rule,
+                CertRule::NoRevocationList,
             ),
             CertRule::IssuerCertificate => inspect_access(
                 all.find(oid::PE_AUTHORITY_INFO_ACCESS),
                 oid::AD_CA_ISSUERS,
-                rule,
+                CertRule::IssuerCertificate,
             ),
             CertRule::NoIssuerCertificate => inspect_absent(
                 all.find(oid::PE_AUTHORITY_INFO_ACCESS),
-                rule,
+                CertRule::NoIssuerCertificate,
             ),
             CertRule::Repository => inspect_access(
                 all.find(oid::PE_SUBJECT_INFO_ACCESS),
                 oid::AD_CA_REPOSITORY,
-                rule,
+                CertRule::Repository,
             ),
             CertRule::Manifest => inspect_access(
                 all.find(oid::PE_SUBJECT_INFO_ACCESS),
                 oid::AD_RPKI_MANIFEST,
-                rule,
+                CertRule::Manifest,
             ),
             CertRule::SignedObject => inspect_access(
                 all.find(oid::PE_SUBJECT_INFO_ACCESS),
                 oid::AD_SIGNED_OBJECT,
-                rule,
+                CertRule::SignedObject,
             ),
             CertRule::ObjectAccess => inspect_methods(all.find(oid::PE_SUBJECT_INFO_ACCESS)),
             CertRule::NoSubjectAccess => inspect_absent(
                 all.find(oid::PE_SUBJECT_INFO_ACCESS),
-                rule,
+                CertRule::NoSubjectAccess,
             ),
             CertRule::CertificatePolicies => inspect_policy(all.find(oid::CE_CERTIFICATE_POLICIES)),
-            CertRule::Resources => inspect_that(has_resources(all), rule),
-            CertRule::RouterNumbers => inspect_that(has_numbers_alone(all), rule),
+            CertRule::Resources => inspect_that(has_resources(all), CertRule::Resources),
+            CertRule::ResourceVersion => inspect_version(all),
+            CertRule::RouterNumbers => inspect_that(
+                has_numbers_alone(all),
+                CertRule::RouterNumbers,
+            ),
         }
     }
 }

@@ -3,14 +3,15 @@
 ghost use Rattle.std.specs.Prelude.{List, ℕ};
 ghost use Rattle.rpki_cert.specs.Cert.{CertParts};
 ghost use Rattle.rpki_cert.specs.View.{IsCertAt};
-ghost use Rattle.rpki_cert.specs.Inspected.{IsReadOf};
+ghost use Rattle.rpki_cert.specs.Inspected.{IsKeyOf, IsReadOf};
 
 use crate::extension_index::ExtensionIndex;
 use crate::extension_source::ExtensionSource;
+use crate::key_rule::KeyBits;
 use crate::tbs::TbsCert;
 use crate::view::CertView;
-use rpki::crypto::PublicKeyFormat;
-use rpki::repository::x509::{NameView, Serial};
+use rpki::crypto::{PublicKey, PublicKeyView};
+use rpki::repository::x509::{NameView, Serial, Validity};
 
 /// What the rules of profiles read of a certificate.
 #[derive(Drop)]
@@ -21,10 +22,34 @@ pub struct Inspected<'a> {
     pub issuer: NameView<'a>,
     /// The subject.
     pub subject: NameView<'a>,
-    /// The format of the subject's key.
-    pub key: PublicKeyFormat,
+    /// The period of validity.
+    pub validity: Validity,
+    /// The subject's key.
+    pub key: KeyBits<'a>,
     /// The extensions.
     pub extensions: ExtensionSource<'a>,
+}
+
+/// The bits of a key that is kept.
+fn kept_key(key: &PublicKey) -> KeyBits<'_>
+    ensures { IsKeyOf key.now result }
+{
+    KeyBits {
+        format: key.algorithm(),
+        unused: key.unused(),
+        octets: key.bits(),
+    }
+}
+
+/// The bits of a key that is read in place.
+fn read_key<'a>(key: &PublicKeyView<'a>) -> KeyBits<'a>
+    ensures { IsKeyOf key.now result }
+{
+    KeyBits {
+        format: key.algorithm(),
+        unused: key.unused(),
+        octets: key.bits(),
+    }
 }
 
 impl TbsCert {
@@ -36,7 +61,8 @@ impl TbsCert {
             serial_number: self.serial_number(),
             issuer: NameView::new(self.issuer().encode_ref().as_slice()),
             subject: NameView::new(self.subject().encode_ref().as_slice()),
-            key: self.subject_public_key_info().algorithm(),
+            validity: self.validity(),
+            key: kept_key(self.subject_public_key_info()),
             extensions: ExtensionSource::Kept(self.extensions()),
         }
     }
@@ -53,7 +79,8 @@ impl<'a> CertView<'a> {
             serial_number: self.tbs.serial_number,
             issuer: NameView::new(named.issuer.octets),
             subject: NameView::new(named.subject.octets),
-            key: named.keyed.key.algorithm(),
+            validity: named.validity,
+            key: read_key(&named.keyed.key),
             extensions: ExtensionSource::Listed(ExtensionIndex::of(named.keyed.extensions.octets)),
         }
     }

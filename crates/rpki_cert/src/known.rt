@@ -4,13 +4,14 @@ ghost use Rattle.std.specs.Prelude.{◌≡◌, Bool, List, ℕ, true, false, Opt
 ghost use Rattle.std.specs.Option.{option_copied};
 ghost use Rattle.rpki.specs.KeyIdentifier.{SpellsKeyIdentifier};
 ghost use Rattle.rpki_der.specs.Cursor.{left};
-ghost use Rattle.rpki_der.specs.Reading.{Decodes, IsWholeFault};
-ghost use Rattle.rpki.specs.KeyIdentifier.{IsKeyIdentifier, IsIdentifierFault};
+ghost use Rattle.rpki_der.specs.Reading.{AnyFault, Decodes, IsWholeFault};
+ghost use Rattle.rpki_der.specs.ErrorText.{text_of};
+ghost use Rattle.rpki.specs.ErrorContent.{content_of};
 ghost use Rattle.rpki.specs.ExtensionValue.{ExtensionParts};
 ghost use Rattle.rpki_cert.specs.Cert.{find};
-ghost use Rattle.rpki_cert.specs.Known.{subject_key_identifier, key_usage, basic_constraints, authority_key_identifier, extended_key_usage, certificate_policies, IsSaid, IsSaidThere, FindsOnly, FindsKept, FindsThere};
+ghost use Rattle.rpki_cert.specs.Known.{subject_key_identifier, key_usage, basic_constraints, authority_key_identifier, extended_key_usage, certificate_policies, critical_text, IsOtherCritical, IsSaid, IsSaidThere, FindsOnly, FindsKept, FindsThere};
 ghost use Rattle.rpki_cert.specs.Access.{SpellsRsyncAccess, SpellsPoints, IsSaidUri};
-ghost use Rattle.rpki_cert.specs.ExtensionContent.{SpellsConstraints, IsConstraintsFault, SpellsAuthority, IsAuthorityFault, SpellsUsage, IsUsageFault, SpellsPurposes, IsPurposesFault, SpellsPolicies, IsPoliciesFault};
+ghost use Rattle.rpki_cert.specs.ExtensionContent.{SpellsConstraints, IsWholeConstraintsFault, IsWholeSubjectFault, SpellsAuthority, IsWholeAuthorityFault, SpellsUsage, IsWholeUsageFault, SpellsPurposes, IsPurposesFault, SpellsPolicies, IsWholePoliciesFault};
 
 use crate::access_view::{read_accesses, read_points};
 use crate::contents::{skip_constraints, take_authority};
@@ -28,7 +29,9 @@ use rpki::repository::x509::{CertExtension, ExtensionView};
 use std::alloc::Global;
 
 /// The error of an extension that isn't as critical as it has to be.
-fn other_critical() -> InspectionError {
+fn other_critical() -> InspectionError
+    ensures { text_of (content_of result) ≡ critical_text }
+{
     InspectionError::new(ContentError::from_static("extension is not as critical as it has to be"))
 }
 
@@ -41,8 +44,7 @@ pub fn find_as<'a>(
     ensures some { IfOk result (λ o. IfSome o (λ x. (find id.entry.0.now all.now ≡ Some x.now)
         × (x.now.critical ≡ critical))) }
     ensures none { IfOk result (λ o. IfNone o (find id.entry.0.now all.now ≡ None)) }
-    ensures err { IfErr result (λ _. (x : ExtensionParts) × (find id.entry.0.now all.now ≡ Some x)
-        × (x.critical ≡ critical → ⊥)) }
+    ensures err { IfErr result (λ e. IsOtherCritical critical (find id.entry.0.now all.now) e) }
 {
     match find(all, id) {
         Some(extension) => {
@@ -62,7 +64,7 @@ fn wanted<'a>(
 ) -> Result<Option<ExtensionView<'a>>, InspectionError>
     ensures some { IfOk result (λ o. IfSome o (λ x. (found.entry ≡ Some x) × (x.critical ≡ critical))) }
     ensures none { IfOk result (λ o. IfNone o (found.entry ≡ None)) }
-    ensures err { IfErr result (λ _. (x : ExtensionParts) × (found.entry ≡ Some x) × (x.critical ≡ critical → ⊥)) }
+    ensures err { IfErr result (λ e. IsOtherCritical critical found.entry e) }
 {
     match found {
         Some(extension) => {
@@ -77,23 +79,21 @@ fn wanted<'a>(
 
 /// The key identifier that the octets are.
 fn identifier_of(octets: Constructed<'_>) -> Result<KeyIdentifier, DecodeError>
-    ensures { Decodes (λ k. k) SpellsKeyIdentifier (IsWholeFault SpellsKeyIdentifier
-        (IsIdentifierFault IsKeyIdentifier)) (left octets.entry) result }
+    ensures { Decodes (λ k. k) SpellsKeyIdentifier IsWholeSubjectFault (left octets.entry) result }
 {
     octets.whole(|cons| KeyIdentifier::take_from(cons))
 }
 
 /// The key identifier of an issuer that the octets are.
 fn authority_of(octets: Constructed<'_>) -> Result<KeyIdentifier, DecodeError>
-    ensures { Decodes (λ k. k) SpellsAuthority (IsWholeFault SpellsAuthority IsAuthorityFault) (left octets.entry)
-        result }
+    ensures { Decodes (λ k. k) SpellsAuthority IsWholeAuthorityFault (left octets.entry) result }
 {
     octets.whole(|cons| take_authority(cons))
 }
 
 /// Whether the octets are the basic constraints of a certification authority.
 fn constraints_of(octets: Constructed<'_>) -> Result<(), DecodeError>
-    ensures { Decodes (λ _. tt) SpellsConstraints (IsWholeFault SpellsConstraints IsConstraintsFault)
+    ensures { Decodes (λ _. tt) SpellsConstraints IsWholeConstraintsFault
         (left octets.entry) result }
 {
     octets.whole(|cons| skip_constraints(cons))
@@ -101,7 +101,7 @@ fn constraints_of(octets: Constructed<'_>) -> Result<(), DecodeError>
 
 /// The use that the octets name.
 fn usage_of(octets: Constructed<'_>) -> Result<KeyUsage, DecodeError>
-    ensures { Decodes (λ u. u) SpellsUsage (IsWholeFault SpellsUsage IsUsageFault) (left octets.entry) result }
+    ensures { Decodes (λ u. u) SpellsUsage IsWholeUsageFault (left octets.entry) result }
 {
     octets.whole(|cons| KeyUsage::take_from(cons))
 }
@@ -116,7 +116,7 @@ fn purposes_of(alloc: Global, extension: &CertExtension) -> Result<bool, DecodeE
 
 /// The policy that the octets name.
 fn overclaim_of(octets: Constructed<'_>) -> Result<Overclaim, DecodeError>
-    ensures { Decodes (λ p. p) SpellsPolicies (IsWholeFault SpellsPolicies IsPoliciesFault) (left octets.entry)
+    ensures { Decodes (λ p. p) SpellsPolicies IsWholePoliciesFault (left octets.entry)
         result }
 {
     octets.whole(|cons| Overclaim::take_from(cons))
@@ -126,14 +126,15 @@ fn overclaim_of(octets: Constructed<'_>) -> Result<Overclaim, DecodeError>
 pub fn subject_in(
     found: Option<ExtensionView<'_>>,
 ) -> Result<Option<KeyIdentifier>, ValidationError>
-    ensures { IsSaid false SpellsKeyIdentifier found.entry result }
+    ensures { IsSaid false SpellsKeyIdentifier IsWholeSubjectFault found.entry result }
 {
-    match wanted(found, false)? {
-        Some(extension) => match identifier_of(Constructed::from_slice(extension.octets())) {
+    match wanted(found, false) {
+        Ok(Some(extension)) => match identifier_of(Constructed::from_slice(extension.octets())) {
             Ok(found) => Ok(Some(found)),
             Err(e) => Err(ValidationError::Decoding(e)),
         },
-        None => Ok(None),
+        Ok(None) => Ok(None),
+        Err(e) => Err(ValidationError::Inspection(e)),
     }
 }
 
@@ -141,66 +142,71 @@ pub fn subject_in(
 pub fn authority_in(
     found: Option<ExtensionView<'_>>,
 ) -> Result<Option<KeyIdentifier>, ValidationError>
-    ensures { IsSaid false SpellsAuthority found.entry result }
+    ensures { IsSaid false SpellsAuthority IsWholeAuthorityFault found.entry result }
 {
-    match wanted(found, false)? {
-        Some(extension) => match authority_of(Constructed::from_slice(extension.octets())) {
+    match wanted(found, false) {
+        Ok(Some(extension)) => match authority_of(Constructed::from_slice(extension.octets())) {
             Ok(found) => Ok(Some(found)),
             Err(e) => Err(ValidationError::Decoding(e)),
         },
-        None => Ok(None),
+        Ok(None) => Ok(None),
+        Err(e) => Err(ValidationError::Inspection(e)),
     }
 }
 
 /// Whether basic constraints were found (RFC 6487 4.8.1).
 pub fn constraints_in(found: Option<ExtensionView<'_>>) -> Result<bool, ValidationError>
-    ensures { IsSaidThere true SpellsConstraints found.entry result }
+    ensures { IsSaidThere true SpellsConstraints IsWholeConstraintsFault found.entry result }
 {
-    match wanted(found, true)? {
-        Some(extension) => match constraints_of(Constructed::from_slice(extension.octets())) {
+    match wanted(found, true) {
+        Ok(Some(extension)) => match constraints_of(Constructed::from_slice(extension.octets())) {
             Ok(()) => Ok(true),
             Err(e) => Err(ValidationError::Decoding(e)),
         },
-        None => Ok(false),
+        Ok(None) => Ok(false),
+        Err(e) => Err(ValidationError::Inspection(e)),
     }
 }
 
 /// The use of the key, as the extension that was found says it (RFC 6487 4.8.4).
 pub fn usage_in(found: Option<ExtensionView<'_>>) -> Result<Option<KeyUsage>, ValidationError>
-    ensures { IsSaid true SpellsUsage found.entry result }
+    ensures { IsSaid true SpellsUsage IsWholeUsageFault found.entry result }
 {
-    match wanted(found, true)? {
-        Some(extension) => match usage_of(Constructed::from_slice(extension.octets())) {
+    match wanted(found, true) {
+        Ok(Some(extension)) => match usage_of(Constructed::from_slice(extension.octets())) {
             Ok(found) => Ok(Some(found)),
             Err(e) => Err(ValidationError::Decoding(e)),
         },
-        None => Ok(None),
+        Ok(None) => Ok(None),
+        Err(e) => Err(ValidationError::Inspection(e)),
     }
 }
 
 /// The policy, as the extension that was found says it (RFC 6487 4.8.9).
 pub fn overclaim_in(found: Option<ExtensionView<'_>>) -> Result<Option<Overclaim>, ValidationError>
-    ensures { IsSaid true SpellsPolicies found.entry result }
+    ensures { IsSaid true SpellsPolicies IsWholePoliciesFault found.entry result }
 {
-    match wanted(found, true)? {
-        Some(extension) => match overclaim_of(Constructed::from_slice(extension.octets())) {
+    match wanted(found, true) {
+        Ok(Some(extension)) => match overclaim_of(Constructed::from_slice(extension.octets())) {
             Ok(found) => Ok(Some(found)),
             Err(e) => Err(ValidationError::Decoding(e)),
         },
-        None => Ok(None),
+        Ok(None) => Ok(None),
+        Err(e) => Err(ValidationError::Inspection(e)),
     }
 }
 
 /// Whether a router's purpose is among those that the extension that was found names (RFC 8209 3.1.3.2).
 pub fn purposes_in(found: Option<ExtensionView<'_>>) -> Result<Option<bool>, ValidationError>
-    ensures { IsSaid false SpellsPurposes found.entry result }
+    ensures { IsSaid false SpellsPurposes AnyFault found.entry result }
 {
-    match wanted(found, false)? {
-        Some(extension) => match read_purposes(Constructed::from_slice(extension.octets())) {
+    match wanted(found, false) {
+        Ok(Some(extension)) => match read_purposes(Constructed::from_slice(extension.octets())) {
             Ok(found) => Ok(Some(found)),
             Err(e) => Err(ValidationError::Decoding(e)),
         },
-        None => Ok(None),
+        Ok(None) => Ok(None),
+        Err(e) => Err(ValidationError::Inspection(e)),
     }
 }
 
@@ -208,12 +214,13 @@ pub fn purposes_in(found: Option<ExtensionView<'_>>) -> Result<Option<bool>, Val
 pub fn points_in<'a>(found: Option<ExtensionView<'a>>) -> Result<Option<&'a [u8]>, ValidationError>
     ensures { IsSaidUri option_copied SpellsPoints found.entry result }
 {
-    match wanted(found, false)? {
-        Some(extension) => match read_points(Constructed::from_slice(extension.octets())) {
+    match wanted(found, false) {
+        Ok(Some(extension)) => match read_points(Constructed::from_slice(extension.octets())) {
             Ok(found) => Ok(found),
             Err(e) => Err(ValidationError::Decoding(e)),
         },
-        None => Ok(None),
+        Ok(None) => Ok(None),
+        Err(e) => Err(ValidationError::Inspection(e)),
     }
 }
 
@@ -224,15 +231,16 @@ pub fn access_in<'a>(
 ) -> Result<Option<&'a [u8]>, ValidationError>
     ensures { IsSaidUri option_copied (SpellsRsyncAccess method.entry.0.now) found.entry result }
 {
-    match wanted(found, false)? {
-        Some(extension) => match read_accesses(
+    match wanted(found, false) {
+        Ok(Some(extension)) => match read_accesses(
             Constructed::from_slice(extension.octets()),
             method,
         ) {
             Ok(found) => Ok(found),
             Err(e) => Err(ValidationError::Decoding(e)),
         },
-        None => Ok(None),
+        Ok(None) => Ok(None),
+        Err(e) => Err(ValidationError::Inspection(e)),
     }
 }
 
@@ -242,7 +250,7 @@ impl TbsCert {
     ///
     /// Returns `Inspection` if the extension is critical; `Decoding` if its octets are another value.
     pub fn subject_key_identifier(&self) -> Result<Option<KeyIdentifier>, ValidationError>
-        ensures { FindsOnly subject_key_identifier false SpellsKeyIdentifier self.now.extensions result }
+        ensures { FindsOnly subject_key_identifier false SpellsKeyIdentifier IsWholeSubjectFault self.now.extensions result }
     {
         subject_in(find_kept(self.extensions(), oid::CE_SUBJECT_KEY_IDENTIFIER))
     }
@@ -252,7 +260,7 @@ impl TbsCert {
     ///
     /// Returns `Inspection` if the extension is critical; `Decoding` if its octets are another value.
     pub fn authority_key_identifier(&self) -> Result<Option<KeyIdentifier>, ValidationError>
-        ensures { FindsOnly authority_key_identifier false SpellsAuthority self.now.extensions result }
+        ensures { FindsOnly authority_key_identifier false SpellsAuthority IsWholeAuthorityFault self.now.extensions result }
     {
         authority_in(find_kept(self.extensions(), oid::CE_AUTHORITY_KEY_IDENTIFIER))
     }
@@ -262,7 +270,7 @@ impl TbsCert {
     ///
     /// Returns `Inspection` if the extension is not critical; `Decoding` if its octets are another value.
     pub fn basic_ca(&self) -> Result<bool, ValidationError>
-        ensures { FindsThere basic_constraints true SpellsConstraints self.now.extensions result }
+        ensures { FindsThere basic_constraints true SpellsConstraints IsWholeConstraintsFault self.now.extensions result }
     {
         constraints_in(find_kept(self.extensions(), oid::CE_BASIC_CONSTRAINTS))
     }
@@ -272,7 +280,7 @@ impl TbsCert {
     ///
     /// Returns `Inspection` if the extension is not critical; `Decoding` if its octets are another value.
     pub fn key_usage(&self) -> Result<Option<KeyUsage>, ValidationError>
-        ensures { FindsOnly key_usage true SpellsUsage self.now.extensions result }
+        ensures { FindsOnly key_usage true SpellsUsage IsWholeUsageFault self.now.extensions result }
     {
         usage_in(find_kept(self.extensions(), oid::CE_KEY_USAGE))
     }
@@ -299,7 +307,7 @@ impl TbsCert {
     ///
     /// Returns `Inspection` if the extension is not critical; `Decoding` if its octets are another value.
     pub fn overclaim(&self) -> Result<Option<Overclaim>, ValidationError>
-        ensures { FindsOnly certificate_policies true SpellsPolicies self.now.extensions result }
+        ensures { FindsOnly certificate_policies true SpellsPolicies IsWholePoliciesFault self.now.extensions result }
     {
         overclaim_in(find_kept(self.extensions(), oid::CE_CERTIFICATE_POLICIES))
     }

@@ -1,8 +1,8 @@
 //! Resource certificates (RFC 5280 4.1, in the profiles of RFC 6487 and RFC 8209).
 //!
 //! `Cert::decode` reads one, and `tbs()` of it says what the extensions are. `inspect_ca` and its kin hold it to a
-//! profile, `verify_issued` and `verify_ta` to its issuer and a moment. Resources (RFC 3779) are octets of their
-//! extensions, which nothing here reads.
+//! profile; `verify_ta` and `verify_ca` make a [ResourceCert], which issues what is verified. Resources (RFC 3779) are
+//! octets of their extensions, which nothing here reads.
 #![tactic(auto)]
 
 mod access;
@@ -16,6 +16,7 @@ mod extension_source;
 mod extensions;
 mod fields;
 mod inspected;
+mod key_rule;
 mod key_usage;
 mod known;
 mod known_part;
@@ -49,4 +50,5 @@ pub use policy::Overclaim;
 pub use rule::CertRule;
 pub use section::Section;
 pub use tbs::TbsCert;
+pub use verified::ResourceCert;
 pub use view::{CertView, Parts};

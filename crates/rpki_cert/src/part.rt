@@ -1,6 +1,6 @@
 //! Parts of one value.
 
-ghost use Rattle.std.specs.Prelude.{◌≡◌, ◌↔◌, IsTrue, true, false};
+ghost use Rattle.std.specs.Prelude.{◌≡◌, ◌≢◌, ◌↔◌, IsTrue, true, false, IfErr};
 ghost use Rattle.rpki_der.specs.Cursor.{left};
 ghost use Rattle.rpki_der.specs.Reading.{Reads};
 ghost use Rattle.rpki_der.specs.Values.{SpellsContents, SpellsLeaf, IsLeafFault};
@@ -10,7 +10,7 @@ ghost use Rattle.rpki_cert.specs.InPlace.{GivesAll};
 use rpki::der::{Constructed, DecodeError, Tag};
 
 /// Whether these are the same octets.
-fn are_same(one: &[u8], other: &[u8]) -> bool
+pub fn are_same(one: &[u8], other: &[u8]) -> bool
     ensures { IsTrue result ↔ (one.now ≡ other.now) }
 {
     one == other
@@ -18,7 +18,8 @@ fn are_same(one: &[u8], other: &[u8]) -> bool
 
 /// A cursor on the contents, where all that is left is a constructed value of this tag.
 pub fn inside<'a>(octets: Constructed<'a>, tag: Tag) -> Result<Constructed<'a>, DecodeError>
-    ensures { GivesAll left (SpellsContents tag true) (left octets.entry) result }
+    ensures gives { GivesAll left (SpellsContents tag true) (left octets.entry) result }
+    ensures kind { IfErr result (λ e. e ≢ DecodeError.OutOfMemory) }
 {
     let mut rest = octets;
     let contents = rest.take_constructed_if(tag)?;

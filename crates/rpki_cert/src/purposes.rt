@@ -1,6 +1,6 @@
 //! Extended key usage (RFC 5280 4.2.1.12, RFC 8209 3.1.3.2).
 
-ghost use Rattle.std.specs.Prelude.{◌≡◌, ◌||◌, [], IfOk};
+ghost use Rattle.std.specs.Prelude.{◌≡◌, ◌≢◌, ◌||◌, [], IfOk, IfErr};
 ghost use Rattle.rpki_der.specs.Cursor.{left};
 ghost use Rattle.rpki_der.specs.Reading.{Reads};
 ghost use Rattle.rpki_der.specs.FirstFault.{ReadsParts};
@@ -67,7 +67,8 @@ fn is_either(one: bool, other: bool) -> bool
 
 /// Whether a router's purpose is one of those that these contents are; there is one at least.
 fn purposes_in(contents: Constructed<'_>) -> Result<bool, DecodeError>
-    ensures { GivesAll (λ b. b) ArePurposes (left contents.entry) result }
+    ensures gives { GivesAll (λ b. b) ArePurposes (left contents.entry) result }
+    ensures kind { IfErr result (λ e. e ≢ DecodeError.OutOfMemory) }
 {
     if contents.is_empty() {
         return Err(DecodeError::content("no key purposes"));
@@ -83,7 +84,8 @@ fn purposes_in(contents: Constructed<'_>) -> Result<bool, DecodeError>
 
 /// Extended key usage, as [take_purposes] reads it, and nothing else. Allocates nothing.
 pub fn read_purposes(octets: Constructed<'_>) -> Result<bool, DecodeError>
-    ensures { GivesAll (λ b. b) SpellsPurposes (left octets.entry) result }
+    ensures gives { GivesAll (λ b. b) SpellsPurposes (left octets.entry) result }
+    ensures kind { IfErr result (λ e. e ≢ DecodeError.OutOfMemory) }
 {
     let contents = inside(octets, Tag::SEQUENCE)?;
     purposes_in(contents)

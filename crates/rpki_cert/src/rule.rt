@@ -3,7 +3,7 @@
 ghost use Rattle.std.specs.Prelude.{◌≡◌};
 ghost use Rattle.rpki_der.specs.ErrorText.{text_of};
 ghost use Rattle.rpki.specs.ErrorContent.{content_of};
-ghost use Rattle.rpki_cert.specs.Rule.{rule_text, ta_rules, ca_rules, ee_rules, router_rules};
+ghost use Rattle.rpki_cert.specs.Rule.{rule_text, ta_rules, ca_rules, ee_rules, detached_rules, router_rules};
 
 use rpki::der::ContentError;
 use rpki::repository::error::InspectionError;
@@ -17,13 +17,17 @@ pub enum CertRule {
     CriticalExtensions,
     /// The issuer has a name of the RPKI (RFC 6487 4.4).
     Issuer,
+    /// The period ends no earlier than it begins (RFC 5280 4.1.2.5, RFC 6487 4.6).
+    Validity,
     /// The subject has a name of the RPKI (RFC 6487 4.5).
     Subject,
     /// The subject has a name of a router (RFC 8209 3.1.1).
     RouterSubject,
-    /// The subject's key is an RSA key (RFC 7935 3).
+    /// The subject's key is an RSA key with a modulus of 2,048 bits and the exponent 65537, and no bit is unused
+    /// (RFC 7935 3).
     RsaKey,
-    /// The subject's key is a P-256 key (RFC 8608 3.1).
+    /// The subject's key is a P-256 key: 65 octets that begin with 04, and no bit is unused (RFC 8608 3.1, RFC 5480
+    /// 2.2).
     RouterKey,
     /// The basic constraints are there, critical, with cA TRUE and without a length of paths (RFC 6487 4.8.1).
     BasicConstraints,
@@ -33,6 +37,11 @@ pub enum CertRule {
     SubjectKeyIdentifier,
     /// The authority key identifier is there, and not critical (RFC 6487 4.8.3).
     AuthorityKeyIdentifier,
+    /// The authority key identifier of a trust anchor is left out; or it is not critical, and is the subject key
+    /// identifier (RFC 6487 4.8.3).
+    OwnAuthority,
+    /// The issuer of a trust anchor is its subject (RFC 8630 2.3, RFC 5280 3.2).
+    SelfIssued,
     /// The key usage is there, critical, and is that of a certification authority (RFC 6487 4.8.4).
     AuthorityUsage,
     /// The key usage is there, critical, and is that of an end entity (RFC 6487 4.8.4).
@@ -58,12 +67,15 @@ pub enum CertRule {
     /// The subject information access is there, of no method but those of the signed object and of the repository's
     /// notifications (RFC 6487 4.8.8.2, RFC 8182 3.2).
     ObjectAccess,
-    /// There is no subject information access (RFC 8209 3.1.3.3).
+    /// There is no subject information access (RFC 8209 3.1.3.3, RFC 9323 2).
     NoSubjectAccess,
     /// The certificate policies are there, critical, and exactly one of the RPKI (RFC 6487 4.8.9).
     CertificatePolicies,
     /// Addresses or numbers of autonomous systems are there, each critical (RFC 6487 4.8.10, 4.8.11).
     Resources,
+    /// Policy and resources are of one version: with the policy of RFC 6484 only the extensions of RFC 3779, with that of
+    /// RFC 8360 only the extensions of RFC 8360 (RFC 8360 4.2).
+    ResourceVersion,
     /// Numbers of autonomous systems are there, and no addresses (RFC 8209 3.1.3.4, 3.1.3.5).
     RouterNumbers,
 }
@@ -74,32 +86,51 @@ impl CertRule {
         ensures { result.now ≡ rule_text self }
     {
         match self {
-            CertRule::SerialNumber => "serial number is 0",
-            CertRule::CriticalExtensions => "unknown critical extension",
-            CertRule::Issuer => "issuer has no name of the RPKI",
-            CertRule::Subject => "subject has no name of the RPKI",
-            CertRule::RouterSubject => "subject has no name of a router",
-            CertRule::RsaKey => "key is no RSA key",
-            CertRule::RouterKey => "key is no P-256 key",
-            CertRule::BasicConstraints => "missing basic constraints",
-            CertRule::SubjectKeyIdentifier => "missing subject key identifier",
-            CertRule::AuthorityKeyIdentifier => "missing authority key identifier",
-            CertRule::AuthorityUsage | CertRule::EndUsage => "missing or another key usage",
-            CertRule::RouterPurpose => "missing purpose of a router",
-            CertRule::RevocationList => "missing URI of the revocation list",
-            CertRule::IssuerCertificate => "missing URI of the issuer's certificate",
-            CertRule::Repository => "missing URI of the repository",
-            CertRule::Manifest => "missing URI of the manifest",
-            CertRule::SignedObject => "missing URI of the signed object",
-            CertRule::ObjectAccess => "other access method of an end entity",
-            CertRule::CertificatePolicies => "missing certificate policies",
-            CertRule::Resources => "missing resources, or ones that are not critical",
-            CertRule::RouterNumbers => "missing numbers, or addresses are there",
-            CertRule::NoBasicConstraints
-            | CertRule::NoExtendedKeyUsage
-            | CertRule::NoRevocationList
-            | CertRule::NoIssuerCertificate
-            | CertRule::NoSubjectAccess => "extension is there that may not be",
+            CertRule::SerialNumber => "RFC 5280 4.1.2.2: serial number is 0",
+            CertRule::CriticalExtensions => "RFC 5280 4.2: unknown critical extension",
+            CertRule::Issuer => "RFC 6487 4.4: issuer has no name of the RPKI",
+            CertRule::Validity => "RFC 5280 4.1.2.5: period ends before it begins",
+            CertRule::Subject => "RFC 6487 4.5: subject has no name of the RPKI",
+            CertRule::RouterSubject => "RFC 8209 3.1.1: subject has no name of a router",
+            CertRule::RsaKey => "RFC 7935 3: key is no RSA key of 2048 bits and the exponent 65537",
+            CertRule::RouterKey => "RFC 8608 3.1: key is no uncompressed point on P-256",
+            CertRule::BasicConstraints => "RFC 6487 4.8.1: missing basic constraints",
+            CertRule::NoBasicConstraints => "RFC 6487 4.8.1: basic constraints of an end entity",
+            CertRule::SubjectKeyIdentifier => "RFC 6487 4.8.2: missing subject key identifier",
+            CertRule::AuthorityKeyIdentifier => "RFC 6487 4.8.3: missing authority key identifier",
+            CertRule::OwnAuthority => {
+                "RFC 6487 4.8.3: authority key identifier of a trust anchor is not its own"
+            }
+            CertRule::SelfIssued => "RFC 8630 2.3: issuer of a trust anchor is not its subject",
+            CertRule::AuthorityUsage | CertRule::EndUsage =>
+                "RFC 6487 4.8.4: missing or another key usage",
+            CertRule::NoExtendedKeyUsage => {
+                "RFC 6487 4.8.5: extended key usage of a key of the RPKI"
+            }
+            CertRule::RouterPurpose => "RFC 8209 3.1.3.2: missing purpose of a router",
+            CertRule::RevocationList => "RFC 6487 4.8.6: missing URI of the revocation list",
+            CertRule::NoRevocationList => {
+                "RFC 6487 4.8.6: CRL distribution points of a trust anchor"
+            }
+            CertRule::IssuerCertificate => {
+                "RFC 6487 4.8.7: missing URI of the issuer's certificate"
+            }
+            CertRule::NoIssuerCertificate => {
+                "RFC 6487 4.8.7: authority information access of a trust anchor"
+            }
+            CertRule::Repository => "RFC 6487 4.8.8.1: missing URI of the repository",
+            CertRule::Manifest => "RFC 6487 4.8.8.1: missing URI of the manifest",
+            CertRule::SignedObject => "RFC 6487 4.8.8.2: missing URI of the signed object",
+            CertRule::ObjectAccess => "RFC 6487 4.8.8.2: other access method of an end entity",
+            CertRule::NoSubjectAccess => "RFC 8209 3.1.3.3, RFC 9323 2: subject information access",
+            CertRule::CertificatePolicies => "RFC 6487 4.8.9: missing certificate policies",
+            CertRule::Resources => {
+                "RFC 6487 4.8.10, 4.8.11: missing resources, or ones that are not critical"
+            }
+            CertRule::ResourceVersion => "RFC 8360 4.2: policy and resources of two versions",
+            CertRule::RouterNumbers => {
+                "RFC 8209 3.1.3.4, 3.1.3.5: missing numbers, or addresses are there"
+            }
         }
     }
 
@@ -119,9 +150,11 @@ pub(crate) fn ta_rules() -> &'static [CertRule]
         CertRule::SerialNumber,
         CertRule::CriticalExtensions,
         CertRule::Issuer,
+        CertRule::Validity,
         CertRule::SubjectKeyIdentifier,
         CertRule::CertificatePolicies,
         CertRule::Resources,
+        CertRule::ResourceVersion,
         CertRule::Subject,
         CertRule::RsaKey,
         CertRule::NoExtendedKeyUsage,
@@ -131,6 +164,8 @@ pub(crate) fn ta_rules() -> &'static [CertRule]
         CertRule::NoIssuerCertificate,
         CertRule::Repository,
         CertRule::Manifest,
+        CertRule::SelfIssued,
+        CertRule::OwnAuthority,
     ]
 }
 
@@ -142,9 +177,11 @@ pub(crate) fn ca_rules() -> &'static [CertRule]
         CertRule::SerialNumber,
         CertRule::CriticalExtensions,
         CertRule::Issuer,
+        CertRule::Validity,
         CertRule::SubjectKeyIdentifier,
         CertRule::CertificatePolicies,
         CertRule::Resources,
+        CertRule::ResourceVersion,
         CertRule::Subject,
         CertRule::RsaKey,
         CertRule::NoExtendedKeyUsage,
@@ -166,9 +203,11 @@ pub(crate) fn ee_rules() -> &'static [CertRule]
         CertRule::SerialNumber,
         CertRule::CriticalExtensions,
         CertRule::Issuer,
+        CertRule::Validity,
         CertRule::SubjectKeyIdentifier,
         CertRule::CertificatePolicies,
         CertRule::Resources,
+        CertRule::ResourceVersion,
         CertRule::Subject,
         CertRule::RsaKey,
         CertRule::NoExtendedKeyUsage,
@@ -176,6 +215,31 @@ pub(crate) fn ee_rules() -> &'static [CertRule]
         CertRule::EndUsage,
         CertRule::SignedObject,
         CertRule::ObjectAccess,
+        CertRule::AuthorityKeyIdentifier,
+        CertRule::RevocationList,
+        CertRule::IssuerCertificate,
+    ]
+}
+
+/// The rules of end entities without subject information access, in the order in which they are tested.
+pub(crate) fn detached_rules() -> &'static [CertRule]
+    ensures { result.now ≡ detached_rules }
+{
+    &[
+        CertRule::SerialNumber,
+        CertRule::CriticalExtensions,
+        CertRule::Issuer,
+        CertRule::Validity,
+        CertRule::SubjectKeyIdentifier,
+        CertRule::CertificatePolicies,
+        CertRule::Resources,
+        CertRule::ResourceVersion,
+        CertRule::Subject,
+        CertRule::RsaKey,
+        CertRule::NoExtendedKeyUsage,
+        CertRule::NoBasicConstraints,
+        CertRule::EndUsage,
+        CertRule::NoSubjectAccess,
         CertRule::AuthorityKeyIdentifier,
         CertRule::RevocationList,
         CertRule::IssuerCertificate,
@@ -190,9 +254,11 @@ pub(crate) fn router_rules() -> &'static [CertRule]
         CertRule::SerialNumber,
         CertRule::CriticalExtensions,
         CertRule::Issuer,
+        CertRule::Validity,
         CertRule::SubjectKeyIdentifier,
         CertRule::CertificatePolicies,
         CertRule::Resources,
+        CertRule::ResourceVersion,
         CertRule::RouterSubject,
         CertRule::RouterKey,
         CertRule::NoBasicConstraints,

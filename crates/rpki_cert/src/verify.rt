@@ -1,12 +1,12 @@
 //! Whether certificates are valid at a moment (RFC 5280 6.1.3, RFC 6487 7.2), but for their resources.
 
-ghost use Rattle.std.specs.Prelude.{◌≡◌, ◌↔◌, ◌⊎◌, false, None, Option, IsOk, IsTrue};
-ghost use Rattle.rpki.specs.KeyIdentifier.{SpellsKeyIdentifier};
+ghost use Rattle.std.specs.Prelude.{◌≡◌, ◌↔◌, ◌⊎◌, false, None, Option, IsTrue, codes};
+ghost use Rattle.rpki.specs.ErrorTexts.{verification_text};
 ghost use Rattle.rpki_time.specs.Validity.{HoldsAt};
 ghost use Rattle.rpki_cert.specs.Cert.{find};
-ghost use Rattle.rpki_cert.specs.Known.{subject_key_identifier, authority_key_identifier, HasExtension, are_understood};
-ghost use Rattle.rpki_cert.specs.ExtensionContent.{SpellsAuthority};
-ghost use Rattle.rpki_cert.specs.Valid.{IsSignedBy, IsSigned, HasAuthority, IsIssued, IsAnchor};
+ghost use Rattle.rpki_cert.specs.Known.{authority_key_identifier, are_understood};
+ghost use Rattle.rpki_cert.specs.RuleError.{ChecksBy};
+ghost use Rattle.rpki_cert.specs.Valid.{HasReason, IsPeriodError, IsSignedBy, HasSubject, IsOtherSubject, ChecksSigned, HasAuthority, IsOtherAuthority, ChecksIssued, ChecksAnchor};
 
 use crate::cert::Cert;
 use crate::extensions::find;
@@ -16,15 +16,17 @@ use rpki::crypto::{KeyIdentifier, Provider, PublicKey, PublicKeyFormat};
 use rpki::der::ContentError;
 use rpki::oid;
 use rpki::repository::error::{ValidationError, VerificationError};
-use rpki::repository::x509::{Name, SignedData, Time};
+use rpki::repository::x509::{Name, SignedData, Time, Validity};
 
 /// The error of this text.
-fn unverified(text: &'static str) -> ValidationError {
+fn unverified(text: &'static str) -> ValidationError
+    ensures { HasReason text.now result }
+{
     ValidationError::Verification(VerificationError::new(ContentError::from_static(text)))
 }
 
 /// Whether the key identifier is there and is this one.
-fn is_there(found: Option<KeyIdentifier>, wanted: KeyIdentifier) -> bool
+pub(crate) fn is_identifier(found: Option<KeyIdentifier>, wanted: KeyIdentifier) -> bool
     ensures { IsTrue result ↔ (found ≡ Option.Some wanted) }
 {
     match found {
@@ -40,14 +42,24 @@ fn is_named(name: &Name, wanted: &Name) -> bool
     *name == *wanted
 }
 
+/// Whether the period holds at the moment.
+pub(crate) fn verify_period(period: Validity, at: Time) -> Result<(), ValidationError>
+    ensures { ChecksBy (HoldsAt period at) (IsPeriodError period at) result }
+{
+    match period.verify_at(at) {
+        Ok(()) => Ok(()),
+        Err(e) => Err(ValidationError::Verification(VerificationError::from(e))),
+    }
+}
+
 impl TbsCert {
     /// Whether the identifier of the issuer's key is there and is this one.
     fn verify_authority(&self, wanted: KeyIdentifier) -> Result<(), ValidationError>
-        ensures { IsOk result ↔ HasAuthority wanted self.now }
+        ensures { ChecksBy (HasAuthority wanted self.now) (IsOtherAuthority self.now) result }
     {
         match self.authority_key_identifier() {
             Ok(found) => {
-                if is_there(found, wanted) {
+                if is_identifier(found, wanted) {
                     return Ok(());
                 }
                 Err(unverified("authority key identifier mismatch"))
@@ -58,8 +70,8 @@ impl TbsCert {
 
     /// Whether the identifier of the issuer's key isn't there, or is this one.
     fn verify_own_authority(&self, wanted: KeyIdentifier) -> Result<(), ValidationError>
-        ensures { IsOk result ↔ (find authority_key_identifier self.now.extensions ≡ None)
-            ⊎ HasAuthority wanted self.now }
+        ensures { ChecksBy ((find authority_key_identifier self.now.extensions ≡ None) ⊎ HasAuthority wanted self.now)
+            (IsOtherAuthority self.now) result }
     {
         match find(self.extensions(), oid::CE_AUTHORITY_KEY_IDENTIFIER) {
             Some(_) => self.verify_authority(wanted),
@@ -69,12 +81,11 @@ impl TbsCert {
 
     /// Whether the identifier of the subject's key is there and is this one.
     fn verify_subject(&self, wanted: KeyIdentifier) -> Result<(), ValidationError>
-        ensures { IsOk result ↔ HasExtension subject_key_identifier false SpellsKeyIdentifier self.now.extensions
-            (Option.Some wanted) }
+        ensures { ChecksBy (HasSubject wanted self.now) (IsOtherSubject self.now) result }
     {
         match self.subject_key_identifier() {
             Ok(found) => {
-                if is_there(found, wanted) {
+                if is_identifier(found, wanted) {
                     return Ok(());
                 }
                 Err(unverified("subject key identifier mismatch"))
@@ -85,7 +96,8 @@ impl TbsCert {
 
     /// Whether every critical extension is a known one.
     fn verify_critical(&self) -> Result<(), ValidationError>
-        ensures { IsOk result ↔ IsTrue (are_understood self.now.extensions) }
+        ensures { ChecksBy (IsTrue (are_understood self.now.extensions))
+            (HasReason (codes "unknown critical extension")) result }
     {
         if are_understood(self.extensions()) {
             return Ok(());
@@ -95,22 +107,12 @@ impl TbsCert {
 
     /// Whether the issuer has this name.
     fn verify_issuer(&self, issuer: &Name) -> Result<(), ValidationError>
-        ensures { IsOk result ↔ (self.now.issuer ≡ issuer.now) }
+        ensures { ChecksBy (self.now.issuer ≡ issuer.now) (HasReason (codes "issuer name mismatch")) result }
     {
         if is_named(self.issuer(), issuer) {
             return Ok(());
         }
         Err(unverified("issuer name mismatch"))
-    }
-
-    /// Whether the period holds at the moment.
-    fn verify_period(&self, at: Time) -> Result<(), ValidationError>
-        ensures { IsOk result ↔ HoldsAt self.now.validity at }
-    {
-        match self.validity().verify_at(at) {
-            Ok(()) => Ok(()),
-            Err(e) => Err(ValidationError::Verification(VerificationError::from(e))),
-        }
     }
 }
 
@@ -120,7 +122,8 @@ fn verify_signature<P: Provider>(
     provider: &P,
     key: &PublicKey,
 ) -> Result<(), ValidationError>
-    ensures { IsOk result ↔ IsSignedBy (P.rsa_of provider.now) (P.ecdsa_of provider.now) key.now signed.now }
+    ensures { ChecksBy (IsSignedBy (P.rsa_of provider.now) (P.ecdsa_of provider.now) key.now signed.now)
+        (HasReason verification_text) result }
 {
     match signed.verify_signature(provider, key) {
         Ok(()) => Ok(()),
@@ -138,23 +141,22 @@ impl Cert {
         issuer_key: &PublicKey,
         at: Time,
     ) -> Result<(), ValidationError>
-        ensures { IsOk result ↔ IsSigned (P.rsa_of provider.now) (P.ecdsa_of provider.now) (P.sha1_of provider.now)
-            issuer.now issuer_key.now at self.now }
+        ensures { ChecksSigned (P.rsa_of provider.now) (P.ecdsa_of provider.now) (P.sha1_of provider.now) issuer.now
+            issuer_key.now at self.now result }
     {
+        let own = self.tbs();
         verify_signature(self.signed_data(), provider, issuer_key)?;
-        self.tbs().verify_period(at)?;
-        self.tbs().verify_issuer(issuer)?;
-        self.tbs().verify_critical()?;
-        let subject = self
-            .tbs()
-            .subject_public_key_info()
-            .key_identifier(provider);
-        self.tbs().verify_subject(subject)
+        verify_period(own.validity(), at)?;
+        own.verify_issuer(issuer)?;
+        own.verify_critical()?;
+        let subject = own.subject_public_key_info().key_identifier(provider);
+        own.verify_subject(subject)
     }
 
-    /// Whether the issuer has signed the certificate, and it is valid at the moment: the signature, the period, the
-    /// issuer's name, and both key identifiers (RFC 6487 7.2). Whether the certificates have their profiles, and the
-    /// resources, are not looked at. Allocates nothing.
+    /// Whether the one certificate has issued the other; that the issuer is an authority, is itself valid or issued by
+    /// another, and that either has its profile, is not looked at, so that this alone is no verification: for that see
+    /// [ResourceCert](crate::ResourceCert). What is looked at is the signature, the period at the moment, the issuer's
+    /// name, and both key identifiers (RFC 5280 6.1.3, RFC 6487 7.2). Allocates nothing.
     ///
     /// The error is that of the first of: the signature, the period, the issuer's name, an unknown critical extension,
     /// the identifier of the subject's key, that of the issuer's.
@@ -164,8 +166,8 @@ impl Cert {
         issuer: &TbsCert,
         at: Time,
     ) -> Result<(), ValidationError>
-        ensures { IsOk result ↔ IsIssued (P.rsa_of provider.now) (P.ecdsa_of provider.now) (P.sha1_of provider.now)
-            issuer.now at self.now }
+        ensures { ChecksIssued (P.rsa_of provider.now) (P.ecdsa_of provider.now) (P.sha1_of provider.now) issuer.now
+            at self.now result }
     {
         self.verify_signed(
             provider,
@@ -177,14 +179,17 @@ impl Cert {
         self.tbs().verify_authority(authority)
     }
 
-    /// Whether the certificate is a trust anchor that is valid at the moment: its own key has signed it, its issuer is
-    /// its subject, and the identifier of the issuer's key is left out, or is that of its own (RFC 6487 4.8.3).
-    /// Allocates nothing.
+    /// Whether its own key has signed the certificate and it is valid at the moment, its issuer is its subject, and the
+    /// identifier of the issuer's key is left out, or is that of its own (RFC 6487 4.8.3).
     ///
     /// The errors are those of [Cert::verify_issued].
-    pub fn verify_ta<P: Provider>(&self, provider: &P, at: Time) -> Result<(), ValidationError>
-        ensures { IsOk result ↔ IsAnchor (P.rsa_of provider.now) (P.ecdsa_of provider.now) (P.sha1_of provider.now) at
-            self.now }
+    pub(crate) fn verify_anchor<P: Provider>(
+        &self,
+        provider: &P,
+        at: Time,
+    ) -> Result<(), ValidationError>
+        ensures { ChecksAnchor (P.rsa_of provider.now) (P.ecdsa_of provider.now) (P.sha1_of provider.now) at self.now
+            result }
     {
         let own = self.tbs();
         self.verify_signed(provider, own.subject(), own.subject_public_key_info(), at)?;

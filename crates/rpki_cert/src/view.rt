@@ -2,9 +2,8 @@
 
 ghost use Rattle.std.specs.Prelude.{◌≡◌, ◌<◌, IfOk, IfErr, length};
 ghost use Rattle.rpki_der.specs.Cursor.{left};
-ghost use Rattle.rpki.specs.SignedData.{SpellsSignature};
 ghost use Rattle.rpki_cert.specs.Cert.{CertParts, SpellsCert};
-ghost use Rattle.rpki_cert.specs.View.{most_extensions, IsWholeOf, ArePartsBehind, AreBehindWrong, IsCertBehind, IsWrongBehind, IsCertAt, IsCertWrong};
+ghost use Rattle.rpki_cert.specs.View.{most_extensions, SpellsUsed, IsWholeOf, ArePartsBehind, AreBehindWrong, IsCertBehind, IsWrongBehind, IsCertAt, IsCertWrong};
 
 use crate::cert::is_same;
 use crate::cert_part::CertPart;
@@ -37,13 +36,16 @@ pub struct CertView<'a> {
     pub tbs: TbsView<'a>,
 }
 
-/// The octets of the signature that is all that is left.
+/// The octets of the signature that is all that is left, and of which no bit is unused.
 fn read_signature<'a>(rest: Constructed<'a>) -> Option<&'a [u8]>
-    ensures { IsWholeOf (λ v. v.now) SpellsSignature (left rest.entry) result }
+    ensures { IsWholeOf (λ v. v.now) SpellsUsed (left rest.entry) result }
 {
     let mut after = rest;
     match after.take_bits() {
         Ok(bits) => {
+            if bits.unused() > 0 {
+                return None;
+            }
             if after.is_empty() {
                 return Some(bits.octet_slice());
             }

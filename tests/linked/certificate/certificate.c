@@ -149,19 +149,20 @@ static rpki_status inspected(const uint8_t *octets, size_t size, unsigned profil
     return status;
 }
 
-/* The words are the statuses of the four profiles, strict; and then the same not strict. */
+/* The words are the statuses of the first four profiles, strict; then the same not strict; then of the fifth. */
 static void inspect(unsigned line, const uint8_t *octets, size_t size, const char *words) {
     unsigned number;
     bool clean;
-    for (number = 0; number < 8; number++) {
-        unsigned wanted = (unsigned)strtoul(words, (char **)&words, 10), profile = number % 4;
-        bool strict = number < 4;
+    for (number = 0; number < 10; number++) {
+        unsigned wanted = (unsigned)strtoul(words, (char **)&words, 10);
+        unsigned profile = number < 8 ? number % 4 : RPKI_CERTIFICATE_DETACHED_EE;
+        bool strict = number < 4 || number == 8;
         rpki_status status = inspected(octets, size, profile, strict, &clean);
         if (status != wanted) printf("profile %u: status %u, not %u\n", profile, status, wanted);
         judge(line, "an inspection", status == wanted);
         judge(line, "an inspection allocates", clean);
     }
-    judge(line, "another profile", inspected(octets, size, 4, true, &clean) == RPKI_NO_PROFILE && clean);
+    judge(line, "another profile", inspected(octets, size, 5, true, &clean) == RPKI_NO_PROFILE && clean);
 }
 
 static void row(unsigned line, char *text) {

@@ -1,4 +1,4 @@
-"""Which rule of a profile a certificate breaks first (RFC 6487 4, RFC 8209 3.1), as the statuses of
+"""Which rule of a profile a certificate breaks first (RFC 6487 4, RFC 8209 3.1, RFC 9323 2), as the statuses of
 rpki_certificate_inspect, found without the library. The certificates are well-formed, and their URIs are URIs."""
 import certificates
 
@@ -12,14 +12,16 @@ COMMON_NAME, SERIAL_NUMBER = certificates.oid("2.5.4.3"), certificates.oid("2.5.
 PRINTABLE, UTF8 = 0x13, 0x0c
 
 # Of each profile its rules, in the order of crates/rpki_cert/specs/Rule.antt.
-BASIC = [85, 86, 87, 94, 108, 109]
+BASIC = [85, 86, 87, 112, 94, 108, 109, 115]
 ORDINARY = [*BASIC, 88, 90, 98]
 PROFILES = [
-    [*ORDINARY, 92, 96, 101, 103, 104, 105],
+    [*ORDINARY, 92, 96, 101, 103, 104, 105, 114, 113],
     [*ORDINARY, 92, 96, 104, 105, 95, 100, 102],
     [*ORDINARY, 93, 97, 106, 111, 95, 100, 102],
     [*BASIC, 89, 91, 93, 97, 110, 107, 99, 95, 100, 102],
 ]
+# Those of end entities without subject information access.
+DETACHED = [*ORDINARY, 93, 97, 107, 95, 100, 102]
 
 
 class Extensions:
@@ -94,6 +96,42 @@ def has_point(values):
     return all(name.first == 0x86 for name in names) and any(map(is_rsync, names))
 
 
+def is_rsa_key(it):
+    """2,048 bits and the exponent 65537, in DER, so 270 octets of which the modulus is free (RFC 7935 3)."""
+    bits = it.key.inside[1].inside
+    front, back = bytes.fromhex("003082010a0282010100"), bytes.fromhex("0203010001")
+    return bits[:10] == front and bits[10:11] >= b"\x80" and bits[266:] == back
+
+
+def is_point(it):
+    """04 and two coordinates (RFC 8608 3.1)."""
+    bits = it.key.inside[1].inside
+    return len(bits) == 66 and bits[:2] == b"\0\4"
+
+
+def time_of(value):
+    """A time as digits of a year of four digits on."""
+    text = value.inside.decode()
+    return text if value.first == 0x18 else ("19" if text >= "50" else "20") + text
+
+
+def is_own_authority(found):
+    """The authority key identifier of a trust anchor is not there, or is the subject key identifier (RFC 6487 4.8.3)."""
+    if not found.has("authority key"):
+        return True
+    own, subject = found.content("authority key", False), found.content("subject key", False)
+    return own == bytes.fromhex("30168014") + subject[2:] and len(own) == 24
+
+
+def is_one_version(found):
+    """Policy and resources of one version (RFC 8360 4.2)."""
+    policies_ = found.value("policies", True)
+    if not policies_:
+        return False
+    new = policies_[0].inside[0].inside == certificates.oid(certificates.POLICY_V2)
+    return not (found.has("addresses", "numbers") if new else found.has("addresses v2", "numbers v2"))
+
+
 def is_broken(it, found, strict):
     """Whether each rule is broken, by its status."""
     purposes = found.value("purposes", False)
@@ -106,8 +144,8 @@ def is_broken(it, found, strict):
         87: not strict or is_name(it.issuer, [PRINTABLE]),
         88: not strict or is_name(it.subject, [PRINTABLE]),
         89: not strict or is_name(it.subject, [PRINTABLE, UTF8]),
-        90: is_rsa,
-        91: not is_rsa,
+        90: is_rsa and is_rsa_key(it),
+        91: not is_rsa and is_point(it),
         92: found.content("constraints", True) == bytes.fromhex("30030101ff"),
         93: not found.has("constraints"),
         94: found.content("subject key", False)[:2] == b"\x04\x14" and len(found.found["subject key"]) == 22,
@@ -129,22 +167,27 @@ def is_broken(it, found, strict):
         109: found.has(*resources) and all(found.critical.get(name, True) for name in resources),
         110: found.has("numbers", "numbers v2") and not found.has("addresses", "addresses v2"),
         111: has_only(found.value("subject access", False), certificates.OBJECT, certificates.NOTIFY),
+        112: time_of(it.validity.inside[0]) <= time_of(it.validity.inside[1]),
+        113: is_own_authority(found),
+        114: it.tbs.inside[3].octets() == it.tbs.inside[5].octets(),
+        115: is_one_version(found),
     }
     return {status: not held for status, held in holds.items()}
 
 
 def statuses(octets):
-    """The statuses of the profiles in order, strict; then the same not strict."""
+    """The statuses of the profiles in order, strict; then the same not strict; then of the last, strict and not."""
     it = certificates.Certificate(octets)
     found = Extensions(it.list.inside)
-    told = []
+    told, last = [], []
     for strict in (True, False):
         broken = is_broken(it, found, strict)
-        told += [next((status for status in rules if broken[status]), 0) for rules in PROFILES]
-    return told
+        firsts = [next((status for status in rules if broken[status]), 0) for rules in (*PROFILES, DETACHED)]
+        told, last = told + firsts[:-1], last + firsts[-1:]
+    return told + last
 
 
 def agrees(told, expected):
     """What certificates.py expects of an inspection by each profile is what is told here."""
-    words = ["inspect_ta", "inspect_ca", "inspect_ee", "inspect_router"]
-    return all((told[words.index(word)] == 0) == (text == "ok") for word, text in expected.items() if word in words)
+    words = {"inspect_ta": 0, "inspect_ca": 1, "inspect_ee": 2, "inspect_router": 3, "inspect_detached_ee": 8}
+    return all((told[words[word]] == 0) == (text == "ok") for word, text in expected.items() if word in words)

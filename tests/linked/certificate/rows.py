@@ -10,7 +10,8 @@ the signature, the issuer, the subject, the key and the extensions, each as STAR
 octets; the format of the key, its unused bits, and whether there are parameters. Behind a bar stand the status of the
 other call and, for status 0, of each known extension whether it is there and critical, and its place as START LENGTH;
 both key identifiers; whether the subject is an authority; the numbers of the use of the key and of the policy. Behind a
-second bar stand the statuses of rpki_certificate_inspect: of the four profiles, strict; then the same not strict."""
+second bar stand the statuses of rpki_certificate_inspect: of the first four profiles, strict; then the same not
+strict; then of the fifth, strict and not."""
 import os
 import sys
 
@@ -131,7 +132,7 @@ def extension_row(octets):
 def line(it, status, expected=()):
     octets = it.octets()
     if status:
-        return f"{octets.hex()} {status} | {status} | {' '.join([str(status)] * 8)}"
+        return f"{octets.hex()} {status} | {status} | {' '.join([str(status)] * 10)}"
     told = profiles.statuses(octets)
     assert profiles.agrees(told, dict(expected)), expected
     return f"{row(it)} | {extension_row(octets)} | {' '.join(map(str, told))}"

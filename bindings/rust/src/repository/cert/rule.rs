@@ -64,6 +64,14 @@ pub enum CertRule {
     /// An end entity's access information has another method than those of the signed object and of the repository's
     /// notifications (RFC 6487 4.8.8.2, RFC 8182 3.2).
     ObjectAccess,
+    /// The period ends before it begins (RFC 5280 4.1.2.5).
+    Validity,
+    /// The authority key identifier of a trust anchor is malformed, critical, or not its own (RFC 6487 4.8.3).
+    OwnAuthority,
+    /// The issuer of a trust anchor is not its subject (RFC 8630 2.3).
+    SelfIssued,
+    /// Policy and resources are of two versions (RFC 8360 4.2).
+    ResourceVersion,
 }
 
 impl CertRule {
@@ -96,6 +104,10 @@ impl CertRule {
             109 => CertRule::Resources,
             110 => CertRule::RouterNumbers,
             111 => CertRule::ObjectAccess,
+            112 => CertRule::Validity,
+            113 => CertRule::OwnAuthority,
+            114 => CertRule::SelfIssued,
+            115 => CertRule::ResourceVersion,
             _ => unreachable!("{status} is no status of a certificate that is held to a profile"),
         }
     }
@@ -131,6 +143,10 @@ impl fmt::Display for CertRule {
             CertRule::Resources => "missing resources, or ones that are not critical",
             CertRule::RouterNumbers => "missing AS numbers, or addresses are there",
             CertRule::ObjectAccess => "other access method of an end entity",
+            CertRule::Validity => "period ends before it begins",
+            CertRule::OwnAuthority => "authority key identifier of a trust anchor is not its own",
+            CertRule::SelfIssued => "issuer of a trust anchor is not its subject",
+            CertRule::ResourceVersion => "policy and resources of two versions",
         })
     }
 }

@@ -61,6 +61,14 @@ impl PublicKey {
         self.algorithm
     }
 
+    /// How many bits of the last octet are not used: 0 to 7.
+    pub fn unused(&self) -> u8
+        ensures value { result ≡ self.now.bits.unused }
+        ensures legal { AreBits self.now.bits }
+    {
+        self.bits.unused()
+    }
+
     /// The octets of the bits, without the count of unused bits.
     pub fn bits(&self) -> &[u8]
         ensures { result.now ≡ self.now.bits.octets }

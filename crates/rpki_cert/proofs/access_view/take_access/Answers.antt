@@ -7,10 +7,10 @@ use Rattle.rpki_cert.proofs.NameViewLaws.{leaf-missing}
 use Rattle.rpki_cert.proofs.TriedLaws.{tried-gives}
 use Rattle.rpki_cert.proofs.access_view.take_access.Goals as goal
 
-pub returns-in_err-contents : goal.returns-in_err-contents
-returns-in_err-contents c =
+pub returns-in_err-contents-clause-gives : goal.returns-in_err-contents-clause-gives
+returns-in_err-contents-clause-gives c =
     let m = c.args.method.0.now in
     tried-gives option_copied (SpellsAccess m) _ _ _ _ c.from_residual.ensures (leaf-missing sequence true (IsAccess m) _ _ c.in_err-contents.field-0.0 c.in_err-contents.ensures)
 
-pub returns : goal.returns
-returns c = leaf-gives sequence true (IsAccess c.args.method.0.now) _ option_copied _ _ c.access_in.result c.in_ok-contents.ensures c.access_in.ensures
+pub returns-clause-gives : goal.returns-clause-gives
+returns-clause-gives c = leaf-gives sequence true (IsAccess c.args.method.0.now) _ option_copied _ _ c.access_in.result c.in_ok-contents.ensures c.access_in.ensures.gives

@@ -8,9 +8,9 @@ use Rattle.rpki_cert.proofs.AccessLaws.{accepts-through, contents-refused, uri-r
 use Rattle.rpki_cert.proofs.TriedLaws.{tried-gives}
 use Rattle.rpki_cert.proofs.access_view.take_uri.Goals as goal
 
-pub returns-in_err-text : goal.returns-in_err-text
-returns-in_err-text c =
+pub returns-in_err-text-clause-gives : goal.returns-in_err-text-clause-gives
+returns-in_err-text-clause-gives c =
     tried-gives option_copied SpellsUri _ _ _ _ c.from_residual.ensures (uri-refused _ (contents-refused context_6 false _ _ c.in_err-text.field-0.0 c.in_err-text.ensures))
 
-pub returns : goal.returns
-returns c = accepts-through (λ (text : List ℕ). Some text) (SpellsContents context_6 false) (IsContentsFault context_6 false) _ _ _ c.in_ok-text.ensures
+pub returns-clause-gives : goal.returns-clause-gives
+returns-clause-gives c = accepts-through (λ (text : List ℕ). Some text) (SpellsContents context_6 false) (IsContentsFault context_6 false) _ _ _ c.in_ok-text.ensures

@@ -1,6 +1,8 @@
-use Rattle.std.proofs.Common.{Some}
-use Rattle.rpki_der.proofs.TriedLaws.{tried-match}
+use Rattle.std.proofs.Common.{Some, true}
+use Rattle.rpki_cert.specs.ExtensionContent.{SpellsConstraints, IsWholeConstraintsFault}
+use Rattle.rpki_cert.specs.declared.rule.CertRule.TheVariants.{BasicConstraints}
+use Rattle.rpki_cert.proofs.ProfileLaws.{found-wrong}
 use Rattle.rpki_cert.proofs.checks.inspect_constraints.Goals as goal
 
-pub returns-in_err-said : goal.returns-in_err-said
-returns-in_err-said c = tried-match _ _ _ _ c.from_residual.ensures (λ k. c.in_err-said.ensures (Some tt) k)
+pub returns-in-Err : goal.returns-in-Err
+returns-in-Err c = found-wrong true SpellsConstraints IsWholeConstraintsFault BasicConstraints c.args.found _ c.in-Err.e c.in-Err.ensures (λ k. (Some tt, k))

@@ -1,6 +1,8 @@
-use Rattle.std.proofs.Common.{Some}
-use Rattle.rpki_der.proofs.TriedLaws.{tried-match}
+use Rattle.std.proofs.Common.{Some, true}
+use Rattle.rpki_cert.specs.ExtensionContent.{SpellsPolicies, IsWholePoliciesFault}
+use Rattle.rpki_cert.specs.declared.rule.CertRule.TheVariants.{CertificatePolicies}
+use Rattle.rpki_cert.proofs.ProfileLaws.{found-wrong}
 use Rattle.rpki_cert.proofs.checks.inspect_policy.Goals as goal
 
-pub returns-in_err-said : goal.returns-in_err-said
-returns-in_err-said c = tried-match _ _ _ _ c.from_residual.ensures (λ k. c.in_err-said.ensures (Some k.0) k.1)
+pub returns-in-Err : goal.returns-in-Err
+returns-in-Err c = found-wrong true SpellsPolicies IsWholePoliciesFault CertificatePolicies c.args.found _ c.in-Err.e c.in-Err.ensures (λ k. (Some k.0, k.1))

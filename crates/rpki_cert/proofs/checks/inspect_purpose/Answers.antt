@@ -1,15 +1,15 @@
-use Rattle.std.proofs.Common.{Bool, Option, Some, true, false, subst, sym}
-use Rattle.rpki_cert.specs.Known.{Says}
+use Rattle.std.proofs.Common.{Some, true, false, sym}
 use Rattle.rpki_cert.specs.ExtensionContent.{SpellsPurposes}
+use Rattle.rpki_cert.specs.declared.rule.CertRule.TheVariants.{RouterPurpose}
+use Rattle.rpki_der.specs.Reading.{AnyFault}
 use Rattle.rpki_cert.proofs.SomeLaws.{not-true}
-use Rattle.rpki_der.proofs.TriedLaws.{tried-match}
+use Rattle.rpki_cert.proofs.ProfileLaws.{found-other, found-wrong}
 use Rattle.rpki_cert.proofs.checks.inspect_purpose.Goals as goal
 
-pub returns-then-is_router : goal.returns-then-is_router
-returns-then-is_router c = subst (λ (o : Option Bool). Says false SpellsPurposes c.args.found o) (c.is_router.ensures.0 c.if-is_router.true) c.in_ok-router.ensures.0
+pub returns-else-is_router : goal.returns-else-is_router
+returns-else-is_router c =
+    found-other false SpellsPurposes AnyFault RouterPurpose c.args.found _ c.in-Ok.purpose c.rejected.result c.in-Ok.ensures
+    (λ k. (Some true, k, λ same. not-true c.is_router.result c.if-is_router.false (c.is_router.ensures.1 (sym same)))) c.rejected.ensures
 
-pub returns : goal.returns
-returns c = λ h. not-true c.is_router.result c.if-is_router.false (c.is_router.ensures.1 (sym (c.in_ok-router.ensures.1 (Some true) h)))
-
-pub returns-in_err-router : goal.returns-in_err-router
-returns-in_err-router c = tried-match _ _ _ _ c.from_residual.ensures (λ h. c.in_err-router.ensures (Some true) h)
+pub returns-in-Err : goal.returns-in-Err
+returns-in-Err c = found-wrong false SpellsPurposes AnyFault RouterPurpose c.args.found _ c.in-Err.e c.in-Err.ensures (λ k. (Some true, k))

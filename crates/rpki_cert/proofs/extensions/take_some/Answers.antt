@@ -6,7 +6,7 @@ use Rattle.rpki_der.proofs.FirstFaultLaws.{tried-parts}
 use Rattle.rpki_cert.specs.Cert.{AreExtensions}
 use Rattle.rpki_cert.specs.CertFault.{AreExtensionsFault}
 use Rattle.rpki_cert.specs.CertFault.AreExtensionsFault.{NoExtension, NotExtensions, Repeated}
-use Rattle.rpki_cert.proofs.ExtensionListLaws.{none-there, are-extensions, repeated, no-room}
+use Rattle.rpki_cert.proofs.ExtensionListLaws.{none-there, repeated, no-room}
 use Rattle.rpki_cert.proofs.SomeLaws.{not-true}
 use Rattle.rpki_cert.proofs.extensions.take_some.Goals as goal
 

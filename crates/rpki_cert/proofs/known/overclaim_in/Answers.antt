@@ -1,24 +1,13 @@
 use Rattle.std.proofs.Common.{true}
 use Rattle.rpki_cert.proofs.PolicyLaws.{policies-no-memory}
 use Rattle.rpki_cert.specs.ExtensionContent.{SpellsPolicies, IsPoliciesFault}
-use Rattle.rpki_der.proofs.TriedLaws.{tried-match}
-use Rattle.rpki_cert.proofs.KnownLaws.{only-none, only-value, not-read, other-critical}
+use Rattle.rpki_cert.proofs.KnownLaws.{only-value, read-wrong}
 use Rattle.rpki_cert.proofs.known.overclaim_in.Goals as goal
-
-pub returns-in_err-extension : goal.returns-in_err-extension
-returns-in_err-extension c = tried-match _ _ _ _ c.from_residual.ensures (other-critical true SpellsPolicies c.args.found c.in_err-extension.ensures.err)
 
 pub returns-in-Ok : goal.returns-in-Ok
 returns-in-Ok c =
-    let some = rw c.in-Some.is at c.in_ok-extension.ensures.some in
-    only-value true SpellsPolicies c.args.found c.in-Some.extension c.in-Ok.found some (rw (c.from_slice.ensures, c.octets.ensures) at c.in-Ok.ensures)
+    only-value true SpellsPolicies c.args.found c.in-Ok-Some.extension c.in-Ok.found (rw c.in-Ok-Some.field-0-is at c.in-Ok-Some.ensures.some) (rw (c.from_slice.ensures, c.octets.ensures) at c.in-Ok.ensures)
 
-pub returns-in-Err : goal.returns-in-Err
-returns-in-Err c =
-    let some = rw c.in-Some.is at c.in_ok-extension.ensures.some in
-    not-read true SpellsPolicies c.args.found IsPoliciesFault c.in-Some.extension c.in-Err.e some (λ h. policies-no-memory c.in-Some.extension.content h) (rw (c.from_slice.ensures, c.octets.ensures) at c.in-Err.ensures)
-
-pub returns-in-None : goal.returns-in-None
-returns-in-None c =
-    let none = rw c.in-None.is at c.in_ok-extension.ensures.none in
-    only-none true SpellsPolicies c.args.found none
+pub returns-in-Err-overclaim_of : goal.returns-in-Err-overclaim_of
+returns-in-Err-overclaim_of c =
+    read-wrong true SpellsPolicies c.args.found IsPoliciesFault c.in-Ok-Some.extension c.in-Err-overclaim_of.e (rw c.in-Ok-Some.field-0-is at c.in-Ok-Some.ensures.some) (λ h. policies-no-memory c.in-Ok-Some.extension.content h) (rw (c.from_slice.ensures, c.octets.ensures) at c.in-Err-overclaim_of.ensures)

@@ -1,23 +1,12 @@
 use Rattle.std.proofs.Common.{false}
-use Rattle.rpki_der.proofs.TriedLaws.{tried-match}
 use Rattle.rpki_cert.specs.ExtensionContent.{SpellsPurposes}
-use Rattle.rpki_cert.proofs.KnownLaws.{only-none, only-value, no-value, other-critical}
+use Rattle.rpki_cert.proofs.KnownLaws.{only-value, given-wrong}
 use Rattle.rpki_cert.proofs.known.purposes_in.Goals as goal
-
-pub returns-in_err-extension : goal.returns-in_err-extension
-returns-in_err-extension c = tried-match _ _ _ _ c.from_residual.ensures (other-critical false SpellsPurposes c.args.found c.in_err-extension.ensures.err)
 
 pub returns-in-Ok : goal.returns-in-Ok
 returns-in-Ok c =
-    let some = rw c.in-Some.is at c.in_ok-extension.ensures.some in
-    only-value false SpellsPurposes c.args.found c.in-Some.extension c.in-Ok.found some (rw (c.from_slice.ensures, c.octets.ensures) at c.in-Ok.ensures)
+    only-value false SpellsPurposes c.args.found c.in-Ok-Some.extension c.in-Ok.found (rw c.in-Ok-Some.field-0-is at c.in-Ok-Some.ensures.some) (rw (c.from_slice.ensures, c.octets.ensures) at c.in-Ok.ensures.gives)
 
-pub returns-in-Err : goal.returns-in-Err
-returns-in-Err c =
-    let some = rw c.in-Some.is at c.in_ok-extension.ensures.some in
-    no-value false SpellsPurposes c.args.found c.in-Some.extension some (rw (c.from_slice.ensures, c.octets.ensures) at c.in-Err.ensures)
-
-pub returns-in-None : goal.returns-in-None
-returns-in-None c =
-    let none = rw c.in-None.is at c.in_ok-extension.ensures.none in
-    only-none false SpellsPurposes c.args.found none
+pub returns-in-Err-read_purposes : goal.returns-in-Err-read_purposes
+returns-in-Err-read_purposes c =
+    given-wrong false SpellsPurposes c.args.found c.in-Ok-Some.extension c.in-Err-read_purposes.e (rw c.in-Ok-Some.field-0-is at c.in-Ok-Some.ensures.some) (rw (c.from_slice.ensures, c.octets.ensures) at c.in-Err-read_purposes.ensures.gives) c.in-Err-read_purposes.ensures.kind

@@ -5,13 +5,13 @@ use Rattle.rpki_cert.proofs.ListedLaws.{only-all, only-more, only-none}
 use Rattle.rpki_cert.proofs.TriedLaws.{tried-all}
 use Rattle.rpki_cert.proofs.part.inside.Goals as goal
 
-pub returns-in_err-contents : goal.returns-in_err-contents
-returns-in_err-contents c =
+pub returns-in_err-contents-clause-gives : goal.returns-in_err-contents-clause-gives
+returns-in_err-contents-clause-gives c =
     tried-all left (SpellsContents c.args.tag true) _ _ _ c.from_residual.ensures (only-none c.args.tag _ _ c.in_err-contents.field-0.0 c.in_err-contents.ensures)
 
-pub returns-in_err-finish : goal.returns-in_err-finish
-returns-in_err-finish c =
+pub returns-in_err-finish-clause-gives : goal.returns-in_err-finish-clause-gives
+returns-in_err-finish-clause-gives c =
     tried-all left (SpellsContents c.args.tag true) _ _ _ c.from_residual-in_err-finish.ensures (only-more c.args.tag _ _ _ c.in_ok-contents.ensures c.in_err-finish.ensures.1)
 
-pub returns : goal.returns
-returns c = only-all c.args.tag _ _ _ c.in_ok-contents.ensures c.in_ok-finish.ensures
+pub returns-clause-gives : goal.returns-clause-gives
+returns-clause-gives c = only-all c.args.tag _ _ _ c.in_ok-contents.ensures c.in_ok-finish.ensures

@@ -6,7 +6,7 @@ use Rattle.rpki_cert.proofs.uris.rsync_at.Goals as goal
 
 pub returns-in_err-extension : goal.returns-in_err-extension
 returns-in_err-extension c =
-    tried-unless _ _ _ _ c.from_residual.ensures (other-critical false (SpellsRsyncAccess c.args.method.0.now) (find c.args.id.0.now c.args.all.now) c.in_err-extension.ensures.err)
+    tried-unless _ _ _ _ c.from_residual.ensures (other-critical false (SpellsRsyncAccess c.args.method.0.now) (find c.args.id.0.now c.args.all.now) (let h = c.in_err-extension.ensures.err in (h.1, h.2, h.3)))
 
 pub returns-in-Ok : goal.returns-in-Ok
 returns-in-Ok c =

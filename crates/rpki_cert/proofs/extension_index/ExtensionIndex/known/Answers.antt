@@ -10,25 +10,25 @@ returns-in-Ok-overclaim_in-clause-ok c = λ xs k. record {
 }
 
 pub returns-in-Err-clause-err : goal.returns-in-Err-clause-err
-returns-in-Err-clause-err c = λ xs k. rw (c.find_listed.ensures xs k) at c.in-Err.ensures
+returns-in-Err-clause-err c = λ xs k. (rw (c.find_listed.ensures xs k) at c.in-Err.ensures).0
 
 pub returns-in-Err-subject_in-clause-err : goal.returns-in-Err-subject_in-clause-err
 returns-in-Err-subject_in-clause-err c = λ xs k.
     let h0 = rw (c.find_listed.ensures xs k) at c.in-Ok.ensures in
-    (λ none. none _ h0.0, rw (c.find_listed-2.ensures xs k) at c.in-Err-subject_in.ensures)
+    (λ none. none _ h0.0, (rw (c.find_listed-2.ensures xs k) at c.in-Err-subject_in.ensures).0)
 
 pub returns-in-Err-authority_in-clause-err : goal.returns-in-Err-authority_in-clause-err
 returns-in-Err-authority_in-clause-err c = λ xs k.
     let h0 = rw (c.find_listed.ensures xs k) at c.in-Ok.ensures in
     let h1 = rw (c.find_listed-2.ensures xs k) at c.in-Ok-subject_in.ensures in
-    (λ none. none _ h0.0, λ none. none _ h1.0, rw (c.find_listed-3.ensures xs k) at c.in-Err-authority_in.ensures)
+    (λ none. none _ h0.0, λ none. none _ h1.0, (rw (c.find_listed-3.ensures xs k) at c.in-Err-authority_in.ensures).0)
 
 pub returns-in-Err-usage_in-clause-err : goal.returns-in-Err-usage_in-clause-err
 returns-in-Err-usage_in-clause-err c = λ xs k.
     let h0 = rw (c.find_listed.ensures xs k) at c.in-Ok.ensures in
     let h1 = rw (c.find_listed-2.ensures xs k) at c.in-Ok-subject_in.ensures in
     let h2 = rw (c.find_listed-3.ensures xs k) at c.in-Ok-authority_in.ensures in
-    (λ none. none _ h0.0, λ none. none _ h1.0, λ none. none _ h2.0, rw (c.find_listed-4.ensures xs k) at c.in-Err-usage_in.ensures)
+    (λ none. none _ h0.0, λ none. none _ h1.0, λ none. none _ h2.0, (rw (c.find_listed-4.ensures xs k) at c.in-Err-usage_in.ensures).0)
 
 pub returns-in-Err-overclaim_in-clause-err : goal.returns-in-Err-overclaim_in-clause-err
 returns-in-Err-overclaim_in-clause-err c = λ xs k.
@@ -36,4 +36,4 @@ returns-in-Err-overclaim_in-clause-err c = λ xs k.
     let h1 = rw (c.find_listed-2.ensures xs k) at c.in-Ok-subject_in.ensures in
     let h2 = rw (c.find_listed-3.ensures xs k) at c.in-Ok-authority_in.ensures in
     let h3 = rw (c.find_listed-4.ensures xs k) at c.in-Ok-usage_in.ensures in
-    (λ none. none _ h0.0, λ none. none _ h1.0, λ none. none _ h2.0, λ none. none _ h3.0, rw (c.find_listed-5.ensures xs k) at c.in-Err-overclaim_in.ensures)
+    (λ none. none _ h0.0, λ none. none _ h1.0, λ none. none _ h2.0, λ none. none _ h3.0, (rw (c.find_listed-5.ensures xs k) at c.in-Err-overclaim_in.ensures).0)

@@ -81,3 +81,15 @@ returns-in-RouterNumbers c = λ t h. obeys-at c.args.strict t _ _ _ c.in-RouterN
 
 pub returns-in-ObjectAccess : goal.returns-in-ObjectAccess
 returns-in-ObjectAccess c = λ t h. obeys-at c.args.strict t _ _ _ c.in-ObjectAccess.is (rw (c.find-in-ObjectAccess.ensures t.extensions h.extensions) at c.inspect_methods.ensures)
+
+pub returns-in-Validity : goal.returns-in-Validity
+returns-in-Validity c = λ t h. obeys-at c.args.strict t _ _ _ c.in-Validity.is (rw h.validity at c.inspect_validity.ensures)
+
+pub returns-in-OwnAuthority : goal.returns-in-OwnAuthority
+returns-in-OwnAuthority c = λ t h. obeys-at c.args.strict t _ _ _ c.in-OwnAuthority.is (rw (c.find-in-OwnAuthority.ensures t.extensions h.extensions, c.find-in-OwnAuthority-2.ensures t.extensions h.extensions) at c.inspect_own_authority.ensures)
+
+pub returns-in-SelfIssued : goal.returns-in-SelfIssued
+returns-in-SelfIssued c = λ t h. obeys-at c.args.strict t _ _ _ c.in-SelfIssued.is (rw (h.issuer, h.subject) at c.inspect_same.ensures)
+
+pub returns-in-ResourceVersion : goal.returns-in-ResourceVersion
+returns-in-ResourceVersion c = λ t h. obeys-at c.args.strict t _ _ _ c.in-ResourceVersion.is (c.inspect_version.ensures t.extensions h.extensions)

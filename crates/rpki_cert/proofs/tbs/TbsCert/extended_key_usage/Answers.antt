@@ -9,7 +9,7 @@ pub returns-in_err-extension : goal.returns-in_err-extension
 returns-in_err-extension c =
     let xs = c.args.self.now.extensions in
     let h = rw c.extensions.ensures at c.in_err-extension.ensures.err in
-    tried-unless _ _ _ _ c.from_residual.ensures (other-critical false SpellsPurposes (find extended_key_usage xs) h)
+    tried-unless _ _ _ _ c.from_residual.ensures (other-critical false SpellsPurposes (find extended_key_usage xs) (h.1, h.2, h.3))
 
 pub returns-in-Ok : goal.returns-in-Ok
 returns-in-Ok c =

@@ -1,16 +1,17 @@
-use Rattle.std.proofs.Common.{ℕ, List, Option, Some, false, refl, subst, sym}
-use Rattle.rpki_der.proofs.TriedLaws.{refused-iff}
-use Rattle.rpki_cert.specs.Known.{authority_key_identifier, HasExtension}
-use Rattle.rpki_cert.specs.ExtensionContent.{SpellsAuthority}
+use Rattle.std.proofs.Common.{Some, false, sym, codes}
+use Rattle.rpki_cert.specs.ExtensionContent.{SpellsAuthority, IsWholeAuthorityFault}
+use Rattle.rpki_cert.specs.Cert.{find}
+use Rattle.rpki_cert.specs.Known.{authority_key_identifier}
+use Rattle.rpki_cert.specs.Valid.{HasReason}
 use Rattle.rpki_cert.proofs.SomeLaws.{not-true}
+use Rattle.rpki_cert.proofs.ProfileLaws.{says-other, says-wrong}
 use Rattle.rpki_cert.proofs.tbs.TbsCert.verify_authority.Goals as goal
 
-pub returns-then-is_there : goal.returns-then-is_there
-returns-then-is_there c =
-    (λ ok. subst (λ (o : Option (List ℕ)). HasExtension authority_key_identifier false SpellsAuthority c.args.self.now.extensions o) (c.is_there.ensures.0 c.if-is_there.true) c.in-Ok.ensures.0, λ h. refl)
-
-pub returns-else-is_there : goal.returns-else-is_there
-returns-else-is_there c = refused-iff (HasExtension authority_key_identifier false SpellsAuthority c.args.self.now.extensions (Some c.args.wanted)) (λ h. not-true c.is_there.result c.if-is_there.false (c.is_there.ensures.1 (sym (c.in-Ok.ensures.1 (Some c.args.wanted) h))))
+pub returns-else-is_identifier : goal.returns-else-is_identifier
+returns-else-is_identifier c =
+    says-other false SpellsAuthority IsWholeAuthorityFault (HasReason (codes "authority key identifier mismatch")) (find authority_key_identifier c.args.self.now.extensions) _ c.in-Ok.found c.unverified.result c.in-Ok.ensures
+    (λ k. (Some c.args.wanted, k, λ same. not-true c.is_identifier.result c.if-is_identifier.false (c.is_identifier.ensures.1 (sym same)))) c.unverified.ensures
 
 pub returns-in-Err : goal.returns-in-Err
-returns-in-Err c = refused-iff (HasExtension authority_key_identifier false SpellsAuthority c.args.self.now.extensions (Some c.args.wanted)) (λ h. c.in-Err.ensures (Some c.args.wanted) h)
+returns-in-Err c =
+    says-wrong false SpellsAuthority IsWholeAuthorityFault (HasReason (codes "authority key identifier mismatch")) (find authority_key_identifier c.args.self.now.extensions) _ c.in-Err.e c.in-Err.ensures (λ k. (Some c.args.wanted, k))

@@ -1,4 +1,4 @@
-use Rattle.std.proofs.Common.{◌∙◌, ap, subst, sym}
+use Rattle.std.proofs.Common.{◌∙◌, subst, sym}
 use Rattle.rpki.specs.Name.{IsName}
 use Rattle.rpki_der.specs.Each.{SpellsEach}
 use Rattle.rpki.specs.ExtensionValue.{SpellsExtension}
@@ -22,6 +22,7 @@ returns c = λ s x h.
       serial = h.tbs.serial;
       issuer = c.new.ensures ∙ n.issuer.octets;
       subject = c.new-2.ensures ∙ n.subject.octets;
-      key = c.algorithm.ensures ∙ ap (λ k. k.format) n.keyed.same;
+      validity = n.validity;
+      key = c.read_key.ensures ∙ n.keyed.same;
       extensions = subst (SpellsEach SpellsExtension x.tbs.extensions) (sym (c.of.ensures ∙ n.keyed.list_at.octets)) f.two.two.two.two.spelled.spelled.some.each;
     }

@@ -1,7 +1,5 @@
-use Rattle.std.proofs.Common.{◌∙◌, refl, sym, subst}
+use Rattle.std.proofs.Common.{refl}
 use Rattle.std.proofs.lemmas.Bool.{iff_false}
-use Rattle.rpki_der.specs.TagName.{sequence}
-use Rattle.rpki_der.specs.Values.{SpellsContents}
 use Rattle.rpki_cert.specs.View.IsCertWrong.{NoCert, InParts}
 use Rattle.rpki_cert.specs.View.FirstWrong.{AtPart}
 use Rattle.rpki_cert.proofs.WrongLaws.{cert-wrong}
