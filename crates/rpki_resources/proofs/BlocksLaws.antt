@@ -1,7 +1,7 @@
 -- Sets of numbers, as lists of blocks.
 use Rattle.std.proofs.Common.{◌≡◌, ◌≤◌, ◌<◌, ◌⊎◌, ◌↔◌, ℕ, zero, suc, List, [], ◌∷◌, inl, inr, refl, sym, ap, ◌∙◌, subst, length, arith}
 use Rattle.rpki_resources.specs.declared.block.Block.{Block}
-use Rattle.rpki_resources.specs.Blocks.{IsIn, IsAmong, IsSubset, IsPast, AreCanonical}
+use Rattle.rpki_resources.specs.Blocks.{IsAmong, IsSubset, IsPast, AreCanonical}
 
 -- numbers of blocks that begin past a number are past it
 pub among-past : (h n : ℕ) (bs : List Block) → IsPast h bs → AreCanonical bs → IsAmong n bs → suc h < n
@@ -148,36 +148,6 @@ found-none p w xs ys bs b ex ey same cx f =
 
 pub all-found : (p w xs ys : List Block) → xs ≡ [] → IsSubset p w ↔ IsSubset xs ys → IsSubset p w
 all-found p w xs ys ex same = same.1 (subst (λ (zs : List Block). IsSubset zs ys) (sym ex) (none-inner ys))
-
--- ---- numbers among blocks
-
-pub here : (n : ℕ) (xs ys bs : List Block) (b : Block) → ys ≡ b ∷ bs → IsAmong n xs ↔ IsAmong n ys → IsIn n b → IsAmong n xs
-here n xs ys bs b e same is = same.1 (subst (λ (zs : List Block). IsAmong n zs) (sym e) (inl is))
-
-pub not-here : (n : ℕ) (xs ys bs : List Block) (b : Block) → ys ≡ b ∷ bs → IsAmong n xs ↔ IsAmong n ys → (IsIn n b → ⊥)
-    → IsAmong n xs ↔ IsAmong n bs
-not-here n xs ys bs b e same not =
-    let first : IsAmong n xs ↔ IsAmong n (b ∷ bs) = subst (λ (zs : List Block). IsAmong n xs ↔ IsAmong n zs) e same in
-    through first (λ a. elim a [ inl i ↦ absurd (not i) | inr r ↦ r ], λ r. inr r)
-
-pub nowhere : (n : ℕ) (xs ys : List Block) → ys ≡ [] → IsAmong n xs ↔ IsAmong n ys → IsAmong n xs → ⊥
-nowhere n xs ys e same a = subst (λ (zs : List Block). IsAmong n zs) e (same.0 a)
-
--- ---- canonical form, block by block
-
-pub next-canonical : (xs ys bs : List Block) (b : Block) → ys ≡ b ∷ bs → AreCanonical xs ↔ AreCanonical ys → b.low ≤ b.high → IsPast b.high bs
-    → AreCanonical xs ↔ AreCanonical bs
-next-canonical xs ys bs b e same some past =
-    let first : AreCanonical xs ↔ AreCanonical (b ∷ bs) = subst (λ (zs : List Block). AreCanonical xs ↔ AreCanonical zs) e same in
-    through first (λ c. c.2, λ c. (some, past, c))
-
-pub not-canonical : (xs ys bs : List Block) (b : Block) → ys ≡ b ∷ bs → AreCanonical xs ↔ AreCanonical ys
-    → (b.low ≤ b.high → IsPast b.high bs → ⊥) → AreCanonical xs → ⊥
-not-canonical xs ys bs b e same wrong c =
-    let d : AreCanonical (b ∷ bs) = subst AreCanonical e (same.0 c) in wrong d.0 d.1
-
-pub all-canonical : (xs ys : List Block) → ys ≡ [] → AreCanonical xs ↔ AreCanonical ys → AreCanonical xs
-all-canonical xs ys e same = same.1 (subst AreCanonical (sym e) tt)
 
 -- ---- a number is below another, or not
 

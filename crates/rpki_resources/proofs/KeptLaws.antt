@@ -1,5 +1,5 @@
 -- Blocks that are kept as they are given.
-use Rattle.std.proofs.Common.{◌≡◌, ℕ, List, [], ◌∷◌, ◌++◌, Option, Some, None, refl, sym, ap, ◌∙◌, subst, append_assoc}
+use Rattle.std.proofs.Common.{◌≡◌, ℕ, List, [], ◌∷◌, ◌++◌, Option, Some, None, sym, ap, ◌∙◌, subst, append_assoc}
 use Rattle.std.proofs.lemmas.List.{append-nil}
 use Rattle.rpki_der.specs.declared.error.DecodeError.{DecodeError}
 use Rattle.rpki_der.specs.declared.error.DecodeError.TheVariants.{OutOfMemory}
@@ -7,14 +7,12 @@ use Rattle.rpki_der.specs.Reading.{Refusal, Finds, OrMemoryWhere}
 use Rattle.rpki_der.proofs.ReadingLaws.{UnlessMemory-weaker, or-memory-where}
 use Rattle.rpki_resources.specs.declared.block.Block.{Block}
 use Rattle.rpki_resources.specs.declared.choice.ResourcesChoice.{ResourcesChoice}
-use Rattle.rpki_resources.specs.declared.choice.ResourcesChoice.TheVariants.{Missing as NoneKept, Inherit as InheritKept, Blocks as BlocksKept}
 use Rattle.rpki_resources.specs.declared.choice_view.ChoiceView.{ChoiceView}
-use Rattle.rpki_resources.specs.declared.choice_view.ChoiceView.TheVariants.{Missing, Inherit, Blocks}
 use Rattle.rpki_resources.specs.declared.resources.IpResources.{IpResources}
 use Rattle.rpki_resources.specs.declared.resources.AsResources.{AsResources}
 use Rattle.rpki_resources.specs.declared.ip_view.IpResourcesView.{IpResourcesView}
 use Rattle.rpki_resources.specs.Composing.{SpellsFor}
-use Rattle.rpki_resources.specs.Kept.{IsChoiceOf, IsOnlyChoiceOf, AreIpResourcesOf, AreAsResourcesOf}
+use Rattle.rpki_resources.specs.Kept.{IsOnlyChoiceOf, AreIpResourcesOf, AreAsResourcesOf}
 use Rattle.rpki_resources.proofs.ComposingLaws.{value-of}
 use Rattle.rpki_resources.specs.Blocks.{AreCanonical}
 use Rattle.rpki_resources.specs.InPlace.{Octets, Holds, HoldsOnly, Rest, IsLeft, Gives}
@@ -47,27 +45,6 @@ pub kept-canonical : (x : Octets) (xs : List Block) → HoldsOnly x xs → AreCa
 kept-canonical x xs h = h.0.blocks.canonical
 
 -- ---- choices
-
-pub missing-only : IsOnlyChoiceOf NoneKept Missing
-missing-only = (tt, only) where
-  only : (w : ResourcesChoice) → IsChoiceOf w Missing → w ≡ NoneKept
-  only NoneKept h = refl
-  only InheritKept h = absurd h
-  only (BlocksKept bs) h = absurd h
-
-pub inherit-only : IsOnlyChoiceOf InheritKept Inherit
-inherit-only = (tt, only) where
-  only : (w : ResourcesChoice) → IsChoiceOf w Inherit → w ≡ InheritKept
-  only NoneKept h = absurd h
-  only InheritKept h = refl
-  only (BlocksKept bs) h = absurd h
-
-pub blocks-only : (x : Octets) (bs : List Block) → HoldsOnly x bs → IsOnlyChoiceOf (BlocksKept bs) (Blocks x)
-blocks-only x bs k = (k.0, only) where
-  only : (w : ResourcesChoice) → IsChoiceOf w (Blocks x) → w ≡ BlocksKept bs
-  only NoneKept h = absurd h
-  only InheritKept h = absurd h
-  only (BlocksKept ds) h = ap (λ (ys : List Block). BlocksKept ys) (k.1 ds h)
 
 abbrev pub ip_of : ResourcesChoice → ResourcesChoice → IpResources
 ip_of v4 v6 = record { v4 = v4; v6 = v6 }

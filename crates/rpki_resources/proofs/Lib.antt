@@ -1,6 +1,12 @@
 -- Which lemma file answers which question.
 --
--- Sets of blocks: BlocksLaws. Prefixes: PrefixLaws.
+-- Subsets, and that a set has one list: BlocksLaws, EqualBlocksLaws. What two sets make: MergeLaws, UnionLaws,
+-- DifferenceLaws.
+-- Bits, prefixes and ranges of addresses; AS numbers: OctetsLaws, AddressLaws, PrefixLaws, RangeLaws, AsNumberLaws.
+-- How readings are put together; a choice by its tag, two ends: ComposingLaws.
+-- Blocks one behind another, counted, given by a cursor and kept: FollowLaws, ViewLaws, KeptLaws.
+-- Choices and families; that reading them takes no memory: ExtensionLaws, FamilyLaws, NoMemoryLaws.
+-- Down a chain: SettledLaws.
 pub mod BlocksLaws
 pub mod PrefixLaws
 pub mod OctetsLaws

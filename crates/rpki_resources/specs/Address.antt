@@ -22,7 +22,7 @@ abbrev pub family_octets : AddressFamily → List ℕ
 family_octets Ipv4 = 0 ∷ 1 ∷ []
 family_octets Ipv6 = 0 ∷ 2 ∷ []
 
--- the bits of a bit string: as many as `size`, which make the number; so it is small (a consequence, for those who use it)
+-- the bits of a bit string: as many as `size`, which make the number; so it is small (a consequence, for its users)
 pub record HasBits (x : Address) (b : Bits) : Type 0 where
   pub size : 8 * length b.octets ≡ x.size + b.unused
   pub number : number_of b.octets ≡ x.number * 2 ^ b.unused

@@ -24,4 +24,5 @@ pub record MayGrow (before b : Block) : Type 0 where
 pub record IsGrown (before b : Block) (closed : Option Block) (last : Block) : Type 0 where
   pub numbers : (n : ℕ) → (IsAmong n (blocks_of closed) ⊎ IsIn n last) ↔ (IsIn n before ⊎ IsIn n b)
   pub low : last.low ≤ b.low
-  pub canonical : (js : List Block) → AreCanonical (js ++ (before ∷ [])) → AreCanonical ((js ++ blocks_of closed) ++ (last ∷ []))
+  pub canonical : (js : List Block) → AreCanonical (js ++ (before ∷ []))
+      → AreCanonical ((js ++ blocks_of closed) ++ (last ∷ []))

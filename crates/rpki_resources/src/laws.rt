@@ -15,7 +15,8 @@ pub fn canonical_lists_are_sets()
 /// Down a chain nobody has more than an issuer above: what a chain settles, from any certificate in it on, is within
 /// what that certificate has.
 pub fn chains_settle_within()
-    ensures { (top bottom : List Block) (choices : List ResourcesChoice) → SettlesDown top choices bottom → IsSubset bottom top }
+    ensures { (top bottom : List Block) (choices : List ResourcesChoice) → SettlesDown top choices bottom
+        → IsSubset bottom top }
 {}
 
 /// A chain is settled link by link: what the upper part of it settles is what the lower part begins with.

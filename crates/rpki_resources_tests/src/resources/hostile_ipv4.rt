@@ -1,5 +1,5 @@
-//! Contents that are rejected: blocks of IP version 4. The errors are by the rules of RFC 3779 2.2.3 and 3.2.3 and of
-//! RFC 6487 4.8.10 and 4.8.11, and name the leftmost part that breaks one.
+//! Contents that are rejected: blocks of IP version 4. The errors are by the rules of RFC 3779 2.2.3 and
+//! 3.2.3 and of RFC 6487 4.8.10 and 4.8.11, and name the leftmost part that breaks one.
 
 use super::*;
 
