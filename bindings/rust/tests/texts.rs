@@ -50,8 +50,8 @@ fn rules_of_certificates() {
         (CertRule::Issuer, "issuer has no name of the RPKI"),
         (CertRule::Subject, "subject has no name of the RPKI"),
         (CertRule::RouterSubject, "subject has no name of a router"),
-        (CertRule::RsaKey, "key is no RSA key"),
-        (CertRule::RouterKey, "key is no P-256 key"),
+        (CertRule::RsaKey, "key is no RSA key of 2048 bits and the exponent 65537"),
+        (CertRule::RouterKey, "key is no uncompressed point on P-256"),
         (CertRule::BasicConstraints, "missing basic constraints"),
         (CertRule::NoBasicConstraints, "basic constraints are there"),
         (CertRule::SubjectKeyIdentifier, "missing subject key identifier"),
@@ -72,6 +72,10 @@ fn rules_of_certificates() {
         (CertRule::Resources, "missing resources, or ones that are not critical"),
         (CertRule::RouterNumbers, "missing AS numbers, or addresses are there"),
         (CertRule::ObjectAccess, "other access method of an end entity"),
+        (CertRule::Validity, "period ends before it begins"),
+        (CertRule::OwnAuthority, "authority key identifier of a trust anchor is not its own"),
+        (CertRule::SelfIssued, "issuer of a trust anchor is not its subject"),
+        (CertRule::ResourceVersion, "policy and resources of two versions"),
     ];
     for (rule, text) in rules {
         assert_eq!(rule.to_string(), text);

@@ -19,9 +19,9 @@ pub enum CertRule {
     Subject,
     /// The subject has no name of a router (RFC 8209 3.1.1).
     RouterSubject,
-    /// The subject's key is no RSA key (RFC 7935 3).
+    /// The subject's key is no RSA key of 2,048 bits and the exponent 65,537 (RFC 7935 3).
     RsaKey,
-    /// The subject's key is no P-256 key (RFC 8608 3.1).
+    /// The subject's key is no uncompressed point on P-256 (RFC 8608 3.1).
     RouterKey,
     /// The basic constraints are missing or others (RFC 6487 4.8.1).
     BasicConstraints,
@@ -121,8 +121,8 @@ impl fmt::Display for CertRule {
             CertRule::Issuer => "issuer has no name of the RPKI",
             CertRule::Subject => "subject has no name of the RPKI",
             CertRule::RouterSubject => "subject has no name of a router",
-            CertRule::RsaKey => "key is no RSA key",
-            CertRule::RouterKey => "key is no P-256 key",
+            CertRule::RsaKey => "key is no RSA key of 2048 bits and the exponent 65537",
+            CertRule::RouterKey => "key is no uncompressed point on P-256",
             CertRule::BasicConstraints => "missing basic constraints",
             CertRule::NoBasicConstraints => "basic constraints are there",
             CertRule::SubjectKeyIdentifier => "missing subject key identifier",
