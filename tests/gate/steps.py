@@ -80,7 +80,7 @@ class Steps:
                 beside = sum(step.gives_way for step in running.values())
                 for step in ready:
                     if step.gives_way and beside >= self.lanes:
-                        break
+                        continue
                     left.remove(step)
                     running[pool.submit(self.run_one, step)] = step
                     beside += step.gives_way
