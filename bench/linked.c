@@ -3,7 +3,8 @@
  * there, beside libcrypto and mbedtls: processor time, in turn, the smallest of 31 rounds.
  *
  * usage: linked CERTIFICATE [ROOTS]
- *        linked CERTIFICATE --calls NAME COUNT    (so many of one contender's calls, and no clock: bench/instructions.py)
+ *        linked CERTIFICATE --calls NAME COUNT    (so many of one contender's calls, and no clock:
+ * bench/instructions.py)
  */
 #define _POSIX_C_SOURCE 199309L
 
@@ -461,8 +462,9 @@ static void measure_walks(struct input input, bool is_certificate) {
 
 /* What the readers read: parts of a certificate whose entries have room, and a URI of 122 octets. */
 static void find_inputs(struct input *input, struct input found[READERS]) {
-    static const char uri[] = "rsync://rpki.example.net/repository/0123456789/abcdefghijklmnopqrst/ABCDEFGHIJKLMNOPQRST/"
-                              "0123456789-_~abcdefghij/file.roa/x";
+    static const char uri[] =
+        "rsync://rpki.example.net/repository/0123456789/abcdefghijklmnopqrst/ABCDEFGHIJKLMNOPQRST/"
+        "0123456789-_~abcdefghij/file.roa/x";
     size_t numbers[PARTS];
     if (indexed(input) == 0) stop("no index");
     find_parts(input->entries, input->found, numbers);
@@ -502,10 +504,11 @@ static void make_calls(struct input input, const char *called, size_t count) {
     size_t place;
     bool are_made;
     make_room(&input);
-    are_made = calls(&input, walks, called, count) || calls(&input, indexes, called, count)
-               || calls(&input, wholes, called, count);
+    are_made = calls(&input, walks, called, count) || calls(&input, indexes, called, count) ||
+               calls(&input, wholes, called, count);
     find_inputs(&input, inputs);
-    for (place = 0; place < READERS && !are_made; place++) are_made = calls(&inputs[place], readers[place], called, count);
+    for (place = 0; place < READERS && !are_made; place++)
+        are_made = calls(&inputs[place], readers[place], called, count);
     if (!are_made) stop(called);
     free(input.entries);
 }

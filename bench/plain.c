@@ -42,9 +42,10 @@ __attribute__((noinline, cold)) static size_t slow_header(const uint8_t *at, siz
 #define PRIMITIVE 0, 0, 0, 0, 0, 0, 0, 0, 0, 0, 0, 0, 0, 0, 0, 0, 0, 0, 0, 0, 0, 0, 0, 0, 0, 0, 0, 0, 0, 0, 0, 2
 #define CONSTRUCTED 1, 1, 1, 1, 1, 1, 1, 1, 1, 1, 1, 1, 1, 1, 1, 1, 1, 1, 1, 1, 1, 1, 1, 1, 1, 1, 1, 1, 1, 1, 1, 2
 static const uint8_t kind[256] = {
-    2, 0, 0, 0, 0, 0, 0, 0, 0, 0, 0, 0, 0, 0, 0, 0, 0, 0, 0, 0, 0, 0, 0, 0, 0, 0, 0, 0, 0, 0, 0, 2,
-    2, 1, 1, 1, 1, 1, 1, 1, 1, 1, 1, 1, 1, 1, 1, 1, 1, 1, 1, 1, 1, 1, 1, 1, 1, 1, 1, 1, 1, 1, 1, 2,
-    PRIMITIVE, CONSTRUCTED, PRIMITIVE, CONSTRUCTED, PRIMITIVE, CONSTRUCTED};
+    2, 0, 0, 0, 0, 0, 0, 0, 0, 0, 0,         0,           0,         0,           0,         0,          0, 0,
+    0, 0, 0, 0, 0, 0, 0, 0, 0, 0, 0,         0,           0,         2,           2,         1,          1, 1,
+    1, 1, 1, 1, 1, 1, 1, 1, 1, 1, 1,         1,           1,         1,           1,         1,          1, 1,
+    1, 1, 1, 1, 1, 1, 1, 1, 1, 2, PRIMITIVE, CONSTRUCTED, PRIMITIVE, CONSTRUCTED, PRIMITIVE, CONSTRUCTED};
 
 /* ---- The walk, and the index ---- */
 

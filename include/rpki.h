@@ -134,20 +134,20 @@ enum {
     RPKI_TOO_OLD = 51, /* the period ended before the moment */
 
     /* Of rpki_certificate: the part that is wrong. */
-    RPKI_PART_CERTIFICATE = 64,           /* the SEQUENCE around all: it isn't there, or something follows it */
-    RPKI_PART_SIGNED = 65,                /* what is signed is no value, with everything nested in it */
-    RPKI_PART_ALGORITHM = 66,             /* the algorithm identifier behind it is not that of RSA with SHA-256 */
-    RPKI_PART_SIGNATURE = 67,             /* the signature: it is no BIT STRING, has unused bits, or something follows */
-    RPKI_PART_TBS = 68,                   /* what is signed is no SEQUENCE */
-    RPKI_PART_VERSION = 69,               /* the version is not v3 */
-    RPKI_PART_SERIAL_NUMBER = 70,         /* the serial number is no unsigned INTEGER of at most 20 octets */
-    RPKI_PART_TBS_ALGORITHM = 71,         /* the algorithm identifier in what is signed */
-    RPKI_PART_ISSUER = 72,                /* the issuer is no name */
-    RPKI_PART_VALIDITY = 73,              /* the period of validity */
-    RPKI_PART_SUBJECT = 74,               /* the subject is no name */
-    RPKI_PART_PUBLIC_KEY = 75,            /* the subject's key */
-    RPKI_PART_EXTENSIONS = 76,            /* the extensions: there are none, one is malformed, or something follows */
-    RPKI_PART_EXTENSION_COUNT = 77,       /* there are more extensions than RPKI_MOST_EXTENSIONS */
+    RPKI_PART_CERTIFICATE = 64,     /* the SEQUENCE around all: it isn't there, or something follows it */
+    RPKI_PART_SIGNED = 65,          /* what is signed is no value, with everything nested in it */
+    RPKI_PART_ALGORITHM = 66,       /* the algorithm identifier behind it is not that of RSA with SHA-256 */
+    RPKI_PART_SIGNATURE = 67,       /* the signature: it is no BIT STRING, has unused bits, or something follows */
+    RPKI_PART_TBS = 68,             /* what is signed is no SEQUENCE */
+    RPKI_PART_VERSION = 69,         /* the version is not v3 */
+    RPKI_PART_SERIAL_NUMBER = 70,   /* the serial number is no unsigned INTEGER of at most 20 octets */
+    RPKI_PART_TBS_ALGORITHM = 71,   /* the algorithm identifier in what is signed */
+    RPKI_PART_ISSUER = 72,          /* the issuer is no name */
+    RPKI_PART_VALIDITY = 73,        /* the period of validity */
+    RPKI_PART_SUBJECT = 74,         /* the subject is no name */
+    RPKI_PART_PUBLIC_KEY = 75,      /* the subject's key */
+    RPKI_PART_EXTENSIONS = 76,      /* the extensions: there are none, one is malformed, or something follows */
+    RPKI_PART_EXTENSION_COUNT = 77, /* there are more extensions than RPKI_MOST_EXTENSIONS */
     RPKI_PART_EXTENSION_IDENTIFIERS = 78, /* two extensions have the same identifier */
     RPKI_PART_SAME_ALGORITHM = 79,        /* the two algorithm identifiers differ in their parameters */
 
@@ -186,10 +186,14 @@ enum {
     RPKI_RULE_RESOURCES = 109,               /* there, each critical (RFC 6487 4.8.10, 4.8.11) */
     RPKI_RULE_ROUTER_NUMBERS = 110,          /* AS numbers, and no addresses (RFC 8209 3.1.3.4) */
     RPKI_RULE_OBJECT_ACCESS = 111,           /* no method but signedObject and rpkiNotify (RFC 6487 4.8.8.2) */
-    RPKI_RULE_VALIDITY = 112,            /* ends no earlier than it begins (RFC 5280 4.1.2.5) */
-    RPKI_RULE_OWN_AUTHORITY = 113,       /* of a trust anchor: none, or its own (RFC 6487 4.8.3) */
-    RPKI_RULE_SELF_ISSUED = 114,         /* the issuer of a trust anchor is its subject (RFC 8630 2.3) */
-    RPKI_RULE_RESOURCE_VERSION = 115,    /* policy and resources of one version (RFC 8360 4.2) */
+    RPKI_RULE_VALIDITY = 112,                /* ends no earlier than it begins (RFC 5280 4.1.2.5) */
+    RPKI_RULE_OWN_AUTHORITY = 113,           /* of a trust anchor: none, or its own (RFC 6487 4.8.3) */
+    RPKI_RULE_SELF_ISSUED = 114,             /* the issuer of a trust anchor is its subject (RFC 8630 2.3) */
+    RPKI_RULE_RESOURCE_VERSION = 115,        /* policy and resources of one version (RFC 8360 4.2) */
+    RPKI_RULE_RESOURCE_BLOCKS = 116,         /* in canonical form (RFC 3779, RFC 6487 4.8.10, 4.8.11) */
+    RPKI_RULE_OWN_RESOURCES = 117,           /* none of the issuer's (RFC 8630 2.3, RFC 8209 3.1.3.5) */
+    RPKI_RULE_MANIFEST_PLACE = 118,          /* the manifest lies below the repository (RFC 6487 4.8.8.1, RFC 9286 2) */
+    RPKI_RULE_NOTIFICATIONS = 119,           /* told by https URIs alone (RFC 8182 3.2) */
 
     /* Calls on two texts add this to the number of what is wrong with the second. */
     RPKI_SECOND = 16,
@@ -212,12 +216,7 @@ struct rpki_place {
 };
 
 /* Classes of tags (X.690 8.1.2.2). */
-enum {
-    RPKI_UNIVERSAL = 0,
-    RPKI_APPLICATION = 1,
-    RPKI_CONTEXT = 2,
-    RPKI_PRIVATE = 3
-};
+enum { RPKI_UNIVERSAL = 0, RPKI_APPLICATION = 1, RPKI_CONTEXT = 2, RPKI_PRIVATE = 3 };
 
 /* The header of a value (X.690 8.1.2, 8.1.3). */
 struct rpki_header_parts {
@@ -620,17 +619,17 @@ rpki_status rpki_certificate_extensions(const uint8_t *octets, size_t size, stru
 /*
  * Reads a resource certificate, as rpki_certificate does, and holds it to the profile of this number, an
  * RPKI_CERTIFICATE_ constant (RFC 6487 4, RFC 8209 3.1, RFC 9323 2). With `strict` false the names are not held to
- * theirs. The octets of resources are not read, and whether the signature is that of a key, or a moment is in the
- * period, is not looked at. Takes no memory.
+ * theirs. Whether the signature is that of a key, a moment is in the period, or the issuer has the resources, is not
+ * looked at. Takes no memory.
  *
- * The status is from 85 to 115 where the octets are a certificate that breaks a rule of the profile: the first of these
- * that is broken. Of a trust anchor they are tested in the order 85, 86, 87, 112, 94, 108, 109, 115, 88, 90, 98, 92,
- * 96, 101, 103, 104, 105, 114, 113; of an authority as far as 96 in the same order, then 104, 105, 95, 100, 102; of an
- * end entity as far as 98, then 93, 97, 106, 111, 95, 100, 102; of one without subject information access as far as 97,
- * then 107, 95, 100, 102; of a router as far as 115, then 89, 91, 93, 97, 110, 107, 99, 95, 100, 102. An extension
- * that a rule wants, and that is malformed or not as critical as it has to be, breaks the rule.
- * RPKI_NO_PROFILE: no profile has the number; then the octets are not looked at. Else, where it is not 0, it is that of
- * rpki_certificate.
+ * The status is from 85 to 119 where the octets are a certificate that breaks a rule of the profile: the first of these
+ * that is broken. Of a trust anchor they are tested in the order 85, 86, 87, 112, 94, 108, 109, 115, 116, 88, 90, 98,
+ * 92, 96, 101, 103, 104, 105, 118, 119, 114, 113, 117; of an authority as far as 96 in the same order, then 104, 105,
+ * 118, 119, 95, 100, 102; of an end entity as far as 98, then 93, 97, 106, 111, 119, 95, 100, 102; of one without
+ * subject information access as far as 97, then 107, 95, 100, 102; of a router as far as 116, then 89, 91, 93, 97, 110,
+ * 117, 107, 99, 95, 100, 102. An extension that a rule wants, and that is malformed or not as critical as it has to be,
+ * breaks the rule. RPKI_NO_PROFILE: no profile has the number; then the octets are not looked at. Else, where it is not
+ * 0, it is that of rpki_certificate.
  */
 rpki_status rpki_certificate_inspect(const uint8_t *octets, size_t size, uint8_t profile, bool strict);
 
@@ -816,8 +815,8 @@ rpki_status rpki_base64_write(const uint8_t *octets, size_t size, bool url_safe,
  * octets that are not UTF-8 are no symbols. Any other status leaves `*at`.
  */
 enum {
-    RPKI_BASE64_XML = 0,  /* the standard alphabet with padding; space, tab, line feed, form feed and carriage return
-                             anywhere */
+    RPKI_BASE64_XML = 0,   /* the standard alphabet with padding; space, tab, line feed, form feed and carriage return
+                              anywhere */
     RPKI_BASE64_SERDE = 1, /* the standard alphabet with padding */
     RPKI_BASE64_SLURM = 2  /* the alphabet that is safe in URLs, with padding or without (RFC 8416) */
 };
@@ -961,97 +960,101 @@ static inline const char *rpki_status_text(int kind, rpki_status status) {
     }
     if (kind == RPKI_OF_URI) {
         switch (status) {
-        case RPKI_URI_INVALID_CHARACTERS: return "invalid characters";
-        case RPKI_URI_BAD_URI: return "bad URI";
-        case RPKI_URI_LONG_URI: return "URI exceeds 3072 characters";
-        case RPKI_URI_BAD_SCHEME: return "bad URI scheme";
-        case RPKI_URI_DOT_SEGMENTS: return "URI with dot path segments";
-        case RPKI_URI_EMPTY_SEGMENTS: return "URI with empty path segments";
-        case RPKI_URI_LONG_SEGMENTS: return "one or more segments are longer than 255 characters";
-        case RPKI_URI_OUT_OF_MEMORY: return "out of memory";
-        case RPKI_NO_ANSWER: return "no such path";
-        case RPKI_OTHER_PARTS: return "other parts";
-        default: break;
+            case RPKI_URI_INVALID_CHARACTERS: return "invalid characters";
+            case RPKI_URI_BAD_URI: return "bad URI";
+            case RPKI_URI_LONG_URI: return "URI exceeds 3072 characters";
+            case RPKI_URI_BAD_SCHEME: return "bad URI scheme";
+            case RPKI_URI_DOT_SEGMENTS: return "URI with dot path segments";
+            case RPKI_URI_EMPTY_SEGMENTS: return "URI with empty path segments";
+            case RPKI_URI_LONG_SEGMENTS: return "one or more segments are longer than 255 characters";
+            case RPKI_URI_OUT_OF_MEMORY: return "out of memory";
+            case RPKI_NO_ANSWER: return "no such path";
+            case RPKI_OTHER_PARTS: return "other parts";
+            default: break;
         }
     } else {
         switch (status) {
-        case RPKI_TRUNCATED: return "truncated value";
-        case RPKI_BAD_TAG: return "malformed tag";
-        case RPKI_BAD_LENGTH: return "malformed length";
-        case RPKI_UNEXPECTED: return "unexpected value";
-        case RPKI_CONTENT: return "malformed contents";
-        case RPKI_TRAILING: return "octets after the value";
-        case RPKI_OUT_OF_MEMORY: return "out of memory";
-        case RPKI_NO_ANSWER: return "no answer";
-        case RPKI_NOT_OF_PROFILE: return "name not of the profile";
-        case RPKI_NO_PROFILE: return "no such profile";
-        case RPKI_OTHER_ALGORITHM: return "another algorithm";
-        case RPKI_TOO_LONG: return "too long to be written";
-        case RPKI_INVALID_SYMBOL: return "no symbol of base 64";
-        case RPKI_INVALID_LENGTH: return "no length of base 64";
-        case RPKI_INVALID_LAST_SYMBOL: return "no last symbol of base 64";
-        case RPKI_INVALID_PADDING: return "other padding of base 64";
-        case RPKI_TOO_NEW: return "object is not yet valid";
-        case RPKI_TOO_OLD: return "object has expired";
-        case RPKI_PART_CERTIFICATE: return "not a certificate";
-        case RPKI_PART_SIGNED: return "malformed signed data";
-        case RPKI_PART_ALGORITHM: return "malformed signature algorithm";
-        case RPKI_PART_SIGNATURE: return "malformed signature";
-        case RPKI_PART_TBS: return "malformed certificate";
-        case RPKI_PART_VERSION: return "other version";
-        case RPKI_PART_SERIAL_NUMBER: return "malformed serial number";
-        case RPKI_PART_TBS_ALGORITHM: return "malformed algorithm";
-        case RPKI_PART_ISSUER: return "malformed issuer";
-        case RPKI_PART_VALIDITY: return "malformed validity";
-        case RPKI_PART_SUBJECT: return "malformed subject";
-        case RPKI_PART_PUBLIC_KEY: return "malformed public key";
-        case RPKI_PART_EXTENSIONS: return "malformed extensions";
-        case RPKI_PART_EXTENSION_COUNT: return "too many extensions";
-        case RPKI_PART_EXTENSION_IDENTIFIERS: return "duplicate extension";
-        case RPKI_PART_SAME_ALGORITHM: return "signature algorithms differ";
-        case RPKI_WRONG_BASIC_CONSTRAINTS: return "wrong basic constraints";
-        case RPKI_WRONG_SUBJECT_KEY_IDENTIFIER: return "wrong subject key identifier";
-        case RPKI_WRONG_AUTHORITY_KEY_IDENTIFIER: return "wrong authority key identifier";
-        case RPKI_WRONG_KEY_USAGE: return "wrong key usage";
-        case RPKI_WRONG_CERTIFICATE_POLICIES: return "wrong certificate policies";
-        case RPKI_RULE_SERIAL_NUMBER: return "serial number is 0";
-        case RPKI_RULE_CRITICAL_EXTENSIONS: return "unknown critical extension";
-        case RPKI_RULE_ISSUER: return "issuer has no name of the RPKI";
-        case RPKI_RULE_SUBJECT: return "subject has no name of the RPKI";
-        case RPKI_RULE_ROUTER_SUBJECT: return "subject has no name of a router";
-        case RPKI_RULE_RSA_KEY: return "key is no RSA key of 2048 bits and the exponent 65537";
-        case RPKI_RULE_ROUTER_KEY: return "key is no uncompressed point on P-256";
-        case RPKI_RULE_BASIC_CONSTRAINTS: return "missing basic constraints";
-        case RPKI_RULE_NO_BASIC_CONSTRAINTS: return "basic constraints are there";
-        case RPKI_RULE_SUBJECT_KEY_IDENTIFIER: return "missing subject key identifier";
-        case RPKI_RULE_AUTHORITY_KEY_IDENTIFIER: return "missing authority key identifier";
-        case RPKI_RULE_AUTHORITY_USAGE: return "key usage is not that of an authority";
-        case RPKI_RULE_END_USAGE: return "key usage is not that of an end entity";
-        case RPKI_RULE_NO_EXTENDED_KEY_USAGE: return "extended key usage is there";
-        case RPKI_RULE_ROUTER_PURPOSE: return "missing purpose of a router";
-        case RPKI_RULE_REVOCATION_LIST: return "missing URI of the revocation list";
-        case RPKI_RULE_NO_REVOCATION_LIST: return "CRL distribution points are there";
-        case RPKI_RULE_ISSUER_CERTIFICATE: return "missing URI of the issuer's certificate";
-        case RPKI_RULE_NO_ISSUER_CERTIFICATE: return "authority information access is there";
-        case RPKI_RULE_REPOSITORY: return "missing URI of the repository";
-        case RPKI_RULE_MANIFEST: return "missing URI of the manifest";
-        case RPKI_RULE_SIGNED_OBJECT: return "missing URI of the signed object";
-        case RPKI_RULE_NO_SUBJECT_ACCESS: return "subject information access is there";
-        case RPKI_RULE_CERTIFICATE_POLICIES: return "missing certificate policies";
-        case RPKI_RULE_RESOURCES: return "missing resources, or ones that are not critical";
-        case RPKI_RULE_ROUTER_NUMBERS: return "missing AS numbers, or addresses are there";
-        case RPKI_RULE_OBJECT_ACCESS: return "other access method of an end entity";
-        case RPKI_RULE_VALIDITY: return "period ends before it begins";
-        case RPKI_RULE_OWN_AUTHORITY: return "authority key identifier of a trust anchor is not its own";
-        case RPKI_RULE_SELF_ISSUED: return "issuer of a trust anchor is not its subject";
-        case RPKI_RULE_RESOURCE_VERSION: return "policy and resources of two versions";
-        case RPKI_MISSING_COMMON_NAME: return "missing common name";
-        case RPKI_SECOND_COMMON_NAME: return "multiple common names";
-        case RPKI_SECOND_SERIAL_NUMBER: return "multiple serial numbers";
-        case RPKI_SECOND_ORGANIZATION_NAME: return "multiple organization names";
-        case RPKI_STRING_NOT_PERMITTED: return "unpermitted string in name";
-        case RPKI_ATTRIBUTE_NOT_PERMITTED: return "unpermitted attribute in name";
-        default: break;
+            case RPKI_TRUNCATED: return "truncated value";
+            case RPKI_BAD_TAG: return "malformed tag";
+            case RPKI_BAD_LENGTH: return "malformed length";
+            case RPKI_UNEXPECTED: return "unexpected value";
+            case RPKI_CONTENT: return "malformed contents";
+            case RPKI_TRAILING: return "octets after the value";
+            case RPKI_OUT_OF_MEMORY: return "out of memory";
+            case RPKI_NO_ANSWER: return "no answer";
+            case RPKI_NOT_OF_PROFILE: return "name not of the profile";
+            case RPKI_NO_PROFILE: return "no such profile";
+            case RPKI_OTHER_ALGORITHM: return "another algorithm";
+            case RPKI_TOO_LONG: return "too long to be written";
+            case RPKI_INVALID_SYMBOL: return "no symbol of base 64";
+            case RPKI_INVALID_LENGTH: return "no length of base 64";
+            case RPKI_INVALID_LAST_SYMBOL: return "no last symbol of base 64";
+            case RPKI_INVALID_PADDING: return "other padding of base 64";
+            case RPKI_TOO_NEW: return "object is not yet valid";
+            case RPKI_TOO_OLD: return "object has expired";
+            case RPKI_PART_CERTIFICATE: return "not a certificate";
+            case RPKI_PART_SIGNED: return "malformed signed data";
+            case RPKI_PART_ALGORITHM: return "malformed signature algorithm";
+            case RPKI_PART_SIGNATURE: return "malformed signature";
+            case RPKI_PART_TBS: return "malformed certificate";
+            case RPKI_PART_VERSION: return "other version";
+            case RPKI_PART_SERIAL_NUMBER: return "malformed serial number";
+            case RPKI_PART_TBS_ALGORITHM: return "malformed algorithm";
+            case RPKI_PART_ISSUER: return "malformed issuer";
+            case RPKI_PART_VALIDITY: return "malformed validity";
+            case RPKI_PART_SUBJECT: return "malformed subject";
+            case RPKI_PART_PUBLIC_KEY: return "malformed public key";
+            case RPKI_PART_EXTENSIONS: return "malformed extensions";
+            case RPKI_PART_EXTENSION_COUNT: return "too many extensions";
+            case RPKI_PART_EXTENSION_IDENTIFIERS: return "duplicate extension";
+            case RPKI_PART_SAME_ALGORITHM: return "signature algorithms differ";
+            case RPKI_WRONG_BASIC_CONSTRAINTS: return "wrong basic constraints";
+            case RPKI_WRONG_SUBJECT_KEY_IDENTIFIER: return "wrong subject key identifier";
+            case RPKI_WRONG_AUTHORITY_KEY_IDENTIFIER: return "wrong authority key identifier";
+            case RPKI_WRONG_KEY_USAGE: return "wrong key usage";
+            case RPKI_WRONG_CERTIFICATE_POLICIES: return "wrong certificate policies";
+            case RPKI_RULE_SERIAL_NUMBER: return "serial number is 0";
+            case RPKI_RULE_CRITICAL_EXTENSIONS: return "unknown critical extension";
+            case RPKI_RULE_ISSUER: return "issuer has no name of the RPKI";
+            case RPKI_RULE_SUBJECT: return "subject has no name of the RPKI";
+            case RPKI_RULE_ROUTER_SUBJECT: return "subject has no name of a router";
+            case RPKI_RULE_RSA_KEY: return "key is no RSA key of 2048 bits and the exponent 65537";
+            case RPKI_RULE_ROUTER_KEY: return "key is no uncompressed point on P-256";
+            case RPKI_RULE_BASIC_CONSTRAINTS: return "missing basic constraints";
+            case RPKI_RULE_NO_BASIC_CONSTRAINTS: return "basic constraints are there";
+            case RPKI_RULE_SUBJECT_KEY_IDENTIFIER: return "missing subject key identifier";
+            case RPKI_RULE_AUTHORITY_KEY_IDENTIFIER: return "missing authority key identifier";
+            case RPKI_RULE_AUTHORITY_USAGE: return "key usage is not that of an authority";
+            case RPKI_RULE_END_USAGE: return "key usage is not that of an end entity";
+            case RPKI_RULE_NO_EXTENDED_KEY_USAGE: return "extended key usage is there";
+            case RPKI_RULE_ROUTER_PURPOSE: return "missing purpose of a router";
+            case RPKI_RULE_REVOCATION_LIST: return "missing URI of the revocation list";
+            case RPKI_RULE_NO_REVOCATION_LIST: return "CRL distribution points are there";
+            case RPKI_RULE_ISSUER_CERTIFICATE: return "missing URI of the issuer's certificate";
+            case RPKI_RULE_NO_ISSUER_CERTIFICATE: return "authority information access is there";
+            case RPKI_RULE_REPOSITORY: return "missing URI of the repository";
+            case RPKI_RULE_MANIFEST: return "missing URI of the manifest";
+            case RPKI_RULE_SIGNED_OBJECT: return "missing URI of the signed object";
+            case RPKI_RULE_NO_SUBJECT_ACCESS: return "subject information access is there";
+            case RPKI_RULE_CERTIFICATE_POLICIES: return "missing certificate policies";
+            case RPKI_RULE_RESOURCES: return "missing resources, or ones that are not critical";
+            case RPKI_RULE_ROUTER_NUMBERS: return "missing AS numbers, or addresses are there";
+            case RPKI_RULE_OBJECT_ACCESS: return "other access method of an end entity";
+            case RPKI_RULE_VALIDITY: return "period ends before it begins";
+            case RPKI_RULE_OWN_AUTHORITY: return "authority key identifier of a trust anchor is not its own";
+            case RPKI_RULE_SELF_ISSUED: return "issuer of a trust anchor is not its subject";
+            case RPKI_RULE_RESOURCE_VERSION: return "policy and resources of two versions";
+            case RPKI_RULE_RESOURCE_BLOCKS: return "resources that are not in canonical form";
+            case RPKI_RULE_OWN_RESOURCES: return "resources of the issuer";
+            case RPKI_RULE_MANIFEST_PLACE: return "manifest is not in the repository";
+            case RPKI_RULE_NOTIFICATIONS: return "notifications without an https URI";
+            case RPKI_MISSING_COMMON_NAME: return "missing common name";
+            case RPKI_SECOND_COMMON_NAME: return "multiple common names";
+            case RPKI_SECOND_SERIAL_NUMBER: return "multiple serial numbers";
+            case RPKI_SECOND_ORGANIZATION_NAME: return "multiple organization names";
+            case RPKI_STRING_NOT_PERMITTED: return "unpermitted string in name";
+            case RPKI_ATTRIBUTE_NOT_PERMITTED: return "unpermitted attribute in name";
+            default: break;
         }
     }
     if (status == RPKI_OK) return "no error";

@@ -1,8 +1,9 @@
-"""Certificates that openssl makes: a trust anchor, a certification authority, an end entity and a BGPsec router."""
+"""Certificates that openssl makes: a trust anchor, a certification authority, an end entity, one without subject
+information access, and a BGPsec router."""
 import os
 import subprocess
 
-# The extensions of each (RFC 6487 4.8, RFC 8209 3.1.3), as openssl writes them.
+# The extensions of each (RFC 6487 4.8, RFC 9323 2, RFC 8209 3.1.3), as openssl writes them.
 COMMON = """subjectKeyIdentifier = hash
 certificatePolicies = critical, 1.3.6.1.5.5.7.14.2
 """
@@ -18,9 +19,10 @@ ISSUED = """authorityKeyIdentifier = keyid
 crlDistributionPoints = URI:rsync://rpki.example.net/{issuer}/{issuer}.crl
 authorityInfoAccess = caIssuers;URI:rsync://rpki.example.net/{issuer}/{issuer}.cer
 """
-ENTITY = """keyUsage = critical, digitalSignature
+DETACHED = """keyUsage = critical, digitalSignature
 sbgp-ipAddrBlock = critical, IPv4:192.0.2.0/25
-subjectInfoAccess = 1.3.6.1.5.5.7.48.11;URI:rsync://rpki.example.net/ca/object.roa
+"""
+ENTITY = DETACHED + """subjectInfoAccess = 1.3.6.1.5.5.7.48.11;URI:rsync://rpki.example.net/ca/object.roa
 """
 ROUTER = """keyUsage = critical, digitalSignature
 extendedKeyUsage = 1.3.6.1.5.5.7.3.30
@@ -32,6 +34,7 @@ CERTIFICATES = [
     ("ca", "/CN=authority/serialNumber=00FF", "ta", "RSA", "0x7fedcba9876543210123456789abcdef01234567",
      COMMON + AUTHORITY + ISSUED),
     ("ee", "/CN=entity", "ca", "RSA", "0x80", COMMON + ENTITY + ISSUED),
+    ("detached", "/CN=checklist", "ca", "RSA", "0x81", COMMON + DETACHED + ISSUED),
     ("router", "/CN=ROUTER-0000FBF0/serialNumber=C0000201", "ca", "EC", "0x0100", COMMON + ROUTER + ISSUED),
 ]
 

@@ -43,6 +43,7 @@ NEEDS = [
     Need("go", "golang-go", ()),
     Need("qemu-aarch64", "qemu-user", ()),
     Need("aarch64-linux-gnu-gcc", "gcc-aarch64-linux-gnu", ()),
+    Need("clang-format", "clang-format", ()),
     Need("shellcheck", "shellcheck", ()),
     Need("rpki-client", "rpki-client", ()),
 ]

@@ -114,7 +114,7 @@ def identifiers_compared(programs):
         counts = os.path.join(folder, "counts")
         for twice in (False, True):
             name, instructions = "the last two equal" if twice else "all different", []
-            for number in (2_000, 20_000):
+            for number in (500, 5_000):
                 status, first = counted(programs, counts, ["certificate", "read"], many_extensions(number, twice))
                 rejected = first == b"rejected duplicate extension"
                 yield f"{number} extensions, {name}", (status, rejected), (0, twice)

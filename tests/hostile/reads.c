@@ -25,5 +25,9 @@ __attribute__((destructor)) static void tell(void) {
     char text[32];
     int n = snprintf(text, sizeof text, "%ld\n", calls);
     int file = path ? open(path, O_WRONLY | O_CREAT | O_TRUNC, 0600) : -1;
-    if (file >= 0) { if (write(file, text, n)) {} close(file); }
+    if (file >= 0) {
+        if (write(file, text, n)) {
+        }
+        close(file);
+    }
 }

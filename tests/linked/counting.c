@@ -226,8 +226,8 @@ static const struct {
     unsigned first, last, moment;
     rpki_status status;
 } HELD[] = {
-    {10, 20, 9, RPKI_TOO_NEW}, {10, 20, 10, RPKI_OK},  {10, 20, 15, RPKI_OK},     {10, 20, 20, RPKI_OK},
-    {10, 20, 21, RPKI_TOO_OLD}, {10, 10, 10, RPKI_OK}, {20, 10, 15, RPKI_TOO_NEW}, {20, 10, 25, RPKI_TOO_OLD},
+    {10, 20, 9, RPKI_TOO_NEW},  {10, 20, 10, RPKI_OK},     {10, 20, 15, RPKI_OK},      {10, 20, 20, RPKI_OK},
+    {10, 20, 21, RPKI_TOO_OLD}, {10, 10, 10, RPKI_OK},     {20, 10, 15, RPKI_TOO_NEW}, {20, 10, 25, RPKI_TOO_OLD},
     {60, 10, 5, RPKI_CONTENT},  {10, 60, 5, RPKI_CONTENT}, {10, 20, 60, RPKI_CONTENT},
 };
 
@@ -297,8 +297,8 @@ static const struct {
 static rpki_status extension(const void *of, uint8_t *out, size_t capacity, size_t *written) {
     size_t row = *(const size_t *)of;
     struct octets id = octets_of(EXTENSIONS[row].id), octets = octets_of(EXTENSIONS[row].octets);
-    rpki_status status = rpki_extension_write(id.at, id.size, EXTENSIONS[row].critical, octets.at, octets.size, out,
-                                              capacity, written);
+    rpki_status status =
+        rpki_extension_write(id.at, id.size, EXTENSIONS[row].critical, octets.at, octets.size, out, capacity, written);
     free(id.at);
     free(octets.at);
     return status;

@@ -3,6 +3,7 @@
 //!
 //! usage: package [NAME]      (the rows whose names begin so)
 
+mod decoded;
 mod plain;
 mod texts;
 mod times;
@@ -74,5 +75,6 @@ fn main() {
     uris::measure_https();
     times::measure();
     values::measure();
+    decoded::measure();
     texts::measure();
 }

@@ -150,6 +150,15 @@ impl Rsync {
     pub fn is_parent_of(&self, other: &Rsync) -> bool {
         other.relative_to(self).map_or(false, |path| !path.is_empty())
     }
+
+    pub fn is_identical_to(&self, other: &Rsync) -> bool {
+        fn without_slash(path: &str) -> &str {
+            path.strip_suffix('/').unwrap_or(path)
+        }
+        self.authority().eq_ignore_ascii_case(other.authority())
+            && self.module_name() == other.module_name()
+            && without_slash(self.path()) == without_slash(other.path())
+    }
 }
 
 impl AsRef<[u8]> for Rsync {
@@ -170,6 +179,8 @@ impl<T: AsRef<[u8]>> PartialEq<T> for Rsync {
         front.eq_ignore_ascii_case(others_front) && rest == others_rest
     }
 }
+
+impl Eq for Rsync {}
 
 /// Of the module one octet alone is hashed, and nothing of the path.
 impl Hash for Rsync {
@@ -199,8 +210,27 @@ impl Https {
         (size < 256).then(|| Https { path_start: 8 + size, bytes })
     }
 
+    pub fn as_str(&self) -> &str {
+        // SAFETY: each octet is a character of ASCII, as `from_bytes` and `join` test.
+        unsafe { std::str::from_utf8_unchecked(&self.bytes) }
+    }
+
     fn authority(&self) -> &[u8] {
         &self.bytes[8..self.path_start]
+    }
+
+    pub fn join(&self, path: &[u8]) -> Option<Https> {
+        if !path.iter().all(|octet| is_uri_octet(*octet)) {
+            return None;
+        }
+        let slash = !self.bytes.ends_with(b"/") && !path.starts_with(b"/");
+        let mut bytes = BytesMut::with_capacity(self.bytes.len() + usize::from(slash) + path.len());
+        bytes.extend_from_slice(&self.bytes);
+        if slash {
+            bytes.extend_from_slice(b"/");
+        }
+        bytes.extend_from_slice(path);
+        Some(Https { bytes: bytes.freeze(), ..*self })
     }
 
     pub fn eq_authority(&self, other: &Https) -> bool {

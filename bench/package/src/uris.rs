@@ -3,7 +3,7 @@
 use crate::{plain, row, title};
 use bytes::Bytes;
 use rpki_proved::uri::{Https, Rsync};
-use std::collections::hash_map::DefaultHasher;
+use std::collections::hash_map::{DefaultHasher, HashMap};
 use std::hash::{Hash, Hasher};
 use std::hint::black_box;
 
@@ -55,6 +55,13 @@ pub fn measure(base_text: &str, name: &str) {
         || _ = black_box(Rsync::from_slice(black_box(&bytes))),
         || _ = black_box(plain::Rsync::from_bytes(Bytes::copy_from_slice(black_box(&bytes)))),
     );
+    let refused = Bytes::from(file_text.replacen("://", "://<", 1));
+    assert!(Rsync::from_bytes(refused.clone()).is_err() && plain::Rsync::from_bytes(refused.clone()).is_none());
+    row(
+        "from_slice, refused",
+        || _ = black_box(Rsync::from_slice(black_box(&refused)).is_ok()),
+        || _ = black_box(plain::Rsync::from_bytes(Bytes::copy_from_slice(black_box(&refused))).is_some()),
+    );
     row("clone", || _ = black_box(black_box(&file.0).clone()), || _ = black_box(black_box(&file.1).clone()));
     row("parent", || _ = black_box(black_box(&file.0).parent()), || _ = black_box(black_box(&file.1).parent()));
     row(
@@ -70,6 +77,24 @@ pub fn measure(base_text: &str, name: &str) {
     measure_pairs(&file, &base);
     measure_equality(&file, &file_text);
     row("hash", || _ = black_box(hash_of(black_box(&file.0))), || _ = black_box(hash_of(black_box(&file.1))));
+    measure_map(base_text);
+}
+
+/// Times looking up one of a thousand files of a folder.
+fn measure_map(base_text: &str) {
+    let files = (0..1_000).map(|number| read(&format!("{base_text}{number}.cer")));
+    let (mut ours, mut others) = (HashMap::new(), HashMap::new());
+    for (number, file) in files.enumerate() {
+        ours.insert(file.0, number);
+        others.insert(file.1, number);
+    }
+    let sought = read(&format!("{base_text}517.cer"));
+    assert!(ours.get(&sought.0) == Some(&517) && others.get(&sought.1) == Some(&517));
+    row(
+        "map of 1,000, get",
+        || _ = black_box(ours.get(black_box(&sought.0))),
+        || _ = black_box(others.get(black_box(&sought.1))),
+    );
 }
 
 fn measure_pairs(file: &(Rsync, plain::Rsync), base: &(Rsync, plain::Rsync)) {
@@ -86,6 +111,14 @@ fn measure_pairs(file: &(Rsync, plain::Rsync), base: &(Rsync, plain::Rsync)) {
             &format!("is_parent_of, {kind}"),
             || _ = black_box(black_box(&uri.0).is_parent_of(black_box(&other.0))),
             || _ = black_box(black_box(&uri.1).is_parent_of(black_box(&other.1))),
+        );
+    }
+    for (kind, other) in [("the same", file), ("another end", &others)] {
+        assert_eq!(file.0.is_identical_to(&other.0), file.1.is_identical_to(&other.1));
+        row(
+            &format!("is_identical_to, {kind}"),
+            || _ = black_box(black_box(&file.0).is_identical_to(black_box(&other.0))),
+            || _ = black_box(black_box(&file.1).is_identical_to(black_box(&other.1))),
         );
     }
     let upper = read(&in_upper_case(file.0.as_str()));
@@ -137,6 +170,18 @@ pub fn measure_https() {
         (Https::from_bytes(bytes.clone()).unwrap(), plain::Https::from_bytes(bytes.clone()).unwrap())
     };
     let uri = read(text);
+    let bytes = Bytes::from_static(text.as_bytes());
+    row(
+        "from_slice",
+        || _ = black_box(Https::from_slice(black_box(&bytes))),
+        || _ = black_box(plain::Https::from_bytes(Bytes::copy_from_slice(black_box(&bytes)))),
+    );
+    assert_eq!(uri.0.join(b"snapshot.xml").unwrap().as_str(), uri.1.join(b"snapshot.xml").unwrap().as_str());
+    row(
+        "join",
+        || _ = black_box(black_box(&uri.0).join(black_box(b"snapshot.xml"))),
+        || _ = black_box(black_box(&uri.1).join(black_box(b"snapshot.xml"))),
+    );
     for (kind, text) in
         [("the same", text.to_string()), ("another end", other_end(text)), ("in upper case", in_upper_case(text))]
     {

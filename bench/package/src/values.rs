@@ -51,6 +51,12 @@ pub fn measure() {
         || _ = black_box(black_box(&key).to_info_bytes()),
         || _ = black_box(write(b"", RSA, black_box(&key).bits())),
     );
+    assert_eq!(key.key_identifier().as_slice(), openssl::sha::sha1(key.bits()));
+    row(
+        "key_identifier, beside OpenSSL",
+        || _ = black_box(black_box(&key).key_identifier()),
+        || _ = black_box(openssl::sha::sha1(black_box(&key).bits())),
+    );
     let mut data = Vec::new();
     header(&mut data, 0x30, 1_000);
     header(&mut data, 4, 996);

@@ -441,6 +441,7 @@ calls_on! {
     equal(rpki_rsync_parts_equal) -> bool,
     #[cfg(test)]
     is_parent_of(rpki_rsync_parts_is_parent_of) -> bool,
+    #[cfg(test)]
     is_identical_to(rpki_rsync_parts_is_identical_to) -> bool
 }
 

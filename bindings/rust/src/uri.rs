@@ -75,8 +75,9 @@ fn hash_text<H: Hasher>(text: &[u8], front: usize, state: &mut H) {
 /// The text in lower case, borrowed where it is spelled so.
 #[inline]
 fn in_lower_case(text: &str) -> Cow<'_, str> {
-    // All octets are looked at, several at a time.
-    if text.bytes().fold(false, |found, octet| found | octet.is_ascii_uppercase()) {
+    let is_upper = |octet: u8| octet.is_ascii_uppercase();
+    // Behind the first all octets are looked at, several at a time.
+    if text.bytes().next().map_or(false, is_upper) || text.bytes().fold(false, |found, octet| found | is_upper(octet)) {
         Cow::Owned(text.to_ascii_lowercase())
     } else {
         Cow::Borrowed(text)
@@ -276,7 +277,7 @@ impl Rsync {
 
     /// Whether both are in the same module and have the same segments, with a slash last or without.
     pub fn is_identical_to(&self, other: &Self) -> bool {
-        known(self.parsed.is_identical_to(&other.parsed))
+        self.relative_to(other) == Some("")
     }
 }
 
@@ -584,7 +585,7 @@ mod tests {
                 assert_eq!(one.is_parent_of(other), parsed.is_parent_of(others).unwrap(), "{one} {other}");
                 let place = parsed.relative_to(others).ok();
                 assert_eq!(one.relative_to(other), place.map(|place| place.of_text(one.as_str())), "{one} {other}");
-                assert_eq!(one.relative_to(other) == Some(""), one.is_identical_to(other), "{one} {other}");
+                assert_eq!(one.is_identical_to(other), parsed.is_identical_to(others).unwrap(), "{one} {other}");
             }
         }
     }

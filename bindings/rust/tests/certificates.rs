@@ -31,38 +31,43 @@ const EXTENSION_ERRORS: [ExtensionError; 5] = [
     ExtensionError::CertificatePolicies,
 ];
 
-const RULES: [CertRule; 31] = [
-    CertRule::SerialNumber,
-    CertRule::CriticalExtensions,
-    CertRule::Issuer,
-    CertRule::Subject,
-    CertRule::RouterSubject,
-    CertRule::RsaKey,
-    CertRule::RouterKey,
-    CertRule::BasicConstraints,
-    CertRule::NoBasicConstraints,
-    CertRule::SubjectKeyIdentifier,
-    CertRule::AuthorityKeyIdentifier,
-    CertRule::AuthorityUsage,
-    CertRule::EndUsage,
-    CertRule::NoExtendedKeyUsage,
-    CertRule::RouterPurpose,
-    CertRule::RevocationList,
-    CertRule::NoRevocationList,
-    CertRule::IssuerCertificate,
-    CertRule::NoIssuerCertificate,
-    CertRule::Repository,
-    CertRule::Manifest,
-    CertRule::SignedObject,
-    CertRule::NoSubjectAccess,
-    CertRule::CertificatePolicies,
-    CertRule::Resources,
-    CertRule::RouterNumbers,
-    CertRule::ObjectAccess,
-    CertRule::Validity,
-    CertRule::OwnAuthority,
-    CertRule::SelfIssued,
-    CertRule::ResourceVersion,
+/// The rules by their statuses.
+const RULES: [(usize, CertRule); 35] = [
+    (85, CertRule::SerialNumber),
+    (86, CertRule::CriticalExtensions),
+    (87, CertRule::Issuer),
+    (88, CertRule::Subject),
+    (89, CertRule::RouterSubject),
+    (90, CertRule::RsaKey),
+    (91, CertRule::RouterKey),
+    (92, CertRule::BasicConstraints),
+    (93, CertRule::NoBasicConstraints),
+    (94, CertRule::SubjectKeyIdentifier),
+    (95, CertRule::AuthorityKeyIdentifier),
+    (96, CertRule::AuthorityUsage),
+    (97, CertRule::EndUsage),
+    (98, CertRule::NoExtendedKeyUsage),
+    (99, CertRule::RouterPurpose),
+    (100, CertRule::RevocationList),
+    (101, CertRule::NoRevocationList),
+    (102, CertRule::IssuerCertificate),
+    (103, CertRule::NoIssuerCertificate),
+    (104, CertRule::Repository),
+    (105, CertRule::Manifest),
+    (106, CertRule::SignedObject),
+    (107, CertRule::NoSubjectAccess),
+    (108, CertRule::CertificatePolicies),
+    (109, CertRule::Resources),
+    (110, CertRule::RouterNumbers),
+    (111, CertRule::ObjectAccess),
+    (112, CertRule::Validity),
+    (113, CertRule::OwnAuthority),
+    (114, CertRule::SelfIssued),
+    (115, CertRule::ResourceVersion),
+    (116, CertRule::ResourceBlocks),
+    (117, CertRule::OwnResources),
+    (118, CertRule::ManifestPlace),
+    (119, CertRule::Notifications),
 ];
 
 fn octets_of(digits: &str) -> Vec<u8> {
@@ -131,16 +136,18 @@ fn compare_extensions(number: usize, octets: &[u8], cert: &Cert, words: &[&str])
     assert_eq!(found.overclaim, policies[words[57].parse::<usize>().unwrap()], "row {number}");
 }
 
-/// The certificate breaks the rules of the row, of the first four profiles, strict, and then of the same not strict.
+/// The certificate breaks the rules of the row, of the first four profiles, strict, and then of the same not strict; and
+/// of the fifth, strict and not.
 fn compare_inspections(number: usize, cert: &Cert, words: &[&str]) {
-    let wanted = words[..8].iter().map(|word| match word.parse::<usize>().unwrap() {
+    let wanted = words.iter().map(|word| match word.parse::<usize>().unwrap() {
         0 => Ok(()),
-        status => Err(RULES[status - 85]),
+        status => Err(RULES.iter().find(|(other, _)| *other == status).unwrap().1),
     });
     let told = [true, false].map(|strict| {
         [cert.inspect_ta(strict), cert.inspect_ca(strict), cert.inspect_ee(strict), cert.inspect_router(strict)]
     });
-    assert_eq!(told.concat(), wanted.collect::<Vec<_>>(), "row {number}");
+    let detached = [true, false].map(|strict| cert.inspect_detached_ee(strict));
+    assert_eq!([told.concat(), detached.to_vec()].concat(), wanted.collect::<Vec<_>>(), "row {number}");
 }
 
 #[test]

@@ -508,7 +508,7 @@ fn names() {
     assert_eq!((subject.as_slice(), subject.to_bytes()), (&octets[..], Bytes::from(octets.clone())));
     assert!(subject.inspect_rpki(true).is_ok() && subject.inspect_router(true).is_ok());
     let twice =
-        Name::decode(&b"\x30\x14\x31\x12\x30\x07\x06\x03\x55\x04\x03\x13\x00\x30\x07\x06\x03\x55\x04\x03\x13\x00"[..]);
+        Name::decode(&b"\x30\x15\x31\x13\x30\x08\x06\x03\x55\x04\x03\x13\x01A\x30\x07\x06\x03\x55\x04\x03\x13\x00"[..]);
     assert_eq!(twice.unwrap().inspect_rpki(true).unwrap_err().to_string(), "multiple common names");
 }
 

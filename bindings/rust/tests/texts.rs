@@ -76,6 +76,10 @@ fn rules_of_certificates() {
         (CertRule::OwnAuthority, "authority key identifier of a trust anchor is not its own"),
         (CertRule::SelfIssued, "issuer of a trust anchor is not its subject"),
         (CertRule::ResourceVersion, "policy and resources of two versions"),
+        (CertRule::ResourceBlocks, "resources that are not in canonical form"),
+        (CertRule::OwnResources, "resources of the issuer"),
+        (CertRule::ManifestPlace, "manifest is not in the repository"),
+        (CertRule::Notifications, "notifications without an https URI"),
     ];
     for (rule, text) in rules {
         assert_eq!(rule.to_string(), text);

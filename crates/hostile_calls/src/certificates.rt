@@ -6,7 +6,7 @@ use crate::report::Report;
 use bytes::Bytes;
 use rpki::repository::error::ValidationError;
 use rpki::repository::x509::Time;
-use rpki_cert::{Cert, KeyUsage, Overclaim, ResourceCert, TbsCert};
+use rpki_cert::{Cert, KeyUsage, Overclaim, ResourceCert, ResourceSet, TbsCert};
 use rpki_der::{Constructed, DecodeError};
 use std::alloc::Global;
 use std::{fmt, io};
@@ -144,8 +144,17 @@ fn is_authority(cert: &Cert) -> bool {
     }
 }
 
+/// Whether resources were settled, without them.
+fn tested(found: Result<ResourceSet, ValidationError>) -> Result<(), ValidationError> {
+    match found {
+        Ok(_) => Ok(()),
+        Err(e) => Err(e),
+    }
+}
+
 /// Whether the authority has issued the certificate, of a router where the key is one of a router's, else of an end entity.
 fn tell_end(
+    alloc: Global,
     report: Report,
     cert: &Cert,
     issuer: &ResourceCert<'_, Stamps>,
@@ -155,10 +164,14 @@ fn tell_end(
         return tell_test(
             report,
             "verify_router",
-            cert.verify_router(issuer, true, at),
+            tested(cert.verify_router(alloc, issuer, true, at)),
         );
     }
-    tell_test(report, "verify_ee", cert.verify_ee(issuer, true, at))
+    tell_test(
+        report,
+        "verify_ee",
+        tested(cert.verify_ee(alloc, issuer, true, at)),
+    )
 }
 
 /// Whether each of the certificates that are left is issued by the authority before it, which is verified at this moment:
@@ -182,10 +195,10 @@ fn tell_path(
             cert.verify_issued(&Stamps, issuer.cert().tbs(), at),
         )?;
         if !is_authority(&cert) {
-            tell_end(report, &cert, &issuer, at)?;
+            tell_end(alloc, report, &cert, &issuer, at)?;
             continue;
         }
-        match cert.verify_ca(&issuer, true, at) {
+        match cert.verify_ca(alloc, &issuer, true, at) {
             Ok(authority) => {
                 report.shown("verify_ca", &"ok")?;
                 issuer = authority;
@@ -207,7 +220,7 @@ fn tell_chain(alloc: Global, report: Report, moment: &str, octets: Vec<u8>) -> R
     let source = Bytes::from_vec(octets)?;
     let mut cursor = Constructed::new(&source);
     let anchor = next(alloc, &mut cursor)?;
-    match anchor.verify_ta(&Stamps, true, at) {
+    match anchor.verify_ta(alloc, &Stamps, true, at) {
         Ok(anchor) => {
             report.shown("verify_ta", &"ok")?;
             tell_path(alloc, report, anchor, &mut cursor, at)

@@ -17,6 +17,7 @@ mod readers;
 mod refusal;
 mod repeated;
 mod report;
+mod resources;
 mod texts;
 mod uris;
 mod values;
@@ -58,6 +59,7 @@ fn tell_of(
         "https" => uris::tell_https(alloc, report, call, path, octets),
         "text" => texts::tell(alloc, report, call, octets),
         "certificate" => certificates::tell(alloc, report, (call, path), octets),
+        "resources" => resources::tell(alloc, report, call, octets),
         "write" => encoders::tell(alloc, report, call, octets),
         _ => Err(Failure::Usage),
     }

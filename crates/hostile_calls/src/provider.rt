@@ -1,26 +1,31 @@
 //! A provider whose signatures are digests.
 
-ghost use Rattle.std.specs.Prelude.{◌≡◌, nat_eq};
+ghost use Rattle.std.specs.Prelude.{◌≡◌, ◌++◌, nat_eq};
 ghost use Rattle.std.specs.Cmp.Lexicographic.{pointwise};
 ghost use Rattle.sha2.specs.Sha256.{sha256};
 
 use rpki::crypto::Provider;
 use rpki_digests::Digests;
+use sha2::{Digest, Sha256};
 
-/// Finds a signature good where it is the digest by SHA-256 of what is signed, whatever the key: tests make them so.
+/// Finds a signature good where it is the digest by SHA-256 of what is signed and of the key's bits after it: tests make
+/// them so.
 #[derive(Clone, Copy)]
 pub struct Stamps;
 
 /// Whether the signature is that digest.
-fn is_stamp(message: &[u8], signature: &[u8]) -> bool
-    ensures { result ≡ pointwise nat_eq signature.now (sha256 message.now) }
+fn is_stamp(bits: &[u8], message: &[u8], signature: &[u8]) -> bool
+    ensures { result ≡ pointwise nat_eq signature.now (sha256 (message.now ++ bits.now)) }
 {
-    let digest = Digests.sha256(message);
+    let mut hasher = Sha256::new();
+    hasher.update(message);
+    hasher.update(bits);
+    let digest = hasher.finalize();
     signature == digest.as_slice()
 }
 
 impl Provider for Stamps {
-    ghost use Rattle.std.specs.Prelude.{nat_eq};
+    ghost use Rattle.std.specs.Prelude.{◌++◌, nat_eq};
     ghost use Rattle.std.specs.Cmp.Lexicographic.{pointwise};
     ghost use Rattle.sha1.specs.Sha1.{sha1};
     ghost use Rattle.sha2.specs.Sha256.{sha256};
@@ -29,9 +34,9 @@ impl Provider for Stamps {
 
     ghost sha256_of = { λ _ octets. sha256 octets };
 
-    ghost rsa_of = { λ _ _ message signature. pointwise nat_eq signature (sha256 message) };
+    ghost rsa_of = { λ _ bits message signature. pointwise nat_eq signature (sha256 (message ++ bits)) };
 
-    ghost ecdsa_of = { λ _ _ message signature. pointwise nat_eq signature (sha256 message) };
+    ghost ecdsa_of = { λ _ bits message signature. pointwise nat_eq signature (sha256 (message ++ bits)) };
 
     fn sha1(&self, octets: &[u8]) -> [u8; 20] {
         Digests.sha1(octets)
@@ -41,11 +46,11 @@ impl Provider for Stamps {
         Digests.sha256(octets)
     }
 
-    fn rsa_check(&self, _bits: &[u8], message: &[u8], signature: &[u8]) -> bool {
-        is_stamp(message, signature)
+    fn rsa_check(&self, bits: &[u8], message: &[u8], signature: &[u8]) -> bool {
+        is_stamp(bits, message, signature)
     }
 
-    fn ecdsa_check(&self, _bits: &[u8], message: &[u8], signature: &[u8]) -> bool {
-        is_stamp(message, signature)
+    fn ecdsa_check(&self, bits: &[u8], message: &[u8], signature: &[u8]) -> bool {
+        is_stamp(bits, message, signature)
     }
 }

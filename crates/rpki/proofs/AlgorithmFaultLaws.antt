@@ -2,26 +2,31 @@
 use Rattle.std.proofs.Common.{inl, inr, ℕ, true, false, List, Result, refl}
 use Rattle.rpki_der.specs.declared.error.DecodeError.{DecodeError}
 use Rattle.rpki_der.specs.declared.error.DecodeError.TheVariants.{OutOfMemory}
-use Rattle.rpki_der.specs.TagName.{oid, null, sequence, set}
-use Rattle.rpki_der.specs.Reading.{Reads, TakesNoMemory}
-use Rattle.rpki_der.specs.Values.{SpellsLeaf, HasTag, IsLeafFault, IsOuterFault}
-use Rattle.rpki_der.specs.Leaves.{IsNull, IsOidOf, IsOnly}
-use Rattle.rpki_der.specs.FirstFault.{IsEndFault}
+use Rattle.rpki_der.specs.Prelude.{oid, null, sequence, set, Reads, TakesNoMemory, SpellsLeaf, HasTag, IsLeafFault}
+use Rattle.rpki_der.specs.Prelude.{IsOuterFault, IsNull, IsOidOf, IsOnly, FirstFault, IsEndFault}
 use Rattle.rpki_der.proofs.LeavesLaws.{leaf-no-memory}
-use Rattle.rpki_der.proofs.FirstFaultLaws.{first-no-memory, optional-no-memory, end-no-memory, inside-outer-exactly, reads-kind}
+use Rattle.rpki_der.proofs.FirstFaultLaws.{first-no-memory, optional-no-memory, end-no-memory, inside-outer-exactly}
+use Rattle.rpki_der.proofs.FirstFaultLaws.{reads-kind}
+use Rattle.rpki_der.specs.Prelude.{only, any_oid, this_oid}
 use Rattle.rpki.specs.Oids.{sha256, secp256r1}
 use Rattle.rpki.specs.Digest.{SpellsDigest}
-use Rattle.rpki.specs.AlgorithmFault.{IsParametersFault, IsNamedFault, IsAnyNamedFault, IsAlgorithmFault, IsBareFault, IsDigestSetFault, IsCmsRestFault, IsCmsFault, IsFormatRestFault, IsFormatFault}
+use Rattle.rpki.specs.AlgorithmFault.{parameters, IsAlgorithmFault, IsBareFault, IsFormatRestFault, key_format}
+use Rattle.rpki.specs.AlgorithmFault.{identified, format_parts}
 
-pub parameters-never : (s : List ℕ) → IsParametersFault s OutOfMemory → ⊥
-parameters-never s = optional-no-memory (HasTag null) (SpellsLeaf null false IsNull) (IsLeafFault null false IsNull) IsEndFault s (λ h. leaf-no-memory null false IsNull s OutOfMemory h refl) end-no-memory
+pub parameters-never : (s : List ℕ) → parameters.fault s OutOfMemory → ⊥
+parameters-never s = optional-no-memory (HasTag null) (SpellsLeaf null false IsNull) (IsLeafFault null false IsNull)
+    IsEndFault s (λ h. leaf-no-memory null false IsNull s OutOfMemory h refl) end-no-memory
 
-pub named-never : (o : List ℕ) (L : List ℕ → DecodeError → Type 0) (s : List ℕ) → ((r : List ℕ) → L r OutOfMemory → ⊥) → IsNamedFault o L s OutOfMemory → ⊥
+pub named-never : (o : List ℕ) (L : List ℕ → DecodeError → Type 0) (s : List ℕ) → ((r : List ℕ) → L r OutOfMemory → ⊥)
+    → FirstFault (this_oid o).spells (this_oid o).fault (λ v. L) s OutOfMemory → ⊥
 named-never o L s f =
-    first-no-memory (SpellsLeaf oid false (IsOnly o)) (IsLeafFault oid false (IsOnly o)) (λ v. L) s (λ h. leaf-no-memory oid false (IsOnly o) s OutOfMemory h refl) (λ v r. f r)
+    first-no-memory (SpellsLeaf oid false (IsOnly o)) (IsLeafFault oid false (IsOnly o)) (λ v. L) s
+    (λ h. leaf-no-memory oid false (IsOnly o) s OutOfMemory h refl) (λ v r. f r)
 
-any-named-never : (L : List ℕ → List ℕ → DecodeError → Type 0) (s : List ℕ) → ((x r : List ℕ) → L x r OutOfMemory → ⊥) → IsAnyNamedFault L s OutOfMemory → ⊥
-any-named-never L s f = first-no-memory (SpellsLeaf oid false IsOidOf) (IsLeafFault oid false IsOidOf) L s (λ h. leaf-no-memory oid false IsOidOf s OutOfMemory h refl) f
+any-named-never : (L : List ℕ → List ℕ → DecodeError → Type 0) (s : List ℕ) → ((x r : List ℕ) → L x r OutOfMemory → ⊥)
+    → FirstFault any_oid.spells any_oid.fault L s OutOfMemory → ⊥
+any-named-never L s f = first-no-memory (SpellsLeaf oid false IsOidOf) (IsLeafFault oid false IsOidOf) L s
+    (λ h. leaf-no-memory oid false IsOidOf s OutOfMemory h refl) f
 
 format-rest-never : (x r : List ℕ) → IsFormatRestFault x r OutOfMemory → ⊥
 format-rest-never x r (inl h) = parameters-never r h.1
@@ -31,20 +36,26 @@ format-rest-never x r (inr (inr h)) = h.1
 -- ---- each is as a reader that allocates nothing says it of a SEQUENCE
 
 pub algorithm-outer : (o s : List ℕ) (e : DecodeError) → IsAlgorithmFault o s e → IsOuterFault sequence true s e
-algorithm-outer o s e = inside-outer-exactly sequence true (IsNamedFault o IsParametersFault) s e (λ c. named-never o IsParametersFault c parameters-never)
+algorithm-outer o s e = inside-outer-exactly sequence true (identified o).fault s e
+    (λ c. named-never o parameters.fault c parameters-never)
 
 pub bare-outer : (o s : List ℕ) (e : DecodeError) → IsBareFault o s e → IsOuterFault sequence true s e
-bare-outer o s e = inside-outer-exactly sequence true (IsNamedFault o IsEndFault) s e (λ c. named-never o IsEndFault c end-no-memory)
+bare-outer o s e =
+    inside-outer-exactly sequence true (only (this_oid o)).fault s e (λ c. named-never o IsEndFault c end-no-memory)
 
-pub format-outer : (s : List ℕ) (e : DecodeError) → IsFormatFault s e → IsOuterFault sequence true s e
-format-outer s e = inside-outer-exactly sequence true (IsAnyNamedFault IsFormatRestFault) s e (λ c. any-named-never IsFormatRestFault c format-rest-never)
+pub format-outer : (s : List ℕ) (e : DecodeError) → key_format.fault s e → IsOuterFault sequence true s e
+format-outer s e = inside-outer-exactly sequence true format_parts.fault s e
+    (λ c. any-named-never IsFormatRestFault c format-rest-never)
 
 -- ---- a reader of an algorithm identifier never returns that allocation failed
 
-pub algorithm-exactly : {X V : Type 0} (view : X → V) (G : V → List ℕ → Type 0) (o s r : List ℕ) (x : Result X DecodeError)
+pub algorithm-exactly : {X V : Type 0} (view : X → V) (G : V → List ℕ → Type 0) (o s r : List ℕ)
+    (x : Result X DecodeError)
     → Reads view G (IsAlgorithmFault o) s r x → Reads view G (TakesNoMemory (IsAlgorithmFault o)) s r x
-algorithm-exactly view G o s r x = reads-kind view G (IsAlgorithmFault o) (TakesNoMemory (IsAlgorithmFault o)) s r x (λ e h. record { other = (algorithm-outer o s e h).other; kind = h })
+algorithm-exactly view G o s r x = reads-kind view G (IsAlgorithmFault o) (TakesNoMemory (IsAlgorithmFault o)) s r x
+    (λ e h. record { other = (algorithm-outer o s e h).other; kind = h })
 
 pub bare-exactly : {X V : Type 0} (view : X → V) (G : V → List ℕ → Type 0) (o s r : List ℕ) (x : Result X DecodeError)
     → Reads view G (IsBareFault o) s r x → Reads view G (TakesNoMemory (IsBareFault o)) s r x
-bare-exactly view G o s r x = reads-kind view G (IsBareFault o) (TakesNoMemory (IsBareFault o)) s r x (λ e h. record { other = (bare-outer o s e h).other; kind = h })
+bare-exactly view G o s r x = reads-kind view G (IsBareFault o) (TakesNoMemory (IsBareFault o)) s r x
+    (λ e h. record { other = (bare-outer o s e h).other; kind = h })

@@ -1,9 +1,6 @@
 -- The algorithm identifier of SHA-256 that is written is read again.
 use Rattle.std.proofs.Common.{true, false, ◌<◌, ◌^◌, [], length, append-nil, sym, refl, lit<, arith}
-use Rattle.rpki_der.specs.TagName.{oid, sequence, set}
-use Rattle.rpki_der.specs.Header.{tlv}
-use Rattle.rpki_der.specs.Leaves.{IsOnly}
-use Rattle.rpki_der.specs.ValueListLaws.{sequence_legal, set_legal}
+use Rattle.rpki_der.specs.Prelude.{oid, sequence, set, tlv, IsOnly, sequence_legal, set_legal}
 use Rattle.rpki_der.proofs.EncodeLaws.{leaf-legal, tlv_at_most}
 use Rattle.rpki.specs.Oids.{sha256}
 use Rattle.rpki.specs.AlgorithmOctetsLaws.{oid-legal}

@@ -1,62 +1,90 @@
 -- The errors of extensions, from what the readers of their parts return.
 use Rattle.std.proofs.Common.{◌≡◌, ◌⊎◌, ℕ, true, false, Option, Some, None, Ok, List, inl, inr, refl, subst}
 use Rattle.rpki_der.specs.declared.error.DecodeError.{DecodeError}
-use Rattle.rpki_der.specs.declared.error.DecodeError.TheVariants.{Truncated, BadTag, BadLength, Unexpected, Content, Trailing, OutOfMemory}
-use Rattle.rpki_der.specs.TagName.{oid, boolean, octet_string, sequence}
-use Rattle.rpki_der.specs.Reading.{Accepts, Refusal, ReadsWhere, SpellsNothing, UnlessMemory, OrMemoryWhere, Finds}
-use Rattle.rpki_der.specs.Values.{SpellsContents, SpellsLeaf, HasTag, IsContentsFault, IsLeafFault, GivesOuterFault, IsOuterFault}
-use Rattle.rpki_der.specs.Leaves.{IsOidOf, IsBoolean}
-use Rattle.rpki_der.specs.Capture.{SpellsKept, IsCapturedFault}
-use Rattle.rpki_der.specs.FirstFault.{OptionalFault, IsEndFault}
-use Rattle.rpki_der.specs.FirstFault.FirstFault.{AtPart, Later}
+use Rattle.rpki_der.specs.declared.error.DecodeError.TheVariants.{Truncated, BadTag, BadLength, Unexpected, Content}
+use Rattle.rpki_der.specs.declared.error.DecodeError.TheVariants.{Trailing, OutOfMemory}
+use Rattle.rpki_der.specs.Prelude.{oid, boolean, octet_string, sequence, Accepts, Refusal, ReadsWhere, SpellsNothing}
+use Rattle.rpki_der.specs.Prelude.{UnlessMemory, OrMemoryWhere, Finds, SpellsContents, SpellsLeaf, HasTag}
+use Rattle.rpki_der.specs.Prelude.{IsContentsFault, IsLeafFault, GivesOuterFault, IsOuterFault, IsOidOf, IsBoolean}
+use Rattle.rpki_der.specs.Prelude.{SpellsKept, IsCapturedFault, OptionalFault, IsEndFault, AtPart, Later}
 use Rattle.rpki_der.proofs.ReadingLaws.{UnlessMemory-weaker, Refusal-weaker, or-memory-kind}
 use Rattle.rpki_der.proofs.CaptureLaws.{or-memory-from}
 use Rattle.rpki_der.proofs.LeavesLaws.{leaf-no-memory, contents-no-memory}
 use Rattle.rpki_der.proofs.ComposedLaws.{outer-refused, inner-refused}
-use Rattle.rpki_der.proofs.FirstFaultLaws.{first-no-memory, optional-no-memory, end-no-memory, inside-outer, inside-outer-exactly}
+use Rattle.rpki_der.proofs.FirstFaultLaws.{first-no-memory, optional-no-memory, end-no-memory, inside-outer}
+use Rattle.rpki_der.proofs.FirstFaultLaws.{inside-outer-exactly}
 use Rattle.rpki.specs.ExtensionValue.{ExtensionParts, IsExtensionContents, SpellsExtension}
-use Rattle.rpki.specs.ExtensionFault.{IsContentFault, IsExtensionPartsFault, IsCertExtensionFault, IsKeptExtensionFault}
+use Rattle.rpki.specs.ExtensionFault.{content, extension_fields, IsCertExtensionFault, IsKeptExtensionFault}
 use Rattle.rpki.proofs.ExtensionLaws.{AnyExtension}
 
 -- what follows an optional part has the error
-pub behind-optional : {X V : Type 0} (B : List ℕ → Type 0) (view : X → V) (G : V → List ℕ → Type 0) (K L : List ℕ → DecodeError → Type 0) (s r : List ℕ) (p : Option X) (e : DecodeError)
+pub behind-optional : {X V : Type 0} (B : List ℕ → Type 0) (view : X → V) (G : V → List ℕ → Type 0)
+    (K L : List ℕ → DecodeError → Type 0) (s r : List ℕ) (p : Option X) (e : DecodeError)
     → ReadsWhere B view G K s r (Ok p) → L r e → OptionalFault B G K L s e
 behind-optional B view G K L s r None e h l = inl (h.0, subst (λ (x : List ℕ). L x e) h.1 l)
 behind-optional B view G K L s r (Some x) e h l = inr (h.0, Later (view x) r h.1 l)
 
 -- nothing is allocated
-content-never : (s : List ℕ) → IsContentFault s OutOfMemory → ⊥
+content-never : (s : List ℕ) → content.fault s OutOfMemory → ⊥
 content-never s =
-    first-no-memory (SpellsContents octet_string false) (IsContentsFault octet_string false) (λ o. IsEndFault) s (λ h. contents-no-memory octet_string false s OutOfMemory h refl) (λ o r. end-no-memory r)
+    first-no-memory (SpellsContents octet_string false) (IsContentsFault octet_string false) (λ o. IsEndFault) s
+    (λ h. contents-no-memory octet_string false s OutOfMemory h refl) (λ o r. end-no-memory r)
 
-parts-never : (c : List ℕ) → IsExtensionPartsFault c OutOfMemory → ⊥
+parts-never : (c : List ℕ) → extension_fields.fault c OutOfMemory → ⊥
 parts-never c =
-    let F = OptionalFault (HasTag boolean) (SpellsLeaf boolean false IsBoolean) (IsLeafFault boolean false IsBoolean) IsContentFault in
-    first-no-memory (SpellsLeaf oid false IsOidOf) (IsLeafFault oid false IsOidOf) (λ i. F) c (λ h. leaf-no-memory oid false IsOidOf c OutOfMemory h refl)
-    (λ i r. optional-no-memory (HasTag boolean) (SpellsLeaf boolean false IsBoolean) (IsLeafFault boolean false IsBoolean) IsContentFault r (λ h. leaf-no-memory boolean false IsBoolean r OutOfMemory h refl) content-never)
+    let F = OptionalFault (HasTag boolean) (SpellsLeaf boolean false IsBoolean) (IsLeafFault boolean false IsBoolean)
+    content.fault in
+    first-no-memory (SpellsLeaf oid false IsOidOf) (IsLeafFault oid false IsOidOf) (λ i. F) c
+    (λ h. leaf-no-memory oid false IsOidOf c OutOfMemory h refl)
+    (λ i r. optional-no-memory (HasTag boolean) (SpellsLeaf boolean false IsBoolean)
+    (IsLeafFault boolean false IsBoolean) content.fault r
+    (λ h. leaf-no-memory boolean false IsBoolean r OutOfMemory h refl) content-never)
 
 pub extension-outer : (s : List ℕ) (e : DecodeError) → IsCertExtensionFault s e → IsOuterFault sequence true s e
-extension-outer s e = inside-outer-exactly sequence true IsExtensionPartsFault s e parts-never
+extension-outer s e = inside-outer-exactly sequence true extension_fields.fault s e parts-never
 
 -- the SEQUENCE isn't there
-pub no-sequence : (s q : List ℕ) (e : DecodeError) → Refusal (SpellsContents sequence true) (IsContentsFault sequence true) s q e → Refusal SpellsExtension IsCertExtensionFault s s e
-no-sequence s q e h = record { unchanged = refl; refuses = (outer-refused sequence true IsExtensionContents s q s e refl h).refuses; kind = AtPart h.refuses h.kind }
+pub no-sequence : (s q : List ℕ) (e : DecodeError)
+    → Refusal (SpellsContents sequence true) (IsContentsFault sequence true) s q e
+    → Refusal SpellsExtension IsCertExtensionFault s s e
+no-sequence s q e h = record {
+  unchanged = refl;
+  refuses =
+      (outer-refused sequence true IsExtensionContents s q s e refl h).refuses;
+  kind = AtPart h.refuses h.kind;
+}
 
 -- its contents spell nothing
-pub no-parts : (s c q : List ℕ) (e : DecodeError) → Accepts (SpellsContents sequence true) s c q → UnlessMemory e (SpellsNothing IsExtensionContents c) × IsExtensionPartsFault c e
+pub no-parts : (s c q : List ℕ) (e : DecodeError) → Accepts (SpellsContents sequence true) s c q
+    → UnlessMemory e (SpellsNothing IsExtensionContents c) × extension_fields.fault c e
     → Refusal SpellsExtension IsCertExtensionFault s s e
-no-parts s c q e a h = record { unchanged = refl; refuses = (inner-refused sequence true IsExtensionContents s c q s e refl a h.0).refuses; kind = Later c q a h.1 }
+no-parts s c q e a h = record {
+  unchanged = refl;
+  refuses =
+      (inner-refused sequence true IsExtensionContents s c q s e refl a h.0).refuses;
+  kind = Later c q a h.1;
+}
 
 -- it isn't there
-pub passed-refused : (s q : List ℕ) (e : DecodeError) → Refusal SpellsExtension IsCertExtensionFault s q e → Refusal AnyExtension IsCertExtensionFault s q e
-passed-refused s q e h = Refusal-weaker (λ none u r k. none k.spelled.0 r (record { front = k.front; parts = k.parts; spelled = k.spelled.1 })) (λ k. k) h
+pub passed-refused : (s q : List ℕ) (e : DecodeError) → Refusal SpellsExtension IsCertExtensionFault s q e
+    → Refusal AnyExtension IsCertExtensionFault s q e
+passed-refused s q e h = Refusal-weaker (λ none u r k. none k.spelled.0 r
+    (record { front = k.front; parts = k.parts; spelled = k.spelled.1 })) (λ k. k) h
 
 -- it isn't there, or could not be kept
-pub extension-unkept : (s r : List ℕ) (e : DecodeError) → Refusal (SpellsKept AnyExtension) (IsCapturedFault AnyExtension IsCertExtensionFault) s r e
+pub extension-unkept : (s r : List ℕ) (e : DecodeError)
+    → Refusal (SpellsKept AnyExtension) (IsCapturedFault AnyExtension IsCertExtensionFault) s r e
     → Refusal SpellsExtension IsKeptExtensionFault s r e
 extension-unkept s r e h =
-    Refusal-weaker (λ none w q k. none k.front q (record { front = k.front; parts = k.parts; spelled = record { same = refl; value = tt; spelled = (w, k.spelled) } }))
-    (or-memory-from (λ p. IsCertExtensionFault p OutOfMemory ⊎ Finds AnyExtension p) (Finds SpellsExtension) IsCertExtensionFault s e (λ m. elim m [
+    Refusal-weaker (λ none w q k. none k.front q
+    (record {
+      front = k.front;
+      parts = k.parts;
+      spelled = record
+          { same = refl; value = tt; spelled = (w, k.spelled) };
+    }))
+    (or-memory-from (λ p. IsCertExtensionFault p OutOfMemory ⊎ Finds AnyExtension p) (Finds SpellsExtension)
+    IsCertExtensionFault s e (λ m. elim m [
       | inl k ↦ absurd ((extension-outer s OutOfMemory k).other refl)
       | inr (u, q, k) ↦ (k.spelled.0, q, record { front = k.front; parts = k.parts; spelled = k.spelled.1 })
     ])) h

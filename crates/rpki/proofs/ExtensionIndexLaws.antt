@@ -1,13 +1,11 @@
 -- The parts of an extension, by the index of its octets.
-use Rattle.std.proofs.Common.{◌≡◌, ℕ, ◌<◌, ◌^◌, true, false, Option, Some, None, List, [], ◌∷◌, ◌++◌, length, inl, inr, refl, sym, ap, subst, ◌∙◌, arith, append-nil}
+use Rattle.std.proofs.Common.{◌≡◌, ℕ, ◌<◌, ◌^◌, true, false, Option, Some, None, List, [], ◌∷◌, ◌++◌, length, inl, inr}
+use Rattle.std.proofs.Common.{refl, sym, ap, subst, ◌∙◌, arith, append-nil}
 use Rattle.std.specs.Prelude.{◌⊎◌, MatchOption, IsSome, slice_get, slice_range}
-use Rattle.rpki_der.specs.TagName.{TagName, oid, boolean, octet_string, sequence}
-use Rattle.rpki_der.specs.Header.{tlv}
-use Rattle.rpki_der.specs.Members.{spell, HaveHeaders}
-use Rattle.rpki_der.specs.Leaves.{boolean_contents}
-use Rattle.rpki_der.specs.Index.{Entry, IsIndex}
-use Rattle.rpki_der.specs.IndexMembers.{member_numbers, HasEntry}
-use Rattle.rpki_der.proofs.MemberLaws.{AreContents, primitives, contents_of, first_entry, member_entries, index-of-primitives, contents_of-primitives}
+use Rattle.rpki_der.specs.Prelude.{TagName, oid, boolean, octet_string, sequence, tlv, spell, HaveHeaders}
+use Rattle.rpki_der.specs.Prelude.{boolean_contents, Entry, IsIndex, member_numbers, HasEntry}
+use Rattle.rpki_der.proofs.MemberLaws.{AreContents, primitives, contents_of, first_entry, member_entries}
+use Rattle.rpki_der.proofs.MemberLaws.{index-of-primitives, contents_of-primitives}
 use Rattle.rpki.specs.ExtensionValue.{ExtensionParts, SpellsCritical, IsExtensionContents, SpellsExtension}
 
 abbrev pub Part : Type 0
@@ -27,12 +25,14 @@ Marked x = (oid, x.identifier) ∷ (boolean, boolean_contents x.critical) ∷ (o
 abbrev pub Shape : ExtensionParts → List ℕ → Type 0
 Shape x octets = ((x.critical ≡ false) × IsIndexedAs octets (Alone x)) ⊎ IsIndexedAs octets (Marked x)
 
-indexed : (octets c : List ℕ) (xs : List Part) → octets ≡ tlv sequence true c → length c < 2 ^ 32 → c ≡ spell (primitives xs) → HaveHeaders (primitives xs) → IsIndexedAs octets xs
+indexed : (octets c : List ℕ) (xs : List Part) → octets ≡ tlv sequence true c → length c < 2 ^ 32
+    → c ≡ spell (primitives xs) → HaveHeaders (primitives xs) → IsIndexedAs octets xs
 indexed octets c xs is fits same legal =
     let p : octets ≡ tlv sequence true (spell (primitives xs)) = is ∙ ap (λ (y : List ℕ). tlv sequence true y) same in
     let few : length (spell (primitives xs)) < 2 ^ 32 = omega (arith, fits, ap length same) in
     record {
-      index = index-of-primitives sequence xs octets (record { below = omega arith; named = λ _. omega arith }) few legal p;
+      index = index-of-primitives sequence xs octets (record { below = omega arith; named = λ _. omega arith }) few
+          legal p;
       contents = contents_of-primitives sequence xs octets p;
     }
 
@@ -53,15 +53,26 @@ shape x octets h = go k.critical
 
     go : SpellsCritical x.critical k.second → Shape x octets
     go (inr (absent, nothing)) =
-        let same : h.contents ≡ spell (primitives (Alone x)) = k.parts ∙ ap (λ (y : List ℕ). k.first ++ (y ++ k.third)) nothing ∙ ap (λ (y : List ℕ). y ++ k.third) first ∙ ap (λ (y : List ℕ). tlv oid false x.identifier ++ y) third in
-        inl (absent, indexed octets h.contents (Alone x) h.value.octets h.value.fits same ((k.identifier.value.tag, few), ((k.content.tag, k.content.fits), tt)))
+        let same : h.contents ≡ spell (primitives (Alone x)) = k.parts ∙ ap (λ (y : List ℕ). k.first ++ (y ++ k.third))
+        nothing ∙ ap (λ (y : List ℕ). y ++ k.third) first ∙ ap (λ (y : List ℕ). tlv oid false x.identifier ++ y) third
+        in
+        inl (
+          absent,
+          indexed octets h.contents (Alone x) h.value.octets h.value.fits same
+              ((k.identifier.value.tag, few), ((k.content.tag, k.content.fits), tt)),
+        )
     go (inl b) =
-        let flag : k.second ≡ tlv boolean false (boolean_contents x.critical) = b.value.octets ∙ ap (λ (c : List ℕ). tlv boolean false c) b.spelled in
+        let flag : k.second ≡ tlv boolean false (boolean_contents x.critical) = b.value.octets ∙ ap
+        (λ (c : List ℕ). tlv boolean false c) b.spelled in
         let same : h.contents ≡ spell (primitives (Marked x)) =
-        k.parts ∙ ap (λ (y : List ℕ). y ++ (k.second ++ k.third)) first ∙ ap (λ (y : List ℕ). tlv oid false x.identifier ++ (y ++ k.third)) flag
-        ∙ ap (λ (y : List ℕ). tlv oid false x.identifier ++ (tlv boolean false (boolean_contents x.critical) ++ y)) third in
-        let short : length (boolean_contents x.critical) < 2 ^ 32 = subst (λ (c : List ℕ). length c < 2 ^ 32) b.spelled b.value.fits in
-        inr (indexed octets h.contents (Marked x) h.value.octets h.value.fits same ((k.identifier.value.tag, few), ((b.value.tag, short), ((k.content.tag, k.content.fits), tt))))
+        k.parts ∙ ap (λ (y : List ℕ). y ++ (k.second ++ k.third)) first ∙ ap
+        (λ (y : List ℕ). tlv oid false x.identifier ++ (y ++ k.third)) flag
+        ∙ ap (λ (y : List ℕ). tlv oid false x.identifier ++ (tlv boolean false (boolean_contents x.critical) ++ y))
+        third in
+        let short : length (boolean_contents x.critical) < 2 ^ 32 = subst (λ (c : List ℕ). length c < 2 ^ 32) b.spelled
+        b.value.fits in
+        inr (indexed octets h.contents (Marked x) h.value.octets h.value.fits same
+        ((k.identifier.value.tag, few), ((b.value.tag, short), ((k.content.tag, k.content.fits), tt))))
 
 -- ---- the numbers of the parts
 
@@ -72,14 +83,16 @@ AreMembers octets numbers = (index : List Entry) → IsIndex octets index → nu
 abbrev pub Steps : List ℕ → Option ℕ → List ℕ → Type 0
 Steps before r after = MatchOption r ((before ≡ []) × (after ≡ [])) (λ n. before ≡ n ∷ after)
 
-numbers : (x : ExtensionParts) (octets ns : List ℕ) → Shape x octets → AreMembers octets ns → (ns ≡ 1 ∷ 2 ∷ []) ⊎ (ns ≡ 1 ∷ 2 ∷ 3 ∷ [])
+numbers : (x : ExtensionParts) (octets ns : List ℕ) → Shape x octets → AreMembers octets ns
+    → (ns ≡ 1 ∷ 2 ∷ []) ⊎ (ns ≡ 1 ∷ 2 ∷ 3 ∷ [])
 numbers x octets ns (inl s) h = inl (h _ s.1.index)
 numbers x octets ns (inr s) h = inr (h _ s.index)
 
 tail-of : (n m : ℕ) (a b : List ℕ) → n ∷ a ≡ m ∷ b → (n ≡ m) × (a ≡ b)
 tail-of n m a b e = ((cc), (cc))
 
-got : (n : ℕ) (ns before after : List ℕ) (r : Option ℕ) → before ≡ n ∷ ns → Steps before r after → (r ≡ Some n) × (after ≡ ns)
+got : (n : ℕ) (ns before after : List ℕ) (r : Option ℕ) → before ≡ n ∷ ns → Steps before r after
+    → (r ≡ Some n) × (after ≡ ns)
 got n ns before after None e h = let k = sym h.0 ∙ e in absurd (cc)
 got n ns before after (Some m) e h = let k = tail-of m n after ns (sym h ∙ e) in (ap Some k.0, k.1)
 
@@ -93,13 +106,16 @@ is-some r t e = subst IsSome (sym e) refl
 -- ---- their contents
 
 abbrev pub HasContents : List ℕ → ℕ → List ℕ → Type 0
-HasContents octets n c = (index : List Entry) × (e : Entry) × IsIndex octets index × (slice_get index n ≡ Some e) × (slice_range octets e.contents e.past ≡ c)
+HasContents octets n c = (index : List Entry) × (e : Entry) × IsIndex octets index × (slice_get index n ≡ Some e) ×
+    (slice_range octets e.contents e.past ≡ c)
 
 -- what is borrowed under a number
 abbrev pub Lends : List ℕ → ℕ → List ℕ → Type 0
-Lends octets n found = (index : List Entry) (e : Entry) → IsIndex octets index → slice_get index n ≡ Some e → found ≡ slice_range octets e.contents e.past
+Lends octets n found = (index : List Entry) (e : Entry) → IsIndex octets index → slice_get index n ≡ Some e → found ≡
+    slice_range octets e.contents e.past
 
-pub borrowed : (octets : List ℕ) (n m : ℕ) (r : Option ℕ) (c found : List ℕ) → r ≡ Some n → r ≡ Some m → HasContents octets m c → Lends octets n found → found ≡ c
+pub borrowed : (octets : List ℕ) (n m : ℕ) (r : Option ℕ) (c found : List ℕ) → r ≡ Some n → r ≡ Some m
+    → HasContents octets m c → Lends octets n found → found ≡ c
 borrowed octets n m r c found e f h l =
     let same : n ≡ m = cc in
     l h.0 h.1 h.2 (ap (λ (k : ℕ). slice_get h.0 k) same ∙ h.3) ∙ h.4
@@ -107,8 +123,16 @@ borrowed octets n m r c found e f h l =
 module _ (x : ExtensionParts) (octets : List ℕ) (h : SpellsExtension x octets) where
   pub has-first : HasEntry octets 0
   has-first = elim (shape x octets h) [
-    | inl s ↦ record { index = first_entry sequence (Alone x) ∷ member_entries sequence (Alone x); is = s.1.index; within = omega arith }
-    | inr s ↦ record { index = first_entry sequence (Marked x) ∷ member_entries sequence (Marked x); is = s.index; within = omega arith }
+    | inl s ↦ record {
+      index = first_entry sequence (Alone x) ∷ member_entries sequence (Alone x);
+      is = s.1.index;
+      within = omega arith;
+    }
+    | inr s ↦ record {
+      index = first_entry sequence (Marked x) ∷ member_entries sequence (Marked x);
+      is = s.index;
+      within = omega arith;
+    }
   ]
 
   pub named : HasContents octets 1 x.identifier
@@ -117,37 +141,38 @@ module _ (x : ExtensionParts) (octets : List ℕ) (h : SpellsExtension x octets)
     | inr s ↦ (_, _, s.index, refl, s.contents.0)
   ]
 
-  module _ (ns : List ℕ) (all : AreMembers octets ns) (r₁ : Option ℕ) (after₁ : List ℕ) (step₁ : Steps ns r₁ after₁) where
-    pub first-number : r₁ ≡ Some 1
-    first-number = elim (numbers x octets ns (shape x octets h) all) [
-      | inl e ↦ (got 1 (2 ∷ []) ns after₁ r₁ e step₁).0
-      | inr e ↦ (got 1 (2 ∷ 3 ∷ []) ns after₁ r₁ e step₁).0
-    ]
-
-    module _ (r₂ : Option ℕ) (after₂ : List ℕ) (step₂ : Steps after₁ r₂ after₂) where
-      pub second-number : r₂ ≡ Some 2
-      second-number = elim (numbers x octets ns (shape x octets h) all) [
-        | inl e ↦ (got 2 [] after₁ after₂ r₂ (got 1 (2 ∷ []) ns after₁ r₁ e step₁).1 step₂).0
-        | inr e ↦ (got 2 (3 ∷ []) after₁ after₂ r₂ (got 1 (2 ∷ 3 ∷ []) ns after₁ r₁ e step₁).1 step₂).0
+  module _ (ns : List ℕ) (all : AreMembers octets ns) (r₁ : Option ℕ) (after₁ : List ℕ) (step₁ : Steps ns r₁ after₁)
+    where
+      pub first-number : r₁ ≡ Some 1
+      first-number = elim (numbers x octets ns (shape x octets h) all) [
+        | inl e ↦ (got 1 (2 ∷ []) ns after₁ r₁ e step₁).0
+        | inr e ↦ (got 1 (2 ∷ 3 ∷ []) ns after₁ r₁ e step₁).0
       ]
 
-      -- the third call finds an OCTET STRING after a BOOLEAN, or nothing after the OCTET STRING
-      abbrev pub Others : Option ℕ → Type 0
-      Others r₃ =
-          ((r₃ ≡ None) × (x.critical ≡ false) × HasContents octets 2 x.content)
-          ⊎ ((r₃ ≡ Some 3) × HasContents octets 2 (boolean_contents x.critical) × HasContents octets 3 x.content)
+      module _ (r₂ : Option ℕ) (after₂ : List ℕ) (step₂ : Steps after₁ r₂ after₂) where
+        pub second-number : r₂ ≡ Some 2
+        second-number = elim (numbers x octets ns (shape x octets h) all) [
+          | inl e ↦ (got 2 [] after₁ after₂ r₂ (got 1 (2 ∷ []) ns after₁ r₁ e step₁).1 step₂).0
+          | inr e ↦ (got 2 (3 ∷ []) after₁ after₂ r₂ (got 1 (2 ∷ 3 ∷ []) ns after₁ r₁ e step₁).1 step₂).0
+        ]
 
-      pub others-of : (r₃ : Option ℕ) (after₃ : List ℕ) → Steps after₂ r₃ after₃ → Others r₃
-      others-of r₃ after₃ step₃ = elim (shape x octets h) [
-        | inl s ↦
-            let e : ns ≡ 1 ∷ 2 ∷ [] = all _ s.1.index in
-            let one = got 1 (2 ∷ []) ns after₁ r₁ e step₁ in
-            let two = got 2 [] after₁ after₂ r₂ one.1 step₂ in
-            inl (end-of after₂ after₃ r₃ two.1 step₃, s.0, (_, _, s.1.index, refl, s.1.contents.1.0))
-        | inr s ↦
-            let e : ns ≡ 1 ∷ 2 ∷ 3 ∷ [] = all _ s.index in
-            let one = got 1 (2 ∷ 3 ∷ []) ns after₁ r₁ e step₁ in
-            let two = got 2 (3 ∷ []) after₁ after₂ r₂ one.1 step₂ in
-            let three = got 3 [] after₂ after₃ r₃ two.1 step₃ in
-            inr (three.0, (_, _, s.index, refl, s.contents.1.0), (_, _, s.index, refl, s.contents.1.1.0))
-      ]
+        -- the third call finds an OCTET STRING after a BOOLEAN, or nothing after the OCTET STRING
+        abbrev pub Others : Option ℕ → Type 0
+        Others r₃ =
+            ((r₃ ≡ None) × (x.critical ≡ false) × HasContents octets 2 x.content)
+            ⊎ ((r₃ ≡ Some 3) × HasContents octets 2 (boolean_contents x.critical) × HasContents octets 3 x.content)
+
+        pub others-of : (r₃ : Option ℕ) (after₃ : List ℕ) → Steps after₂ r₃ after₃ → Others r₃
+        others-of r₃ after₃ step₃ = elim (shape x octets h) [
+          | inl s ↦
+              let e : ns ≡ 1 ∷ 2 ∷ [] = all _ s.1.index in
+              let one = got 1 (2 ∷ []) ns after₁ r₁ e step₁ in
+              let two = got 2 [] after₁ after₂ r₂ one.1 step₂ in
+              inl (end-of after₂ after₃ r₃ two.1 step₃, s.0, (_, _, s.1.index, refl, s.1.contents.1.0))
+          | inr s ↦
+              let e : ns ≡ 1 ∷ 2 ∷ 3 ∷ [] = all _ s.index in
+              let one = got 1 (2 ∷ 3 ∷ []) ns after₁ r₁ e step₁ in
+              let two = got 2 (3 ∷ []) after₁ after₂ r₂ one.1 step₂ in
+              let three = got 3 [] after₂ after₃ r₃ two.1 step₃ in
+              inr (three.0, (_, _, s.index, refl, s.contents.1.0), (_, _, s.index, refl, s.contents.1.1.0))
+        ]

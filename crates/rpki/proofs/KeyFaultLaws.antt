@@ -2,47 +2,47 @@
 use Rattle.std.proofs.Common.{ℕ, true, false, List, refl}
 use Rattle.rpki_der.specs.declared.error.DecodeError.{DecodeError}
 use Rattle.rpki_der.specs.declared.error.DecodeError.TheVariants.{OutOfMemory}
-use Rattle.rpki_der.specs.TagName.{sequence, bit_string, integer}
-use Rattle.rpki_der.specs.Reading.{Finds, OrMemoryWhere, Refusal, UnlessMemory, SpellsNothing, TakesNoMemory, IsWholeFault}
-use Rattle.rpki_der.specs.Values.{SpellsLeaf, IsLeafFault, GivesOuterFault, IsOuterFault}
-use Rattle.rpki_der.specs.Integer.{IsUnsigned}
-use Rattle.rpki_der.specs.Leaves.{IsBits}
-use Rattle.rpki_der.specs.Inside.{HasInside}
-use Rattle.rpki_der.specs.FirstFault.{FirstFault, IsEndFault}
-use Rattle.rpki_der.specs.FirstFault.FirstFault.{AtPart, Later}
+use Rattle.rpki_der.specs.Prelude.{sequence, bit_string, integer, Finds, OrMemoryWhere, Refusal, UnlessMemory}
+use Rattle.rpki_der.specs.Prelude.{SpellsNothing, TakesNoMemory, IsWholeFault, SpellsLeaf, IsLeafFault, GivesOuterFault}
+use Rattle.rpki_der.specs.Prelude.{IsOuterFault, IsUnsigned, IsBits, HasInside, FirstFault, IsEndFault, AtPart, Later}
 use Rattle.rpki_der.proofs.LeavesLaws.{leaf-no-memory}
 use Rattle.rpki_der.proofs.ComposedLaws.{not-read}
 use Rattle.rpki_der.proofs.FirstFaultLaws.{first-no-memory, end-no-memory, inside-outer-exactly, inside-outer-where}
 use Rattle.rpki.specs.PublicKey.{IsKeyContents, SpellsRsaBits}
 use Rattle.rpki.specs.KeyFormat.{SpellsFormat}
-use Rattle.rpki.specs.AlgorithmFault.{IsFormatFault}
-use Rattle.rpki.specs.KeyFault.{IsKeyPartsFault, IsKeyFault, IsKeyViewPartsFault, IsKeyViewFault, IsRsaNumbersFault, IsRsaBitsFault}
+use Rattle.rpki.specs.AlgorithmFault.{key_format}
+use Rattle.rpki.specs.KeyFault.{key_parts, IsKeyFault, key_view_parts, IsKeyViewFault, rsa_numbers, IsRsaBitsFault}
 use Rattle.rpki.proofs.PublicKeyLaws.{key-found}
 use Rattle.rpki.proofs.AlgorithmFaultLaws.{format-outer}
 
-view-parts-never : (c : List ℕ) → IsKeyViewPartsFault c OutOfMemory → ⊥
+view-parts-never : (c : List ℕ) → key_view_parts.fault c OutOfMemory → ⊥
 view-parts-never c =
     let B = SpellsLeaf bit_string false IsBits in
     let K : List ℕ → DecodeError → Type 0 = IsLeafFault bit_string false IsBits in
-    first-no-memory SpellsFormat IsFormatFault (λ f. FirstFault B K (λ b. IsEndFault)) c (λ h. (format-outer c OutOfMemory h).other refl)
-    (λ f r. first-no-memory B K (λ b. IsEndFault) r (λ h. leaf-no-memory bit_string false IsBits r OutOfMemory h refl) (λ b q. end-no-memory q))
+    first-no-memory SpellsFormat key_format.fault (λ f. FirstFault B K (λ b. IsEndFault)) c
+    (λ h. (format-outer c OutOfMemory h).other refl)
+    (λ f r. first-no-memory B K (λ b. IsEndFault) r (λ h. leaf-no-memory bit_string false IsBits r OutOfMemory h refl)
+    (λ b q. end-no-memory q))
 
 -- a key whose bits are borrowed allocates nothing
 pub view-outer : (s : List ℕ) (e : DecodeError) → IsKeyViewFault s e → IsOuterFault sequence true s e
-view-outer s e = inside-outer-exactly sequence true IsKeyViewPartsFault s e view-parts-never
+view-outer s e = inside-outer-exactly sequence true key_view_parts.fault s e view-parts-never
 
-rsa-never : (c : List ℕ) → IsRsaNumbersFault c OutOfMemory → ⊥
+rsa-never : (c : List ℕ) → rsa_numbers.fault c OutOfMemory → ⊥
 rsa-never c =
     let U : ℕ → List ℕ → Type 0 = SpellsLeaf integer false IsUnsigned in
     let K : List ℕ → DecodeError → Type 0 = IsLeafFault integer false IsUnsigned in
-    first-no-memory U K (λ m. FirstFault U K (λ n. IsEndFault)) c (λ h. leaf-no-memory integer false IsUnsigned c OutOfMemory h refl)
-    (λ m r. first-no-memory U K (λ n. IsEndFault) r (λ h. leaf-no-memory integer false IsUnsigned r OutOfMemory h refl) (λ n q. end-no-memory q))
+    first-no-memory U K (λ m. FirstFault U K (λ n. IsEndFault)) c
+    (λ h. leaf-no-memory integer false IsUnsigned c OutOfMemory h refl)
+    (λ m r. first-no-memory U K (λ n. IsEndFault) r (λ h. leaf-no-memory integer false IsUnsigned r OutOfMemory h refl)
+    (λ n q. end-no-memory q))
 
 -- nothing is allocated
 pub rsa-bits-outer : (s : List ℕ) (e : DecodeError) → IsRsaBitsFault s e → IsOuterFault sequence true s e
-rsa-bits-outer s e = inside-outer-exactly sequence true IsRsaNumbersFault s e rsa-never
+rsa-bits-outer s e = inside-outer-exactly sequence true rsa_numbers.fault s e rsa-never
 
-pub whole-refused : (s r : List ℕ) (e : DecodeError) → Refusal SpellsRsaBits IsRsaBitsFault s r e → UnlessMemory e (SpellsNothing SpellsRsaBits s) × TakesNoMemory (IsWholeFault SpellsRsaBits IsRsaBitsFault) s e
+pub whole-refused : (s r : List ℕ) (e : DecodeError) → Refusal SpellsRsaBits IsRsaBitsFault s r e
+    → UnlessMemory e (SpellsNothing SpellsRsaBits s) × TakesNoMemory (IsWholeFault SpellsRsaBits IsRsaBitsFault) s e
 whole-refused s r e h =
     let k = not-read SpellsRsaBits IsRsaBitsFault s r e h in
     (k.0, record { other = (rsa-bits-outer s e h.kind).other; kind = k.1 })

@@ -1,13 +1,10 @@
 -- A name's octets have one reading.
 use Rattle.std.proofs.Common.{◌≡◌, ℕ, Bool, true, false, List, [], ◌∷◌, ◌++◌, refl, sym, ap, subst, ◌∙◌}
-use Rattle.rpki_der.specs.TagName.{TagName, sequence, set, oid}
-use Rattle.rpki_der.specs.Header.{tlv}
-use Rattle.rpki_der.specs.Reading.{Spells}
-use Rattle.rpki_der.specs.Values.{SpellsLeaf}
-use Rattle.rpki_der.specs.Leaves.{IsOidOf}
+use Rattle.rpki_der.specs.Prelude.{TagName, sequence, set, oid, tlv, Spells, SpellsLeaf, IsOidOf}
 use Rattle.rpki_der.proofs.EncodeLaws.{tlv-same-then}
 use Rattle.rpki_der.proofs.ComposedLaws.{spelled-whole}
-use Rattle.rpki.specs.Name.{Attribute, attribute_of, IsAttribute, SpellsAttribute, SpellsEach, SpellsSome, SpellsRelative, SpellsName}
+use Rattle.rpki.specs.Name.{Attribute, attribute_of, IsAttribute, SpellsAttribute, SpellsEach, SpellsSome}
+use Rattle.rpki.specs.Name.{SpellsRelative, SpellsName}
 use Rattle.rpki_der.proofs.LeafValueLaws.{leaf-nowhere}
 
 -- contents spell one value at most
@@ -27,7 +24,9 @@ one-leaf {V} t f C one s v w q r g h =
     let same = tlv-same-then t f a.contents b.contents q r a.value.fits b.value.fits (sym left ∙ right) in
     (one b.contents v w (subst (C v) same.0 a.spelled) b.spelled, same.1)
 
-one-each : {V : Type 0} (G : V → List ℕ → Type 0) → BeginsOnce G → ((s : List ℕ) (v : V) (r : List ℕ) → s ≡ [] → Spells G s v r → ⊥) → (vs ws : List V) (p : List ℕ) → SpellsEach G vs p → SpellsEach G ws p → vs ≡ ws
+one-each : {V : Type 0} (G : V → List ℕ → Type 0) → BeginsOnce G
+    → ((s : List ℕ) (v : V) (r : List ℕ) → s ≡ [] → Spells G s v r → ⊥) → (vs ws : List V) (p : List ℕ)
+    → SpellsEach G vs p → SpellsEach G ws p → vs ≡ ws
 one-each G once nowhere [] [] p g h = refl
 one-each G once nowhere [] (w ∷ ws) p g h = absurd (nowhere p w h.0 g h.1)
 one-each G once nowhere (v ∷ vs) [] p g h = absurd (nowhere p v g.0 h g.1)
@@ -36,8 +35,10 @@ one-each G once nowhere (v ∷ vs) (w ∷ ws) p g h =
     let others = one-each G once nowhere vs ws h.0 (subst (SpellsEach G vs) first.1 g.2) h.2 in
     rw (first.0, others) refl
 
-one-some : {V : Type 0} (t : TagName) (f : Bool) (C : V → List ℕ → Type 0) → IsOne C → IsOne (SpellsSome (SpellsLeaf t f C))
-one-some t f C one c vs ws g h = one-each (SpellsLeaf t f C) (one-leaf t f C one) (leaf-nowhere t f C) vs ws c g.each h.each
+one-some : {V : Type 0} (t : TagName) (f : Bool) (C : V → List ℕ → Type 0) → IsOne C
+    → IsOne (SpellsSome (SpellsLeaf t f C))
+one-some t f C one c vs ws g h =
+    one-each (SpellsLeaf t f C) (one-leaf t f C one) (leaf-nowhere t f C) vs ws c g.each h.each
 
 one-identifier : IsOne IsOidOf
 one-identifier c v w g h = sym g.0 ∙ h.0
@@ -54,5 +55,6 @@ one-attribute c a b g h =
 
 pub one-name : (octets : List ℕ) (x y : List (List Attribute)) → SpellsName x octets → SpellsName y octets → x ≡ y
 one-name octets x y g h =
-    (one-leaf sequence true (SpellsSome SpellsRelative) (one-some set true (SpellsSome SpellsAttribute) (one-some sequence true IsAttribute one-attribute))
+    (one-leaf sequence true (SpellsSome SpellsRelative)
+    (one-some set true (SpellsSome SpellsAttribute) (one-some sequence true IsAttribute one-attribute))
     octets x y [] [] (spelled-whole SpellsName octets x g) (spelled-whole SpellsName octets y h)).0

@@ -1,24 +1,25 @@
 -- Public keys that are written, and the bits of RSA keys.
-use Rattle.std.proofs.Common.{◌≡◌, ◌↔◌, ℕ, ◌+◌, ◌<◌, ◌≤◌, ◌^◌, true, false, List, [], ◌∷◌, ◌++◌, length, refl, sym, ap, ◌∙◌, arith, lit<, length-append}
+use Rattle.std.proofs.Common.{◌≡◌, ◌↔◌, ℕ, ◌+◌, ◌<◌, ◌≤◌, ◌^◌, true, false, List, [], ◌∷◌, ◌++◌, length, refl, sym}
+use Rattle.std.proofs.Common.{Result, ap}
+use Rattle.std.proofs.Common.{◌∙◌, arith, lit<, length-append}
 use Rattle.rpki_der.specs.declared.error.DecodeError.{DecodeError}
-use Rattle.rpki_der.specs.TagName.{IsTag, oid, null, sequence, bit_string, integer}
-use Rattle.rpki_der.specs.Header.{tlv}
-use Rattle.rpki_der.specs.Reading.{Spells, SpellsNothing, UnlessMemory, TakesNoMemory, IsWholeFault, Finds}
-use Rattle.rpki_der.specs.Values.{SpellsLeaf}
-use Rattle.rpki_der.specs.Leaves.{Bits, AreBits, IsBits, bits_of}
-use Rattle.rpki_der.specs.Contents.{bits_contents}
-use Rattle.rpki_der.specs.Integer.{IsUnsigned, IsMagnitude, unsigned_contents}
-use Rattle.rpki_der.specs.Number.{number_of, AreOctets}
-use Rattle.rpki_der.specs.ValueListLaws.{sequence_legal}
+use Rattle.rpki_der.specs.Prelude.{IsTag, oid, null, sequence, bit_string, integer, tlv, Spells, SpellsNothing}
+use Rattle.rpki_der.specs.Prelude.{UnlessMemory, TakesNoMemory, IsWholeFault, Finds, SpellsLeaf, Bits, AreBits, IsBits}
+use Rattle.rpki_der.specs.Prelude.{bits_of, bits_contents, IsUnsigned, IsMagnitude, unsigned_contents, number_of}
+use Rattle.rpki_der.specs.Prelude.{AreOctets, sequence_legal}
 use Rattle.rpki_der.proofs.ReadingLaws.{UnlessMemory-weaker}
-use Rattle.rpki_der.proofs.EncodeLaws.{leaf-legal, tlv-same, tlv-same-then, tlv-at-least, tlv_at_most, bits-same, bits-spelled}
+use Rattle.rpki_der.proofs.EncodeLaws.{leaf-legal, tlv-same, tlv-same-then, tlv-at-least, tlv_at_most, bits-same}
+use Rattle.rpki_der.proofs.EncodeLaws.{bits-spelled}
 use Rattle.rpki_der.proofs.UnsignedLaws.{unsigned-spelled, unsigned-at-most, magnitude-at-most}
 use Rattle.rpki.specs.declared.crypto.keys.PublicKeyFormat.{PublicKeyFormat}
 use Rattle.rpki.specs.declared.crypto.keys.PublicKeyFormat.TheVariants.{Rsa, EcdsaP256}
 use Rattle.rpki.specs.Oids.{rsa_encryption, ec_public_key, secp256r1}
-use Rattle.rpki_der.specs.Parts.{SpellsBoth}
+use Rattle.rpki_der.specs.Format.{Format, TakesAll, then, only, said_by}
+use Rattle.rpki_der.proofs.FormatLaws.{takes-said}
+use Rattle.rpki.specs.AlgorithmFault.{key_format}
 use Rattle.rpki.specs.KeyFormat.{SpellsFormat, format_contents, format_octets}
-use Rattle.rpki.specs.PublicKey.{KeyParts, key_of, IsKeyContents, SpellsKey, key_contents, key_octets, AreRsaNumbers, SpellsRsaNumbers, SpellsRsaBits, IsRsaKey}
+use Rattle.rpki.specs.PublicKey.{KeyParts, key_of, IsKeyContents, SpellsKey, key_contents, key_octets, AreRsaNumbers}
+use Rattle.rpki.specs.PublicKey.{SpellsRsaNumbers, SpellsRsaBits, IsRsaKey}
 use Rattle.rpki.specs.KeyFault.{IsRsaBitsFault}
 use Rattle.rpki.proofs.FormatLaws.{format-short, format-spelled}
 use Rattle.rpki.proofs.MemoryLaws.{both-found}
@@ -27,10 +28,16 @@ use Rattle.rpki.proofs.MemoryLaws.{both-found}
 
 pub bits-short : (k : KeyParts) → length (key_contents k) < 2 ^ 32 → length (bits_contents k.bits) < 2 ^ 32
 bits-short k short =
-    omega (arith, length-append (format_octets k.format) (tlv bit_string false (bits_contents k.bits)), tlv-at-least bit_string false (bits_contents k.bits))
+    omega (
+      arith,
+      length-append (format_octets k.format) (tlv bit_string false (bits_contents k.bits)),
+      tlv-at-least
+          bit_string false (bits_contents k.bits),
+    )
 
 rsa-is-not-ec : (x y : List ℕ) → tlv oid false rsa_encryption ++ x ≡ tlv oid false ec_public_key ++ y → ⊥
-rsa-is-not-ec x y e = let same = (tlv-same-then oid false rsa_encryption ec_public_key x y (lit< tt) (lit< tt) e).0 in cc
+rsa-is-not-ec x y e =
+    let same = (tlv-same-then oid false rsa_encryption ec_public_key x y (lit< tt) (lit< tt) e).0 in cc
 
 format-one : (f g : PublicKeyFormat) → format_contents f ≡ format_contents g → f ≡ g
 format-one Rsa Rsa e = refl
@@ -40,7 +47,8 @@ format-one EcdsaP256 EcdsaP256 e = refl
 
 pub format-same : (f g : PublicKeyFormat) → (format_octets f ≡ format_octets g) ↔ (f ≡ g)
 format-same f g = (
-  λ e. format-one f g (tlv-same sequence true (format_contents f) (format_contents g) (format-short f) (format-short g) e),
+  λ e. format-one f g (tlv-same sequence true (format_contents f) (format_contents g) (format-short f) (format-short g)
+      e),
   λ e. ap format_octets e,
 )
 
@@ -50,28 +58,44 @@ same-bits-of a b p q = ap (λ (u : ℕ). bits_of u a.octets) p ∙ ap (λ (o : L
 pub same-key : (k l : KeyParts) → k.format ≡ l.format → k.bits ≡ l.bits → k ≡ l
 same-key k l p q = ap (λ (f : PublicKeyFormat). key_of f k.bits) p ∙ ap (λ (b : Bits). key_of l.format b) q
 
-pub key-same : (k l : KeyParts) → length (key_contents k) < 2 ^ 32 → length (key_contents l) < 2 ^ 32 → (key_octets k ≡ key_octets l) ↔ (k ≡ l)
+pub key-same : (k l : KeyParts) → length (key_contents k) < 2 ^ 32 → length (key_contents l) < 2 ^ 32
+    → (key_octets k ≡ key_octets l) ↔ (k ≡ l)
 key-same k l short short' = (
   λ e.
-      let c : format_octets k.format ++ tlv bit_string false (bits_contents k.bits) ≡ format_octets l.format ++ tlv bit_string false (bits_contents l.bits) =
+      let c : format_octets k.format ++ tlv bit_string false (bits_contents k.bits) ≡ format_octets l.format ++ tlv
+      bit_string false (bits_contents l.bits) =
       tlv-same sequence true (key_contents k) (key_contents l) short short' e in
-      let p = tlv-same-then sequence true (format_contents k.format) (format_contents l.format) (tlv bit_string false (bits_contents k.bits)) (tlv bit_string false (bits_contents l.bits)) (format-short k.format) (format-short l.format) c in
-      let q = tlv-same bit_string false (bits_contents k.bits) (bits_contents l.bits) (bits-short k short) (bits-short l short') p.1 in
+      let p = tlv-same-then sequence true (format_contents k.format) (format_contents l.format)
+      (tlv bit_string false (bits_contents k.bits)) (tlv bit_string false (bits_contents l.bits))
+      (format-short k.format) (format-short l.format) c in
+      let q = tlv-same bit_string false (bits_contents k.bits) (bits_contents l.bits) (bits-short k short)
+      (bits-short l short') p.1 in
       same-key k l (format-one k.format l.format p.0) (bits-same k.bits l.bits q),
   λ e. ap key_octets e,
 )
 
--- what was read
-pub only-key : (f : PublicKeyFormat) (b : Bits) (c : List ℕ) → ((x : PublicKeyFormat) (y : Bits) → SpellsBoth SpellsFormat (SpellsLeaf bit_string false IsBits) x y c → (x ≡ f) × (y ≡ b)) → (k : KeyParts) → IsKeyContents k c → k ≡ key_of f b
-only-key f b c one k h = let e = one k.format k.bits h in same-key k (key_of f b) e.0 e.1
+-- a key, by its two parts
+abbrev pub key_pair : KeyParts → PublicKeyFormat × Bits
+key_pair k = (k.format, k.bits)
+
+-- what was read, with bits of either format
+pub key-said : (B : Format Bits) (s r : List ℕ) (x : Result KeyParts DecodeError)
+    → TakesAll key_pair (then key_format (only B)) s r x
+    → TakesAll (λ k. k) (said_by (λ k. (then key_format B).spells (key_pair k)) (then key_format (only B))) s r x
+key-said B =
+    takes-said (λ k. k) (λ k. (then key_format B).spells (key_pair k)) (then key_format (only B)) key_pair
+    (λ k s h. h) (λ k s h. h)
+    (λ k l e. same-key k l (ap (λ (p : PublicKeyFormat × Bits). p.0) e) (ap (λ (p : PublicKeyFormat × Bits). p.1) e))
 
 -- ---- the bits of RSA keys
 
 as-bits : (s : List ℕ) (k : KeyParts) (r : List ℕ) → Spells IsRsaKey s k r → Spells SpellsRsaBits s tt r
 as-bits s k r h = record { front = h.front; parts = h.parts; spelled = h.spelled.numbers }
 
-as-key : (s : List ℕ) (v : Unit {0}) (r : List ℕ) (h : Spells SpellsRsaBits s v r) → Spells IsRsaKey s (key_of Rsa (bits_of 0 h.front)) r
-as-key s v r h = record { front = h.front; parts = h.parts; spelled = record { format = refl; bits = refl; numbers = h.spelled } }
+as-key : (s : List ℕ) (v : Unit {0}) (r : List ℕ) (h : Spells SpellsRsaBits s v r)
+    → Spells IsRsaKey s (key_of Rsa (bits_of 0 h.front)) r
+as-key s v r h =
+    record { front = h.front; parts = h.parts; spelled = record { format = refl; bits = refl; numbers = h.spelled } }
 
 pub no-rsa-key : (s : List ℕ) (e : DecodeError)
     → UnlessMemory e (SpellsNothing SpellsRsaBits s) × TakesNoMemory (IsWholeFault SpellsRsaBits IsRsaBitsFault) s e
@@ -91,7 +115,8 @@ no-rsa-key s e h = (
 pub integer-legal : IsTag integer
 integer-legal = record { below = lit< tt; named = λ u. lit< tt }
 
-pub numbers-short : (m n : List ℕ) → length m + length n ≤ 2 ^ 31 → length (tlv integer false (unsigned_contents m) ++ tlv integer false (unsigned_contents n)) < 2 ^ 32
+pub numbers-short : (m n : List ℕ) → length m + length n ≤ 2 ^ 31
+    → length (tlv integer false (unsigned_contents m) ++ tlv integer false (unsigned_contents n)) < 2 ^ 32
 numbers-short m n short =
     omega (
       arith,
@@ -104,7 +129,8 @@ numbers-short m n short =
 
 -- the two numbers that are written
 pub numbers-spelled : (m n : List ℕ) → IsMagnitude m → IsMagnitude n → length m + length n ≤ 2 ^ 31
-    → SpellsRsaNumbers (number_of m, number_of n) (tlv sequence true (tlv integer false (unsigned_contents m) ++ tlv integer false (unsigned_contents n)))
+    → SpellsRsaNumbers (number_of m, number_of n)
+    (tlv sequence true (tlv integer false (unsigned_contents m) ++ tlv integer false (unsigned_contents n)))
 numbers-spelled m n p q short =
     let one = tlv integer false (unsigned_contents m) in
     let two = tlv integer false (unsigned_contents n) in
@@ -113,8 +139,10 @@ numbers-spelled m n p q short =
       first = one;
       second = two;
       parts = refl;
-      one = leaf-legal integer false IsUnsigned (number_of m) (unsigned_contents m) integer-legal (omega (arith, unsigned-at-most m)) (unsigned-spelled m p);
-      two = leaf-legal integer false IsUnsigned (number_of n) (unsigned_contents n) integer-legal (omega (arith, unsigned-at-most n)) (unsigned-spelled n q);
+      one = leaf-legal integer false IsUnsigned (number_of m) (unsigned_contents m) integer-legal
+          (omega (arith, unsigned-at-most m)) (unsigned-spelled m p);
+      two = leaf-legal integer false IsUnsigned (number_of n) (unsigned_contents n) integer-legal
+          (omega (arith, unsigned-at-most n)) (unsigned-spelled n q);
     })
 
 -- they are the bits of a key
@@ -126,20 +154,23 @@ some-octets [] ne = absurd (ne refl)
 some-octets (x ∷ s) ne = omega arith
 
 -- the numbers of two slices
-pub shorter : (u s : List ℕ) → IsMagnitude u → AreOctets s → (s ≡ [] → ⊥) → number_of u ≡ number_of s → length u ≤ length s
+pub shorter : (u s : List ℕ) → IsMagnitude u → AreOctets s → (s ≡ [] → ⊥) → number_of u ≡ number_of s
+    → length u ≤ length s
 shorter u s m o ne e = magnitude-at-most u s m o (some-octets s ne) e
 
 abbrev pub two_integers : List ℕ → List ℕ → List ℕ
 two_integers m n = tlv integer false (unsigned_contents m) ++ tlv integer false (unsigned_contents n)
 
-pub rsa-bits : (modulus exponent m n octets : List ℕ) → IsMagnitude m → IsMagnitude n → length m + length n ≤ 2 ^ 31 → number_of m ≡ number_of modulus → number_of n ≡ number_of exponent
+pub rsa-bits : (modulus exponent m n octets : List ℕ) → IsMagnitude m → IsMagnitude n → length m + length n ≤ 2 ^ 31
+    → number_of m ≡ number_of modulus → number_of n ≡ number_of exponent
     → octets ≡ tlv sequence true (two_integers m n) → SpellsRsaNumbers (number_of modulus, number_of exponent) octets
 rsa-bits modulus exponent m n octets p q short e f is =
     let h : SpellsRsaNumbers (number_of m, number_of n) octets = rw is (numbers-spelled m n p q short) in
     rw (← e, ← f) h
 
 -- a format in front of bits
-pub key-found : (s m : List ℕ) (f : PublicKeyFormat) → Spells SpellsFormat s f m → Finds (SpellsLeaf bit_string false IsBits) m → Finds IsKeyContents s
+pub key-found : (s m : List ℕ) (f : PublicKeyFormat) → Spells SpellsFormat s f m
+    → Finds (SpellsLeaf bit_string false IsBits) m → Finds IsKeyContents s
 key-found s m f one h =
     let g = both-found SpellsFormat (SpellsLeaf bit_string false IsBits) s m f h.0 h.1 one h.2 in
     (key_of f h.0, h.1, record { front = g.0; parts = g.1; spelled = g.2 })

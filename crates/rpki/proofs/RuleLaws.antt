@@ -10,6 +10,9 @@ use Rattle.rpki.proofs.NameTableLaws.{names-distinct}
 use Rattle.rpki.proofs.InspectionLaws.{rule-not}
 use Rattle.rpki.proofs.OneNameLaws.{one-name}
 
-pub named-not : (S : Row → Strings) (rule : NameRule) (octets : List ℕ) → IsNameOf (BreaksRule name_table S rule) octets → IsNameOf (IsStrict name_table S) octets → ⊥
+pub named-not : (S : Row → Strings) (rule : NameRule) (octets : List ℕ) → IsNameOf (BreaksRule name_table S rule) octets
+    → IsNameOf (IsStrict name_table S) octets → ⊥
 named-not S rule octets h g =
-    rule-not name_table S rule (attributes g.0) names-distinct (subst (λ (p : List (List Attribute)). BreaksRule name_table S rule (attributes p)) (one-name octets h.0 g.0 h.1 g.1) h.2) g.2
+    rule-not name_table S rule (attributes g.0) names-distinct
+    (subst (λ (p : List (List Attribute)). BreaksRule name_table S rule (attributes p))
+    (one-name octets h.0 g.0 h.1 g.1) h.2) g.2

@@ -1,24 +1,24 @@
 -- The name of a subject is a strict name.
-use Rattle.std.proofs.Common.{◌≡◌, ◌≤◌, ℕ, Bool, suc, zero, true, false, ◌<◌, ◌/◌, ◌%◌, List, [], ◌∷◌, length, refl, ap, sym, arith, ◌^◌, lit<, append-nil, inl}
+use Rattle.std.proofs.Common.{◌≡◌, ◌≤◌, ℕ, Bool, suc, zero, true, false, ◌<◌, ◌/◌, ◌%◌, List, [], ◌∷◌, length, refl, ap}
+use Rattle.std.proofs.Common.{sym, arith, ◌^◌, lit<, append-nil, inl}
 use Rattle.std.proofs.lemmas.List.Elements.{All-from_recursion}
-use Rattle.rpki_der.specs.TagName.{sequence, set, oid, printable_string, IsTag}
-use Rattle.rpki_der.specs.Header.{tlv}
-use Rattle.rpki_der.specs.Number.{AreOctets}
-use Rattle.rpki_der.specs.Leaves.{IsOid, IsOidOf}
-use Rattle.rpki_der.specs.Text.{is_printable, are_printable, IsPrintableText}
-use Rattle.rpki_der.specs.ValueListLaws.{sequence_legal, set_legal, primitive_value}
+use Rattle.rpki_der.specs.Prelude.{sequence, set, oid, printable_string, IsTag, tlv, AreOctets, IsOid, IsOidOf}
+use Rattle.rpki_der.specs.Prelude.{is_printable, are_printable, IsPrintableText, sequence_legal, set_legal}
+use Rattle.rpki_der.specs.Prelude.{primitive_value}
 use Rattle.rpki_der.proofs.EncodeLaws.{leaf-legal, tlv_at_most}
 use Rattle.rpki.specs.AlgorithmOctetsLaws.{oid-legal}
 use Rattle.rpki.specs.Oids.{common_name}
-use Rattle.rpki.specs.Name.{Attribute, attribute_of, IsAttribute, SpellsAttribute, SpellsSome, SpellsRelative, SpellsName}
+use Rattle.rpki.specs.Name.{Attribute, attribute_of, IsAttribute, SpellsAttribute, SpellsSome, SpellsRelative}
+use Rattle.rpki.specs.Name.{SpellsName}
 use Rattle.rpki.specs.NameTable.{Row, row_at, name_table}
-use Rattle.rpki.specs.StrictName.{has_identifier, count_of, IsPrintable, IsString, IsPermitted, IsStrict, attributes, rpki_strings, router_strings, IsRpkiName, IsRouterName}
+use Rattle.rpki.specs.StrictName.{has_identifier, count_of, IsNameSize, IsPrintable, IsString, IsPermitted, IsStrict, attributes, rpki_strings, router_strings, IsRpkiName, IsRouterName}
 use Rattle.rpki.specs.declared.repository.x509.name.table.Strings.{Strings}
 use Rattle.rpki.proofs.InspectionLaws.{first-is-common}
 use Rattle.rpki.specs.SubjectName.{attribute_contents, subject_octets}
 use Rattle.rpki.proofs.NamedLaws.{plain-oid}
 use Rattle.rpki.proofs.SubjectLaws.{digits-short, attribute-short, name-short, set-short}
 use Rattle.rpki_text.specs.HexText.{hex_digit, hex_text}
+use Rattle.rpki_text.proofs.HexLaws.{length-hex_text}
 
 digit-printable : (n : ℕ) → n < 16 → is_printable (hex_digit n) ≡ true
 digit-printable zero h = refl
@@ -37,7 +37,8 @@ digit-printable (suc (suc (suc (suc (suc (suc (suc (suc (suc (suc (suc (suc zero
 digit-printable (suc (suc (suc (suc (suc (suc (suc (suc (suc (suc (suc (suc (suc zero))))))))))))) h = refl
 digit-printable (suc (suc (suc (suc (suc (suc (suc (suc (suc (suc (suc (suc (suc (suc zero)))))))))))))) h = refl
 digit-printable (suc (suc (suc (suc (suc (suc (suc (suc (suc (suc (suc (suc (suc (suc (suc zero))))))))))))))) h = refl
-digit-printable (suc (suc (suc (suc (suc (suc (suc (suc (suc (suc (suc (suc (suc (suc (suc (suc n)))))))))))))))) h = absurd (omega (arith, h))
+digit-printable (suc (suc (suc (suc (suc (suc (suc (suc (suc (suc (suc (suc (suc (suc (suc (suc n)))))))))))))))) h =
+    absurd (omega (arith, h))
 
 pub hex-printable : (t : List ℕ) → AreOctets t → are_printable (hex_text t) ≡ true
 hex-printable [] h = refl
@@ -65,7 +66,8 @@ printable-legal = record { below = lit< tt; named = λ _. lit< tt }
 common-valid : IsOid common_name
 common-valid = plain-oid common_name refl (lit< tt) (lit< tt)
 
-attribute-spelled : (k : List ℕ) → length k ≡ 20 → IsAttribute (attribute_of common_name (digits_value k)) (attribute_contents k)
+attribute-spelled : (k : List ℕ) → length k ≡ 20
+    → IsAttribute (attribute_of common_name (digits_value k)) (attribute_contents k)
 attribute-spelled k size = record {
   identified = record {
     front = tlv oid false common_name;
@@ -77,12 +79,20 @@ attribute-spelled k size = record {
 
 pub subject-spelled : (k : List ℕ) → length k ≡ 20 → SpellsName (subject_parts k) (subject_octets k)
 subject-spelled k size =
-    let attribute = leaf-legal sequence true IsAttribute (attribute_of common_name (digits_value k)) (attribute_contents k) sequence_legal (attribute-short k size) (attribute-spelled k size) in
-    let relative = leaf-legal set true (SpellsSome SpellsAttribute) (attribute_of common_name (digits_value k) ∷ []) (tlv sequence true (attribute_contents k)) set_legal (name-short k size) (one-spelled SpellsAttribute _ _ attribute) in
-    leaf-legal sequence true (SpellsSome SpellsRelative) (subject_parts k) (tlv set true (tlv sequence true (attribute_contents k))) sequence_legal (set-short k size) (one-spelled SpellsRelative _ _ relative)
+    let attribute = leaf-legal sequence true IsAttribute (attribute_of common_name (digits_value k))
+    (attribute_contents k) sequence_legal (attribute-short k size) (attribute-spelled k size) in
+    let relative = leaf-legal set true (SpellsSome SpellsAttribute) (attribute_of common_name (digits_value k) ∷ [])
+    (tlv sequence true (attribute_contents k)) set_legal (name-short k size) (one-spelled SpellsAttribute _ _ attribute)
+    in
+    leaf-legal sequence true (SpellsSome SpellsRelative) (subject_parts k)
+    (tlv set true (tlv sequence true (attribute_contents k))) sequence_legal (set-short k size)
+    (one-spelled SpellsRelative _ _ relative)
+
+subject-size : (k : List ℕ) → length k ≡ 20 → IsNameSize (length (hex_text k))
+subject-size k size = (omega (arith, length-hex_text k), omega (arith, length-hex_text k))
 
 digits-printable : (k : List ℕ) → length k ≡ 20 → are_printable (hex_text k) ≡ true → IsPrintable (digits_value k)
-digits-printable k size digits = (hex_text k, leaf-legal printable_string false IsPrintableText (hex_text k) (hex_text k) printable-legal (digits-short k size) (refl, digits))
+digits-printable k size digits = (hex_text k, leaf-legal printable_string false IsPrintableText (hex_text k) (hex_text k) printable-legal (digits-short k size) (refl, digits), subject-size k size)
 
 -- of one attribute there are not two
 one-at-most : (o : List ℕ) (a : Attribute) → count_of o (a ∷ []) ≤ 1
@@ -92,14 +102,17 @@ one-at-most o a = at (has_identifier o a) refl
     at true e = rw e (omega arith)
     at false e = rw e (omega arith)
 
-strict-subject : (S : Row → Strings) (k : List ℕ) → IsString (S (row_at name_table 0)) (digits_value k) → IsStrict name_table S (attributes (subject_parts k))
+strict-subject : (S : Row → Strings) (k : List ℕ) → IsString (S (row_at name_table 0)) (digits_value k)
+    → IsStrict name_table S (attributes (subject_parts k))
 strict-subject S k permitted = record {
   common = refl;
   once = λ n below. one-at-most (row_at name_table n).identifier (attribute_of common_name (digits_value k));
-  permitted = All-from_recursion (IsPermitted name_table S) (attribute_of common_name (digits_value k) ∷ []) (record { number = 0; has = first-is-common; string = permitted }, tt);
+  permitted = All-from_recursion (IsPermitted name_table S) (attribute_of common_name (digits_value k) ∷ [])
+      (record { number = 0; has = first-is-common; string = permitted }, tt);
 }
 
-pub subject-strict : (k : List ℕ) → length k ≡ 20 → are_printable (hex_text k) ≡ true → IsRpkiName (subject_octets k) × IsRouterName (subject_octets k)
+pub subject-strict : (k : List ℕ) → length k ≡ 20 → are_printable (hex_text k) ≡ true
+    → IsRpkiName (subject_octets k) × IsRouterName (subject_octets k)
 subject-strict k size digits =
     let permitted = digits-printable k size digits in (
       (subject_parts k, subject-spelled k size, strict-subject rpki_strings k permitted),
@@ -107,4 +120,9 @@ subject-strict k size digits =
     )
 
 pub subject-fits : (k : List ℕ) → length k ≡ 20 → length (subject_octets k) < 2 ^ 63
-subject-fits k size = omega (arith, set-short k size, tlv_at_most sequence true (tlv set true (tlv sequence true (attribute_contents k))))
+subject-fits k size = omega (
+  arith,
+  set-short k size,
+  tlv_at_most sequence true
+      (tlv set true (tlv sequence true (attribute_contents k))),
+)

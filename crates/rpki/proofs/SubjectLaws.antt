@@ -1,7 +1,6 @@
 -- The name of a subject is short.
 use Rattle.std.proofs.Common.{◌≡◌, ℕ, ◌<◌, ◌≤◌, ◌^◌, true, false, List, length, arith, length-append}
-use Rattle.rpki_der.specs.TagName.{sequence, set, oid, printable_string}
-use Rattle.rpki_der.specs.Header.{tlv}
+use Rattle.rpki_der.specs.Prelude.{sequence, set, oid, printable_string, tlv}
 use Rattle.rpki_der.proofs.EncodeLaws.{tlv_at_most}
 use Rattle.rpki_text.specs.HexText.{hex_text}
 use Rattle.rpki_text.proofs.HexLaws.{length-hex_text}
@@ -13,7 +12,15 @@ digits-short k size = omega (arith, length-hex_text k)
 
 attribute-at-most : (k : List ℕ) → length k ≡ 20 → length (attribute_contents k) ≤ 63
 attribute-at-most k size =
-    omega (arith, length-hex_text k, length-append (tlv oid false common_name) (tlv printable_string false (hex_text k)), tlv_at_most oid false common_name, tlv_at_most printable_string false (hex_text k))
+    omega (
+      arith,
+      length-hex_text k,
+      length-append (tlv oid false common_name)
+          (tlv printable_string false (hex_text k)),
+      tlv_at_most oid false common_name,
+      tlv_at_most printable_string false
+          (hex_text k),
+    )
 
 pub attribute-short : (k : List ℕ) → length k ≡ 20 → length (attribute_contents k) < 2 ^ 32
 attribute-short k size = omega (arith, attribute-at-most k size)

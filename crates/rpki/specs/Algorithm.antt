@@ -1,8 +1,6 @@
 -- Algorithm identifiers (RFC 5280 4.1.1.2): an object identifier and perhaps parameters.
 use Rattle.std.specs.Prelude.{ℕ, Bool, true, false, ◌≡◌, List, [], ◌++◌}
-use Rattle.rpki_der.specs.TagName.{oid, null, sequence}
-use Rattle.rpki_der.specs.Values.{SpellsLeaf}
-use Rattle.rpki_der.specs.Leaves.{IsNull, IsOnly}
+use Rattle.rpki_der.specs.Prelude.{oid, null, sequence, SpellsLeaf, IsNull, IsOnly}
 
 -- a NULL where there are parameters
 abbrev pub IsParameters : Bool → List ℕ → Type 0

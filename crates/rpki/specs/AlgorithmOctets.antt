@@ -1,7 +1,6 @@
 -- The one spelling of an algorithm identifier with its parameters, or without them.
 use Rattle.std.specs.Prelude.{ℕ, Bool, true, false, List, [], ◌++◌}
-use Rattle.rpki_der.specs.TagName.{oid, null, sequence}
-use Rattle.rpki_der.specs.Header.{tlv}
+use Rattle.rpki_der.specs.Prelude.{oid, null, sequence, tlv}
 
 -- a NULL where there are parameters
 abbrev pub parameters_octets : Bool → List ℕ

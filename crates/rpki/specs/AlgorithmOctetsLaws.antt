@@ -1,12 +1,8 @@
 -- The octets of an algorithm identifier are its one spelling, and one value.
 use Rattle.std.specs.Prelude.{◌≡◌, ℕ, Bool, true, false, ◌<◌, ◌≤◌, ◌^◌, List, [], ◌∷◌, ◌++◌, length, refl}
 use Rattle.std.proofs.Common.{sym, ap, subst, ◌∙◌, arith, length-append}
-use Rattle.rpki_der.specs.TagName.{IsTag, oid, null, sequence}
-use Rattle.rpki_der.specs.Header.{tlv}
-use Rattle.rpki_der.specs.Values.{SpellsLeaf}
-use Rattle.rpki_der.specs.Leaves.{IsNull, IsOnly}
-use Rattle.rpki_der.specs.Members.{IsValue, IsValueList}
-use Rattle.rpki_der.specs.ValueListLaws.{primitive_value_list, no_value_list, value_lists_append, constructed_value}
+use Rattle.rpki_der.specs.Prelude.{IsTag, oid, null, sequence, tlv, SpellsLeaf, IsNull, IsOnly, IsValue, IsValueList}
+use Rattle.rpki_der.specs.Prelude.{primitive_value_list, no_value_list, value_lists_append, constructed_value}
 use Rattle.rpki_der.proofs.EncodeLaws.{leaf-legal, tlv_at_most, tlv-some, tlv-same}
 use Rattle.rpki.specs.Algorithm.{IsParameters, IsIdentified, SpellsAlgorithm}
 use Rattle.rpki.specs.AlgorithmOctets.{parameters_octets, identified_octets, algorithm_octets}

@@ -1,12 +1,7 @@
 -- The one spelling of an algorithm identifier that has no parameters.
 use Rattle.std.specs.Prelude.{◌≡◌, ℕ, ◌<◌, ◌^◌, true, false, List, length, refl}
 use Rattle.std.proofs.Common.{arith, ap, ◌∙◌}
-use Rattle.rpki_der.specs.TagName.{oid, sequence}
-use Rattle.rpki_der.specs.Header.{tlv}
-use Rattle.rpki_der.specs.Leaves.{IsOnly}
-use Rattle.rpki_der.specs.Values.{SpellsLeaf}
-use Rattle.rpki_der.specs.Members.{IsValue}
-use Rattle.rpki_der.specs.ValueListLaws.{sequence_legal}
+use Rattle.rpki_der.specs.Prelude.{oid, sequence, tlv, IsOnly, SpellsLeaf, IsValue, sequence_legal}
 use Rattle.rpki_der.proofs.EncodeLaws.{leaf-legal, tlv_at_most}
 use Rattle.rpki_der.proofs.LeafValueLaws.{leaf-value-alone, composed-value-alone}
 use Rattle.rpki.specs.AlgorithmOctetsLaws.{oid-legal}

@@ -1,9 +1,6 @@
 -- The algorithm identifier of SHA-256 (RFC 5754 2.2, RFC 7935 2).
 use Rattle.std.specs.Prelude.{ℕ, Bool, true, false, List}
-use Rattle.rpki_der.specs.TagName.{oid, sequence, set}
-use Rattle.rpki_der.specs.Header.{tlv}
-use Rattle.rpki_der.specs.Values.{SpellsLeaf}
-use Rattle.rpki_der.specs.Leaves.{IsOnly}
+use Rattle.rpki_der.specs.Prelude.{oid, sequence, set, tlv, SpellsLeaf, IsOnly}
 use Rattle.rpki.specs.Oids.{sha256}
 use Rattle.rpki.specs.Algorithm.{IsIdentified}
 use Rattle.rpki.specs.SignatureNames.{bare_octets}

@@ -1,8 +1,8 @@
 -- What the errors of the repository hold.
 use Rattle.std.specs.Prelude.{◌≡◌, ℕ, Bool, List, Option, Some, IsTrue}
-use Rattle.rpki_der.specs.ErrorText.{text_of, error_text}
 use Rattle.rpki_der.specs.declared.error.ContentError.{ContentError}
 use Rattle.rpki_der.specs.declared.error.DecodeError.{DecodeError}
+use Rattle.rpki_der.specs.Prelude.{text_of, error_text}
 use Rattle.rpki.specs.declared.repository.error.InspectionError.{InspectionError}
 use Rattle.rpki.specs.declared.repository.error.VerificationError.{VerificationError}
 use Rattle.rpki.specs.declared.repository.error.ValidationError.{ValidationError}

@@ -1,7 +1,6 @@
 -- Extensions of certificates (RFC 5280 4.1): an identifier, whether the extension is critical, and an OCTET STRING.
 use Rattle.std.specs.Prelude.{ℕ, Bool, true, false, List, [], ◌∷◌, ◌++◌}
-use Rattle.rpki_der.specs.TagName.{sequence, oid, boolean, octet_string}
-use Rattle.rpki_der.specs.Header.{tlv}
+use Rattle.rpki_der.specs.Prelude.{sequence, oid, boolean, octet_string, tlv}
 
 -- TRUE alone is written, since FALSE is the default (X.690 11.5)
 abbrev pub critical_octets : Bool → List ℕ

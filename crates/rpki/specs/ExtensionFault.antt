@@ -1,28 +1,29 @@
--- Which error extensions have that are rejected (RFC 5280 4.1).
-use Rattle.std.specs.Prelude.{ℕ, true, false, List}
+-- Extensions as formats: their octets, and which error those have that are rejected (RFC 5280 4.1).
+use Rattle.std.specs.Prelude.{ℕ, List}
 use Rattle.rpki_der.specs.declared.error.DecodeError.{DecodeError}
-use Rattle.rpki_der.specs.TagName.{oid, boolean, octet_string, sequence}
-use Rattle.rpki_der.specs.Reading.{Finds, OrMemoryWhere}
-use Rattle.rpki_der.specs.Values.{SpellsContents, SpellsLeaf, HasTag, IsContentsFault, IsLeafFault}
-use Rattle.rpki_der.specs.Leaves.{IsOidOf, IsBoolean}
-use Rattle.rpki_der.specs.FirstFault.{FirstFault, OptionalFault, IsEndFault, IsInsideFault}
-use Rattle.rpki.specs.ExtensionValue.{SpellsExtension}
+use Rattle.rpki_der.specs.Prelude.{boolean, octet_string, sequence, Format, octets_under, around, then, optional_then}
+use Rattle.rpki_der.specs.Prelude.{only, said_by, kept, any_oid, boolean_value}
+use Rattle.rpki.specs.ExtensionValue.{ExtensionParts, IsExtensionContents}
 
 -- an OCTET STRING; then nothing
-abbrev pub IsContentFault : List ℕ → DecodeError → Type 0
-IsContentFault = FirstFault (SpellsContents octet_string false) (IsContentsFault octet_string false)
-    (λ octets. IsEndFault)
+abbrev pub content : Format (List ℕ)
+content = only (octets_under octet_string)
 
 -- an OBJECT IDENTIFIER; then a BOOLEAN that may be left out; then the others
-abbrev pub IsExtensionPartsFault : List ℕ → DecodeError → Type 0
-IsExtensionPartsFault = FirstFault (SpellsLeaf oid false IsOidOf) (IsLeafFault oid false IsOidOf)
-    (λ identifier. OptionalFault (HasTag boolean) (SpellsLeaf boolean false IsBoolean)
-    (IsLeafFault boolean false IsBoolean) IsContentFault)
+abbrev pub extension_fields : Format ExtensionParts
+extension_fields = said_by IsExtensionContents (then any_oid (optional_then boolean boolean_value content))
 
--- an extension
-abbrev pub IsCertExtensionFault : List ℕ → DecodeError → Type 0
-IsCertExtensionFault = IsInsideFault sequence true IsExtensionPartsFault
+abbrev pub extension : Format ExtensionParts
+extension = around sequence extension_fields
 
 -- an extension that is kept: allocation may fail where it is there
+abbrev pub kept_extension : Format ExtensionParts
+kept_extension = kept extension
+
+-- ---- the errors
+
+abbrev pub IsCertExtensionFault : List ℕ → DecodeError → Type 0
+IsCertExtensionFault = extension.fault
+
 abbrev pub IsKeptExtensionFault : List ℕ → DecodeError → Type 0
-IsKeptExtensionFault = OrMemoryWhere (Finds SpellsExtension) IsCertExtensionFault
+IsKeptExtensionFault = kept_extension.fault

@@ -1,10 +1,9 @@
 -- Extensions of certificates that are read (RFC 5280 4.1, 4.2): a SEQUENCE of an OBJECT IDENTIFIER, a BOOLEAN whose
 -- default is FALSE, and an OCTET STRING.
-use Rattle.std.specs.Prelude.{◌≡◌, ◌⊎◌, ◌<◌, ◌^◌, ℕ, Bool, true, false, List, [], ◌∷◌, ◌++◌, length, nat_eq, bytes_eq, if◌then◌else◌}
-use Rattle.rpki_der.specs.TagName.{oid, boolean, octet_string, sequence}
-use Rattle.rpki_der.specs.Values.{SpellsContents, SpellsLeaf}
-use Rattle.rpki_der.specs.Leaves.{IsOid, IsOidOf, IsBoolean}
-use Rattle.rpki_der.specs.Front.{front_contents, after_front}
+use Rattle.std.specs.Prelude.{◌≡◌, ◌⊎◌, ◌<◌, ◌^◌, ℕ, Bool, true, false, List, [], ◌∷◌, ◌++◌, length, nat_eq, bytes_eq}
+use Rattle.std.specs.Prelude.{if◌then◌else◌}
+use Rattle.rpki_der.specs.Prelude.{oid, boolean, octet_string, sequence, SpellsContents, SpellsLeaf, IsOid, IsOidOf}
+use Rattle.rpki_der.specs.Prelude.{IsBoolean, front_contents, after_front}
 use Rattle.rpki.specs.Extension.{extension_contents, extension_octets}
 
 -- the contents octets of the identifier, whether the extension is critical, and the octets of the OCTET STRING

@@ -1,43 +1,44 @@
--- Which error public keys have that are rejected (RFC 5280 4.1).
-use Rattle.std.specs.Prelude.{ℕ, true, false, List}
+-- Public keys as formats: their octets, and which error those have that are rejected (RFC 5280 4.1).
+use Rattle.std.specs.Prelude.{ℕ, List}
 use Rattle.rpki_der.specs.declared.error.DecodeError.{DecodeError}
-use Rattle.rpki_der.specs.TagName.{sequence, bit_string, integer}
-use Rattle.rpki_der.specs.Reading.{Finds, OrMemoryWhere}
-use Rattle.rpki_der.specs.Values.{SpellsLeaf, IsLeafFault}
-use Rattle.rpki_der.specs.Leaves.{IsBits}
-use Rattle.rpki_der.specs.Integer.{IsUnsigned}
-use Rattle.rpki_der.specs.FirstFault.{FirstFault, IsEndFault, IsInsideFault}
-use Rattle.rpki.specs.KeyFormat.{SpellsFormat}
-use Rattle.rpki.specs.AlgorithmFault.{IsFormatFault}
+use Rattle.rpki_der.specs.Prelude.{sequence, Bits, Format, around, then, only, said_by, kept, bits_value}
+use Rattle.rpki_der.specs.Prelude.{unsigned_value}
+use Rattle.rpki.specs.AnyValue.{SpellsAny}
+use Rattle.rpki.specs.PublicKey.{KeyParts, IsKeyContents, AreRsaNumbers}
+use Rattle.rpki.specs.AlgorithmFault.{key_format}
 
 -- a BIT STRING that shares its octets: allocation may fail where it is there
-abbrev pub IsBitsFault : List ℕ → DecodeError → Type 0
-IsBitsFault = OrMemoryWhere (Finds (SpellsLeaf bit_string false IsBits)) (IsLeafFault bit_string false IsBits)
+abbrev pub shared_bits : Format Bits
+shared_bits = kept bits_value
 
--- the format; then the bits; then nothing
-abbrev pub IsKeyPartsFault : List ℕ → DecodeError → Type 0
-IsKeyPartsFault = FirstFault SpellsFormat IsFormatFault
-    (λ format. FirstFault (SpellsLeaf bit_string false IsBits) IsBitsFault (λ bits. IsEndFault))
+-- the format; then the bits, which are shared, or borrowed; then nothing
+abbrev pub key_parts : Format KeyParts
+key_parts = said_by IsKeyContents (then key_format (only shared_bits))
 
--- a public key
+abbrev pub key_view_parts : Format KeyParts
+key_view_parts = said_by IsKeyContents (then key_format (only bits_value))
+
+-- a public key; one whose bits are borrowed, which allocates nothing
+abbrev pub key : Format KeyParts
+key = around sequence key_parts
+
+abbrev pub key_view : Format KeyParts
+key_view = around sequence key_view_parts
+
+-- the bits of an RSA key: a non-negative INTEGER; then another; then nothing
+abbrev pub rsa_numbers : Format (Unit {0})
+rsa_numbers = said_by (SpellsAny AreRsaNumbers) (then unsigned_value (only unsigned_value))
+
+abbrev pub rsa_bits : Format (Unit {0})
+rsa_bits = around sequence rsa_numbers
+
+-- ---- the errors
+
 abbrev pub IsKeyFault : List ℕ → DecodeError → Type 0
-IsKeyFault = IsInsideFault sequence true IsKeyPartsFault
-
--- the same of a key whose bits are borrowed, which allocates nothing
-abbrev pub IsKeyViewPartsFault : List ℕ → DecodeError → Type 0
-IsKeyViewPartsFault = FirstFault SpellsFormat IsFormatFault
-    (λ format. FirstFault (SpellsLeaf bit_string false IsBits) (IsLeafFault bit_string false IsBits)
-    (λ bits. IsEndFault))
+IsKeyFault = key.fault
 
 abbrev pub IsKeyViewFault : List ℕ → DecodeError → Type 0
-IsKeyViewFault = IsInsideFault sequence true IsKeyViewPartsFault
+IsKeyViewFault = key_view.fault
 
--- a non-negative INTEGER; then another; then nothing
-abbrev pub IsRsaNumbersFault : List ℕ → DecodeError → Type 0
-IsRsaNumbersFault = FirstFault (SpellsLeaf integer false IsUnsigned) (IsLeafFault integer false IsUnsigned)
-    (λ modulus. FirstFault (SpellsLeaf integer false IsUnsigned) (IsLeafFault integer false IsUnsigned)
-    (λ exponent. IsEndFault))
-
--- the bits of an RSA key
 abbrev pub IsRsaBitsFault : List ℕ → DecodeError → Type 0
-IsRsaBitsFault = IsInsideFault sequence true IsRsaNumbersFault
+IsRsaBitsFault = rsa_bits.fault

@@ -1,9 +1,6 @@
 -- Formats of keys, as algorithm identifiers (RFC 5280 4.1.2.7).
 use Rattle.std.specs.Prelude.{◌≡◌, ◌⊎◌, ℕ, Bool, true, false, List, ◌++◌}
-use Rattle.rpki_der.specs.TagName.{oid, sequence}
-use Rattle.rpki_der.specs.Header.{tlv}
-use Rattle.rpki_der.specs.Values.{SpellsLeaf}
-use Rattle.rpki_der.specs.Leaves.{IsOnly}
+use Rattle.rpki_der.specs.Prelude.{oid, sequence, tlv, SpellsLeaf, IsOnly}
 use Rattle.rpki.specs.declared.crypto.keys.PublicKeyFormat.{PublicKeyFormat}
 use Rattle.rpki.specs.declared.crypto.keys.PublicKeyFormat.TheVariants.{Rsa, EcdsaP256}
 use Rattle.rpki.specs.Oids.{rsa_encryption, ec_public_key, secp256r1}

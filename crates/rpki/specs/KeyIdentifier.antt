@@ -2,11 +2,9 @@
 use Rattle.std.specs.Prelude.{◌≡◌, ℕ, false, List, length, codes, map}
 use Rattle.std.specs.Char.{to_ascii_uppercase}
 use Rattle.rpki_der.specs.declared.error.DecodeError.{DecodeError}
-use Rattle.rpki_der.specs.declared.error.DecodeError.TheVariants.{Truncated, BadTag, BadLength, Unexpected, Content, Trailing, OutOfMemory}
-use Rattle.rpki_der.specs.ErrorText.{text_of}
-use Rattle.rpki_der.specs.TagName.{octet_string}
-use Rattle.rpki_der.specs.Values.{SpellsLeaf, IsLeafFault}
-use Rattle.rpki_der.specs.Number.{AreOctets}
+use Rattle.rpki_der.specs.declared.error.DecodeError.TheVariants.{Truncated, BadTag, BadLength, Unexpected, Content}
+use Rattle.rpki_der.specs.declared.error.DecodeError.TheVariants.{Trailing, OutOfMemory}
+use Rattle.rpki_der.specs.Prelude.{text_of, octet_string, SpellsLeaf, IsLeafFault, AreOctets}
 use Rattle.rpki_text.specs.HexText.{hex_text}
 use Rattle.rpki.specs.AnyValue.{SpellsAny}
 

@@ -39,3 +39,5 @@ pub mod AlgorithmOctetsLaws
 pub mod BareOctetsLaws
 pub mod SignedEqualLaws
 pub mod ExtensionEqualLaws
+-- One import line for crates above.
+pub mod Prelude

@@ -1,9 +1,6 @@
 -- Names: a SEQUENCE of relative distinguished names, each a SET of attributes (RFC 5280 4.1.2.4, X.501 9.2).
 use Rattle.std.specs.Prelude.{◌≡◌, ℕ, true, false, List, ◌++◌}
-use Rattle.rpki_der.specs.TagName.{oid, sequence, set}
-use Rattle.rpki_der.specs.Values.{SpellsLeaf}
-use Rattle.rpki_der.specs.Leaves.{IsOidOf}
-use Rattle.rpki_der.specs.Members.{IsValue}
+use Rattle.rpki_der.specs.Prelude.{oid, sequence, set, SpellsLeaf, IsOidOf, IsValue}
 pub use Rattle.rpki_der.specs.Each.{SpellsEach, SpellsSome}
 
 -- an attribute: the contents octets of its identifier, and the octets of its value

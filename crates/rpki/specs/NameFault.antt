@@ -1,14 +1,9 @@
--- Which error names have that are rejected (RFC 5280 4.1.2.4).
-use Rattle.std.specs.Prelude.{◌≡◌, ◌⊎◌, ℕ, true, false, List, [], codes}
+-- Names as formats: their octets, and which error those have that are rejected (RFC 5280 4.1.2.4).
+use Rattle.std.specs.Prelude.{◌≡◌, ◌⊎◌, ℕ, List, [], codes}
 use Rattle.rpki_der.specs.declared.error.DecodeError.{DecodeError}
-use Rattle.rpki_der.specs.TagName.{oid, sequence, set}
-use Rattle.rpki_der.specs.Reading.{OrMemoryWhere}
-use Rattle.rpki_der.specs.Values.{SpellsLeaf, IsLeafFault}
-use Rattle.rpki_der.specs.Leaves.{IsOidOf}
-use Rattle.rpki_der.specs.Walk.{SpellsAnyValue, HasConstructed}
-use Rattle.rpki_der.specs.NestedFault.{IsNestedFault}
-use Rattle.rpki_der.specs.FirstFault.{FirstFault, RepeatedFault, IsEndFault, IsInsideFault}
-use Rattle.rpki.specs.Name.{IsAttribute, SpellsSome, SpellsAttribute}
+use Rattle.rpki_der.specs.Prelude.{sequence, set, SpellsAnyValue, HasConstructed, IsNestedFault, RepeatedFault, Format}
+use Rattle.rpki_der.specs.Prelude.{around, then, only, said_by, kept_where, any_oid}
+use Rattle.rpki.specs.Name.{Attribute, IsAttribute, SpellsSome, SpellsAttribute, SpellsRelative, SpellsNameOctets}
 use Rattle.rpki.specs.NameValue.{HasNameValue}
 use Rattle.rpki.specs.AnyValue.{SpellsAny}
 use Rattle.rpki.specs.UnknownAlgorithm.{IsContentWith}
@@ -17,34 +12,53 @@ use Rattle.rpki.specs.UnknownAlgorithm.{IsContentWith}
 abbrev pub IsFaultOrEmpty : List ℕ → (List ℕ → DecodeError → Type 0) → List ℕ → DecodeError → Type 0
 IsFaultOrEmpty text K s e = ((s ≡ []) × IsContentWith text e) ⊎ K s e
 
--- an OBJECT IDENTIFIER; then a value; then nothing
-abbrev pub IsAttributePartsFault : List ℕ → DecodeError → Type 0
-IsAttributePartsFault = FirstFault (SpellsLeaf oid false IsOidOf) (IsLeafFault oid false IsOidOf)
-    (λ identifier. IsFaultOrEmpty (codes "invalid name")
-    (FirstFault SpellsAnyValue (OrMemoryWhere HasConstructed IsNestedFault) (λ value. IsEndFault)))
+-- parts that aren't empty: where nothing is left the error has this text
+abbrev pub not_empty : {V : Type 0} → List ℕ → Format V → Format V
+not_empty text P = record { spells = P.spells; fault = IsFaultOrEmpty text P.fault }
 
--- an attribute
-abbrev pub IsAttributeFault : List ℕ → DecodeError → Type 0
-IsAttributeFault = IsInsideFault sequence true IsAttributePartsFault
+-- values of F that are passed over, one at least, and together are of G
+abbrev pub passed : (Unit {0} → List ℕ → Type 0) → Format (Unit {0}) → Format (Unit {0})
+passed G F = record { spells = G; fault = RepeatedFault F.spells F.fault }
 
--- attributes, one at least
-abbrev pub IsAttributesFault : List ℕ → DecodeError → Type 0
-IsAttributesFault = IsFaultOrEmpty (codes "empty relative distinguished name")
-    (RepeatedFault (SpellsLeaf sequence true (SpellsAny IsAttribute)) IsAttributeFault)
+-- ---- an attribute: an OBJECT IDENTIFIER; then a value, with any contents; then nothing
 
--- a relative distinguished name
-abbrev pub IsRelativeFault : List ℕ → DecodeError → Type 0
-IsRelativeFault = IsInsideFault set true IsAttributesFault
+abbrev pub any_value : Format (Unit {0})
+any_value = kept_where HasConstructed (record { spells = SpellsAnyValue; fault = IsNestedFault })
 
--- relative distinguished names, one at least
-abbrev pub IsRelativesFault : List ℕ → DecodeError → Type 0
-IsRelativesFault = IsFaultOrEmpty (codes "empty distinguished name")
-    (RepeatedFault (SpellsLeaf set true (SpellsAny (SpellsSome SpellsAttribute))) IsRelativeFault)
+abbrev pub attribute_parts : Format (Unit {0})
+attribute_parts = said_by (SpellsAny IsAttribute) (then any_oid (not_empty (codes "invalid name") (only any_value)))
 
--- a name
+abbrev pub attribute : Format (Unit {0})
+attribute = around sequence attribute_parts
+
+-- ---- a relative distinguished name: attributes, one at least
+
+abbrev pub attributes : Format (Unit {0})
+attributes =
+    not_empty (codes "empty relative distinguished name") (passed (SpellsAny (SpellsSome SpellsAttribute)) attribute)
+
+abbrev pub relative : Format (Unit {0})
+relative = around set attributes
+
+-- ---- a name: relative distinguished names, one at least
+
+abbrev pub relatives : Format (Unit {0})
+relatives = not_empty (codes "empty distinguished name") (passed (SpellsAny (SpellsSome SpellsRelative)) relative)
+
+abbrev pub walked_name : Format (Unit {0})
+walked_name = around sequence relatives
+
+-- a name, which stands for its octets; one that is kept: allocation may fail where an attribute has a value
+abbrev pub borrowed_name : Format (List ℕ)
+borrowed_name = said_by SpellsNameOctets walked_name
+
+abbrev pub name : Format (List ℕ)
+name = kept_where HasNameValue borrowed_name
+
+-- ---- the errors
+
 abbrev pub IsWalkedNameFault : List ℕ → DecodeError → Type 0
-IsWalkedNameFault = IsInsideFault sequence true IsRelativesFault
+IsWalkedNameFault = walked_name.fault
 
--- a name that is kept: allocation may fail where an attribute has a value
 abbrev pub IsNameFault : List ℕ → DecodeError → Type 0
-IsNameFault = OrMemoryWhere HasNameValue IsWalkedNameFault
+IsNameFault = name.fault

@@ -7,7 +7,10 @@ use Rattle.rpki.specs.StrictName.{count_of, IsString, IsNameOf, rpki_strings, ro
 use Rattle.rpki.specs.Findings.{IsFound}
 use Rattle.rpki.specs.declared.repository.x509.name.table.Strings.{Strings}
 use Rattle.rpki.specs.declared.repository.x509.name.rule.NameRule.{NameRule}
-use Rattle.rpki.specs.declared.repository.x509.name.rule.NameRule.TheVariants.{MissingCommonName, SecondCommonName, SecondSerialNumber, SecondOrganizationName, OtherString, OtherAttribute}
+use Rattle.rpki.specs.declared.repository.x509.name.rule.NameRule.TheVariants.{MissingCommonName, SecondCommonName}
+use Rattle.rpki.specs.declared.repository.x509.name.rule.NameRule.TheVariants.{SecondSerialNumber}
+use Rattle.rpki.specs.declared.repository.x509.name.rule.NameRule.TheVariants.{SecondOrganizationName, OtherString}
+use Rattle.rpki.specs.declared.repository.x509.name.rule.NameRule.TheVariants.{OtherAttribute}
 
 -- no rule is broken by these attributes, unless by what they lack
 abbrev pub AreFine : List Row → (Row → Strings) → List Attribute → Type 0

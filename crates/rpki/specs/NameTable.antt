@@ -2,7 +2,8 @@
 use Rattle.std.specs.Prelude.{◌≡◌, ◌<◌, ℕ, List, [], ◌∷◌, ◌++◌, length, slice_index_or}
 use Rattle.rpki.specs.Oids.{common_name, serial_number, organization_name}
 use Rattle.rpki.specs.declared.repository.x509.name.rule.NameRule.{NameRule}
-use Rattle.rpki.specs.declared.repository.x509.name.rule.NameRule.TheVariants.{SecondCommonName, SecondSerialNumber, SecondOrganizationName}
+use Rattle.rpki.specs.declared.repository.x509.name.rule.NameRule.TheVariants.{SecondCommonName, SecondSerialNumber}
+use Rattle.rpki.specs.declared.repository.x509.name.rule.NameRule.TheVariants.{SecondOrganizationName}
 use Rattle.rpki.specs.declared.repository.x509.name.table.Strings.{Strings}
 use Rattle.rpki.specs.declared.repository.x509.name.table.Strings.TheVariants.{Printable, PrintableOrUtf8}
 
@@ -26,11 +27,11 @@ pub record HasRow (table : List Row) (n : ℕ) (identifier : List ℕ) : Type 0 
   pub below : n < length table
   pub same : (row_at table n).identifier ≡ identifier
 
--- the attributes that RFC 6487 4.4 and RFC 8209 3.1.1 name
+-- the attributes that RFC 6487 4.4 and RFC 8209 3.1.1 name; a router's common name alone may be a UTF8String
 abbrev pub table_without_organization : List Row
 table_without_organization =
     row common_name Printable PrintableOrUtf8 SecondCommonName
-    ∷ row serial_number Printable PrintableOrUtf8 SecondSerialNumber ∷ []
+    ∷ row serial_number Printable Printable SecondSerialNumber ∷ []
 
 -- the attribute that is permitted beside them
 abbrev pub organization_row : Row

@@ -1,8 +1,6 @@
 -- Where the value of an attribute begins in a name: a reader of names allocates there, and nowhere before.
 use Rattle.std.specs.Prelude.{◌≡◌, ℕ, List, ◌++◌}
-use Rattle.rpki_der.specs.TagName.{sequence, set}
-use Rattle.rpki_der.specs.Inside.{HasInside}
-use Rattle.rpki_der.specs.Walk.{HasEither}
+use Rattle.rpki_der.specs.Prelude.{sequence, set, HasInside, HasEither}
 use Rattle.rpki.specs.Name.{Attribute, IsIdentifierThen, SpellsAttribute, SpellsRelative, SpellsEach}
 
 -- spellings of values, one after another, and then a list that has P

@@ -1,11 +1,7 @@
 -- Public keys (SubjectPublicKeyInfo, RFC 5280 4.1 and 4.1.2.7).
 use Rattle.std.specs.Prelude.{◌≡◌, ◌↔◌, ◌<◌, ◌^◌, ℕ, true, false, List, ◌++◌, length}
-use Rattle.rpki_der.specs.TagName.{sequence, bit_string, integer}
-use Rattle.rpki_der.specs.Header.{tlv}
-use Rattle.rpki_der.specs.Values.{SpellsLeaf}
-use Rattle.rpki_der.specs.Leaves.{Bits, IsBits, bits_of}
-use Rattle.rpki_der.specs.Contents.{bits_contents}
-use Rattle.rpki_der.specs.Integer.{IsUnsigned}
+use Rattle.rpki_der.specs.Prelude.{sequence, bit_string, integer, tlv, SpellsLeaf, Bits, IsBits, bits_of, bits_contents}
+use Rattle.rpki_der.specs.Prelude.{IsUnsigned}
 use Rattle.rpki.specs.declared.crypto.keys.PublicKeyFormat.{PublicKeyFormat}
 use Rattle.rpki.specs.declared.crypto.keys.PublicKeyFormat.TheVariants.{Rsa}
 use Rattle.rpki.specs.AnyValue.{SpellsAny}

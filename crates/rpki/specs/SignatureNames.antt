@@ -1,9 +1,6 @@
 -- Further algorithm identifiers of signatures.
 use Rattle.std.specs.Prelude.{◌≡◌, ◌⊎◌, ℕ, Bool, true, false, List}
-use Rattle.rpki_der.specs.TagName.{oid, sequence}
-use Rattle.rpki_der.specs.Header.{tlv}
-use Rattle.rpki_der.specs.Values.{SpellsLeaf}
-use Rattle.rpki_der.specs.Leaves.{IsOnly}
+use Rattle.rpki_der.specs.Prelude.{oid, sequence, tlv, SpellsLeaf, IsOnly}
 use Rattle.rpki.specs.Oids.{rsa_encryption, sha256_with_rsa_encryption}
 use Rattle.rpki.specs.Algorithm.{IsIdentified}
 

@@ -1,11 +1,6 @@
 -- Signed data: a SEQUENCE of one value, an algorithm identifier and a BIT STRING (RFC 5280 4.1).
 use Rattle.std.specs.Prelude.{◌≡◌, ◌↔◌, ◌<◌, ◌^◌, ℕ, Bool, true, false, IsTrue, List, ◌++◌, ◌∷◌, length}
-use Rattle.rpki_der.specs.TagName.{sequence, bit_string}
-use Rattle.rpki_der.specs.Header.{tlv}
-use Rattle.rpki_der.specs.Values.{SpellsLeaf}
-use Rattle.rpki_der.specs.Leaves.{IsBits, bits_of}
-use Rattle.rpki_der.specs.Contents.{bits_contents}
-use Rattle.rpki_der.specs.Members.{IsValue}
+use Rattle.rpki_der.specs.Prelude.{sequence, bit_string, tlv, SpellsLeaf, IsBits, bits_of, bits_contents, IsValue}
 use Rattle.rpki.specs.Signature.{SignatureParts, signature_of}
 
 -- what is signed, by which algorithm, and the signature

@@ -1,14 +1,10 @@
 -- Which error signed data has that is rejected (RFC 5280 4.1).
 use Rattle.std.specs.Prelude.{ℕ, true, List}
 use Rattle.rpki_der.specs.declared.error.DecodeError.{DecodeError}
-use Rattle.rpki_der.specs.TagName.{sequence}
-use Rattle.rpki_der.specs.Reading.{OrMemoryWhere, TakesNoMemory}
-use Rattle.rpki_der.specs.Members.{SpellsValue}
-use Rattle.rpki_der.specs.Walk.{HasEither}
-use Rattle.rpki_der.specs.NestedFault.{IsCaptureFault}
-use Rattle.rpki_der.specs.FirstFault.{FirstFault, IsEndFault, IsInsideFault}
-use Rattle.rpki.specs.SignedData.{IsSignedContents}
-use Rattle.rpki.specs.KeyFault.{IsBitsFault}
+use Rattle.rpki_der.specs.Prelude.{sequence, OrMemoryWhere, TakesNoMemory, SpellsValue, HasEither, IsCaptureFault}
+use Rattle.rpki_der.specs.Prelude.{FirstFault, IsEndFault, IsInsideFault, Format, said_by}
+use Rattle.rpki.specs.SignedData.{IsSignedContents, SpellsSignature}
+use Rattle.rpki.specs.KeyFault.{shared_bits}
 
 -- a value, whose error K says; then an algorithm, whose error L says; then a BIT STRING, whose error M says
 abbrev pub IsThreeFault : {A : Type 0} → (A → List ℕ → Type 0) → (List ℕ → DecodeError → Type 0)
@@ -21,6 +17,10 @@ abbrev pub IsThreeInsideFault : {A : Type 0} → (A → List ℕ → Type 0) →
 IsThreeInsideFault spells K L M =
     IsInsideFault sequence true (FirstFault (IsSignedContents spells) (IsThreeFault spells K L M) (λ parts. IsEndFault))
 
+-- the BIT STRING of a signature, which is shared
+abbrev pub signature_bits : Format (List ℕ)
+signature_bits = said_by SpellsSignature shared_bits
+
 -- a value that is shared, with an index of its headers: allocation may fail where a value begins
 abbrev pub IsSharedValueFault : List ℕ → DecodeError → Type 0
 IsSharedValueFault = OrMemoryWhere HasEither IsCaptureFault
@@ -28,9 +28,9 @@ IsSharedValueFault = OrMemoryWhere HasEither IsCaptureFault
 -- the three parts of signed data, by an algorithm whose error is said by `fault`, and never an allocation failure
 abbrev pub IsSignedPartsFault : {A : Type 0} → (A → List ℕ → Type 0) → (List ℕ → DecodeError → Type 0) → List ℕ
     → DecodeError → Type 0
-IsSignedPartsFault spells fault = IsThreeFault spells IsSharedValueFault (TakesNoMemory fault) IsBitsFault
+IsSignedPartsFault spells fault = IsThreeFault spells IsSharedValueFault (TakesNoMemory fault) shared_bits.fault
 
 -- signed data
 abbrev pub IsSignedFault : {A : Type 0} → (A → List ℕ → Type 0) → (List ℕ → DecodeError → Type 0) → List ℕ
     → DecodeError → Type 0
-IsSignedFault spells fault = IsThreeInsideFault spells IsSharedValueFault (TakesNoMemory fault) IsBitsFault
+IsSignedFault spells fault = IsThreeInsideFault spells IsSharedValueFault (TakesNoMemory fault) shared_bits.fault

@@ -1,11 +1,9 @@
 -- Names as certificates of the RPKI and of its routers have them (RFC 6487 4.4, RFC 8209 3.1.1); an organization name
 -- is permitted beside what these documents name.
-use Rattle.std.specs.Prelude.{◌≡◌, ◌<◌, ◌≤◌, ◌⊎◌, ℕ, Bool, false, List, length, nat_eq}
+use Rattle.std.specs.Prelude.{◌≡◌, ◌<◌, ◌≤◌, ◌⊎◌, ◌||◌, ltb, leb, ℕ, Bool, false, List, length, nat_eq}
 use Rattle.std.specs.List.{All, count_by, flat_map}
 use Rattle.std.specs.Cmp.Lexicographic.{pointwise}
-use Rattle.rpki_der.specs.TagName.{printable_string, utf8_string}
-use Rattle.rpki_der.specs.Values.{SpellsLeaf}
-use Rattle.rpki_der.specs.Text.{IsPrintableText, IsUtf8Text}
+use Rattle.rpki_der.specs.Prelude.{printable_string, utf8_string, SpellsLeaf, IsPrintableText, IsUtf8Text}
 use Rattle.rpki.specs.Oids.{common_name}
 use Rattle.rpki.specs.Name.{Attribute, SpellsName}
 use Rattle.rpki.specs.NameTable.{Row, row_at, HasRow, name_table}
@@ -20,13 +18,24 @@ has_identifier identifier a = pointwise nat_eq a.identifier identifier
 abbrev pub count_of : List ℕ → List Attribute → ℕ
 count_of identifier xs = count_by (has_identifier identifier) xs
 
--- a PrintableString
-abbrev pub IsPrintable : List ℕ → Type 0
-IsPrintable value = (text : List ℕ) × SpellsLeaf printable_string false IsPrintableText text value
+-- how many characters the attributes' values have: 1 to 64, as ub-common-name, ub-serial-number and ub-organization-name
+-- say (RFC 5280 A.1)
+abbrev pub IsNameSize : ℕ → Type 0
+IsNameSize n = (1 ≤ n) × (n ≤ 64)
 
--- a UTF8String
+-- an octet that begins a character of UTF-8: not one of 10xxxxxx, which continue it (RFC 3629 3)
+abbrev pub begins_character : ℕ → Bool
+begins_character x = ltb x 128 || leb 192 x
+
+-- a PrintableString of such a size
+abbrev pub IsPrintable : List ℕ → Type 0
+IsPrintable value =
+    (text : List ℕ) × SpellsLeaf printable_string false IsPrintableText text value × IsNameSize (length text)
+
+-- a UTF8String of such a size
 abbrev pub IsUtf8String : List ℕ → Type 0
-IsUtf8String value = (text : List ℕ) × SpellsLeaf utf8_string false IsUtf8Text text value
+IsUtf8String value =
+    (text : List ℕ) × SpellsLeaf utf8_string false IsUtf8Text text value × IsNameSize (count_by begins_character text)
 
 -- the one or the other
 abbrev pub IsPrintableOrUtf8 : List ℕ → Type 0

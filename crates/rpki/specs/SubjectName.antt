@@ -1,7 +1,6 @@
 -- The name of a subject of the RPKI: one common name (RFC 5280 4.1.2.4 and A.1, RFC 6487 4.5).
 use Rattle.std.specs.Prelude.{ℕ, true, false, List, ◌++◌}
-use Rattle.rpki_der.specs.TagName.{sequence, set, oid, printable_string}
-use Rattle.rpki_der.specs.Header.{tlv}
+use Rattle.rpki_der.specs.Prelude.{sequence, set, oid, printable_string, tlv}
 use Rattle.rpki.specs.Oids.{common_name}
 use Rattle.rpki_text.specs.HexText.{hex_text}
 

@@ -1,12 +1,9 @@
 -- Algorithm identifiers whose object identifier isn't known (RFC 5280 4.1.1.2).
 use Rattle.std.specs.Prelude.{◌≡◌, ℕ, List, Result, MatchResult, true, false}
 use Rattle.rpki_der.specs.declared.error.DecodeError.{DecodeError}
-use Rattle.rpki_der.specs.declared.error.DecodeError.TheVariants.{Truncated, BadTag, BadLength, Unexpected, Content, Trailing, OutOfMemory}
-use Rattle.rpki_der.specs.ErrorText.{text_of}
-use Rattle.rpki_der.specs.TagName.{oid, sequence}
-use Rattle.rpki_der.specs.Reading.{Spells}
-use Rattle.rpki_der.specs.Values.{SpellsContents, SpellsLeaf}
-use Rattle.rpki_der.specs.Leaves.{IsOidOf}
+use Rattle.rpki_der.specs.declared.error.DecodeError.TheVariants.{Truncated, BadTag, BadLength, Unexpected, Content}
+use Rattle.rpki_der.specs.declared.error.DecodeError.TheVariants.{Trailing, OutOfMemory}
+use Rattle.rpki_der.specs.Prelude.{text_of, oid, sequence, Spells, SpellsContents, SpellsLeaf, IsOidOf}
 
 -- c begins with an object identifier that isn't known
 pub record BeginsUnknown (Known : List ℕ → Type 0) (c : List ℕ) : Type 0 where

@@ -3,9 +3,8 @@
 ghost use Rattle.std.specs.Prelude.{◌≡◌, ◌↔◌, ℕ, Bool, true, false, List, length, IsTrue};
 ghost use Rattle.std.specs.Ordering.{nat_cmp};
 ghost use Rattle.std.specs.Cmp.Lexicographic.{slice_cmp};
-ghost use Rattle.rpki_der.specs.TagName.{octet_string};
-ghost use Rattle.rpki_der.specs.Header.{tlv};
 ghost use Rattle.rpki_der.specs.declared.error.DecodeError.{DecodeError};
+ghost use Rattle.rpki_der.specs.Prelude.{octet_string, tlv};
 ghost use Rattle.rpki.specs.Oids.{sha256_with_rsa_encryption, ecdsa_with_sha256};
 ghost use Rattle.rpki.specs.AlgorithmOctets.{algorithm_octets};
 ghost use Rattle.rpki.specs.SignatureNames.{bare_octets};
@@ -13,7 +12,8 @@ ghost use Rattle.rpki.specs.SignedData.{SignedParts, HasOneSpelling, DifferWhere
 ghost use Rattle.rpki.specs.KeyIdentifier.{SpellsKeyIdentifier};
 ghost use Rattle.rpki.specs.PublicKey.{KeyParts};
 ghost use Rattle.rpki.specs.StrictName.{IsRpkiName, IsRouterName};
-ghost use Rattle.rpki.specs.StrictNameWithoutOrganization.{IsRpkiNameWithoutOrganization, IsRouterNameWithoutOrganization};
+ghost use Rattle.rpki.specs.StrictNameWithoutOrganization.{IsRpkiNameWithoutOrganization};
+ghost use Rattle.rpki.specs.StrictNameWithoutOrganization.{IsRouterNameWithoutOrganization};
 ghost use Rattle.rpki.specs.ExtensionValue.{ExtensionParts, SpellsExtension};
 ghost use Rattle.rpki.specs.Signature.{SignatureParts};
 ghost use Rattle.rpki.specs.ErrorContent.{HaveSameContent, HaveSameText, HaveSameReason};

@@ -2,7 +2,7 @@
 use Rattle.std.specs.Prelude.{◌≡◌, ◌⊎◌, ◌<◌, ℕ, Bool, List}
 use Rattle.rpki_cert.specs.declared.cert_part.CertPart.{CertPart}
 use Rattle.rpki_cert.specs.declared.rule.CertRule.{CertRule}
-use Rattle.rpki_cert.specs.declared.rule.CertRule.TheVariants.{SerialNumber, CriticalExtensions, Issuer, Validity, Subject, RouterSubject, RsaKey, RouterKey, BasicConstraints, NoBasicConstraints, SubjectKeyIdentifier, AuthorityKeyIdentifier, OwnAuthority, SelfIssued, AuthorityUsage, EndUsage, NoExtendedKeyUsage, RouterPurpose, RevocationList, NoRevocationList, IssuerCertificate, NoIssuerCertificate, Repository, Manifest, SignedObject, NoSubjectAccess, CertificatePolicies, Resources, ResourceVersion, RouterNumbers, ObjectAccess}
+use Rattle.rpki_cert.specs.declared.rule.CertRule.TheVariants.{SerialNumber, CriticalExtensions, Issuer, Validity, Subject, RouterSubject, RsaKey, RouterKey, BasicConstraints, NoBasicConstraints, SubjectKeyIdentifier, AuthorityKeyIdentifier, OwnAuthority, SelfIssued, AuthorityUsage, EndUsage, NoExtendedKeyUsage, RouterPurpose, RevocationList, NoRevocationList, IssuerCertificate, NoIssuerCertificate, Repository, Manifest, ManifestPlace, Notifications, SignedObject, NoSubjectAccess, CertificatePolicies, Resources, ResourceVersion, RouterNumbers, ObjectAccess, ResourceBlocks, OwnResources}
 use Rattle.rpki_c.specs.declared.certificate_inspection.CertificateProfile.{CertificateProfile}
 use Rattle.rpki_c.specs.declared.certificate_inspection.CertificateProfile.TheVariants.{Ta, Ca, Ee, Router, Detached}
 use Rattle.rpki_cert.specs.Cert.{TbsParts, CertParts, SpellsCert}
@@ -45,6 +45,10 @@ cert_rule_number Validity = 112
 cert_rule_number OwnAuthority = 113
 cert_rule_number SelfIssued = 114
 cert_rule_number ResourceVersion = 115
+cert_rule_number ResourceBlocks = 116
+cert_rule_number OwnResources = 117
+cert_rule_number ManifestPlace = 118
+cert_rule_number Notifications = 119
 
 -- how a profile is passed
 abbrev pub profile_number : CertificateProfile → ℕ
@@ -82,7 +86,7 @@ pub record BreaksRule (s : List ℕ) (profile : CertificateProfile) (strict : Bo
   pub first : IsFirstBroken strict cert.tbs (rules_of profile) rule
   pub other : HasProfile profile strict cert.tbs → ⊥
 
--- Status 0: the octets are a certificate of the profile. 85 to 115: they are a certificate, which breaks the rule of
+-- Status 0: the octets are a certificate of the profile. 85 to 119: they are a certificate, which breaks the rule of
 -- this number first. Else the number of the part that is wrong.
 abbrev pub IsInspectedAs : List ℕ → CertificateProfile → Bool → ℕ → Type 0
 IsInspectedAs s profile strict status =

@@ -61,6 +61,10 @@ fn cert_rule_number(rule: CertRule) -> u8
         CertRule::OwnAuthority => 113,
         CertRule::SelfIssued => 114,
         CertRule::ResourceVersion => 115,
+        CertRule::ResourceBlocks => 116,
+        CertRule::OwnResources => 117,
+        CertRule::ManifestPlace => 118,
+        CertRule::Notifications => 119,
     }
 }
 
@@ -111,7 +115,7 @@ fn inspect(octets: &[u8], profile: CertificateProfile, strict: bool) -> u8
 /// is that of trust anchors, 1 that of certification authorities, 2 that of end entities that sign an object, 3 that of
 /// BGPsec routers, 4 that of end entities without subject information access. The names are looked at if `strict`.
 ///
-/// The status is 0; 85 to 115 where the certificate is not of the profile, by the rule that it breaks first; 64 to 79
+/// The status is 0; 85 to 119 where the certificate is not of the profile, by the rule that it breaks first; 64 to 79
 /// where the octets are no certificate, as that of [crate::certificate::rpki_certificate]; 12 for another number of a
 /// profile, before the octets are looked at. Nothing is allocated.
 #[unsafe(no_mangle)]

@@ -1,5 +1,5 @@
 -- What is made of values that are spelled: lists of them, names and access descriptions.
-use Rattle.std.proofs.Common.{◌≡◌, ◌≢◌, ◌<◌, ◌∙◌, inl, inr, ℕ, length, Bool, true, false, List, [], ◌∷◌, Option, Some, None, Result, Ok, Err, refl, sym, ap, subst}
+use Rattle.std.proofs.Common.{◌≡◌, ◌≢◌, ◌<◌, ◌∙◌, inl, inr, ℕ, length, Bool, true, false, List, [], ◌∷◌, Option, Some, None, refl, sym, ap, subst}
 use Rattle.std.specs.Prelude.{codes, ◌||◌, if◌then◌else◌}
 use Rattle.std.specs.Option.{is_some, option_or, option_copied}
 use denote.Ref.{Bor}
@@ -8,24 +8,23 @@ use Rattle.rpki_der.specs.declared.error.DecodeError.{DecodeError}
 use Rattle.rpki_der.specs.declared.error.DecodeError.TheVariants.{Content, Trailing, OutOfMemory}
 use Rattle.rpki_der.specs.ErrorText.{text_of}
 use Rattle.rpki_der.specs.TagName.{TagName, context_6, oid}
-use Rattle.rpki_der.specs.Reading.{IsWholeFault, Spells, Accepts, Refuses, Refusal, SpellsNothing, UnlessMemory}
-use Rattle.rpki_der.specs.Values.{SpellsContents, SpellsLeaf, HasTag, IsContentsFault}
+use Rattle.rpki_der.specs.Reading.{IsWholeFault, Spells, Accepts, Refuses, Refusal, SpellsNothing, UnlessMemory, Finds}
+use Rattle.rpki_der.specs.Values.{SpellsContents, SpellsLeaf, IsContentsFault}
 use Rattle.rpki_der.specs.FirstFault.{IsInsideFault}
 use Rattle.rpki_der.specs.FirstFault.FirstFault.{AtPart, Later}
 use Rattle.rpki_der.specs.Parts.{Then}
 use Rattle.rpki_der.proofs.ComposedLaws.{more-left, inner-refused, inner-accepted, all-read, nothing-after, nothing-whole}
-use Rattle.rpki_der.proofs.InsideLaws.{unless-memory}
-use Rattle.rpki_der.specs.WantedValue.{SpellsWanted, IsAnyTag}
+use Rattle.rpki_der.specs.Text.{IsIa5Text}
 use Rattle.rpki_der.specs.Each.{SpellsEach, SpellsSome, IsEachFault}
 use Rattle.rpki_der.proofs.ReadingLaws.{UnlessMemory-weaker}
-use Rattle.rpki_der.proofs.LeavesLaws.{leaf-tag, leaf-value, leaf-no-memory, contents-no-memory}
-use Rattle.rpki_der.proofs.PartsLaws.{IsOnly, Returned, Failed, tags-apart}
+use Rattle.rpki_der.proofs.LeavesLaws.{leaf-value, leaf-no-memory}
+use Rattle.rpki_der.proofs.PartsLaws.{IsOnly, Returned, Failed}
 use Rattle.rpki_der.proofs.EachLaws.{leaf-some}
-use Rattle.rpki_der.proofs.LeafValueLaws.{contents-shorter}
+use Rattle.rpki_der.proofs.LeafValueLaws.{leaf-shorter}
 use Rattle.rpki_der.proofs.FirstFaultLaws.{memory-where}
 use Rattle.rpki_text.specs.RsyncText.{rsync_refusal}
-use Rattle.rpki_cert.specs.Access.{Through, IsSomeFault, IsKeptFault, SpellsName, SpellsUri, IsOidAs, SpellsOidAs, IsOidAsFault, first_rsync}
-use Rattle.rpki_cert.specs.InPlace.{Gives}
+use Rattle.rpki_cert.specs.GeneralName.{SpellsText, IsTextFault}
+use Rattle.rpki_cert.specs.Access.{Through, IsSomeFault, IsKeptFault, IsUriFault, SpellsUri, IsOidAs, SpellsOidAs, IsOidAsFault, first_rsync}
 use Rattle.rpki_cert.specs.ExtensionContent.{SpellsPurpose, has_router, ArePurposes}
 use Rattle.rpki_cert.proofs.ListedLaws.{refused}
 use Rattle.rpki_cert.proofs.SomeLaws.{none-some, some-there}
@@ -41,9 +40,6 @@ module _ {V W : Type 0} (f : W → V) (G : W → List ℕ → Type 0) (K : List 
     spells = record { front = a.spells.front; parts = a.spells.parts; spelled = (w, a.spells.spelled, refl) };
     only = λ v q h. let k = through v q h in let e = a.only k.0 q k.1 in (k.2 ∙ ap f e.0, e.1);
   }
-
-  pub refuses-through : (e : DecodeError) → Refusal G K s r e → Refusal (Through f G) K s r e
-  refuses-through e h = record { unchanged = h.unchanged; refuses = UnlessMemory-weaker e (λ none v q k. let g = through v q k in none g.0 q g.1) h.refuses; kind = h.kind }
 
   pub returned-through : (w : W) → Returned G K s r w → Returned (Through f G) K s r (f w)
   returned-through w h = (
@@ -96,62 +92,13 @@ module _ {V : Type 0} (t : TagName) (f : Bool) (C : V → List ℕ → Type 0) (
     pub inside-read : (d : List ℕ) (v : V) → Returned C K c d v → d ≡ [] → Accepts (SpellsLeaf t f C) s v q
     inside-read d v h end = inner-accepted t f C s c q v a (h.0 end)
 
--- ---- general names
+-- ---- URIs
 
-abbrev Any : TagName × Bool × List ℕ → List ℕ → Type 0
-Any = SpellsWanted IsAnyTag
-
--- any contents
-abbrev Whatever : Unit {0} → List ℕ → Type 0
-Whatever w c = Unit {0}
-
-uri-tag : (s text r : List ℕ) → Spells (SpellsContents context_6 false) s text r → HasTag context_6 s
-uri-tag s text r h = leaf-tag context_6 false Whatever s tt r (record { front = h.front; parts = h.parts; spelled = record { contents = text; value = h.spelled; spelled = tt } })
-
-any-tag : (s : List ℕ) (x : TagName × Bool × List ℕ) (r : List ℕ) → Spells Any s x r → Spells (SpellsLeaf x.0 x.1 Whatever) s tt r
-any-tag s x r h = record { front = h.front; parts = h.parts; spelled = record { contents = x.2; value = h.spelled.value; spelled = tt } }
-
-other-tag : (s : List ℕ) (x : TagName × Bool × List ℕ) (r : List ℕ) → Spells Any s x r → (x.0 ≢ context_6) → HasTag context_6 s → ⊥
-other-tag s x r h other there =
-    tags-apart {B = Unit {0}} {H = λ b q. Spells Any q x r} context_6 x.0 x.1 Whatever (λ e. other (sym e)) (λ b q k. (tt, r, any-tag q x r k)) tt s h there
-
-as-uri : (s text r : List ℕ) → Spells SpellsName s (Some text) r → Spells (SpellsContents context_6 false) s text r
-as-uri s text r h = record { front = h.front; parts = h.parts; spelled = h.spelled }
-
-as-any : (s r : List ℕ) → Spells SpellsName s None r → (x : TagName × Bool × List ℕ) × Spells Any s x r × (x.0 ≢ context_6)
-as-any s r h = (h.spelled.0, record { front = h.front; parts = h.parts; spelled = h.spelled.1 }, h.spelled.2)
-
-pub name-uri : (s text r : List ℕ) → HasTag context_6 s → Accepts (SpellsContents context_6 false) s text r → Accepts SpellsName s (Some text) r
-name-uri s text r there a = record { spells = record { front = a.spells.front; parts = a.spells.parts; spelled = a.spells.spelled }; only = only }
-  where
-    only : (w : Option (List ℕ)) (q : List ℕ) → Spells SpellsName s w q → (w ≡ Some text) × (q ≡ r)
-    only (Some other) q h = let e = a.only other q (as-uri s other q h) in (ap (λ (t : List ℕ). Some t) e.0, e.1)
-    only None q h = let k = as-any s q h in absurd (other-tag s k.0 q k.1 k.2 there)
-
-pub no-uri : (s : List ℕ) → HasTag context_6 s → Refuses (SpellsContents context_6 false) s → Refuses SpellsName s
-no-uri s there none (Some text) r h = none text r (as-uri s text r h)
-no-uri s there none None r h = let k = as-any s r h in other-tag s k.0 r k.1 k.2 there
-
-pub name-other : (s r : List ℕ) (x : TagName × Bool × List ℕ) → (HasTag context_6 s → ⊥) → Accepts Any s x r → Accepts SpellsName s None r
-name-other s r x without a =
-    record { spells = record { front = a.spells.front; parts = a.spells.parts; spelled = (x, a.spells.spelled, λ e. without (tagged e)) }; only = only } where
-      tagged : x.0 ≡ context_6 → HasTag context_6 s
-      tagged e = subst (λ (t : TagName). HasTag t s) e (leaf-tag x.0 x.1 Whatever s tt r (any-tag s x r a.spells))
-
-      only : (w : Option (List ℕ)) (q : List ℕ) → Spells SpellsName s w q → (w ≡ None) × (q ≡ r)
-      only (Some text) q h = absurd (without (uri-tag s text q (as-uri s text q h)))
-      only None q h = let k = as-any s q h in (refl, (a.only k.0 q k.1).1)
-
-pub no-name : (s : List ℕ) → (HasTag context_6 s → ⊥) → Refuses Any s → Refuses SpellsName s
-no-name s without none (Some text) r h = without (uri-tag s text r (as-uri s text r h))
-no-name s without none None r h = let k = as-any s r h in none k.0 r k.1
-
--- a URI is written in some octets
 pub uri-some : (v : Option (List ℕ)) → SpellsUri v [] → ⊥
-uri-some v h = leaf-some context_6 false Whatever tt (record { contents = h.0; value = h.1; spelled = tt })
+uri-some v h = leaf-some context_6 false IsIa5Text h.0 h.1
 
 pub uri-shorter : (s r : List ℕ) (v : Option (List ℕ)) → Spells SpellsUri s v r → length r < length s
-uri-shorter s r v h = contents-shorter context_6 false s h.spelled.0 r (record { front = h.front; parts = h.parts; spelled = h.spelled.1 })
+uri-shorter s r v h = leaf-shorter context_6 false IsIa5Text s h.spelled.0 r (record { front = h.front; parts = h.parts; spelled = h.spelled.1 })
 
 -- ---- whole octets: something is left after the value
 
@@ -164,34 +111,22 @@ left-over G K s r v e a (is, some) = subst (λ (x : DecodeError). UnlessMemory x
 pub oid-refused : (expected s r : List ℕ) (e : DecodeError) → Refusal (SpellsOidAs expected) (IsOidAsFault expected) s r e → Refuses (SpellsOidAs expected) s
 oid-refused expected s r e h = refused (SpellsOidAs expected) (IsOidAsFault expected) s r e (λ k. leaf-no-memory oid false (IsOidAs expected) s OutOfMemory k refl) h
 
-pub contents-refused : (t : TagName) (f : Bool) (s r : List ℕ) (e : DecodeError) → Refusal (SpellsContents t f) (IsContentsFault t f) s r e → Refuses (SpellsContents t f) s
-contents-refused t f s r e h = unless-memory e (λ z. contents-no-memory t f s e h.kind z) h.refuses
-
-pub uri-refused : (s : List ℕ) → Refuses (SpellsContents context_6 false) s → Refuses SpellsUri s
+pub uri-refused : (s : List ℕ) → Refuses SpellsText s → Refuses SpellsUri s
 uri-refused s none v q k = none k.spelled.0 q (record { front = k.front; parts = k.parts; spelled = k.spelled.1 })
 
-one-text : (x y : List ℕ) → ◌≡◌ {A = Option (List ℕ)} (Some x) (Some y) → x ≡ y
-one-text x y e = cc
+pub text-refused : (s r : List ℕ) (e : DecodeError) → Refusal SpellsText IsTextFault s r e → Refuses SpellsText s
+text-refused s r e h = refused SpellsText IsTextFault s r e (λ k. leaf-no-memory context_6 false IsIa5Text s OutOfMemory k refl) h
 
--- a name that is a URI, read as a URI
-uri-name : (s r : List ℕ) (v : Option (List ℕ)) → HasTag context_6 s → Accepts SpellsUri s v r → Accepts SpellsName s v r
-uri-name s r v there a =
-    let (text, g, e) = a.spells.spelled in
-    let contents : Accepts (SpellsContents context_6 false) s text r = record {
-      spells = record { front = a.spells.front; parts = a.spells.parts; spelled = g };
-      only = λ w q h.
-          let o = a.only (Some w) q (record { front = h.front; parts = h.parts; spelled = (w, h.spelled, refl) }) in
-          (one-text w text (o.0 ∙ e), o.1);
-    } in
-    subst (λ (u : Option (List ℕ)). Accepts SpellsName s u r) (sym e) (name-uri s text r there contents)
+-- a text that is kept
+pub uri-kept-refused : (s r q : List ℕ) (e : DecodeError) → q ≡ s → Refusal SpellsText IsTextFault s r e → Refusal SpellsUri IsUriFault s q e
+uri-kept-refused s r q e same h = record {
+  unchanged = same;
+  refuses = UnlessMemory-weaker e (uri-refused s) h.refuses;
+  kind = memory-where (Finds SpellsText) IsTextFault s e (λ z. absurd (leaf-no-memory context_6 false IsIa5Text s e h.kind z)) h.kind;
+}
 
-uri-no-name : (s : List ℕ) → HasTag context_6 s → Refuses SpellsUri s → Refuses SpellsName s
-uri-no-name s there none =
-    no-uri s there (λ text q h. none (Some text) q (record { front = h.front; parts = h.parts; spelled = (text, h.spelled, refl) }))
-
-pub uri-as-name : {X E : Type 0} (view : X → Option (List ℕ)) (s r : List ℕ) (x : Result X E) → HasTag context_6 s → Gives view SpellsUri s r x → Gives view SpellsName s r x
-uri-as-name view s r (Ok x) there a = uri-name s r (view x) there a
-uri-as-name view s r (Err e) there none = uri-no-name s there none
+pub uri-no-memory : (s r text : List ℕ) → Accepts SpellsText s text r → Refusal SpellsUri IsUriFault s s OutOfMemory
+uri-no-memory s r text a = record { unchanged = refl; refuses = tt; kind = (text, r, a.spells) }
 
 -- whether a router's purpose is among some
 

@@ -66,6 +66,11 @@ unless-from (Decoding e) p = UnlessMemory-from e p
 unless-from (Inspection e) p = p
 unless-from (Verification e) p = p
 
+pub unless-weaker : (e : ValidationError) {P Q : Type 0} → (P → Q) → UnlessNoMemory e P → UnlessNoMemory e Q
+unless-weaker (Decoding e) f h = UnlessMemory-weaker e f h
+unless-weaker (Inspection e) f h = f h
+unless-weaker (Verification e) f h = f h
+
 -- a function that ends by a `?`
 pub tried-unless : {X : Type 0} (P : X → Type 0) (Q : Type 0) (F : ValidationError → Type 0) (x : Result X ValidationError) → IsErr x × IsErrAnd x F → Q
     → MatchResult x P (λ e. UnlessNoMemory e Q)

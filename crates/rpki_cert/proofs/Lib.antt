@@ -1,10 +1,12 @@
 -- Which lemma file answers which question.
 --
 -- Values, one at least; lists of extensions; each identifier once: SomeLaws, ExtensionListLaws, UniqueLaws.
--- Signed data without unused bits: WholeLaws. What is signed, and a certificate around it: CertLaws. What an extension says: KnownLaws, PolicyLaws, AccessLaws.
--- Keys: KeyLaws. Checks of profiles: ProfileLaws. Their rules: RuleLaws. What is verified: VerifiedLaws.
+-- Signed data without unused bits: WholeLaws. What is signed, and a certificate around it: CertLaws. What an extension says: KnownLaws, PolicyLaws,
+--   GeneralNameLaws, AccessLaws.
+-- Keys: KeyLaws. Checks of profiles: ProfileLaws. Their rules: RuleLaws. What is verified: VerifiedLaws. What is claimed
+--   of resources, and what is settled: ResourceSetLaws.
 -- Read in place: values, names, access descriptions, lists of extensions, their index, fields, certificates: NestedLaws,
---   NameViewLaws, ObjectAccessLaws, ListedLaws, ExtensionIndexLaws, FieldsLaws, ViewLaws. That what is signed is one
+--   NameViewLaws, AccessRuleLaws, ListedLaws, ExtensionIndexLaws, FieldsLaws, ViewLaws. That what is signed is one
 --   value: TbsValueLaws. That what is wrong is no certificate: WrongLaws.
 --   Values, one after another, of which something is kept: GatherLaws. What a `?` hands on: TriedLaws.
 
@@ -15,14 +17,16 @@ pub mod WholeLaws
 pub mod CertLaws
 pub mod KnownLaws
 pub mod PolicyLaws
+pub mod GeneralNameLaws
 pub mod AccessLaws
 pub mod KeyLaws
 pub mod ProfileLaws
 pub mod RuleLaws
+pub mod ResourceSetLaws
 pub mod VerifiedLaws
 pub mod NestedLaws
 pub mod NameViewLaws
-pub mod ObjectAccessLaws
+pub mod AccessRuleLaws
 pub mod ListedLaws
 pub mod ExtensionIndexLaws
 pub mod FieldsLaws

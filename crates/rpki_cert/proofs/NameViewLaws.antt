@@ -56,3 +56,15 @@ name-not s c r a none v q k = leaf-not sequence true (SpellsSome SpellsRelative)
 
 pub name-missing : (s r : List ℕ) (e : DecodeError) → Refusal (SpellsContents sequence true) (IsContentsFault sequence true) s r e → Refuses SpellsNameOctets s
 name-missing s r e h v q k = leaf-missing sequence true (SpellsAny (SpellsSome SpellsRelative)) s r e h tt q (octets-any s v q k)
+
+-- ---- all of the octets
+
+-- all of s is the value where nothing is left
+pub whole-there : (G : Unit {0} → List ℕ → Type 0) (s r : List ℕ) → Accepts G s tt r → r ≡ [] → G tt s
+whole-there G s r a end = (all-read G s tt r a end).0
+
+pub whole-end : (G : Unit {0} → List ℕ → Type 0) (s r : List ℕ) → Accepts G s tt r → G tt s → r ≡ []
+whole-end G s r a h = sym (a.only tt [] (spelled-whole G s tt h)).1
+
+pub whole-none : (G : Unit {0} → List ℕ → Type 0) (s : List ℕ) → Refuses G s → G tt s → ⊥
+whole-none G s none h = nothing-whole G s none tt h

@@ -1,13 +1,18 @@
 -- Checks of profiles: what they return at their ends.
-use Rattle.std.proofs.Common.{◌≡◌, ◌∙◌, ℕ, Bool, false, inl, inr, List, Option, Some, None, sym, ap}
+use Rattle.std.proofs.Common.{◌≡◌, ◌∙◌, ℕ, Bool, true, false, IsTrue, inl, inr, List, [], length, Option, Some, None, refl, sym, ap}
+use Rattle.std.specs.Prelude.{◌↔◌, ◌==◌, not}
+use Rattle.std.proofs.lemmas.Bool.{false≢true}
+use Rattle.std.proofs.lemmas.Bool.Decides.{Decides-eqb}
+use Rattle.std.proofs.lemmas.List.{nil_from_length}
 use Rattle.rpki_der.specs.declared.error.DecodeError.{DecodeError}
 use Rattle.rpki.specs.declared.repository.error.ValidationError.{ValidationError}
 use Rattle.rpki.specs.ExtensionValue.{ExtensionParts}
 use Rattle.rpki_cert.specs.declared.rule.CertRule.{CertRule}
 use Rattle.rpki_cert.specs.Known.{Says, SaysOnly, IsFoundWrong, IsOtherwise}
 use Rattle.rpki_cert.specs.RuleError.{SaysRule, SaysFound}
+use Rattle.rpki_text.specs.RsyncText.{rsync_refusal, uri_of, relative}
 use Rattle.rpki_cert.specs.Access.{flat, SaysUri}
-use Rattle.rpki_cert.specs.Profile.{SaysSomeUri}
+use Rattle.rpki_cert.specs.Profile.{SaysSomeUri, IsBelow}
 
 module _ (G : Option (List ℕ) → List ℕ → Type 0) (found : Option ExtensionParts) where
   one-uri : (u w : Option (List ℕ)) → SaysUri G found u → SaysUri G found w → u ≡ w
@@ -46,3 +51,21 @@ pub uri-other : (G : Option (List ℕ) → List ℕ → Type 0) (K : List ℕ �
     → (SaysSomeUri G found → ⊥) × SaysFound false G K rule found e
 uri-other G K rule found e h says =
     found-other false G K rule found (SaysSomeUri G found) h.0 e h.1 (λ k. (k.1.0, k.1.1.0, λ same. uri-missing G found h k)) says
+
+-- ---- a URI below another one
+
+pub is-empty : (b : Bool) (path : List ℕ) → b ≡ (length path == 0) → IsTrue b ↔ (path ≡ [])
+is-empty b path e = (λ z. nil_from_length path ((Decides-eqb (length path) 0).0 (sym e ∙ z)), λ h. e ∙ (Decides-eqb (length path) 0).1 (ap (λ (xs : List ℕ). length xs) h))
+
+module _ (base text path : List ℕ) where
+  pub below-there : (b : Bool) → rsync_refusal base ≡ None → rsync_refusal text ≡ None → Some path ≡ relative (uri_of text) (uri_of base) → IsTrue b ↔ (path ≡ []) → IsTrue (not b) ↔ IsBelow base text
+  below-there true r s leads empty = (
+    λ z. absurd (false≢true z),
+    λ h. absurd (h.some (one-path h.path (leads ∙ h.leads) (empty.0 refl))),
+  ) where
+    one-path : (other : List ℕ) → ◌≡◌ {A = Option (List ℕ)} (Some path) (Some other) → path ≡ [] → other ≡ []
+    one-path other e end = cc
+  below-there false r s leads empty = (
+    λ z. record { base_uri = r; text_uri = s; path = path; leads = sym leads; some = λ end. false≢true (empty.1 end) },
+    λ h. refl,
+  )

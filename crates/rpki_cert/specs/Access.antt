@@ -1,13 +1,12 @@
 -- The URIs of certificates: CRL distribution points, and authority and subject information access (RFC 6487 4.8.6 to
 -- 4.8.8, RFC 8182 3.2).
-use Rattle.std.specs.Prelude.{◌≡◌, ◌≢◌, ◌⊎◌, ◌||◌, ℕ, Bool, true, false, List, [], ◌∷◌, Option, Some, None, IsTrue, Result, Vec, MatchResult, bytes_eq, codes, if◌then◌else◌}
+use Rattle.std.specs.Prelude.{◌≡◌, ◌≢◌, ◌⊎◌, ◌||◌, not, ℕ, Bool, true, false, List, [], ◌∷◌, Option, Some, None, IsTrue, Result, Vec, MatchResult, bytes_eq, codes, if◌then◌else◌}
 use Rattle.std.specs.Option.{is_some}
 use Rattle.rpki_der.specs.declared.error.DecodeError.{DecodeError}
 use Rattle.rpki_der.specs.declared.tag.Class.TheVariants.{Context}
-use Rattle.rpki_der.specs.TagName.{TagName, tag_of, context_6, oid, sequence}
+use Rattle.rpki_der.specs.TagName.{TagName, tag_of, oid, sequence}
 use Rattle.rpki_der.specs.Reading.{AnyFault, Finds, Decodes, OrMemoryWhere, IsWholeFault}
-use Rattle.rpki_der.specs.Values.{SpellsContents, SpellsLeaf, HasTag, IsContentsFault, IsLeafFault}
-use Rattle.rpki_der.specs.WantedValue.{SpellsWanted, IsAnyTag, IsWantedFault}
+use Rattle.rpki_der.specs.Values.{SpellsLeaf, IsLeafFault}
 use Rattle.rpki_der.specs.Leaves.{IsOid, IsOidOf}
 use Rattle.rpki_der.specs.Parts.{Then}
 use Rattle.rpki_der.specs.Each.{SpellsEach, SpellsSome, IsEachFault}
@@ -17,7 +16,10 @@ use Rattle.rpki_text.specs.HttpsText.{https_refusal}
 use Rattle.rpki.specs.UnknownAlgorithm.{IsContentWith}
 use Rattle.rpki.specs.ExtensionValue.{ExtensionParts}
 use Rattle.rpki.specs.declared.repository.error.ValidationError.{ValidationError}
+use Rattle.rpki_cert.specs.declared.access_rule.AccessRule.{AccessRule}
+use Rattle.rpki_cert.specs.declared.access_rule.AccessRule.TheVariants.{EndEntity, Notification}
 use Rattle.rpki_cert.specs.Cert.{find}
+use Rattle.rpki_cert.specs.GeneralName.{SpellsText, IsTextFault, SpellsName, IsNameFault}
 use Rattle.rpki_cert.specs.Known.{SaysOnly, IsFoundWrong, HasNone, UnlessNoMemory}
 
 -- what f makes of some value that is spelled
@@ -36,23 +38,17 @@ abbrev pub IsKeptFault : {V : Type 0} → (V → List ℕ → Type 0) → (List 
     → Type 0
 IsKeptFault G K = OrMemoryWhere (λ s. s ≢ []) (IsSomeFault G K)
 
--- ---- general names (RFC 5280 4.2.1.6)
-
--- the text of a URI, under the tag 6; or a value of another tag, which stands for None
-abbrev pub SpellsName : Option (List ℕ) → List ℕ → Type 0
-SpellsName (Some text) p = SpellsContents context_6 false text p
-SpellsName None p = (x : TagName × Bool × List ℕ) × SpellsWanted IsAnyTag x p × (x.0 ≢ context_6)
+-- ---- general names, of which the text of a URI is kept
 
 abbrev pub IsUriFault : List ℕ → DecodeError → Type 0
-IsUriFault = OrMemoryWhere (Finds (SpellsContents context_6 false)) (IsContentsFault context_6 false)
+IsUriFault = OrMemoryWhere (Finds SpellsText) IsTextFault
 
-abbrev pub IsNameFault : List ℕ → DecodeError → Type 0
-IsNameFault s e =
-    (HasTag context_6 s × IsUriFault s e) ⊎ ((HasTag context_6 s → ⊥) × IsWantedFault IsAnyTag s e)
+abbrev pub IsKeptNameFault : List ℕ → DecodeError → Type 0
+IsKeptNameFault = OrMemoryWhere (Finds SpellsText) IsNameFault
 
 -- a URI
 abbrev pub SpellsUri : Option (List ℕ) → List ℕ → Type 0
-SpellsUri = Through (λ text. Some text) (SpellsContents context_6 false)
+SpellsUri = Through (λ text. Some text) SpellsText
 
 -- the first text that is an rsync URI; that is an https URI
 abbrev pub first_rsync : List (Option (List ℕ)) → Option (List ℕ)
@@ -91,7 +87,7 @@ SpellsAccess method = SpellsLeaf sequence true (IsAccess method)
 abbrev pub IsAccessPartsFault : List ℕ → List ℕ → DecodeError → Type 0
 IsAccessPartsFault method =
     FirstFault (SpellsOidAs method) (IsOidAsFault method) (λ same.
-    FirstFault SpellsName IsNameFault (λ name. IsEndFault))
+    FirstFault SpellsName IsKeptNameFault (λ name. IsEndFault))
 
 abbrev pub IsAccessFault : List ℕ → List ℕ → DecodeError → Type 0
 IsAccessFault method = IsInsideFault sequence true (IsAccessPartsFault method)
@@ -188,19 +184,27 @@ signed_object = 43 ∷ 6 ∷ 1 ∷ 5 ∷ 5 ∷ 7 ∷ 48 ∷ 11 ∷ []
 abbrev pub rpki_notify : List ℕ
 rpki_notify = 43 ∷ 6 ∷ 1 ∷ 5 ∷ 5 ∷ 7 ∷ 48 ∷ 13 ∷ []
 
--- ---- the descriptions of an end entity (RFC 6487 4.8.8.2, RFC 8182 3.2)
+-- ---- descriptions that are held to a rule
 
--- the methods that it may have: where the signed object is, and where changes of the repository are told
-abbrev pub is_object_method : List ℕ → Bool
-is_object_method id = bytes_eq id signed_object || bytes_eq id rpki_notify
+-- the text is an https URI
+abbrev pub is_https : Option (List ℕ) → Bool
+is_https None = false
+is_https (Some text) = not (is_some (https_refusal text))
 
--- a description of such a method: the contents octets of its identifier, and its name
-abbrev pub IsObjectAccess : List ℕ × Option (List ℕ) → List ℕ → Type 0
-IsObjectAccess x c = Then (SpellsLeaf oid false IsOidOf) SpellsName x c × IsTrue (is_object_method x.0)
+-- What a rule says of a description, by the contents octets of its method and by its name: an end entity's tells where
+-- the signed object is, or where changes of the repository are (RFC 6487 4.8.8.2, RFC 8182 3.2); and the latter is told
+-- by an https URI (RFC 8182 3.2).
+abbrev pub allows : AccessRule → List ℕ × Option (List ℕ) → Bool
+allows EndEntity x = bytes_eq x.0 signed_object || bytes_eq x.0 rpki_notify
+allows Notification x = not (bytes_eq x.0 rpki_notify) || is_https x.1
+
+-- such a description
+abbrev pub IsHeldAccess : AccessRule → List ℕ × Option (List ℕ) → List ℕ → Type 0
+IsHeldAccess rule x c = Then (SpellsLeaf oid false IsOidOf) SpellsName x c × IsTrue (allows rule x)
 
 -- such descriptions, one at least, and no others
-abbrev pub SpellsObjectAccess : List (List ℕ × Option (List ℕ)) → List ℕ → Type 0
-SpellsObjectAccess = SpellsLeaf sequence true (SpellsSome (SpellsLeaf sequence true IsObjectAccess))
+abbrev pub SpellsHeldAccess : AccessRule → List (List ℕ × Option (List ℕ)) → List ℕ → Type 0
+SpellsHeldAccess rule = SpellsLeaf sequence true (SpellsSome (SpellsLeaf sequence true (IsHeldAccess rule)))
 
 -- ---- what a certificate says
 

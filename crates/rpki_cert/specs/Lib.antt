@@ -3,6 +3,7 @@ pub mod Cert
 pub mod CertFault
 pub mod Known
 pub mod ExtensionContent
+pub mod GeneralName
 pub mod Access
 pub mod InPlace
 pub mod View
@@ -10,8 +11,10 @@ pub mod ExtensionIndex
 pub mod KnownView
 pub mod Inspected
 pub mod Keys
+pub mod ResourceExtensions
 pub mod Profile
 pub mod Rule
 pub mod RuleError
 pub mod Valid
+pub mod ResourceSet
 pub mod Verified

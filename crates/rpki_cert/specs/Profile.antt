@@ -1,7 +1,7 @@
 -- The profiles of certificates: trust anchors, certification authorities and end entities (RFC 6487 4), end entities
 -- without subject information access (RFC 9323 2), and BGPsec routers (RFC 8209 3.1). A name is held to its profile
 -- where this is asked for.
-use Rattle.std.specs.Prelude.{◌≡◌, ◌<◌, ◌≤ℤ◌, ◌⊎◌, ◌||◌, ◌&&◌, not, ℕ, Bool, true, false, List, Option, Some, None, IsTrue, Result, MatchResult}
+use Rattle.std.specs.Prelude.{◌≡◌, ◌≢◌, ◌<◌, ◌≤ℤ◌, ◌⊎◌, ◌||◌, ◌&&◌, not, ℕ, Bool, true, false, List, [], Option, Some, None, IsTrue, Result, MatchResult}
 use Rattle.jiff.specs.Words.{civil_nanos}
 use Rattle.rpki_time.specs.Validity.{Period}
 use Rattle.rpki.specs.KeyIdentifier.{SpellsKeyIdentifier}
@@ -9,13 +9,17 @@ use Rattle.rpki.specs.StrictName.{IsRpkiName, IsRouterName}
 use Rattle.rpki.specs.ExtensionValue.{ExtensionParts}
 use Rattle.rpki.specs.declared.repository.error.ValidationError.{ValidationError}
 use Rattle.rpki_cert.specs.declared.key_usage.KeyUsage.TheVariants.{Ca, Ee}
+use Rattle.rpki_text.specs.RsyncText.{rsync_refusal, uri_of, relative}
+use Rattle.rpki_cert.specs.declared.access_rule.AccessRule.{AccessRule}
+use Rattle.rpki_cert.specs.declared.access_rule.AccessRule.TheVariants.{EndEntity, Notification}
 use Rattle.rpki_cert.specs.declared.policy.Overclaim.{Overclaim}
 use Rattle.rpki_cert.specs.declared.policy.Overclaim.TheVariants.{Refuse, Trim}
 use Rattle.rpki_cert.specs.Cert.{TbsParts, find, is_there}
 use Rattle.rpki_cert.specs.Keys.{IsRpkiKey, IsRouterKey}
 use Rattle.rpki_cert.specs.Known.{subject_key_identifier, key_usage, basic_constraints, crl_distribution_points, certificate_policies, authority_key_identifier, extended_key_usage, authority_info_access, subject_info_access, ip_addr_blocks, ip_addr_blocks_v2, autonomous_sys_ids, autonomous_sys_ids_v2, Says, HasExtension, are_understood}
 use Rattle.rpki_cert.specs.ExtensionContent.{SpellsConstraints, SpellsAuthority, SpellsUsage, SpellsPurposes, SpellsPolicies}
-use Rattle.rpki_cert.specs.Access.{SpellsRsyncAccess, SpellsPoints, SpellsObjectAccess, SaysUri, ca_issuers, ca_repository, rpki_manifest, signed_object}
+use Rattle.rpki_cert.specs.ResourceExtensions.{AreWellFormed, AreOwn}
+use Rattle.rpki_cert.specs.Access.{SpellsRsyncAccess, SpellsPoints, SpellsHeldAccess, SaysUri, ca_issuers, ca_repository, rpki_manifest, signed_object}
 
 -- ---- a check
 
@@ -40,15 +44,31 @@ HasSome id critical G xs = SaysSome critical G (find id xs)
 abbrev pub HasSomeUri : List ℕ → (Option (List ℕ) → List ℕ → Type 0) → List ExtensionParts → Type 0
 HasSomeUri id G xs = SaysSomeUri G (find id xs)
 
--- the subject information access is there, and each of its descriptions has a method of an end entity
-abbrev pub HasOnlyMethods : List ExtensionParts → Type 0
-HasOnlyMethods xs = HasSome subject_info_access false SpellsObjectAccess xs
+-- the subject information access is there, and each of its descriptions obeys the rule
+abbrev pub HasHeldAccess : AccessRule → List ExtensionParts → Type 0
+HasHeldAccess rule xs = HasSome subject_info_access false (SpellsHeldAccess rule) xs
+
+-- these are two rsync URIs, the second below the first: a path leads to it, and that is not empty
+pub record IsBelow (base text : List ℕ) : Type 0 where
+  pub base_uri : rsync_refusal base ≡ None
+  pub text_uri : rsync_refusal text ≡ None
+  pub path : List ℕ
+  pub leads : relative (uri_of text) (uri_of base) ≡ Some path
+  pub some : path ≢ []
+
+-- of the subject information access that is found, the URI of the manifest lies below that of the repository
+pub record SaysManifestBelow (found : Option ExtensionParts) : Type 0 where
+  pub base : List ℕ
+  pub text : List ℕ
+  pub repository : SaysUri (SpellsRsyncAccess ca_repository) found (Some base)
+  pub manifest : SaysUri (SpellsRsyncAccess rpki_manifest) found (Some text)
+  pub below : IsBelow base text
 
 -- it isn't there
 abbrev pub HasNot : List ℕ → List ExtensionParts → Type 0
 HasNot id xs = find id xs ≡ None
 
--- ---- resources, which are not read (RFC 6487 4.8.10, 4.8.11, RFC 8360 4.2.2)
+-- ---- which resources are there (RFC 6487 4.8.10, 4.8.11, RFC 8360 4.2.2)
 
 abbrev pub has_addresses : List ExtensionParts → Bool
 has_addresses xs = is_there (find ip_addr_blocks xs) || is_there (find ip_addr_blocks_v2 xs)
@@ -88,8 +108,8 @@ abbrev pub IsOrdered : Period → Type 0
 IsOrdered p = civil_nanos p.not_before ≤ℤ civil_nanos p.not_after
 
 -- the serial number is positive (RFC 5280 4.1.2.2); every critical extension is known; the issuer has a name of the
--- RPKI; the period is one; the subject key identifier, the policy and resources of its version are there (RFC 6487 4.2,
--- 4.4, 4.6, 4.8, RFC 8360 4.2)
+-- RPKI; the period is one; the subject key identifier, the policy and resources of its version are there, which are in
+-- canonical form (RFC 6487 4.2, 4.4, 4.6, 4.8, RFC 8360 4.2)
 pub record IsBasic (strict : Bool) (t : TbsParts) : Type 0 where
   pub serial : 0 < t.serial
   pub understood : IsTrue (are_understood t.extensions)
@@ -99,6 +119,7 @@ pub record IsBasic (strict : Bool) (t : TbsParts) : Type 0 where
   pub policy : HasSome certificate_policies true SpellsPolicies t.extensions
   pub resources : IsTrue (has_resources t.extensions)
   pub version : HasOneVersion t.extensions
+  pub blocks : AreWellFormed t.extensions
 
 -- a subject with a name of the RPKI and an RSA key (RFC 6487 4.5, RFC 7935 3), for no extended purpose (RFC 6487 4.8.5)
 pub record IsOrdinary (strict : Bool) (t : TbsParts) : Type 0 where
@@ -117,10 +138,13 @@ pub record IsEnd (xs : List ExtensionParts) : Type 0 where
   pub constraints : HasNot basic_constraints xs
   pub usage : HasExtension key_usage true SpellsUsage xs (Some Ee)
 
--- where an authority publishes (RFC 6487 4.8.8.1)
+-- where an authority publishes (RFC 6487 4.8.8.1): the manifest is one of the repository's objects (RFC 9286 2), and
+-- changes are told by https (RFC 8182 3.2)
 pub record HasRepository (xs : List ExtensionParts) : Type 0 where
   pub repository : HasSomeUri subject_info_access (SpellsRsyncAccess ca_repository) xs
   pub manifest : HasSomeUri subject_info_access (SpellsRsyncAccess rpki_manifest) xs
+  pub place : SaysManifestBelow (find subject_info_access xs)
+  pub notifications : HasHeldAccess Notification xs
 
 -- issued by another: its key identifier, its revocation list and its certificate (RFC 6487 4.8.3, 4.8.6, 4.8.7)
 pub record HasIssuer (xs : List ExtensionParts) : Type 0 where
@@ -141,7 +165,7 @@ HasOwnAuthority xs = SaysOwn (find authority_key_identifier xs) (find subject_ke
 -- ---- the profiles
 
 -- a trust anchor: it is its own issuer (RFC 8630 2.3, RFC 5280 3.2), without a revocation list and a certificate of
--- another issuer
+-- another issuer; and its resources are its own (RFC 8630 2.3)
 pub record IsTaProfile (strict : Bool) (t : TbsParts) : Type 0 where
   pub ordinary : IsOrdinary strict t
   pub authority : IsAuthority t.extensions
@@ -150,6 +174,7 @@ pub record IsTaProfile (strict : Bool) (t : TbsParts) : Type 0 where
   pub certificate : HasNot authority_info_access t.extensions
   pub issuer : t.issuer ≡ t.subject
   pub identifier : HasOwnAuthority t.extensions
+  pub own : AreOwn t.extensions
 
 pub record IsCaProfile (strict : Bool) (t : TbsParts) : Type 0 where
   pub ordinary : IsOrdinary strict t
@@ -163,7 +188,8 @@ pub record IsEeProfile (strict : Bool) (t : TbsParts) : Type 0 where
   pub ordinary : IsOrdinary strict t
   pub end : IsEnd t.extensions
   pub object : HasSomeUri subject_info_access (SpellsRsyncAccess signed_object) t.extensions
-  pub methods : HasOnlyMethods t.extensions
+  pub methods : HasHeldAccess EndEntity t.extensions
+  pub notifications : HasHeldAccess Notification t.extensions
   pub issuer : HasIssuer t.extensions
 
 -- an end entity without subject information access, whose key signs what is in no repository, as a signed checklist
@@ -174,7 +200,8 @@ pub record IsDetachedProfile (strict : Bool) (t : TbsParts) : Type 0 where
   pub access : HasNot subject_info_access t.extensions
   pub issuer : HasIssuer t.extensions
 
--- a router: a P-256 key for a router's purpose, numbers without addresses, and no access information of the subject
+-- a router: a P-256 key for a router's purpose, numbers of its own without addresses, and no access information of the
+-- subject
 pub record IsRouterProfile (strict : Bool) (t : TbsParts) : Type 0 where
   pub basic : IsBasic strict t
   pub subject : IsTrue strict → IsRouterName t.subject
@@ -182,5 +209,6 @@ pub record IsRouterProfile (strict : Bool) (t : TbsParts) : Type 0 where
   pub end : IsEnd t.extensions
   pub purpose : HasExtension extended_key_usage false SpellsPurposes t.extensions (Some true)
   pub numbers : IsTrue (has_numbers t.extensions && not (has_addresses t.extensions))
+  pub own : AreOwn t.extensions
   pub access : HasNot subject_info_access t.extensions
   pub issuer : HasIssuer t.extensions

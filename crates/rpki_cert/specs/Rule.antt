@@ -2,15 +2,17 @@
 use Rattle.std.specs.Prelude.{◌≡◌, ◌<◌, ◌&&◌, not, ℕ, Bool, true, false, List, [], ◌∷◌, ◌++◌, Some, IsTrue, All, codes, Result, MatchResult}
 use Rattle.rpki.specs.KeyIdentifier.{SpellsKeyIdentifier}
 use Rattle.rpki.specs.StrictName.{IsRpkiName, IsRouterName}
+use Rattle.rpki_cert.specs.declared.access_rule.AccessRule.TheVariants.{EndEntity, Notification}
 use Rattle.rpki_cert.specs.declared.key_usage.KeyUsage.TheVariants.{Ca, Ee}
 use Rattle.rpki_cert.specs.declared.rule.CertRule.{CertRule}
-use Rattle.rpki_cert.specs.declared.rule.CertRule.TheVariants.{SerialNumber, CriticalExtensions, Issuer, Validity, Subject, RouterSubject, RsaKey, RouterKey, BasicConstraints, NoBasicConstraints, SubjectKeyIdentifier, AuthorityKeyIdentifier, OwnAuthority, SelfIssued, AuthorityUsage, EndUsage, NoExtendedKeyUsage, RouterPurpose, RevocationList, NoRevocationList, IssuerCertificate, NoIssuerCertificate, Repository, Manifest, SignedObject, ObjectAccess, NoSubjectAccess, CertificatePolicies, Resources, ResourceVersion, RouterNumbers}
-use Rattle.rpki_cert.specs.Cert.{TbsParts}
+use Rattle.rpki_cert.specs.declared.rule.CertRule.TheVariants.{SerialNumber, CriticalExtensions, Issuer, Validity, Subject, RouterSubject, RsaKey, RouterKey, BasicConstraints, NoBasicConstraints, SubjectKeyIdentifier, AuthorityKeyIdentifier, OwnAuthority, SelfIssued, AuthorityUsage, EndUsage, NoExtendedKeyUsage, RouterPurpose, RevocationList, NoRevocationList, IssuerCertificate, NoIssuerCertificate, Repository, Manifest, ManifestPlace, SignedObject, ObjectAccess, Notifications, NoSubjectAccess, CertificatePolicies, Resources, ResourceVersion, RouterNumbers, ResourceBlocks, OwnResources}
+use Rattle.rpki_cert.specs.Cert.{TbsParts, find}
 use Rattle.rpki_cert.specs.Known.{subject_key_identifier, key_usage, basic_constraints, crl_distribution_points, certificate_policies, authority_key_identifier, extended_key_usage, authority_info_access, subject_info_access, HasExtension, are_understood}
 use Rattle.rpki_cert.specs.ExtensionContent.{SpellsConstraints, SpellsAuthority, SpellsUsage, SpellsPurposes, SpellsPolicies}
 use Rattle.rpki_cert.specs.Access.{SpellsRsyncAccess, SpellsPoints, ca_issuers, ca_repository, rpki_manifest, signed_object}
 use Rattle.rpki_cert.specs.Keys.{IsRpkiKey, IsRouterKey}
-use Rattle.rpki_cert.specs.Profile.{HasSome, HasNot, HasSomeUri, HasOnlyMethods, IsOrdered, HasOwnAuthority, has_addresses, has_numbers, has_resources, HasOneVersion}
+use Rattle.rpki_cert.specs.ResourceExtensions.{AreWellFormed, AreOwn}
+use Rattle.rpki_cert.specs.Profile.{HasSome, HasNot, HasSomeUri, HasHeldAccess, SaysManifestBelow, IsOrdered, HasOwnAuthority, has_addresses, has_numbers, has_resources, HasOneVersion}
 
 -- what the rule says of a certificate, in the words of the profiles; a name is held to its profile where strict is true
 abbrev pub Obeys : Bool → TbsParts → CertRule → Type 0
@@ -39,11 +41,15 @@ Obeys strict t NoIssuerCertificate = HasNot authority_info_access t.extensions
 Obeys strict t Repository = HasSomeUri subject_info_access (SpellsRsyncAccess ca_repository) t.extensions
 Obeys strict t Manifest = HasSomeUri subject_info_access (SpellsRsyncAccess rpki_manifest) t.extensions
 Obeys strict t SignedObject = HasSomeUri subject_info_access (SpellsRsyncAccess signed_object) t.extensions
-Obeys strict t ObjectAccess = HasOnlyMethods t.extensions
+Obeys strict t ManifestPlace = SaysManifestBelow (find subject_info_access t.extensions)
+Obeys strict t ObjectAccess = HasHeldAccess EndEntity t.extensions
+Obeys strict t Notifications = HasHeldAccess Notification t.extensions
 Obeys strict t NoSubjectAccess = HasNot subject_info_access t.extensions
 Obeys strict t CertificatePolicies = HasSome certificate_policies true SpellsPolicies t.extensions
 Obeys strict t Resources = IsTrue (has_resources t.extensions)
 Obeys strict t ResourceVersion = HasOneVersion t.extensions
+Obeys strict t ResourceBlocks = AreWellFormed t.extensions
+Obeys strict t OwnResources = AreOwn t.extensions
 Obeys strict t RouterNumbers = IsTrue (has_numbers t.extensions && not (has_addresses t.extensions))
 
 -- ---- the rules of each profile, in the order in which they are tested
@@ -51,32 +57,35 @@ Obeys strict t RouterNumbers = IsTrue (has_numbers t.extensions && not (has_addr
 abbrev pub ta_rules : List CertRule
 ta_rules =
     SerialNumber ∷ CriticalExtensions ∷ Issuer ∷ Validity ∷ SubjectKeyIdentifier ∷ CertificatePolicies ∷ Resources
-    ∷ ResourceVersion ∷ Subject ∷ RsaKey ∷ NoExtendedKeyUsage ∷ BasicConstraints ∷ AuthorityUsage ∷ NoRevocationList
-    ∷ NoIssuerCertificate ∷ Repository ∷ Manifest ∷ SelfIssued ∷ OwnAuthority ∷ []
+    ∷ ResourceVersion ∷ ResourceBlocks ∷ Subject ∷ RsaKey ∷ NoExtendedKeyUsage ∷ BasicConstraints ∷ AuthorityUsage
+    ∷ NoRevocationList ∷ NoIssuerCertificate ∷ Repository ∷ Manifest ∷ ManifestPlace ∷ Notifications ∷ SelfIssued
+    ∷ OwnAuthority ∷ OwnResources ∷ []
 
 abbrev pub ca_rules : List CertRule
 ca_rules =
     SerialNumber ∷ CriticalExtensions ∷ Issuer ∷ Validity ∷ SubjectKeyIdentifier ∷ CertificatePolicies ∷ Resources
-    ∷ ResourceVersion ∷ Subject ∷ RsaKey ∷ NoExtendedKeyUsage ∷ BasicConstraints ∷ AuthorityUsage ∷ Repository
-    ∷ Manifest ∷ AuthorityKeyIdentifier ∷ RevocationList ∷ IssuerCertificate ∷ []
+    ∷ ResourceVersion ∷ ResourceBlocks ∷ Subject ∷ RsaKey ∷ NoExtendedKeyUsage ∷ BasicConstraints ∷ AuthorityUsage
+    ∷ Repository ∷ Manifest ∷ ManifestPlace ∷ Notifications ∷ AuthorityKeyIdentifier ∷ RevocationList
+    ∷ IssuerCertificate ∷ []
 
 abbrev pub ee_rules : List CertRule
 ee_rules =
     SerialNumber ∷ CriticalExtensions ∷ Issuer ∷ Validity ∷ SubjectKeyIdentifier ∷ CertificatePolicies ∷ Resources
-    ∷ ResourceVersion ∷ Subject ∷ RsaKey ∷ NoExtendedKeyUsage ∷ NoBasicConstraints ∷ EndUsage ∷ SignedObject
-    ∷ ObjectAccess ∷ AuthorityKeyIdentifier ∷ RevocationList ∷ IssuerCertificate ∷ []
+    ∷ ResourceVersion ∷ ResourceBlocks ∷ Subject ∷ RsaKey ∷ NoExtendedKeyUsage ∷ NoBasicConstraints ∷ EndUsage
+    ∷ SignedObject ∷ ObjectAccess ∷ Notifications ∷ AuthorityKeyIdentifier ∷ RevocationList ∷ IssuerCertificate ∷ []
 
 abbrev pub detached_rules : List CertRule
 detached_rules =
     SerialNumber ∷ CriticalExtensions ∷ Issuer ∷ Validity ∷ SubjectKeyIdentifier ∷ CertificatePolicies ∷ Resources
-    ∷ ResourceVersion ∷ Subject ∷ RsaKey ∷ NoExtendedKeyUsage ∷ NoBasicConstraints ∷ EndUsage ∷ NoSubjectAccess
-    ∷ AuthorityKeyIdentifier ∷ RevocationList ∷ IssuerCertificate ∷ []
+    ∷ ResourceVersion ∷ ResourceBlocks ∷ Subject ∷ RsaKey ∷ NoExtendedKeyUsage ∷ NoBasicConstraints ∷ EndUsage
+    ∷ NoSubjectAccess ∷ AuthorityKeyIdentifier ∷ RevocationList ∷ IssuerCertificate ∷ []
 
 abbrev pub router_rules : List CertRule
 router_rules =
     SerialNumber ∷ CriticalExtensions ∷ Issuer ∷ Validity ∷ SubjectKeyIdentifier ∷ CertificatePolicies ∷ Resources
-    ∷ ResourceVersion ∷ RouterSubject ∷ RouterKey ∷ NoBasicConstraints ∷ EndUsage ∷ RouterNumbers ∷ NoSubjectAccess
-    ∷ RouterPurpose ∷ AuthorityKeyIdentifier ∷ RevocationList ∷ IssuerCertificate ∷ []
+    ∷ ResourceVersion ∷ ResourceBlocks ∷ RouterSubject ∷ RouterKey ∷ NoBasicConstraints ∷ EndUsage ∷ RouterNumbers
+    ∷ OwnResources ∷ NoSubjectAccess ∷ RouterPurpose ∷ AuthorityKeyIdentifier ∷ RevocationList ∷ IssuerCertificate
+    ∷ []
 
 -- ---- which is broken
 
@@ -119,10 +128,14 @@ rule_text IssuerCertificate = codes "RFC 6487 4.8.7: missing URI of the issuer's
 rule_text NoIssuerCertificate = codes "RFC 6487 4.8.7: authority information access of a trust anchor"
 rule_text Repository = codes "RFC 6487 4.8.8.1: missing URI of the repository"
 rule_text Manifest = codes "RFC 6487 4.8.8.1: missing URI of the manifest"
+rule_text ManifestPlace = codes "RFC 6487 4.8.8.1, RFC 9286 2: manifest is not in the repository"
 rule_text SignedObject = codes "RFC 6487 4.8.8.2: missing URI of the signed object"
 rule_text ObjectAccess = codes "RFC 6487 4.8.8.2: other access method of an end entity"
+rule_text Notifications = codes "RFC 8182 3.2: notifications without an https URI"
 rule_text NoSubjectAccess = codes "RFC 8209 3.1.3.3, RFC 9323 2: subject information access"
 rule_text CertificatePolicies = codes "RFC 6487 4.8.9: missing certificate policies"
 rule_text Resources = codes "RFC 6487 4.8.10, 4.8.11: missing resources, or ones that are not critical"
 rule_text ResourceVersion = codes "RFC 8360 4.2: policy and resources of two versions"
+rule_text ResourceBlocks = codes "RFC 6487 4.8.10, 4.8.11: resources that are not in canonical form"
+rule_text OwnResources = codes "RFC 8630 2.3, RFC 8209 3.1.3.5: resources of the issuer"
 rule_text RouterNumbers = codes "RFC 8209 3.1.3.4, 3.1.3.5: missing numbers, or addresses are there"

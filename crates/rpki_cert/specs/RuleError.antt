@@ -8,7 +8,7 @@ use Rattle.rpki.specs.KeyIdentifier.{SpellsKeyIdentifier}
 use Rattle.rpki.specs.NameRule.{BreaksRpkiRule, BreaksRouterRule, rpki_text, router_text}
 use Rattle.rpki.specs.ExtensionValue.{ExtensionParts}
 use Rattle.rpki_cert.specs.declared.rule.CertRule.{CertRule}
-use Rattle.rpki_cert.specs.declared.rule.CertRule.TheVariants.{SerialNumber, CriticalExtensions, Issuer, Validity, Subject, RouterSubject, RsaKey, RouterKey, BasicConstraints, NoBasicConstraints, SubjectKeyIdentifier, AuthorityKeyIdentifier, OwnAuthority, SelfIssued, AuthorityUsage, EndUsage, NoExtendedKeyUsage, RouterPurpose, RevocationList, NoRevocationList, IssuerCertificate, NoIssuerCertificate, Repository, Manifest, SignedObject, ObjectAccess, NoSubjectAccess, CertificatePolicies, Resources, ResourceVersion, RouterNumbers}
+use Rattle.rpki_cert.specs.declared.rule.CertRule.TheVariants.{SerialNumber, CriticalExtensions, Issuer, Validity, Subject, RouterSubject, RsaKey, RouterKey, BasicConstraints, NoBasicConstraints, SubjectKeyIdentifier, AuthorityKeyIdentifier, OwnAuthority, SelfIssued, AuthorityUsage, EndUsage, NoExtendedKeyUsage, RouterPurpose, RevocationList, NoRevocationList, IssuerCertificate, NoIssuerCertificate, Repository, Manifest, ManifestPlace, SignedObject, ObjectAccess, Notifications, NoSubjectAccess, CertificatePolicies, Resources, ResourceVersion, RouterNumbers, ResourceBlocks, OwnResources}
 use Rattle.rpki_cert.specs.Cert.{TbsParts, find}
 use Rattle.rpki_cert.specs.Known.{subject_key_identifier, key_usage, basic_constraints, crl_distribution_points, certificate_policies, authority_key_identifier, extended_key_usage, authority_info_access, subject_info_access, Says, HasText, IsOtherwise}
 use Rattle.rpki_cert.specs.Profile.{SaysSome, SaysSomeUri, SaysOwn, HasOneVersion}
@@ -95,13 +95,17 @@ IsRuleError t Manifest = SaysFound false (SpellsRsyncAccess rpki_manifest) AnyFa
     (find subject_info_access t.extensions)
 IsRuleError t SignedObject = SaysFound false (SpellsRsyncAccess signed_object) AnyFault SignedObject
     (find subject_info_access t.extensions)
+IsRuleError t ManifestPlace = SaysRule ManifestPlace
 IsRuleError t ObjectAccess = SaysRule ObjectAccess
+IsRuleError t Notifications = SaysRule Notifications
 IsRuleError t NoSubjectAccess = SaysRule NoSubjectAccess
 IsRuleError t CertificatePolicies = SaysFound true SpellsPolicies IsWholePoliciesFault
     CertificatePolicies (find certificate_policies t.extensions)
 IsRuleError t Resources = SaysRule Resources
 IsRuleError t ResourceVersion = SaysFound true SpellsPolicies IsWholePoliciesFault
     ResourceVersion (find certificate_policies t.extensions)
+IsRuleError t ResourceBlocks = SaysRule ResourceBlocks
+IsRuleError t OwnResources = SaysRule OwnResources
 IsRuleError t RouterNumbers = SaysRule RouterNumbers
 
 -- the rule is the first that is broken, and this its error

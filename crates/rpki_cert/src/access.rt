@@ -5,8 +5,11 @@ ghost use Rattle.rpki_der.specs.Cursor.{left};
 ghost use Rattle.rpki_der.specs.Reading.{Reads};
 ghost use Rattle.rpki_der.specs.FirstFault.{ReadsParts};
 ghost use Rattle.rpki_der.specs.Each.{SpellsEach, SpellsSome, IsEachFault};
-ghost use Rattle.rpki_cert.specs.Access.{Through, IsKeptFault, SpellsName, IsUriFault, IsNameFault, SpellsUri, first_rsync, first_https, SpellsOidAs, IsOidAsFault, chosen, IsAccess, SpellsAccess, IsAccessPartsFault, IsAccessFault, ReadsEachAccess, SpellsSomeRsync, SpellsSomeHttps, SpellsRsyncAccess, SpellsHttpsAccess, AreAccessesFault, IsAccessesFault, SpellsFullName, IsFullNameFault, SpellsPointName, IsPointNameFault, SpellsPoint, IsPointFault, SpellsPoints, IsPointsFault};
+ghost use Rattle.rpki_cert.specs.GeneralName.{SpellsName};
+ghost use Rattle.rpki_cert.specs.Access.{Through, IsKeptFault, IsUriFault, IsKeptNameFault, SpellsUri, first_rsync, first_https, SpellsOidAs, IsOidAsFault, chosen, IsAccess, SpellsAccess, IsAccessPartsFault, IsAccessFault, ReadsEachAccess, SpellsSomeRsync, SpellsSomeHttps, SpellsRsyncAccess, SpellsHttpsAccess, AreAccessesFault, IsAccessesFault, SpellsFullName, IsFullNameFault, SpellsPointName, IsPointNameFault, SpellsPoint, IsPointFault, SpellsPoints, IsPointsFault};
 
+use crate::general_name;
+use crate::general_name::take_text;
 use bytes::Bytes;
 use rpki::der::{Class, ConstOid, Constructed, DecodeError, Oid, Tag};
 use rpki::uri::{Https, Rsync};
@@ -31,21 +34,33 @@ pub fn take_oid_as(cons: &mut Constructed<'_>, expected: ConstOid) -> Result<boo
 fn take_uri(alloc: Global, cons: &mut Constructed<'_>) -> Result<Option<Bytes>, DecodeError>
     ensures { Reads (λ v. v) SpellsUri IsUriFault (left cons.old) (left cons.new) result }
 {
-    let text = cons.take_primitive_bytes_if(alloc, Tag::CTX_6)?;
-    Ok(Some(text))
+    let mut after = *cons;
+    let text = take_text(&mut after)?;
+    match Bytes::copy_from_slice(alloc, text) {
+        Ok(text) => {
+            *cons = after;
+            Ok(Some(text))
+        }
+        Err(_) => Err(DecodeError::OutOfMemory),
+    }
 }
 
 /// The text of a general name, if that is a URI.
 fn take_name(alloc: Global, cons: &mut Constructed<'_>) -> Result<Option<Bytes>, DecodeError>
-    ensures { Reads (λ v. v) SpellsName IsNameFault (left cons.old) (left cons.new) result }
+    ensures { Reads (λ v. v) SpellsName IsKeptNameFault (left cons.old) (left cons.new) result }
 {
-    if cons.has_tag(Tag::CTX_6) {
-        let text = cons.take_primitive_bytes_if(alloc, Tag::CTX_6)?;
-        return Ok(Some(text));
-    }
-    match cons.take_value() {
-        Ok(_) => Ok(None),
-        Err(e) => Err(e),
+    let mut after = *cons;
+    let name = general_name::take_name(&mut after)?;
+    let Some(text) = name else {
+        *cons = after;
+        return Ok(None);
+    };
+    match Bytes::copy_from_slice(alloc, text) {
+        Ok(text) => {
+            *cons = after;
+            Ok(Some(text))
+        }
+        Err(_) => Err(DecodeError::OutOfMemory),
     }
 }
 

@@ -5,9 +5,10 @@ ghost use Rattle.std.specs.Option.{option_copied};
 ghost use Rattle.rpki_der.specs.Cursor.{left};
 ghost use Rattle.rpki_der.specs.Each.{SpellsSome};
 ghost use Rattle.rpki_cert.specs.InPlace.{Gives, GivesAll};
-ghost use Rattle.rpki_cert.specs.Access.{Through, SpellsName, SpellsUri, first_rsync, chosen, IsAccess, SpellsAccess, SpellsSomeRsync, SpellsRsyncAccess, SpellsPointName, SpellsPoints};
+ghost use Rattle.rpki_cert.specs.Access.{Through, SpellsUri, first_rsync, chosen, IsAccess, SpellsAccess, SpellsSomeRsync, SpellsRsyncAccess, SpellsPointName, SpellsPoints};
 
 use crate::access::take_oid_as;
+use crate::general_name::{take_name, take_text};
 use crate::part::inside;
 use rpki::der::{Class, ConstOid, Constructed, DecodeError, Tag};
 use rpki::uri::RsyncView;
@@ -17,22 +18,8 @@ fn take_uri<'a>(cons: &mut Constructed<'a>) -> Result<Option<&'a [u8]>, DecodeEr
     ensures gives { Gives option_copied SpellsUri (left cons.old) (left cons.new) result }
     ensures kind { IfErr result (λ e. e ≢ DecodeError.OutOfMemory) }
 {
-    let text = cons.take_primitive_if(Tag::CTX_6)?;
+    let text = take_text(cons)?;
     Ok(Some(text))
-}
-
-/// The text of a general name, if that is a URI.
-fn take_name<'a>(cons: &mut Constructed<'a>) -> Result<Option<&'a [u8]>, DecodeError>
-    ensures gives { Gives option_copied SpellsName (left cons.old) (left cons.new) result }
-    ensures kind { IfErr result (λ e. e ≢ DecodeError.OutOfMemory) }
-{
-    if cons.has_tag(Tag::CTX_6) {
-        return take_uri(cons);
-    }
-    match cons.take_value() {
-        Ok(_) => Ok(None),
-        Err(e) => Err(e),
-    }
 }
 
 /// The name of a description of this method.

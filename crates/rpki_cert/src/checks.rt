@@ -9,15 +9,16 @@ ghost use Rattle.rpki.specs.PublicKey.{key_of};
 ghost use Rattle.rpki.specs.StrictName.{IsRpkiName, IsRouterName};
 ghost use Rattle.rpki.specs.ExtensionValue.{ExtensionParts};
 ghost use Rattle.rpki_cert.specs.Cert.{TbsParts, find};
-ghost use Rattle.rpki_cert.specs.Known.{Says, certificate_policies};
+ghost use Rattle.rpki_cert.specs.Known.{Says, certificate_policies, subject_info_access};
 ghost use Rattle.rpki_cert.specs.ExtensionContent.{SpellsConstraints, IsWholeConstraintsFault, IsWholeSubjectFault, SpellsAuthority, IsWholeAuthorityFault, SpellsUsage, IsWholeUsageFault, SpellsPurposes, SpellsPolicies, IsWholePoliciesFault};
-ghost use Rattle.rpki_cert.specs.Access.{SpellsRsyncAccess, SpellsPoints, SpellsObjectAccess};
+ghost use Rattle.rpki_cert.specs.Access.{SpellsRsyncAccess, SpellsPoints, SpellsHeldAccess};
 ghost use Rattle.rpki_cert.specs.Keys.{IsRpkiKey, IsRouterKey};
-ghost use Rattle.rpki_cert.specs.Profile.{SaysSome, SaysSomeUri, IsOrdered, has_addresses, has_numbers, is_critical, has_resources, is_of_version, HasOneVersion};
+ghost use Rattle.rpki_cert.specs.Profile.{SaysSome, SaysSomeUri, IsBelow, SaysManifestBelow, IsOrdered, has_addresses, has_numbers, is_critical, has_resources, is_of_version, HasOneVersion};
 ghost use Rattle.rpki_cert.specs.Inspected.{AreIn, IsReadOf};
 ghost use Rattle.rpki_cert.specs.Rule.{Obeys};
 ghost use Rattle.rpki_cert.specs.RuleError.{ChecksBy, SaysRule, SaysName, ChecksSome, ChecksValue, ChecksUri, ChecksVersion, ChecksOwn, IsRuleError};
 
+use crate::access_rule::AccessRule;
 use crate::extension_source::ExtensionSource;
 use crate::inspected::Inspected;
 use crate::key_rule::KeyBits;
@@ -26,9 +27,9 @@ use crate::known::{
     access_in, authority_in, constraints_in, overclaim_in, points_in, purposes_in, subject_in,
     usage_in,
 };
-use crate::object_access::is_object_access;
 use crate::part::are_same;
 use crate::policy::Overclaim;
+use crate::resource_extensions::{are_own, are_well_formed};
 use crate::rule::CertRule;
 use crate::verify::is_identifier;
 use rpki::crypto::KeyIdentifier;
@@ -36,6 +37,7 @@ use rpki::der::{ConstOid, Constructed};
 use rpki::oid;
 use rpki::repository::error::ValidationError;
 use rpki::repository::x509::{ExtensionView, NameView, Serial, Validity};
+use rpki::uri::RsyncView;
 
 /// The error of a certificate that breaks the rule.
 fn rejected(rule: CertRule) -> ValidationError
@@ -146,15 +148,48 @@ fn inspect_version(all: &ExtensionSource<'_>) -> Result<(), ValidationError>
     }
 }
 
-/// Whether access information was found that is not critical, of no method but those of end entities.
-fn has_only_methods(found: Option<ExtensionView<'_>>) -> bool
-    ensures { IsTrue result ↔ SaysSome false SpellsObjectAccess found.entry }
+/// Whether access information was found that is not critical, and each description of which obeys the rule.
+fn has_held_access(found: Option<ExtensionView<'_>>, rule: AccessRule) -> bool
+    ensures { IsTrue result ↔ SaysSome false (SpellsHeldAccess rule) found.entry }
 {
     match found {
         Some(extension) => {
-            !extension.critical() && is_object_access(Constructed::from_slice(extension.octets()))
+            !extension.critical() && rule.are_all_held(Constructed::from_slice(extension.octets()))
         }
         None => false,
+    }
+}
+
+/// Whether these are two rsync URIs, the second below the first.
+fn is_below(base: &[u8], text: &[u8]) -> bool
+    ensures { IsTrue result ↔ IsBelow base.now text.now }
+{
+    match RsyncView::from_slice(base) {
+        Ok(base) => match RsyncView::from_slice(text) {
+            Ok(uri) => match uri.relative_to(&base) {
+                Some(path) => !path.is_empty(),
+                None => false,
+            },
+            Err(_) => false,
+        },
+        Err(_) => false,
+    }
+}
+
+/// Whether access information was found that has the URI of a manifest below that of its repository.
+fn has_manifest_below(all: &ExtensionSource<'_>) -> bool
+    ensures { (xs : List ExtensionParts) → AreIn xs all.now
+        → IsTrue result ↔ SaysManifestBelow (find subject_info_access xs) }
+{
+    let access = oid::PE_SUBJECT_INFO_ACCESS;
+    match access_in(all.find(access), oid::AD_CA_REPOSITORY) {
+        Ok(Some(base)) => match access_in(all.find(access), oid::AD_RPKI_MANIFEST) {
+            Ok(Some(text)) => is_below(base, text),
+            Ok(None) => false,
+            Err(_) => false,
+        },
+        Ok(None) => false,
+        Err(_) => false,
     }
 }
 
@@ -389,12 +424,27 @@ fn inspect_access(
     }
 }
 
-/// Whether access information of an end entity was found.
-fn inspect_methods(found: Option<ExtensionView<'_>>) -> Result<(), ValidationError>
-    ensures { ChecksBy (SaysSome false SpellsObjectAccess found.entry) (SaysRule CertRule.ObjectAccess) result }
+/// Whether access information was found, each description of which obeys the rule of access.
+fn inspect_held(
+    found: Option<ExtensionView<'_>>,
+    held: AccessRule,
+    rule: CertRule,
+) -> Result<(), ValidationError>
+    ensures { ChecksBy (SaysSome false (SpellsHeldAccess held) found.entry) (SaysRule rule) result }
 {
-    if !has_only_methods(found) {
-        return Err(rejected(CertRule::ObjectAccess));
+    if !has_held_access(found, held) {
+        return Err(rejected(rule));
+    }
+    Ok(())
+}
+
+/// Whether the URI of the manifest was found below that of the repository.
+fn inspect_place(all: &ExtensionSource<'_>) -> Result<(), ValidationError>
+    ensures { (xs : List ExtensionParts) → AreIn xs all.now
+        → ChecksBy (SaysManifestBelow (find subject_info_access xs)) (SaysRule CertRule.ManifestPlace) result }
+{
+    if !has_manifest_below(all) {
+        return Err(rejected(CertRule::ManifestPlace));
     }
     Ok(())
 }
@@ -479,7 +529,17 @@ impl Inspected<'_> {
                 oid::AD_SIGNED_OBJECT,
                 CertRule::SignedObject,
             ),
-            CertRule::ObjectAccess => inspect_methods(all.find(oid::PE_SUBJECT_INFO_ACCESS)),
+            CertRule::ManifestPlace => inspect_place(all),
+            CertRule::ObjectAccess => inspect_held(
+                all.find(oid::PE_SUBJECT_INFO_ACCESS),
+                AccessRule::EndEntity,
+                CertRule::ObjectAccess,
+            ),
+            CertRule::Notifications => inspect_held(
+                all.find(oid::PE_SUBJECT_INFO_ACCESS),
+                AccessRule::Notification,
+                CertRule::Notifications,
+            ),
             CertRule::NoSubjectAccess => inspect_absent(
                 all.find(oid::PE_SUBJECT_INFO_ACCESS),
                 CertRule::NoSubjectAccess,
@@ -487,6 +547,11 @@ impl Inspected<'_> {
             CertRule::CertificatePolicies => inspect_policy(all.find(oid::CE_CERTIFICATE_POLICIES)),
             CertRule::Resources => inspect_that(has_resources(all), CertRule::Resources),
             CertRule::ResourceVersion => inspect_version(all),
+            CertRule::ResourceBlocks => inspect_that(
+                are_well_formed(all),
+                CertRule::ResourceBlocks,
+            ),
+            CertRule::OwnResources => inspect_that(are_own(all), CertRule::OwnResources),
             CertRule::RouterNumbers => inspect_that(
                 has_numbers_alone(all),
                 CertRule::RouterNumbers,

@@ -58,7 +58,7 @@ pub fn find_as<'a>(
 }
 
 /// What was found of an extension, which has to be critical or not.
-fn wanted<'a>(
+pub fn wanted<'a>(
     found: Option<ExtensionView<'a>>,
     critical: bool,
 ) -> Result<Option<ExtensionView<'a>>, InspectionError>

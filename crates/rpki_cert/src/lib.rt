@@ -1,34 +1,39 @@
 //! Resource certificates (RFC 5280 4.1, in the profiles of RFC 6487 and RFC 8209).
 //!
 //! `Cert::decode` reads one, and `tbs()` of it says what the extensions are. `inspect_ca` and its kin hold it to a
-//! profile; `verify_ta` and `verify_ca` make a [ResourceCert], which issues what is verified. Resources (RFC 3779) are
-//! octets of their extensions, which nothing here reads.
+//! profile; `verify_ta` and `verify_ca` make a [ResourceCert], which has the resources that its path gives it, and which
+//! issues what is verified.
 #![tactic(auto)]
 
 mod access;
+mod access_rule;
 mod access_view;
 mod cert;
 mod cert_part;
 mod checks;
+mod claim;
 mod contents;
 mod extension_index;
 mod extension_source;
 mod extensions;
 mod fields;
+mod general_name;
 mod inspected;
 mod key_rule;
 mod key_usage;
 mod known;
 mod known_part;
 mod known_view;
+pub mod laws;
 mod listed;
 mod names;
 mod nested;
-mod object_access;
 mod part;
 mod policy;
 mod profile;
 mod purposes;
+mod resource_extensions;
+mod resource_set;
 mod rule;
 mod section;
 mod tbs;
@@ -47,6 +52,7 @@ pub use key_usage::KeyUsage;
 pub use known_part::KnownPart;
 pub use known_view::KnownView;
 pub use policy::Overclaim;
+pub use resource_set::ResourceSet;
 pub use rule::CertRule;
 pub use section::Section;
 pub use tbs::TbsCert;

@@ -62,7 +62,7 @@ fn are_nested(octets: &[u8]) -> bool
 }
 
 /// Whether what is left is values, one after another, with everything nested in them.
-fn are_values(contents: Constructed<'_>) -> bool
+pub fn are_values(contents: Constructed<'_>) -> bool
     ensures { IsTrue result ↔ IsValueList (left contents.entry) }
 {
     are_headed(contents) && are_nested(contents.rest())

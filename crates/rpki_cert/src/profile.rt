@@ -80,10 +80,10 @@ impl TbsCert {
 
     /// Tests that the certificate has the profile of a trust anchor, as [TbsCert::inspect_ta] does; returns the rule
     /// that it breaks first, in the order: serial number, critical extensions, issuer, period, subject key identifier,
-    /// policies, resources, their version, subject, key, extended key usage, basic constraints, key usage, revocation
-    /// list, certificate of the issuer, repository, manifest, issuer that is the subject, authority key identifier. An
-    /// extension that a rule wants and that is malformed, or not as critical as it has to be, breaks the rule. Allocates
-    /// nothing.
+    /// policies, resources, their version, their form, subject, key, extended key usage, basic constraints, key usage,
+    /// revocation list, certificate of the issuer, repository, manifest, its place, notifications, issuer that is the
+    /// subject, authority key identifier, resources of the issuer. An extension that a rule wants and that is malformed,
+    /// or not as critical as it has to be, breaks the rule. Allocates nothing.
     pub fn test_ta(&self, strict: bool) -> Result<(), CertRule>
         ensures { TestsRules (IsTaProfile strict self.now) strict self.now ta_rules result }
     {
@@ -101,8 +101,8 @@ impl TbsCert {
     }
 
     /// Tests that the certificate has the profile of a certification authority, as [TbsCert::inspect_ca] does;
-    /// returns the rule that it breaks first, in the order: those of a trust anchor up to the
-    /// key usage; then repository, manifest, authority key identifier, revocation list, certificate of the issuer.
+    /// returns the rule that it breaks first, in the order: those of a trust anchor up to the key usage; then repository,
+    /// manifest, its place, notifications, authority key identifier, revocation list, certificate of the issuer.
     pub fn test_ca(&self, strict: bool) -> Result<(), CertRule>
         ensures { TestsRules (IsCaProfile strict self.now) strict self.now ca_rules result }
     {
@@ -120,9 +120,9 @@ impl TbsCert {
     }
 
     /// Tests that the certificate has the profile of an end entity that signs an object, as [TbsCert::inspect_ee] does;
-    /// returns the rule that it breaks first, in the order: those of a trust anchor up to the
-    /// key usage; then signed object, other access methods, authority key identifier, revocation list, certificate of
-    /// the issuer.
+    /// returns the rule that it breaks first, in the order: those of a trust anchor up to the key usage; then signed
+    /// object, other access methods, notifications, authority key identifier, revocation list, certificate of the
+    /// issuer.
     pub fn test_ee(&self, strict: bool) -> Result<(), CertRule>
         ensures { TestsRules (IsEeProfile strict self.now) strict self.now ee_rules result }
     {
@@ -161,8 +161,8 @@ impl TbsCert {
 
     /// Tests that the certificate has the profile of a BGPsec router, as [TbsCert::inspect_router] does; returns the
     /// rule that it breaks first, in the order: those of a trust anchor up to the key; then basic constraints, key
-    /// usage, numbers of autonomous systems, access to the subject, extended key usage, authority key identifier,
-    /// revocation list, certificate of the issuer.
+    /// usage, numbers of autonomous systems, resources of the issuer, access to the subject, extended key usage,
+    /// authority key identifier, revocation list, certificate of the issuer.
     pub fn test_router(&self, strict: bool) -> Result<(), CertRule>
         ensures { TestsRules (IsRouterProfile strict self.now) strict self.now router_rules result }
     {

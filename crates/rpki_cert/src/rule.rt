@@ -62,11 +62,16 @@ pub enum CertRule {
     Repository,
     /// The URI of the manifest is there (RFC 6487 4.8.8.1).
     Manifest,
+    /// The URI of the manifest lies below that of the repository, whose objects it lists (RFC 6487 4.8.8.1, RFC 9286 2).
+    ManifestPlace,
     /// The URI of the signed object is there (RFC 6487 4.8.8.2).
     SignedObject,
     /// The subject information access is there, of no method but those of the signed object and of the repository's
     /// notifications (RFC 6487 4.8.8.2, RFC 8182 3.2).
     ObjectAccess,
+    /// The subject information access is there, and tells where changes of the repository are by https URIs alone
+    /// (RFC 8182 3.2).
+    Notifications,
     /// There is no subject information access (RFC 8209 3.1.3.3, RFC 9323 2).
     NoSubjectAccess,
     /// The certificate policies are there, critical, and exactly one of the RPKI (RFC 6487 4.8.9).
@@ -76,6 +81,11 @@ pub enum CertRule {
     /// Policy and resources are of one version: with the policy of RFC 6484 only the extensions of RFC 3779, with that of
     /// RFC 8360 only the extensions of RFC 8360 (RFC 8360 4.2).
     ResourceVersion,
+    /// Addresses and numbers, where they are there, are in canonical form, without a SAFI and without routing domain
+    /// identifiers (RFC 3779 2.2.3, 3.2.3, RFC 6487 4.8.10, 4.8.11).
+    ResourceBlocks,
+    /// No resources are those of the issuer (RFC 8630 2.3, RFC 8209 3.1.3.5).
+    OwnResources,
     /// Numbers of autonomous systems are there, and no addresses (RFC 8209 3.1.3.4, 3.1.3.5).
     RouterNumbers,
 }
@@ -120,14 +130,22 @@ impl CertRule {
             }
             CertRule::Repository => "RFC 6487 4.8.8.1: missing URI of the repository",
             CertRule::Manifest => "RFC 6487 4.8.8.1: missing URI of the manifest",
+            CertRule::ManifestPlace => {
+                "RFC 6487 4.8.8.1, RFC 9286 2: manifest is not in the repository"
+            }
             CertRule::SignedObject => "RFC 6487 4.8.8.2: missing URI of the signed object",
             CertRule::ObjectAccess => "RFC 6487 4.8.8.2: other access method of an end entity",
+            CertRule::Notifications => "RFC 8182 3.2: notifications without an https URI",
             CertRule::NoSubjectAccess => "RFC 8209 3.1.3.3, RFC 9323 2: subject information access",
             CertRule::CertificatePolicies => "RFC 6487 4.8.9: missing certificate policies",
             CertRule::Resources => {
                 "RFC 6487 4.8.10, 4.8.11: missing resources, or ones that are not critical"
             }
             CertRule::ResourceVersion => "RFC 8360 4.2: policy and resources of two versions",
+            CertRule::ResourceBlocks => {
+                "RFC 6487 4.8.10, 4.8.11: resources that are not in canonical form"
+            }
+            CertRule::OwnResources => "RFC 8630 2.3, RFC 8209 3.1.3.5: resources of the issuer",
             CertRule::RouterNumbers => {
                 "RFC 8209 3.1.3.4, 3.1.3.5: missing numbers, or addresses are there"
             }
@@ -155,6 +173,7 @@ pub(crate) fn ta_rules() -> &'static [CertRule]
         CertRule::CertificatePolicies,
         CertRule::Resources,
         CertRule::ResourceVersion,
+        CertRule::ResourceBlocks,
         CertRule::Subject,
         CertRule::RsaKey,
         CertRule::NoExtendedKeyUsage,
@@ -164,8 +183,11 @@ pub(crate) fn ta_rules() -> &'static [CertRule]
         CertRule::NoIssuerCertificate,
         CertRule::Repository,
         CertRule::Manifest,
+        CertRule::ManifestPlace,
+        CertRule::Notifications,
         CertRule::SelfIssued,
         CertRule::OwnAuthority,
+        CertRule::OwnResources,
     ]
 }
 
@@ -182,6 +204,7 @@ pub(crate) fn ca_rules() -> &'static [CertRule]
         CertRule::CertificatePolicies,
         CertRule::Resources,
         CertRule::ResourceVersion,
+        CertRule::ResourceBlocks,
         CertRule::Subject,
         CertRule::RsaKey,
         CertRule::NoExtendedKeyUsage,
@@ -189,6 +212,8 @@ pub(crate) fn ca_rules() -> &'static [CertRule]
         CertRule::AuthorityUsage,
         CertRule::Repository,
         CertRule::Manifest,
+        CertRule::ManifestPlace,
+        CertRule::Notifications,
         CertRule::AuthorityKeyIdentifier,
         CertRule::RevocationList,
         CertRule::IssuerCertificate,
@@ -208,6 +233,7 @@ pub(crate) fn ee_rules() -> &'static [CertRule]
         CertRule::CertificatePolicies,
         CertRule::Resources,
         CertRule::ResourceVersion,
+        CertRule::ResourceBlocks,
         CertRule::Subject,
         CertRule::RsaKey,
         CertRule::NoExtendedKeyUsage,
@@ -215,6 +241,7 @@ pub(crate) fn ee_rules() -> &'static [CertRule]
         CertRule::EndUsage,
         CertRule::SignedObject,
         CertRule::ObjectAccess,
+        CertRule::Notifications,
         CertRule::AuthorityKeyIdentifier,
         CertRule::RevocationList,
         CertRule::IssuerCertificate,
@@ -234,6 +261,7 @@ pub(crate) fn detached_rules() -> &'static [CertRule]
         CertRule::CertificatePolicies,
         CertRule::Resources,
         CertRule::ResourceVersion,
+        CertRule::ResourceBlocks,
         CertRule::Subject,
         CertRule::RsaKey,
         CertRule::NoExtendedKeyUsage,
@@ -259,11 +287,13 @@ pub(crate) fn router_rules() -> &'static [CertRule]
         CertRule::CertificatePolicies,
         CertRule::Resources,
         CertRule::ResourceVersion,
+        CertRule::ResourceBlocks,
         CertRule::RouterSubject,
         CertRule::RouterKey,
         CertRule::NoBasicConstraints,
         CertRule::EndUsage,
         CertRule::RouterNumbers,
+        CertRule::OwnResources,
         CertRule::NoSubjectAccess,
         CertRule::RouterPurpose,
         CertRule::AuthorityKeyIdentifier,

@@ -19,7 +19,7 @@ use rpki::repository::error::{ValidationError, VerificationError};
 use rpki::repository::x509::{Name, SignedData, Time, Validity};
 
 /// The error of this text.
-fn unverified(text: &'static str) -> ValidationError
+pub(crate) fn unverified(text: &'static str) -> ValidationError
     ensures { HasReason text.now result }
 {
     ValidationError::Verification(VerificationError::new(ContentError::from_static(text)))

@@ -4,7 +4,8 @@ use Rattle.std.proofs.lemmas.List.{append-nil}
 use Rattle.rpki_der.specs.declared.error.DecodeError.{DecodeError}
 use Rattle.rpki_der.specs.declared.error.DecodeError.TheVariants.{Trailing, OutOfMemory}
 use Rattle.rpki_der.specs.TagName.{TagName}
-use Rattle.rpki_der.specs.Reading.{Spells, Accepts, Refuses, Refusal, UnlessMemory, SpellsNothing, TakesNoMemory, IsWholeFault}
+use Rattle.rpki_der.specs.Reading.{Spells, Accepts, Refuses, Refusal, UnlessMemory, SpellsNothing, TakesNoMemory}
+use Rattle.rpki_der.specs.Reading.{IsWholeFault}
 use Rattle.rpki_der.specs.Values.{SpellsContents, SpellsLeaf, IsContentsFault, GivesOuterFault, IsOuterFault}
 use Rattle.rpki_der.proofs.ReadingLaws.{UnlessMemory-weaker}
 use Rattle.rpki_der.proofs.LeavesLaws.{contents-no-memory, leaf-value, leaf-refused, leaf-accepted}
@@ -12,13 +13,17 @@ use Rattle.rpki_der.proofs.LeavesLaws.{contents-no-memory, leaf-value, leaf-refu
 -- ---- one value, over the reader of its contents
 
 -- the value isn't there
-pub outer-refused : {V : Type 0} (t : TagName) (f : Bool) (C : V → List ℕ → Type 0) (s q r : List ℕ) (e : DecodeError) → r ≡ s
+pub outer-refused : {V : Type 0} (t : TagName) (f : Bool) (C : V → List ℕ → Type 0) (s q r : List ℕ) (e : DecodeError)
+    → r ≡ s
     → Refusal (SpellsContents t f) (IsContentsFault t f) s q e → Refusal (SpellsLeaf t f C) (GivesOuterFault t f) s r e
-outer-refused t f C s q r e same h = record { unchanged = same; refuses = (leaf-refused t f C s q r e same h).refuses; kind = λ none. h.kind }
+outer-refused t f C s q r e same h =
+    record { unchanged = same; refuses = (leaf-refused t f C s q r e same h).refuses; kind = λ none. h.kind }
 
 -- its contents spell nothing, or allocation failed
-pub inner-refused : {V : Type 0} (t : TagName) (f : Bool) (C : V → List ℕ → Type 0) (s c q r : List ℕ) (e : DecodeError) → r ≡ s
-    → Accepts (SpellsContents t f) s c q → UnlessMemory e (SpellsNothing C c) → Refusal (SpellsLeaf t f C) (GivesOuterFault t f) s r e
+pub inner-refused : {V : Type 0} (t : TagName) (f : Bool) (C : V → List ℕ → Type 0) (s c q r : List ℕ) (e : DecodeError)
+    → r ≡ s
+    → Accepts (SpellsContents t f) s c q → UnlessMemory e (SpellsNothing C c)
+    → Refusal (SpellsLeaf t f C) (GivesOuterFault t f) s r e
 inner-refused {V} t f C s c q r e same a h = record {
   unchanged = same;
   refuses = UnlessMemory-weaker e (λ none v p l.
@@ -34,19 +39,25 @@ pub inner-accepted : {V : Type 0} (t : TagName) (f : Bool) (C : V → List ℕ �
 inner-accepted t f C s c r v a h = leaf-accepted t f C s c r v a h.0 h.1
 
 -- an error that is not OutOfMemory, of a reader that allocates nothing
-pub without-memory : {V : Type 0} (G : V → List ℕ → Type 0) (K : List ℕ → DecodeError → Type 0) (s r : List ℕ) (e : DecodeError)
+pub without-memory : {V : Type 0} (G : V → List ℕ → Type 0) (K : List ℕ → DecodeError → Type 0) (s r : List ℕ)
+    (e : DecodeError)
     → e ≢ OutOfMemory → Refusal G K s r e → Refusal G (TakesNoMemory K) s r e
-without-memory G K s r e ne h = record { unchanged = h.unchanged; refuses = h.refuses; kind = record { other = ne; kind = h.kind } }
+without-memory G K s r e ne h =
+    record { unchanged = h.unchanged; refuses = h.refuses; kind = record { other = ne; kind = h.kind } }
 
 -- the value isn't there, and the reader allocates nothing
-pub outer-refused-exactly : {V : Type 0} (t : TagName) (f : Bool) (C : V → List ℕ → Type 0) (s q r : List ℕ) (e : DecodeError) → r ≡ s
+pub outer-refused-exactly : {V : Type 0} (t : TagName) (f : Bool) (C : V → List ℕ → Type 0) (s q r : List ℕ)
+    (e : DecodeError) → r ≡ s
     → Refusal (SpellsContents t f) (IsContentsFault t f) s q e → Refusal (SpellsLeaf t f C) (IsOuterFault t f) s r e
 outer-refused-exactly t f C s q r e same h =
-    without-memory (SpellsLeaf t f C) (GivesOuterFault t f) s r e (contents-no-memory t f s e h.kind) (outer-refused t f C s q r e same h)
+    without-memory (SpellsLeaf t f C) (GivesOuterFault t f) s r e (contents-no-memory t f s e h.kind)
+    (outer-refused t f C s q r e same h)
 
 -- its contents spell nothing, and the reader allocates nothing
-pub inner-refused-exactly : {V : Type 0} (t : TagName) (f : Bool) (C : V → List ℕ → Type 0) (s c q r : List ℕ) (e : DecodeError) → r ≡ s
-    → Accepts (SpellsContents t f) s c q → UnlessMemory e (SpellsNothing C c) × (e ≢ OutOfMemory) → Refusal (SpellsLeaf t f C) (IsOuterFault t f) s r e
+pub inner-refused-exactly : {V : Type 0} (t : TagName) (f : Bool) (C : V → List ℕ → Type 0) (s c q r : List ℕ)
+    (e : DecodeError) → r ≡ s
+    → Accepts (SpellsContents t f) s c q → UnlessMemory e (SpellsNothing C c) × (e ≢ OutOfMemory)
+    → Refusal (SpellsLeaf t f C) (IsOuterFault t f) s r e
 inner-refused-exactly t f C s c q r e same a h =
     without-memory (SpellsLeaf t f C) (GivesOuterFault t f) s r e h.1 (inner-refused t f C s c q r e same a h.0)
 
@@ -61,25 +72,38 @@ pub nothing-whole : {V : Type 0} (G : V → List ℕ → Type 0) (s : List ℕ) 
 nothing-whole G s none v h = none v [] (spelled-whole G s v h)
 
 -- something is left after the beginning that is in the grammar
-pub nothing-after : {V : Type 0} (G : V → List ℕ → Type 0) (s r : List ℕ) (v : V) → Accepts G s v r → (r ≡ [] → ⊥) → SpellsNothing G s
+pub nothing-after : {V : Type 0} (G : V → List ℕ → Type 0) (s r : List ℕ) (v : V) → Accepts G s v r → (r ≡ [] → ⊥)
+    → SpellsNothing G s
 nothing-after G s r v a some w h = some (sym (a.only w [] (spelled-whole G s w h)).1)
 
 -- nothing is left
-pub all-read : {V : Type 0} (G : V → List ℕ → Type 0) (s : List ℕ) (v : V) (r : List ℕ) → Accepts G s v r → r ≡ [] → G v s × ((w : V) → G w s → w ≡ v)
+pub all-read : {V : Type 0} (G : V → List ℕ → Type 0) (s : List ℕ) (v : V) (r : List ℕ) → Accepts G s v r → r ≡ []
+    → G v s × ((w : V) → G w s → w ≡ v)
 all-read {V} G s v r a end =
-    let p : s ≡ a.spells.front = a.spells.parts ∙ ap (λ (l : List ℕ). a.spells.front ++ l) end ∙ append-nil a.spells.front in
+    let p : s ≡ a.spells.front = a.spells.parts ∙ ap (λ (l : List ℕ). a.spells.front ++ l) end ∙ append-nil
+    a.spells.front in
     (subst (G v) (sym p) a.spells.spelled, λ w h. (a.only w [] (spelled-whole G s w h)).0)
 
 -- what a reader of whole octets returns where something is left
-pub more-left : {V : Type 0} (G : V → List ℕ → Type 0) (K : List ℕ → DecodeError → Type 0) (s : List ℕ) (v : V) (r : List ℕ)
+pub more-left : {V : Type 0} (G : V → List ℕ → Type 0) (K : List ℕ → DecodeError → Type 0) (s : List ℕ) (v : V)
+    (r : List ℕ)
     → Accepts G s v r → (r ≡ [] → ⊥) → SpellsNothing G s × IsWholeFault G K s Trailing
-more-left {V} G K s v r a some =
-    (nothing-after G s r v a some, record { trailing = λ w b more h. refl; kind = λ none. absurd (none v r a.spells); memory = λ z. cc })
+more-left {V} G K s v r a some = (
+  nothing-after G s r v a some,
+  record
+      { trailing = λ w b more h. refl; kind = λ none. absurd (none v r a.spells); memory = λ z. cc },
+)
 
 -- what it returns where the reader of the beginning failed
-pub not-read : {V : Type 0} (G : V → List ℕ → Type 0) (K : List ℕ → DecodeError → Type 0) (s r : List ℕ) (e : DecodeError)
+pub not-read : {V : Type 0} (G : V → List ℕ → Type 0) (K : List ℕ → DecodeError → Type 0) (s r : List ℕ)
+    (e : DecodeError)
     → Refusal G K s r e → UnlessMemory e (SpellsNothing G s) × IsWholeFault G K s e
 not-read {V} G K s r e h = (
   UnlessMemory-weaker e (nothing-whole G s) h.refuses,
-  record { trailing = λ v b more g. UnlessMemory-weaker e (λ none. absurd (none v (b ∷ more) g)) h.refuses; kind = λ k. h.kind; memory = λ z. subst (K s) z h.kind },
+  record {
+    trailing = λ v b more g. UnlessMemory-weaker e (λ none. absurd (none v (b ∷ more) g)) h.refuses;
+    kind = λ k.
+        h.kind;
+    memory = λ z. subst (K s) z h.kind;
+  },
 )

@@ -1,5 +1,6 @@
 -- What is left after a cursor.
-use Rattle.std.proofs.Common.{◌≡◌, ◌↔◌, IsTrue, Bool, true, false, ℕ, ◌+◌, ◌-◌, ◌≤◌, List, [], ◌++◌, length, take, drop, refl, sym, ap, ◌∙◌, arith, length-append}
+use Rattle.std.proofs.Common.{◌≡◌, ◌↔◌, IsTrue, Bool, true, false, ℕ, ◌+◌, ◌-◌, ◌≤◌, List, [], ◌++◌, length, take, drop}
+use Rattle.std.proofs.Common.{refl, sym, ap, ◌∙◌, arith, length-append}
 use Rattle.std.specs.Prelude.{slice_range}
 use Rattle.std.proofs.lemmas.List.{take-take, take_rest, drop_at, drop-take, drop-drop, length-take, length-drop}
 
@@ -11,7 +12,8 @@ pub whole-cut : (s : List ℕ) (n : ℕ) → n ≡ length s → slice_range s 0 
 whole-cut s n e = rw e (take_rest s 0)
 
 -- what follows a front of a cut
-pub following-cut : (s : List ℕ) (i j : ℕ) (front rest : List ℕ) → i ≤ j → j ≤ length s → slice_range s i j ≡ front ++ rest → slice_range s (j - length rest) j ≡ rest
+pub following-cut : (s : List ℕ) (i j : ℕ) (front rest : List ℕ) → i ≤ j → j ≤ length s
+    → slice_range s i j ≡ front ++ rest → slice_range s (j - length rest) j ≡ rest
 following-cut s i j front rest le in_s e =
     let size = length-cut s i j le in_s in
     let parts = ap length e ∙ length-append front rest in
@@ -19,7 +21,8 @@ following-cut s i j front rest le in_s e =
     let room : j - (i + length front) ≡ length rest = omega arith in
     let both : j - i ≡ length front + length rest = omega arith in
     let cut : take (length front + length rest) (drop i s) ≡ front ++ rest = rw (← both) e in
-    let dropped : drop (length front) (take (length front + length rest) (drop i s)) ≡ rest = rw cut (drop_at front rest (length front) refl) in
+    let dropped : drop (length front) (take (length front + length rest) (drop i s)) ≡ rest = rw cut
+    (drop_at front rest (length front) refl) in
     let moved : take (length rest) (drop (length front) (drop i s)) ≡ rest = rw (drop-take) at dropped in
     rw (start, room) (rw drop-drop at moved)
 
@@ -33,7 +36,8 @@ places-met s i j le in_s e = let size = length-cut s i j le in_s in let none = a
 pub ruleset cuts = (whole-cut, empty-cut, places-met, length-cut)
 
 -- a rest is no longer than the cut, and ends within it
-pub rest-fits : (s : List ℕ) (i j : ℕ) (front rest : List ℕ) → i ≤ j → j ≤ length s → slice_range s i j ≡ front ++ rest → (length rest ≤ j) × (i ≤ j - length rest)
+pub rest-fits : (s : List ℕ) (i j : ℕ) (front rest : List ℕ) → i ≤ j → j ≤ length s → slice_range s i j ≡ front ++ rest
+    → (length rest ≤ j) × (i ≤ j - length rest)
 rest-fits s i j front rest le in_s e =
     let size = length-cut s i j le in_s in
     let parts = ap length e ∙ length-append front rest in

@@ -1,5 +1,6 @@
 -- Laws of what is written.
-use Rattle.std.proofs.Common.{◌≡◌, ℕ, ◌+◌, ◌<◌, ◌≤◌, ◌^◌, Bool, true, false, List, [], ◌∷◌, ◌++◌, length, refl, sym, ap, ◌∙◌, arith, append_assoc, length-append, inl, inr}
+use Rattle.std.proofs.Common.{◌≡◌, ℕ, ◌+◌, ◌<◌, ◌≤◌, ◌^◌, Bool, true, false, List, [], ◌∷◌, ◌++◌, length, refl, sym, ap}
+use Rattle.std.proofs.Common.{◌∙◌, arith, append_assoc, length-append, inl, inr}
 use Rattle.std.proofs.lemmas.Bool.{cases_lt}
 use Rattle.std.proofs.lemmas.List.{append_cancel_left}
 use Rattle.rpki_der.specs.TagName.{TagName, IsTag}
@@ -32,7 +33,12 @@ pub tlv-at-least : (t : TagName) (f : Bool) (c : List ℕ) → length c + 2 ≤ 
 tlv-at-least t f c =
     let a = (identifier-few t f).some in
     let b = (length-few (length c)).some in
-    omega (arith, length-append (identifier_octets t f ++ length_octets (length c)) c, length-append (identifier_octets t f) (length_octets (length c)))
+    omega (
+      arith,
+      length-append (identifier_octets t f ++ length_octets (length c)) c,
+      length-append
+          (identifier_octets t f) (length_octets (length c)),
+    )
 
 -- a value is never empty
 pub tlv-some : (t : TagName) (f : Bool) (c : List ℕ) → tlv t f c ≡ [] → ⊥
@@ -44,7 +50,8 @@ tlv-some t f c e = let h = tlv-at-least t f c in let g = ap length e in omega ar
 pub tlv-legal : (t : TagName) (f : Bool) (c : List ℕ) → IsTag t → length c < 2 ^ 32 → SpellsContents t f c (tlv t f c)
 tlv-legal t f c tag fits = record { tag = tag; fits = fits; octets = refl }
 
-pub leaf-legal : {V : Type 0} (t : TagName) (f : Bool) (C : V → List ℕ → Type 0) (v : V) (c : List ℕ) → IsTag t → length c < 2 ^ 32 → C v c → SpellsLeaf t f C v (tlv t f c)
+pub leaf-legal : {V : Type 0} (t : TagName) (f : Bool) (C : V → List ℕ → Type 0) (v : V) (c : List ℕ) → IsTag t
+    → length c < 2 ^ 32 → C v c → SpellsLeaf t f C v (tlv t f c)
 leaf-legal t f C v c tag fits spelled = record { contents = c; value = tlv-legal t f c tag fits; spelled = spelled }
 
 -- fronts of one length are equal, and so is what follows
@@ -59,7 +66,8 @@ same-fronts (c ∷ a) (d ∷ b) x y l e =
     (let p = r.0 in cc, r.1)
 
 -- after one tag in one form, equal octets have equal contents, and the same follows
-pub tlv-same-then : (t : TagName) (f : Bool) (c d x y : List ℕ) → length c < 2 ^ 32 → length d < 2 ^ 32 → tlv t f c ++ x ≡ tlv t f d ++ y → (c ≡ d) × (x ≡ y)
+pub tlv-same-then : (t : TagName) (f : Bool) (c d x y : List ℕ) → length c < 2 ^ 32 → length d < 2 ^ 32
+    → tlv t f c ++ x ≡ tlv t f d ++ y → (c ≡ d) × (x ≡ y)
 tlv-same-then t f c d x y small small' e =
     let h : length_octets (length c) ++ (c ++ x) ≡ length_octets (length d) ++ (d ++ y) =
     append_cancel_left (identifier_octets t f) _ _ (simp append_assoc at e) in
@@ -67,25 +75,30 @@ tlv-same-then t f c d x y small small' e =
     let p = pair-is (length c) (length d) (c ++ x) (d ++ y) r in
     same-fronts c d x y p.0 p.1
 
-pub tlv-same : (t : TagName) (f : Bool) (c d : List ℕ) → length c < 2 ^ 32 → length d < 2 ^ 32 → tlv t f c ≡ tlv t f d → c ≡ d
+pub tlv-same : (t : TagName) (f : Bool) (c d : List ℕ) → length c < 2 ^ 32 → length d < 2 ^ 32 → tlv t f c ≡ tlv t f d
+    → c ≡ d
 tlv-same t f c d small small' e = (tlv-same-then t f c d [] [] small small' (ap (λ (w : List ℕ). w ++ []) e)).0
 
 -- length octets with the same beginning are equally many
-lengths-alike : (m n : ℕ) (x y : List ℕ) → length_octets m ++ x ≡ length_octets n ++ y → length (length_octets m) ≡ length (length_octets n)
+lengths-alike : (m n : ℕ) (x y : List ℕ) → length_octets m ++ x ≡ length_octets n ++ y
+    → length (length_octets m) ≡ length (length_octets n)
 lengths-alike m n x y e =
     elim (cases_lt m 128) [
       | inl short ↦ elim (cases_lt n 128) [
         | inl short' ↦ rw (len-short m short, len-short n short') refl
         | inr long' ↦
-            let h : m ∷ x ≡ (128 + length (digits 256 0 4 n)) ∷ (digits 256 0 4 n ++ y) = rw (len-short m short, len-long n long') at e in
+            let h : m ∷ x ≡ (128 + length (digits 256 0 4 n)) ∷ (digits 256 0 4 n ++ y) = rw
+            (len-short m short, len-long n long') at e in
             let first : m ≡ 128 + length (digits 256 0 4 n) = cc in absurd (omega arith)
       ]
       | inr long ↦ elim (cases_lt n 128) [
         | inl short' ↦
-            let h : (128 + length (digits 256 0 4 m)) ∷ (digits 256 0 4 m ++ x) ≡ n ∷ y = rw (len-long m long, len-short n short') at e in
+            let h : (128 + length (digits 256 0 4 m)) ∷ (digits 256 0 4 m ++ x) ≡ n ∷ y = rw
+            (len-long m long, len-short n short') at e in
             let first : 128 + length (digits 256 0 4 m) ≡ n = cc in absurd (omega arith)
         | inr long' ↦
-            let h : (128 + length (digits 256 0 4 m)) ∷ (digits 256 0 4 m ++ x) ≡ (128 + length (digits 256 0 4 n)) ∷ (digits 256 0 4 n ++ y) = rw (len-long m long, len-long n long') at e in
+            let h : (128 + length (digits 256 0 4 m)) ∷ (digits 256 0 4 m ++ x) ≡ (128 + length (digits 256 0 4 n)) ∷
+            (digits 256 0 4 n ++ y) = rw (len-long m long, len-long n long') at e in
             let first : 128 + length (digits 256 0 4 m) ≡ 128 + length (digits 256 0 4 n) = cc in
             rw (len-long m long, len-long n long') (omega arith)
       ]
@@ -94,15 +107,21 @@ lengths-alike m n x y e =
 -- the same where the length of one can be announced: so can that of the other
 pub tlv-same-one : (t : TagName) (f : Bool) (c d : List ℕ) → length d < 2 ^ 32 → tlv t f c ≡ tlv t f d → c ≡ d
 tlv-same-one t f c d small e =
-    let h : length_octets (length c) ++ c ≡ length_octets (length d) ++ d = append_cancel_left (identifier_octets t f) _ _ (simp append_assoc at e) in
+    let h : length_octets (length c) ++ c ≡ length_octets (length d) ++ d = append_cancel_left (identifier_octets t f) _
+    _ (simp append_assoc at e) in
     let k = lengths-alike (length c) (length d) c d h in
     let sizes : length (length_octets (length c)) + length c ≡ length (length_octets (length d)) + length d =
     sym (length-append (length_octets (length c)) c) ∙ ap length h ∙ length-append (length_octets (length d)) d in
     tlv-same t f c d (omega arith) small e
 
 -- values of one tag and form whose contents are equally long begin alike
-pub tlv-front : (t : TagName) (f : Bool) (n : ℕ) → (front : List ℕ) × ((c : List ℕ) → length c ≡ n → tlv t f c ≡ front ++ c)
-tlv-front t f n = (identifier_octets t f ++ length_octets n, λ c e. ap (λ (k : ℕ). (identifier_octets t f ++ length_octets k) ++ c) e)
+pub tlv-front : (t : TagName) (f : Bool) (n : ℕ)
+    → (front : List ℕ) × ((c : List ℕ) → length c ≡ n → tlv t f c ≡ front ++ c)
+tlv-front t f n = (
+  identifier_octets t f ++ length_octets n,
+  λ c e. ap
+      (λ (k : ℕ). (identifier_octets t f ++ length_octets k) ++ c) e,
+)
 
 -- ---- contents
 
@@ -123,7 +142,13 @@ members-at-most Empty = omega arith
 members-at-most (Primitive t c rest) =
     omega (arith, members-at-most rest, tlv-at-least t false c, length-append (tlv t false c) (spell rest))
 members-at-most (Constructed t ms rest) =
-    omega (arith, members-at-most rest, tlv-at-least t true (spell ms), length-append (tlv t true (spell ms)) (spell rest))
+    omega (
+      arith,
+      members-at-most rest,
+      tlv-at-least t true (spell ms),
+      length-append (tlv t true (spell ms))
+          (spell rest),
+    )
 
 pub count_at_most : (k : ℕ) (octets : List ℕ) → AreValues k octets → k ≤ length octets
 count_at_most k octets h = rw (h.spelled, ← h.counted) (members-at-most h.members)

@@ -1,9 +1,11 @@
 -- The kinds of errors of readers of values and leaves exclude one another.
-use Rattle.std.proofs.Common.{◌≡◌, ℕ, ◌⊎◌, ◌<◌, Bool, List, [], ◌∷◌, ◌++◌, length, refl, sym, ap, ◌∙◌, inl, inr, arith, length-append}
+use Rattle.std.proofs.Common.{◌≡◌, ℕ, ◌⊎◌, ◌<◌, Bool, List, [], ◌∷◌, ◌++◌, length, refl, sym, ap, ◌∙◌, inl, inr, arith}
+use Rattle.std.proofs.Common.{length-append}
 use Rattle.std.proofs.lemmas.List.{append-nil}
 use Rattle.rpki_der.specs.declared.error.ContentError.{ContentError}
 use Rattle.rpki_der.specs.declared.error.DecodeError.{DecodeError}
-use Rattle.rpki_der.specs.declared.error.DecodeError.TheVariants.{Truncated, BadTag, BadLength, Unexpected, Content, Trailing, OutOfMemory}
+use Rattle.rpki_der.specs.declared.error.DecodeError.TheVariants.{Truncated, BadTag, BadLength, Unexpected, Content}
+use Rattle.rpki_der.specs.declared.error.DecodeError.TheVariants.{Trailing, OutOfMemory}
 use Rattle.rpki_der.specs.declared.tag.Header.{Header}
 use Rattle.rpki_der.specs.Error.{error_number}
 use Rattle.rpki_der.specs.TagName.{TagName}
@@ -40,14 +42,23 @@ cut-parts t f s c b more g =
       | inl ([], is) ↦
           let same : s ≡ header_octets h = sym (append-nil s) ∙ sym is in
           let long : length s ≡ length (header_octets h) = ap length same in
-          inr ([], record { front = s; parts = sym (append-nil s); spelled = record { legal = legal; octets = same } }, omega arith)
+          inr (
+            [],
+            record { front = s; parts = sym (append-nil s); spelled = record { legal = legal; octets = same } },
+            omega arith,
+          )
       | inr (x, is) ↦
           let long : length s ≡ length (header_octets h ++ x) = ap length is in
           let following = length-append (header_octets h) x in
-          inr (x, record { front = header_octets h; parts = is; spelled = record { legal = legal; octets = refl } }, omega arith)
+          inr (
+            x,
+            record { front = header_octets h; parts = is; spelled = record { legal = legal; octets = refl } },
+            omega arith,
+          )
     ]
 
-said : (P : Header → Type 0) (h k : Header) (r q : List ℕ) (d e : DecodeError) → h ≡ k → Says P h r d → Says P k q e → d ≡ e
+said : (P : Header → Type 0) (h k : Header) (r q : List ℕ) (d e : DecodeError) → h ≡ k → Says P h r d → Says P k q e
+    → d ≡ e
 said P h k r q d e same p w =
     elim p [
       | inl (a, n, y) ↦ elim w [
@@ -60,7 +71,8 @@ said P h k r q d e same p w =
       ]
     ]
 
-meet : (P : Header → Type 0) (s : List ℕ) (d e : DecodeError) → IsHeaderFault s d ⊎ AtHeader P s d → IsHeaderFault s e ⊎ AtHeader P s e → d ≡ e
+meet : (P : Header → Type 0) (s : List ℕ) (d e : DecodeError) → IsHeaderFault s d ⊎ AtHeader P s d
+    → IsHeaderFault s e ⊎ AtHeader P s e → d ≡ e
 meet P s d e p q =
     elim p [
       | inl x ↦ elim q [
@@ -78,7 +90,8 @@ meet P s d e p q =
 abbrev Named : TagName → Bool → Header → Type 0
 Named t f h = (h.tag ≡ t) × (h.constructed ≡ f)
 
-sort-out : (t : TagName) (f : Bool) (s : List ℕ) (e : DecodeError) → IsContentsFault t f s e → IsHeaderFault s e ⊎ AtHeader (Named t f) s e
+sort-out : (t : TagName) (f : Bool) (s : List ℕ) (e : DecodeError) → IsContentsFault t f s e
+    → IsHeaderFault s e ⊎ AtHeader (Named t f) s e
 sort-out t f s Truncated p =
     elim p [
       | inl cut ↦ inl cut
@@ -94,7 +107,8 @@ sort-out t f s (Content x) p = absurd p
 sort-out t f s Trailing p = absurd p
 sort-out t f s OutOfMemory p = absurd p
 
-pub one-contents-fault : (t : TagName) (f : Bool) (s : List ℕ) (d e : DecodeError) → IsContentsFault t f s d → IsContentsFault t f s e → d ≡ e
+pub one-contents-fault : (t : TagName) (f : Bool) (s : List ℕ) (d e : DecodeError) → IsContentsFault t f s d
+    → IsContentsFault t f s e → d ≡ e
 one-contents-fault t f s d e p q = meet (Named t f) s d e (sort-out t f s d p) (sort-out t f s e q)
 
 -- ---- values of a tag and form that is wanted
@@ -102,7 +116,8 @@ one-contents-fault t f s d e p q = meet (Named t f) s d e (sort-out t f s d p) (
 abbrev IsWantedIn : (TagName → Bool → Type 0) → Header → Type 0
 IsWantedIn W h = W h.tag h.constructed
 
-sort-flat : (W : TagName → Bool → Type 0) (s : List ℕ) (e : DecodeError) → IsWantedFault W s e → IsHeaderFault s e ⊎ AtHeader (IsWantedIn W) s e
+sort-flat : (W : TagName → Bool → Type 0) (s : List ℕ) (e : DecodeError) → IsWantedFault W s e
+    → IsHeaderFault s e ⊎ AtHeader (IsWantedIn W) s e
 sort-flat W s Truncated p =
     elim p [
       | inl cut ↦ inl cut
@@ -118,13 +133,15 @@ sort-flat W s (Content x) p = absurd p
 sort-flat W s Trailing p = absurd p
 sort-flat W s OutOfMemory p = absurd p
 
-pub one-flat-fault : (W : TagName → Bool → Type 0) (s : List ℕ) (d e : DecodeError) → IsWantedFault W s d → IsWantedFault W s e → d ≡ e
+pub one-flat-fault : (W : TagName → Bool → Type 0) (s : List ℕ) (d e : DecodeError) → IsWantedFault W s d
+    → IsWantedFault W s e → d ≡ e
 one-flat-fault W s d e p q = meet (IsWantedIn W) s d e (sort-flat W s d p) (sort-flat W s e q)
 
 -- ---- leaves
 
 -- where a value of the tag and form is, there is no fault but of its contents
-no-fault-at-value : (t : TagName) (f : Bool) (s c r : List ℕ) (e : DecodeError) → IsContentsFault t f s e → Spells (SpellsContents t f) s c r → ⊥
+pub no-fault-at-value : (t : TagName) (f : Bool) (s c r : List ℕ) (e : DecodeError) → IsContentsFault t f s e
+    → Spells (SpellsContents t f) s c r → ⊥
 no-fault-at-value t f s c r e p v =
     let sq = value-header t f s c r v in
     let k = head-of t f (length c) in
@@ -145,7 +162,8 @@ no-fault-at-value t f s c r e p v =
 abbrev IsBad : TagName → Bool → List ℕ → DecodeError → Type 0
 IsBad t f s e = (x : ContentError) × (e ≡ Content x) × ((c : List ℕ) × (r : List ℕ) × Spells (SpellsContents t f) s c r)
 
-leaf-parts : {V : Type 0} (t : TagName) (f : Bool) (C : V → List ℕ → Type 0) (s : List ℕ) (e : DecodeError) → IsLeafFault t f C s e → IsContentsFault t f s e ⊎ IsBad t f s e
+leaf-parts : {V : Type 0} (t : TagName) (f : Bool) (C : V → List ℕ → Type 0) (s : List ℕ) (e : DecodeError)
+    → IsLeafFault t f C s e → IsContentsFault t f s e ⊎ IsBad t f s e
 leaf-parts t f C s Truncated p = inl p
 leaf-parts t f C s BadTag p = inl p
 leaf-parts t f C s BadLength p = inl p
@@ -154,7 +172,8 @@ leaf-parts t f C s (Content x) (c, r, sp, none) = inr (x, refl, (c, r, sp))
 leaf-parts t f C s Trailing p = absurd p
 leaf-parts t f C s OutOfMemory p = absurd p
 
-pub one-leaf-fault : {V : Type 0} (t : TagName) (f : Bool) (C : V → List ℕ → Type 0) (s : List ℕ) (d e : DecodeError) → IsLeafFault t f C s d → IsLeafFault t f C s e → error_number d ≡ error_number e
+pub one-leaf-fault : {V : Type 0} (t : TagName) (f : Bool) (C : V → List ℕ → Type 0) (s : List ℕ) (d e : DecodeError)
+    → IsLeafFault t f C s d → IsLeafFault t f C s e → error_number d ≡ error_number e
 one-leaf-fault t f C s d e p q =
     elim (leaf-parts t f C s d p) [
       | inl a ↦ elim (leaf-parts t f C s e q) [

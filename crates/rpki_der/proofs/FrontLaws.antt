@@ -14,11 +14,13 @@ use Rattle.rpki_der.proofs.HeaderReadingLaws.{identifier-from}
 use Rattle.rpki_der.proofs.StepLaws.{pair-is}
 use Rattle.rpki_der.proofs.LeavesLaws.{leaf-tag}
 
-header-found : (t : TagName) (f : Bool) (c p r : List ℕ) → SpellsContents t f c p → (h : Header) × (h.length ≡ length c) × (header_at (p ++ r) ≡ Ok (h, c ++ r))
+header-found : (t : TagName) (f : Bool) (c p r : List ℕ) → SpellsContents t f c p
+    → (h : Header) × (h.length ≡ length c) × (header_at (p ++ r) ≡ Ok (h, c ++ r))
 header-found t f c p r s =
     let h : Header = record { tag = t; constructed = f; length = length c } in
     let legal : IsHeader h = record { tag = s.tag; length = s.fits } in
-    let split : p ++ r ≡ header_octets h ++ (c ++ r) = ap (λ (x : List ℕ). x ++ r) s.octets ∙ append_assoc (header_octets h) c r in
+    let split : p ++ r ≡ header_octets h ++ (c ++ r) = ap (λ (x : List ℕ). x ++ r) s.octets ∙ append_assoc
+    (header_octets h) c r in
     (h, refl, ap header_at split ∙ header-again h (c ++ r) legal)
 
 -- the contents of the value, and what follows it
@@ -40,7 +42,8 @@ nothing-after t f c p s = ap after_front (sym (append-nil p)) ∙ after_front-of
 -- a list begins with one tag
 pub one-tag : (s : List ℕ) (t u : TagName) → HasTag t s → HasTag u s → t ≡ u
 one-tag s t u (f, r, h) (g, q, k) =
-    ap (λ (i : TagName × Bool). i.0) (pair-is (t, f) (u, g) r q (sym (identifier-from s (t, f) r h) ∙ identifier-from s (u, g) q k)).0
+    ap (λ (i : TagName × Bool). i.0) (pair-is (t, f) (u, g) r q
+    (sym (identifier-from s (t, f) r h) ∙ identifier-from s (u, g) q k)).0
 
 -- a value begins with its tag
 pub contents-tag : (t : TagName) (f : Bool) (s c r : List ℕ) → Spells (SpellsContents t f) s c r → HasTag t s

@@ -2,7 +2,8 @@
 use Rattle.std.proofs.Common.{◌≡◌, ℕ, ◌⊎◌, List, [], ◌∷◌, ◌++◌, refl, sym, ap, ◌∙◌, inl, inr, append_assoc}
 use Rattle.std.proofs.lemmas.List.{append-nil}
 use Rattle.rpki_der.specs.declared.error.DecodeError.{DecodeError}
-use Rattle.rpki_der.specs.declared.error.DecodeError.TheVariants.{Truncated, BadTag, BadLength, Unexpected, Content, Trailing, OutOfMemory}
+use Rattle.rpki_der.specs.declared.error.DecodeError.TheVariants.{Truncated, BadTag, BadLength, Unexpected, Content}
+use Rattle.rpki_der.specs.declared.error.DecodeError.TheVariants.{Trailing, OutOfMemory}
 use Rattle.rpki_der.specs.declared.tag.Header.{Header}
 use Rattle.rpki_der.specs.Header.{identifier_octets, length_octets}
 use Rattle.rpki_der.specs.Reading.{Spells, IsCut}
@@ -25,23 +26,57 @@ beginnings (x ∷ a) b (y ∷ c) d e =
 cut-identifier : (s : List ℕ) → IsCut SpellsHeader s → (HasIdentifier s → ⊥) → (IsCut SpellsIdentifier s → ⊥) → ⊥
 cut-identifier s (h, b, more, g) none uncut =
     elim (beginnings s (b ∷ more) (identifier_octets h.tag h.constructed) (length_octets h.length) g.octets) [
-      | inl ([], is) ↦ none ((h.tag, h.constructed), [], record { front = s; parts = sym (append-nil s); spelled = record { legal = g.legal.tag; octets = sym (append-nil s) ∙ sym is } })
+      | inl ([], is) ↦ none (
+        (h.tag, h.constructed),
+        [],
+        record {
+          front = s;
+          parts = sym (append-nil s);
+          spelled = record
+              { legal = g.legal.tag; octets = sym (append-nil s) ∙ sym is };
+        },
+      )
       | inl (x ∷ xs, is) ↦ uncut ((h.tag, h.constructed), x, xs, record { legal = g.legal.tag; octets = sym is })
-      | inr (x, is) ↦ none ((h.tag, h.constructed), x, record { front = identifier_octets h.tag h.constructed; parts = is; spelled = record { legal = g.legal.tag; octets = refl } })
+      | inr (x, is) ↦ none (
+        (h.tag, h.constructed),
+        x,
+        record {
+          front = identifier_octets h.tag h.constructed;
+          parts = is;
+          spelled = record
+              { legal = g.legal.tag; octets = refl };
+        },
+      )
     ]
 
 -- octets that a header begins have no fault
-pub no-fault-at-header : (s : List ℕ) (e : DecodeError) (h : Header) (r : List ℕ) → IsHeaderFault s e → Spells SpellsHeader s h r → ⊥
+pub no-fault-at-header : (s : List ℕ) (e : DecodeError) (h : Header) (r : List ℕ) → IsHeaderFault s e
+    → Spells SpellsHeader s h r → ⊥
 no-fault-at-header s Truncated h r (k, b, more, g) sp =
-    let grown : Spells SpellsHeader (s ++ b ∷ more) h (r ++ b ∷ more) = record { front = sp.front; parts = ap (λ (l : List ℕ). l ++ b ∷ more) sp.parts ∙ append_assoc sp.front r (b ∷ more); spelled = sp.spelled } in
-    let whole : Spells SpellsHeader (s ++ b ∷ more) k [] = record { front = s ++ b ∷ more; parts = sym (append-nil (s ++ b ∷ more)); spelled = g } in
+    let grown : Spells SpellsHeader (s ++ b ∷ more) h (r ++ b ∷ more) = record {
+      front = sp.front;
+      parts = ap (λ (l : List ℕ). l ++ b ∷ more) sp.parts ∙ append_assoc sp.front r (b ∷ more);
+      spelled = sp.spelled;
+    } in
+    let whole : Spells SpellsHeader (s ++ b ∷ more) k [] = record
+    { front = s ++ b ∷ more; parts = sym (append-nil (s ++ b ∷ more)); spelled = g } in
     no-more r (one-header (s ++ b ∷ more) h k (r ++ b ∷ more) [] grown whole).1
   where
     no-more : (r : List ℕ) → r ++ b ∷ more ≡ [] → ⊥
     no-more [] e = cc
     no-more (x ∷ r) e = cc
 no-fault-at-header s BadTag h r f sp =
-    f.0 ((h.tag, h.constructed), length_octets h.length ++ r, record { front = identifier_octets h.tag h.constructed; parts = sp.parts ∙ ap (λ (l : List ℕ). l ++ r) sp.spelled.octets ∙ append_assoc (identifier_octets h.tag h.constructed) (length_octets h.length) r; spelled = record { legal = sp.spelled.legal.tag; octets = refl } })
+    f.0 (
+      (h.tag, h.constructed),
+      length_octets h.length ++ r,
+      record {
+        front = identifier_octets h.tag h.constructed;
+        parts = sp.parts ∙ ap (λ (l : List ℕ). l ++ r)
+            sp.spelled.octets ∙ append_assoc (identifier_octets h.tag h.constructed) (length_octets h.length) r;
+        spelled =
+            record { legal = sp.spelled.legal.tag; octets = refl };
+      },
+    )
 no-fault-at-header s BadLength h r f sp = f.1 h r sp
 no-fault-at-header s Unexpected h r f sp = f
 no-fault-at-header s (Content x) h r f sp = f

@@ -1,5 +1,6 @@
 -- Headers.
-use Rattle.std.proofs.Common.{◌≡◌, ℕ, suc, ◌⊎◌, Bool, List, [], ◌∷◌, ◌++◌, Result, Ok, Err, refl, sym, ◌∙◌, arith, inl, inr, append_assoc}
+use Rattle.std.proofs.Common.{◌≡◌, ℕ, suc, ◌⊎◌, Bool, List, [], ◌∷◌, ◌++◌, Result, Ok, Err, refl, sym, ◌∙◌, arith, inl}
+use Rattle.std.proofs.Common.{inr, append_assoc}
 use Rattle.rpki_der.specs.declared.error.DecodeError.{DecodeError}
 use Rattle.rpki_der.specs.declared.error.DecodeError.TheVariants.{Truncated}
 use Rattle.rpki_der.specs.declared.tag.Header.{Header}
@@ -25,7 +26,8 @@ unfolding header_at
 header-is s = refl
 
 -- from the identifier octets on
-pub header-from : (s q : List ℕ) (i : TagName × Bool) → identifier_at s ≡ Ok (i, q) → header_at s ≡ (length_at q >>= λ l. after i l)
+pub header-from : (s q : List ℕ) (i : TagName × Bool) → identifier_at s ≡ Ok (i, q)
+    → header_at s ≡ (length_at q >>= λ l. after i l)
 header-from s q i e = header-is s ∙ rw e refl
 
 -- what a header that was read is
@@ -39,10 +41,12 @@ header-again h s legal =
     let two = length-again h.length s legal.length in
     rw append_assoc (header-from _ (length_octets h.length ++ s) (h.tag, h.constructed) one ∙ rw two refl)
 
-takes-so : (s q : List ℕ) (i : TagName × Bool) (n : ℕ) (h : Header) (r r' : List ℕ) → IsIdentifier i s q → IsLength n q r' → after i (n, r') ≡ Ok (h, r) → IsRead h s r
+takes-so : (s q : List ℕ) (i : TagName × Bool) (n : ℕ) (h : Header) (r r' : List ℕ) → IsIdentifier i s q
+    → IsLength n q r' → after i (n, r') ≡ Ok (h, r) → IsRead h s r
 takes-so s q i n h r r' a b e =
     let is = pair-is (made i n) h r' r e in
-    let octets : s ≡ header_octets (made i n) ++ r' = rw (a.octets, b.octets) (sym (append_assoc (identifier_octets i.0 i.1) (length_octets n) r')) in
+    let octets : s ≡ header_octets (made i n) ++ r' = rw (a.octets, b.octets)
+    (sym (append_assoc (identifier_octets i.0 i.1) (length_octets n) r')) in
     rw (← is.0, ← is.1) (record { legal = record { tag = a.legal; length = b.high }; octets = octets })
 
 -- bytes stay bytes after a front
@@ -61,13 +65,16 @@ header-takes s h r bytes e =
 -- ---- faults
 
 -- identifier octets that were read are read again before more
-pub identifier-grows : (s t : List ℕ) (i : TagName × Bool) (q : List ℕ) → IsBytes s → identifier_at s ≡ Ok (i, q) → identifier_at (s ++ t) ≡ Ok (i, q ++ t)
+pub identifier-grows : (s t : List ℕ) (i : TagName × Bool) (q : List ℕ) → IsBytes s → identifier_at s ≡ Ok (i, q)
+    → identifier_at (s ++ t) ≡ Ok (i, q ++ t)
 identifier-grows s t i q bytes e =
     let h = identifier-takes s i q bytes e in
     rw (h.octets, append_assoc) (identifier-again i.0 i.1 (q ++ t) h.legal)
 
 -- where a fault comes from: the identifier octets, or the length octets after them
-pub header-cases : (s : List ℕ) (e : DecodeError) → header_at s ≡ Err e → (identifier_at s ≡ Err e) ⊎ ((i : TagName × Bool) × (q : List ℕ) × (identifier_at s ≡ Ok (i, q)) × (length_at q ≡ Err e))
+pub header-cases : (s : List ℕ) (e : DecodeError) → header_at s ≡ Err e
+    → (identifier_at s ≡ Err e) ⊎ ((i : TagName × Bool) × (q : List ℕ) × (identifier_at s ≡ Ok (i, q)) ×
+    (length_at q ≡ Err e))
 header-cases s e h =
     elim (bind-err (identifier_at s) following e (sym (header-is s) ∙ h)) [
       | inl g ↦ inl g
@@ -86,21 +93,33 @@ nought : IsBytes (0 ∷ [])
 nought = IsBytes-cons 0 [] (omega arith) (λ i. omega arith)
 
 -- identifier octets, completed, and a length of 0
-completed : (s : List ℕ) (i : TagName × Bool) (t : List ℕ) → IsBytes (s ++ t) → identifier_at (s ++ t) ≡ Ok (i, []) → header_at (s ++ (t ++ 0 ∷ [])) ≡ Ok (made i 0, [])
+completed : (s : List ℕ) (i : TagName × Bool) (t : List ℕ) → IsBytes (s ++ t) → identifier_at (s ++ t) ≡ Ok (i, [])
+    → header_at (s ++ (t ++ 0 ∷ [])) ≡ Ok (made i 0, [])
 completed s i t bytes e =
     let g = identifier-grows (s ++ t) (0 ∷ []) i [] bytes e in
     let whole : identifier_at (s ++ (t ++ 0 ∷ [])) ≡ Ok (i, 0 ∷ []) = rw append_assoc at g in
     header-from (s ++ (t ++ 0 ∷ [])) (0 ∷ []) i whole ∙ rw zero-length refl
 
-pub header-completes : (s : List ℕ) → IsBytes s → header_at s ≡ Err Truncated → (h : Header) × (t : List ℕ) × IsBytes t × (header_at (s ++ t) ≡ Ok (h, []))
+pub header-completes : (s : List ℕ) → IsBytes s → header_at s ≡ Err Truncated
+    → (h : Header) × (t : List ℕ) × IsBytes t × (header_at (s ++ t) ≡ Ok (h, []))
 header-completes s bytes e =
     elim (header-cases s Truncated e) [
       | inl g ↦
-          let c = identifier-completes s g in
-          (made c.0 0, c.1 ++ 0 ∷ [], IsBytes-append c.1 (0 ∷ []) c.2 nought, completed s c.0 c.1 (IsBytes-append s c.1 bytes c.2) c.3)
+          let c = identifier-completes s g in (
+            made c.0 0,
+            c.1 ++ 0 ∷ [],
+            IsBytes-append c.1 (0 ∷ []) c.2 nought,
+            completed s c.0 c.1
+                (IsBytes-append s c.1 bytes c.2) c.3,
+          )
       | inr g ↦
-          let c = length-completes g.1 g.3 in
-          (made g.0 c.0, c.1, c.2, header-from (s ++ c.1) (g.1 ++ c.1) g.0 (identifier-grows s c.1 g.0 g.1 bytes g.2) ∙ rw c.3 refl)
+          let c = length-completes g.1 g.3 in (
+            made g.0 c.0,
+            c.1,
+            c.2,
+            header-from (s ++ c.1) (g.1 ++ c.1) g.0 (identifier-grows s c.1 g.0 g.1 bytes g.2) ∙
+                rw c.3 refl,
+          )
     ]
 
 -- bad identifier octets are a bad header

@@ -45,7 +45,8 @@ tag-1 t f lt = rw (identifier-low t f lt) (omega arith)
 
 high : (t : TagName) (f : Bool) (k : ℕ) → 31 ≤ t.number → length (digits 128 128 3 (t.number / 128)) ≡ k
     → length (identifier_octets t f) ≡ k + 2
-high t f k ge h = rw (identifier-high t f ge) (omega (arith, h, length-append (digits 128 128 3 (t.number / 128)) ((t.number % 128) ∷ [])))
+high t f k ge h = rw (identifier-high t f ge)
+    (omega (arith, h, length-append (digits 128 128 3 (t.number / 128)) ((t.number % 128) ∷ [])))
 
 pub tag-2 : (t : TagName) (f : Bool) → 31 ≤ t.number → t.number < 128 → length (identifier_octets t f) ≡ 2
 tag-2 t f ge lt = high t f 0 ge (count-none 128 128 3 (t.number / 128) (omega arith))

@@ -1,5 +1,6 @@
 -- Identifier octets.
-use Rattle.std.proofs.Common.{◌≡◌, ℕ, zero, suc, ◌/◌, ◌%◌, ◌<◌, ◌≤◌, ◌⊎◌, Bool, true, false, eqb, ◌&&◌, List, [], ◌∷◌, ◌++◌, Result, Ok, Err, refl, sym, ap, ◌∙◌, arith, inl, inr}
+use Rattle.std.proofs.Common.{◌≡◌, ℕ, zero, suc, ◌/◌, ◌%◌, ◌<◌, ◌≤◌, ◌⊎◌, Bool, true, false, eqb, ◌&&◌, List, [], ◌∷◌}
+use Rattle.std.proofs.Common.{◌++◌, Result, Ok, Err, refl, sym, ap, ◌∙◌, arith, inl, inr}
 use Rattle.std.proofs.lemmas.Bool.{cases_eq, cases_lt, ne_eqb, eq-eqb, lt-ltb, le-ltb, and_left, and_right, and_from}
 use Rattle.rpki_der.specs.declared.error.DecodeError.{DecodeError}
 use Rattle.rpki_der.specs.declared.error.DecodeError.TheVariants.{Truncated, BadTag}
@@ -10,7 +11,8 @@ use Rattle.rpki_der.specs.Header.{class_number, form_number, lead, identifier_oc
 use Rattle.rpki_der.specs.KindLaws.{class-takes, form-takes}
 use Rattle.rpki_der.specs.HeaderReading.{◌>>=◌, class_at, number_at, identifier_at}
 use Rattle.rpki_der.proofs.StepLaws.{IsBytes, IsBytes-rest, IsBytes-cons, pair-is, bind-ok, bind-err}
-use Rattle.rpki_der.proofs.TagNumberLaws.{groups, number-again, number-takes, number-stays, number-completes, number-errors}
+use Rattle.rpki_der.proofs.TagNumberLaws.{groups, number-again, number-takes, number-stays, number-completes}
+use Rattle.rpki_der.proofs.TagNumberLaws.{number-errors}
 use Rattle.rpki_der.proofs.DigitLaws.{digits-zero}
 use Rattle.std.proofs.Math.Nat.{pow-zero}
 
@@ -75,15 +77,18 @@ identifier-empty = refl
 abbrev found : ℕ → ℕ → List ℕ → Result ((TagName × Bool) × List ℕ) DecodeError
 found b n s = Ok ((tag_of (class_at (b / 64)) n, eqb (b / 32 % 2) 1), s)
 
-pub identifier-low : (b : ℕ) (s : List ℕ) → b % 32 < 31 → (eqb (b / 64) 0 && eqb (b % 32) 0) ≡ false → identifier_at (b ∷ s) ≡ found b (b % 32) s
+pub identifier-low : (b : ℕ) (s : List ℕ) → b % 32 < 31 → (eqb (b / 64) 0 && eqb (b % 32) 0) ≡ false
+    → identifier_at (b ∷ s) ≡ found b (b % 32) s
 unfolding identifier_at
 identifier-low b s lt named = rw (lt-ltb (b % 32) 31 lt, named) refl
 
-pub identifier-none : (b : ℕ) (s : List ℕ) → b % 32 < 31 → (eqb (b / 64) 0 && eqb (b % 32) 0) ≡ true → identifier_at (b ∷ s) ≡ Err BadTag
+pub identifier-none : (b : ℕ) (s : List ℕ) → b % 32 < 31 → (eqb (b / 64) 0 && eqb (b % 32) 0) ≡ true
+    → identifier_at (b ∷ s) ≡ Err BadTag
 unfolding identifier_at
 identifier-none b s lt unnamed = rw (lt-ltb (b % 32) 31 lt, unnamed) refl
 
-pub identifier-high : (b : ℕ) (s : List ℕ) → 31 ≤ b % 32 → identifier_at (b ∷ s) ≡ (number_at 4 0 s >>= λ n. found b n.0 n.1)
+pub identifier-high : (b : ℕ) (s : List ℕ) → 31 ≤ b % 32
+    → identifier_at (b ∷ s) ≡ (number_at 4 0 s >>= λ n. found b n.0 n.1)
 unfolding identifier_at
 identifier-high b s ge = rw (le-ltb (b % 32) 31 ge) refl
 
@@ -123,10 +128,12 @@ pub record IsIdentifier (i : TagName × Bool) (s r : List ℕ) : Type 0 where
   pub legal : IsTag i.0
   pub octets : s ≡ identifier_octets i.0 i.1 ++ r
 
-found-is : (b n : ℕ) (s : List ℕ) (i : TagName × Bool) (r : List ℕ) → found b n s ≡ Ok (i, r) → ((tag_of (class_at (b / 64)) n, eqb (b / 32 % 2) 1) ≡ i) × (s ≡ r)
+found-is : (b n : ℕ) (s : List ℕ) (i : TagName × Bool) (r : List ℕ) → found b n s ≡ Ok (i, r)
+    → ((tag_of (class_at (b / 64)) n, eqb (b / 32 % 2) 1) ≡ i) × (s ≡ r)
 found-is b n s i r e = pair-is (tag_of (class_at (b / 64)) n, eqb (b / 32 % 2) 1) i s r e
 
-takes-high : (b : ℕ) (s : List ℕ) (n : ℕ) (q : List ℕ) (i : TagName × Bool) (r : List ℕ) → IsBytes (b ∷ s) → 31 ≤ b % 32 → number_at 4 0 s ≡ Ok (n, q) → found b n q ≡ Ok (i, r) → IsIdentifier i (b ∷ s) r
+takes-high : (b : ℕ) (s : List ℕ) (n : ℕ) (q : List ℕ) (i : TagName × Bool) (r : List ℕ) → IsBytes (b ∷ s) → 31 ≤ b % 32
+    → number_at 4 0 s ≡ Ok (n, q) → found b n q ≡ Ok (i, r) → IsIdentifier i (b ∷ s) r
 takes-high b s n q i r bytes ge read e =
     let byte : b < 256 = bytes 0 in
     let h = number-takes 4 0 0 s n q (omega arith) (omega (arith, pow-zero 128)) (IsBytes-rest b s bytes) read in
@@ -141,7 +148,8 @@ takes-high b s n q i r bytes ge read e =
     rw (identifier-long-is t (eqb (b / 32 % 2) 1) h.low, lead31) (ap (λ (x : List ℕ). b ∷ x) numbered) in
     rw (← f.0, ← f.1) (record { legal = legal; octets = octets })
 
-pub identifier-takes : (s : List ℕ) (i : TagName × Bool) (r : List ℕ) → IsBytes s → identifier_at s ≡ Ok (i, r) → IsIdentifier i s r
+pub identifier-takes : (s : List ℕ) (i : TagName × Bool) (r : List ℕ) → IsBytes s → identifier_at s ≡ Ok (i, r)
+    → IsIdentifier i s r
 identifier-takes [] i r bytes e = absurd (let h = identifier-empty in cc)
 identifier-takes (b ∷ s) i r bytes e =
     let byte : b < 256 = bytes 0 in
@@ -166,7 +174,8 @@ class-zero Application e = absurd (omega arith)
 class-zero Context e = absurd (omega arith)
 class-zero Private e = absurd (omega arith)
 
-named-again : (t : TagName) (f : Bool) → IsTag t → t.number < 31 → (eqb (lead t f t.number / 64) 0 && eqb (lead t f t.number % 32) 0) ≡ false
+named-again : (t : TagName) (f : Bool) → IsTag t → t.number < 31
+    → (eqb (lead t f t.number / 64) 0 && eqb (lead t f t.number % 32) 0) ≡ false
 named-again t f legal lt =
     let g = form-below f in
     elim (cases_eq (class_number t.class) 0) [
@@ -176,7 +185,8 @@ named-again t f legal lt =
       | inr ne ↦ and_left _ _ (ne_eqb (lead t f t.number / 64) 0 (λ w. ne (omega arith)))
     ]
 
-pub identifier-again : (t : TagName) (f : Bool) (s : List ℕ) → IsTag t → identifier_at (identifier_octets t f ++ s) ≡ Ok ((t, f), s)
+pub identifier-again : (t : TagName) (f : Bool) (s : List ℕ) → IsTag t
+    → identifier_at (identifier_octets t f ++ s) ≡ Ok ((t, f), s)
 identifier-again t f s legal =
     elim (cases_lt t.number 31) [
       | inl lt ↦
@@ -187,7 +197,9 @@ identifier-again t f s legal =
       | inr ge ↦
           let p = lead-again t f 31 (omega arith) in
           let b = lead t f 31 in
-          rw (identifier-long-is t f ge) (identifier-high b (groups t.number ++ s) (rw p.low (omega arith)) ∙ rw (number-again t.number s ge legal.below, p.class, p.form) refl)
+          rw (identifier-long-is t f ge)
+          (identifier-high b (groups t.number ++ s) (rw p.low (omega arith)) ∙ rw
+          (number-again t.number s ge legal.below, p.class, p.form) refl)
     ]
 
 pub identifier-stays : (s t : List ℕ) → identifier_at s ≡ Err BadTag → identifier_at (s ++ t) ≡ Err BadTag
@@ -203,8 +215,15 @@ identifier-stays (b ∷ s) t e =
           ]
     ]
 
-pub identifier-completes : (s : List ℕ) → identifier_at s ≡ Err Truncated → (i : TagName × Bool) × (t : List ℕ) × IsBytes t × (identifier_at (s ++ t) ≡ Ok (i, []))
-identifier-completes [] e = ((tag_of Application 0, false), 64 ∷ [], IsBytes-cons 64 [] (omega arith) (λ i. omega arith), identifier-low 64 [] (omega arith) refl)
+pub identifier-completes : (s : List ℕ) → identifier_at s ≡ Err Truncated
+    → (i : TagName × Bool) × (t : List ℕ) × IsBytes t × (identifier_at (s ++ t) ≡ Ok (i, []))
+identifier-completes [] e = (
+  (tag_of Application 0, false),
+  64 ∷ [],
+  IsBytes-cons 64 [] (omega arith)
+      (λ i. omega arith),
+  identifier-low 64 [] (omega arith) refl,
+)
 identifier-completes (b ∷ s) e =
     elim (kind b) [
       | low lt is named ↦ absurd (let h = identifier-low b s lt is in cc)
@@ -212,8 +231,13 @@ identifier-completes (b ∷ s) e =
       | high ge ↦
           elim (bind-err (number_at 4 0 s) (λ n. found b n.0 n.1) Truncated (sym (identifier-high b s ge) ∙ e)) [
             | inl h ↦
-                let g = number-completes 4 0 s h in
-                ((tag_of (class_at (b / 64)) g.0, eqb (b / 32 % 2) 1), 127 ∷ [], IsBytes-cons 127 [] (omega arith) (λ i. omega arith), identifier-high b (s ++ 127 ∷ []) ge ∙ rw g.1 refl)
+                let g = number-completes 4 0 s h in (
+                  (tag_of (class_at (b / 64)) g.0, eqb (b / 32 % 2) 1),
+                  127 ∷ [],
+                  IsBytes-cons 127 [] (omega arith)
+                      (λ i. omega arith),
+                  identifier-high b (s ++ 127 ∷ []) ge ∙ rw g.1 refl,
+                )
             | inr h ↦ absurd (let g = h.2 in cc)
           ]
     ]

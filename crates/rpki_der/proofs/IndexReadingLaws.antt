@@ -1,5 +1,6 @@
 -- What an entry of an index says of the octets where it stands.
-use Rattle.std.proofs.Common.{◌≡◌, ℕ, ◌+◌, ◌-◌, ◌≤◌, List, ◌++◌, length, take, drop, refl, sym, ap, ◌∙◌, arith, append_assoc, take-append-drop}
+use Rattle.std.proofs.Common.{◌≡◌, ℕ, ◌+◌, ◌-◌, ◌≤◌, List, ◌++◌, length, take, drop, refl, sym, ap, ◌∙◌, arith}
+use Rattle.std.proofs.Common.{append_assoc, take-append-drop}
 use Rattle.std.specs.Prelude.{slice_range}
 use Rattle.rpki_der.specs.declared.tag.Header.{Header}
 use Rattle.rpki_der.specs.Header.{header_octets}
@@ -15,16 +16,20 @@ join-cut s i j e low high =
     let n = j - i in
     let at : i + n ≡ j = omega arith in
     let fits : i + n ≤ e = omega arith in
-    let front : take n (slice_range s i e) ≡ slice_range s i j = sym (front-of-cut s i e n fits) ∙ ap (λ (x : ℕ). slice_range s i x) at in
-    let back : drop n (slice_range s i e) ≡ slice_range s j e = sym (back-of-cut s i e n fits) ∙ ap (λ (x : ℕ). slice_range s x e) at in
-    sym (take-append-drop n (slice_range s i e)) ∙ ap (λ (x : List ℕ). x ++ drop n (slice_range s i e)) front ∙ ap (λ (x : List ℕ). slice_range s i j ++ x) back
+    let front : take n (slice_range s i e) ≡ slice_range s i j = sym (front-of-cut s i e n fits) ∙ ap
+    (λ (x : ℕ). slice_range s i x) at in
+    let back : drop n (slice_range s i e) ≡ slice_range s j e = sym (back-of-cut s i e n fits) ∙ ap
+    (λ (x : ℕ). slice_range s x e) at in
+    sym (take-append-drop n (slice_range s i e)) ∙ ap (λ (x : List ℕ). x ++ drop n (slice_range s i e)) front ∙ ap
+    (λ (x : List ℕ). slice_range s i j ++ x) back
 
 -- the header of an entry
 abbrev pub header-in : Entry → Header
 header-in e = record { tag = e.tag; constructed = e.constructed; length = e.past - e.contents }
 
 -- where an entry stands its header is read, whatever follows its contents
-pub entry-read : (octets : List ℕ) (e : Entry) (start end : ℕ) → StandsAt octets e → e.place ≡ start → e.past ≤ end → end ≤ length octets
+pub entry-read : (octets : List ℕ) (e : Entry) (start end : ℕ) → StandsAt octets e → e.place ≡ start → e.past ≤ end
+    → end ≤ length octets
     → Accepts SpellsHeader (slice_range octets start end) (header-in e) (slice_range octets e.contents end)
 entry-read octets e start end at same fits inside =
     let s : List ℕ = slice_range octets start end in
@@ -43,5 +48,10 @@ entry-read octets e start end at same fits inside =
     ∙ append_assoc (header_octets h) c rest
     ∙ ap (λ (x : List ℕ). header_octets h ++ x) (sym (join-cut octets e.contents e.past end mid fits)) in
     let there : Spells SpellsHeader s h (slice_range octets e.contents end) =
-    record { front = header_octets h; parts = parts; spelled = record { legal = record { tag = at.tag; length = at.fits }; octets = refl } } in
+    record {
+      front = header_octets h;
+      parts = parts;
+      spelled = record
+          { legal = record { tag = at.tag; length = at.fits }; octets = refl };
+    } in
     record { spells = there; only = λ w q k. one-header s w h q (slice_range octets e.contents end) k there }

@@ -1,5 +1,6 @@
 -- Contents of which no octet can be left out are the shortest, and there is one list of them for each number.
-use Rattle.std.proofs.Common.{◌≡◌, ℕ, zero, suc, ◌+◌, ◌-◌, ◌*◌, ◌^◌, ◌<◌, ◌≤◌, inl, inr, List, [], ◌∷◌, length, get_or, drop, length-drop, add-zero, Fits, w8, arith, refl, sym, ap, ◌∙◌}
+use Rattle.std.proofs.Common.{◌≡◌, ℕ, zero, suc, ◌+◌, ◌-◌, ◌*◌, ◌^◌, ◌<◌, ◌≤◌, inl, inr, List, [], ◌∷◌, length, get_or}
+use Rattle.std.proofs.Common.{drop, length-drop, add-zero, Fits, w8, arith, refl, sym, ap, ◌∙◌}
 use Rattle.std.proofs.lemmas.Bool.{cases_order}
 use Rattle.std.proofs.lemmas.List.{get_or-drop, take_rest}
 use Rattle.std.proofs.Math.Nat.{pow-le-pow_right, mul-le-mul_right, le-mul_of_pos_right}
@@ -48,7 +49,8 @@ IsUnsigned-minimal n c w m = record {
 pub contents-unique : (n : ℕ) (c d : List ℕ) → IsUnsigned n c → IsUnsigned n d → c ≡ d
 contents-unique n c d a b =
     let same : length c ≡ length d = omega (arith, a.shortest d b.writes, b.shortest c a.writes) in
-    sym (low_octets-full c (length d) same a.writes.octets) ∙ ap (low_octets (length d)) (a.writes.value ∙ sym b.writes.value) ∙ low_octets-full d (length d) refl b.writes.octets
+    sym (low_octets-full c (length d) same a.writes.octets) ∙ ap (low_octets (length d))
+    (a.writes.value ∙ sym b.writes.value) ∙ low_octets-full d (length d) refl b.writes.octets
 
 pub AreOctets-drop : (k : ℕ) (xs : List ℕ) → AreOctets xs → AreOctets (drop k xs)
 AreOctets-drop zero xs o = o
@@ -83,7 +85,13 @@ minimal-contents n c h = record {
   shorter : (n : ℕ) (c : List ℕ) → IsUnsigned n c → 1 < length c → get_or c 0 0 ≡ 0 → get_or c 1 0 < 128 → ⊥
   shorter n c h long none low =
       let second : get_or (drop 1 c) 0 0 ≡ get_or c 1 0 = get_or-drop 1 c 0 0 in
-      let w : WritesNumber n (drop 1 c) = record { octets = AreOctets-drop 1 c h.writes.octets; value = number-tail c none ∙ h.writes.value; nonempty = omega (arith, length-drop 1 c); first_bit = omega arith } in
+      let w : WritesNumber n (drop 1 c) = record {
+        octets = AreOctets-drop 1 c h.writes.octets;
+        value = number-tail c none ∙ h.writes.value;
+        nonempty = omega
+            (arith, length-drop 1 c);
+        first_bit = omega arith;
+      } in
       omega (arith, h.shortest (drop 1 c) w, length-drop 1 c)
 
 power-grows : (i j : ℕ) → i ≤ j → 256 ^ i ≤ 256 ^ j
@@ -107,7 +115,8 @@ octets-fit [] h = tt
 octets-fit (x ∷ xs) h = ((h 0).fits, octets-fit xs (λ k. h (suc k)))
 
 -- what is left where zeros in front were left out, as many as can be
-pub magnitude-left : (xs : List ℕ) (i : ℕ) → AreOctets xs → i < length xs → (i + 1 < length xs → 0 < get_or xs i 0) → IsMagnitude (drop i xs)
+pub magnitude-left : (xs : List ℕ) (i : ℕ) → AreOctets xs → i < length xs → (i + 1 < length xs → 0 < get_or xs i 0)
+    → IsMagnitude (drop i xs)
 magnitude-left xs i o in_xs some =
     let size = length-drop i xs in
     let first : get_or (drop i xs) 0 0 ≡ get_or xs i 0 = get_or-drop i xs 0 0 ∙ ap (λ k. get_or xs k 0) (add-zero i) in
@@ -118,7 +127,8 @@ magnitude-left xs i o in_xs some =
     }
 
 -- the contents of an INTEGER that begin with a zero are the magnitude's octets after it
-pub following-zero : (xs : List ℕ) → AreOctets xs → 1 < length xs → get_or xs 0 0 ≡ 0 → 128 ≤ get_or xs 1 0 → IsUnsigned (number_of (drop 1 xs)) xs × IsMagnitude (drop 1 xs)
+pub following-zero : (xs : List ℕ) → AreOctets xs → 1 < length xs → get_or xs 0 0 ≡ 0 → 128 ≤ get_or xs 1 0
+    → IsUnsigned (number_of (drop 1 xs)) xs × IsMagnitude (drop 1 xs)
 following-zero xs o long none high =
     let m : IsMinimal xs = record { nonempty = omega arith; first_bit = omega arith; nine_bits = λ _. inr high } in (
       minimal-IsUnsigned xs (number_of (drop 1 xs)) o (number-tail xs none) m,
@@ -126,7 +136,8 @@ following-zero xs o long none high =
     )
 
 -- contents that don't begin with a zero are the magnitude's octets
-pub without-zero : (xs : List ℕ) → AreOctets xs → 0 < length xs → get_or xs 0 0 < 128 → (1 < length xs → 0 < get_or xs 0 0) → IsUnsigned (number_of xs) xs × IsMagnitude xs
+pub without-zero : (xs : List ℕ) → AreOctets xs → 0 < length xs → get_or xs 0 0 < 128
+    → (1 < length xs → 0 < get_or xs 0 0) → IsUnsigned (number_of xs) xs × IsMagnitude xs
 without-zero xs o some bit first =
     let m : IsMinimal xs = record { nonempty = some; first_bit = bit; nine_bits = λ long. inl (first long) } in (
       minimal-IsUnsigned xs (number_of xs) o refl m,
@@ -147,8 +158,12 @@ one-number m n xs a b = sym a.writes.value ∙ b.writes.value
 -- ---- numbers below a bound
 
 -- one octet more was read
-pub next-octet : (total n x : ℕ) (xs : List ℕ) → total ≡ n * 256 ^ suc (length xs) + (x * 256 ^ length xs + number_of xs) → total ≡ (n * 256 + x) * 256 ^ length xs + number_of xs
-next-octet total n x xs h = let p = 256 ^ length xs in let top : 256 ^ suc (length xs) ≡ 256 * p = power (length xs) in let e : total ≡ n * (256 * p) + (x * p + number_of xs) = h ∙ ap (λ q. n * q + (x * p + number_of xs)) top in omega (arith, e)
+pub next-octet : (total n x : ℕ) (xs : List ℕ)
+    → total ≡ n * 256 ^ suc (length xs) + (x * 256 ^ length xs + number_of xs)
+    → total ≡ (n * 256 + x) * 256 ^ length xs + number_of xs
+next-octet total n x xs h = let p = 256 ^ length xs in let top : 256 ^ suc (length xs) ≡ 256 * p = power (length xs) in
+    let e : total ≡ n * (256 * p) + (x * p + number_of xs) = h ∙ ap (λ q. n * q + (x * p + number_of xs)) top in omega
+    (arith, e)
 
 -- what was read so far is at most the whole
 pub so-far : (total m k r : ℕ) → total ≡ m * 256 ^ k + r → m ≤ total

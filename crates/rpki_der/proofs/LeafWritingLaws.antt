@@ -1,12 +1,15 @@
 -- Leaf values that are written, and read again.
-use Rattle.std.proofs.Common.{◌≡◌, ℕ, ◌<◌, ◌^◌, Bool, true, false, List, [], ◌∷◌, length, slice_index, refl, ap, sym, ◌∙◌, arith, lit<, cond, nat_lt}
+use Rattle.std.proofs.Common.{◌≡◌, ℕ, ◌<◌, ◌^◌, Bool, true, false, List, [], ◌∷◌, length, slice_index, refl, ap, sym}
+use Rattle.std.proofs.Common.{◌∙◌, arith, lit<, cond, nat_lt}
 use Rattle.rpki_der.specs.TagName.{IsTag, boolean, integer, bit_string, octet_string, null, oid}
 use Rattle.rpki_der.specs.Header.{tlv}
 use Rattle.rpki_der.specs.Leaves.{Bits, IsBits, IsNull, IsBoolean, IsOidOf, bits_of, boolean_contents}
 use Rattle.rpki_der.specs.Number.{number_of}
 use Rattle.rpki_der.specs.Integer.{IsUnsigned, IsMagnitude, unsigned_contents}
 use Rattle.rpki_der.specs.Contents.{bits_contents}
-use Rattle.rpki_der.specs.LeafLaws.{NullReadBack, BooleansReadBack, NumbersReadBack, IdentifiersReadBack, OctetsReadBack, BitsReadBack, BooleansApart, NumbersApart, IdentifiersApart, OctetsApart, BitsApart}
+use Rattle.rpki_der.specs.LeafLaws.{NullReadBack, BooleansReadBack, NumbersReadBack, IdentifiersReadBack}
+use Rattle.rpki_der.specs.LeafLaws.{OctetsReadBack, BitsReadBack, BooleansApart, NumbersApart, IdentifiersApart}
+use Rattle.rpki_der.specs.LeafLaws.{OctetsApart, BitsApart}
 use Rattle.rpki_der.proofs.EncodeLaws.{leaf-legal, tlv-legal, tlv-same-one}
 use Rattle.rpki_der.proofs.UnsignedLaws.{unsigned-spelled, unsigned-at-most}
 
@@ -40,7 +43,8 @@ booleans-back b = leaf-legal boolean false IsBoolean b (boolean_contents b) bool
 
 pub numbers-back : NumbersReadBack
 numbers-back octets m small =
-    leaf-legal integer false IsUnsigned (number_of octets) (unsigned_contents octets) integer-tag (omega (arith, unsigned-at-most octets)) (unsigned-spelled octets m)
+    leaf-legal integer false IsUnsigned (number_of octets) (unsigned_contents octets) integer-tag
+    (omega (arith, unsigned-at-most octets)) (unsigned-spelled octets m)
 
 pub identifiers-back : IdentifiersReadBack
 identifiers-back octets valid small = leaf-legal oid false IsOidOf octets octets oid-tag small (refl, valid)
@@ -49,7 +53,8 @@ pub octets-back : OctetsReadBack
 octets-back octets small = tlv-legal octet_string false octets octets-tag small
 
 pub bits-back : BitsReadBack
-bits-back b legal small = leaf-legal bit_string false IsBits b (bits_contents b) bits-tag (omega arith) (record { legal = legal; contents = refl })
+bits-back b legal small = leaf-legal bit_string false IsBits b (bits_contents b) bits-tag (omega arith)
+    (record { legal = legal; contents = refl })
 
 -- ---- equal octets
 
@@ -60,13 +65,18 @@ boolean-same false true e = absurd (cc)
 boolean-same false false e = refl
 
 pub booleans-apart : BooleansApart
-booleans-apart a b = (λ e. boolean-same a b (tlv-same-one boolean false _ (boolean_contents b) (boolean-short b) e), λ e. ap (λ (x : Bool). tlv boolean false (boolean_contents x)) e)
+booleans-apart a b = (
+  λ e. boolean-same a b (tlv-same-one boolean false _ (boolean_contents b) (boolean-short b) e),
+  λ
+      e. ap (λ (x : Bool). tlv boolean false (boolean_contents x)) e,
+)
 
 pub identifiers-apart : IdentifiersApart
 identifiers-apart a b small = (λ e. tlv-same-one oid false a b small e, λ e. ap (λ (x : List ℕ). tlv oid false x) e)
 
 pub octets-apart : OctetsApart
-octets-apart a b small = (λ e. tlv-same-one octet_string false a b small e, λ e. ap (λ (x : List ℕ). tlv octet_string false x) e)
+octets-apart a b small =
+    (λ e. tlv-same-one octet_string false a b small e, λ e. ap (λ (x : List ℕ). tlv octet_string false x) e)
 
 bits-same : (a b : Bits) → bits_contents a ≡ bits_contents b → a ≡ b
 bits-same a b e =
@@ -75,7 +85,11 @@ bits-same a b e =
     ap (λ (n : ℕ). bits_of n a.octets) count ∙ ap (λ (x : List ℕ). bits_of b.unused x) octets
 
 pub bits-apart : BitsApart
-bits-apart a b small = (λ e. bits-same a b (tlv-same-one bit_string false _ (bits_contents b) (omega arith) e), λ e. ap (λ (x : Bits). tlv bit_string false (bits_contents x)) e)
+bits-apart a b small = (
+  λ e. bits-same a b (tlv-same-one bit_string false _ (bits_contents b) (omega arith) e),
+  λ e. ap
+      (λ (x : Bits). tlv bit_string false (bits_contents x)) e,
+)
 
 -- a zero octet stands in front of one of them alone: then the other begins with zero, and has more than one octet
 one-following : (a b : List ℕ) → IsMagnitude a → IsMagnitude b → a ≡ 0 ∷ b → ⊥

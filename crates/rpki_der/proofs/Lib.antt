@@ -1,12 +1,16 @@
 -- Which lemma file answers which question.
 --
--- Crates above rest on ReadingLaws, LeavesLaws, ComposedLaws, InsideLaws, TriedLaws, FirstFaultLaws, PartsLaws,
--- EachLaws, CaptureLaws, KeepLaws, EncodeLaws, WritingLaws and IntegerLaws: their names and statements stay.
+-- Crates above rest on FormatLaws, FoldLaws, ReadingLaws, LeavesLaws, ComposedLaws, InsideLaws, TriedLaws,
+-- FirstFaultLaws, PartsLaws, EachLaws, CaptureLaws, KeepLaws, EncodeLaws, WritingLaws and IntegerLaws: their names and
+-- statements stay.
 --
 -- How readings are put together, whatever the grammar: ReadingLaws, StepLaws.
 -- A leaf over its contents; a value over the reader of its contents: LeavesLaws, ComposedLaws, InsideLaws.
 -- What a reader returns where a `?` ends it: TriedLaws.
--- Parts in order, the first of which may be left out; a list of values: PartsLaws, EachLaws.
+-- Readers by formats: FormatLaws; of a choice, and of values with a condition: ChoiceLaws. That a format has one value
+--   and one error: OneFormatLaws.
+-- Parts in order, the first of which may be left out; a list of values; values that lead from one state to the next:
+--   PartsLaws, EachLaws, FoldLaws.
 -- Octets that a reader reads, kept; lists of values that are cut short: CaptureLaws, ListFaultLaws.
 -- The error of the leftmost part that isn't there: FirstFaultLaws.
 -- Values of a wanted tag; values by their headers: WantedLaws, ValuesLaws.
@@ -69,6 +73,10 @@ pub mod EachLaws
 pub mod ListFaultLaws
 pub mod CaptureLaws
 pub mod PartsLaws
+pub mod FormatLaws
+pub mod FoldLaws
+pub mod OneFormatLaws
+pub mod ChoiceLaws
 mod HeaderSizeLaws
 mod SomeFaultLaws
 mod ShortestLaws

@@ -1,5 +1,6 @@
 -- Contents of an object identifier, read from the left.
-use Rattle.std.proofs.Common.{◌≡◌, ◌≢◌, ℕ, zero, suc, ◌+◌, ◌-◌, ◌<◌, inl, inr, Bool, true, false, nat_lt, List, length, get_or, IsTrue, refl, arith}
+use Rattle.std.proofs.Common.{◌≡◌, ◌≢◌, ℕ, zero, suc, ◌+◌, ◌-◌, ◌<◌, inl, inr, Bool, true, false, nat_lt, List, length}
+use Rattle.std.proofs.Common.{get_or, IsTrue, refl, arith}
 use Rattle.std.proofs.lemmas.Bool.{cases_eq, lt-ltb}
 use borrow.Author.Tests.{ltb-true}
 use Rattle.rpki_der.specs.Leaves.{IsOid}

@@ -1,5 +1,6 @@
 -- Digits are the shortest that write their number.
-use Rattle.std.proofs.Common.{◌≡◌, ℕ, zero, suc, ◌+◌, ◌*◌, ◌/◌, ◌%◌, ◌^◌, ◌<◌, ◌≤◌, ◌↔◌, Bool, List, [], ◌∷◌, ◌++◌, length, refl, sym, ap, ◌∙◌, arith, inl, inr, append_assoc, length-append, zero-add}
+use Rattle.std.proofs.Common.{◌≡◌, ℕ, zero, suc, ◌+◌, ◌*◌, ◌/◌, ◌%◌, ◌^◌, ◌<◌, ◌≤◌, ◌↔◌, Bool, List, [], ◌∷◌, ◌++◌}
+use Rattle.std.proofs.Common.{length, refl, sym, ap, ◌∙◌, arith, inl, inr, append_assoc, length-append, zero-add}
 use Rattle.std.proofs.Math.Nat.{pow-zero, pow-suc, mul-le-mul_right, pow-le-pow_right, mod-lt}
 use Rattle.std.proofs.lemmas.Bool.{cases_eq, cases_lt}
 use Rattle.std.proofs.lemmas.Nat.{div-mul-add, div_below, div-add-mod'}
@@ -21,7 +22,8 @@ head-below b d p r h k =
 
 number-below : (b : ℕ) (ds : List ℕ) → AreDigits b ds → number_in b ds < b ^ length ds
 number-below b [] h = omega (arith, pow-zero b)
-number-below b (d ∷ ds) h = rw (next-power b (length ds)) (head-below b d (b ^ length ds) (number_in b ds) h.0 (number-below b ds h.1))
+number-below b (d ∷ ds) h =
+    rw (next-power b (length ds)) (head-below b d (b ^ length ds) (number_in b ds) h.0 (number-below b ds h.1))
 
 number-push : (b : ℕ) (xs : List ℕ) (d : ℕ) → number_in b (xs ++ d ∷ []) ≡ number_in b xs * b + d
 number-push b [] d = rw (pow-zero b) (omega arith)
@@ -44,7 +46,12 @@ digits-value b (suc k) n pos lt =
       | inl e ↦ rw (e, digits-zero b 0 (suc k)) refl
       | inr ne ↦
           let below : n / b < b ^ k = div_below n b (b ^ k) pos (rw pow-suc at lt) in
-          rw (digits-last b 0 k n ne, number-push b (digits b 0 k (n / b)) (0 + n % b), digits-value b k (n / b) pos below) (split-in b n)
+          rw (
+            digits-last b 0 k n ne,
+            number-push b (digits b 0 k (n / b)) (0 + n % b),
+            digits-value b k (n / b) pos
+                below,
+          ) (split-in b n)
     ]
 
 digits-each : (b k n : ℕ) → 0 < b → AreDigits b (digits b 0 k n)
@@ -52,7 +59,9 @@ digits-each b zero n pos = unfold digits in tt
 digits-each b (suc k) n pos =
     elim (cases_eq n 0) [
       | inl e ↦ rw (e, digits-zero b 0 (suc k)) tt
-      | inr ne ↦ rw (digits-last b 0 k n ne) (digits-push-each b (digits b 0 k (n / b)) (0 + n % b) (digits-each b k (n / b) pos) (omega (arith, mod-lt n pos)))
+      | inr ne ↦ rw (digits-last b 0 k n ne)
+          (digits-push-each b (digits b 0 k (n / b)) (0 + n % b) (digits-each b k (n / b) pos)
+          (omega (arith, mod-lt n pos)))
     ]
 
 -- a number is not small beside the count of its digits
@@ -60,7 +69,8 @@ digits-low : (b k n : ℕ) → 0 < b → 0 < n → n < b ^ k → b ^ length (dig
 digits-low b zero n pos some lt = absurd (omega (arith, pow-zero b))
 digits-low b (suc k) n pos some lt =
     let ne : n ≡ 0 → ⊥ = λ z. omega arith in
-    let size : length (digits b 0 k (n / b) ++ (0 + n % b) ∷ []) ≡ suc (length (digits b 0 k (n / b))) = omega (arith, length-append (digits b 0 k (n / b)) ((0 + n % b) ∷ [])) in
+    let size : length (digits b 0 k (n / b) ++ (0 + n % b) ∷ []) ≡ suc (length (digits b 0 k (n / b))) = omega
+    (arith, length-append (digits b 0 k (n / b)) ((0 + n % b) ∷ [])) in
     let below : n / b < b ^ k = div_below n b (b ^ k) pos (rw pow-suc at lt) in
     elim (cases_eq (n / b) 0) [
       | inl z ↦
@@ -75,7 +85,8 @@ digits-low b (suc k) n pos some lt =
           rw (digits-last b 0 k n ne, size, next-power b (length (digits b 0 k (n / b)))) (omega arith)
     ]
 
-digits-few : (b k n : ℕ) → 0 < b → 0 < n → n < b ^ k → (es : List ℕ) → AreDigits b es → number_in b es ≡ n → length (digits b 0 k n) ≤ length es
+digits-few : (b k n : ℕ) → 0 < b → 0 < n → n < b ^ k → (es : List ℕ) → AreDigits b es → number_in b es ≡ n
+    → length (digits b 0 k n) ≤ length es
 digits-few b k n pos some lt es h is =
     elim (cases_lt (length es) (length (digits b 0 k n))) [
       | inr le ↦ le
@@ -88,10 +99,12 @@ digits-few b k n pos some lt es h is =
     ]
 
 pub digits-shortest : (b k n : ℕ) → 0 < b → 0 < n → n < b ^ k → IsShortest b n (digits b 0 k n)
-digits-shortest b k n pos some lt = record { digits = digits-each b k n pos; value = digits-value b k n pos lt; few = digits-few b k n pos some lt }
+digits-shortest b k n pos some lt =
+    record { digits = digits-each b k n pos; value = digits-value b k n pos lt; few = digits-few b k n pos some lt }
 
 -- digits that are equally many and write the same are the same
-same-digits : (b : ℕ) (xs ys : List ℕ) → AreDigits b xs → AreDigits b ys → length xs ≡ length ys → number_in b xs ≡ number_in b ys → xs ≡ ys
+same-digits : (b : ℕ) (xs ys : List ℕ) → AreDigits b xs → AreDigits b ys → length xs ≡ length ys
+    → number_in b xs ≡ number_in b ys → xs ≡ ys
 same-digits b [] [] h k l e = refl
 same-digits b [] (y ∷ ys) h k l e = absurd (omega arith)
 same-digits b (x ∷ xs) [] h k l e = absurd (omega arith)
@@ -101,14 +114,16 @@ same-digits b (x ∷ xs) (y ∷ ys) h k l e =
     let e' : x * p + number_in b xs ≡ y * p + number_in b ys = rw size at e in
     let small : number_in b xs < p = rw (← size) (number-below b xs h.1) in
     let small' : number_in b ys < p = number-below b ys k.1 in
-    let heads : x ≡ y = sym (div-mul-add x p (number_in b xs) small) ∙ ap (λ (n : ℕ). n / p) e' ∙ div-mul-add y p (number_in b ys) small' in
+    let heads : x ≡ y = sym (div-mul-add x p (number_in b xs) small) ∙ ap (λ (n : ℕ). n / p) e' ∙ div-mul-add y p
+    (number_in b ys) small' in
     let tails : number_in b xs ≡ number_in b ys = omega (arith, ap (λ (n : ℕ). n * p) heads) in
     let rest = same-digits b xs ys h.1 k.1 size tails in
     cc
 
 pub one-shortest : (b n : ℕ) (xs ys : List ℕ) → IsShortest b n xs → IsShortest b n ys → xs ≡ ys
 one-shortest b n xs ys h k =
-    same-digits b xs ys h.digits k.digits (omega (arith, h.few ys k.digits k.value, k.few xs h.digits h.value)) (h.value ∙ sym k.value)
+    same-digits b xs ys h.digits k.digits (omega (arith, h.few ys k.digits k.value, k.few xs h.digits h.value))
+    (h.value ∙ sym k.value)
 
 -- ---- lengths
 
@@ -125,7 +140,8 @@ length-forms n p lt =
             λ e. inr (ge, ds, best, e ∙ length-long n ge),
             λ h. elim h [
               | inl (l, e) ↦ absurd (omega arith)
-              | inr (g, es, k, e) ↦ e ∙ ap (λ (xs : List ℕ). (128 + length xs) ∷ xs) (one-shortest 256 n es ds k best) ∙ sym (length-long n ge)
+              | inr (g, es, k, e) ↦ e ∙ ap (λ (xs : List ℕ). (128 + length xs) ∷ xs) (one-shortest 256 n es ds k best) ∙
+                  sym (length-long n ge)
             ],
           )
     ]
@@ -133,17 +149,20 @@ length-forms n p lt =
 -- ---- tags
 
 -- digits with their marks, and then one without
-marked : (b k n d : ℕ) (rest : List ℕ) → continued (digits b 0 k n ++ d ∷ rest) ≡ digits b 128 k n ++ continued (d ∷ rest)
+marked : (b k n d : ℕ) (rest : List ℕ)
+    → continued (digits b 0 k n ++ d ∷ rest) ≡ digits b 128 k n ++ continued (d ∷ rest)
 marked b zero n d rest = unfold digits in refl
 marked b (suc k) n d rest =
     elim (cases_eq n 0) [
       | inl e ↦ rw (e, digits-zero b 0 (suc k), digits-zero b 128 (suc k)) refl
       | inr ne ↦
           rw (digits-last b 0 k n ne, digits-last b 128 k n ne, append_assoc, append_assoc)
-          (marked b k (n / b) (0 + n % b) (d ∷ rest) ∙ ap (λ (x : ℕ). digits b 128 k (n / b) ++ (128 + x) ∷ continued (d ∷ rest)) (zero-add (n % b)))
+          (marked b k (n / b) (0 + n % b) (d ∷ rest) ∙ ap
+          (λ (x : ℕ). digits b 128 k (n / b) ++ (128 + x) ∷ continued (d ∷ rest)) (zero-add (n % b)))
     ]
 
-pub identifier-forms : (t : TagName) (f : Bool) (p : List ℕ) → IsTag t → (p ≡ identifier_octets t f) ↔ IsIdentifierForm t f p
+pub identifier-forms : (t : TagName) (f : Bool) (p : List ℕ) → IsTag t
+    → (p ≡ identifier_octets t f) ↔ IsIdentifierForm t f p
 identifier-forms t f p legal =
     elim (cases_lt t.number 31) [
       | inl low ↦ (
@@ -156,12 +175,15 @@ identifier-forms t f p legal =
           let below = legal.below in
           let best : IsShortest 128 n ds = digits-shortest 128 4 n (omega arith) (omega arith) (omega arith) in
           let parts : ds ≡ digits 128 0 3 (n / 128) ++ (0 + n % 128) ∷ [] = digits-last 128 0 3 n (λ z. omega arith) in
-          let octets : continued ds ≡ digits 128 128 3 (n / 128) ++ (n % 128) ∷ [] = ap continued parts ∙ marked 128 3 (n / 128) (0 + n % 128) [] ∙ ap (λ (x : ℕ). digits 128 128 3 (n / 128) ++ x ∷ []) (zero-add (n % 128)) in
-          let is : lead t f 31 ∷ continued ds ≡ identifier_octets t f = ap (λ (xs : List ℕ). lead t f 31 ∷ xs) octets ∙ sym (identifier-high t f ge) in (
+          let octets : continued ds ≡ digits 128 128 3 (n / 128) ++ (n % 128) ∷ [] = ap continued parts ∙ marked 128 3
+          (n / 128) (0 + n % 128) [] ∙ ap (λ (x : ℕ). digits 128 128 3 (n / 128) ++ x ∷ []) (zero-add (n % 128)) in
+          let is : lead t f 31 ∷ continued ds ≡ identifier_octets t f = ap (λ (xs : List ℕ). lead t f 31 ∷ xs) octets ∙
+          sym (identifier-high t f ge) in (
             λ e. inr (ge, ds, best, e ∙ sym is),
             λ h. elim h [
               | inl (l, e) ↦ absurd (omega arith)
-              | inr (g, es, k, e) ↦ e ∙ ap (λ (xs : List ℕ). lead t f 31 ∷ continued xs) (one-shortest 128 n es ds k best) ∙ is
+              | inr (g, es, k, e) ↦ e ∙ ap (λ (xs : List ℕ). lead t f 31 ∷ continued xs)
+                  (one-shortest 128 n es ds k best) ∙ is
             ],
           )
     ]

@@ -1,5 +1,7 @@
 -- A tag's number in digits of base 128.
-use Rattle.std.proofs.Common.{◌≡◌, ℕ, zero, suc, ◌+◌, ◌-◌, ◌*◌, ◌/◌, ◌%◌, ◌^◌, ◌<◌, ◌≤◌, ◌⊎◌, List, [], ◌∷◌, ◌++◌, length, get_or, drop, add-zero, Ok, Err, refl, sym, ap, ◌∙◌, arith, inl, inr, append_assoc, length-append}
+use Rattle.std.proofs.Common.{◌≡◌, ℕ, zero, suc, ◌+◌, ◌-◌, ◌*◌, ◌/◌, ◌%◌, ◌^◌, ◌<◌, ◌≤◌, ◌⊎◌, List, [], ◌∷◌, ◌++◌}
+use Rattle.std.proofs.Common.{length, get_or, drop, add-zero, Ok, Err, refl, sym, ap, ◌∙◌, arith, inl, inr}
+use Rattle.std.proofs.Common.{append_assoc, length-append}
 use Rattle.std.proofs.lemmas.Bool.{cases_eq, cases_lt, ne_eqb, eq-eqb, lt-ltb, le-ltb}
 use Rattle.std.proofs.Math.Nat.{pow-zero, pow-suc}
 use Rattle.std.proofs.lemmas.List.{drop_more, drop_all}
@@ -29,7 +31,8 @@ unfolding number_at
 number-end k n b s lt ge = rw (lt-ltb b 128 lt, le-ltb (n * 128 + b) 31 ge) refl
 
 -- one octet that goes on
-number-more : (k n b : ℕ) (s : List ℕ) → 128 ≤ b → (n * 128 + (b - 128) ≡ 0 → ⊥) → number_at (suc k) n (b ∷ s) ≡ number_at k (n * 128 + (b - 128)) s
+number-more : (k n b : ℕ) (s : List ℕ) → 128 ≤ b → (n * 128 + (b - 128) ≡ 0 → ⊥)
+    → number_at (suc k) n (b ∷ s) ≡ number_at k (n * 128 + (b - 128)) s
 unfolding number_at
 number-more k n b s ge ne = rw (le-ltb b 128 ge, ne_eqb (n * 128 + (b - 128)) 0 ne) refl
 
@@ -42,7 +45,8 @@ unfolding number_at
 number-long k n b s ge eq = rw (le-ltb b 128 ge, eq-eqb (n * 128 + (b - 128)) 0 eq) refl
 
 -- the digits before are read
-number-feed : (k q i : ℕ) (s : List ℕ) → q < 128 ^ k → number_at (i + length (digits 128 128 k q)) 0 (digits 128 128 k q ++ s) ≡ number_at i q s
+number-feed : (k q i : ℕ) (s : List ℕ) → q < 128 ^ k
+    → number_at (i + length (digits 128 128 k q)) 0 (digits 128 128 k q ++ s) ≡ number_at i q s
 number-feed zero q i s lt =
     let e : q ≡ 0 = omega (arith, pow-zero 128) in rw (e, digits-zero 128 128 0, add-zero) refl
 number-feed (suc k) q i s lt =
@@ -53,8 +57,10 @@ number-feed (suc k) q i s lt =
           let same : q / 128 * 128 + (128 + q % 128 - 128) ≡ q = omega arith in
           let more = number-more i (q / 128) (128 + q % 128) s (omega arith) (λ z. ne (sym same ∙ z)) in
           let step : number_at (suc i) (q / 128) ((128 + q % 128) ∷ s) ≡ number_at i q s = rw same at more in
-          let size : i + length (digits 128 128 k (q / 128) ++ (128 + q % 128) ∷ []) ≡ suc i + length (digits 128 128 k (q / 128)) = rw length-append (omega arith) in
-          rw (digits-last 128 128 k q ne, size, append_assoc) (number-feed k (q / 128) (suc i) ((128 + q % 128) ∷ s) below ∙ step)
+          let size : i + length (digits 128 128 k (q / 128) ++ (128 + q % 128) ∷ []) ≡ suc i + length
+          (digits 128 128 k (q / 128)) = rw length-append (omega arith) in
+          rw (digits-last 128 128 k q ne, size, append_assoc)
+          (number-feed k (q / 128) (suc i) ((128 + q % 128) ∷ s) below ∙ step)
     ]
 
 -- what is written is read again, whatever follows
@@ -97,7 +103,8 @@ pub record IsNumber (n : ℕ) (p s r : List ℕ) : Type 0 where
   pub high : n < 2 ^ 28
 
 -- the octet that ends a number
-ends-so : (k n b : ℕ) (s : List ℕ) (m : ℕ) (r : List ℕ) → b < 128 → n < 128 ^ 3 → number_at (suc k) n (b ∷ s) ≡ Ok (m, r) → IsNumber m (digits 128 128 3 n) (b ∷ s) r
+ends-so : (k n b : ℕ) (s : List ℕ) (m : ℕ) (r : List ℕ) → b < 128 → n < 128 ^ 3
+    → number_at (suc k) n (b ∷ s) ≡ Ok (m, r) → IsNumber m (digits 128 128 3 n) (b ∷ s) r
 ends-so k n b s m r lt room e =
     elim (cases_lt (n * 128 + b) 31) [
       | inl small ↦ absurd (let h = sym (number-small k n b s lt small) ∙ e in cc)
@@ -110,11 +117,18 @@ ends-so k n b s m r lt room e =
     ]
 
 -- the octets of a number that goes on
-moves-on : (n m b : ℕ) (q s r : List ℕ) → q ≡ digits 128 128 3 n ++ b ∷ [] → IsNumber m q s r → IsNumber m (digits 128 128 3 n) (b ∷ s) r
-moves-on n m b q s r e h = record { octets = sym (append_assoc (digits 128 128 3 n) (b ∷ []) s) ∙ ap (λ (t : List ℕ). t ++ s) (sym e) ∙ h.octets; low = h.low; high = h.high }
+moves-on : (n m b : ℕ) (q s r : List ℕ) → q ≡ digits 128 128 3 n ++ b ∷ [] → IsNumber m q s r
+    → IsNumber m (digits 128 128 3 n) (b ∷ s) r
+moves-on n m b q s r e h = record {
+  octets = sym (append_assoc (digits 128 128 3 n) (b ∷ []) s) ∙ ap
+      (λ (t : List ℕ). t ++ s) (sym e) ∙ h.octets;
+  low = h.low;
+  high = h.high;
+}
 
 -- what is read was written so
-pub number-takes : (k i n : ℕ) (s : List ℕ) (m : ℕ) (r : List ℕ) → i + k ≡ 4 → n < 128 ^ i → IsBytes s → number_at k n s ≡ Ok (m, r) → IsNumber m (digits 128 128 3 n) s r
+pub number-takes : (k i n : ℕ) (s : List ℕ) (m : ℕ) (r : List ℕ) → i + k ≡ 4 → n < 128 ^ i → IsBytes s
+    → number_at k n s ≡ Ok (m, r) → IsNumber m (digits 128 128 3 n) s r
 number-takes zero i n s m r four lt bytes e = absurd (let h : number_at 0 n s ≡ Err BadTag = number-none n s in cc)
 number-takes (suc k) i n [] m r four lt bytes e = absurd (let h = number-empty k n in cc)
 number-takes (suc zero) i n (b ∷ s) m r four lt bytes e =
@@ -136,7 +150,8 @@ number-takes (suc (suc k)) i n (b ∷ s) m r four lt bytes e =
                 let byte : b < 256 = bytes 0 in
                 let next : n * 128 + (b - 128) < 128 ^ suc i = rw pow-suc (omega arith) in
                 moves-on n m b _ s r (more-digit i n b (omega arith) lt ge byte ne)
-                (number-takes (suc k) (suc i) (n * 128 + (b - 128)) s m r (omega arith) next (IsBytes-rest b s bytes) (sym (number-more (suc k) n b s ge ne) ∙ e))
+                (number-takes (suc k) (suc i) (n * 128 + (b - 128)) s m r (omega arith) next (IsBytes-rest b s bytes)
+                (sym (number-more (suc k) n b s ge ne) ∙ e))
           ]
     ]
 
@@ -154,12 +169,14 @@ number-stays (suc k) n (b ∷ s) t e =
       | inr ge ↦
           elim (cases_eq (n * 128 + (b - 128)) 0) [
             | inl z ↦ number-long k n b (s ++ t) ge z
-            | inr ne ↦ number-more k n b (s ++ t) ge ne ∙ number-stays k (n * 128 + (b - 128)) s t (sym (number-more k n b s ge ne) ∙ e)
+            | inr ne ↦ number-more k n b (s ++ t) ge ne ∙ number-stays k (n * 128 + (b - 128)) s t
+                (sym (number-more k n b s ge ne) ∙ e)
           ]
     ]
 
 -- a number that isn't all there goes on to one that is
-pub number-completes : (k n : ℕ) (s : List ℕ) → number_at k n s ≡ Err Truncated → (m : ℕ) × (number_at k n (s ++ 127 ∷ []) ≡ Ok (m, []))
+pub number-completes : (k n : ℕ) (s : List ℕ) → number_at k n s ≡ Err Truncated
+    → (m : ℕ) × (number_at k n (s ++ 127 ∷ []) ≡ Ok (m, []))
 number-completes zero n s e = absurd (let h = number-none n s in cc)
 number-completes (suc k) n [] e = (n * 128 + 127, number-end k n 127 [] (omega arith) (omega arith))
 number-completes (suc k) n (b ∷ s) e =
@@ -207,22 +224,30 @@ left-is s i lt = drop_more s i 0 lt
 pub turn-empty : (i n : ℕ) (s : List ℕ) → i < 4 → length s ≤ i → number_at (4 - i) n (drop i s) ≡ Err Truncated
 turn-empty i n s lt le = rw (room-is i lt, drop_all i s le) (number-empty (4 - (i + 1)) n)
 
-pub turn-small : (i n : ℕ) (s : List ℕ) → i < 4 → i < length s → get_or s i 0 < 128 → n * 128 + get_or s i 0 % 128 < 31 → number_at (4 - i) n (drop i s) ≡ Err BadTag
-turn-small i n s lt at low small = rw (room-is i lt, left-is s i at) (number-small (4 - (i + 1)) n (get_or s i 0) (drop (i + 1) s) low (omega arith))
+pub turn-small : (i n : ℕ) (s : List ℕ) → i < 4 → i < length s → get_or s i 0 < 128 → n * 128 + get_or s i 0 % 128 < 31
+    → number_at (4 - i) n (drop i s) ≡ Err BadTag
+turn-small i n s lt at low small =
+    rw (room-is i lt, left-is s i at) (number-small (4 - (i + 1)) n (get_or s i 0) (drop (i + 1) s) low (omega arith))
 
-pub turn-end : (i n : ℕ) (s : List ℕ) → i < 4 → i < length s → get_or s i 0 < 128 → 31 ≤ n * 128 + get_or s i 0 % 128 → number_at (4 - i) n (drop i s) ≡ Ok (n * 128 + get_or s i 0 % 128, drop (i + 1) s)
+pub turn-end : (i n : ℕ) (s : List ℕ) → i < 4 → i < length s → get_or s i 0 < 128 → 31 ≤ n * 128 + get_or s i 0 % 128
+    → number_at (4 - i) n (drop i s) ≡ Ok (n * 128 + get_or s i 0 % 128, drop (i + 1) s)
 turn-end i n s lt at low ge =
     let same : n * 128 + get_or s i 0 % 128 ≡ n * 128 + get_or s i 0 = omega arith in
-    rw (room-is i lt, left-is s i at, same) (number-end (4 - (i + 1)) n (get_or s i 0) (drop (i + 1) s) low (omega arith))
+    rw (room-is i lt, left-is s i at, same)
+    (number-end (4 - (i + 1)) n (get_or s i 0) (drop (i + 1) s) low (omega arith))
 
-pub turn-long : (i n : ℕ) (s : List ℕ) → i < 4 → i < length s → 128 ≤ get_or s i 0 → get_or s i 0 < 256 → n * 128 + get_or s i 0 % 128 ≡ 0 → number_at (4 - i) n (drop i s) ≡ Err BadTag
-turn-long i n s lt at high byte z = rw (room-is i lt, left-is s i at) (number-long (4 - (i + 1)) n (get_or s i 0) (drop (i + 1) s) high (omega arith))
+pub turn-long : (i n : ℕ) (s : List ℕ) → i < 4 → i < length s → 128 ≤ get_or s i 0 → get_or s i 0 < 256
+    → n * 128 + get_or s i 0 % 128 ≡ 0 → number_at (4 - i) n (drop i s) ≡ Err BadTag
+turn-long i n s lt at high byte z =
+    rw (room-is i lt, left-is s i at) (number-long (4 - (i + 1)) n (get_or s i 0) (drop (i + 1) s) high (omega arith))
 
-pub turn-more : (i n : ℕ) (s : List ℕ) → i < 4 → i < length s → 128 ≤ get_or s i 0 → get_or s i 0 < 256 → (n * 128 + get_or s i 0 % 128 ≡ 0 → ⊥)
+pub turn-more : (i n : ℕ) (s : List ℕ) → i < 4 → i < length s → 128 ≤ get_or s i 0 → get_or s i 0 < 256
+    → (n * 128 + get_or s i 0 % 128 ≡ 0 → ⊥)
     → number_at (4 - i) n (drop i s) ≡ number_at (4 - (i + 1)) (n * 128 + get_or s i 0 % 128) (drop (i + 1) s)
 turn-more i n s lt at high byte ne =
     let same : n * 128 + get_or s i 0 % 128 ≡ n * 128 + (get_or s i 0 - 128) = omega arith in
-    rw (room-is i lt, left-is s i at, same) (number-more (4 - (i + 1)) n (get_or s i 0) (drop (i + 1) s) high (λ z. ne (same ∙ z)))
+    rw (room-is i lt, left-is s i at, same)
+    (number-more (4 - (i + 1)) n (get_or s i 0) (drop (i + 1) s) high (λ z. ne (same ∙ z)))
 
 pub turn-done : (i n : ℕ) (s : List ℕ) → 4 ≤ i → number_at (4 - i) n s ≡ Err BadTag
 turn-done i n s le = let z : 4 - i ≡ 0 = omega arith in rw z (number-none n s)

@@ -9,13 +9,15 @@ use Rattle.rpki_der.specs.Composed.{ReadsAll}
 use Rattle.rpki_der.proofs.ReadingLaws.{UnlessMemory-weaker}
 
 -- a reader of a beginning
-pub tried-refused : {X V : Type 0} (view : X → V) (G : V → List ℕ → Type 0) (K : List ℕ → DecodeError → Type 0) (s r : List ℕ) (d : DecodeError) (x : Result X DecodeError)
+pub tried-refused : {X V : Type 0} (view : X → V) (G : V → List ℕ → Type 0) (K : List ℕ → DecodeError → Type 0)
+    (s r : List ℕ) (d : DecodeError) (x : Result X DecodeError)
     → IsErr x × IsErrAnd x (λ e. e ≡ d) → Refusal G K s r d → Reads view G K s r x
 tried-refused view G K s r d (Ok x) h k = absurd h.1
 tried-refused view G K s r d (Err e) h k = subst (λ q. Refusal G K s r q) (sym h.1) k
 
 -- a reader of the whole
-pub tried-nothing : {X V : Type 0} (view : X → V) (G : V → List ℕ → Type 0) (K : List ℕ → DecodeError → Type 0) (s : List ℕ) (d : DecodeError) (x : Result X DecodeError)
+pub tried-nothing : {X V : Type 0} (view : X → V) (G : V → List ℕ → Type 0) (K : List ℕ → DecodeError → Type 0)
+    (s : List ℕ) (d : DecodeError) (x : Result X DecodeError)
     → IsErr x × IsErrAnd x (λ e. e ≡ d) → UnlessMemory d (SpellsNothing G s) × K s d → Decodes view G K s x
 tried-nothing view G K s d (Ok x) h k = absurd h.1
 tried-nothing view G K s d (Err e) h k = subst (λ q. UnlessMemory q (SpellsNothing G s) × K s q) (sym h.1) k
@@ -23,14 +25,10 @@ tried-nothing view G K s d (Err e) h k = subst (λ q. UnlessMemory q (SpellsNoth
 -- ---- a function that is no reader
 
 -- what it says of its error
-pub tried-error : {X E : Type 0} (P : E → Type 0) (d : E) (x : Result X E) → IsErr x × IsErrAnd x (λ e. e ≡ d) → P d → IfErr x P
+pub tried-error : {X E : Type 0} (P : E → Type 0) (d : E) (x : Result X E) → IsErr x × IsErrAnd x (λ e. e ≡ d) → P d
+    → IfErr x P
 tried-error P d (Ok x) h k = absurd h.1
 tried-error P d (Err e) h k = subst P (sym h.1) k
-
--- one whose contract says of each error the same, by `MatchResult`
-pub tried-match : {X E : Type 0} (P : X → Type 0) (Q : Type 0) (F : E → Type 0) (x : Result X E) → IsErr x × IsErrAnd x F → Q → MatchResult x P (λ e. Q)
-tried-match P Q F (Ok x) h q = absurd h.1
-tried-match P Q F (Err e) h q = q
 
 -- the same of an error that is written out: an `Err` is not `IsOk`
 pub refused-iff : (V : Type 0) → (V → ⊥) → (◌≡◌ {A = Bool} false true) ↔ V

@@ -1,5 +1,6 @@
 -- Headers as whole lists of octets (X.690 8.1.2, 8.1.3 and 10.1).
-use Rattle.std.specs.Prelude.{ℕ, zero, suc, Bool, true, false, ◌+◌, ◌*◌, ◌/◌, ◌%◌, ◌^◌, ◌<◌, ◌==◌, nat_lt, if◌then◌else◌, List, [], ◌∷◌, ◌++◌, length}
+use Rattle.std.specs.Prelude.{ℕ, zero, suc, Bool, true, false, ◌+◌, ◌*◌, ◌/◌, ◌%◌, ◌^◌, ◌<◌, ◌==◌, nat_lt}
+use Rattle.std.specs.Prelude.{if◌then◌else◌, List, [], ◌∷◌, ◌++◌, length}
 use Rattle.rpki_der.specs.declared.tag.Class.{Class}
 use Rattle.rpki_der.specs.declared.tag.Class.TheVariants.{Universal, Application, Context, Private}
 use Rattle.rpki_der.specs.declared.tag.Header.{Header}

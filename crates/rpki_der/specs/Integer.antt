@@ -19,6 +19,10 @@ pub record IsUnsignedBelow (bound n : ℕ) (c : List ℕ) : Type 0 where
   pub below : n < bound
   pub contents : IsUnsigned n c
 
+-- the contents of the INTEGER of this number and no other
+abbrev pub IsNumber : ℕ → Unit {0} → List ℕ → Type 0
+IsNumber n v c = IsUnsigned n c
+
 -- octets with the first bit 0 of which none can be left out: at least one, and the first nine bits aren't all 0
 pub record IsMinimal (c : List ℕ) : Type 0 where
   pub nonempty : 0 < length c

@@ -8,7 +8,8 @@ use Rattle.rpki_der.specs.Cursor.{left}
 -- f may be called at any cursor, with what can keep the octets that are left
 abbrev pub TakesKept : {F K R : Type 0} → (K → List ℕ → Type 0)
     → Once F (MutBor Constructed × (K × Unit {0})) (R × (MutBor Constructed × Unit {0})) → F → Type 0
-TakesKept {F} {K} holds g f = (keep : K) (shown : MutBor Constructed) → holds keep (left shown.now) → g.pre f (shown, (keep, tt))
+TakesKept {F} {K} holds g f =
+    (keep : K) (shown : MutBor Constructed) → holds keep (left shown.now) → g.pre f (shown, (keep, tt))
 
 -- a call of f at the cursor b, with what can keep the octets that are left, may return x and leave the cursor a
 pub record KeptReads {F K R : Type 0} (holds : K → List ℕ → Type 0)
@@ -25,7 +26,8 @@ pub record KeptReads {F K R : Type 0} (holds : K → List ℕ → Type 0)
 -- the same of a reader that is called many times
 abbrev pub TakesEachKept : {F K R : Type 0} → (K → List ℕ → Type 0)
     → Shared F (MutBor Constructed × (K × Unit {0})) (R × (MutBor Constructed × Unit {0})) → F → Type 0
-TakesEachKept {F} {K} holds g f = (keep : K) (shown : MutBor Constructed) → holds keep (left shown.now) → g.pre f (shown, (keep, tt))
+TakesEachKept {F} {K} holds g f =
+    (keep : K) (shown : MutBor Constructed) → holds keep (left shown.now) → g.pre f (shown, (keep, tt))
 
 pub record KeptCallReads {F K R : Type 0} (holds : K → List ℕ → Type 0)
     (g : Shared F (MutBor Constructed × (K × Unit {0})) (R × (MutBor Constructed × Unit {0}))) (f : F) (b : Constructed)

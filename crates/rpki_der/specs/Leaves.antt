@@ -1,5 +1,6 @@
 -- Contents of leaf values (X.690 8.6, 8.8, 8.19, 11.2).
-use Rattle.std.specs.Prelude.{ℕ, Bool, true, false, ◌≡◌, ◌≢◌, ◌+◌, ◌-◌, ◌%◌, ◌^◌, ◌<◌, List, [], ◌∷◌, length, slice_index}
+use Rattle.std.specs.Prelude.{ℕ, Bool, true, false, ◌≡◌, ◌≢◌, ◌+◌, ◌-◌, ◌%◌, ◌^◌, ◌<◌, List, [], ◌∷◌, length}
+use Rattle.std.specs.Prelude.{slice_index}
 
 -- NULL has no contents (X.690 8.8.2)
 abbrev pub IsNull : Unit {0} → List ℕ → Type 0
@@ -8,6 +9,10 @@ IsNull v c = c ≡ []
 -- these contents and no others
 abbrev pub IsOnly : List ℕ → Unit {0} → List ℕ → Type 0
 IsOnly expected v c = c ≡ expected
+
+-- this many octets, which stand for themselves
+abbrev pub IsSized : ℕ → List ℕ → List ℕ → Type 0
+IsSized size octets c = (c ≡ octets) × (length c ≡ size)
 
 -- a bit string: octets, and how many bits of the last aren't used
 pub record Bits : Type 0 where

@@ -44,6 +44,9 @@ pub mod Each
 pub mod Capture
 pub mod Parts
 pub mod DefaultFalse
+pub mod Format
+pub mod LeafFormats
+pub mod Fold
 -- Lemmas, which the prover checks: ghost items of impls cite them.
 pub mod NumberLaws
 pub mod EqualLaws
@@ -51,3 +54,5 @@ pub mod ValueListLaws
 pub mod TreeLaws
 pub mod KindLaws
 pub mod StandingLaws
+-- One import line for crates above.
+pub mod Prelude

@@ -1,6 +1,7 @@
 //! A cursor over octets.
 
-ghost use Rattle.std.specs.Prelude.{◌≡◌, ◌≢◌, ◌≤◌, ◌<◌, ◌+◌, ◌-◌, ◌^◌, ℕ, List, [], length, take, drop, IsTrue, ◌↔◌, MatchResult, IfOk, IfErr, IfSome};
+ghost use Rattle.std.specs.Prelude.{◌≡◌, ◌≢◌, ◌≤◌, ◌<◌, ◌+◌, ◌-◌, ◌^◌, ℕ, List, [], length, take, drop, IsTrue, ◌↔◌};
+ghost use Rattle.std.specs.Prelude.{MatchResult, IfOk, IfErr, IfSome};
 ghost use Rattle.rpki_der.specs.Reading.{Reads};
 ghost use Rattle.rpki_der.specs.Values.{SpellsContents, IsContentsFault};
 

@@ -2,6 +2,7 @@
 
 ghost use Rattle.rpki_der.specs.Cursor.{left};
 ghost use Rattle.rpki_der.specs.Each.{CallReads, ReadsEach};
+ghost use Rattle.rpki_der.specs.Fold.{CallFolds, Folds};
 
 use crate::cursor::Constructed;
 use crate::error::DecodeError;
@@ -36,5 +37,33 @@ impl<'a> Constructed<'a> {
         }
         *self = rest;
         Ok(values)
+    }
+
+    /// The state that the values of what is left lead to, one after another, until nothing is left: `op` reads one and
+    /// returns the next state, beginning with `first`. So attributes or extensions are read of which each kind stands
+    /// once at most, in any order. There may be none.
+    ///
+    /// Returns the error of `op`; `Trailing` where `op` returns a state and the cursor hasn't moved on. An error leaves
+    /// the cursor where it was.
+    pub fn fold_each<
+        S: Drop,
+        E: Drop + From<DecodeError>,
+        F: Fn(&mut Constructed<'a>, S) -> Result<S, E>,
+    >(&mut self, first: S, op: F) -> Result<S, E>
+        requires { F.IsAlwaysCallable op }
+        ensures { Folds (λ c e. E.from_gives c e) (CallFolds F.Fn op) first (left self.old) (left self.new) result }
+    {
+        let mut rest = *self;
+        let mut state = first;
+        'values: while !rest.is_empty() {
+            let before = rest.len();
+            let next = op(&mut rest, state)?;
+            if rest.len() >= before {
+                return Err(E::from(DecodeError::Trailing));
+            }
+            state = next;
+        }
+        *self = rest;
+        Ok(state)
     }
 }

@@ -1,8 +1,9 @@
 //! Non-negative INTEGERs.
 
-ghost use Rattle.std.specs.Prelude.{false, ◌≡◌, ◌≢◌, ◌<◌, ◌≤◌, ◌^◌, ◌↔◌, ℕ, [], length, drop, IfOk, IfErr, IfSome, IfNone};
+ghost use Rattle.std.specs.Prelude.{false, ◌≡◌, ◌≢◌, ◌<◌, ◌≤◌, ◌^◌, ◌↔◌, ℕ, IsTrue, [], length, drop, IfOk, IfErr};
+ghost use Rattle.std.specs.Prelude.{IfSome, IfNone};
 ghost use Rattle.rpki_der.specs.Number.{number_of};
-ghost use Rattle.rpki_der.specs.Integer.{IsUnsigned, IsUnsignedBelow, IsMagnitude};
+ghost use Rattle.rpki_der.specs.Integer.{IsUnsigned, IsUnsignedBelow, IsNumber, IsMagnitude};
 
 use crate::cursor::Constructed;
 use crate::error::DecodeError;
@@ -148,6 +149,27 @@ fn u8_of(contents: &[u8]) -> Option<u8>
     }
 }
 
+/// The number whose INTEGER has these contents, if it is below 2^32 and none of its octets can be left out.
+fn u32_of(contents: &[u8]) -> Option<u32>
+    ensures value { IfSome result (λ n. IsUnsignedBelow (2 ^ 32) n contents.now) }
+    ensures none { IfNone result ((n : ℕ) → IsUnsignedBelow (2 ^ 32) n contents.now → ⊥) }
+{
+    match u64_of(contents) {
+        Some(number) if number < 4_294_967_296 => Some(number as u32),
+        _ => None,
+    }
+}
+
+/// Whether these are the contents of the INTEGER of this number.
+fn is_number(contents: &[u8], expected: u8) -> bool
+    ensures { IsTrue result ↔ IsUnsigned expected contents.now }
+{
+    match u8_of(contents) {
+        Some(number) => number == expected,
+        None => false,
+    }
+}
+
 impl<'a> Constructed<'a> {
     ghost use Rattle.rpki_der.specs.Cursor.{left};
     ghost use Rattle.rpki_der.specs.TagName.{integer};
@@ -186,6 +208,38 @@ impl<'a> Constructed<'a> {
             }
             None => Err(DecodeError::content("malformed INTEGER, or one of 2^64 or more")),
         }
+    }
+
+    /// A non-negative INTEGER (X.690 8.3) below 2^32, as the number of an autonomous system (RFC 6793).
+    ///
+    /// The errors are those of [Constructed::take_unsigned]; `Content` also for a number of 2^32 or more.
+    pub fn take_u32(&mut self) -> Result<u32, DecodeError>
+        ensures { ReadsLeaf (λ n. n) integer (IsUnsignedBelow (2 ^ 32)) (left self.old) (left self.new) result }
+    {
+        let mut after = *self;
+        let contents = after.take_contents(Tag::INTEGER, false)?;
+        match u32_of(contents.rest()) {
+            Some(number) => {
+                *self = after;
+                Ok(number)
+            }
+            None => Err(DecodeError::content("malformed INTEGER, or one of 2^32 or more")),
+        }
+    }
+
+    /// Moves past exactly this INTEGER (X.690 8.3), as the version of a structure.
+    ///
+    /// The errors are those of [Constructed::take_unsigned]; `Content` also for another number.
+    pub fn skip_u8_if(&mut self, expected: u8) -> Result<(), DecodeError>
+        ensures { ReadsLeaf (λ _. tt) integer (IsNumber expected) (left self.old) (left self.new) result }
+    {
+        let mut after = *self;
+        let contents = after.take_contents(Tag::INTEGER, false)?;
+        if !is_number(contents.rest(), expected) {
+            return Err(DecodeError::content("unexpected INTEGER"));
+        }
+        *self = after;
+        Ok(())
     }
 
     /// A non-negative INTEGER (X.690 8.3) below 2^8, as a version or the length of a path.

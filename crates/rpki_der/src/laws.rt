@@ -1,7 +1,9 @@
 //! Laws of headers, of values, of their members and of leaves: each function does nothing, and its contract is the law.
 
 ghost use Rattle.std.specs.Prelude.{◌↔◌, ◌≡◌, ◌≢◌, ◌<◌, ◌^◌, ◌*◌, ◌≤◌, ◌⊎◌, ℕ, List, [], ◌∷◌, ◌++◌, length};
-ghost use Rattle.rpki_der.specs.LeafLaws.{NullReadBack, BooleansReadBack, NumbersReadBack, IdentifiersReadBack, OctetsReadBack, BitsReadBack, BooleansApart, NumbersApart, IdentifiersApart, OctetsApart, BitsApart};
+ghost use Rattle.rpki_der.specs.LeafLaws.{NullReadBack, BooleansReadBack, NumbersReadBack, IdentifiersReadBack};
+ghost use Rattle.rpki_der.specs.LeafLaws.{OctetsReadBack, BitsReadBack, BooleansApart, NumbersApart, IdentifiersApart};
+ghost use Rattle.rpki_der.specs.LeafLaws.{OctetsApart, BitsApart};
 ghost use Rattle.rpki_der.specs.Reading.{Spells, Accepts};
 ghost use Rattle.rpki_der.specs.Number.{AreOctets};
 ghost use Rattle.rpki_der.specs.Header.{identifier_octets, length_octets, tlv};
@@ -15,7 +17,8 @@ ghost use Rattle.rpki_der.specs.Text.{IsPrintableText, IsUtf8Text, IsIa5Text};
 ghost use Rattle.rpki_der.specs.DefaultFalse.{IsTrueFault};
 ghost use Rattle.rpki_der.specs.Error.{HasOneKind, HasOneError};
 ghost use Rattle.std.specs.Prelude.{Bool, Option, false};
-ghost use Rattle.rpki_der.specs.TagName.{TagName, IsTag, boolean, integer, bit_string, octet_string, null, oid, utf8_string, printable_string, ia5_string, named_tags};
+ghost use Rattle.rpki_der.specs.TagName.{TagName, IsTag, boolean, integer, bit_string, octet_string, null, oid};
+ghost use Rattle.rpki_der.specs.TagName.{utf8_string, printable_string, ia5_string, named_tags};
 ghost use Rattle.rpki_der.specs.Members.{Members, spell, HaveHeaders, IsValue, IsValueOf, SpellsValue};
 ghost use Rattle.rpki_der.specs.NestedFault.{IsNestedFault};
 ghost use Rattle.rpki_der.specs.declared.error.DecodeError.{DecodeError};

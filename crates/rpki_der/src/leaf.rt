@@ -24,7 +24,7 @@ impl<'a> Constructed<'a> {
     ghost use Rattle.rpki_der.specs.TagName.{null, boolean, octet_string};
     ghost use Rattle.rpki_der.specs.Reading.{Reads, ReadsWhere};
     ghost use Rattle.rpki_der.specs.Values.{SpellsContents, HasTag, IsContentsFault, ReadsLeaf, ReadsLeafWhere};
-    ghost use Rattle.rpki_der.specs.Leaves.{IsNull, IsBoolean};
+    ghost use Rattle.rpki_der.specs.Leaves.{IsNull, IsBoolean, IsSized};
     ghost use Rattle.rpki_der.specs.DefaultFalse.{SpellsTrue, IsTrueFault, written};
 
     /// A NULL (X.690 8.8).
@@ -108,6 +108,23 @@ impl<'a> Constructed<'a> {
         }
         *self = after;
         Ok(true)
+    }
+
+    /// The octets of an OCTET STRING (X.690 8.7) of exactly `N` octets, as a digest or a key identifier.
+    ///
+    /// The errors are those of [Constructed::take_octets]; then `Content` for another number of octets.
+    pub fn take_octet_array<const N: usize>(&mut self) -> Result<[u8; N], DecodeError>
+        ensures { ReadsLeaf (λ a. a) octet_string (IsSized N) (left self.old) (left self.new) result }
+    {
+        let mut after = *self;
+        let contents = after.take_contents(Tag::OCTET_STRING, false)?;
+        match <[u8; N]>::try_from(contents.rest()) {
+            Ok(octets) => {
+                *self = after;
+                Ok(octets)
+            }
+            Err(_) => Err(DecodeError::content("OCTET STRING of another size")),
+        }
     }
 
     /// The octets of an OCTET STRING (X.690 8.7) in primitive form.

@@ -1,6 +1,7 @@
 //! The members of captured values, by their entries in the index.
 
-ghost use Rattle.std.specs.Prelude.{◌≡◌, ◌+◌, ◌<◌, ℕ, ⊤, Some, None, List, length, drop, IfSome, slice_get, slice_range};
+ghost use Rattle.std.specs.Prelude.{◌≡◌, ◌+◌, ◌<◌, ℕ, ⊤, Some, None, List, length, drop, IfSome, slice_get};
+ghost use Rattle.std.specs.Prelude.{slice_range};
 ghost use Rattle.std.specs.List.{AllByRecursion};
 ghost use Rattle.rpki_der.specs.Index.{Entry, IsIndex, StandsAt};
 ghost use Rattle.rpki_der.specs.IndexMembers.{member_numbers, HasEntry};

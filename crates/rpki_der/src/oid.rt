@@ -5,7 +5,9 @@ ghost use Rattle.rpki_der.specs.Leaves.{IsOid};
 
 use crate::cursor::Constructed;
 use crate::error::DecodeError;
+use crate::keep::Keep;
 use crate::tag::Tag;
+use bytes::Bytes;
 
 /// An object identifier by its contents octets (X.690 8.19). One that is read is valid; one made by hand may be
 /// invalid, and is written unchanged.
@@ -72,6 +74,8 @@ impl<'a> Constructed<'a> {
     ghost use Rattle.rpki_der.specs.TagName.{oid};
     ghost use Rattle.rpki_der.specs.Values.{ReadsLeaf};
     ghost use Rattle.rpki_der.specs.Leaves.{IsOnly, IsOidOf};
+    ghost use Rattle.rpki_der.specs.Format.{Takes, kept};
+    ghost use Rattle.rpki_der.specs.LeafFormats.{any_oid};
 
     /// An object identifier (X.690 8.19): its contents octets.
     ///
@@ -89,6 +93,24 @@ impl<'a> Constructed<'a> {
         }
         *self = after;
         Ok(Oid(contents.rest()))
+    }
+
+    /// An object identifier (X.690 8.19), whose octets are kept. An allocator copies them, and [Shared](crate::Shared)
+    /// shares them; requires that `keep` can keep parts of what is left.
+    ///
+    /// The errors are those of [Constructed::take_oid]; then `OutOfMemory` if allocation fails.
+    pub fn take_oid_bytes<K: Keep>(&mut self, keep: K) -> Result<Oid<Bytes>, DecodeError>
+        requires { K.holds keep (left self.old) }
+        ensures { Takes (λ o. o.0) (kept any_oid) (left self.old) (left self.new) result }
+    {
+        let mut after = *self;
+        let contents = after.take_contents(Tag::OID, false)?;
+        if !is_oid(contents.rest()) {
+            return Err(DecodeError::content("malformed object identifier"));
+        }
+        let bytes = self.keep_part(keep, contents.rest(), &after)?;
+        *self = after;
+        Ok(Oid(bytes))
     }
 
     /// Moves past exactly this object identifier. One that is not valid is matched by its octets alone.

@@ -66,7 +66,8 @@ impl<'a> Constructed<'a> {
     ghost use Rattle.rpki_der.specs.TagName.{sequence, set};
     ghost use Rattle.rpki_der.specs.Reading.{Reads, ReadsWhere, ReadsKept, Accepts};
     ghost use Rattle.rpki_der.specs.Values.{SpellsContents, HasTag, IsContentsFault};
-    ghost use Rattle.rpki_der.specs.WantedValue.{SpellsWanted, IsAnyTag, IsPrimitive, IsTagged, ReadsWanted, ReadsTaggedWhere};
+    ghost use Rattle.rpki_der.specs.WantedValue.{SpellsWanted, IsAnyTag, IsPrimitive, IsTagged, ReadsWanted};
+    ghost use Rattle.rpki_der.specs.WantedValue.{ReadsTaggedWhere};
 
     /// A value that is wanted, where its header is two octets: its tag, its form, a cursor on its contents, and one on
     /// what follows.

@@ -3,13 +3,15 @@
 //! The contents of a constructed value are values that fill them (X.690 8.1.2.5), to any depth. Only structure counts:
 //! the contents of a primitive value are passed over by their length.
 
-ghost use Rattle.std.specs.Prelude.{◌≡◌, ◌+◌, ◌-◌, ◌*◌, ◌^◌, ◌<◌, ◌≤◌, ◌⊎◌, ℕ, List, [], length, take, drop, Ok, Err, IfOk, IfErr, IfSome, OnErr, ◌++◌, ◌∷◌, true, false};
+ghost use Rattle.std.specs.Prelude.{◌≡◌, ◌+◌, ◌-◌, ◌*◌, ◌^◌, ◌<◌, ◌≤◌, ◌⊎◌, ℕ, List, [], length, take, drop, Ok, Err};
+ghost use Rattle.std.specs.Prelude.{IfOk, IfErr, IfSome, OnErr, ◌++◌, ◌∷◌, true, false};
 ghost use Rattle.rpki_der.specs.declared.error.DecodeError.{DecodeError};
 ghost use Rattle.rpki_der.specs.Reading.{Spells, Accepts, Refusal, Reads, ReadsWhere, OrMemoryWhere};
 ghost use Rattle.rpki_der.specs.Values.{SpellsHeader};
 ghost use Rattle.rpki_der.specs.Members.{IsValueOf, SpellsValue};
 ghost use Rattle.rpki_der.specs.NestedFault.{IsNestedFault, IsCaptureFault};
-ghost use Rattle.rpki_der.specs.Walk.{IsNotEmpty, HasConstructed, HasEither, TakesMemory, SpellsAnyValue, CountsHeaders};
+ghost use Rattle.rpki_der.specs.Walk.{IsNotEmpty, HasConstructed, HasEither, TakesMemory, SpellsAnyValue};
+ghost use Rattle.rpki_der.specs.Walk.{CountsHeaders};
 ghost use Rattle.rpki_der.specs.IndexParts.{IsListed, IsEnd, noted, name_of};
 
 use crate::captured::Captured;

@@ -7,6 +7,7 @@ mod encoders;
 mod headers;
 mod index;
 mod keeping;
+mod objects;
 mod readers;
 mod verbs;
 mod walks;

@@ -1,12 +1,9 @@
 -- Signed data that a key has signed, as a provider's checks say.
 use Rattle.std.specs.Prelude.{ℕ, List}
 use Rattle.rpki_der.specs.declared.error.DecodeError.{DecodeError}
-use Rattle.rpki_der.specs.Reading.{SpellsNothing, UnlessMemory, IsWholeFault}
+use Rattle.rpki_der.specs.Prelude.{SpellsNothing, UnlessMemory, IsWholeFault}
+use Rattle.rpki.specs.Prelude.{Check, Verifies, KeyParts, SignedParts, SpellsSigned, IsSignedFault}
 use Rattle.rpki.specs.declared.crypto.keys.PublicKeyFormat.{PublicKeyFormat}
-use Rattle.rpki.specs.Provider.{Check, Verifies}
-use Rattle.rpki.specs.PublicKey.{KeyParts}
-use Rattle.rpki.specs.SignedData.{SignedParts, SpellsSigned}
-use Rattle.rpki.specs.SignedFault.{IsSignedFault}
 use Rattle.rpki_examples.specs.declared.verification.Unverified.{Unverified}
 use Rattle.rpki_examples.specs.declared.verification.Unverified.TheVariants.{Malformed, NotSigned}
 

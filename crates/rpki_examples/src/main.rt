@@ -3,8 +3,7 @@
 //! these files.
 #![tactic(auto)]
 
-ghost use Rattle.rpki_der.specs.Cursor.{left};
-ghost use Rattle.rpki_der.specs.Sharing.{CanShare};
+ghost use Rattle.rpki_der.specs.Prelude.{left, CanShare};
 
 mod number_list;
 mod own_algorithm;

@@ -7,10 +7,8 @@
 //!     numbers  SEQUENCE OF INTEGER (0..18446744073709551615) }
 //! ```
 
-ghost use Rattle.rpki_der.specs.Cursor.{left};
-ghost use Rattle.rpki_der.specs.Reading.{Reads};
-ghost use Rattle.rpki_der.specs.FirstFault.{ReadsParts};
-ghost use Rattle.rpki_examples.specs.NumberList.{parts_of, SpellsVersion, IsVersionFault, SpellsEachNumber, IsEachNumberFault, SpellsNumbers, IsNumbersFault, AreParts, ArePartsFault, SpellsNumberList, IsNumberListFault};
+ghost use Rattle.rpki_der.specs.Prelude.{left, Takes, TakesAll};
+ghost use Rattle.rpki_examples.specs.NumberList.{parts_of, version, each_number, numbers, parts, number_list};
 
 use rpki::der::{Class, Constructed, DecodeError, Oid, Tag};
 use std::alloc::Global;
@@ -28,22 +26,21 @@ pub struct NumberList<'a> {
 
 /// The version: an INTEGER below 2^8 under the explicit context tag 0 (X.690 8.14).
 fn take_version(cons: &mut Constructed<'_>) -> Result<u8, DecodeError>
-    ensures { Reads (λ n. n) SpellsVersion IsVersionFault (left cons.old) (left cons.new) result }
+    ensures { Takes (λ n. n) version (left cons.old) (left cons.new) result }
 {
     cons.in_constructed(Tag::new(Class::Context, 0), |contents| contents.take_u8())
 }
 
 /// The numbers that these contents are, one after another (X.690 8.10).
 fn take_each_number(alloc: Global, contents: &mut Constructed<'_>) -> Result<Vec<u64>, DecodeError>
-    ensures { ReadsParts (λ v. v.items) SpellsEachNumber IsEachNumberFault (left contents.old) (left contents.new)
-        result }
+    ensures { TakesAll (λ v. v.items) each_number (left contents.old) (left contents.new) result }
 {
     contents.take_each(alloc, |rest| rest.take_u64())
 }
 
 /// A SEQUENCE OF numbers.
 fn take_numbers(alloc: Global, cons: &mut Constructed<'_>) -> Result<Vec<u64>, DecodeError>
-    ensures { Reads (λ v. v.items) SpellsNumbers IsNumbersFault (left cons.old) (left cons.new) result }
+    ensures { Takes (λ v. v.items) numbers (left cons.old) (left cons.new) result }
 {
     cons.in_sequence(|contents| take_each_number(alloc, contents))
 }
@@ -57,11 +54,11 @@ impl<'a> NumberList<'a> {
         alloc: Global,
         cons: &mut Constructed<'a>,
     ) -> Result<NumberList<'a>, DecodeError>
-        ensures { Reads parts_of SpellsNumberList IsNumberListFault (left cons.old) (left cons.new) result }
+        ensures { Takes parts_of number_list (left cons.old) (left cons.new) result }
     {
         cons.in_sequence(
             |contents|
-                ensures { ReadsParts parts_of AreParts ArePartsFault (left contents.old) (left contents.new) result }
+                ensures { TakesAll parts_of parts (left contents.old) (left contents.new) result }
             {
                 let version = take_version(contents)?;
                 let purpose = contents.take_oid()?;

@@ -1,10 +1,8 @@
 //! An algorithm type of one's own.
 
 ghost use Rattle.std.specs.Prelude.{[], ◌∷◌};
-ghost use Rattle.rpki_der.specs.Cursor.{left};
-ghost use Rattle.rpki_der.specs.Reading.{Reads};
-ghost use Rattle.rpki.specs.AlgorithmFault.{IsBareFault};
-ghost use Rattle.rpki.specs.SignatureNames.{SpellsBare};
+ghost use Rattle.rpki_der.specs.Prelude.{left, Reads};
+ghost use Rattle.rpki.specs.Prelude.{IsBareFault, SpellsBare};
 
 use rpki::crypto::{SignatureAlgorithm, SigningAlgorithm};
 use rpki::der::{ConstOid, Constructed, DecodeError, Oid, Primitive, PrimitiveContent, Sequence};
@@ -33,9 +31,7 @@ impl SignatureAlgorithm for OwnAlgorithm {
 
     ghost use Rattle.std.specs.Prelude.{[], ◌∷◌, refl};
     ghost use Rattle.std.proofs.Common.{lit<};
-    ghost use Rattle.rpki.specs.AlgorithmFault.{IsBareFault};
-    ghost use Rattle.rpki.specs.SignatureNames.{SpellsBare, bare_octets};
-    ghost use Rattle.rpki.specs.BareOctetsLaws.{bare-spelled, bare-value};
+    ghost use Rattle.rpki.specs.Prelude.{IsBareFault, SpellsBare, bare_octets, bare-spelled, bare-value};
     ghost use Rattle.rpki.specs.declared.crypto.keys.PublicKeyFormat.TheVariants.{Rsa};
 
     ghost spells = { SpellsBare (136 ∷ 55 ∷ []) };

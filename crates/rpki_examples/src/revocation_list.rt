@@ -11,12 +11,9 @@
 //!     crlExtensions        [0] EXPLICIT SEQUENCE OF Extension }
 //! ```
 
-ghost use Rattle.rpki_der.specs.Cursor.{left};
-ghost use Rattle.rpki_der.specs.TagName.{sequence};
-ghost use Rattle.rpki_der.specs.Values.{HasTag};
-ghost use Rattle.rpki_der.specs.Reading.{Reads, ReadsWhere};
-ghost use Rattle.rpki_der.specs.FirstFault.{ReadsParts};
-ghost use Rattle.rpki_examples.specs.RevocationList.{entries_of, parts_of, SpellsEachRevoked, IsEachRevokedFault, SpellsRevokedList, IsRevokedListFault, SpellsEachExtension, IsEachExtensionFault, SpellsExtensionList, IsExtensionListFault, SpellsExtensions, IsExtensionsFault, AreParts, ArePartsFault, SpellsList, IsListFault};
+ghost use Rattle.rpki_der.specs.Prelude.{left, sequence, Takes, TakesAll, TakesWhere};
+ghost use Rattle.rpki_examples.specs.RevocationList.{entries_of, parts_of, each_entry, entries, each_extension};
+ghost use Rattle.rpki_examples.specs.RevocationList.{extension_list, extensions, parts, revocation_list};
 
 use crate::revoked::RevokedCertificate;
 use rpki::crypto::{RpkiSignatureAlgorithm, SignatureAlgorithm};
@@ -48,8 +45,7 @@ fn take_each_revoked(
     alloc: Global,
     contents: &mut Constructed<'_>,
 ) -> Result<Vec<RevokedCertificate>, DecodeError>
-    ensures { ReadsParts entries_of SpellsEachRevoked IsEachRevokedFault (left contents.old) (left contents.new)
-        result }
+    ensures { TakesAll entries_of each_entry (left contents.old) (left contents.new) result }
 {
     contents.take_each(alloc, |rest| RevokedCertificate::take_from(rest))
 }
@@ -59,8 +55,7 @@ fn take_opt_revoked(
     alloc: Global,
     cons: &mut Constructed<'_>,
 ) -> Result<Option<Vec<RevokedCertificate>>, DecodeError>
-    ensures { ReadsWhere (HasTag sequence) entries_of SpellsRevokedList IsRevokedListFault (left cons.old)
-        (left cons.new) result }
+    ensures { TakesWhere sequence entries_of entries (left cons.old) (left cons.new) result }
 {
     if !cons.has_tag(Tag::SEQUENCE) {
         return Ok(None);
@@ -75,8 +70,7 @@ fn take_each_extension<K: Keep>(
     contents: &mut Constructed<'_>,
 ) -> Result<Vec<CertExtension>, DecodeError>
     requires { K.holds keep (left contents.old) }
-    ensures { ReadsParts (λ v. v.items) SpellsEachExtension IsEachExtensionFault (left contents.old)
-        (left contents.new) result }
+    ensures { TakesAll (λ v. v.items) each_extension (left contents.old) (left contents.new) result }
 {
     contents.take_each_with(
         keep,
@@ -92,7 +86,7 @@ fn take_extension_list<K: Keep>(
     cons: &mut Constructed<'_>,
 ) -> Result<Vec<CertExtension>, DecodeError>
     requires { K.holds keep (left cons.old) }
-    ensures { Reads (λ v. v.items) SpellsExtensionList IsExtensionListFault (left cons.old) (left cons.new) result }
+    ensures { Takes (λ v. v.items) extension_list (left cons.old) (left cons.new) result }
 {
     cons.in_sequence_with(
         keep,
@@ -108,7 +102,7 @@ fn take_extensions<K: Keep>(
     cons: &mut Constructed<'_>,
 ) -> Result<Vec<CertExtension>, DecodeError>
     requires { K.holds keep (left cons.old) }
-    ensures { Reads (λ v. v.items) SpellsExtensions IsExtensionsFault (left cons.old) (left cons.new) result }
+    ensures { Takes (λ v. v.items) extensions (left cons.old) (left cons.new) result }
 {
     cons.in_constructed_with(
         Tag::new(Class::Context, 0),
@@ -132,13 +126,13 @@ impl RevocationList {
         cons: &mut Constructed<'_>,
     ) -> Result<RevocationList, DecodeError>
         requires { K.holds keep (left cons.old) }
-        ensures { Reads parts_of SpellsList IsListFault (left cons.old) (left cons.new) result }
+        ensures { Takes parts_of revocation_list (left cons.old) (left cons.new) result }
     {
         cons.in_sequence_with(
             keep,
             |contents, keep|
                 requires { K.holds keep (left contents.old) }
-                ensures { ReadsParts parts_of AreParts ArePartsFault (left contents.old) (left contents.new) result }
+                ensures { TakesAll parts_of parts (left contents.old) (left contents.new) result }
             {
                 let version = contents.take_u8()?;
                 let signature = match RpkiSignatureAlgorithm::x509_take_from(contents) {

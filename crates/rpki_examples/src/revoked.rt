@@ -1,9 +1,7 @@
 //! A SEQUENCE of one's own: an entry of a revocation list.
 
-ghost use Rattle.rpki_der.specs.Cursor.{left};
-ghost use Rattle.rpki_der.specs.Reading.{Reads};
-ghost use Rattle.rpki_der.specs.FirstFault.{ReadsParts};
-ghost use Rattle.rpki_examples.specs.Revoked.{entry_of, IsRevoked, SpellsRevoked, IsPartsFault, IsRevokedFault};
+ghost use Rattle.rpki_der.specs.Prelude.{left, Takes, TakesAll};
+ghost use Rattle.rpki_examples.specs.Revoked.{entry_of, entry_parts, entry};
 
 use rpki::der::{Constructed, DecodeError};
 use rpki::repository::x509::{Serial, Time};
@@ -24,11 +22,11 @@ impl RevokedCertificate {
     /// The errors of [Constructed::in_sequence] where there is none; else those of the first part that could not be
     /// read, or `Trailing` where more follows. An error leaves the cursor where it was.
     pub fn take_from(cons: &mut Constructed<'_>) -> Result<RevokedCertificate, DecodeError>
-        ensures { Reads entry_of SpellsRevoked IsRevokedFault (left cons.old) (left cons.new) result }
+        ensures { Takes entry_of entry (left cons.old) (left cons.new) result }
     {
         cons.in_sequence(
             |contents|
-                ensures { ReadsParts entry_of IsRevoked IsPartsFault (left contents.old) (left contents.new) result }
+                ensures { TakesAll entry_of entry_parts (left contents.old) (left contents.new) result }
             {
                 let serial = match Serial::take_from(contents) {
                     Ok(serial) => serial,

@@ -11,7 +11,7 @@ use Rattle.rpki_resources.specs.Address.{width, HasBits, IsAddress, low_end, hig
 use Rattle.rpki_resources.specs.declared.family.AddressFamily.{AddressFamily}
 use Rattle.rpki_resources.specs.declared.family.AddressFamily.TheVariants.{Ipv4, Ipv6}
 
-eights : (k : ℕ) → 256 ^ k ≡ 2 ^ (8 * k)
+pub eights : (k : ℕ) → 256 ^ k ≡ 2 ^ (8 * k)
 eights zero = refl
 eights (suc k) =
     let a : 256 ^ suc k ≡ 256 * 256 ^ k = power k in

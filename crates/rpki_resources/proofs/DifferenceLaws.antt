@@ -1,10 +1,10 @@
 -- What one list of blocks has and another lacks, step by step.
-use Rattle.std.proofs.Common.{◌≡◌, ◌≤◌, ◌<◌, ◌⊎◌, ◌↔◌, inl, inr, ℕ, suc, List, [], ◌∷◌, ◌++◌, ◌+◌, Option, Some, None, sym, subst, append_assoc, arith}
+use Rattle.std.proofs.Common.{◌≡◌, ◌≢◌, ◌≤◌, ◌<◌, ◌⊎◌, ◌↔◌, inl, inr, ℕ, suc, List, [], ◌∷◌, ◌++◌, ◌+◌, Option, Some, None, sym, subst, append_assoc, arith}
 use Rattle.std.proofs.lemmas.List.{append-nil}
 use Rattle.rpki_resources.specs.declared.block.Block.{Block}
 use Rattle.rpki_resources.specs.Blocks.{IsIn, IsAmong, IsBelow, AreCanonical, blocks_of, IsGap, AreLacking}
 use Rattle.rpki_resources.proofs.BlocksLaws.{among-past, split}
-use Rattle.rpki_resources.proofs.MergeLaws.{among-append, put-before}
+use Rattle.rpki_resources.proofs.MergeLaws.{among-append, put-before, some-among, lowest-of}
 
 -- a number of the one, from this one on, that the other lacks
 abbrev pub Lacks : ℕ → List Block → List Block → ℕ → Type 0
@@ -40,6 +40,11 @@ module _ (one other found xs ys : List Block) (from : ℕ) (m : Lacking one othe
     of-gap n h =
         let k = (gap.numbers n).0 h in
         (subst (IsAmong n) (sym ex) (inl k.0), k.1, below-lacks n ys m.ys_are k.2)
+
+    pub some-lacking : o ≢ None → (v : List Block) → AreLacking one other v → v ≢ []
+    some-lacking not v are =
+        let some = lowest-of o gap.canonical not in
+        some-among some.0 v ((are.numbers some.0).1 ((m.same some.0).1 (inr (of-gap some.0 some.1))))
 
     module _ (vs ws : List Block) (start : ℕ) (forth : (n : ℕ) → Lacks from xs ys n → IsAmong n (blocks_of o) ⊎ Lacks start vs ws n) (back : (n : ℕ) → Lacks start vs ws n → Lacks from xs ys n)
         (before : (ms : List Block) → AreCanonical ms → ((n : ℕ) → IsAmong n ms → Lacks start vs ws n) → AreCanonical (blocks_of o ++ ms)) where

@@ -7,6 +7,10 @@
 -- Blocks one behind another, counted, given by a cursor and kept: FollowLaws, ViewLaws, KeptLaws.
 -- Choices and families; that reading them takes no memory: ExtensionLaws, FamilyLaws, NoMemoryLaws.
 -- Down a chain: SettledLaws.
+-- What is written: octets of numbers, addresses, ends of ranges, blocks: NumberOctetsLaws, AddressWritingLaws,
+-- StrippedLaws, BlockWritingLaws. That it is read back: BlockReadBackLaws, ResourcesWritingLaws. That equal octets are
+-- of equal resources: BlocksApartLaws, ResourcesApartLaws. That what is read can be written, and is the only spelling:
+-- WritableLaws, BlocksOnlyLaws, ResourcesOnlyLaws.
 pub mod BlocksLaws
 pub mod PrefixLaws
 pub mod OctetsLaws
@@ -25,3 +29,14 @@ pub mod DifferenceLaws
 pub mod UnionLaws
 pub mod EqualBlocksLaws
 pub mod SettledLaws
+pub mod NumberOctetsLaws
+pub mod AddressWritingLaws
+pub mod StrippedLaws
+pub mod BlockWritingLaws
+pub mod BlockReadBackLaws
+pub mod ResourcesWritingLaws
+pub mod BlocksApartLaws
+pub mod ResourcesApartLaws
+pub mod WritableLaws
+pub mod BlocksOnlyLaws
+pub mod ResourcesOnlyLaws

@@ -1,6 +1,7 @@
 -- What two lists of blocks share, step by step.
-use Rattle.std.proofs.Common.{◌≡◌, ◌≤◌, ◌<◌, ◌⊎◌, ◌↔◌, inl, inr, ℕ, suc, List, [], ◌∷◌, ◌++◌, Option, Some, None, sym, subst, append_assoc, arith}
+use Rattle.std.proofs.Common.{◌≡◌, ◌≢◌, refl, ◌≤◌, ◌<◌, ◌⊎◌, ◌↔◌, inl, inr, ℕ, suc, List, [], ◌∷◌, ◌++◌, Option, Some, None, Result, Ok, Err, sym, subst, append_assoc, arith}
 use Rattle.std.proofs.lemmas.List.{append-nil}
+use Rattle.std.specs.Prelude.{IfErr}
 use Rattle.rpki_resources.specs.declared.block.Block.{Block}
 use Rattle.rpki_resources.specs.Blocks.{IsIn, IsAmong, IsSubset, IsPast, AreCanonical, blocks_of, IsOverlap, AreShared}
 use Rattle.rpki_resources.proofs.BlocksLaws.{among-past}
@@ -124,6 +125,30 @@ pub all-shared-other : (one other found xs ys : List Block) → Merging one othe
 all-shared-other one other found xs ys m end =
     let k = all-shared other one found ys xs (swapped one other found xs ys m) end in
     record { numbers = λ n. (λ a. (let b = (k.numbers n).0 a in (b.1, b.0)), λ a. (k.numbers n).1 (a.1, a.0)); canonical = k.canonical }
+
+-- ---- where something is found
+
+-- what holds whatever the error is
+pub if-error : {T E Q : Type 0} (r : Result T E) → Q → IfErr r (λ e. Q)
+if-error (Ok x) q = tt
+if-error (Err e) q = q
+
+pub some-among : (n : ℕ) (v : List Block) → IsAmong n v → v ≢ []
+some-among n v a e = subst (IsAmong n) e a
+
+pub lowest-of : (o : Option Block) → AreCanonical (blocks_of o) → o ≢ None → (n : ℕ) × IsAmong n (blocks_of o)
+lowest-of None c not = absurd (not refl)
+lowest-of (Some b) c not = (b.low, inl (omega arith, c.0))
+
+pub some-shared : (one other found xs ys later others : List Block) (x y : Block) (o : Option Block)
+    → xs ≡ x ∷ later → ys ≡ y ∷ others → Merging one other found xs ys → IsOverlap x y o → o ≢ None
+    → (v : List Block) → AreShared one other v → v ≢ []
+some-shared one other found xs ys later others x y o ex ey m overlap not v are =
+    let some = lowest-of o overlap.canonical not in
+    let both = (overlap.numbers some.0).0 some.1 in
+    let left : IsAmong some.0 xs × IsAmong some.0 ys =
+    (subst (IsAmong some.0) (sym ex) (inl both.0), subst (IsAmong some.0) (sym ey) (inl both.1)) in
+    some-among some.0 v ((are.numbers some.0).1 ((m.same some.0).1 (inr left)))
 
 -- ---- the same of lists that begin so
 

@@ -5,7 +5,7 @@ use Rattle.std.proofs.lemmas.Nat.{pow_pos}
 use Rattle.rpki_resources.proofs.BlocksLaws.{split}
 use Rattle.rpki_resources.specs.Address.{IsPrefix}
 
-twice : (k : ℕ) → 2 ^ suc k ≡ 2 * 2 ^ k
+pub twice : (k : ℕ) → 2 ^ suc k ≡ 2 * 2 ^ k
 twice k = omega (arith, pow-suc 2 k)
 
 half-low : (low q p : ℕ) → low ≡ q * (2 * p) → low / 2 ≡ q * p
@@ -20,7 +20,7 @@ whole-low low q p even h = omega arith
 whole-high : (high q p : ℕ) → high % 2 ≡ 1 → suc (high / 2) ≡ suc q * p → suc high ≡ suc q * (2 * p)
 whole-high high q p odd h = omega arith
 
-single : (low high q : ℕ) → low ≡ q * 2 ^ 0 → suc high ≡ suc q * 2 ^ 0 → low ≡ high
+pub single : (low high q : ℕ) → low ≡ q * 2 ^ 0 → suc high ≡ suc q * 2 ^ 0 → low ≡ high
 single low high q l h = omega arith
 
 halved : (low high : ℕ) → low % 2 ≡ 0 → high % 2 ≡ 1 → IsPrefix low high → IsPrefix (low / 2) (high / 2)

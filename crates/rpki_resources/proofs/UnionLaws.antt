@@ -1,11 +1,11 @@
 -- Two lists of blocks together, step by step.
-use Rattle.std.proofs.Common.{◌≡◌, ◌≤◌, ◌<◌, ◌⊎◌, ◌↔◌, inl, inr, ℕ, suc, List, [], ◌∷◌, ◌++◌, ◌+◌, length, Option, Some, None, sym, ap, subst, arith}
+use Rattle.std.proofs.Common.{◌≡◌, ◌≢◌, ◌≤◌, ◌<◌, ◌⊎◌, ◌↔◌, inl, inr, ℕ, suc, List, [], ◌∷◌, ◌++◌, ◌+◌, length, Option, Some, None, sym, ap, subst, arith}
 use Rattle.std.proofs.lemmas.List.{append-nil}
 use Rattle.rpki_resources.specs.declared.block.Block.{Block}
 use Rattle.rpki_resources.specs.Blocks.{IsIn, IsAmong, IsPast, AreCanonical, blocks_of, AreUnited}
 use Rattle.rpki_resources.specs.Union.{IsFrom, IsNext, MayGrow, IsGrown}
 use Rattle.rpki_resources.proofs.BlocksLaws.{split, block}
-use Rattle.rpki_resources.proofs.MergeLaws.{among-append}
+use Rattle.rpki_resources.proofs.MergeLaws.{among-append, some-among}
 
 -- ---- canonical form at the end of a list
 
@@ -171,6 +171,11 @@ module _ (one other found xs ys : List Block) (before : Block) (m : Uniting one 
           back n (inl (inl a)) = elim ((among-append n found (blocks_of closed)).0 a) [ inl p ↦ inl (inl p) | inr p ↦ taken n ((g.numbers n).0 (inl p)) ]
           back n (inl (inr a)) = taken n ((g.numbers n).0 (inr a))
           back n (inr a) = inr ((rest-numbers xs ys later others b h n).1 (inr a))
+
+  pub some-united : (v : List Block) → AreUnited one other v → v ≢ []
+  some-united v are =
+      let some : IsIn before.low before = (omega arith, last-some found before m.canonical) in
+      some-among before.low v ((are.numbers before.low).1 ((m.same before.low).1 (inl (inr some))))
 
   pub all-united : (next : List Block) → next ≡ found ++ (before ∷ []) → xs ≡ [] → ys ≡ [] → AreUnited one other next
   all-united next e ex ey = subst (AreUnited one other) (sym e) (record {

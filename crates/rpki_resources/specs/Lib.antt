@@ -11,5 +11,9 @@ pub mod Kept
 pub mod Settled
 pub mod Text
 pub mod Equal
+pub mod Encoded
+pub mod EncodedResources
+pub mod Either
 -- Lemmas that an `impl` cites.
 pub mod EqualLaws
+pub mod EncodedResourcesLaws

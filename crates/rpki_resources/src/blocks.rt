@@ -1,6 +1,7 @@
 //! Sets of numbers.
 
-ghost use Rattle.std.specs.Prelude.{◌≡◌, ◌≤◌, ◌↔◌, [], ◌∷◌, IsTrue, IfSome, IfNone, IfOk};
+ghost use Rattle.std.specs.Prelude.{◌≡◌, ◌≢◌, ◌≤◌, ◌↔◌, List, [], ◌∷◌, IsTrue, IfSome, IfNone, IfOk, IfErr};
+ghost use Rattle.rpki_resources.specs.declared.block.Block.{Block};
 ghost use Rattle.rpki_resources.specs.Blocks.{IsAmong, IsSubset, AreCanonical, AreShared, AreUnited, AreLacking};
 ghost use Rattle.rpki_resources.specs.InPlace.{HoldsOnly};
 
@@ -144,21 +145,26 @@ impl Blocks {
         is_part(&[block], self.as_slice())
     }
 
-    /// A copy of the set, which is allocated once.
+    /// A copy of the set, which is allocated once, if it has a number.
     ///
-    /// Returns `AllocError` if allocation fails.
+    /// Returns `AllocError` if allocation fails, only where it has one.
     pub fn clone(&self, alloc: Global) -> Result<Blocks, AllocError>
-        ensures { IfOk result (λ x. x ≡ self.now) }
+        ensures copy { IfOk result (λ x. x ≡ self.now) }
+        ensures memory { IfErr result (λ _. self.now ≢ []) }
     {
+        if self.is_empty() {
+            return Ok(Blocks::empty(alloc));
+        }
         let items = Vec::from_slice(alloc, self.items.as_slice())?;
         Ok(Blocks { items })
     }
 
     /// The numbers that are in both sets. It goes over the blocks of both once.
     ///
-    /// Returns `AllocError` if allocation fails.
+    /// Returns `AllocError` if allocation fails, only where there is such a number.
     pub fn intersection(&self, alloc: Global, other: &Blocks) -> Result<Blocks, AllocError>
-        ensures { IfOk result (λ x. AreShared self.now other.now x) }
+        ensures intersection { IfOk result (λ x. AreShared self.now other.now x) }
+        ensures memory { IfErr result (λ _. (x : List Block) → AreShared self.now other.now x → x ≢ []) }
     {
         let items = shared(alloc, self.as_slice(), other.as_slice())?;
         Ok(Blocks { items })
@@ -166,9 +172,10 @@ impl Blocks {
 
     /// The numbers that are in one of the sets, or in both. It goes over the blocks of both once.
     ///
-    /// Returns `AllocError` if allocation fails.
+    /// Returns `AllocError` if allocation fails, only where there is such a number.
     pub fn union(&self, alloc: Global, other: &Blocks) -> Result<Blocks, AllocError>
-        ensures { IfOk result (λ x. AreUnited self.now other.now x) }
+        ensures union { IfOk result (λ x. AreUnited self.now other.now x) }
+        ensures memory { IfErr result (λ _. (x : List Block) → AreUnited self.now other.now x → x ≢ []) }
     {
         let items = united(alloc, self.as_slice(), other.as_slice())?;
         Ok(Blocks { items })
@@ -176,9 +183,10 @@ impl Blocks {
 
     /// The numbers of this set that aren't in the other. It goes over the blocks of both once.
     ///
-    /// Returns `AllocError` if allocation fails.
+    /// Returns `AllocError` if allocation fails, only where there is such a number.
     pub fn difference(&self, alloc: Global, other: &Blocks) -> Result<Blocks, AllocError>
-        ensures { IfOk result (λ x. AreLacking self.now other.now x) }
+        ensures difference { IfOk result (λ x. AreLacking self.now other.now x) }
+        ensures memory { IfErr result (λ _. (x : List Block) → AreLacking self.now other.now x → x ≢ []) }
     {
         let items = lacking(alloc, self.as_slice(), other.as_slice())?;
         Ok(Blocks { items })

@@ -1,6 +1,7 @@
 //! The numbers of one list of blocks that another lacks, by one merge.
 
-ghost use Rattle.std.specs.Prelude.{IfOk};
+ghost use Rattle.std.specs.Prelude.{◌≢◌, List, [], IfOk, IfErr};
+ghost use Rattle.rpki_resources.specs.declared.block.Block.{Block};
 ghost use Rattle.rpki_resources.specs.Blocks.{AreCanonical, IsGap, AreLacking};
 
 use crate::block::Block;
@@ -43,11 +44,12 @@ fn gap(block: Block, from: u128, others: &[Block]) -> Option<Block>
 /// The numbers of the one list that the other lacks, in canonical form; both are in canonical form. It goes over both
 /// once.
 ///
-/// Returns `AllocError` if allocation fails.
+/// Returns `AllocError` if allocation fails, only where there is such a number.
 pub fn lacking(alloc: Global, one: &[Block], other: &[Block]) -> Result<Vec<Block>, AllocError>
     requires one { AreCanonical one.now }
     requires other { AreCanonical other.now }
-    ensures { IfOk result (λ v. AreLacking one.now other.now v.items) }
+    ensures lacking { IfOk result (λ v. AreLacking one.now other.now v.items) }
+    ensures memory { IfErr result (λ _. (v : List Block) → AreLacking one.now other.now v → v ≢ []) }
 {
     let mut found = Vec::new(alloc);
     let mut xs = one;

@@ -14,6 +14,7 @@ mod choice;
 mod choice_reading;
 mod choice_view;
 mod difference;
+mod encode;
 mod family;
 mod ip_reading;
 mod ip_text;
@@ -37,6 +38,10 @@ pub use blocks::Blocks;
 pub use choice::ResourcesChoice;
 pub use choice_reading::take_as_resources;
 pub use choice_view::ChoiceView;
+pub use encode::{
+    AddressBits, AddressEncoder, AsNumbersFrame, AsResourcesEncoder, BlockEncoder, BlocksEncoder,
+    ChoiceEncoder, Either, FamilyEncoder, IpResourcesEncoder, OneOrTwo, encode_block,
+};
 pub use family::AddressFamily;
 pub use ip_reading::{take_family, take_ip_resources};
 pub use ip_text::{AddressRange, IpBlock, Prefix};

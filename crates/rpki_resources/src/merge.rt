@@ -1,6 +1,8 @@
 //! The numbers that two lists of blocks share, by one merge.
 
-ghost use Rattle.std.specs.Prelude.{◌≡◌, ◌++◌, IfOk};
+ghost use Rattle.std.specs.Prelude.{◌≡◌, ◌≢◌, ◌++◌, [], None, IfOk, IfErr};
+ghost use Rattle.std.specs.Prelude.{List};
+ghost use Rattle.rpki_resources.specs.declared.block.Block.{Block};
 ghost use Rattle.rpki_resources.specs.Blocks.{AreCanonical, IsOverlap, blocks_of, AreShared};
 
 use crate::block::Block;
@@ -28,7 +30,8 @@ fn overlap(one: Block, other: Block) -> Option<Block>
 
 /// Appends the block, where there is one.
 pub fn push_some(blocks: &mut Vec<Block>, block: Option<Block>) -> Result<(), AllocError>
-    ensures { IfOk result (λ _. blocks.new.items ≡ blocks.old.items ++ blocks_of block) }
+    ensures pushed { IfOk result (λ _. blocks.new.items ≡ blocks.old.items ++ blocks_of block) }
+    ensures memory { IfErr result (λ _. block ≢ None) }
 {
     match block {
         Some(block) => {
@@ -41,11 +44,12 @@ pub fn push_some(blocks: &mut Vec<Block>, block: Option<Block>) -> Result<(), Al
 
 /// The numbers that two lists in canonical form share, in canonical form. It goes over both once.
 ///
-/// Returns `AllocError` if allocation fails.
+/// Returns `AllocError` if allocation fails, only where there is such a number.
 pub fn shared(alloc: Global, one: &[Block], other: &[Block]) -> Result<Vec<Block>, AllocError>
     requires one { AreCanonical one.now }
     requires other { AreCanonical other.now }
-    ensures { IfOk result (λ v. AreShared one.now other.now v.items) }
+    ensures shared { IfOk result (λ v. AreShared one.now other.now v.items) }
+    ensures memory { IfErr result (λ _. (v : List Block) → AreShared one.now other.now v → v ≢ []) }
 {
     let mut found = Vec::new(alloc);
     let mut xs = one;

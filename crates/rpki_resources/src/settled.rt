@@ -1,6 +1,7 @@
 //! The resources that certificates have, down a chain (RFC 6487 7.2, RFC 8360 4.2).
 
-ghost use Rattle.std.specs.Prelude.{◌≡◌, ◌≢◌, ◌↔◌, IsTrue, IsOk, IfOk, IfErr};
+ghost use Rattle.std.specs.Prelude.{◌≡◌, ◌≢◌, ◌↔◌, List, [], IsTrue, IfOk, IfErr};
+ghost use Rattle.rpki_resources.specs.declared.block.Block.{Block};
 ghost use Rattle.rpki_resources.specs.Settled.{IsWithin, IsAnchored, IsSettled, IsTrimmed};
 
 use crate::blocks::Blocks;
@@ -63,12 +64,13 @@ impl ResourcesChoice {
 
     /// The resources of a trust anchor: none, or those that are listed.
     ///
-    /// Returns `Inherits` exactly where they are those of an issuer; else `OutOfMemory` if allocation fails.
+    /// Returns `Inherits` exactly where they are those of an issuer; else `OutOfMemory` if allocation fails,
+    /// only where there are any.
     pub fn settle_anchor(&self, alloc: Global) -> Result<Blocks, SettleError>
         ensures settled { IfOk result (λ x. IsAnchored self.now x) }
         ensures refused { IfErr result (λ e. (e ≡ SettleError.Inherits) ↔ (self.now ≡ ResourcesChoice.Inherit)) }
         ensures other { IfErr result (λ e. e ≢ SettleError.Overclaim) }
-        ensures none { self.now ≡ ResourcesChoice.Missing → IsOk result }
+        ensures memory { IfErr result (λ e. (x : List Block) → IsAnchored self.now x → x ≢ []) }
     {
         match self {
             ResourcesChoice::Missing => Ok(Blocks::empty(alloc)),
@@ -81,12 +83,12 @@ impl ResourcesChoice {
     /// the issuer's, or those that are listed.
     ///
     /// Returns `Overclaim` exactly where resources are listed that the issuer doesn't have; else `OutOfMemory` if
-    /// allocation fails, which nothing is allocated for where there are none.
+    /// allocation fails, only where there are any.
     pub fn settle(&self, alloc: Global, issuer: &Blocks) -> Result<Blocks, SettleError>
         ensures settled { IfOk result (λ x. IsSettled self.now issuer.now x) }
         ensures refused { IfErr result (λ e. (e ≡ SettleError.Overclaim) ↔ ¬ IsWithin self.now issuer.now) }
         ensures other { IfErr result (λ e. e ≢ SettleError.Inherits) }
-        ensures none { self.now ≡ ResourcesChoice.Missing → IsOk result }
+        ensures memory { IfErr result (λ e. (x : List Block) → IsSettled self.now issuer.now x → x ≢ []) }
     {
         if !self.is_within(issuer) {
             return Err(SettleError::Overclaim);
@@ -101,10 +103,10 @@ impl ResourcesChoice {
     /// The resources of a certificate under those of its issuer, which are settled, where the certificate's policy is
     /// that of RFC 8360: none, the issuer's, or of those that are listed the ones that the issuer has.
     ///
-    /// Returns `AllocError` if allocation fails.
+    /// Returns `AllocError` if allocation fails, only where there are any.
     pub fn trim(&self, alloc: Global, issuer: &Blocks) -> Result<Blocks, AllocError>
         ensures trimmed { IfOk result (λ x. IsTrimmed self.now issuer.now x) }
-        ensures none { self.now ≡ ResourcesChoice.Missing → IsOk result }
+        ensures memory { IfErr result (λ _. (x : List Block) → IsTrimmed self.now issuer.now x → x ≢ []) }
     {
         match self {
             ResourcesChoice::Missing => Ok(Blocks::empty(alloc)),

@@ -1,6 +1,7 @@
 //! The numbers of two lists of blocks together, by one merge.
 
-ghost use Rattle.std.specs.Prelude.{◌≡◌, [], IfOk, IfSome, IfNone};
+ghost use Rattle.std.specs.Prelude.{◌≡◌, ◌≢◌, List, [], IfOk, IfErr, IfSome, IfNone};
+ghost use Rattle.rpki_resources.specs.declared.block.Block.{Block};
 ghost use Rattle.rpki_resources.specs.Blocks.{AreCanonical, AreUnited};
 ghost use Rattle.rpki_resources.specs.Union.{IsNext, MayGrow, IsGrown};
 
@@ -89,11 +90,12 @@ fn grow(before: Block, block: Block) -> Grown
 
 /// The numbers of two lists in canonical form together, in canonical form. It goes over both once.
 ///
-/// Returns `AllocError` if allocation fails.
+/// Returns `AllocError` if allocation fails, only where there is such a number.
 pub fn united(alloc: Global, one: &[Block], other: &[Block]) -> Result<Vec<Block>, AllocError>
     requires one { AreCanonical one.now }
     requires other { AreCanonical other.now }
-    ensures { IfOk result (λ v. AreUnited one.now other.now v.items) }
+    ensures united { IfOk result (λ v. AreUnited one.now other.now v.items) }
+    ensures memory { IfErr result (λ _. (v : List Block) → AreUnited one.now other.now v → v ≢ []) }
 {
     let mut found = Vec::new(alloc);
     let Some(first) = take_first(one, other) else {

@@ -1,5 +1,6 @@
 -- Which texts are themselves in lower case: those without a capital.
-use Rattle.std.proofs.Common.{◌≡◌, ◌↔◌, ◌⊎◌, inl, inr, ℕ, ◌<◌, ◌≤◌, Bool, true, false, not, IsTrue, List, [], ◌∷◌, refl, sym, ap, arith}
+use Rattle.std.proofs.Common.{◌≡◌, ◌↔◌, ◌⊎◌, inl, inr, ℕ, ◌<◌, ◌≤◌, Bool, true, false, not, IsTrue, List, [], ◌∷◌, refl}
+use Rattle.std.proofs.Common.{sym, ap, arith}
 use Rattle.std.specs.Prelude.{◌||◌}
 use Rattle.std.specs.List.{list_any}
 use Rattle.std.specs.Char.{to_ascii_lowercase, is_ascii_uppercase}
@@ -8,7 +9,8 @@ use Rattle.std.proofs.lemmas.Str.Ascii.{lowercase_is}
 use Rattle.rpki_text.specs.UriText.{lowercase}
 
 -- a letter is a capital or it isn't, and which octets these are
-capital-tells : (c : ℕ) → ((is_ascii_uppercase c ≡ true) × (65 ≤ c) × (c ≤ 90)) ⊎ ((is_ascii_uppercase c ≡ false) × ((c < 65) ⊎ (90 < c)))
+capital-tells : (c : ℕ)
+    → ((is_ascii_uppercase c ≡ true) × (65 ≤ c) × (c ≤ 90)) ⊎ ((is_ascii_uppercase c ≡ false) × ((c < 65) ⊎ (90 < c)))
 capital-tells c =
     elim (leb_tells 65 c) [
       | inl a ↦
@@ -38,7 +40,8 @@ other-stays c h =
 same-in_lower_case : (t : List ℕ) → list_any is_ascii_uppercase t ≡ false → lowercase t ≡ t
 same-in_lower_case [] h = refl
 same-in_lower_case (c ∷ t) h = by_cases (is_ascii_uppercase c) refl h (same-in_lower_case t) where
-  by_cases : (v : Bool) → is_ascii_uppercase c ≡ v → (v || list_any is_ascii_uppercase t) ≡ false → (list_any is_ascii_uppercase t ≡ false → lowercase t ≡ t)
+  by_cases : (v : Bool) → is_ascii_uppercase c ≡ v → (v || list_any is_ascii_uppercase t) ≡ false
+      → (list_any is_ascii_uppercase t ≡ false → lowercase t ≡ t)
       → lowercase (c ∷ t) ≡ c ∷ t
   by_cases true e k more = cc
   by_cases false e k more = rw (other-stays c e) (ap (λ s. c ∷ s) (more k))
@@ -52,7 +55,8 @@ same-tail c d t u h = cc
 no-capital-in : (t : List ℕ) → lowercase t ≡ t → list_any is_ascii_uppercase t ≡ false
 no-capital-in [] h = refl
 no-capital-in (c ∷ t) h = by_cases (is_ascii_uppercase c) refl (no-capital-in t (same-tail _ _ _ _ h)) where
-  by_cases : (v : Bool) → is_ascii_uppercase c ≡ v → list_any is_ascii_uppercase t ≡ false → (v || list_any is_ascii_uppercase t) ≡ false
+  by_cases : (v : Bool) → is_ascii_uppercase c ≡ v → list_any is_ascii_uppercase t ≡ false
+      → (v || list_any is_ascii_uppercase t) ≡ false
   by_cases true e more = absurd (capital-changes c e (same-head _ _ _ _ h))
   by_cases false e more = more
 

@@ -1,5 +1,6 @@
 -- The parts of a text that is cut at its two places.
-use Rattle.std.proofs.Common.{◌≡◌, ℕ, zero, suc, ◌+◌, ◌-◌, ◌<◌, ◌≤◌, Bool, true, false, ◌&&◌, List, [], ◌∷◌, length, take, drop, get_or, sym, refl, ap, ◌∙◌, arith, IsUtf8}
+use Rattle.std.proofs.Common.{◌≡◌, ℕ, zero, suc, ◌+◌, ◌-◌, ◌<◌, ◌≤◌, Bool, true, false, ◌&&◌, List, [], ◌∷◌, length}
+use Rattle.std.proofs.Common.{take, drop, get_or, sym, refl, ap, ◌∙◌, arith, IsUtf8}
 use Rattle.std.specs.List.{position_or_len, before_first, after_first, list_all}
 use Rattle.std.proofs.lemmas.List.{take-append-drop}
 use Rattle.std.proofs.lemmas.List.Folds.{list_all-append}
@@ -20,10 +21,12 @@ and-second false b e = cc
 
 -- parts of a text have the text's characters
 pub list-all-take : (q : ℕ → Bool) (n : ℕ) (t : List ℕ) → list_all q t ≡ true → list_all q (take n t) ≡ true
-list-all-take q n t h = and-first _ _ (sym (list_all-append q (take n t) (drop n t)) ∙ ap (list_all q) (take-append-drop n t) ∙ h)
+list-all-take q n t h =
+    and-first _ _ (sym (list_all-append q (take n t) (drop n t)) ∙ ap (list_all q) (take-append-drop n t) ∙ h)
 
 pub list-all-drop : (q : ℕ → Bool) (n : ℕ) (t : List ℕ) → list_all q t ≡ true → list_all q (drop n t) ≡ true
-list-all-drop q n t h = and-second _ _ (sym (list_all-append q (take n t) (drop n t)) ∙ ap (list_all q) (take-append-drop n t) ∙ h)
+list-all-drop q n t h =
+    and-second _ _ (sym (list_all-append q (take n t) (drop n t)) ∙ ap (list_all q) (take-append-drop n t) ∙ h)
 
 uri-byte-ascii : (b : ℕ) → is_uri_byte b ≡ true → b < 128
 unfolding is_uri_byte
@@ -58,8 +61,10 @@ cut-facts t m p c =
     let places = module-places t a n refl (ap (λ k. position_or_len is_slash (drop k t)) em) c.form.full in
     let after : after_first is_slash (drop 8 t) ≡ drop m t = after-first-drop 8 t ∙ ap (λ k. drop k t) (omega arith) in
     let authority_is : authority_of t ≡ take (m - 9) (drop 8 t) = ap (λ k. take k (drop 8 t)) (omega arith) in
-    let module_name_is : module_name_of t ≡ take (p - m - 1) (drop m t) = ap (before_first is_slash) after ∙ ap (λ k. take k (drop m t)) (omega arith) in
-    let path_is : path_of t ≡ drop p t = ap (after_first is_slash) after ∙ after-first-drop m t ∙ ap (λ k. drop k t) (omega arith) in
+    let module_name_is : module_name_of t ≡ take (p - m - 1) (drop m t) = ap (before_first is_slash) after ∙ ap
+    (λ k. take k (drop m t)) (omega arith) in
+    let path_is : path_of t ≡ drop p t = ap (after_first is_slash) after ∙ after-first-drop m t ∙ ap (λ k. drop k t)
+    (omega arith) in
     let whole : list_all is_uri_byte t ≡ true = c.form.characters in
     record {
       authority = omega (arith, places.some_authority);
@@ -68,8 +73,10 @@ cut-facts t m p c =
       authority_is = authority_is;
       module_name_is = module_name_is;
       path_is = path_is;
-      authority_passes = ap (list_all is_uri_byte) authority_is ∙ list-all-take is_uri_byte _ _ (list-all-drop is_uri_byte 8 t whole);
-      module_name_passes = ap (list_all is_uri_byte) module_name_is ∙ list-all-take is_uri_byte _ _ (list-all-drop is_uri_byte m t whole);
+      authority_passes =
+          ap (list_all is_uri_byte) authority_is ∙ list-all-take is_uri_byte _ _ (list-all-drop is_uri_byte 8 t whole);
+      module_name_passes = ap (list_all is_uri_byte) module_name_is ∙ list-all-take is_uri_byte _ _
+          (list-all-drop is_uri_byte m t whole);
       path_passes = ap (list_all is_uri_byte) path_is ∙ list-all-drop is_uri_byte p t whole;
     }
 
@@ -77,7 +84,8 @@ cut-facts t m p c =
 abbrev pub module_start : List ℕ → ℕ
 module_start t = 9 + position_or_len is_slash (drop 8 t)
 
-pub cut-of : (t : List ℕ) → IsRsync t → IsCut t (module_start t) (module_start t + position_or_len is_slash (drop (module_start t) t) + 1)
+pub cut-of : (t : List ℕ) → IsRsync t
+    → IsCut t (module_start t) (module_start t + position_or_len is_slash (drop (module_start t) t) + 1)
 cut-of t f = record { form = f; module_starts = refl; path_starts = refl }
 
 pub path-passes : (t : List ℕ) → IsRsync t → list_all is_uri_byte (path_of t) ≡ true

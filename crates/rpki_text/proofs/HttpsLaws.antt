@@ -1,12 +1,14 @@
 -- What equality of https URIs says, and that a text stands for one.
-use Rattle.std.proofs.Common.{◌≡◌, ℕ, suc, true, List, [], ◌∷◌, length, bytes_eq, sym, refl, ap, ◌∙◌, inl, inr, ◌+◌, Bool, false, cond, not, take, arith}
+use Rattle.std.proofs.Common.{◌≡◌, ℕ, suc, true, List, [], ◌∷◌, length, bytes_eq, sym, refl, ap, ◌∙◌, inl, inr, ◌+◌}
+use Rattle.std.proofs.Common.{Bool, false, cond, not, take, arith}
 use Rattle.std.specs.List.{before_first, list_any, position_or_len}
 use Rattle.std.specs.Cmp.{first_so, second_so}
 use Rattle.std.proofs.lemmas.Slice.Eq.{bytes_eq-Decides}
 use borrow.Author.Tests.{eqb-true}
 use Rattle.rpki_text.specs.UriText.{lowercase}
 use Rattle.rpki_text.specs.Segments.{is_slash}
-use Rattle.rpki_text.specs.HttpsText.{https_authority, https_path, HttpsUri, https_uri_of, IsHttpsUri, SpellsHttps, same_https, https_parent_uri}
+use Rattle.rpki_text.specs.HttpsText.{https_authority, https_path, HttpsUri, https_uri_of, IsHttpsUri, SpellsHttps}
+use Rattle.rpki_text.specs.HttpsText.{same_https, https_parent_uri}
 use Rattle.rpki_text.specs.SameHttpsLaws.{same_https-equiv}
 use Rattle.rpki_text.proofs.HttpsPartLaws.{AtSlash, https-read}
 use Rattle.rpki_text.proofs.PartLaws.{slash-lowercase}
@@ -28,7 +30,8 @@ equal-https-parents u v h = ap https_parent_uri (same_https-parts u v h)
 at-slash-from : (y : List ℕ) → before_first is_slash y ≡ [] → AtSlash y
 at-slash-from [] h = inl refl
 at-slash-from (b ∷ y) h = by_cases (is_slash b) refl h where
-  by_cases : (v : Bool) → is_slash b ≡ v → take (cond (not v) (1 + position_or_len is_slash y) 0) (b ∷ y) ≡ [] → AtSlash (b ∷ y)
+  by_cases : (v : Bool) → is_slash b ≡ v → take (cond (not v) (1 + position_or_len is_slash y) 0) (b ∷ y) ≡ []
+      → AtSlash (b ∷ y)
   by_cases true e k = inr (y, ap (λ x. x ∷ y) (eqb-true b 47 e))
   by_cases false e k =
       let at : suc (position_or_len is_slash y) ≡ 1 + position_or_len is_slash y = omega arith in
@@ -38,8 +41,10 @@ pub one-https-meaning : (t : List ℕ) (u : HttpsUri) → SpellsHttps t u → Is
 unfolding https_uri_of
 one-https-meaning t u s k =
     let long : length s.scheme ≡ 8 = sym (length-lowercase s.scheme) ∙ ap length s.any_case.0 in
-    let free : list_any is_slash s.authority ≡ false = sym (slash-lowercase s.authority) ∙ ap (list_any is_slash) s.any_case.1 ∙ k.one_part in
+    let free : list_any is_slash s.authority ≡ false = sym (slash-lowercase s.authority) ∙ ap (list_any is_slash)
+    s.any_case.1 ∙ k.one_part in
     let read = https-read s.scheme s.authority u.path long free (at-slash-from u.path k.path) in
-    let a : lowercase (https_authority t) ≡ u.authority = ap (λ x. lowercase (https_authority x)) s.is ∙ ap lowercase read.authority_is ∙ s.any_case.1 in
+    let a : lowercase (https_authority t) ≡ u.authority = ap (λ x. lowercase (https_authority x)) s.is ∙ ap lowercase
+    read.authority_is ∙ s.any_case.1 in
     let p : https_path t ≡ u.path = ap https_path s.is ∙ read.path_is in
     rw (a, p) refl

@@ -2,7 +2,8 @@
 use Rattle.std.proofs.Common.{◌≡◌, ◌≢◌, ℕ, Bool, true, false, cond, List, [], ◌∷◌, drop, Option, Some, None}
 use Rattle.std.specs.Option.{option_or}
 use Rattle.rpki_text.specs.declared.uri.error.Error.{Error}
-use Rattle.rpki_text.specs.declared.uri.error.Error.TheVariants.{InvalidCharacters, BadUri, LongUri, BadScheme, DotSegments, EmptySegments, LongSegments, OutOfMemory}
+use Rattle.rpki_text.specs.declared.uri.error.Error.TheVariants.{InvalidCharacters, BadUri, LongUri, BadScheme}
+use Rattle.rpki_text.specs.declared.uri.error.Error.TheVariants.{DotSegments, EmptySegments, LongSegments, OutOfMemory}
 use Rattle.rpki_text.specs.Segments.{segments}
 use Rattle.rpki_text.specs.RsyncText.{piece_refusal, names_refusal, path_refusal, rsync_refusal}
 use Rattle.rpki_text.specs.HttpsText.{https_refusal}

@@ -1,10 +1,13 @@
 -- All up to the path, and equality with octets.
-use Rattle.std.proofs.Common.{◌≡◌, ◌↔◌, ℕ, ◌-◌, Bool, true, false, IsTrue, List, ◌++◌, length, take, codes, sym, refl, ap, ◌∙◌, arith}
+use Rattle.std.proofs.Common.{◌≡◌, ◌↔◌, ℕ, ◌-◌, Bool, true, false, IsTrue, List, ◌++◌, length, take, codes, sym, refl}
+use Rattle.std.proofs.Common.{ap, ◌∙◌, arith}
 use Rattle.std.specs.List.{list_all}
-use Rattle.std.proofs.lemmas.List.{append_cancel_right, length-drop, length-take-le, append_assoc, take-append-drop, length-append}
+use Rattle.std.proofs.lemmas.List.{append_cancel_right, length-drop, length-take-le, append_assoc, take-append-drop}
+use Rattle.std.proofs.lemmas.List.{length-append}
 use Rattle.std.proofs.Math.Seq.{take-append_seam}
 use Rattle.rpki_text.specs.UriText.{is_uri_byte, lowercase, same_text}
-use Rattle.rpki_text.specs.RsyncText.{IsCut, authority_of, module_name_of, path_of, module_of, canonical_module_of, eq_rsync_bytes}
+use Rattle.rpki_text.specs.RsyncText.{IsCut, authority_of, module_name_of, path_of, module_of, canonical_module_of}
+use Rattle.rpki_text.specs.RsyncText.{eq_rsync_bytes}
 use Rattle.rpki_text.proofs.CutLaws.{cut-facts, list-all-take}
 use Rattle.rpki_text.proofs.LawLaws.{halves}
 use Rattle.rpki_text.proofs.MeaningLaws.{cut-lengths}
@@ -28,13 +31,16 @@ module-halves t m p c =
     let front : List ℕ = (take m t ++ module_name_of t) ++ codes "/" in
     let whole : t ≡ front ++ path_of t =
     sym (take-append-drop m t) ∙ ap (λ s. take m t ++ s) h.back ∙ regroup (take m t) (module_name_of t) (path_of t) in
-    let size : length front ≡ p = length-append (take m t ++ module_name_of t) (codes "/") ∙ omega (arith, length-append (take m t) (module_name_of t), lm, sizes.1, facts.module_name) in
-    module-is t m p c ∙ ap (take p) whole ∙ ap (λ n. take n (front ++ path_of t)) (sym size) ∙ take-append_seam front (path_of t) where
+    let size : length front ≡ p = length-append (take m t ++ module_name_of t) (codes "/") ∙ omega
+    (arith, length-append (take m t) (module_name_of t), lm, sizes.1, facts.module_name) in
+    module-is t m p c ∙ ap (take p) whole ∙ ap (λ n. take n (front ++ path_of t)) (sym size) ∙ take-append_seam front
+    (path_of t) where
       regroup : (a b d : List ℕ) → a ++ ((b ++ codes "/") ++ d) ≡ ((a ++ b) ++ codes "/") ++ d
       regroup a b d = simp append_assoc refl
 
 -- the front in lower case, and then the module's name
-pub canonical-by : (t lower : List ℕ) → lower ≡ codes "rsync://" ++ lowercase (authority_of t) ++ codes "/" → lower ++ module_name_of t ++ codes "/" ≡ canonical_module_of t
+pub canonical-by : (t lower : List ℕ) → lower ≡ codes "rsync://" ++ lowercase (authority_of t) ++ codes "/"
+    → lower ++ module_name_of t ++ codes "/" ≡ canonical_module_of t
 unfolding canonical_module_of
 canonical-by t lower e = ap (λ s. s ++ module_name_of t ++ codes "/") e
 
@@ -42,13 +48,17 @@ canonical-by t lower e = ap (λ s. s ++ module_name_of t ++ codes "/") e
 pub lower-site : (t site : List ℕ) → lowercase site ≡ codes "rsync://" ++ lowercase (authority_of t) ++ codes "/"
     → module_of t ≡ site ++ module_name_of t ++ codes "/" → canonical_module_of t ≡ module_of t → lowercase site ≡ site
 lower-site t site low is same =
-    append_cancel_right _ _ (module_name_of t) (append_cancel_right _ _ (codes "/") (canonical-by t (lowercase site) low ∙ same ∙ is))
+    append_cancel_right _ _ (module_name_of t)
+    (append_cancel_right _ _ (codes "/") (canonical-by t (lowercase site) low ∙ same ∙ is))
 
 -- so it allocates nothing where a test says that there is one
-pub borrowed : {P : Type 0} (t site : List ℕ) (b : Bool) → lowercase site ≡ codes "rsync://" ++ lowercase (authority_of t) ++ codes "/"
-    → module_of t ≡ site ++ module_name_of t ++ codes "/" → IsTrue b ↔ (lowercase site ≡ site) → b ≡ false → canonical_module_of t ≡ module_of t → P
+pub borrowed : {P : Type 0} (t site : List ℕ) (b : Bool)
+    → lowercase site ≡ codes "rsync://" ++ lowercase (authority_of t) ++ codes "/"
+    → module_of t ≡ site ++ module_name_of t ++ codes "/" → IsTrue b ↔ (lowercase site ≡ site) → b ≡ false
+    → canonical_module_of t ≡ module_of t → P
 borrowed t site true low is test h same = absurd (cc)
-borrowed t site false low is test h same = absurd (let yes : false ≡ true = test.1 (lower-site t site low is same) in cc)
+borrowed t site false low is test h same =
+    absurd (let yes : false ≡ true = test.1 (lower-site t site low is same) in cc)
 
 -- ---- equality with octets
 

@@ -1,10 +1,12 @@
 -- Where the parent of a text ends, by the places where the text is cut.
-use Rattle.std.proofs.Common.{◌≡◌, ℕ, ◌+◌, ◌-◌, true, List, ◌++◌, length, take, Option, None, Some, sym, refl, ap, ◌∙◌, subst}
+use Rattle.std.proofs.Common.{◌≡◌, ℕ, ◌+◌, ◌-◌, true, List, ◌++◌, length, take, Option, None, Some, sym, refl, ap, ◌∙◌}
+use Rattle.std.proofs.Common.{subst}
 use Rattle.std.proofs.lemmas.List.{length-take-le}
 use Rattle.std.specs.Option.{option_map}
 use Rattle.rpki_text.specs.Segments.{segments, path_text, IsParentLen}
 use Rattle.rpki_text.specs.UriText.{lowercase}
-use Rattle.rpki_text.specs.RsyncText.{RsyncUri, authority_of, module_name_of, path_of, module_of, parent_of, parent_uri, uri_of, without_last, IsCut, IsParentEnd}
+use Rattle.rpki_text.specs.RsyncText.{RsyncUri, authority_of, module_name_of, path_of, module_of, parent_of, parent_uri}
+use Rattle.rpki_text.specs.RsyncText.{uri_of, without_last, IsCut, IsParentEnd}
 use Rattle.rpki_text.proofs.CutLaws.{cut-facts}
 use Rattle.rpki_text.proofs.ModuleLaws.{module-is}
 use Rattle.rpki_text.proofs.JoinLaws.{parent-cut, parent-meaning}
@@ -22,7 +24,8 @@ pub parent_end-cut : (t : List ℕ) (m p n : ℕ) → IsCut t m p → IsParentEn
 parent_end-cut t m p n c k =
     subst (λ (j : ℕ). IsCut (take j t) m p) (end-at t m p n c k) (parent-cut t m p c k.len k.path)
 
-pub parent_end-meaning : (t : List ℕ) (m p n : ℕ) → IsCut t m p → IsParentEnd t n → Some (uri_of (take n t)) ≡ parent_uri (uri_of t)
+pub parent_end-meaning : (t : List ℕ) (m p n : ℕ) → IsCut t m p → IsParentEnd t n
+    → Some (uri_of (take n t)) ≡ parent_uri (uri_of t)
 parent_end-meaning t m p n c k =
     ap (λ j. Some (uri_of (take j t))) (sym (end-at t m p n c k)) ∙ parent-meaning t m p c k.len k.path
 
@@ -31,9 +34,16 @@ pub parent_none-meaning : (t : List ℕ) → parent_of t ≡ None → parent_uri
 unfolding parent_of parent_uri uri_of
 parent_none-meaning t e = by_names (without_last (segments (path_of t))) e where
   made : List (List ℕ) → RsyncUri
-  made names = record { authority = lowercase (authority_of t); module_name = module_name_of t; segments = names; is_dir = true }
+  made names = record {
+    authority = lowercase (authority_of t);
+    module_name = module_name_of t;
+    segments = names;
+    is_dir
+        = true;
+  }
 
-  by_names : (o : Option (List (List ℕ))) → option_map (λ names. take (length t - length (path_of t)) t ++ path_text names true) o ≡ None
+  by_names : (o : Option (List (List ℕ)))
+      → option_map (λ names. take (length t - length (path_of t)) t ++ path_text names true) o ≡ None
       → option_map made o ≡ None
   by_names None h = refl
   by_names (Some names) h = cc

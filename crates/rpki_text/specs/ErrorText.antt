@@ -1,7 +1,8 @@
 -- The numbers and the texts of what can be wrong with a URI.
 use Rattle.std.specs.Prelude.{ℕ, List, codes}
 use Rattle.rpki_text.specs.declared.uri.error.Error.{Error}
-use Rattle.rpki_text.specs.declared.uri.error.Error.TheVariants.{InvalidCharacters, BadUri, LongUri, BadScheme, DotSegments, EmptySegments, LongSegments, OutOfMemory}
+use Rattle.rpki_text.specs.declared.uri.error.Error.TheVariants.{InvalidCharacters, BadUri, LongUri, BadScheme}
+use Rattle.rpki_text.specs.declared.uri.error.Error.TheVariants.{DotSegments, EmptySegments, LongSegments, OutOfMemory}
 
 abbrev pub error_number : Error → ℕ
 error_number InvalidCharacters = 1

@@ -1,9 +1,7 @@
 -- URIs as general names: primitive values under the context-specific tag 6 (RFC 5280 4.2.1.6).
 use Rattle.std.specs.Prelude.{ℕ, ◌≡◌, false, List, None}
 use Rattle.rpki_der.specs.declared.error.DecodeError.{DecodeError}
-use Rattle.rpki_der.specs.TagName.{context_6}
-use Rattle.rpki_der.specs.Reading.{OrMemoryWhere, Finds}
-use Rattle.rpki_der.specs.Values.{SpellsContents, IsLeafFault}
+use Rattle.rpki_der.specs.Prelude.{context_6, OrMemoryWhere, Finds, SpellsContents, IsLeafFault}
 use Rattle.rpki_text.specs.RsyncText.{rsync_refusal}
 use Rattle.rpki_text.specs.HttpsText.{https_refusal}
 

@@ -1,6 +1,7 @@
 -- The text of an https URI (RFC 9110 section 4.2.2): its parts, the first thing that is wrong with it, what it stands
 -- for.
-use Rattle.std.specs.Prelude.{ℕ, ◌≡◌, ◌+◌, ◌-◌, ◌&&◌, not, Bool, false, List, [], ◌++◌, length, take, drop, codes, flat_map, if◌then◌else◌, nat_le, nat_lt, bytes_eq, Option, Some, None}
+use Rattle.std.specs.Prelude.{ℕ, ◌≡◌, ◌+◌, ◌-◌, ◌&&◌, not, Bool, false, List, [], ◌++◌, length, take, drop, codes}
+use Rattle.std.specs.Prelude.{flat_map, if◌then◌else◌, nat_le, nat_lt, bytes_eq, Option, Some, None}
 use Rattle.std.specs.List.{list_all, list_any, before_first, suffix_len}
 use Rattle.std.specs.Option.{option_map}
 use Rattle.std.specs.Ordering.{on, eq_of_both}

@@ -1,7 +1,8 @@
 -- The laws of the definitions, each a fact.
 use Rattle.std.specs.Prelude.{ℕ, ◌≡◌, ◌↔◌, ◌&&◌, true, List, bytes_eq}
 use Rattle.rpki_text.specs.HttpsText.{HttpsUri, IsHttpsUri, SpellsHttps, https_uri_of, same_https, https_parent_uri}
-use Rattle.rpki_text.specs.RsyncText.{RsyncUri, IsRsyncUri, Spells, uri_of, same_uri, parent_uri, canonical_module_of, path_of}
+use Rattle.rpki_text.specs.RsyncText.{RsyncUri, IsRsyncUri, Spells, uri_of, same_uri, parent_uri, canonical_module_of}
+use Rattle.rpki_text.specs.RsyncText.{path_of}
 
 -- what a text stands for is what is read from it
 abbrev pub OneMeaning : Type 0

@@ -1,5 +1,6 @@
 -- The text of an rsync URI (RFC 5781 section 2): its parts, the first thing that is wrong with it, what it stands for.
-use Rattle.std.specs.Prelude.{ℕ, ◌==◌, ◌≡◌, ◌+◌, ◌-◌, ◌||◌, ◌&&◌, not, Bool, true, List, [], ◌∷◌, ◌++◌, length, take, drop, codes, flat_map, if◌then◌else◌, nat_le, nat_lt, bytes_eq, Option, Some, None}
+use Rattle.std.specs.Prelude.{ℕ, ◌==◌, ◌≡◌, ◌+◌, ◌-◌, ◌||◌, ◌&&◌, not, Bool, true, List, [], ◌∷◌, ◌++◌, length, take}
+use Rattle.std.specs.Prelude.{drop, codes, flat_map, if◌then◌else◌, nat_le, nat_lt, bytes_eq, Option, Some, None}
 use Rattle.std.specs.List.{list_all, list_any, before_first, after_first, position_or_len}
 use Rattle.std.specs.Option.{option_or, option_map, is_some}
 use Rattle.std.specs.Ordering.{on, eq_of_both}
@@ -7,7 +8,8 @@ use Rattle.std.specs.Cmp.Lexicographic.{pointwise}
 use Rattle.std.specs.Hash as fed
 use mathlib.Core.Bool.{beq}
 use Rattle.rpki_text.specs.declared.uri.error.Error.{Error}
-use Rattle.rpki_text.specs.declared.uri.error.Error.TheVariants.{InvalidCharacters, BadUri, LongUri, BadScheme, DotSegments, EmptySegments, LongSegments}
+use Rattle.rpki_text.specs.declared.uri.error.Error.TheVariants.{InvalidCharacters, BadUri, LongUri, BadScheme}
+use Rattle.rpki_text.specs.declared.uri.error.Error.TheVariants.{DotSegments, EmptySegments, LongSegments}
 use Rattle.rpki_text.specs.UriText.{lowercase, is_uri_byte, same_text}
 use Rattle.rpki_text.specs.Segments.{is_slash, segments, is_dir, path_text, with_slash, IsParentLen}
 

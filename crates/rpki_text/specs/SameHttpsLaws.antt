@@ -2,7 +2,8 @@
 use Rattle.std.specs.Prelude.{◌≡◌, ℕ, true, List, ◌++◌, bytes_eq, codes, flat_map}
 use Rattle.std.proofs.Common.{ap, ◌∙◌}
 use Rattle.std.specs.Ordering.{on}
-use Rattle.std.specs.Cmp.{first_so, second_so, IsEquivalence, IsPartialEquivalence, on_equiv, and_equiv, nat_eq_equiv, partial_equiv_from_equiv}
+use Rattle.std.specs.Cmp.{first_so, second_so, IsEquivalence, IsPartialEquivalence, on_equiv, and_equiv, nat_eq_equiv}
+use Rattle.std.specs.Cmp.{partial_equiv_from_equiv}
 use Rattle.std.specs.Cmp.Lexicographic.{lists_equiv}
 use Rattle.std.specs.Hash as fed
 use Rattle.std.proofs.lemmas.Slice.Eq.{bytes_eq-Decides}

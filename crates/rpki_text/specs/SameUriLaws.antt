@@ -3,7 +3,8 @@ use Rattle.std.specs.Prelude.{◌≡◌, ℕ, Bool, true, false, ◌&&◌, List,
 use Rattle.std.proofs.Common.{sym, ap, ◌∙◌}
 use Rattle.std.specs.Ordering.{on}
 use Rattle.std.specs.Bool.{Decides}
-use Rattle.std.specs.Cmp.{booleans_Decides, first_so, second_so, both_ways, IsEquivalence, IsPartialEquivalence, on_equiv, and_equiv, nat_eq_equiv, bool_eq_equiv, partial_equiv_from_equiv}
+use Rattle.std.specs.Cmp.{booleans_Decides, first_so, second_so, both_ways, IsEquivalence, IsPartialEquivalence}
+use Rattle.std.specs.Cmp.{on_equiv, and_equiv, nat_eq_equiv, bool_eq_equiv, partial_equiv_from_equiv}
 use Rattle.std.specs.Cmp.Lexicographic.{pointwise, pointwise_decides, lists_equiv}
 use Rattle.std.specs.Hash as fed
 use mathlib.Core.Bool.{beq}

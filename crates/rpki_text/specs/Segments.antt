@@ -1,5 +1,6 @@
 -- A path as its segments (RFC 3986 section 3.3): what lies between slashes, without an empty last piece.
-use Rattle.std.specs.Prelude.{ℕ, ◌==◌, ◌≡◌, Bool, true, false, List, [], ◌∷◌, ◌++◌, codes, length, take, ◌≤◌, if◌then◌else◌}
+use Rattle.std.specs.Prelude.{ℕ, ◌==◌, ◌≡◌, Bool, true, false, List, [], ◌∷◌, ◌++◌, codes, length, take, ◌≤◌}
+use Rattle.std.specs.Prelude.{if◌then◌else◌}
 use Rattle.std.specs.List.{slice_split, join_with_byte}
 
 abbrev pub is_slash : ℕ → Bool

@@ -1,7 +1,8 @@
 //! Laws of the definitions. Each function does nothing, and its contract is the law that it is named for; the laws of
 //! single calls stand on those calls.
 
-ghost use Rattle.rpki_text.specs.Laws.{OneMeaning, EqualParts, EqualParents, EqualModuleAndPath, OneHttpsMeaning, EqualHttpsParts, EqualHttpsParents};
+ghost use Rattle.rpki_text.specs.Laws.{OneMeaning, EqualParts, EqualParents, EqualModuleAndPath, OneHttpsMeaning};
+ghost use Rattle.rpki_text.specs.Laws.{EqualHttpsParts, EqualHttpsParents};
 
 /// A text stands for at most one rsync URI: the one that is read from it.
 pub fn rsync_texts_have_one_meaning()

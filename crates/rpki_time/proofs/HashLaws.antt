@@ -1,5 +1,6 @@
 -- What is hashed of serial numbers and times tells them apart.
-use Rattle.std.proofs.Common.{◌≡◌, ◌↔◌, ℕ, zero, suc, ◌+◌, ◌*◌, ◌/◌, ◌%◌, ◌^◌, ◌<◌, ℤ, List, ◌∷◌, refl, sym, ap, ◌∙◌, arith}
+use Rattle.std.proofs.Common.{◌≡◌, ◌↔◌, ℕ, zero, suc, ◌+◌, ◌*◌, ◌/◌, ◌%◌, ◌^◌, ◌<◌, ℤ, List, ◌∷◌, refl, sym, ap, ◌∙◌}
+use Rattle.std.proofs.Common.{arith}
 use Rattle.std.proofs.Math.Nat.{mod-eq_of_lt, one-le-pow, pow-suc}
 use Rattle.std.proofs.Math.Arith.{mod-mul}
 use Rattle.std.proofs.Math.Facts.{Fits-of_z}
@@ -26,7 +27,8 @@ low-same zero m n e = omega arith
 low-same (suc k) m n e =
     let top : m / 256 ^ k % 256 ≡ n / 256 ^ k % 256 = cc in
     let rest = low-same k m n (cc) in
-    first-apart k m ∙ ap (λ q. q * 256 ^ k + m % 256 ^ k) top ∙ ap (λ r. (n / 256 ^ k % 256) * 256 ^ k + r) rest ∙ sym (first-apart k n)
+    first-apart k m ∙ ap (λ q. q * 256 ^ k + m % 256 ^ k) top ∙ ap (λ r. (n / 256 ^ k % 256) * 256 ^ k + r) rest ∙ sym
+    (first-apart k n)
 
 pub serials-hashed : (m n : ℕ) → m < 2 ^ 160 → n < 2 ^ 160
     → (slice u8 (low_octets 20 m) ≡ slice u8 (low_octets 20 n)) ↔ (m ≡ n)
@@ -45,10 +47,12 @@ in-width t = let range = civil_nanos_range t in omega (arith, signed_arith)
 
 pub times-hashed : (t u : DateTime) → (i128 (civil_nanos t) ≡ i128 (civil_nanos u)) ↔ (civil_nanos t ≡ civil_nanos u)
 times-hashed t u = (
-  λ e. let octets : le_bytes 16 (cast_unsigned w128 (civil_nanos t)) ≡ le_bytes 16 (cast_unsigned w128 (civil_nanos u)) = cc in
+  λ e. let octets : le_bytes 16 (cast_unsigned w128 (civil_nanos t)) ≡ le_bytes 16 (cast_unsigned w128 (civil_nanos u))
+      = cc in
       let bits = octets-same (cast_unsigned w128 (civil_nanos t)) (cast_unsigned w128 (civil_nanos u))
       ((Fits-of_z (in-width t)).fits) ((Fits-of_z (in-width u)).fits) octets in
-      sym (to_z-of_z w128 (civil_nanos t) (in-width t)) ∙ ap (cast_signed w128) bits ∙ to_z-of_z w128 (civil_nanos u) (in-width u),
+      sym (to_z-of_z w128 (civil_nanos t) (in-width t)) ∙ ap (cast_signed w128) bits ∙ to_z-of_z w128 (civil_nanos u)
+      (in-width u),
   λ e. ap i128 e,
 )
 

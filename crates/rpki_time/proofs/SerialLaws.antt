@@ -1,12 +1,11 @@
 -- Numbers below 2 ^ 159, their octets and their contents.
-use Rattle.std.proofs.Common.{◌≡◌, ℕ, suc, ◌+◌, ◌-◌, ◌*◌, ◌^◌, ◌<◌, ◌≤◌, ◌⊎◌, inl, inr, List, [], ◌∷◌, length, get_or, take, drop, length-drop, add-zero, arith, refl, sym, ap, ◌∙◌, subst}
+use Rattle.std.proofs.Common.{◌≡◌, ℕ, suc, ◌+◌, ◌-◌, ◌*◌, ◌^◌, ◌<◌, ◌≤◌, ◌⊎◌, inl, inr, List, [], ◌∷◌, length, get_or}
+use Rattle.std.proofs.Common.{take, drop, length-drop, add-zero, arith, refl, sym, ap, ◌∙◌, subst}
 use Rattle.std.proofs.lemmas.Bool.{cases_order, cases_lt}
 use Rattle.std.proofs.lemmas.List.{get_or-drop, take_rest}
 use Rattle.std.proofs.Math.Nat.{pow-le-pow_right, mul-le-mul_right}
 use borrow.Rule.Slice.PartMut.{mid_of}
-use Rattle.rpki_der.specs.Number.{number_of, AreOctets}
-use Rattle.rpki_der.specs.NumberLaws.{number-lt}
-use Rattle.rpki_der.specs.Integer.{WritesNumber, IsUnsigned, IsMinimal, IsMagnitude}
+use Rattle.rpki_der.specs.Prelude.{number_of, AreOctets, number-lt, WritesNumber, IsUnsigned, IsMinimal, IsMagnitude}
 use Rattle.rpki_der.proofs.IntegerLaws.{IsUnsigned-minimal, AreOctets-drop, contents-short}
 use Rattle.rpki_time.specs.Serial.{IsLong, IsSerialContents}
 
@@ -69,14 +68,22 @@ pub serial-short : (n : ℕ) (c : List ℕ) → IsUnsigned n c → n < 2 ^ 159 �
 serial-short n c h small = (h, contents-short n c h small)
 
 -- what the loop over the leading octets stops at
-pub kept-IsUnsigned : (n k : ℕ) (xs : List ℕ) → length xs ≡ 20 → AreOctets xs → number_of xs ≡ n → k ≤ 19 → number_of (drop k xs) ≡ number_of xs → get_or xs k 0 < 128 → (k < 19 → (0 < get_or xs k 0) ⊎ (128 ≤ get_or xs (k + 1) 0)) → IsUnsigned n (mid_of k (20 - k) xs)
+pub kept-IsUnsigned : (n k : ℕ) (xs : List ℕ) → length xs ≡ 20 → AreOctets xs → number_of xs ≡ n → k ≤ 19
+    → number_of (drop k xs) ≡ number_of xs → get_or xs k 0 < 128
+    → (k < 19 → (0 < get_or xs k 0) ⊎ (128 ≤ get_or xs (k + 1) 0)) → IsUnsigned n (mid_of k (20 - k) xs)
 kept-IsUnsigned n k xs len o e le same bit more =
     let left : length (drop k xs) ≡ 20 - k = omega (arith, length-drop k xs) in
     let whole : take (20 - k) (drop k xs) ≡ drop k xs = rw (← len) (take_rest xs k) in
     let first : get_or (drop k xs) 0 0 ≡ get_or xs k 0 = get_or-drop k xs 0 0 ∙ ap (λ i. get_or xs i 0) (add-zero k) in
     let second : get_or (drop k xs) 1 0 ≡ get_or xs (k + 1) 0 = get_or-drop k xs 1 0 in
-    let w : WritesNumber n (drop k xs) = record { octets = AreOctets-drop k xs o; value = same ∙ e; nonempty = omega arith; first_bit = omega arith } in
-    let m : IsMinimal (drop k xs) = record { nonempty = omega arith; first_bit = omega arith; nine_bits = λ long. elim (more (omega arith)) [ inl some ↦ inl (omega arith) | inr high ↦ inr (omega arith) ] } in
+    let w : WritesNumber n (drop k xs) = record
+    { octets = AreOctets-drop k xs o; value = same ∙ e; nonempty = omega arith; first_bit = omega arith } in
+    let m : IsMinimal (drop k xs) = record {
+      nonempty = omega arith;
+      first_bit = omega arith;
+      nine_bits = λ long. elim (more (omega arith))
+          [ inl some ↦ inl (omega arith) | inr high ↦ inr (omega arith) ];
+    } in
     subst (IsUnsigned n) (sym whole) (IsUnsigned-minimal n (drop k xs) w m)
 
 -- octets that are not too long write a number below 2 ^ 159

@@ -4,11 +4,10 @@ use Rattle.std.specs.Prelude.{codes}
 use Rattle.jiff.specs.Types.{DateTime}
 use Rattle.rpki_der.specs.declared.error.ContentError.{ContentError}
 use Rattle.rpki_der.specs.declared.error.DecodeError.{DecodeError}
-use Rattle.rpki_der.specs.declared.error.DecodeError.TheVariants.{Truncated, BadTag, BadLength, Unexpected, Content, Trailing, OutOfMemory}
-use Rattle.rpki_der.specs.ErrorText.{text_of}
-use Rattle.rpki_der.specs.TagName.{TagName}
-use Rattle.rpki_der.specs.Reading.{Spells, Accepts, Refusal}
-use Rattle.rpki_der.specs.WantedValue.{SpellsWanted, IsWantedFault, IsAnyTag, IsPrimitive}
+use Rattle.rpki_der.specs.declared.error.DecodeError.TheVariants.{Truncated, BadTag, BadLength, Unexpected, Content}
+use Rattle.rpki_der.specs.declared.error.DecodeError.TheVariants.{Trailing, OutOfMemory}
+use Rattle.rpki_der.specs.Prelude.{text_of, TagName, Spells, Accepts, Refusal, SpellsWanted, IsWantedFault, IsAnyTag}
+use Rattle.rpki_der.specs.Prelude.{IsPrimitive}
 use Rattle.rpki_der.proofs.ReadingLaws.{Refusal-weaker}
 use Rattle.rpki_time.specs.TimeValue.{ReadsAs, SpellsTime, IsTimeFault}
 use Rattle.rpki_time.proofs.TextLaws.{utc-unique, generalized-unique}
@@ -17,8 +16,10 @@ use Rattle.rpki_time.proofs.TextLaws.{utc-unique, generalized-unique}
 pub one-time : (tag : TagName) (c : List ℕ) (t u : DateTime) → ReadsAs tag c t → ReadsAs tag c u → u ≡ t
 one-time tag c t u (inl h) (inl k) = utc-unique c u t k.1 h.1
 one-time tag c t u (inr h) (inr k) = generalized-unique c u t k.1 h.1
-one-time tag c t u (inl h) (inr k) = absurd (let e : 23 ≡ 24 = ap (λ (x : TagName). x.number) (sym h.0 ∙ k.0) in omega arith)
-one-time tag c t u (inr h) (inl k) = absurd (let e : 24 ≡ 23 = ap (λ (x : TagName). x.number) (sym h.0 ∙ k.0) in omega arith)
+one-time tag c t u (inl h) (inr k) =
+    absurd (let e : 23 ≡ 24 = ap (λ (x : TagName). x.number) (sym h.0 ∙ k.0) in omega arith)
+one-time tag c t u (inr h) (inl k) =
+    absurd (let e : 24 ≡ 23 = ap (λ (x : TagName). x.number) (sym h.0 ∙ k.0) in omega arith)
 
 abbrev flat : TagName → Bool → List ℕ → TagName × Bool × List ℕ
 flat t f c = (t, f, c)
@@ -30,8 +31,10 @@ not-both false h k = cc
 -- ---- times
 
 -- a time is a primitive value
-primitive-of : (s : List ℕ) (t : DateTime) (r : List ℕ) → (k : Spells SpellsTime s t r) → Spells (SpellsWanted IsPrimitive) s (flat k.spelled.tag false k.spelled.text) r
-primitive-of s t r k = record { front = k.front; parts = k.parts; spelled = record { wanted = refl; value = k.spelled.value } }
+primitive-of : (s : List ℕ) (t : DateTime) (r : List ℕ) → (k : Spells SpellsTime s t r)
+    → Spells (SpellsWanted IsPrimitive) s (flat k.spelled.tag false k.spelled.text) r
+primitive-of s t r k =
+    record { front = k.front; parts = k.parts; spelled = record { wanted = refl; value = k.spelled.value } }
 
 primitive-fault : (s : List ℕ) (e : DecodeError) → IsWantedFault IsPrimitive s e → IsTimeFault s e
 primitive-fault s Truncated h = h
@@ -53,28 +56,42 @@ time-exactly s Trailing h z = h
 time-exactly s OutOfMemory h z = h
 
 -- there is no primitive value
-pub primitive-refused : (s q : List ℕ) (e : DecodeError) → Refusal (SpellsWanted IsPrimitive) (IsWantedFault IsPrimitive) s q e → Refusal SpellsTime IsTimeFault s s e
+pub primitive-refused : (s q : List ℕ) (e : DecodeError)
+    → Refusal (SpellsWanted IsPrimitive) (IsWantedFault IsPrimitive) s q e → Refusal SpellsTime IsTimeFault s s e
 primitive-refused s q e h =
-    let k = Refusal-weaker {H = SpellsTime} {L = IsTimeFault} (λ none t r k. none _ r (primitive-of s t r k)) (primitive-fault s e) h in
+    let k = Refusal-weaker {H = SpellsTime} {L = IsTimeFault} (λ none t r k. none _ r (primitive-of s t r k))
+    (primitive-fault s e) h in
     record { unchanged = refl; refuses = k.refuses; kind = k.kind }
 
 -- what a time that begins the octets is, where a primitive value was found
-pub moved : (s : List ℕ) (tag : TagName) (c r : List ℕ) (u : DateTime) (q : List ℕ) → Accepts (SpellsWanted IsPrimitive) s (flat tag false c) r → Spells SpellsTime s u q → ReadsAs tag c u × (q ≡ r)
+pub moved : (s : List ℕ) (tag : TagName) (c r : List ℕ) (u : DateTime) (q : List ℕ)
+    → Accepts (SpellsWanted IsPrimitive) s (flat tag false c) r → Spells SpellsTime s u q → ReadsAs tag c u × (q ≡ r)
 moved s tag c r u q a k =
     let e = a.only (flat k.spelled.tag false k.spelled.text) q (primitive-of s u q k) in
     let same_tag : k.spelled.tag ≡ tag = ap (λ (x : TagName × Bool × List ℕ). x.0) e.0 in
-    let same_text : k.spelled.text ≡ c = ap (λ (x : TagName × Bool × List ℕ). x.2) e.0 in
-    (subst (λ (x : TagName). ReadsAs x c u) same_tag (subst (λ (x : List ℕ). ReadsAs k.spelled.tag x u) same_text k.spelled.reads), e.1)
+    let same_text : k.spelled.text ≡ c = ap (λ (x : TagName × Bool × List ℕ). x.2) e.0 in (
+      subst (λ (x : TagName). ReadsAs x c u) same_tag
+          (subst (λ (x : List ℕ). ReadsAs k.spelled.tag x u) same_text k.spelled.reads),
+      e.1,
+    )
 
 -- its text reads as a time
-pub time-accepted : (s : List ℕ) (tag : TagName) (c r : List ℕ) (t : DateTime) → Accepts (SpellsWanted IsPrimitive) s (flat tag false c) r → ReadsAs tag c t → Accepts SpellsTime s t r
+pub time-accepted : (s : List ℕ) (tag : TagName) (c r : List ℕ) (t : DateTime)
+    → Accepts (SpellsWanted IsPrimitive) s (flat tag false c) r → ReadsAs tag c t → Accepts SpellsTime s t r
 time-accepted s tag c r t a h = record {
-  spells = record { front = a.spells.front; parts = a.spells.parts; spelled = record { tag = tag; text = c; value = a.spells.spelled.value; reads = h } };
+  spells = record {
+    front = a.spells.front;
+    parts = a.spells.parts;
+    spelled = record
+        { tag = tag; text = c; value = a.spells.spelled.value; reads = h };
+  };
   only = λ u q k. let m = moved s tag c r u q a k in (one-time tag c t u h m.0, m.1);
 }
 
 -- its text reads as no time
-pub time-malformed : (s : List ℕ) (tag : TagName) (c r : List ℕ) (x : ContentError) → Accepts (SpellsWanted IsPrimitive) s (flat tag false c) r → ((t : DateTime) → ReadsAs tag c t → ⊥) → text_of x ≡ codes "malformed time value" → Refusal SpellsTime IsTimeFault s s (Content x)
+pub time-malformed : (s : List ℕ) (tag : TagName) (c r : List ℕ) (x : ContentError)
+    → Accepts (SpellsWanted IsPrimitive) s (flat tag false c) r → ((t : DateTime) → ReadsAs tag c t → ⊥)
+    → text_of x ≡ codes "malformed time value" → Refusal SpellsTime IsTimeFault s s (Content x)
 time-malformed s tag c r x a none text = record {
   unchanged = refl;
   refuses = λ u q k. none u (moved s tag c r u q a k).0;

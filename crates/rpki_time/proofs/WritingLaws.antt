@@ -1,9 +1,8 @@
 -- The contents that are computed are the shortest.
-use Rattle.std.proofs.Common.{◌≡◌, ℕ, zero, suc, ◌+◌, ◌*◌, ◌/◌, ◌%◌, ◌^◌, ◌<◌, ◌≤◌, inl, inr, List, [], ◌∷◌, ◌++◌, length, arith, refl, sym, ap, ◌∙◌, subst}
+use Rattle.std.proofs.Common.{◌≡◌, ℕ, zero, suc, ◌+◌, ◌*◌, ◌/◌, ◌%◌, ◌^◌, ◌<◌, ◌≤◌, inl, inr, List, [], ◌∷◌, ◌++◌}
+use Rattle.std.proofs.Common.{length, arith, refl, sym, ap, ◌∙◌, subst}
 use Rattle.std.proofs.lemmas.Bool.{cases_order, cases_lt, lt-ltb, le-ltb}
-use Rattle.rpki_der.specs.Number.{number_of, AreOctets}
-use Rattle.rpki_der.specs.NumberLaws.{power}
-use Rattle.rpki_der.specs.Integer.{WritesNumber, IsUnsigned, IsMinimal}
+use Rattle.rpki_der.specs.Prelude.{number_of, AreOctets, power, WritesNumber, IsUnsigned, IsMinimal}
 use Rattle.rpki_time.specs.Serial.{contents_within, serial_contents}
 use Rattle.rpki_der.proofs.IntegerLaws.{IsUnsigned-minimal}
 
@@ -49,7 +48,9 @@ small n h = record {
 
 larger : (n : ℕ) (c : List ℕ) → 128 ≤ n → Good (n / 256) c → Good n (c ++ (n % 256) ∷ [])
 larger n c h g =
-    let m = minimal-end c (n % 256) g.minimal (λ e. let none : n / 256 ≡ 0 = sym g.writes.value ∙ ap number_of e ∙ (let z : number_of (0 ∷ []) ≡ 0 = omega arith in z) in omega arith) in
+    let m = minimal-end c (n % 256) g.minimal
+    (λ e. let none : n / 256 ≡ 0 = sym g.writes.value ∙ ap number_of e ∙
+    (let z : number_of (0 ∷ []) ≡ 0 = omega arith in z) in omega arith) in
     record {
       writes = record {
         octets = octets-end c (n % 256) g.writes.octets (omega arith);
@@ -84,7 +85,8 @@ unfolding contents_within
 within-few zero n = omega arith
 within-few (suc k) n = elim (cases_lt n 128) [
   | inl lt ↦ rw (lt-ltb n 128 lt) (omega arith)
-  | inr ge ↦ rw (le-ltb n 128 ge) (omega (arith, length-end (contents_within k (n / 256)) (n % 256), within-few k (n / 256)))
+  | inr ge ↦ rw (le-ltb n 128 ge)
+      (omega (arith, length-end (contents_within k (n / 256)) (n % 256), within-few k (n / 256)))
 ]
 
 pub serial_contents-few : (n : ℕ) → length (serial_contents n) ≤ 20

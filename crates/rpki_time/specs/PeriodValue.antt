@@ -1,11 +1,8 @@
 -- Validity periods as values (RFC 5280 4.1.2.5).
 use Rattle.std.specs.Prelude.{◌≡◌, ℕ, true, List, ◌++◌}
-use Rattle.rpki_der.specs.TagName.{sequence}
-use Rattle.rpki_der.specs.Header.{tlv}
 use Rattle.rpki_der.specs.declared.error.DecodeError.{DecodeError}
-use Rattle.rpki_der.specs.Values.{SpellsLeaf}
-use Rattle.rpki_der.specs.FirstFault.{FirstFault, IsEndFault, IsInsideFault}
-use Rattle.rpki_time.specs.TimeValue.{SpellsTime, IsTimeFault, time_octets}
+use Rattle.rpki_der.specs.Prelude.{sequence, tlv, Format, around, then, only, said_by}
+use Rattle.rpki_time.specs.TimeValue.{SpellsTime, time, time_octets}
 use Rattle.rpki_time.specs.Validity.{Period}
 
 -- two times and nothing else, the start first
@@ -16,17 +13,20 @@ pub record IsPeriod (p : Period) (contents : List ℕ) : Type 0 where
   pub not_before : SpellsTime p.not_before start
   pub not_after : SpellsTime p.not_after end
 
+-- the format of such contents: a time, and another, and nothing else
+abbrev pub times : Format Period
+times = said_by IsPeriod (then time (only time))
+
 -- a SEQUENCE of two times
+abbrev pub period : Format Period
+period = around sequence times
+
+-- both sides of it
 abbrev pub SpellsPeriod : Period → List ℕ → Type 0
-SpellsPeriod = SpellsLeaf sequence true IsPeriod
+SpellsPeriod = period.spells
 
--- the error of such contents: that of the start; then that of the end; then that something follows
-abbrev pub IsTimesFault : List ℕ → DecodeError → Type 0
-IsTimesFault = FirstFault SpellsTime IsTimeFault (λ start. FirstFault SpellsTime IsTimeFault (λ end. IsEndFault))
-
--- the error of a period: that of the SEQUENCE; then that of its contents
 abbrev pub IsPeriodFault : List ℕ → DecodeError → Type 0
-IsPeriodFault = IsInsideFault sequence true IsTimesFault
+IsPeriodFault = period.fault
 
 -- what is written of a period
 abbrev pub period_octets : Period → List ℕ

@@ -1,13 +1,10 @@
 -- Serial numbers: unsigned INTEGERs of at most 20 contents octets (RFC 5280 4.1.2.2, X.690 8.3).
-use Rattle.std.specs.Prelude.{◌≡◌, ◌⊎◌, ◌≤◌, ◌<◌, ◌/◌, ◌%◌, nat_lt, if◌then◌else◌, ℕ, zero, suc, false, List, [], ◌∷◌, ◌++◌, length, slice_index, codes}
+use Rattle.std.specs.Prelude.{◌≡◌, ◌⊎◌, ◌≤◌, ◌<◌, ◌/◌, ◌%◌, nat_lt, if◌then◌else◌, ℕ, zero, suc, false, List, [], ◌∷◌}
+use Rattle.std.specs.Prelude.{◌++◌, length, slice_index, codes}
 use Rattle.rpki_der.specs.declared.error.DecodeError.{DecodeError}
-use Rattle.rpki_der.specs.declared.error.DecodeError.TheVariants.{Truncated, BadTag, BadLength, Unexpected, Content, Trailing, OutOfMemory}
-use Rattle.rpki_der.specs.ErrorText.{text_of}
-use Rattle.rpki_der.specs.TagName.{integer}
-use Rattle.rpki_der.specs.Header.{tlv}
-use Rattle.rpki_der.specs.Integer.{IsUnsigned}
-use Rattle.rpki_der.specs.Reading.{Spells}
-use Rattle.rpki_der.specs.Values.{SpellsLeaf, IsLeafFault}
+use Rattle.rpki_der.specs.declared.error.DecodeError.TheVariants.{Truncated, BadTag, BadLength, Unexpected, Content}
+use Rattle.rpki_der.specs.declared.error.DecodeError.TheVariants.{Trailing, OutOfMemory}
+use Rattle.rpki_der.specs.Prelude.{text_of, integer, tlv, IsUnsigned, Spells, SpellsLeaf, IsLeafFault, Format}
 
 -- octets that no serial number is made of: more than 20, or 20 of them with the first bit set
 abbrev pub IsLong : List ℕ → Type 0
@@ -49,3 +46,6 @@ TellsLong s OutOfMemory = Unit {0}
 -- the first error of a reader of a serial number: that of an INTEGER; Content where it is negative or longer
 abbrev pub IsSerialFault : List ℕ → DecodeError → Type 0
 IsSerialFault s e = IsLeafFault integer false IsSerialContents s e × TellsLong s e
+
+abbrev pub serial_number : Format ℕ
+serial_number = record { spells = SpellsSerial; fault = IsSerialFault }

@@ -1,5 +1,6 @@
 -- What contracts see of a time: the civil date-time that jiff has, in the years 0 to 9999, and its nanoseconds.
-use Rattle.std.specs.Prelude.{◌≡◌, ℕ, ◌<◌, ◌≤◌, ◌&&◌, ◌==◌, if◌then◌else◌, ℤ, pos, ◌+ℤ◌, ◌*ℤ◌, ◌<ℤ◌, ◌≤ℤ◌, List, Result, Ok}
+use Rattle.std.specs.Prelude.{◌≡◌, ℕ, ◌<◌, ◌≤◌, ◌&&◌, ◌==◌, if◌then◌else◌, ℤ, pos, ◌+ℤ◌, ◌*ℤ◌, ◌<ℤ◌, ◌≤ℤ◌, List, Result}
+use Rattle.std.specs.Prelude.{Ok}
 use Rattle.std.proofs.Common.{lit<}
 use Rattle.rpki_der.specs.declared.error.DecodeError.{DecodeError}
 use Rattle.jiff.specs.Types.{DateTime}

@@ -2,14 +2,10 @@
 use Rattle.std.specs.Prelude.{◌≡◌, ◌⊎◌, ℕ, Bool, true, false, List, codes}
 use Rattle.jiff.specs.Types.{DateTime}
 use Rattle.rpki_der.specs.declared.error.DecodeError.{DecodeError}
-use Rattle.rpki_der.specs.declared.error.DecodeError.TheVariants.{Truncated, BadTag, BadLength, Unexpected, Content, Trailing, OutOfMemory}
-use Rattle.rpki_der.specs.ErrorText.{text_of}
-use Rattle.rpki_der.specs.TagName.{TagName, utc_time, generalized_time}
-use Rattle.rpki_der.specs.Header.{tlv}
-use Rattle.rpki_der.specs.Reading.{Spells}
-use Rattle.rpki_der.specs.Values.{SpellsContents, HasTag}
-use Rattle.rpki_der.specs.WantedValue.{SpellsWanted, IsPrimitive, IsWantedFault}
-use Rattle.rpki_der.specs.Tree.{Tree}
+use Rattle.rpki_der.specs.declared.error.DecodeError.TheVariants.{Truncated, BadTag, BadLength, Unexpected, Content}
+use Rattle.rpki_der.specs.declared.error.DecodeError.TheVariants.{Trailing, OutOfMemory}
+use Rattle.rpki_der.specs.Prelude.{text_of, TagName, utc_time, generalized_time, tlv, Spells, SpellsContents, HasTag}
+use Rattle.rpki_der.specs.Prelude.{SpellsWanted, IsPrimitive, IsWantedFault, Format, leaf, Tree}
 use Rattle.rpki_der.specs.Tree.Tree.{Primitive}
 use Rattle.rpki_time.specs.TimeText.{utc_text, generalized_text, is_utc_year, ReadsAsUtc, ReadsAsGeneralized}
 
@@ -39,6 +35,13 @@ IsTimeFault s Unexpected = IsWantedFault IsPrimitive s Unexpected
 IsTimeFault s (Content e) = (text_of e ≡ codes "malformed time value") × HasNoTime s
 IsTimeFault s Trailing = ⊥
 IsTimeFault s OutOfMemory = ⊥
+
+abbrev pub time : Format DateTime
+time = record { spells = SpellsTime; fault = IsTimeFault }
+
+-- generalized time alone, as manifests have it (RFC 9286 4.2.1)
+abbrev pub generalized : Format DateTime
+generalized = leaf generalized_time (λ t text. ReadsAsGeneralized text t)
 
 -- s begins with the identifier octets of one of the two tags, in one form or the other
 abbrev pub HasTimeTag : List ℕ → Type 0

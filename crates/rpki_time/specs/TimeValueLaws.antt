@@ -2,10 +2,8 @@
 use Rattle.std.specs.Prelude.{◌≡◌, ◌↔◌, Bool, true, false, refl}
 use Rattle.std.proofs.Common.{lit<}
 use Rattle.jiff.specs.Types.{DateTime}
-use Rattle.rpki_der.specs.TagName.{IsTag, utc_time, generalized_time}
-use Rattle.rpki_der.specs.Members.{IsValue, IsValueList}
-use Rattle.rpki_der.specs.ValueListLaws.{primitive_value}
-use Rattle.rpki_der.specs.Tree.{tree_octets, IsShortTree}
+use Rattle.rpki_der.specs.Prelude.{IsTag, utc_time, generalized_time, IsValue, IsValueList, primitive_value}
+use Rattle.rpki_der.specs.Prelude.{tree_octets, IsShortTree}
 use Rattle.rpki_time.specs.TimeText.{utc_text, generalized_text, is_utc_year}
 use Rattle.rpki_time.specs.TimeValue.{octets_where, time_octets, tree_where, time_tree}
 

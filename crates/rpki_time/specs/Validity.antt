@@ -20,7 +20,8 @@ Spans start end p = (civil_nanos p.not_before ≡ start) × (civil_nanos p.not_a
 
 -- two periods have the same ends
 abbrev pub HaveSameEnds : Period → Period → Type 0
-HaveSameEnds p q = (civil_nanos p.not_before ≡ civil_nanos q.not_before) × (civil_nanos p.not_after ≡ civil_nanos q.not_after)
+HaveSameEnds p q =
+    (civil_nanos p.not_before ≡ civil_nanos q.not_before) × (civil_nanos p.not_after ≡ civil_nanos q.not_after)
 
 -- the period from the earlier of the two moments to the later
 abbrev pub SpansBetween : ℤ → ℤ → Period → Type 0

@@ -4,12 +4,12 @@
 ghost use Rattle.std.specs.Prelude.{◌≡◌, ◌≤◌, ◌<◌, ◌^◌, ◌<ℤ◌, ◌↔◌, ℕ, ℤ, List, ◌++◌, length, true, IsTrue, IfOk, Ok};
 ghost use Rattle.jiff.specs.Types.{DateTime as Civil};
 ghost use Rattle.jiff.specs.Words.{civil_nanos};
-ghost use Rattle.rpki_der.specs.Cursor.{left};
-ghost use Rattle.rpki_der.specs.Integer.{IsUnsigned};
+ghost use Rattle.rpki_der.specs.Prelude.{left, IsUnsigned};
 ghost use Rattle.rpki_time.specs.PeriodValue.{period_octets};
 ghost use Rattle.rpki_time.specs.Serial.{IsSerialContents, serial_contents, serial_octets};
 ghost use Rattle.rpki_time.specs.Time.{IsTimeYear, cut, ReadsCut};
-ghost use Rattle.rpki_time.specs.TimeText.{IsUtcYear, is_utc_year, utc_text, generalized_text, ReadsAsUtc, ReadsAsGeneralized};
+ghost use Rattle.rpki_time.specs.TimeText.{IsUtcYear, is_utc_year, utc_text, generalized_text, ReadsAsUtc};
+ghost use Rattle.rpki_time.specs.TimeText.{ReadsAsGeneralized};
 ghost use Rattle.rpki_time.specs.TimeValue.{time_octets, utc_octets, generalized_octets};
 ghost use Rattle.rpki_time.specs.declared.serial.SerialSliceError.{SerialSliceError as NoSerial};
 ghost use Rattle.rpki_time.specs.Validity.{Period, AreTimeYears, HaveSameEnds, IsTrimmed, cut_period};

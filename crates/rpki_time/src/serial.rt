@@ -6,12 +6,9 @@ ghost use Rattle.std.specs.Cmp.{partial_order_from_own_ties};
 ghost use Rattle.std.specs.Cmp.Rules.{comparing, hashing};
 ghost use Rattle.std.specs.Hash as fed;
 ghost use Rattle.std.specs.Result.{OkIff};
-ghost use Rattle.std.proofs.Common.{rules, ap};
-ghost use Rattle.rpki_der.specs.Cursor.{left};
-ghost use Rattle.rpki_der.specs.Number.{number_of, low_octets};
-ghost use Rattle.rpki_der.specs.Reading.{Reads, Decodes, NeverMemory};
-ghost use Rattle.rpki_der.specs.TagName.{integer};
-ghost use Rattle.rpki_time.specs.Serial.{IsLong, SpellsSerial, IsSerialFault, serial_contents};
+ghost use Rattle.std.proofs.Common.{rules};
+ghost use Rattle.rpki_der.specs.Prelude.{left, Takes, TakesWholeInPlace, number_of, low_octets, Reads, integer};
+ghost use Rattle.rpki_time.specs.Serial.{IsLong, serial_contents, serial_number};
 ghost use Rattle.rpki_time.specs.declared.serial.SerialSliceError.TheVariants.{Long};
 
 use rpki_der::{Constructed, ContentError, DecodeError, PrimitiveContent, Tag, write_whole};
@@ -60,7 +57,7 @@ impl Error for SerialSliceError {}
 /// The error of contents that has the same text.
 impl From<SerialSliceError> for ContentError {
     ghost use Rattle.std.specs.Prelude.{◌≡◌};
-    ghost use Rattle.rpki_der.specs.ErrorText.{text_of};
+    ghost use Rattle.rpki_der.specs.Prelude.{text_of};
     ghost use Rattle.rpki_time.specs.ErrorTexts.{serial_error_text};
 
     ghost from_gives = { λ e c. text_of c ≡ serial_error_text e };
@@ -79,8 +76,7 @@ pub struct Serial {
 
 impl Model for Serial {
     ghost use Rattle.std.specs.Prelude.{ℕ, ◌≡◌, ◌<◌, length, slice_index};
-    ghost use Rattle.rpki_der.specs.Number.{number_of, AreOctets, low_octets};
-    ghost use Rattle.rpki_der.specs.NumberLaws.{low_octets-full};
+    ghost use Rattle.rpki_der.specs.Prelude.{number_of, AreOctets, low_octets, low_octets-full};
 
     ghost Value = { ℕ };
 
@@ -153,7 +149,7 @@ impl Serial {
     ///
     /// The errors are those of [Serial::take_from]; then `Trailing` if something follows the number.
     pub fn decode(octets: &[u8]) -> Result<Serial, DecodeError>
-        ensures { Decodes (λ n. n) SpellsSerial (NeverMemory SpellsSerial IsSerialFault) octets.now result }
+        ensures { TakesWholeInPlace (λ n. n) serial_number octets.now result }
     {
         Constructed::from_slice(octets).whole(|cons| Serial::take_from(cons))
     }
@@ -164,7 +160,7 @@ impl Serial {
     /// for contents that are empty, negative or begin with nine equal bits, and, with the text `serial number longer
     /// than 20 bytes`, for a number with more octets. An error leaves the cursor where it was.
     pub fn take_from(cons: &mut Constructed<'_>) -> Result<Serial, DecodeError>
-        ensures { Reads (λ n. n) SpellsSerial IsSerialFault (left cons.old) (left cons.new) result }
+        ensures { Takes (λ n. n) serial_number (left cons.old) (left cons.new) result }
     {
         let mut after = *cons;
         let number = after.take_unsigned()?;

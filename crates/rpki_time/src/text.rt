@@ -3,7 +3,8 @@
 
 ghost use Rattle.std.specs.Prelude.{◌≡◌, ◌↔◌, ◌+◌, ◌<◌, ◌≤◌, ℕ, ℤ, pos, length, IfSome, IfNone};
 ghost use Rattle.jiff.specs.Types.{DateTime as Civil};
-ghost use Rattle.rpki_time.specs.TimeText.{two_digits, utc_text, generalized_text, ReadsAsUtc, ReadsAsGeneralized, is_utc_year};
+ghost use Rattle.rpki_time.specs.TimeText.{two_digits, utc_text, generalized_text, ReadsAsUtc, ReadsAsGeneralized};
+ghost use Rattle.rpki_time.specs.TimeText.{is_utc_year};
 ghost use Rattle.rpki_time.specs.TextPlaces.{IsPairAt, HasTailAt};
 ghost use Rattle.rpki_time.specs.Time.{HasParts, ArePossible, IsTimeYear};
 

@@ -2,7 +2,8 @@
 
 ghost use Rattle.std.specs.Prelude.{◌≡◌, ◌↔◌, pos, ◌+ℤ◌, ◌-ℤ◌, IsSome, IfSome, Ok, IsOk, IfOk, IsOkAnd};
 ghost use Rattle.jiff.specs.Words.{civil_nanos, signed_nanos, parse_timestamp};
-ghost use Rattle.rpki_time.specs.Time.{IsTimeYear, IsTimeNanos, HasParts, ArePossible, IsFloorSecond, IsYearsOn, common_day, seconds};
+ghost use Rattle.rpki_time.specs.Time.{IsTimeYear, IsTimeNanos, HasParts, ArePossible, IsFloorSecond, IsYearsOn};
+ghost use Rattle.rpki_time.specs.Time.{common_day, seconds};
 
 use jiff::civil::DateTime;
 use jiff::tz::Offset;

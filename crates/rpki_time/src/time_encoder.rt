@@ -1,9 +1,7 @@
 //! Writing times.
 
 ghost use Rattle.std.specs.Prelude.{◌≡◌, ◌<◌, ◌^◌, ◌↔◌, false, length};
-ghost use Rattle.rpki_der.specs.Header.{tlv};
-ghost use Rattle.rpki_der.specs.TagName.{utc_time, generalized_time};
-ghost use Rattle.rpki_der.specs.Written.{Writes};
+ghost use Rattle.rpki_der.specs.Prelude.{tlv, utc_time, generalized_time, Writes};
 ghost use Rattle.jiff.specs.Types.{DateTime as Civil};
 ghost use Rattle.rpki_time.specs.Time.{IsTimeYear, cut};
 ghost use Rattle.rpki_time.specs.TimeText.{utc_text, generalized_text, IsUtcYear};

@@ -2,9 +2,8 @@
 
 ghost use Rattle.std.specs.Prelude.{IfSome, IfNone};
 ghost use Rattle.jiff.specs.Types.{DateTime as Civil};
-ghost use Rattle.rpki_der.specs.Cursor.{left};
-ghost use Rattle.rpki_der.specs.Reading.{Reads, ReadsWhere, Decodes, NeverMemory};
-ghost use Rattle.rpki_time.specs.TimeValue.{ReadsAs, SpellsTime, IsTimeFault, HasTimeTag};
+ghost use Rattle.rpki_der.specs.Prelude.{left, Takes, TakesWholeInPlace, Reads, ReadsWhere};
+ghost use Rattle.rpki_time.specs.TimeValue.{ReadsAs, generalized, SpellsTime, IsTimeFault, HasTimeTag, time};
 
 use crate::time::Time;
 use rpki_der::{Class, Constructed, DecodeError, Tag};
@@ -29,7 +28,7 @@ impl Time {
     ///
     /// The errors are those of [Time::take_from]; then `Trailing` if something follows the time.
     pub fn decode(octets: &[u8]) -> Result<Time, DecodeError>
-        ensures { Decodes (λ t. t) SpellsTime (NeverMemory SpellsTime IsTimeFault) octets.now result }
+        ensures { TakesWholeInPlace (λ t. t) time octets.now result }
     {
         Constructed::from_slice(octets).whole(|cons| Time::take_from(cons))
     }
@@ -40,7 +39,7 @@ impl Time {
     /// `Content`, with the text `malformed time value`, for every other primitive value of any tag. An error leaves the
     /// cursor where it was.
     pub fn take_from(cons: &mut Constructed<'_>) -> Result<Time, DecodeError>
-        ensures { Reads (λ t. t) SpellsTime IsTimeFault (left cons.old) (left cons.new) result }
+        ensures { Takes (λ t. t) time (left cons.old) (left cons.new) result }
     {
         let mut after = *cons;
         let (tag, text) = match after.take_primitive() {
@@ -54,6 +53,25 @@ impl Time {
             }
             None => Err(DecodeError::content("malformed time value")),
         }
+    }
+
+    /// Reads generalized time (X.690 11.7), as manifests have it (RFC 9286 4.2.1). Allocates nothing.
+    ///
+    /// The errors are those of a header; then `Unexpected` for another tag or form; then `Truncated`; then `Content`,
+    /// with the text `malformed time value`. An error leaves the cursor where it was.
+    pub fn take_generalized_from(cons: &mut Constructed<'_>) -> Result<Time, DecodeError>
+        ensures { Takes (λ t. t) generalized (left cons.old) (left cons.new) result }
+    {
+        let mut after = *cons;
+        let text = match after.take_primitive_if(Tag::GENERALIZED_TIME) {
+            Ok(text) => text,
+            Err(e) => return Err(e),
+        };
+        let Some(time) = Time::from_generalized_text(text) else {
+            return Err(DecodeError::content("malformed time value"));
+        };
+        *cons = after;
+        Ok(time)
     }
 
     /// As [Time::take_from] where what is left begins with the identifier octets of one of the two tags, in either

@@ -1,13 +1,12 @@
 //! Validity periods.
 
-ghost use Rattle.std.specs.Prelude.{length, ◌<◌, ◌^◌, true, ◌≡◌, ◌↔◌, ◌+ℤ◌, ◌<ℤ◌, ◌≤ℤ◌, ◌*ℤ◌, pos, IsSome, IfSome, IsOk, IfErr, IsErrOf, IsTrue};
+ghost use Rattle.std.specs.Prelude.{length, ◌<◌, ◌^◌, true, ◌≡◌, ◌↔◌, ◌+ℤ◌, ◌<ℤ◌, ◌≤ℤ◌, ◌*ℤ◌, IsSome, IfSome, IsOk};
+ghost use Rattle.std.specs.Prelude.{IfErr, IsErrOf, IsTrue};
 ghost use Rattle.jiff.specs.Types.{DateTime as Civil};
 ghost use Rattle.jiff.specs.Words.{civil_nanos, signed_nanos};
 ghost use Rattle.rpki_time.specs.Time.{IsTimeNanos, seconds};
-ghost use Rattle.rpki_der.specs.Cursor.{left};
-ghost use Rattle.rpki_der.specs.Reading.{Reads, Decodes, NeverMemory};
-ghost use Rattle.rpki_der.specs.FirstFault.{ReadsParts};
-ghost use Rattle.rpki_time.specs.PeriodValue.{IsPeriod, SpellsPeriod, IsTimesFault, IsPeriodFault, period_octets};
+ghost use Rattle.rpki_der.specs.Prelude.{left, Takes, TakesAll, TakesWholeInPlace, Reads};
+ghost use Rattle.rpki_time.specs.PeriodValue.{period_octets, period, times};
 ghost use Rattle.rpki_time.specs.Validity.{Period, AreTimeYears, HoldsAt, SpansBetween, IsTrimmed, cut_period};
 
 use crate::time::Time;
@@ -174,7 +173,7 @@ impl Validity {
     ///
     /// The errors are those of [Validity::take_from]; then `Trailing` if something follows the period.
     pub fn decode(octets: &[u8]) -> Result<Validity, DecodeError>
-        ensures { Decodes (λ p. p) SpellsPeriod (NeverMemory SpellsPeriod IsPeriodFault) octets.now result }
+        ensures { TakesWholeInPlace (λ p. p) period octets.now result }
     {
         Constructed::from_slice(octets).whole(|cons| Validity::take_from(cons))
     }
@@ -185,11 +184,11 @@ impl Validity {
     /// The errors are those of [Constructed::take_sequence] if there is no SEQUENCE; else that of the first time that
     /// could not be read, or `Trailing` if more follows. An error leaves the cursor where it was.
     pub fn take_from(cons: &mut Constructed<'_>) -> Result<Validity, DecodeError>
-        ensures { Reads (λ p. p) SpellsPeriod IsPeriodFault (left cons.old) (left cons.new) result }
+        ensures { Takes (λ p. p) period (left cons.old) (left cons.new) result }
     {
         cons.in_sequence(
             |contents|
-                ensures { ReadsParts (λ p. p) IsPeriod IsTimesFault (left contents.old) (left contents.new) result }
+                ensures { TakesAll (λ p. p) times (left contents.old) (left contents.new) result }
             {
                 let not_before = match Time::take_from(contents) {
                     Ok(time) => time,

@@ -29,6 +29,7 @@ enum Reader {
     Serial,
     Time,
     OptionalTime,
+    GeneralizedTime,
     Period,
 }
 
@@ -104,6 +105,13 @@ fn read_optional_time(cursor: &mut Constructed<'_>) -> Found {
     }
 }
 
+fn read_generalized_time(cursor: &mut Constructed<'_>) -> Found {
+    match Time::take_generalized_from(cursor) {
+        Ok(time) => Found::Time(parts_of(time)),
+        Err(e) => refusal(&e),
+    }
+}
+
 fn read_period(cursor: &mut Constructed<'_>) -> Found {
     match Validity::take_from(cursor) {
         Ok(period) => Found::Period(parts_of(period.not_before()), parts_of(period.not_after())),
@@ -116,6 +124,7 @@ fn answer(reader: Reader, cursor: &mut Constructed<'_>) -> Found {
         Reader::Serial => read_serial(cursor),
         Reader::Time => read_time(cursor),
         Reader::OptionalTime => read_optional_time(cursor),
+        Reader::GeneralizedTime => read_generalized_time(cursor),
         Reader::Period => read_period(cursor),
     }
 }
@@ -370,6 +379,30 @@ const READ: &[(&str, Reader, &[u8], (Found, usize))] = &[
         (Found::Time((1950, 1, 1, 0, 0, 0)), 0),
     ),
     (
+        "generalized time alone",
+        Reader::GeneralizedTime,
+        b"\x18\x0f20300102030405Z\x05",
+        (Found::Time((2030, 1, 2, 3, 4, 5)), 1),
+    ),
+    (
+        "generalized time alone, of a year of UTC time",
+        Reader::GeneralizedTime,
+        b"\x18\x0f19990102030405Z",
+        (Found::Time((1999, 1, 2, 3, 4, 5)), 0),
+    ),
+    (
+        "UTC time for generalized time",
+        Reader::GeneralizedTime,
+        b"\x17\x0d990102030405Z",
+        (Found::Refused(Outcome::Unexpected), 15),
+    ),
+    (
+        "generalized time alone without seconds",
+        Reader::GeneralizedTime,
+        b"\x18\x0d203001020304Z",
+        (Found::Malformed, 15),
+    ),
+    (
         "optional generalized time",
         Reader::OptionalTime,
         b"\x18\x0f00000101000000Z",
@@ -508,6 +541,12 @@ fn read_whole(reader: Reader, octets: &[u8]) -> Found {
             Ok(time) => Found::Time(parts_of(time)),
             Err(e) => refusal(&e),
         },
+        Reader::GeneralizedTime => {
+            match Constructed::from_slice(octets).whole(|cons| Time::take_generalized_from(cons)) {
+                Ok(time) => Found::Time(parts_of(time)),
+                Err(e) => refusal(&e),
+            }
+        }
         Reader::Period => match Validity::decode(octets) {
             Ok(period) => Found::Period(
                 parts_of(period.not_before()),

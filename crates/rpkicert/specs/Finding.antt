@@ -4,25 +4,43 @@ use Rattle.rpki_der.specs.declared.error.DecodeError.TheVariants as der
 use Rattle.rpki_der.specs.Reading.{SpellsNothing, IsWholeFault}
 use Rattle.rpki_cert.specs.Cert.{TbsParts, CertParts, SpellsCert}
 use Rattle.rpki_cert.specs.CertFault.{IsCertFault}
-use Rattle.rpki_cert.specs.Profile.{IsTaProfile, IsCaProfile, IsEeProfile, IsRouterProfile}
+use Rattle.rpki_cert.specs.Profile.{IsTaProfile, IsCaProfile, IsEeProfile, IsDetachedProfile, IsRouterProfile}
+use Rattle.rpki_cert.specs.declared.rule.CertRule.{CertRule}
+use Rattle.rpki_cert.specs.Rule.{ta_rules, ca_rules, ee_rules, detached_rules, router_rules}
+use Rattle.rpki_cert.specs.RuleError.{IsFirstError}
+use Rattle.rpki.specs.declared.repository.error.ValidationError.{ValidationError}
 use Rattle.rpkicert.specs.declared.profile.Profile.{Profile}
-use Rattle.rpkicert.specs.declared.profile.Profile.TheVariants.{Ta, Ca, Ee, Router}
+use Rattle.rpkicert.specs.declared.profile.Profile.TheVariants.{Ta, Ca, Ee, Detached, Router}
 use Rattle.rpkicert.specs.declared.fault.Fault.{Fault}
 use Rattle.rpkicert.specs.declared.fault.Fault.TheVariants.{Unreadable, TooLarge, OutOfMemory, Malformed, Refused, Violated}
 use Rattle.rpkicert.specs.Pem.{octets_of}
 use Rattle.rpkicert.specs.Fault.{most_octets}
 
--- the certificate has the profile, with the names that it wants (RFC 6487 4, RFC 8209 3.1)
+-- the certificate has the profile, with the names that it wants (RFC 6487 4, RFC 9323 2, RFC 8209 3.1)
 abbrev pub HasProfile : Profile → TbsParts → Type 0
 HasProfile Ta t = IsTaProfile true t
 HasProfile Ca t = IsCaProfile true t
 HasProfile Ee t = IsEeProfile true t
+HasProfile Detached t = IsDetachedProfile true t
 HasProfile Router t = IsRouterProfile true t
+
+-- the rules of the profile, in their order
+abbrev pub rules_of : Profile → List CertRule
+rules_of Ta = ta_rules
+rules_of Ca = ca_rules
+rules_of Ee = ee_rules
+rules_of Detached = detached_rules
+rules_of Router = router_rules
 
 -- the same where a profile is asked for
 abbrev pub Meets : Option Profile → TbsParts → Type 0
 Meets None t = Unit {0}
 Meets (Some profile) t = HasProfile profile t
+
+-- the error is that of the first of the rules that the certificate breaks
+abbrev pub IsViolation : Option Profile → TbsParts → ValidationError → Type 0
+IsViolation None t e = ⊥
+IsViolation (Some profile) t e = IsFirstError true t (rules_of profile) e
 
 -- a certificate and its octets, or a fault
 abbrev pub Finding : Type 0
@@ -48,7 +66,7 @@ abbrev pub HoldsTo : Option Profile → List ℕ → Finding → Type 0
 HoldsTo profile octets (Ok found) =
     (found.0 ≡ octets) × IsCertificate octets found.1 × Meets profile found.1.tbs
 HoldsTo profile octets (Err (Violated e)) =
-    (c : CertParts) × IsCertificate octets c × (Meets profile c.tbs → ⊥)
+    (c : CertParts) × IsCertificate octets c × (Meets profile c.tbs → ⊥) × IsViolation profile c.tbs e
 HoldsTo profile octets (Err (Refused e)) = IsRefusal octets (Refused e)
 HoldsTo profile octets (Err OutOfMemory) = Unit {0}
 HoldsTo profile octets (Err Unreadable) = ⊥

@@ -1,6 +1,6 @@
 -- Names as texts: the string form of RFC 4514, but in the order in which the name has its parts, and with a space after
 -- a comma and around a plus sign.
-use Rattle.std.specs.Prelude.{◌≡◌, ℕ, nat_eq, nat_lt, ◌||◌, if◌then◌else◌, List, [], ◌∷◌, ◌++◌, drop, codes, bytes_eq, slice_index, Bool}
+use Rattle.std.specs.Prelude.{◌≡◌, ℕ, nat_eq, nat_lt, ◌||◌, ◌&&◌, ◌-◌, true, false, length, if◌then◌else◌, List, [], ◌∷◌, ◌++◌, take, drop, codes, bytes_eq, slice_index, Bool}
 use Rattle.std.specs.List.{flat_map}
 use Rattle.rpki_der.specs.Front.{front_contents}
 use Rattle.rpki_der.specs.Reading.{Spells}
@@ -26,12 +26,21 @@ is_special octet =
     || nat_eq octet 61 || nat_eq octet 62 || nat_eq octet 92
 
 -- an octet of a string: those after a reverse solidus, and one that isn't a printable character of ASCII by its digits
--- after a reverse solidus (RFC 4514 2.4)
-abbrev pub name_octet : ℕ → List ℕ
-name_octet octet =
-    if is_special octet then 92 ∷ octet ∷ []
+-- after a reverse solidus; a space is after one, too, where it is the first octet or the last (RFC 4514 2.4)
+abbrev pub octet_text : Bool → ℕ → List ℕ
+octet_text edge octet =
+    if is_special octet || (edge && nat_eq octet 32) then 92 ∷ octet ∷ []
     else if nat_lt octet 32 || nat_lt 126 octet then 92 ∷ hex_pair octet
     else octet ∷ []
+
+-- the octets after the first: those between, and the last
+abbrev pub rest_text : List ℕ → List ℕ
+rest_text rest =
+    flat_map (octet_text false) (take (length rest - 1) rest) ++ flat_map (octet_text true) (drop (length rest - 1) rest)
+
+-- a string: its first octet, and the others
+abbrev pub string_text : List ℕ → List ℕ
+string_text string = flat_map (octet_text true) (take 1 string) ++ rest_text (drop 1 string)
 
 -- a value that begins with the identifier octet of a PrintableString, a UTF8String or an IA5String is a string
 abbrev pub is_string : ℕ → Bool
@@ -40,7 +49,7 @@ is_string first = nat_eq first 19 || nat_eq first 12 || nat_eq first 22
 -- a string by its characters, any other value by the digits of its octets after a number sign
 abbrev pub value_text : List ℕ → List ℕ
 value_text value =
-    if is_string (slice_index value 0) then flat_map name_octet (front_contents value)
+    if is_string (slice_index value 0) then string_text (front_contents value)
     else 35 ∷ hex_digits value
 
 abbrev pub attribute_text : Attribute → List ℕ

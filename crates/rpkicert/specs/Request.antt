@@ -7,7 +7,7 @@ use Rattle.clap.specs.declared.builder.action.ArgAction.TheVariants.{Append, Set
 use Rattle.rpkicert.specs.declared.rendering.Form.{Form}
 use Rattle.rpkicert.specs.declared.rendering.Form.TheVariants.{Text, Json}
 use Rattle.rpkicert.specs.declared.profile.Profile.{Profile}
-use Rattle.rpkicert.specs.declared.profile.Profile.TheVariants.{Ta, Ca, Ee, Router}
+use Rattle.rpkicert.specs.declared.profile.Profile.TheVariants.{Ta, Ca, Ee, Detached, Router}
 
 -- ---- the command, in the words of `clap`
 
@@ -56,6 +56,7 @@ profile_of word =
     if bytes_eq word (codes "ta") then Some Ta
     else if bytes_eq word (codes "ca") then Some Ca
     else if bytes_eq word (codes "ee") then Some Ee
+    else if bytes_eq word (codes "detached") then Some Detached
     else if bytes_eq word (codes "router") then Some Router
     else None
 

@@ -1,12 +1,12 @@
 //! Names as texts (RFC 4514).
 
-ghost use Rattle.std.specs.Prelude.{◌≡◌, ◌++◌, List, drop, OnOk, IfOk};
+ghost use Rattle.std.specs.Prelude.{◌≡◌, ◌++◌, List, take, drop, OnOk, IfOk};
 ghost use Rattle.std.specs.List.{flat_map};
 ghost use Rattle.rpki_der.specs.Cursor.{left};
 ghost use Rattle.rpki_der.specs.Reading.{Spells};
 ghost use Rattle.rpki_der.specs.Front.{front_contents};
 ghost use Rattle.rpki.specs.Name.{Attribute, attribute_of, SpellsAttribute, SpellsSome};
-ghost use Rattle.rpkicert.specs.NameText.{attribute_name, is_special, name_octet, value_text, plus_attribute, AddsRelative, AreRelatives, IsNameText};
+ghost use Rattle.rpkicert.specs.NameText.{attribute_name, is_special, octet_text, rest_text, string_text, value_text, plus_attribute, AddsRelative, AreRelatives, IsNameText};
 ghost use Rattle.rpkicert.specs.ValueText.{hex_digits};
 
 use crate::value::hex_pair;
@@ -22,6 +22,17 @@ pub fn after(text: &[u8], count: usize) -> &[u8]
         &text[count..]
     } else {
         &[]
+    }
+}
+
+/// What is in front of what is after so many octets.
+fn before(text: &[u8], count: usize) -> &[u8]
+    ensures { result.now ≡ take count text.now }
+{
+    if count <= text.len() {
+        &text[..count]
+    } else {
+        text
     }
 }
 
@@ -70,11 +81,11 @@ fn is_special(octet: u8) -> bool
         || octet == b'\\'
 }
 
-/// Adds an octet of a string.
-fn push_octet(text: &mut Vec<u8>, octet: u8) -> Result<(), AllocError>
-    ensures { OnOk result (text.new.items ≡ text.old.items ++ name_octet octet) }
+/// Adds an octet of a string, the first or the last where it is at an edge.
+fn push_octet(text: &mut Vec<u8>, octet: u8, edge: bool) -> Result<(), AllocError>
+    ensures { OnOk result (text.new.items ≡ text.old.items ++ octet_text edge octet) }
 {
-    if is_special(octet) {
+    if is_special(octet) || (edge && octet == b' ') {
         text.extend_from_slice(&[b'\\', octet])?;
         return Ok(());
     }
@@ -87,19 +98,36 @@ fn push_octet(text: &mut Vec<u8>, octet: u8) -> Result<(), AllocError>
     Ok(())
 }
 
-/// Adds a string.
-fn push_string(text: &mut Vec<u8>, string: &[u8]) -> Result<(), AllocError>
-    ensures { OnOk result (text.new.items ≡ text.old.items ++ flat_map name_octet string.now) }
+/// Adds octets of a string, which are all at an edge or all between.
+fn push_octets(text: &mut Vec<u8>, octets: &[u8], edge: bool) -> Result<(), AllocError>
+    ensures { OnOk result (text.new.items ≡ text.old.items ++ flat_map (octet_text edge) octets.now) }
 {
-    'octets: for octet in string {
-        push_octet(text, *octet)?;
+    'octets: for octet in octets {
+        push_octet(text, *octet, edge)?;
     }
     Ok(())
 }
 
+/// Adds the octets of a string after the first.
+fn push_rest(text: &mut Vec<u8>, rest: &[u8]) -> Result<(), AllocError>
+    ensures { OnOk result (text.new.items ≡ text.old.items ++ rest_text rest.now) }
+{
+    let between = rest.len().saturating_sub(1);
+    push_octets(text, before(rest, between), false)?;
+    push_octets(text, after(rest, between), true)
+}
+
+/// Adds a string.
+fn push_string(text: &mut Vec<u8>, string: &[u8]) -> Result<(), AllocError>
+    ensures { OnOk result (text.new.items ≡ text.old.items ++ string_text string.now) }
+{
+    push_octets(text, before(string, 1), true)?;
+    push_rest(text, after(string, 1))
+}
+
 /// Adds the value of an attribute, which is a string.
 fn push_string_value(text: &mut Vec<u8>, value: &[u8], tag: Tag) -> Result<(), DecodeError>
-    ensures { OnOk result (text.new.items ≡ text.old.items ++ flat_map name_octet (front_contents value.now)) }
+    ensures { OnOk result (text.new.items ≡ text.old.items ++ string_text (front_contents value.now)) }
 {
     let mut cons = Constructed::from_slice(value);
     let contents = cons.take_primitive_if(tag)?;

@@ -1,8 +1,8 @@
-//! The profiles of certificates (RFC 6487 4, RFC 8209 3.1).
+//! The profiles of certificates (RFC 6487 4, RFC 9323 2, RFC 8209 3.1).
 
 ghost use Rattle.std.specs.Prelude.{◌≡◌};
-ghost use Rattle.rpki_cert.specs.Profile.{Checks};
-ghost use Rattle.rpkicert.specs.Finding.{Meets};
+ghost use Rattle.rpki_cert.specs.RuleError.{ChecksBy};
+ghost use Rattle.rpkicert.specs.Finding.{Meets, IsViolation};
 ghost use Rattle.rpkicert.specs.Request.{profile_of};
 
 use rpki::repository::error::ValidationError;
@@ -17,6 +17,8 @@ pub enum Profile {
     Ca,
     /// An end entity that signs an object.
     Ee,
+    /// An end entity without subject information access, whose key signs what is in no repository.
+    Detached,
     /// A BGPsec router.
     Router,
 }
@@ -32,6 +34,8 @@ impl Profile {
             Some(Profile::Ca)
         } else if word == "ee" {
             Some(Profile::Ee)
+        } else if word == "detached" {
+            Some(Profile::Detached)
         } else if word == "router" {
             Some(Profile::Router)
         } else {
@@ -40,15 +44,17 @@ impl Profile {
     }
 }
 
-/// Whether the certificate has the profile that is asked for, if one is.
+/// Whether the certificate has the profile that is asked for, if one is; the error is that of the rule of the profile
+/// that is broken first.
 pub fn inspect(profile: Option<Profile>, tbs: &TbsCert) -> Result<(), ValidationError>
-    ensures { Checks (Meets profile tbs.now) result }
+    ensures { ChecksBy (Meets profile tbs.now) (IsViolation profile tbs.now) result }
 {
     match profile {
         None => Ok(()),
         Some(Profile::Ta) => tbs.inspect_ta(true),
         Some(Profile::Ca) => tbs.inspect_ca(true),
         Some(Profile::Ee) => tbs.inspect_ee(true),
+        Some(Profile::Detached) => tbs.inspect_detached_ee(true),
         Some(Profile::Router) => tbs.inspect_router(true),
     }
 }

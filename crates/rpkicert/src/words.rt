@@ -1,7 +1,8 @@
 //! The texts of a run that are not of a file.
 
 /// How the program is used.
-pub const USAGE: &[u8] = b"usage: rpkicert [--json|--check] [--profile ta|ca|ee|router] FILE..\n";
+pub const USAGE: &[u8] =
+    b"usage: rpkicert [--json|--check] [--profile ta|ca|ee|detached|router] FILE..\n";
 
 /// The program's name and version.
 pub const VERSION: &[u8] = b"rpkicert 0.1.0\n";
@@ -13,7 +14,7 @@ pub const OUT_OF_MEMORY: &[u8] = b"rpkicert: out of memory\n";
 pub const HELP: &[u8] = b"\
 rpkicert - print certificates of the RPKI
 
-usage: rpkicert [--json|--check] [--profile ta|ca|ee|router] FILE..
+usage: rpkicert [--json|--check] [--profile ta|ca|ee|detached|router] FILE..
        rpkicert --help
        rpkicert --version
 
@@ -25,7 +26,8 @@ input.
   --json       print an object of JSON a line
   --check      print a line a file: its name, and OK or what is wrong
   --profile P  hold each certificate to the profile of a trust anchor (ta), a
-               certification authority (ca), an end entity (ee) or a BGPsec
+               certification authority (ca), an end entity (ee), one without
+               subject information access (detached, RFC 9323) or a BGPsec
                router (router)
 
 Exit status: 0 if all is well; 1 if a file is no certificate or violates the

@@ -1,6 +1,8 @@
 """Which rule of a profile a certificate breaks first (RFC 6487 4, RFC 8209 3.1, RFC 9323 2), as the statuses of
-rpki_certificate_inspect, found without the library. The certificates are well-formed, and their URIs are URIs."""
+rpki_certificate_inspect, found without the library. The certificates are well-formed but for what extensions hold, and
+what begins as a URI is one."""
 import certificates
+import rfc3779
 
 RSA = certificates.oid("1.2.840.113549.1.1.1")
 NAMES = {"constraints": "2.5.29.19", "subject key": "2.5.29.14", "authority key": "2.5.29.35", "usage": "2.5.29.15",
@@ -8,17 +10,17 @@ NAMES = {"constraints": "2.5.29.19", "subject key": "2.5.29.14", "authority key"
          "subject access": "1.3.6.1.5.5.7.1.11", "policies": "2.5.29.32", "addresses": "1.3.6.1.5.5.7.1.7",
          "addresses v2": "1.3.6.1.5.5.7.1.28", "numbers": "1.3.6.1.5.5.7.1.8", "numbers v2": "1.3.6.1.5.5.7.1.29"}
 KNOWN = {certificates.oid(text): name for name, text in NAMES.items()}
-COMMON_NAME, SERIAL_NUMBER = certificates.oid("2.5.4.3"), certificates.oid("2.5.4.5")
+COMMON_NAME, SERIAL_NUMBER, ORGANIZATION = map(certificates.oid, ("2.5.4.3", "2.5.4.5", "2.5.4.10"))
 PRINTABLE, UTF8 = 0x13, 0x0c
 
 # Of each profile its rules, in the order of crates/rpki_cert/specs/Rule.antt.
-BASIC = [85, 86, 87, 112, 94, 108, 109, 115]
+BASIC = [85, 86, 87, 112, 94, 108, 109, 115, 116]
 ORDINARY = [*BASIC, 88, 90, 98]
 PROFILES = [
-    [*ORDINARY, 92, 96, 101, 103, 104, 105, 114, 113],
-    [*ORDINARY, 92, 96, 104, 105, 95, 100, 102],
-    [*ORDINARY, 93, 97, 106, 111, 95, 100, 102],
-    [*BASIC, 89, 91, 93, 97, 110, 107, 99, 95, 100, 102],
+    [*ORDINARY, 92, 96, 101, 103, 104, 105, 118, 119, 114, 113, 117],
+    [*ORDINARY, 92, 96, 104, 105, 118, 119, 95, 100, 102],
+    [*ORDINARY, 93, 97, 106, 111, 119, 95, 100, 102],
+    [*BASIC, 89, 91, 93, 97, 110, 117, 107, 99, 95, 100, 102],
 ]
 # Those of end entities without subject information access.
 DETACHED = [*ORDINARY, 93, 97, 107, 95, 100, 102]
@@ -48,17 +50,62 @@ class Extensions:
     def value(self, name, critical):
         """The one SEQUENCE that the extension's octets are, as a list of values; else None."""
         octets = self.content(name, critical)
-        values = certificates.values_of(octets) if octets else []
+        values = nested(octets) or []
         return values[0].inside if len(values) == 1 and values[0].first == 0x30 else None
+
+    def accesses(self, name):
+        """The descriptions of an access extension, each a method and a general name; else None."""
+        pairs = [each.inside for each in self.value(name, False) or []]
+        good = pairs and all(len(pair) == 2 and pair[0].first == 6 and is_general(pair[1]) for pair in pairs)
+        return pairs if good else None
+
+
+def nested(octets):
+    """The values that octets are, with everything nested in them; None where they are none."""
+    try:
+        values = certificates.values_of(octets)
+    except IndexError:
+        return None
+    return values if octets == b"".join(value.octets() for value in values) else None
+
+
+def is_directory(values):
+    """One name: a SEQUENCE of SETs of pairs of an identifier and a value (RFC 5280 4.1.2.4)."""
+    if len(values) != 1 or values[0].first != 0x30 or not values[0].inside:
+        return False
+    relatives = values[0].inside
+    pairs = [pair for relative in relatives for pair in relative.inside]
+    return (all(relative.first == 0x31 and relative.inside for relative in relatives)
+            and all(pair.first == 0x30 and len(pair.inside) == 2 and pair.inside[0].first == 6 for pair in pairs))
+
+
+def is_identifier(octets):
+    """Subidentifiers, none of which begins with 80 (X.690 8.19.2)."""
+    ends = [0, *(place + 1 for place, octet in enumerate(octets) if octet < 0x80)]
+    return len(ends) > 1 and ends[-1] == len(octets) and all(octets[place] != 0x80 for place in ends[:-1])
+
+
+def is_general(name):
+    """A general name (RFC 5280 4.2.1.6)."""
+    if name.first in (0x81, 0x82, 0x86):
+        return name.inside.isascii()
+    if name.first == 0x87:
+        return len(name.inside) in (4, 16)
+    if name.first == 0x88:
+        return is_identifier(name.inside)
+    return name.first in (0xa0, 0xa3, 0xa5) or name.first == 0xa4 and is_directory(name.inside)
 
 
 def is_name(name, strings):
-    """One common name, and perhaps a serial number, each a string of the profile (RFC 6487 4.4, RFC 8209 3.1.1)."""
+    """One common name, and perhaps a serial number and an organization, of 1 to 64 characters each: strings of the
+    profile, the serial number a PrintableString (RFC 6487 4.4, RFC 8209 3.1.1, RFC 5280 A.1)."""
     pairs = [attribute.inside for relative in name.inside for attribute in relative.inside]
     kinds = [kind.inside for kind, value in pairs]
-    return (kinds.count(COMMON_NAME) == 1 and kinds.count(SERIAL_NUMBER) <= 1
-            and all(kind in (COMMON_NAME, SERIAL_NUMBER) for kind in kinds)
-            and all(value.first in strings for kind, value in pairs))
+    permitted = {COMMON_NAME: strings, SERIAL_NUMBER: [PRINTABLE], ORGANIZATION: strings}
+    return (kinds.count(COMMON_NAME) == 1 and len(kinds) == len(set(kinds))
+            and all(kind in permitted for kind in kinds)
+            and all(value.first in permitted[kind.inside] for kind, value in pairs)
+            and all(1 <= len(value.inside.decode()) <= 64 for kind, value in pairs))
 
 
 def is_policy(values):
@@ -75,15 +122,40 @@ def is_rsync(name):
     return name.first == 0x86 and name.inside.startswith(b"rsync://")
 
 
-def has_access(values, method):
-    """An rsync URI of this method is there (RFC 6487 4.8.7, 4.8.8)."""
-    pairs = [each.inside for each in values or []]
-    return any(kind.inside == certificates.oid(method) and is_rsync(name) for kind, name in pairs)
+def first_access(pairs, method):
+    """The first rsync URI of this method (RFC 6487 4.8.7, 4.8.8)."""
+    wanted = certificates.oid(method)
+    return next((name.inside for kind, name in pairs or [] if kind.inside == wanted and is_rsync(name)), None)
 
 
-def has_only(values, *methods):
+def has_access(pairs, method):
+    return first_access(pairs, method) is not None
+
+
+def place_of(uri):
+    """The host, the module and the names of the path of an rsync URI (RFC 5781 2)."""
+    host, *names = uri[len("rsync://"):].split(b"/")
+    return [host.lower(), *(name for name in names if name)]
+
+
+def is_manifest_below(pairs):
+    """The URI of the manifest is below that of the repository (RFC 6487 4.8.8.1)."""
+    found = [first_access(pairs, method) for method in (certificates.REPOSITORY, certificates.MANIFEST)]
+    if None in found:
+        return False
+    base, text = map(place_of, found)
+    return len(base) < len(text) and text[:len(base)] == base
+
+
+def are_notified(pairs):
+    """Descriptions are there, and those of notifications have https URIs (RFC 8182 3.2)."""
+    names = [name for kind, name in pairs or [] if kind.inside == certificates.oid(certificates.NOTIFY)]
+    return bool(pairs) and all(name.first == 0x86 and name.inside.startswith(b"https://") for name in names)
+
+
+def has_only(pairs, *methods):
     """Each description has one of these methods (RFC 6487 4.8.8.2, RFC 8182 3.2)."""
-    kinds = {each.inside[0].inside for each in values or []}
+    kinds = {kind.inside for kind, name in pairs or []}
     return bool(kinds) and kinds <= {certificates.oid(method) for method in methods}
 
 
@@ -93,7 +165,7 @@ def has_point(values):
         return False
     full = values[0].inside[0].inside
     names = full[0].inside if [each.first for each in full] == [0xa0] else []
-    return all(name.first == 0x86 for name in names) and any(map(is_rsync, names))
+    return all(name.first == 0x86 and name.inside.isascii() for name in names) and any(map(is_rsync, names))
 
 
 def is_rsa_key(it):
@@ -132,12 +204,24 @@ def is_one_version(found):
     return not (found.has("addresses", "numbers") if new else found.has("addresses v2", "numbers v2"))
 
 
+def said_resources(found):
+    """What the first extension of each kind says of resources; None where one is malformed or not critical."""
+    said = []
+    for names, reader in ((("addresses", "addresses v2"), rfc3779.ip_resources),
+                          (("numbers", "numbers v2"), rfc3779.as_resources)):
+        name = next((name for name in names if found.has(name)), None)
+        if name:
+            said.append(rfc3779.read(reader, found.content(name, True)))
+    return said
+
+
 def is_broken(it, found, strict):
     """Whether each rule is broken, by its status."""
     purposes = found.value("purposes", False)
-    resources = ["addresses", "addresses v2", "numbers", "numbers v2"]
+    names = ["addresses", "addresses v2", "numbers", "numbers v2"]
     is_rsa = it.key.inside[0].inside[0].inside == RSA
     usage = found.content("usage", True)
+    said = said_resources(found)
     holds = {
         85: any(it.serial.inside),
         86: not found.unknown,
@@ -157,20 +241,24 @@ def is_broken(it, found, strict):
         99: bool(purposes) and any(each.inside == certificates.oid(certificates.ROUTER) for each in purposes),
         100: has_point(found.value("points", False)),
         101: not found.has("points"),
-        102: has_access(found.value("issuer access", False), certificates.CA_ISSUERS),
+        102: has_access(found.accesses("issuer access"), certificates.CA_ISSUERS),
         103: not found.has("issuer access"),
-        104: has_access(found.value("subject access", False), certificates.REPOSITORY),
-        105: has_access(found.value("subject access", False), certificates.MANIFEST),
-        106: has_access(found.value("subject access", False), certificates.OBJECT),
+        104: has_access(found.accesses("subject access"), certificates.REPOSITORY),
+        105: has_access(found.accesses("subject access"), certificates.MANIFEST),
+        106: has_access(found.accesses("subject access"), certificates.OBJECT),
         107: not found.has("subject access"),
         108: is_policy(found.value("policies", True)),
-        109: found.has(*resources) and all(found.critical.get(name, True) for name in resources),
+        109: found.has(*names) and all(found.critical.get(name, True) for name in names),
         110: found.has("numbers", "numbers v2") and not found.has("addresses", "addresses v2"),
-        111: has_only(found.value("subject access", False), certificates.OBJECT, certificates.NOTIFY),
+        111: has_only(found.accesses("subject access"), certificates.OBJECT, certificates.NOTIFY),
         112: time_of(it.validity.inside[0]) <= time_of(it.validity.inside[1]),
         113: is_own_authority(found),
         114: it.tbs.inside[3].octets() == it.tbs.inside[5].octets(),
         115: is_one_version(found),
+        116: None not in said,
+        117: None not in said and all(blocks is not None for each in said for blocks in each.values()),
+        118: is_manifest_below(found.accesses("subject access")),
+        119: are_notified(found.accesses("subject access")),
     }
     return {status: not held for status, held in holds.items()}
 

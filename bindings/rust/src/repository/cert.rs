@@ -242,6 +242,15 @@ impl Cert {
         self.inspect(2, strict)
     }
 
+    /// Holds the certificate to the profile of end entities without subject information access, whose key signs what is
+    /// in no repository (RFC 9323 2), as [Cert::inspect_ta] does to another.
+    ///
+    /// # Errors
+    /// The rule that it breaks first.
+    pub fn inspect_detached_ee(&self, strict: bool) -> Result<(), CertRule> {
+        self.inspect(4, strict)
+    }
+
     /// Holds the certificate to the profile of BGPsec routers (RFC 8209 3.1), as [Cert::inspect_ta] does to another.
     ///
     /// # Errors

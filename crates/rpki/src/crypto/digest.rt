@@ -1,14 +1,11 @@
 //! Digests, and the algorithm identifier of their algorithm.
 
 ghost use Rattle.std.specs.Prelude.{◌≡◌, false, IsTrue};
-ghost use Rattle.rpki_der.specs.Cursor.{left};
-ghost use Rattle.rpki_der.specs.TagName.{oid, sequence};
-ghost use Rattle.rpki_der.specs.Reading.{Reads, ReadsWhere};
-ghost use Rattle.rpki_der.specs.Values.{HasTag, IsLeafFault};
-ghost use Rattle.rpki_der.specs.Leaves.{IsOnly};
+ghost use Rattle.rpki_der.specs.Prelude.{left, Takes, TakesWhere, oid, sequence, Reads, IsLeafFault, IsOnly};
 ghost use Rattle.rpki.specs.Oids.{sha256};
-ghost use Rattle.rpki.specs.AlgorithmFault.{IsAlgorithmFault, IsDigestSetFault};
-ghost use Rattle.rpki.specs.Digest.{SpellsDigest, SpellsDigestSet, SpellsDigestName, digest_octets, digest_set_octets, digest_name_octets};
+ghost use Rattle.rpki.specs.AlgorithmFault.{digest, digest_set};
+ghost use Rattle.rpki.specs.Digest.{SpellsDigest, SpellsDigestSet, SpellsDigestName, digest_octets, digest_set_octets};
+ghost use Rattle.rpki.specs.Digest.{digest_name_octets};
 
 use crate::crypto::Provider;
 use crate::crypto::algorithm_identifier::take_algorithm;
@@ -57,7 +54,7 @@ impl DigestAlgorithm {
     /// The errors are those of a SEQUENCE; then `Content` for another object identifier; then `Trailing` for other
     /// parameters.
     pub fn take_from(cons: &mut Constructed<'_>) -> Result<DigestAlgorithm, DecodeError>
-        ensures { Reads (λ _. tt) SpellsDigest (IsAlgorithmFault sha256) (left cons.old) (left cons.new) result }
+        ensures { Takes (λ _. tt) digest (left cons.old) (left cons.new) result }
     {
         take_algorithm(cons, oid::SHA256)?;
         Ok(DigestAlgorithm::sha256())
@@ -66,8 +63,7 @@ impl DigestAlgorithm {
     /// As [DigestAlgorithm::take_from] where what is left begins with the identifier octets of a SEQUENCE, in either
     /// form; else None, and the cursor stays where it is.
     pub fn take_opt_from(cons: &mut Constructed<'_>) -> Result<Option<DigestAlgorithm>, DecodeError>
-        ensures { ReadsWhere (HasTag sequence) (λ _. tt) SpellsDigest (IsAlgorithmFault sha256) (left cons.old)
-            (left cons.new) result }
+        ensures { TakesWhere sequence (λ _. tt) digest (left cons.old) (left cons.new) result }
     {
         if !cons.has_tag(Tag::SEQUENCE) {
             return Ok(None);
@@ -81,14 +77,14 @@ impl DigestAlgorithm {
     /// The errors are those of a SET; then those of [DigestAlgorithm::take_from]; then `Trailing` if more follows in
     /// the SET.
     pub fn take_set_from(cons: &mut Constructed<'_>) -> Result<DigestAlgorithm, DecodeError>
-        ensures { Reads (λ _. tt) SpellsDigestSet IsDigestSetFault (left cons.old) (left cons.new) result }
+        ensures { Takes (λ _. tt) digest_set (left cons.old) (left cons.new) result }
     {
         cons.in_set(|contents| DigestAlgorithm::take_from(contents))
     }
 
     /// Moves past a SET of exactly one algorithm identifier, as [DigestAlgorithm::take_set_from].
     pub fn skip_set(cons: &mut Constructed<'_>) -> Result<(), DecodeError>
-        ensures { Reads (λ _. tt) SpellsDigestSet IsDigestSetFault (left cons.old) (left cons.new) result }
+        ensures { Takes (λ _. tt) digest_set (left cons.old) (left cons.new) result }
     {
         DigestAlgorithm::take_set_from(cons)?;
         Ok(())

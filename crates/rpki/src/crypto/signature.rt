@@ -3,14 +3,12 @@
 mod bgpsec;
 mod cms;
 
-ghost use Rattle.std.specs.Prelude.{◌≡◌, ◌≢◌, ℕ, List, Bool, true, false, IfOk};
-ghost use Rattle.rpki_der.specs.Cursor.{left};
-ghost use Rattle.rpki_der.specs.Reading.{Reads, TakesNoMemory};
-ghost use Rattle.rpki_der.specs.Members.{IsValue};
+ghost use Rattle.std.specs.Prelude.{◌≡◌, ◌≢◌, ℕ, List, Bool, true, IfOk};
+ghost use Rattle.rpki_der.specs.Prelude.{left, Takes, Reads, TakesNoMemory, IsValue};
 ghost use Rattle.rpki.specs.Format.{format_of};
-ghost use Rattle.rpki.specs.Oids.{sha256_with_rsa_encryption, ecdsa_with_sha256};
+ghost use Rattle.rpki.specs.Oids.{sha256_with_rsa_encryption};
 ghost use Rattle.rpki.specs.Algorithm.{SpellsAlgorithm};
-ghost use Rattle.rpki.specs.AlgorithmFault.{IsAlgorithmFault};
+ghost use Rattle.rpki.specs.AlgorithmFault.{IsAlgorithmFault, algorithm};
 ghost use Rattle.rpki.specs.Signature.{signature_of};
 
 use crate::crypto::algorithm_identifier::take_algorithm;
@@ -167,8 +165,7 @@ impl SignatureAlgorithm for RpkiSignatureAlgorithm {
     ///
     /// The errors are those of a SEQUENCE; then `Content` for another identifier; then `Trailing` for other parameters.
     fn x509_take_from(cons: &mut Constructed<'_>) -> Result<Self, DecodeError>
-        ensures { Reads (λ a. a) (SpellsAlgorithm sha256_with_rsa_encryption)
-            (IsAlgorithmFault sha256_with_rsa_encryption) (left cons.old) (left cons.new) result }
+        ensures { Takes (λ a. a) (algorithm sha256_with_rsa_encryption) (left cons.old) (left cons.new) result }
     {
         let has_parameters = take_algorithm(cons, oid::SHA256_WITH_RSA_ENCRYPTION)?;
         Ok(RpkiSignatureAlgorithm { has_parameters })

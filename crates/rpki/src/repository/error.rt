@@ -28,7 +28,7 @@ impl InspectionError {
 /// The text of the content.
 impl fmt::Display for InspectionError {
     ghost use Rattle.std.specs.Prelude.{Some};
-    ghost use Rattle.rpki_der.specs.ErrorText.{text_of};
+    ghost use Rattle.rpki_der.specs.Prelude.{text_of};
     ghost use Rattle.rpki.specs.ErrorContent.{content_of};
 
     ghost output = { λ e. Some (text_of (content_of e)) };
@@ -80,7 +80,7 @@ impl VerificationError {
 /// The text of the content.
 impl fmt::Display for VerificationError {
     ghost use Rattle.std.specs.Prelude.{Some};
-    ghost use Rattle.rpki_der.specs.ErrorText.{text_of};
+    ghost use Rattle.rpki_der.specs.Prelude.{text_of};
     ghost use Rattle.rpki.specs.ErrorContent.{verification_content};
 
     ghost output = { λ e. Some (text_of (verification_content e)) };
@@ -104,7 +104,7 @@ impl From<ContentError> for VerificationError {
 
 /// The error with the same text.
 impl From<SignatureVerificationError> for VerificationError {
-    ghost use Rattle.rpki_der.specs.ErrorText.{text_of};
+    ghost use Rattle.rpki_der.specs.Prelude.{text_of};
     ghost use Rattle.rpki.specs.ErrorContent.{verification_content};
     ghost use Rattle.rpki.specs.ErrorTexts.{verification_text};
 
@@ -117,7 +117,7 @@ impl From<SignatureVerificationError> for VerificationError {
 
 /// The error of a certificate that is not yet valid or has expired.
 impl From<ValidityPeriodError> for VerificationError {
-    ghost use Rattle.rpki_der.specs.ErrorText.{text_of};
+    ghost use Rattle.rpki_der.specs.Prelude.{text_of};
     ghost use Rattle.rpki.specs.ErrorContent.{verification_content};
     ghost use Rattle.rpki.specs.ErrorTexts.{period_text};
 

@@ -5,7 +5,7 @@ use super::*;
 /// How many blocks a list has.
 const COUNTS: [u32; 9] = [0, 1, 127, 128, 255, 256, 65_535, 65_536, 1_048_576];
 
-fn count_rows() -> &'static [u32] {
+pub fn count_rows() -> &'static [u32] {
     &COUNTS
 }
 
@@ -50,7 +50,7 @@ fn value_size(size: u32) -> Option<u32> {
 }
 
 /// The contents of an extension of this many AS numbers, each two above the one before: of four octets, from 2^24 on.
-fn numbers(alloc: Global, count: u32) -> Result<Vec<u8>, AllocError> {
+pub fn numbers(alloc: Global, count: u32) -> Result<Vec<u8>, AllocError> {
     let Some(size) = count.checked_mul(6) else {
         return Err(AllocError);
     };

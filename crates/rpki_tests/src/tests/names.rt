@@ -91,7 +91,7 @@ struct Inspected {
     router: &'static str,
 }
 
-const INSPECTED: [Inspected; 18] = [
+const INSPECTED: [Inspected; 20] = [
     Inspected {
         name: "a common name",
         octets: &NAME,
@@ -103,6 +103,22 @@ const INSPECTED: [Inspected; 18] = [
         octets: &UTF8_NAME,
         rpki: "invalid name",
         router: "",
+    },
+    Inspected {
+        name: "a common name without characters",
+        octets: &[
+            0x30, 0x0b, 0x31, 0x09, 0x30, 0x07, 0x06, 0x03, 0x55, 0x04, 0x03, 0x13, 0x00,
+        ],
+        rpki: "invalid name",
+        router: "unpermitted string variant in common name",
+    },
+    Inspected {
+        name: "a serial number of UTF-8",
+        octets: &[
+            0x30, 0x0c, 0x31, 0x0a, 0x30, 0x08, 0x06, 0x03, 0x55, 0x04, 0x05, 0x0c, 0x01, 0x41,
+        ],
+        rpki: "invalid name",
+        router: "unpermitted string variant in common name",
     },
     Inspected {
         name: "a serial number",

@@ -1,6 +1,7 @@
 //! The characters of URIs, and texts that are compared without regard to case.
 
-ghost use Rattle.std.specs.Prelude.{◌≡◌, ◌↔◌, ◌≤◌, true, false, length, take, bytes_eq, IsTrue, IsOk, IfOk, MatchResult, fold, flat_map};
+ghost use Rattle.std.specs.Prelude.{◌≡◌, ◌↔◌, ◌≤◌, true, false, length, take, bytes_eq, IsTrue, IsOk, IfOk};
+ghost use Rattle.std.specs.Prelude.{MatchResult, fold, flat_map};
 ghost use Rattle.std.specs.Char.{is_ascii_uppercase};
 ghost use Rattle.std.specs.List.{list_all, list_any, position_or_len};
 ghost use Rattle.std.specs.Hash as fed;

@@ -1,8 +1,7 @@
 //! URIs in certificates: as IA5String contents and as general names (RFC 5280 4.2.1.6).
 
 ghost use Rattle.std.specs.Prelude.{◌≡◌, ◌<◌, ◌^◌, ◌↔◌, ℕ, List, false, length};
-ghost use Rattle.rpki_der.specs.Header.{tlv};
-ghost use Rattle.rpki_der.specs.TagName.{context_6, ia5_string};
+ghost use Rattle.rpki_der.specs.Prelude.{tlv, context_6, ia5_string};
 
 use super::https::Https;
 use super::rsync::Rsync;

@@ -1,6 +1,7 @@
 //! Https URIs (RFC 9110 section 4.2.2).
 
-ghost use Rattle.std.specs.Prelude.{◌≡◌, ◌≤◌, true, false, length, take, bytes_eq, codes, Some, None, MatchResult, ◌+◌, ◌++◌, IfSome, IsOk, IfOk, OnOk, OnErr, IfErr, string_bytes};
+ghost use Rattle.std.specs.Prelude.{◌≡◌, ◌≤◌, true, false, length, take, bytes_eq, codes, Some, None, MatchResult, ◌+◌};
+ghost use Rattle.std.specs.Prelude.{◌++◌, IfSome, IsOk, IfOk, OnOk, OnErr, IfErr, string_bytes};
 ghost use Rattle.std.specs.Cow.{cow_str_bytes};
 ghost use Rattle.std.specs.List.{list_all};
 ghost use Rattle.std.specs.Option.{option_map, unwrap_or};
@@ -9,7 +10,10 @@ ghost use Rattle.rpki_text.specs.SameHttpsLaws.{same_https-hashed, https_equiv, 
 ghost use Rattle.rpki_text.specs.Segments.{is_dir, with_slash};
 ghost use Rattle.rpki_text.specs.UriText.{lowercase, is_uri_byte};
 ghost use Rattle.rpki_text.specs.Views.{https_text};
-ghost use Rattle.rpki_text.specs.HttpsText.{https_refusal, IsHttpsCut, https_authority, https_path, https_uri_of, IsHttpsUri, SpellsHttps, same_https, https_hashed, eq_https_bytes, ends_in_slash, https_joined, https_joined_uri, https_join_refusal, https_into_dir, https_parent_of, https_parent_uri};
+ghost use Rattle.rpki_text.specs.HttpsText.{https_refusal, IsHttpsCut, https_authority, https_path, https_uri_of};
+ghost use Rattle.rpki_text.specs.HttpsText.{IsHttpsUri, SpellsHttps, same_https, https_hashed, eq_https_bytes};
+ghost use Rattle.rpki_text.specs.HttpsText.{ends_in_slash, https_joined, https_joined_uri, https_join_refusal};
+ghost use Rattle.rpki_text.specs.HttpsText.{https_into_dir, https_parent_of, https_parent_uri};
 
 use super::characters::{
     check_uri_ascii, eq_ignore_case, hash_in_lower_case, in_lower_case, same_but_case, uri_text,

@@ -1,6 +1,7 @@
 //! Paths: what follows the module of a URI, cut into segments at its slashes (RFC 3986 section 3.3).
 
-ghost use Rattle.std.specs.Prelude.{◌≡◌, ◌≤◌, ◌<◌, ◌-◌, ◌&&◌, ◌||◌, ◌==◌, [], ◌∷◌, ℕ, not, true, length, take, drop, Some, None, MatchResult, MatchOption, IfSome, IfNone};
+ghost use Rattle.std.specs.Prelude.{◌≡◌, ◌≤◌, ◌<◌, ◌-◌, ◌&&◌, ◌||◌, ◌==◌, [], ◌∷◌, ℕ, not, true, length, take, drop};
+ghost use Rattle.std.specs.Prelude.{Some, None, MatchResult, MatchOption, IfSome, IfNone};
 ghost use Rattle.std.specs.Iterator.{YieldsFirstBy, item_count};
 ghost use Rattle.std.specs.List.{suffix_len};
 ghost use Rattle.std.specs.Option.{option_copied};

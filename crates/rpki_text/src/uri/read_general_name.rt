@@ -1,10 +1,7 @@
 //! URIs read from certificates, as general names (RFC 5280 4.2.1.6).
 
 ghost use Rattle.std.specs.Prelude.{false};
-ghost use Rattle.rpki_der.specs.Cursor.{left};
-ghost use Rattle.rpki_der.specs.TagName.{context_6};
-ghost use Rattle.rpki_der.specs.Reading.{Reads};
-ghost use Rattle.rpki_der.specs.Values.{SpellsLeaf};
+ghost use Rattle.rpki_der.specs.Prelude.{left, context_6, Reads, SpellsLeaf};
 ghost use Rattle.rpki_text.specs.GeneralName.{IsRsyncText, IsHttpsText, IsNameFault};
 
 use super::https::Https;

@@ -1,6 +1,8 @@
 //! Rsync URIs (RFC 5781).
 
-ghost use Rattle.std.specs.Prelude.{◌≡◌, ◌≤◌, ◌<◌, not, true, false, length, take, drop, bytes_eq, nat_eq, nat_lt, codes, Some, None, MatchResult, ◌+◌, ◌-◌, ◌&&◌, ◌++◌, ◌^◌, IfSome, IsOk, IfOk, OnOk, OnErr, IfErr, is_some, [], string_bytes};
+ghost use Rattle.std.specs.Prelude.{◌≡◌, ◌≤◌, ◌<◌, not, true, false, length, take, drop, bytes_eq, nat_eq, nat_lt};
+ghost use Rattle.std.specs.Prelude.{codes, Some, None, MatchResult, ◌+◌, ◌-◌, ◌&&◌, ◌++◌, ◌^◌, IfSome, IsOk, IfOk};
+ghost use Rattle.std.specs.Prelude.{OnOk, OnErr, IfErr, is_some, [], string_bytes};
 ghost use Rattle.std.specs.Cow.{cow_str_bytes};
 ghost use Rattle.std.specs.List.{list_all, position_or_len, ends_with};
 ghost use Rattle.std.specs.Option.{option_copied, option_map, unwrap_or};
@@ -9,7 +11,11 @@ ghost use Rattle.rpki_text.specs.SameUriLaws.{same_uri-hashed, texts_equiv, text
 ghost use Rattle.rpki_text.specs.Segments.{is_slash, is_dir, with_slash};
 ghost use Rattle.rpki_text.specs.UriText.{lowercase, is_uri_byte};
 ghost use Rattle.rpki_text.specs.Views.{rsync_text};
-ghost use Rattle.rpki_text.specs.RsyncText.{rsync_refusal, has_module, RsyncUri, IsRsyncUri, uri_of, Spells, relative, is_parent, is_identical, IsWayBack, IsParentText, IsRsync, parent_uri, parent_of, joined, joined_uri, join_refusal, same_uri, hashed, IsCut, authority_of, module_name_of, module_of, IsAboveAllBelow, canonical_module_of, path_of, eq_rsync_bytes};
+ghost use Rattle.rpki_text.specs.RsyncText.{rsync_refusal, has_module, RsyncUri, IsRsyncUri, uri_of, Spells, relative};
+ghost use Rattle.rpki_text.specs.RsyncText.{is_parent, is_identical, IsWayBack, IsParentText, IsRsync, parent_uri};
+ghost use Rattle.rpki_text.specs.RsyncText.{parent_of, joined, joined_uri, join_refusal, same_uri, hashed, IsCut};
+ghost use Rattle.rpki_text.specs.RsyncText.{authority_of, module_name_of, module_of, IsAboveAllBelow};
+ghost use Rattle.rpki_text.specs.RsyncText.{canonical_module_of, path_of, eq_rsync_bytes};
 
 use super::characters::{
     has_no_capital, hash_in_lower_case, in_lower_case, same_but_case, uri_text,

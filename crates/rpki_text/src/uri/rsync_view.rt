@@ -1,9 +1,13 @@
 //! Rsync URIs in borrowed octets (RFC 5781).
 
-ghost use Rattle.std.specs.Prelude.{◌≡◌, ◌≢◌, ◌≤◌, ◌<◌, ◌+◌, [], ℕ, true, length, take, drop, Some, None, MatchResult, IfSome, IfNone, IfOk, OnOk, OnErr, IfErr, is_some, slice_range};
+ghost use Rattle.std.specs.Prelude.{◌≡◌, ◌≢◌, ◌≤◌, ◌<◌, ◌+◌, [], ℕ, true, length, take, drop, Some, None, MatchResult};
+ghost use Rattle.std.specs.Prelude.{IfSome, IfNone, IfOk, OnOk, OnErr, IfErr, is_some, slice_range};
 ghost use Rattle.std.specs.Option.{option_copied};
 ghost use Rattle.rpki_text.specs.Segments.{is_dir};
-ghost use Rattle.rpki_text.specs.RsyncText.{rsync_refusal, has_module, uri_of, relative, is_identical, IsWayBack, IsRsync, IsCut, authority_of, module_name_of, module_of, path_of, parent_of, joined, join_refusal, joined_by, same_module_of, StartAt, IsParentEnd};
+ghost use Rattle.rpki_text.specs.RsyncText.{rsync_refusal, has_module, uri_of, relative, is_identical, IsWayBack};
+ghost use Rattle.rpki_text.specs.RsyncText.{IsRsync, IsCut, authority_of, module_name_of, module_of, path_of};
+ghost use Rattle.rpki_text.specs.RsyncText.{parent_of, joined, join_refusal, joined_by, same_module_of, StartAt};
+ghost use Rattle.rpki_text.specs.RsyncText.{IsParentEnd};
 ghost use Rattle.rpki_text.specs.Places.{IsPartAt, IsRelativeAt};
 ghost use Rattle.rpki_text.specs.Buffer.{IsWritten};
 

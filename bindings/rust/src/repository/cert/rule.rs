@@ -72,6 +72,14 @@ pub enum CertRule {
     SelfIssued,
     /// Policy and resources are of two versions (RFC 8360 4.2).
     ResourceVersion,
+    /// Addresses or numbers are not in canonical form (RFC 6487 4.8.10, 4.8.11).
+    ResourceBlocks,
+    /// A trust anchor or a router has resources of its issuer (RFC 8630 2.3, RFC 8209 3.1.3.5).
+    OwnResources,
+    /// The URI of the manifest doesn't lie below that of the repository (RFC 6487 4.8.8.1, RFC 9286 2).
+    ManifestPlace,
+    /// A description of the repository's notifications has no https URI (RFC 8182 3.2).
+    Notifications,
 }
 
 impl CertRule {
@@ -108,6 +116,10 @@ impl CertRule {
             113 => CertRule::OwnAuthority,
             114 => CertRule::SelfIssued,
             115 => CertRule::ResourceVersion,
+            116 => CertRule::ResourceBlocks,
+            117 => CertRule::OwnResources,
+            118 => CertRule::ManifestPlace,
+            119 => CertRule::Notifications,
             _ => unreachable!("{status} is no status of a certificate that is held to a profile"),
         }
     }
@@ -147,6 +159,10 @@ impl fmt::Display for CertRule {
             CertRule::OwnAuthority => "authority key identifier of a trust anchor is not its own",
             CertRule::SelfIssued => "issuer of a trust anchor is not its subject",
             CertRule::ResourceVersion => "policy and resources of two versions",
+            CertRule::ResourceBlocks => "resources that are not in canonical form",
+            CertRule::OwnResources => "resources of the issuer",
+            CertRule::ManifestPlace => "manifest is not in the repository",
+            CertRule::Notifications => "notifications without an https URI",
         })
     }
 }

@@ -1,8 +1,7 @@
 //! Key identifiers as common names.
 
 ghost use Rattle.std.specs.Prelude.{◌≡◌};
-ghost use Rattle.rpki_der.specs.Number.{AreOctets};
-ghost use Rattle.rpki_der.specs.TagName.{printable_string};
+ghost use Rattle.rpki_der.specs.Prelude.{AreOctets, printable_string};
 ghost use Rattle.rpki_text.specs.HexText.{hex_text};
 
 use super::KeyIdentifier;

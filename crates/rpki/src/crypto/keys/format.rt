@@ -1,13 +1,10 @@
 //! Formats of public keys, as algorithm identifiers.
 
-ghost use Rattle.std.specs.Prelude.{◌≡◌, ◌≢◌, ◌↔◌, IsTrue, true, codes};
-ghost use Rattle.rpki_der.specs.Cursor.{left};
-ghost use Rattle.rpki_der.specs.TagName.{sequence};
-ghost use Rattle.rpki_der.specs.Reading.{Reads};
-ghost use Rattle.rpki_der.specs.FirstFault.{ReadsParts};
+ghost use Rattle.std.specs.Prelude.{◌≡◌, ◌≢◌, ◌↔◌, IsTrue, codes};
+ghost use Rattle.rpki_der.specs.Prelude.{left, Takes, TakesAll};
 ghost use Rattle.rpki.specs.declared.crypto.keys.PublicKeyFormat.{PublicKeyFormat};
-ghost use Rattle.rpki.specs.KeyFormat.{IsFormatContents, SpellsFormat, IsFormatName, format_octets};
-ghost use Rattle.rpki.specs.AlgorithmFault.{IsAnyNamedFault, IsFormatRestFault, IsFormatFault};
+ghost use Rattle.rpki.specs.KeyFormat.{SpellsFormat, IsFormatName, format_octets};
+ghost use Rattle.rpki.specs.AlgorithmFault.{format_parts, key_format};
 ghost use Rattle.rpki.specs.UnknownAlgorithm.{BeginsUnknown, NamesUnknown, IsRefusedWith};
 
 use crate::crypto::algorithm_identifier::{is_named, take_null_or_nothing};
@@ -45,14 +42,13 @@ impl PublicKeyFormat {
     /// The errors are those of a SEQUENCE; then `Content` with the text `invalid public key format` for another object
     /// identifier; then that of the part that is malformed, and `Trailing` for octets that follow the parts.
     pub fn take_from(cons: &mut Constructed<'_>) -> Result<PublicKeyFormat, DecodeError>
-        ensures reads { Reads (λ f. f) SpellsFormat IsFormatFault (left cons.old) (left cons.new) result }
+        ensures reads { Takes (λ f. f) key_format (left cons.old) (left cons.new) result }
         ensures unknown { NamesUnknown IsFormatName (left cons.old)
             → IsRefusedWith (codes "invalid public key format") result }
     {
         cons.in_sequence(
             |contents|
-                ensures reads { ReadsParts (λ f. f) IsFormatContents (IsAnyNamedFault IsFormatRestFault)
-                    (left contents.old) (left contents.new) result }
+                ensures reads { TakesAll (λ f. f) format_parts (left contents.old) (left contents.new) result }
                 ensures unknown { BeginsUnknown IsFormatName (left contents.old)
                     → IsRefusedWith (codes "invalid public key format") result }
             {

@@ -1,18 +1,16 @@
 //! Key identifiers.
 
-ghost use Rattle.std.specs.Prelude.{◌≡◌, ◌≢◌, ◌<◌, ℕ, Bool, true, false, [], ◌∷◌, length, IsTrue, IfOk, IfErr, IfSome, IfNone, MatchResult, nat_eq};
+ghost use Rattle.std.specs.Prelude.{◌≡◌, ◌≢◌, ◌<◌, ℕ, Bool, true, false, [], ◌∷◌, length, IsTrue, IfOk, IfErr, IfSome};
+ghost use Rattle.std.specs.Prelude.{IfNone, MatchResult, nat_eq};
 ghost use Rattle.std.specs.Char.{to_ascii_uppercase};
 ghost use Rattle.std.specs.Cmp.Lexicographic.{pointwise};
-ghost use Rattle.rpki_der.specs.Cursor.{left};
-ghost use Rattle.rpki_der.specs.Number.{AreOctets};
-ghost use Rattle.rpki_der.specs.ContentView.{is_constructed, octets_of};
-ghost use Rattle.rpki_der.specs.TagName.{octet_string};
-ghost use Rattle.rpki_der.specs.Reading.{Reads, ReadsWhere};
-ghost use Rattle.rpki_der.specs.Values.{HasTag};
 ghost use Rattle.rpki_der.specs.declared.error.DecodeError.TheVariants.{Unexpected};
+ghost use Rattle.rpki_der.specs.Prelude.{left, AreOctets, is_constructed, octets_of, octet_string, Reads, ReadsWhere};
+ghost use Rattle.rpki_der.specs.Prelude.{HasTag};
 ghost use Rattle.rpki_text.specs.HexText.{hex_digit, hex_text};
 ghost use Rattle.rpki.specs.UnknownAlgorithm.{IsContentWith};
-ghost use Rattle.rpki.specs.KeyIdentifier.{IsKeyIdentifier, SpellsKeyIdentifier, IsIdentifierFault, identifier_error, SpellsAnyIdentifier, IsAnyIdentifierFault};
+ghost use Rattle.rpki.specs.KeyIdentifier.{IsKeyIdentifier, SpellsKeyIdentifier, IsIdentifierFault, identifier_error};
+ghost use Rattle.rpki.specs.KeyIdentifier.{SpellsAnyIdentifier, IsAnyIdentifierFault};
 
 use rpki_der::{Constructed, Content, DecodeError, PrimitiveContent, Tag, write_whole};
 use rpki_text::util::hex;
@@ -248,8 +246,7 @@ impl fmt::Debug for KeyIdentifier {
 
 /// OCTET STRING: the twenty octets (RFC 5280 4.2.1.2).
 impl PrimitiveContent for KeyIdentifier {
-    ghost use Rattle.rpki_der.specs.TagName.{octet_string};
-    ghost use Rattle.rpki_der.specs.Contents.{octet_string_contents};
+    ghost use Rattle.rpki_der.specs.Prelude.{octet_string, octet_string_contents};
 
     ghost plain = { octet_string };
 

@@ -1,13 +1,9 @@
 //! Public keys: a format, and bits.
 
-ghost use Rattle.std.specs.Prelude.{◌≡◌, ◌↔◌, ◌<◌, ◌^◌, true, length, IsTrue, IfOk};
-ghost use Rattle.rpki_der.specs.Cursor.{left};
-ghost use Rattle.rpki_der.specs.Sharing.{CanShare};
-ghost use Rattle.rpki_der.specs.Reading.{Reads, Decodes, IsWholeFault};
-ghost use Rattle.rpki_der.specs.FirstFault.{ReadsParts};
-ghost use Rattle.rpki_der.specs.Leaves.{AreBits, bits_of};
-ghost use Rattle.rpki.specs.PublicKey.{KeyParts, key_of, IsKeyContents, SpellsKey, key_octets, IsShortKey, IsKeyApart};
-ghost use Rattle.rpki.specs.KeyFault.{IsKeyPartsFault, IsKeyFault};
+ghost use Rattle.std.specs.Prelude.{◌≡◌, ◌↔◌, ◌<◌, ◌^◌, length, IsTrue, IfOk};
+ghost use Rattle.rpki_der.specs.Prelude.{left, Takes, TakesAll, TakesWhole, CanShare, AreBits, bits_of};
+ghost use Rattle.rpki.specs.PublicKey.{KeyParts, key_of, SpellsKey, key_octets, IsShortKey, IsKeyApart};
+ghost use Rattle.rpki.specs.KeyFault.{key, key_parts};
 
 use super::{KeyIdentifier, PublicKeyFormat, PublicKeyFormatEncoder};
 use crate::crypto::Provider;
@@ -125,7 +121,7 @@ impl PublicKey {
     ///
     /// The errors are those of [PublicKey::take_from]; then `Trailing` if something follows the key.
     pub fn decode(alloc: Global, bytes: Bytes) -> Result<PublicKey, DecodeError>
-        ensures { Decodes (λ k. k) SpellsKey (IsWholeFault SpellsKey IsKeyFault) bytes result }
+        ensures { TakesWhole (λ k. k) key bytes result }
     {
         Constructed::new(&bytes).whole_with(
             Shared::new(alloc, &bytes),
@@ -143,13 +139,13 @@ impl PublicKey {
     /// `OutOfMemory` if allocation fails, only where both parts are there.
     pub fn take_from<K: Keep>(keep: K, cons: &mut Constructed<'_>) -> Result<PublicKey, DecodeError>
         requires { K.holds keep (left cons.old) }
-        ensures { Reads (λ k. k) SpellsKey IsKeyFault (left cons.old) (left cons.new) result }
+        ensures { Takes (λ k. k) key (left cons.old) (left cons.new) result }
     {
         cons.in_sequence_with(
             keep,
             |contents, keep|
                 requires { K.holds keep (left contents.old) }
-                ensures { ReadsParts (λ k. k) IsKeyContents IsKeyPartsFault (left contents.old) (left contents.new) result }
+                ensures { TakesAll (λ k. k) key_parts (left contents.old) (left contents.new) result }
             {
                 let algorithm = PublicKeyFormat::take_from(contents)?;
                 let bits = contents.take_bit_string(keep)?;
@@ -162,8 +158,7 @@ impl PublicKey {
     pub fn encode(self) -> PublicKeyEncoder<BitString>
         ensures octets { ⟦<PublicKeyEncoder<BitString> as Values>⟧.encoded result ≡ key_octets self }
         // It fits exactly where its contents have fewer than 2^32 octets.
-        ensures short { ⟦<PublicKeyEncoder<BitString> as Values>⟧.is_short result
-            ↔ IsShortKey self }
+        ensures short { ⟦<PublicKeyEncoder<BitString> as Values>⟧.is_short result ↔ IsShortKey self }
         // What is written is read as the key.
         ensures read_back { IsShortKey self → SpellsKey self (key_octets self) }
         // Keys have the same encoding exactly where they are equal.
@@ -177,8 +172,7 @@ impl PublicKey {
     pub fn encode_ref(&self) -> PublicKeyEncoder<&BitString>
         ensures octets { ⟦<PublicKeyEncoder<&'static BitString> as Values>⟧.encoded result ≡ key_octets self.now }
         // It fits exactly where its contents have fewer than 2^32 octets.
-        ensures short { ⟦<PublicKeyEncoder<&'static BitString> as Values>⟧.is_short result
-            ↔ IsShortKey self.now }
+        ensures short { ⟦<PublicKeyEncoder<&'static BitString> as Values>⟧.is_short result ↔ IsShortKey self.now }
         // What is written is read as the key.
         ensures read_back { IsShortKey self.now → SpellsKey self.now (key_octets self.now) }
         // Keys have the same encoding exactly where they are equal.

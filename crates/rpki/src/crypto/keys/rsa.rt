@@ -1,14 +1,10 @@
 //! The bits of RSA keys: a SEQUENCE of modulus and exponent (RFC 8017 A.1.1).
 
-ghost use Rattle.std.specs.Prelude.{◌≡◌, ◌≢◌, ◌≤◌, ◌+◌, ◌^◌, ◌⊎◌, ◌↔◌, [], length, true, IfOk, IsErrOf};
-ghost use Rattle.rpki_der.specs.Cursor.{left};
-ghost use Rattle.rpki_der.specs.Reading.{Reads, Decodes, TakesNoMemory, IsWholeFault};
-ghost use Rattle.rpki_der.specs.FirstFault.{ReadsParts};
-ghost use Rattle.rpki_der.specs.Number.{number_of};
+ghost use Rattle.std.specs.Prelude.{◌≡◌, ◌≢◌, ◌≤◌, ◌+◌, ◌^◌, ◌⊎◌, ◌↔◌, [], length, IfOk, IsErrOf};
+ghost use Rattle.rpki_der.specs.Prelude.{left, Takes, TakesAll, Decodes, TakesNoMemory, IsWholeFault, number_of};
 ghost use Rattle.rpki.specs.declared.crypto.keys.PublicKeyFormat.TheVariants.{Rsa};
-ghost use Rattle.rpki.specs.AnyValue.{SpellsAny};
-ghost use Rattle.rpki.specs.PublicKey.{SpellsRsaNumbers, SpellsRsaBits, AreRsaNumbers, IsRsaKey};
-ghost use Rattle.rpki.specs.KeyFault.{IsRsaNumbersFault, IsRsaBitsFault};
+ghost use Rattle.rpki.specs.PublicKey.{SpellsRsaNumbers, SpellsRsaBits, IsRsaKey};
+ghost use Rattle.rpki.specs.KeyFault.{IsRsaBitsFault, rsa_bits, rsa_numbers};
 
 use super::PublicKey;
 use bytes::Bytes;
@@ -50,8 +46,7 @@ impl PublicKey {
     /// The errors are those of a SEQUENCE; then those of the INTEGERs, and `Trailing` for octets that follow them or
     /// the SEQUENCE.
     pub fn rsa_from_bits_bytes(bytes: Bytes) -> Result<PublicKey, DecodeError>
-        ensures { Decodes (λ k. k) IsRsaKey (TakesNoMemory (IsWholeFault IsRsaKey IsRsaBitsFault))
-            bytes result }
+        ensures { Decodes (λ k. k) IsRsaKey (TakesNoMemory (IsWholeFault IsRsaKey IsRsaBitsFault)) bytes result }
     {
         check_rsa_bits(&bytes)?;
         Ok(PublicKey::of_bits(bytes))
@@ -71,12 +66,11 @@ fn check_rsa_bits(octets: &Bytes) -> Result<(), DecodeError>
 
 /// Moves past the bits of an RSA key: a SEQUENCE of two non-negative INTEGERs.
 fn take_rsa_bits(cons: &mut Constructed<'_>) -> Result<(), DecodeError>
-    ensures { Reads (λ _. tt) SpellsRsaBits IsRsaBitsFault (left cons.old) (left cons.new) result }
+    ensures { Takes (λ _. tt) rsa_bits (left cons.old) (left cons.new) result }
 {
     cons.in_sequence(
         |contents|
-            ensures { ReadsParts (λ _. tt) (SpellsAny AreRsaNumbers) IsRsaNumbersFault (left contents.old)
-                (left contents.new) result }
+            ensures { TakesAll (λ _. tt) rsa_numbers (left contents.old) (left contents.new) result }
         {
             contents.take_unsigned()?;
             contents.take_unsigned()?;

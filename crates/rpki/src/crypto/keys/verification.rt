@@ -59,7 +59,7 @@ impl Error for SignatureVerificationError {}
 /// The error with the same text.
 impl From<SignatureVerificationError> for ContentError {
     ghost use Rattle.std.specs.Prelude.{◌≡◌};
-    ghost use Rattle.rpki_der.specs.ErrorText.{text_of};
+    ghost use Rattle.rpki_der.specs.Prelude.{text_of};
     ghost use Rattle.rpki.specs.ErrorTexts.{verification_text};
 
     ghost from_gives = { λ _ e. text_of e ≡ verification_text };

@@ -1,12 +1,8 @@
 //! Public keys, read in place: a format, and bits that are borrowed.
 
 ghost use Rattle.std.specs.Prelude.{◌≡◌, length};
-ghost use Rattle.rpki_der.specs.Cursor.{left};
-ghost use Rattle.rpki_der.specs.Reading.{Reads};
-ghost use Rattle.rpki_der.specs.FirstFault.{ReadsParts};
-ghost use Rattle.rpki_der.specs.Leaves.{AreBits};
-ghost use Rattle.rpki.specs.PublicKey.{IsKeyContents, SpellsKey};
-ghost use Rattle.rpki.specs.KeyFault.{IsKeyViewPartsFault, IsKeyViewFault};
+ghost use Rattle.rpki_der.specs.Prelude.{left, Takes, TakesAll, AreBits};
+ghost use Rattle.rpki.specs.KeyFault.{key_view, key_view_parts};
 
 use super::{KeyIdentifier, PublicKeyFormat};
 use crate::crypto::Provider;
@@ -37,12 +33,11 @@ impl<'a> PublicKeyView<'a> {
     /// A public key, with the grammar and the errors of [PublicKey::take_from](crate::crypto::PublicKey::take_from),
     /// but for `OutOfMemory`. Allocates nothing.
     pub fn take_from(cons: &mut Constructed<'a>) -> Result<PublicKeyView<'a>, DecodeError>
-        ensures { Reads (λ k. k) SpellsKey IsKeyViewFault (left cons.old) (left cons.new) result }
+        ensures { Takes (λ k. k) key_view (left cons.old) (left cons.new) result }
     {
         cons.in_sequence(
             |contents|
-                ensures { ReadsParts (λ k. k) IsKeyContents IsKeyViewPartsFault (left contents.old)
-                    (left contents.new) result }
+                ensures { TakesAll (λ k. k) key_view_parts (left contents.old) (left contents.new) result }
             {
                 let algorithm = PublicKeyFormat::take_from(contents)?;
                 let bits = contents.take_bits()?;

@@ -1,9 +1,8 @@
 //! The signature algorithm of BGPsec.
 
-ghost use Rattle.rpki_der.specs.Cursor.{left};
-ghost use Rattle.rpki_der.specs.Reading.{Reads};
+ghost use Rattle.rpki_der.specs.Prelude.{left, Takes};
 ghost use Rattle.rpki.specs.Oids.{ecdsa_with_sha256};
-ghost use Rattle.rpki.specs.AlgorithmFault.{IsBareFault};
+ghost use Rattle.rpki.specs.AlgorithmFault.{IsBareFault, bare};
 ghost use Rattle.rpki.specs.SignatureNames.{SpellsBare};
 
 use super::SignatureAlgorithm;
@@ -68,8 +67,7 @@ impl SignatureAlgorithm for BgpsecSignatureAlgorithm {
     /// The errors are those of a SEQUENCE; then `Content` for another identifier; then `Trailing` for parameters, also
     /// a NULL.
     fn x509_take_from(cons: &mut Constructed<'_>) -> Result<Self, DecodeError>
-        ensures { Reads (λ a. a) (SpellsBare ecdsa_with_sha256) (IsBareFault ecdsa_with_sha256) (left cons.old)
-            (left cons.new) result }
+        ensures { Takes (λ a. a) (bare ecdsa_with_sha256) (left cons.old) (left cons.new) result }
     {
         cons.in_sequence(|contents| contents.skip_oid_if(oid::ECDSA_WITH_SHA256))?;
         Ok(BgpsecSignatureAlgorithm { only: () })

@@ -1,14 +1,11 @@
 //! The signature algorithm of the RPKI in signed objects (RFC 5652, RFC 7935 2).
 
 ghost use Rattle.std.specs.Prelude.{◌≡◌, ◌≢◌, ◌↔◌, IsTrue, true, codes};
-ghost use Rattle.rpki_der.specs.Cursor.{left};
-ghost use Rattle.rpki_der.specs.TagName.{sequence};
-ghost use Rattle.rpki_der.specs.Reading.{Reads};
-ghost use Rattle.rpki_der.specs.FirstFault.{ReadsParts};
+ghost use Rattle.rpki_der.specs.Prelude.{left, Takes, TakesAll};
 ghost use Rattle.rpki.specs.Oids.{rsa_encryption};
 ghost use Rattle.rpki.specs.AlgorithmOctets.{algorithm_octets};
-ghost use Rattle.rpki.specs.SignatureNames.{IsCmsName, IsCmsContents, SpellsCms};
-ghost use Rattle.rpki.specs.AlgorithmFault.{IsAnyNamedFault, IsCmsRestFault, IsCmsFault};
+ghost use Rattle.rpki.specs.SignatureNames.{IsCmsName, SpellsCms};
+ghost use Rattle.rpki.specs.AlgorithmFault.{cms_parts, cms};
 ghost use Rattle.rpki.specs.UnknownAlgorithm.{BeginsUnknown, NamesUnknown, IsRefusedWith};
 
 use super::RpkiSignatureAlgorithm;
@@ -25,14 +22,13 @@ impl RpkiSignatureAlgorithm {
     /// The errors are those of a SEQUENCE; then `Content` with the text `invalid signature algorithm` for another
     /// object identifier; then that of the part that is malformed, and `Trailing` for other parameters.
     pub fn cms_take_from(cons: &mut Constructed<'_>) -> Result<RpkiSignatureAlgorithm, DecodeError>
-        ensures reads { Reads (λ a. a) SpellsCms IsCmsFault (left cons.old) (left cons.new) result }
+        ensures reads { Takes (λ a. a) cms (left cons.old) (left cons.new) result }
         ensures unknown { NamesUnknown IsCmsName (left cons.old)
             → IsRefusedWith (codes "invalid signature algorithm") result }
     {
         let has_parameters = cons.in_sequence(
             |contents|
-                ensures reads { ReadsParts (λ b. b) IsCmsContents (IsAnyNamedFault IsCmsRestFault) (left contents.old)
-                    (left contents.new) result }
+                ensures reads { TakesAll (λ b. b) cms_parts (left contents.old) (left contents.new) result }
                 ensures unknown { BeginsUnknown IsCmsName (left contents.old)
                     → IsRefusedWith (codes "invalid signature algorithm") result }
             {

@@ -1,15 +1,11 @@
 //! Extensions of certificates, read and kept (RFC 5280 4.1, 4.2).
 
 ghost use Rattle.std.specs.Prelude.{◌≡◌, ◌<◌, ◌^◌, ◌↔◌, true, false, length, IfOk, IfSome, IfNone};
-ghost use Rattle.rpki_der.specs.Cursor.{left};
-ghost use Rattle.rpki_der.specs.Sharing.{CanShare};
-ghost use Rattle.rpki_der.specs.TagName.{sequence};
-ghost use Rattle.rpki_der.specs.Reading.{Reads, ReadsWhere, Decodes, IsWholeFault};
-ghost use Rattle.rpki_der.specs.Values.{HasTag};
-ghost use Rattle.rpki_der.specs.Leaves.{boolean_contents};
+ghost use Rattle.rpki_der.specs.Prelude.{left, Takes, TakesWhere, TakesWhole, CanShare, sequence, boolean_contents};
 ghost use Rattle.rpki.specs.Extension.{extension_octets};
-ghost use Rattle.rpki.specs.ExtensionValue.{ExtensionParts, extension_parts, SpellsExtension, written_extension, CanBeWritten, parts_of_extension};
-ghost use Rattle.rpki.specs.ExtensionFault.{IsKeptExtensionFault};
+ghost use Rattle.rpki.specs.ExtensionValue.{ExtensionParts, extension_parts, SpellsExtension, written_extension};
+ghost use Rattle.rpki.specs.ExtensionValue.{CanBeWritten, parts_of_extension};
+ghost use Rattle.rpki.specs.ExtensionFault.{kept_extension};
 
 mod grammar;
 mod view;
@@ -66,7 +62,7 @@ impl CertExtension {
     ///
     /// The errors are those of [CertExtension::take_from]; then `Trailing` if something follows the extension.
     pub fn decode(alloc: Global, bytes: Bytes) -> Result<CertExtension, DecodeError>
-        ensures { Decodes (λ x. x) SpellsExtension (IsWholeFault SpellsExtension IsKeptExtensionFault) bytes result }
+        ensures { TakesWhole (λ x. x) kept_extension bytes result }
     {
         Constructed::new(&bytes).whole_with(
             Shared::new(alloc, &bytes),
@@ -88,8 +84,7 @@ impl CertExtension {
         cons: &mut Constructed<'_>,
     ) -> Result<CertExtension, DecodeError>
         requires { K.holds keep (left cons.old) }
-        ensures { Reads (λ x. x) SpellsExtension IsKeptExtensionFault
-            (left cons.old) (left cons.new) result }
+        ensures { Takes (λ x. x) kept_extension (left cons.old) (left cons.new) result }
     {
         let captured = cons.capture(keep, |cons| skip_extension(cons))?;
         Ok(CertExtension { captured })
@@ -102,8 +97,7 @@ impl CertExtension {
         cons: &mut Constructed<'_>,
     ) -> Result<Option<CertExtension>, DecodeError>
         requires { K.holds keep (left cons.old) }
-        ensures { ReadsWhere (HasTag sequence) (λ x. x) SpellsExtension IsKeptExtensionFault
-            (left cons.old) (left cons.new) result }
+        ensures { TakesWhere sequence (λ x. x) kept_extension (left cons.old) (left cons.new) result }
     {
         if !cons.has_tag(Tag::SEQUENCE) {
             return Ok(None);

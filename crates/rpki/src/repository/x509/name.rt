@@ -1,21 +1,16 @@
 //! Names (RFC 5280 4.1.2.4, RFC 6487 4.4).
 
-ghost use Rattle.std.specs.Prelude.{◌≡◌, true, List, IsTrue, IsOk, IfOk, IfErr, MatchResult};
-ghost use Rattle.rpki_der.specs.ErrorText.{text_of};
+ghost use Rattle.std.specs.Prelude.{◌≡◌, List, IsTrue, IsOk, IfOk, IfErr, MatchResult};
+ghost use Rattle.rpki_der.specs.Prelude.{text_of};
 ghost use Rattle.rpki.specs.ErrorContent.{content_of};
 ghost use Rattle.rpki.specs.NameRule.{BreaksRpkiRule, BreaksRouterRule, rpki_text, router_text};
 ghost use Rattle.rpki.specs.declared.repository.x509.name.rule.NameRule.{NameRule};
-ghost use Rattle.rpki_der.specs.Cursor.{left};
-ghost use Rattle.rpki_der.specs.Sharing.{CanShare};
-ghost use Rattle.rpki_der.specs.Reading.{Reads, Decodes, IsWholeFault};
-ghost use Rattle.rpki_der.specs.Members.{IsValue};
-ghost use Rattle.rpki_der.specs.TagName.{sequence};
-ghost use Rattle.rpki_der.specs.Values.{SpellsLeaf};
-ghost use Rattle.rpki.specs.Name.{Attribute, IsName, SpellsSome, SpellsRelative, SpellsName, SpellsNameOctets};
-ghost use Rattle.rpki.specs.AnyValue.{SpellsAny};
-ghost use Rattle.rpki.specs.NameFault.{IsNameFault, IsWalkedNameFault};
+ghost use Rattle.rpki_der.specs.Prelude.{left, Takes, TakesWhole, CanShare, IsValue};
+ghost use Rattle.rpki.specs.Name.{Attribute, IsName, SpellsName, SpellsNameOctets};
+ghost use Rattle.rpki.specs.NameFault.{name, walked_name};
 ghost use Rattle.rpki.specs.StrictName.{IsRpkiName, IsRouterName};
-ghost use Rattle.rpki.specs.StrictNameWithoutOrganization.{IsRpkiNameWithoutOrganization, IsRouterNameWithoutOrganization};
+ghost use Rattle.rpki.specs.StrictNameWithoutOrganization.{IsRpkiNameWithoutOrganization};
+ghost use Rattle.rpki.specs.StrictNameWithoutOrganization.{IsRouterNameWithoutOrganization};
 
 mod grammar;
 mod inspection;
@@ -63,7 +58,7 @@ impl Name {
     ///
     /// The errors are those of [Name::take_from]; then `Trailing` if something follows the name.
     pub fn decode(alloc: Global, bytes: Bytes) -> Result<Name, DecodeError>
-        ensures { Decodes (λ n. n) SpellsNameOctets (IsWholeFault SpellsNameOctets IsNameFault) bytes result }
+        ensures { TakesWhole (λ n. n) name bytes result }
     {
         Constructed::new(&bytes).whole_with(
             Shared::new(alloc, &bytes),
@@ -77,8 +72,7 @@ impl Name {
     ///
     /// The errors are those of [Name::take_from]. An error leaves the cursor where it was.
     pub fn skip_in(alloc: Global, cons: &mut Constructed<'_>) -> Result<(), DecodeError>
-        ensures { Reads (λ _. tt) (SpellsLeaf sequence true (SpellsAny (SpellsSome SpellsRelative))) IsWalkedNameFault
-            (left cons.old) (left cons.new) result }
+        ensures { Takes (λ _. tt) walked_name (left cons.old) (left cons.new) result }
     {
         skip_name(alloc, cons)
     }
@@ -93,7 +87,7 @@ impl Name {
     /// fails, only where an attribute has a value.
     pub fn take_from<K: Keep>(keep: K, cons: &mut Constructed<'_>) -> Result<Name, DecodeError>
         requires { K.holds keep (left cons.old) }
-        ensures { Reads (λ n. n) SpellsNameOctets IsNameFault (left cons.old) (left cons.new) result }
+        ensures { Takes (λ n. n) name (left cons.old) (left cons.new) result }
     {
         let alloc = keep.allocator();
         let captured = cons.capture(keep, |cons| skip_name(alloc, cons))?;
@@ -117,11 +111,11 @@ impl Name {
     }
 
     /// Tests that the name is one of a certificate of the RPKI, unless `strict` is false: one common name, at most one
-    /// serial number and at most one organization name, each a PrintableString, and no other attribute (RFC 6487 4.4,
-    /// which names no organization).
+    /// serial number and at most one organization name, each a PrintableString of 1 to 64 characters (RFC 5280 A.1), and
+    /// no other attribute (RFC 6487 4.4, which names no organization).
     ///
     /// The texts of the errors are `missing common name`, `multiple common names`, `multiple serial numbers` and
-    /// `multiple organization names`, and `invalid name` for another attribute and for another string.
+    /// `multiple organization names`, and `invalid name` for another attribute and for another string or size.
     pub fn inspect_rpki(&self, strict: bool) -> Result<(), InspectionError>
         ensures ok { IfOk result (λ _. IsTrue strict → IsRpkiName self.now) }
         ensures err { IfErr result (λ _. IsTrue strict × (IsRpkiName self.now → ⊥)) }
@@ -140,11 +134,11 @@ impl Name {
         }
     }
 
-    /// Tests that the name is one of a router's certificate, unless `strict` is false: the same, and each string is a
-    /// PrintableString or a UTF8String (RFC 8209 3.1.1).
+    /// Tests that the name is one of a router's certificate, unless `strict` is false: the same, and the common name and
+    /// the organization name may be UTF8Strings (RFC 8209 3.1.1).
     ///
     /// The texts of the errors are those of [Name::inspect_rpki], but `unpermitted string variant in common name` for
-    /// another string.
+    /// another string or size.
     pub fn inspect_router(&self, strict: bool) -> Result<(), InspectionError>
         ensures ok { IfOk result (λ _. IsTrue strict → IsRouterName self.now) }
         ensures err { IfErr result (λ _. IsTrue strict × (IsRouterName self.now → ⊥)) }

@@ -1,16 +1,14 @@
 //! Signed data: a value, and a signature over exactly its octets (RFC 5280 4.1).
 
-ghost use Rattle.std.specs.Prelude.{◌≡◌, ◌<◌, ◌^◌, ◌↔◌, true, false, ℕ, List, length, IfOk, IsOk};
-ghost use Rattle.rpki_der.specs.Cursor.{left};
-ghost use Rattle.rpki_der.specs.Reading.{Reads, Decodes, IsWholeFault};
-ghost use Rattle.rpki_der.specs.Members.{AreValues, IsValue};
-ghost use Rattle.rpki_der.specs.Contents.{bits_contents};
-ghost use Rattle.rpki_der.specs.Leaves.{bits_of};
+ghost use Rattle.std.specs.Prelude.{◌≡◌, ◌<◌, ◌^◌, ◌↔◌, IfOk, IsOk};
+ghost use Rattle.rpki_der.specs.Prelude.{left, Takes, Reads, Decodes, IsWholeFault, AreValues, IsValue, bits_contents};
+ghost use Rattle.rpki_der.specs.Prelude.{bits_of};
 ghost use Rattle.rpki.specs.Provider.{VerifiesBy};
 ghost use Rattle.rpki.specs.Signature.{signature_of};
-ghost use Rattle.rpki.specs.SignedData.{SignedParts, parts_of, SpellsSignature, IsSignedContents, SpellsSigned, written_signed, normal_parts, IsWrittenAgain, DiffersInCountAlone, IsShortSigned, IsWrittenApart, signature_in};
-ghost use Rattle.rpki.specs.KeyFault.{IsBitsFault};
-ghost use Rattle.rpki.specs.SignedFault.{IsSignedPartsFault, IsSignedFault};
+ghost use Rattle.rpki.specs.SignedData.{SignedParts, parts_of, IsSignedContents, SpellsSigned, written_signed};
+ghost use Rattle.rpki.specs.SignedData.{normal_parts, IsWrittenAgain, DiffersInCountAlone, IsShortSigned};
+ghost use Rattle.rpki.specs.SignedData.{IsWrittenApart, signature_in};
+ghost use Rattle.rpki.specs.SignedFault.{IsSignedPartsFault, IsSignedFault, signature_bits};
 
 use crate::crypto::{
     Provider, PublicKey, RpkiSignatureAlgorithm, Signature, SignatureAlgorithm,
@@ -221,9 +219,7 @@ pub struct SignatureValueContent<'a, Alg> {
 }
 
 impl<'a, Alg> PrimitiveContent for SignatureValueContent<'a, Alg> {
-    ghost use Rattle.rpki_der.specs.TagName.{bit_string};
-    ghost use Rattle.rpki_der.specs.Contents.{bits_contents};
-    ghost use Rattle.rpki_der.specs.Leaves.{bits_of};
+    ghost use Rattle.rpki_der.specs.Prelude.{bit_string, bits_contents, bits_of};
 
     ghost plain = { bit_string };
 
@@ -248,7 +244,7 @@ impl<'a, Alg> PrimitiveContent for SignatureValueContent<'a, Alg> {
 /// The octets of a signature, with any count of unused bits.
 fn signature_value<K: Keep>(keep: K, cons: &mut Constructed<'_>) -> Result<Bytes, DecodeError>
     requires { K.holds keep (left cons.old) }
-    ensures { Reads (λ v. v) SpellsSignature IsBitsFault (left cons.old) (left cons.new) result }
+    ensures { Takes (λ v. v) signature_bits (left cons.old) (left cons.new) result }
 {
     let bits = cons.take_bit_string(keep)?;
     Ok(bits.into_octets())

@@ -1,8 +1,7 @@
 //! Names of subjects.
 
 ghost use Rattle.std.specs.Prelude.{◌≡◌, ◌<◌, ◌^◌, true, length, IfOk};
-ghost use Rattle.rpki_der.specs.TagName.{sequence};
-ghost use Rattle.rpki_der.specs.Header.{tlv};
+ghost use Rattle.rpki_der.specs.Prelude.{sequence, tlv};
 ghost use Rattle.rpki.specs.StrictName.{IsRpkiName, IsRouterName, IsEitherName};
 ghost use Rattle.rpki.specs.SubjectName.{attribute_contents, subject_octets};
 

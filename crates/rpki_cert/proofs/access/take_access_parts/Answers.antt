@@ -3,7 +3,8 @@ use Rattle.rpki_der.specs.Cursor.{left}
 use Rattle.rpki_der.specs.Parts.{Then}
 use Rattle.rpki_der.proofs.FirstFaultLaws.{tried-parts}
 use Rattle.rpki_der.proofs.PartsLaws.{Returned, first-refused, then-refused, last-refused, then-read, last-read}
-use Rattle.rpki_cert.specs.Access.{SpellsName, SpellsOidAs, chosen, IsAccess, IsAccessPartsFault}
+use Rattle.rpki_cert.specs.GeneralName.{SpellsName}
+use Rattle.rpki_cert.specs.Access.{SpellsOidAs, chosen, IsAccess, IsAccessPartsFault}
 use Rattle.rpki_cert.proofs.AccessLaws.{returned-through, failed-through}
 use Rattle.rpki_cert.proofs.access.take_access_parts.Goals as goal
 

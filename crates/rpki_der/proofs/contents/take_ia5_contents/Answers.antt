@@ -6,15 +6,18 @@ use Rattle.rpki_der.proofs.TriedLaws.{tried-refused}
 use Rattle.rpki_der.proofs.contents.take_ia5_contents.Goals as goal
 
 pub returns-in_err-contents : goal.returns-in_err-contents
-returns-in_err-contents g c = tried-refused _ _ _ _ _ _ _ c.from_residual.ensures (leaf-refused ia5_string false IsIa5Text _ _ _ c.in_err-contents.field-0.0 refl c.in_err-contents.ensures)
+returns-in_err-contents g c = tried-refused _ _ _ _ _ _ _ c.from_residual.ensures
+    (leaf-refused ia5_string false IsIa5Text _ _ _ c.in_err-contents.field-0.0 refl c.in_err-contents.ensures)
 
 pub returns-in-Some : goal.returns-in-Some
 returns-in-Some g c =
     let m = g.C.Cursor.octets_left c.in_ok-contents.contents in
     let is = rw c.octets.ensures at c.in-Some.ensures.value in
-    leaf-accepted ia5_string false IsIa5Text _ m _ m c.in_ok-contents.ensures (subst (λ (text : List ℕ). IsIa5Text text m) (sym is.0) is) (λ w h. sym h.0)
+    leaf-accepted ia5_string false IsIa5Text _ m _ m c.in_ok-contents.ensures
+    (subst (λ (text : List ℕ). IsIa5Text text m) (sym is.0) is) (λ w h. sym h.0)
 
 pub returns-in-None : goal.returns-in-None
 returns-in-None g c =
     let none = rw c.octets.ensures at c.in-None.ensures.none in
-    leaf-malformed ia5_string false IsIa5Text _ (g.C.Cursor.octets_left c.in_ok-contents.contents) _ _ _ _ c.content.ensures refl c.in_ok-contents.ensures none
+    leaf-malformed ia5_string false IsIa5Text _ (g.C.Cursor.octets_left c.in_ok-contents.contents) _ _ _ _
+    c.content.ensures refl c.in_ok-contents.ensures none

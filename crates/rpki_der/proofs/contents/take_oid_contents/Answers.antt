@@ -7,12 +7,14 @@ use Rattle.rpki_der.proofs.TriedLaws.{tried-refused}
 use Rattle.rpki_der.proofs.contents.take_oid_contents.Goals as goal
 
 pub returns-in_err-contents : goal.returns-in_err-contents
-returns-in_err-contents g c = tried-refused _ _ _ _ _ _ _ c.from_residual.ensures (leaf-refused oid false IsOidOf _ _ _ c.in_err-contents.field-0.0 refl c.in_err-contents.ensures)
+returns-in_err-contents g c = tried-refused _ _ _ _ _ _ _ c.from_residual.ensures
+    (leaf-refused oid false IsOidOf _ _ _ c.in_err-contents.field-0.0 refl c.in_err-contents.ensures)
 
 pub returns-then-not-is_oid : goal.returns-then-not-is_oid
 returns-then-not-is_oid g c =
     let none = rw c.octets.ensures at (iff_false c.is_oid.ensures c.if-not-is_oid.true) in
-    leaf-malformed oid false IsOidOf _ (g.C.Cursor.octets_left c.in_ok-contents.contents) _ _ _ _ c.content.ensures refl c.in_ok-contents.ensures (λ v h. none h.1)
+    leaf-malformed oid false IsOidOf _ (g.C.Cursor.octets_left c.in_ok-contents.contents) _ _ _ _ c.content.ensures refl
+    c.in_ok-contents.ensures (λ v h. none h.1)
 
 pub returns : goal.returns
 returns g c =

@@ -16,17 +16,22 @@ values-smaller c =
 pub values-preserved : goal.values-preserved
 values-preserved c =
     let h = c.in_ok-size.ensures in
-    let rest : take (length c.args.octets.now - c.values.place) (drop c.values.place c.args.octets.now) ≡ drop c.values.place c.args.octets.now =
-    take_all (length c.args.octets.now - c.values.place) (drop c.values.place c.args.octets.now) (omega (arith, length-drop c.values.place c.args.octets.now)) in
+    let rest : take (length c.args.octets.now - c.values.place) (drop c.values.place c.args.octets.now) ≡ drop
+    c.values.place c.args.octets.now =
+    take_all (length c.args.octets.now - c.values.place) (drop c.values.place c.args.octets.now)
+    (omega (arith, length-drop c.values.place c.args.octets.now)) in
     indexed-rest c.in_ok-size.size _ rest c.values.invariant h.within (h.kept refl)
 
 pub returns-in_err-size-clause-refused : goal.returns-in_err-size-clause-refused
 returns-in_err-size-clause-refused c =
-    let rest : take (length c.args.octets.now - c.values.place) (drop c.values.place c.args.octets.now) ≡ drop c.values.place c.args.octets.now =
-    take_all (length c.args.octets.now - c.values.place) (drop c.values.place c.args.octets.now) (omega (arith, length-drop c.values.place c.args.octets.now)) in
+    let rest : take (length c.args.octets.now - c.values.place) (drop c.values.place c.args.octets.now) ≡ drop
+    c.values.place c.args.octets.now =
+    take_all (length c.args.octets.now - c.values.place) (drop c.values.place c.args.octets.now)
+    (omega (arith, length-drop c.values.place c.args.octets.now)) in
     let p = err_from_is_err_and c.from_residual.result c.from_residual.ensures.1 in
     rw (p.1, p.2) (λ list.
     elim c.in_err-size.ensures.refused [
       | inl h ↦ h.0
-      | inr f ↦ absurd (no-list c.args.octets.now c.values.place _ _ c.values.invariant c.values-test.true (subst (λ (o : List ℕ). IsNestedFault o c.in_err-size.field-0.0) rest f) list)
+      | inr f ↦ absurd (no-list c.args.octets.now c.values.place _ _ c.values.invariant c.values-test.true
+          (subst (λ (o : List ℕ). IsNestedFault o c.in_err-size.field-0.0) rest f) list)
     ])

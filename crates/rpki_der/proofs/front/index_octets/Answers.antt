@@ -5,7 +5,8 @@ use Rattle.std.proofs.lemmas.Result.{err_from_is_err_and}
 use Rattle.rpki_der.specs.declared.error.DecodeError.{DecodeError}
 use Rattle.rpki_der.specs.Walk.{HasEither}
 use Rattle.rpki_der.proofs.IndexLaws.{index-of-one, one-index}
-use Rattle.rpki_der.proofs.WalkLaws.{capture-nothing, error-named, front-accepted, nothing-fault, refusal-of, value-faultless}
+use Rattle.rpki_der.proofs.WalkLaws.{capture-nothing, error-named, front-accepted, nothing-fault, refusal-of}
+use Rattle.rpki_der.proofs.WalkLaws.{value-faultless}
 use Rattle.rpki_der.proofs.front.index_octets.Goals as goal
 
 pub returns-then-is_empty-clause-refused : goal.returns-then-is_empty-clause-refused
@@ -25,7 +26,8 @@ returns-in_err-size-clause-refused c =
 
 pub returns-in_err-size-clause-fault : goal.returns-in_err-size-clause-fault
 returns-in_err-size-clause-fault c =
-    let some : c.args.octets.now ≢ [] = λ z. eqb-false _ _ (sym c.is_empty.ensures ∙ c.if-is_empty.false) (ap length z) in
+    let some : c.args.octets.now ≢ [] = λ z. eqb-false _ _ (sym c.is_empty.ensures ∙ c.if-is_empty.false) (ap length z)
+    in
     let p = err_from_is_err_and c.from_residual.result c.from_residual.ensures.1 in
     rw (p.1, p.2) (error-named HasEither c.args.octets.now c.in_err-size.field-0.0 c.in_err-size.ensures.refused some)
 
@@ -39,5 +41,6 @@ returns-clause-only c = λ y h. one-index (index-of-one c.new-index.ensures.item
 
 pub returns-clause-fault : goal.returns-clause-fault
 returns-clause-fault c = λ e f.
-    let some : c.args.octets.now ≢ [] = λ z. eqb-false _ _ (sym c.is_empty.ensures ∙ c.if-is_empty.false) (ap length z) in
+    let some : c.args.octets.now ≢ [] = λ z. eqb-false _ _ (sym c.is_empty.ensures ∙ c.if-is_empty.false) (ap length z)
+    in
     absurd (value-faultless c.args.octets.now _ c.in_ok-size.size e c.in_ok-size.ensures.accepted some f)

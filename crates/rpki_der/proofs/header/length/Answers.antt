@@ -1,11 +1,14 @@
 use Rattle.std.proofs.Common.{arith, inl, inr}
 use Rattle.rpki_der.proofs.OctetBitLaws.{top-clear, top-set, below-top}
-use Rattle.rpki_der.proofs.PartReadingLaws.{part-accepts, part-refuses, length-part, length-none, length-first, length-bad, length-follows}
-use Rattle.rpki_der.proofs.header.length.Goals.{then-count-eq0-via-then-count-eq0, then-count-eq0-via-else-count-eq0+then-count-gt4}
+use Rattle.rpki_der.proofs.PartReadingLaws.{part-accepts, part-refuses, length-part, length-none, length-first}
+use Rattle.rpki_der.proofs.PartReadingLaws.{length-bad, length-follows}
+use Rattle.rpki_der.proofs.header.length.Goals.{then-count-eq0-via-then-count-eq0}
+use Rattle.rpki_der.proofs.header.length.Goals.{then-count-eq0-via-else-count-eq0+then-count-gt4}
 use Rattle.rpki_der.proofs.header.length.Goals as goal
 
 pub returns-in_default : goal.returns-in_default
-returns-in_default c = part-refuses length-part c.args.s.now _ (λ i. omega (arith, c.type_inv.s i)) (length-none c.args.s.now c.in_default.len_below)
+returns-in_default c = part-refuses length-part c.args.s.now _ (λ i. omega (arith, c.type_inv.s i))
+    (length-none c.args.s.now c.in_default.len_below)
 
 pub returns-then-first-eq0 : goal.returns-then-first-eq0
 returns-then-first-eq0 c =
@@ -30,5 +33,7 @@ returns c =
     let lt = (c.type_inv.s 0).fits in
     let ge = top-set _ lt c.if-first-eq0.false in
     let low = below-top _ lt ge in
-    length-follows (λ x. (x.0, x.1.now)) c.args.s.now c.long_length.result (λ i. omega (arith, c.type_inv.s i)) c.in-len1-up.len_at_least
-    (omega (arith, low, ge, c.if-count-eq0.false)) (omega (arith, low, c.if-count-gt4.false)) (rw (c.from-2.ensures, low) at c.long_length.ensures)
+    length-follows (λ x. (x.0, x.1.now)) c.args.s.now c.long_length.result (λ i. omega (arith, c.type_inv.s i))
+    c.in-len1-up.len_at_least
+    (omega (arith, low, ge, c.if-count-eq0.false)) (omega (arith, low, c.if-count-gt4.false))
+    (rw (c.from-2.ensures, low) at c.long_length.ensures)

@@ -5,5 +5,6 @@ use Rattle.rpki_der.proofs.header.short_header.Goals as goal
 
 pub returns-in-Ok : goal.returns-in-Ok
 returns-in-Ok c =
-    header-of-parts c.args.s.now _ c.in-Ok.rest.now _ _ c.in-Ok.length (λ i. omega (arith, c.type_inv.s i)) c.in-Some.ensures.found
+    header-of-parts c.args.s.now _ c.in-Ok.rest.now _ _ c.in-Ok.length (λ i. omega (arith, c.type_inv.s i))
+    c.in-Some.ensures.found
     (rw (take_rest c.args.s.now 1) at c.in-Ok.ensures)

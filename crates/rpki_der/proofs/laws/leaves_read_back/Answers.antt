@@ -1,4 +1,5 @@
-use Rattle.rpki_der.proofs.LeafWritingLaws.{null-back, booleans-back, numbers-back, identifiers-back, octets-back, bits-back}
+use Rattle.rpki_der.proofs.LeafWritingLaws.{null-back, booleans-back, numbers-back, identifiers-back, octets-back}
+use Rattle.rpki_der.proofs.LeafWritingLaws.{bits-back}
 use Rattle.rpki_der.proofs.laws.leaves_read_back.Goals as goal
 
 pub returns-clause-null : goal.returns-clause-null

@@ -7,7 +7,8 @@ pub returns-in_err-header-clause-refused : goal.returns-in_err-header-clause-ref
 returns-in_err-header-clause-refused c =
     let some : 0 < length c.args.octets.now = c.requires.some in
     let h = c.in_err-header.ensures.err in
-    tried-error _ _ _ c.from_residual.ensures (AtHeader {s = c.args.octets.now} (λ z. omega (arith, ap length z, some)) h.1)
+    tried-error _ _ _ c.from_residual.ensures
+    (AtHeader {s = c.args.octets.now} (λ z. omega (arith, ap length z, some)) h.1)
 
 pub returns-then-rest-header-clause-refused : goal.returns-then-rest-header-clause-refused
 returns-then-rest-header-clause-refused c =

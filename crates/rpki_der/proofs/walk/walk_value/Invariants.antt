@@ -8,7 +8,8 @@ invariant-values l = record {
   raised : l.fn.steps ≤ l.steps;
   half : 2 * (l.steps - l.fn.steps) ≤ l.place;
   ending : ReadEnd l.keep l.before l.entries.items l.innermost l.end;
-  within : IsWalking l.keep l.before l.fn.entries.items l.octets (l.open.items ++ l.innermost ∷ []) l.entries.items l.place (l.steps - l.fn.steps);
+  within : IsWalking l.keep l.before l.fn.entries.items l.octets (l.open.items ++ l.innermost ∷ []) l.entries.items
+      l.place (l.steps - l.fn.steps);
 }
 
 abbrev pub decreases-values : goal.decreases-values

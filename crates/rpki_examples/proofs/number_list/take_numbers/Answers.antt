@@ -1,8 +1,8 @@
-use Rattle.std.proofs.Common.{rules, true}
+use Rattle.std.proofs.Common.{rules}
 use Rattle.rpki_der.specs.TagName.{sequence}
-use Rattle.rpki_der.proofs.FirstFaultLaws.{read-parts-inside}
-use Rattle.rpki_examples.specs.NumberList.{SpellsEachNumber, IsEachNumberFault}
+use Rattle.rpki_der.proofs.FormatLaws.{takes-around}
+use Rattle.rpki_examples.specs.NumberList.{each_number}
 use Rattle.rpki_examples.proofs.number_list.take_numbers.Goals as goal
 
 pub returns : goal.returns
-returns c = read-parts-inside (λ v. v.items) sequence true SpellsEachNumber IsEachNumberFault _ (λ b a x h. search rules) _ _ _ c.in_sequence.ensures
+returns c = takes-around (λ v. v.items) sequence each_number _ (λ b a x h. search rules) _ _ _ c.in_sequence.ensures

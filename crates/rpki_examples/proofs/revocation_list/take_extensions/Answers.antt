@@ -1,11 +1,9 @@
-use Rattle.std.proofs.Common.{rules, true}
-use Rattle.rpki_der.specs.FirstFault.{FirstFault, IsEndFault}
-use Rattle.rpki_der.proofs.FirstFaultLaws.{read-parts-inside, reads-one-part}
-use Rattle.rpki_examples.specs.RevocationList.{extensions_tag, SpellsExtensionList, IsExtensionListFault}
+use Rattle.std.proofs.Common.{rules}
+use Rattle.rpki_der.proofs.FormatLaws.{takes-around-one}
+use Rattle.rpki_examples.specs.RevocationList.{extensions_tag, extension_list}
 use Rattle.rpki_examples.proofs.revocation_list.take_extensions.Goals as goal
 
 pub returns : goal.returns
 returns g c =
-    let is = rw c.new.ensures at c.in_constructed_with.ensures in
-    read-parts-inside (λ v. v.items) extensions_tag true SpellsExtensionList (FirstFault SpellsExtensionList IsExtensionListFault (λ v. IsEndFault)) _
-    (λ b a x h. reads-one-part (λ v. v.items) SpellsExtensionList IsExtensionListFault _ _ x (search rules)) _ _ _ is
+    takes-around-one (λ v. v.items) extensions_tag extension_list _ (λ b a x h. search rules) _ _ _
+    (rw c.new.ensures at c.in_constructed_with.ensures)

@@ -11,4 +11,5 @@ both false b h k = (λ z. absurd (let w = z in cc), λ z. h.1 z.0)
 
 pub returns : goal.returns
 returns c = λ p q.
-    both _ _ (Decides-int_eq (civil_nanos p.not_before) (civil_nanos q.not_before)) (Decides-int_eq (civil_nanos p.not_after) (civil_nanos q.not_after))
+    both _ _ (Decides-int_eq (civil_nanos p.not_before) (civil_nanos q.not_before))
+    (Decides-int_eq (civil_nanos p.not_after) (civil_nanos q.not_after))

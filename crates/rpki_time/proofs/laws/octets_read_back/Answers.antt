@@ -6,4 +6,5 @@ read (Ok s) n m e v k = ap Ok (v ∙ e)
 read (Err x) n m e v k = absurd (cc)
 
 pub returns : goal.returns
-returns c = read c.from_array.result _ _ c.into_array.ensures.value c.from_array.ensures.value (c.from_array.ensures.succeeds.1 c.into_array.ensures.first_bit)
+returns c = read c.from_array.result _ _ c.into_array.ensures.value c.from_array.ensures.value
+    (c.from_array.ensures.succeeds.1 c.into_array.ensures.first_bit)

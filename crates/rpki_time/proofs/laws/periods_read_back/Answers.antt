@@ -6,4 +6,5 @@ use Rattle.rpki_time.proofs.laws.periods_read_back.Goals as goal
 
 pub returns : goal.returns
 returns c = λ p rest y e.
-    reads-back SpellsPeriod IsPeriodFault _ _ c.take_from.result (cut_period p) rest (period-no-memory _) c.take_from.ensures (period-there _ rest p y e)
+    reads-back SpellsPeriod IsPeriodFault _ _ c.take_from.result (cut_period p) rest (period-no-memory _)
+    c.take_from.ensures (period-there _ rest p y e)

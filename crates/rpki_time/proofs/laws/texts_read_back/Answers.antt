@@ -1,4 +1,5 @@
-use Rattle.rpki_time.proofs.TextLaws.{utc-reads-cut, generalized-reads-cut, utc-unique, generalized-unique, in-window, is-in-window}
+use Rattle.rpki_time.proofs.TextLaws.{utc-reads-cut, generalized-reads-cut, utc-unique, generalized-unique, in-window}
+use Rattle.rpki_time.proofs.TextLaws.{is-in-window}
 use Rattle.rpki_time.proofs.laws.texts_read_back.Goals as goal
 
 pub returns-clause-utc : goal.returns-clause-utc

@@ -17,8 +17,10 @@ returns-in-Ok c = (
 )
 
 pub returns-in-Err : goal.returns-in-Err
-returns-in-Err c = (
-  c.in_ok-cert.cert,
-  rw c.as_slice.ensures.value at c.in_ok-cert.ensures,
-  rw c.tbs.ensures at c.in-Err.ensures,
-)
+returns-in-Err c =
+    let broken = rw c.tbs.ensures at c.in-Err.ensures in (
+      c.in_ok-cert.cert,
+      rw c.as_slice.ensures.value at c.in_ok-cert.ensures,
+      broken.0,
+      broken.1,
+    )

@@ -1,10 +1,9 @@
 //! The grammar of extensions (RFC 5280 4.1).
 
-ghost use Rattle.rpki_der.specs.Cursor.{left};
-ghost use Rattle.rpki_der.specs.Reading.{Reads, Decodes};
+ghost use Rattle.rpki_der.specs.Prelude.{left, Takes, Reads, Decodes};
 ghost use Rattle.rpki.specs.AnyValue.{SpellsAny};
 ghost use Rattle.rpki.specs.ExtensionValue.{extension_parts, IsExtensionContents, SpellsExtension};
-ghost use Rattle.rpki.specs.ExtensionFault.{IsExtensionPartsFault, IsCertExtensionFault};
+ghost use Rattle.rpki.specs.ExtensionFault.{IsCertExtensionFault, extension, extension_fields};
 
 use rpki_der::{Constructed, DecodeError, Oid};
 
@@ -12,7 +11,7 @@ use rpki_der::{Constructed, DecodeError, Oid};
 /// BOOLEAN that is left out stands for FALSE, its default; FALSE is read where it is spelled.
 fn take_parts<'a>(contents: Constructed<'a>) -> Result<(Oid<&'a [u8]>, bool, &'a [u8]), DecodeError>
     ensures { Decodes (λ x. extension_parts x.0.0.now x.1 x.2.now) IsExtensionContents
-        IsExtensionPartsFault (left contents.entry) result }
+        extension_fields.fault (left contents.entry) result }
 {
     let mut rest = contents;
     let identifier = rest.take_oid()?;
@@ -26,8 +25,7 @@ fn take_parts<'a>(contents: Constructed<'a>) -> Result<(Oid<&'a [u8]>, bool, &'a
 pub(super) fn take_extension<'a>(
     cons: &mut Constructed<'a>,
 ) -> Result<(Oid<&'a [u8]>, bool, &'a [u8]), DecodeError>
-    ensures { Reads (λ x. extension_parts x.0.0.now x.1 x.2.now) SpellsExtension IsCertExtensionFault
-        (left cons.old) (left cons.new) result }
+    ensures { Takes (λ x. extension_parts x.0.0.now x.1 x.2.now) extension (left cons.old) (left cons.new) result }
 {
     let mut after = *cons;
     let contents = after.take_sequence()?;

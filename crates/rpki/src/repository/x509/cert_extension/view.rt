@@ -1,10 +1,9 @@
 //! Extensions of certificates, read in place (RFC 5280 4.1, 4.2).
 
 ghost use Rattle.std.specs.Prelude.{◌≡◌};
-ghost use Rattle.rpki_der.specs.Cursor.{left};
-ghost use Rattle.rpki_der.specs.Reading.{Reads};
-ghost use Rattle.rpki.specs.ExtensionValue.{extension_parts, SpellsExtension};
-ghost use Rattle.rpki.specs.ExtensionFault.{IsCertExtensionFault};
+ghost use Rattle.rpki_der.specs.Prelude.{left, Takes};
+ghost use Rattle.rpki.specs.ExtensionValue.{extension_parts};
+ghost use Rattle.rpki.specs.ExtensionFault.{extension};
 
 use super::grammar::take_extension;
 use rpki_der::{Constructed, DecodeError, Oid};
@@ -32,7 +31,7 @@ impl<'a> ExtensionView<'a> {
     /// [CertExtension::take_from](crate::repository::x509::CertExtension::take_from), but for `OutOfMemory`. Allocates
     /// nothing.
     pub fn take_from(cons: &mut Constructed<'a>) -> Result<ExtensionView<'a>, DecodeError>
-        ensures { Reads (λ x. x) SpellsExtension IsCertExtensionFault (left cons.old) (left cons.new) result }
+        ensures { Takes (λ x. x) extension (left cons.old) (left cons.new) result }
     {
         let (id, critical, octets) = take_extension(cons)?;
         Ok(ExtensionView {

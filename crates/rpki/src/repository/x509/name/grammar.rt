@@ -1,14 +1,9 @@
 //! The grammar of names (RFC 5280 4.1.2.4, X.501 9.2).
 
 ghost use Rattle.std.specs.Prelude.{true};
-ghost use Rattle.rpki_der.specs.Cursor.{left};
-ghost use Rattle.rpki_der.specs.TagName.{sequence, set};
-ghost use Rattle.rpki_der.specs.Reading.{Reads};
-ghost use Rattle.rpki_der.specs.FirstFault.{ReadsParts};
-ghost use Rattle.rpki_der.specs.Values.{SpellsLeaf, IsOuterFault};
-ghost use Rattle.rpki.specs.Name.{IsAttribute, SpellsAttribute, SpellsSome, SpellsRelative, SpellsIdentifierThen, attribute_left};
-ghost use Rattle.rpki.specs.AnyValue.{SpellsAny};
-ghost use Rattle.rpki.specs.NameFault.{IsAttributePartsFault, IsAttributeFault, IsAttributesFault, IsRelativeFault, IsRelativesFault, IsWalkedNameFault};
+ghost use Rattle.rpki_der.specs.Prelude.{left, Takes, TakesAll, sequence, Reads, IsOuterFault};
+ghost use Rattle.rpki.specs.Name.{SpellsIdentifierThen, attribute_left};
+ghost use Rattle.rpki.specs.NameFault.{attribute, attribute_parts, attributes, relative, relatives, walked_name};
 
 use rpki_der::{Constructed, Cursor, DecodeError, Tag, take_oid_contents};
 use std::alloc::Global;
@@ -27,13 +22,11 @@ pub(super) fn take_attribute_type<C: Cursor>(cons: &mut C) -> Result<(C, C), Dec
 
 /// Moves past an attribute: a SEQUENCE of an OBJECT IDENTIFIER and one value.
 fn skip_attribute(alloc: Global, cons: &mut Constructed<'_>) -> Result<(), DecodeError>
-    ensures { Reads (λ _. tt) (SpellsLeaf sequence true (SpellsAny IsAttribute)) IsAttributeFault (left cons.old)
-        (left cons.new) result }
+    ensures { Takes (λ _. tt) attribute (left cons.old) (left cons.new) result }
 {
     cons.in_sequence(
         |contents|
-            ensures { ReadsParts (λ _. tt) (SpellsAny IsAttribute) IsAttributePartsFault (left contents.old)
-                (left contents.new) result }
+            ensures { TakesAll (λ _. tt) attribute_parts (left contents.old) (left contents.new) result }
         {
             contents.take_oid()?;
             match contents.skip_one(alloc)? {
@@ -46,8 +39,7 @@ fn skip_attribute(alloc: Global, cons: &mut Constructed<'_>) -> Result<(), Decod
 
 /// Moves past the attributes that these contents are, one at least.
 fn skip_attributes(alloc: Global, contents: &mut Constructed<'_>) -> Result<(), DecodeError>
-    ensures { ReadsParts (λ _. tt) (SpellsAny (SpellsSome SpellsAttribute)) IsAttributesFault (left contents.old)
-        (left contents.new) result }
+    ensures { TakesAll (λ _. tt) attributes (left contents.old) (left contents.new) result }
 {
     if contents.is_empty() {
         return Err(DecodeError::content("empty relative distinguished name"));
@@ -60,16 +52,14 @@ fn skip_attributes(alloc: Global, contents: &mut Constructed<'_>) -> Result<(), 
 
 /// Moves past a relative distinguished name: a SET of attributes.
 fn skip_rdn(alloc: Global, cons: &mut Constructed<'_>) -> Result<(), DecodeError>
-    ensures { Reads (λ _. tt) (SpellsLeaf set true (SpellsAny (SpellsSome SpellsAttribute))) IsRelativeFault
-        (left cons.old) (left cons.new) result }
+    ensures { Takes (λ _. tt) relative (left cons.old) (left cons.new) result }
 {
     cons.in_set(|contents| skip_attributes(alloc, contents))
 }
 
 /// Moves past the relative distinguished names that these contents are, one at least.
 fn skip_rdns(alloc: Global, contents: &mut Constructed<'_>) -> Result<(), DecodeError>
-    ensures { ReadsParts (λ _. tt) (SpellsAny (SpellsSome SpellsRelative)) IsRelativesFault (left contents.old)
-        (left contents.new) result }
+    ensures { TakesAll (λ _. tt) relatives (left contents.old) (left contents.new) result }
 {
     if contents.is_empty() {
         return Err(DecodeError::content("empty distinguished name"));
@@ -82,8 +72,7 @@ fn skip_rdns(alloc: Global, contents: &mut Constructed<'_>) -> Result<(), Decode
 
 /// Moves past a name: a SEQUENCE of relative distinguished names.
 pub(super) fn skip_name(alloc: Global, cons: &mut Constructed<'_>) -> Result<(), DecodeError>
-    ensures { Reads (λ _. tt) (SpellsLeaf sequence true (SpellsAny (SpellsSome SpellsRelative))) IsWalkedNameFault
-        (left cons.old) (left cons.new) result }
+    ensures { Takes (λ _. tt) walked_name (left cons.old) (left cons.new) result }
 {
     cons.in_sequence(|contents| skip_rdns(alloc, contents))
 }

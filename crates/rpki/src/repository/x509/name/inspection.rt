@@ -1,9 +1,10 @@
 //! What a name is inspected for (RFC 6487 4.4, RFC 8209 3.1.1).
 
 ghost use Rattle.std.specs.Prelude.{◌≡◌, ◌↔◌, ◌<◌, IsTrue, List, [], ◌∷◌, length, MatchResult};
+ghost use Rattle.std.specs.List.{count_by};
 ghost use Rattle.rpki.specs.Name.{Attribute, attribute_of, SpellsAttribute, SpellsSome, SpellsRelative, SpellsName};
 ghost use Rattle.rpki.specs.NameTable.{name_table, row_at};
-ghost use Rattle.rpki.specs.StrictName.{attributes, IsPrintable, IsUtf8String, IsString};
+ghost use Rattle.rpki.specs.StrictName.{attributes, IsNameSize, begins_character, IsPrintable, IsUtf8String, IsString};
 ghost use Rattle.rpki.specs.InspectionView.{strings_of, FindsBy, Inspects};
 
 use super::grammar::take_attribute_type;
@@ -20,24 +21,40 @@ pub(super) enum Profile {
     Router,
 }
 
-/// Whether the octets that are left are a PrintableString.
+/// Whether a value may have as many characters (RFC 5280 A.1).
+fn is_name_size(characters: usize) -> bool
+    ensures { IsTrue result ↔ IsNameSize characters }
+{
+    1 <= characters && characters <= 64
+}
+
+/// How many characters the octets of a text in UTF-8 are.
+fn characters(text: &[u8]) -> usize
+    ensures { result ≡ count_by begins_character text.now }
+{
+    text.iter()
+        .filter(|octet| **octet < 0x80 || **octet >= 0xc0)
+        .count()
+}
+
+/// Whether the octets that are left are a PrintableString of 1 to 64 characters.
 fn is_printable<C: Cursor>(value: C) -> bool
     ensures { IsTrue result ↔ IsPrintable (C.octets_left value) }
 {
     let mut after = value;
     match take_printable_contents(&mut after) {
-        Ok(_) => after.is_at_end(),
+        Ok(text) => is_name_size(text.octets().len()) && after.is_at_end(),
         Err(_) => false,
     }
 }
 
-/// Whether they are a UTF8String.
+/// Whether they are a UTF8String of 1 to 64 characters.
 fn is_utf8<C: Cursor>(value: C) -> bool
     ensures { IsTrue result ↔ IsUtf8String (C.octets_left value) }
 {
     let mut after = value;
     match take_utf8_contents(&mut after) {
-        Ok(_) => after.is_at_end(),
+        Ok(text) => is_name_size(characters(text.octets())) && after.is_at_end(),
         Err(_) => false,
     }
 }

@@ -1,7 +1,7 @@
 //! The rules of the profiles of names, and the errors of names that break them.
 
 ghost use Rattle.std.specs.Prelude.{◌≡◌};
-ghost use Rattle.rpki_der.specs.ErrorText.{text_of};
+ghost use Rattle.rpki_der.specs.Prelude.{text_of};
 ghost use Rattle.rpki.specs.ErrorContent.{content_of};
 ghost use Rattle.rpki.specs.NameRule.{rpki_text, router_text};
 

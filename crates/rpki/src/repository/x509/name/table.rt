@@ -7,7 +7,7 @@ use super::rule::NameRule;
 use crate::oid::{AT_COMMON_NAME, AT_ORGANIZATION_NAME, AT_SERIAL_NUMBER};
 use rpki_der::{ConstOid, Oid};
 
-/// The strings that a value may be.
+/// The strings that a value may be, of 1 to 64 characters (RFC 5280 A.1).
 #[derive(Clone, Copy)]
 pub(super) enum Strings {
     /// A PrintableString.
@@ -40,7 +40,7 @@ const ATTRIBUTES: [NameAttribute; 3] = [
     NameAttribute {
         identifier: AT_SERIAL_NUMBER,
         rpki: Strings::Printable,
-        router: Strings::PrintableOrUtf8,
+        router: Strings::Printable,
         second: NameRule::SecondSerialNumber,
     },
     NameAttribute {

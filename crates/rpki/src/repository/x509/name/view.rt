@@ -1,10 +1,9 @@
 //! Names, read in place (RFC 5280 4.1.2.4, RFC 6487 4.4).
 
 ghost use Rattle.std.specs.Prelude.{◌≡◌, MatchResult};
-ghost use Rattle.rpki_der.specs.Cursor.{left};
-ghost use Rattle.rpki_der.specs.Reading.{Reads};
-ghost use Rattle.rpki.specs.Name.{IsName, SpellsNameOctets};
-ghost use Rattle.rpki.specs.NameFault.{IsWalkedNameFault};
+ghost use Rattle.rpki_der.specs.Prelude.{left, Takes};
+ghost use Rattle.rpki.specs.Name.{IsName};
+ghost use Rattle.rpki.specs.NameFault.{borrowed_name};
 ghost use Rattle.rpki.specs.NameRule.{BreaksRpkiRule, BreaksRouterRule};
 ghost use Rattle.rpki.specs.StrictName.{IsRpkiName, IsRouterName};
 
@@ -44,7 +43,7 @@ impl<'a> NameView<'a> {
     /// A name, with the grammar and the errors of [Name::take_from](crate::repository::x509::Name::take_from), but that
     /// allocation can fail only where the value of an attribute is constructed.
     pub fn take_from(alloc: Global, cons: &mut Constructed<'a>) -> Result<NameView<'a>, DecodeError>
-        ensures { Reads (λ n. n) SpellsNameOctets IsWalkedNameFault (left cons.old) (left cons.new) result }
+        ensures { Takes (λ n. n) borrowed_name (left cons.old) (left cons.new) result }
     {
         let mut after = *cons;
         skip_name(alloc, &mut after)?;

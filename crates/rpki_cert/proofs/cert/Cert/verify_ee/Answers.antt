@@ -1,8 +1,14 @@
+use Rattle.rpki_cert.proofs.TriedLaws.{tried-fault}
 use Rattle.rpki_cert.specs.Profile.{IsEeProfile}
 use Rattle.rpki_cert.specs.Rule.{ee_rules}
 use Rattle.rpki_cert.specs.Verified.{verified_by}
-use Rattle.rpki_cert.proofs.VerifiedLaws.{profile-then, path-then}
+use Rattle.rpki_cert.proofs.VerifiedLaws.{profile-then, profile-else, path-then, within-then}
 use Rattle.rpki_cert.proofs.cert.Cert.verify_ee.Goals as goal
+
+pub verify_path-requires : goal.verify_path-requires
+verify_path-requires g c =
+    let profile = rw c.tbs.ensures at c.in_ok-inspect_ee.ensures in
+    record { policy = profile.ordinary.basic.policy; form = profile.ordinary.basic.blocks }
 
 pub returns-clause-exactly : goal.returns-clause-exactly
 returns-clause-exactly g c =
@@ -13,3 +19,13 @@ pub returns-clause-path : goal.returns-clause-path
 returns-clause-path g c =
     let v = verified_by g.P.Provider.rsa_of g.P.Provider.ecdsa_of g.P.Provider.sha1_of c.args.issuer.now in
     path-then (IsEeProfile c.args.strict) c.args.strict ee_rules v c.args.at c.args.self.now c.verify_path.result c.verify_path.ensures.verified (rw c.tbs.ensures at c.in_ok-inspect_ee.ensures) c.verify_path.ensures.exactly
+
+pub returns-clause-within : goal.returns-clause-within
+returns-clause-within g c =
+    let v = verified_by g.P.Provider.rsa_of g.P.Provider.ecdsa_of g.P.Provider.sha1_of c.args.issuer.now in
+    within-then (IsEeProfile c.args.strict) c.args.strict ee_rules v c.args.at c.args.self.now c.verify_path.result c.verify_path.ensures.exactly
+
+pub returns-in_err-inspect_ee-clause-exactly : goal.returns-in_err-inspect_ee-clause-exactly
+returns-in_err-inspect_ee-clause-exactly g c =
+    let v = verified_by g.P.Provider.rsa_of g.P.Provider.ecdsa_of g.P.Provider.sha1_of c.args.issuer.now in
+    tried-fault _ _ _ _ c.from_residual.ensures (profile-else (IsEeProfile c.args.strict) c.args.strict ee_rules v c.args.at c.args.self.now _ (rw c.tbs.ensures at c.in_err-inspect_ee.ensures))

@@ -1,4 +1,8 @@
-use Rattle.rpki_cert.proofs.RuleLaws.{obeys-at}
+use Rattle.std.proofs.Common.{IsTrue}
+use Rattle.rpki_cert.specs.declared.rule.CertRule.TheVariants.{ResourceBlocks, OwnResources}
+use Rattle.rpki_cert.specs.ResourceExtensions.{AreWellFormed, AreOwn}
+use Rattle.rpki_cert.specs.RuleError.{SaysRule}
+use Rattle.rpki_cert.proofs.RuleLaws.{obeys-at, by-test}
 use Rattle.rpki_cert.proofs.inspected.Inspected.inspect_rule.Goals as goal
 
 pub returns-in-SerialNumber : goal.returns-in-SerialNumber
@@ -80,7 +84,13 @@ pub returns-in-RouterNumbers : goal.returns-in-RouterNumbers
 returns-in-RouterNumbers c = λ t h. obeys-at c.args.strict t _ _ _ c.in-RouterNumbers.is (rw (c.has_numbers_alone.ensures t.extensions h.extensions) at c.inspect_that-in-RouterNumbers.ensures)
 
 pub returns-in-ObjectAccess : goal.returns-in-ObjectAccess
-returns-in-ObjectAccess c = λ t h. obeys-at c.args.strict t _ _ _ c.in-ObjectAccess.is (rw (c.find-in-ObjectAccess.ensures t.extensions h.extensions) at c.inspect_methods.ensures)
+returns-in-ObjectAccess c = λ t h. obeys-at c.args.strict t _ _ _ c.in-ObjectAccess.is (rw (c.find-in-ObjectAccess.ensures t.extensions h.extensions) at c.inspect_held.ensures)
+
+pub returns-in-ManifestPlace : goal.returns-in-ManifestPlace
+returns-in-ManifestPlace c = λ t h. obeys-at c.args.strict t _ _ _ c.in-ManifestPlace.is (c.inspect_place.ensures t.extensions h.extensions)
+
+pub returns-in-Notifications : goal.returns-in-Notifications
+returns-in-Notifications c = λ t h. obeys-at c.args.strict t _ _ _ c.in-Notifications.is (rw (c.find-in-Notifications.ensures t.extensions h.extensions) at c.inspect_held-in-Notifications.ensures)
 
 pub returns-in-Validity : goal.returns-in-Validity
 returns-in-Validity c = λ t h. obeys-at c.args.strict t _ _ _ c.in-Validity.is (rw h.validity at c.inspect_validity.ensures)
@@ -93,3 +103,9 @@ returns-in-SelfIssued c = λ t h. obeys-at c.args.strict t _ _ _ c.in-SelfIssued
 
 pub returns-in-ResourceVersion : goal.returns-in-ResourceVersion
 returns-in-ResourceVersion c = λ t h. obeys-at c.args.strict t _ _ _ c.in-ResourceVersion.is (c.inspect_version.ensures t.extensions h.extensions)
+
+pub returns-in-ResourceBlocks : goal.returns-in-ResourceBlocks
+returns-in-ResourceBlocks c = λ t h. obeys-at c.args.strict t _ _ _ c.in-ResourceBlocks.is (by-test (AreWellFormed t.extensions) (IsTrue c.are_well_formed.result) (SaysRule ResourceBlocks) c.inspect_that-in-ResourceBlocks.result (c.are_well_formed.ensures t.extensions h.extensions) c.inspect_that-in-ResourceBlocks.ensures)
+
+pub returns-in-OwnResources : goal.returns-in-OwnResources
+returns-in-OwnResources c = λ t h. obeys-at c.args.strict t _ _ _ c.in-OwnResources.is (by-test (AreOwn t.extensions) (IsTrue c.are_own.result) (SaysRule OwnResources) c.inspect_that-in-OwnResources.result (c.are_own.ensures t.extensions h.extensions) c.inspect_that-in-OwnResources.ensures)

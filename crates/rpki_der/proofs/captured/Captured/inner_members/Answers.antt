@@ -7,12 +7,14 @@ use Rattle.rpki_der.proofs.captured.Captured.inner_members.Goals as goal
 
 pub entry_of-value-requires : goal.entry_of-value-requires
 entry_of-value-requires c =
-    subst (λ (x : List Entry). c.args.number < length x) (c.headers-entries.ensures.only c.requires.index c.requires.is) c.requires.within
+    subst (λ (x : List Entry). c.args.number < length x) (c.headers-entries.ensures.only c.requires.index c.requires.is)
+    c.requires.within
 
 pub overflow_add-result : goal.overflow_add-result
 overflow_add-result c =
     let within : c.args.number < length c.headers-entries.result.now =
-    subst (λ (x : List Entry). c.args.number < length x) (c.headers-entries.ensures.only c.requires.index c.requires.is) c.requires.within in
+    subst (λ (x : List Entry). c.args.number < length x) (c.headers-entries.ensures.only c.requires.index c.requires.is)
+    c.requires.within in
     omega (arith, within, c.headers-entries.type_inv)
 
 pub invariant_of-result : goal.invariant_of-result
@@ -32,5 +34,11 @@ unfolding numbers_left
 returns c =
     let es = c.headers-entries.result.now in
     let within : c.args.number < length es =
-    subst (λ (x : List Entry). c.args.number < length x) (c.headers-entries.ensures.only c.requires.index c.requires.is) c.requires.within in
-    (es, c.headers-entries.ensures.index, sym (members-after es (index-in-order c.headers-entries.ensures.index) c.args.number c.entry_of-value.result within))
+    subst (λ (x : List Entry). c.args.number < length x) (c.headers-entries.ensures.only c.requires.index c.requires.is)
+    c.requires.within in (
+      es,
+      c.headers-entries.ensures.index,
+      sym
+          (members-after es (index-in-order c.headers-entries.ensures.index) c.args.number c.entry_of-value.result
+          within),
+    )

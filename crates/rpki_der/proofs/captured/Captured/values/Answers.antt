@@ -9,7 +9,8 @@ use Rattle.rpki_der.proofs.captured.Captured.values.Goals as goal
 pub returns-clause-count : goal.returns-clause-count
 returns-clause-count c =
     let number = c.outer_count.ensures ∙ ap (λ (x : List Entry). count_by stands_alone x) c.deref.ensures.value in
-    subst (λ (x : List ℕ). AreValues c.outer_count.result x) c.self.view_is (index-values c.outer_count.result c.self.invariant number)
+    subst (λ (x : List ℕ). AreValues c.outer_count.result x) c.self.view_is
+    (index-values c.outer_count.result c.self.invariant number)
 
 pub returns-clause-members : goal.returns-clause-members
 returns-clause-members c = λ j k v w. one-list v w

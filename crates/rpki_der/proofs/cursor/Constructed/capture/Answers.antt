@@ -76,9 +76,11 @@ returns g c = (
     read = record { shown = _; shows = refl; left = _; met = c.in_ok-op.ensures; leaves = refl };
     rest = refl;
   }),
-  rw (c.of_index.ensures, c.in-Ok.ensures, c.rest-2.ensures) (both-parts _ _ _ _ c.split_at.ensures.front c.split_at.ensures.following),
+  rw (c.of_index.ensures, c.in-Ok.ensures, c.rest-2.ensures)
+      (both-parts _ _ _ _ c.split_at.ensures.front c.split_at.ensures.following),
   as-many _ _ _ _ _ _ c.len.ensures c.len-2.ensures c.in-Some.ensures c.split_at.ensures.following,
 )
 
 pub keep_part-requires-clause-stands : goal.keep_part-requires-clause-stands
-keep_part-requires-clause-stands g c = rw c.rest-2.ensures (front-stands _ _ _ _ c.split_at.ensures.front c.split_at.ensures.following)
+keep_part-requires-clause-stands g c =
+    rw c.rest-2.ensures (front-stands _ _ _ _ c.split_at.ensures.front c.split_at.ensures.following)

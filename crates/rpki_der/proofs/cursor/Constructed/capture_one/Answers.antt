@@ -22,4 +22,5 @@ pub returns-clause-fault : goal.returns-clause-fault
 returns-clause-fault g c = rw (← c.rest.ensures) (λ e f. absurd (no-error (c.in_ok-size.ensures.fault e f)))
 
 pub keep_part-requires-clause-stands : goal.keep_part-requires-clause-stands
-keep_part-requires-clause-stands g c = rw c.rest-2.ensures (front-stands _ _ _ _ c.split_at.ensures.front c.split_at.ensures.following)
+keep_part-requires-clause-stands g c =
+    rw c.rest-2.ensures (front-stands _ _ _ _ c.split_at.ensures.front c.split_at.ensures.following)

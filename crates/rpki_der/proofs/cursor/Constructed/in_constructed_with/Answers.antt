@@ -17,7 +17,15 @@ returns-in_err-found g c =
         before = c.in_ok-contents.contents;
         after = c.op.new.arg2;
         value = c.in_ok-contents.ensures;
-        read = record { keep = c.before-within.result; held = rw c.rest-2.ensures at c.before-within.ensures; shown = _; shows = refl; rest = _; met = c.in_err-found.ensures; leaves = refl };
+        read = record {
+          keep = c.before-within.result;
+          held = rw c.rest-2.ensures at c.before-within.ensures;
+          shown = _;
+          shows = refl;
+          rest = _;
+          met = c.in_err-found.ensures;
+          leaves = refl;
+        };
         rest = refl;
       }),
     )
@@ -31,7 +39,15 @@ returns-in_err-finish g c =
         before = c.in_ok-contents.contents;
         after = c.op.new.arg2;
         value = c.in_ok-contents.ensures;
-        read = record { keep = c.before-within.result; held = rw c.rest-2.ensures at c.before-within.ensures; shown = _; shows = refl; rest = _; met = c.in_ok-found.ensures; leaves = refl };
+        read = record {
+          keep = c.before-within.result;
+          held = rw c.rest-2.ensures at c.before-within.ensures;
+          shown = _;
+          shows = refl;
+          rest = _;
+          met = c.in_ok-found.ensures;
+          leaves = refl;
+        };
         rest = refl;
       }) c.in_err-finish.ensures.1 (subst (λ d. g.E.From.from_gives d p.0) c.in_err-finish.ensures.0 p.2),
     )

@@ -13,4 +13,5 @@ pub returns : goal.returns
 unfolding left
 returns g c =
     let s = c.args.self.now.rest.now in
-    c.in_ok-kept.ensures ∙ all-stands s _ c.args.part.now (stands-at s c.args.part.now c.args.after.now.rest.now c.requires.stands)
+    c.in_ok-kept.ensures ∙ all-stands s _ c.args.part.now
+    (stands-at s c.args.part.now c.args.after.now.rest.now c.requires.stands)

@@ -9,4 +9,5 @@ returns-else-len-length c =
     let size = c.len.ensures in
     let fits : c.in-Some.found.length ≤ length (left c.in-Some.following) = omega arith in
     rw (c.split_at.ensures.front, c.split_at.ensures.following)
-    (is-flat (IsWanted c.args.wanted) (left c.args.self.now) c.in-Some.found (left c.in-Some.following) c.in-Some.ensures (c.is_wanted.ensures.0 c.if-not-is_wanted.false) fits)
+    (is-flat (IsWanted c.args.wanted) (left c.args.self.now) c.in-Some.found (left c.in-Some.following)
+    c.in-Some.ensures (c.is_wanted.ensures.0 c.if-not-is_wanted.false) fits)

@@ -5,22 +5,27 @@ use Rattle.std.proofs.lemmas.List.{take_rest}
 use Rattle.rpki_der.specs.Cursor.{left}
 use Rattle.rpki_der.specs.Leaves.{IsBits, bits_of}
 use Rattle.rpki_der.specs.TagName.{bit_string}
-use Rattle.rpki_der.proofs.LeavesLaws.{leaf-refused, leaf-accepted, leaf-malformed, bits-one, bits-empty, bits-unread, bits-read}
+use Rattle.rpki_der.proofs.LeavesLaws.{leaf-refused, leaf-accepted, leaf-malformed, bits-one, bits-empty, bits-unread}
+use Rattle.rpki_der.proofs.LeavesLaws.{bits-read}
 use Rattle.rpki_der.proofs.TriedLaws.{tried-refused}
 use Rattle.rpki_der.proofs.cursor.Constructed.take_bits.Goals as goal
 
 pub returns-in_err-contents : goal.returns-in_err-contents
-returns-in_err-contents c = tried-refused _ _ _ _ _ _ _ c.from_residual.ensures (leaf-refused bit_string false IsBits _ _ _ c.in_err-contents.field-0.0 refl c.in_err-contents.ensures)
+returns-in_err-contents c = tried-refused _ _ _ _ _ _ _ c.from_residual.ensures
+    (leaf-refused bit_string false IsBits _ _ _ c.in_err-contents.field-0.0 refl c.in_err-contents.ensures)
 
 pub returns-in_default : goal.returns-in_default
 returns-in_default c =
-    leaf-malformed bit_string false IsBits _ (left c.in_ok-contents.contents) _ _ _ _ c.content.ensures refl c.in_ok-contents.ensures
+    leaf-malformed bit_string false IsBits _ (left c.in_ok-contents.contents) _ _ _ _ c.content.ensures refl
+    c.in_ok-contents.ensures
     (bits-empty (left c.in_ok-contents.contents) (rw (← c.rest.ensures) c.in_default.len_below))
 
 pub returns-then-not-is_legal : goal.returns-then-not-is_legal
 returns-then-not-is_legal c =
-    leaf-malformed bit_string false IsBits _ (left c.in_ok-contents.contents) _ _ _ _ c.content-then-not-is_legal.ensures refl c.in_ok-contents.ensures
-    (bits-unread c.rest.result.now (left c.in_ok-contents.contents) c.rest.ensures c.in-len1-up.len_at_least (iff_false c.is_legal.ensures c.if-not-is_legal.true))
+    leaf-malformed bit_string false IsBits _ (left c.in_ok-contents.contents) _ _ _ _
+    c.content-then-not-is_legal.ensures refl c.in_ok-contents.ensures
+    (bits-unread c.rest.result.now (left c.in_ok-contents.contents) c.rest.ensures c.in-len1-up.len_at_least
+    (iff_false c.is_legal.ensures c.if-not-is_legal.true))
 
 pub returns : goal.returns
 returns c =

@@ -8,14 +8,17 @@ use Rattle.rpki_der.proofs.TriedLaws.{tried-refused}
 use Rattle.rpki_der.proofs.cursor.Constructed.take_bool.Goals as goal
 
 pub returns-in_err-contents : goal.returns-in_err-contents
-returns-in_err-contents c = tried-refused _ _ _ _ _ _ _ c.from_residual.ensures (leaf-refused boolean false IsBoolean _ _ _ c.in_err-contents.field-0.0 refl c.in_err-contents.ensures)
+returns-in_err-contents c = tried-refused _ _ _ _ _ _ _ c.from_residual.ensures
+    (leaf-refused boolean false IsBoolean _ _ _ c.in_err-contents.field-0.0 refl c.in_err-contents.ensures)
 
 pub returns-in-Some : goal.returns-in-Some
 returns-in-Some c =
     let is = rw c.rest.ensures at c.in-Some.ensures.value in
-    leaf-accepted boolean false IsBoolean _ (left c.in_ok-contents.contents) _ c.in-Some.value c.in_ok-contents.ensures is (λ w h. boolean-one w c.in-Some.value (sym h ∙ is))
+    leaf-accepted boolean false IsBoolean _ (left c.in_ok-contents.contents) _ c.in-Some.value c.in_ok-contents.ensures
+    is (λ w h. boolean-one w c.in-Some.value (sym h ∙ is))
 
 pub returns-in-None : goal.returns-in-None
 returns-in-None c =
     let none = rw c.rest.ensures at c.in-None.ensures.none in
-    leaf-malformed boolean false IsBoolean _ (left c.in_ok-contents.contents) _ _ _ _ c.content.ensures refl c.in_ok-contents.ensures none
+    leaf-malformed boolean false IsBoolean _ (left c.in_ok-contents.contents) _ _ _ _ c.content.ensures refl
+    c.in_ok-contents.ensures none

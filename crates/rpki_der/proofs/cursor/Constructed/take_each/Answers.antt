@@ -49,7 +49,8 @@ returns-in-Err g c = (
 
 pub values-preserved : goal.values-preserved
 values-preserved g c =
-    rw c.in_default.ensures.items (next-read _ _ _ _ _ c.in_ok-value.value c.values.invariant (iff_false c.is_empty.ensures c.values-test.true) (record {
+    rw c.in_default.ensures.items (next-read _ _ _ _ _ c.in_ok-value.value c.values.invariant
+    (iff_false c.is_empty.ensures c.values-test.true) (record {
       before = c.values.rest;
       after = c.op.new.arg2;
       all = refl;

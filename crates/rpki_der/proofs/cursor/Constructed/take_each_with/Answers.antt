@@ -18,7 +18,16 @@ returns-in_err-value g c =
         before = c.values.rest;
         after = c.op.new.arg2;
         all = refl;
-        read = record { keep = c.args.keep; held = c.values.invariant.1; shown = _; shows = refl; rest = _; met = c.in_err-value.ensures; leaves = refl };
+        read = record {
+          keep = c.args.keep;
+          held = c.values.invariant.1;
+          shown = _;
+          shows = refl;
+          rest = _;
+          met =
+              c.in_err-value.ensures;
+          leaves = refl;
+        };
         rest = refl;
       }),
     )
@@ -30,7 +39,16 @@ returns-then-len-before g c = (
     before = c.values.rest;
     after = c.op.new.arg2;
     all = refl;
-    read = record { keep = c.args.keep; held = c.values.invariant.1; shown = _; shows = refl; rest = _; met = c.in_ok-value.ensures; leaves = refl };
+    read = record {
+      keep = c.args.keep;
+      held = c.values.invariant.1;
+      shown = _;
+      shows = refl;
+      rest = _;
+      met =
+          c.in_ok-value.ensures;
+      leaves = refl;
+    };
     rest = refl;
   }) (omega (arith, c.if-len-before.true, c.len-before.ensures, c.len.ensures)) c.from.ensures,
 )
@@ -42,20 +60,49 @@ returns-in-Err g c = (
     before = c.values.rest;
     after = c.op.new.arg2;
     all = refl;
-    read = record { keep = c.args.keep; held = c.values.invariant.1; shown = _; shows = refl; rest = _; met = c.in_ok-value.ensures; leaves = refl };
+    read = record {
+      keep = c.args.keep;
+      held = c.values.invariant.1;
+      shown = _;
+      shows = refl;
+      rest = _;
+      met =
+          c.in_ok-value.ensures;
+      leaves = refl;
+    };
     rest = refl;
   }) (subst (λ d. g.E.From.from_gives d c.from-in-Err-2.result) c.from-in-Err.ensures c.from-in-Err-2.ensures),
 )
 
 pub values-preserved : goal.values-preserved
 values-preserved g c =
-    let parts = c.requires.front c.values.rest _ c.in_ok-value.value (record { keep = c.args.keep; held = c.values.invariant.1; shown = _; shows = refl; rest = _; met = c.in_ok-value.ensures; leaves = refl }) in (
-      rw c.in_default.ensures.items (next-read _ _ _ _ _ c.in_ok-value.value c.values.invariant.0 (iff_false c.is_empty.ensures c.values-test.true) (record {
-        before = c.values.rest;
-        after = c.op.new.arg2;
-        all = refl;
-        read = record { keep = c.args.keep; held = c.values.invariant.1; shown = _; shows = refl; rest = _; met = c.in_ok-value.ensures; leaves = refl };
-        rest = refl;
-      }) (omega (arith, c.if-len-before.false, c.len-before.ensures, c.len.ensures))),
+    let parts = c.requires.front c.values.rest _ c.in_ok-value.value
+    (record {
+      keep = c.args.keep;
+      held = c.values.invariant.1;
+      shown = _;
+      shows = refl;
+      rest = _;
+      met =
+          c.in_ok-value.ensures;
+      leaves = refl;
+    }) in (
+      rw c.in_default.ensures.items (next-read _ _ _ _ _ c.in_ok-value.value c.values.invariant.0
+          (iff_false c.is_empty.ensures c.values-test.true) (record {
+            before = c.values.rest;
+            after = c.op.new.arg2;
+            all = refl;
+            read = record {
+              keep = c.args.keep;
+              held = c.values.invariant.1;
+              shown = _;
+              shows = refl;
+              rest = _;
+              met =
+                  c.in_ok-value.ensures;
+              leaves = refl;
+            };
+            rest = refl;
+          }) (omega (arith, c.if-len-before.false, c.len-before.ensures, c.len.ensures))),
       g.met.K.Keep.rest_held c.args.keep parts.0 _ (subst (g.K.Keep.holds c.args.keep) parts.1 c.values.invariant.1),
     )

@@ -7,14 +7,17 @@ use Rattle.rpki_der.proofs.TriedLaws.{tried-refused}
 use Rattle.rpki_der.proofs.cursor.Constructed.take_ia5.Goals as goal
 
 pub returns-in_err-contents : goal.returns-in_err-contents
-returns-in_err-contents c = tried-refused _ _ _ _ _ _ _ c.from_residual.ensures (leaf-refused ia5_string false IsIa5Text _ _ _ c.in_err-contents.field-0.0 refl c.in_err-contents.ensures)
+returns-in_err-contents c = tried-refused _ _ _ _ _ _ _ c.from_residual.ensures
+    (leaf-refused ia5_string false IsIa5Text _ _ _ c.in_err-contents.field-0.0 refl c.in_err-contents.ensures)
 
 pub returns-in-Some : goal.returns-in-Some
 returns-in-Some c =
     let is = rw c.rest.ensures at c.in-Some.ensures.value in
-    leaf-accepted ia5_string false IsIa5Text _ (left c.in_ok-contents.contents) _ c.in-Some.text c.in_ok-contents.ensures is (λ w h. sym h.0 ∙ is.0)
+    leaf-accepted ia5_string false IsIa5Text _ (left c.in_ok-contents.contents) _ c.in-Some.text
+    c.in_ok-contents.ensures is (λ w h. sym h.0 ∙ is.0)
 
 pub returns-in-None : goal.returns-in-None
 returns-in-None c =
     let none = rw c.rest.ensures at c.in-None.ensures.none in
-    leaf-malformed ia5_string false IsIa5Text _ (left c.in_ok-contents.contents) _ _ _ _ c.content.ensures refl c.in_ok-contents.ensures none
+    leaf-malformed ia5_string false IsIa5Text _ (left c.in_ok-contents.contents) _ _ _ _ c.content.ensures refl
+    c.in_ok-contents.ensures none

@@ -8,14 +8,19 @@ use Rattle.rpki_der.proofs.TriedLaws.{tried-refused}
 use Rattle.rpki_der.proofs.cursor.Constructed.take_u64.Goals as goal
 
 pub returns-in_err-contents : goal.returns-in_err-contents
-returns-in_err-contents c = tried-refused _ _ _ _ _ _ _ c.from_residual.ensures (leaf-refused integer false (IsUnsignedBelow (2 ^ 64)) _ _ _ c.in_err-contents.field-0.0 refl c.in_err-contents.ensures)
+returns-in_err-contents c = tried-refused _ _ _ _ _ _ _ c.from_residual.ensures
+    (leaf-refused integer false (IsUnsignedBelow (2 ^ 64)) _ _ _ c.in_err-contents.field-0.0 refl
+    c.in_err-contents.ensures)
 
 pub returns-in-Some : goal.returns-in-Some
 returns-in-Some c =
     let is = rw c.rest.ensures at c.in-Some.ensures.value in
-    leaf-accepted integer false (IsUnsignedBelow (2 ^ 64)) _ (left c.in_ok-contents.contents) _ c.in-Some.number c.in_ok-contents.ensures is (λ w h. one-number w c.in-Some.number (left c.in_ok-contents.contents) h.contents is.contents)
+    leaf-accepted integer false (IsUnsignedBelow (2 ^ 64)) _ (left c.in_ok-contents.contents) _ c.in-Some.number
+    c.in_ok-contents.ensures is (λ w h. one-number w c.in-Some.number (left c.in_ok-contents.contents) h.contents
+    is.contents)
 
 pub returns-in-None : goal.returns-in-None
 returns-in-None c =
     let none = rw c.rest.ensures at c.in-None.ensures.none in
-    leaf-malformed integer false (IsUnsignedBelow (2 ^ 64)) _ (left c.in_ok-contents.contents) _ _ _ _ c.content.ensures refl c.in_ok-contents.ensures none
+    leaf-malformed integer false (IsUnsignedBelow (2 ^ 64)) _ (left c.in_ok-contents.contents) _ _ _ _ c.content.ensures
+    refl c.in_ok-contents.ensures none

@@ -24,7 +24,8 @@ returns-then-not-is_wanted c =
     let other = iff_false c.is_wanted.ensures c.if-not-is_wanted.true in
     record {
       unchanged = refl;
-      refuses = flat-unwanted (IsWanted c.args.wanted) (left c.args.self.now) found.header (left found.following) h other;
+      refuses =
+          flat-unwanted (IsWanted c.args.wanted) (left c.args.self.now) found.header (left found.following) h other;
       kind = (found.header, left found.following, h.spells, other);
     }
 
@@ -36,8 +37,10 @@ returns-then-len-length c =
     let short : length (left found.following) < found.header.length = omega arith in
     record {
       unchanged = refl;
-      refuses = flat-too-long (IsWanted c.args.wanted) (left c.args.self.now) found.header (left found.following) h short;
-      kind = inr (flat-cut (IsWanted c.args.wanted) (left c.args.self.now) found.header (left found.following) h.spells (c.is_wanted.ensures.0 c.if-not-is_wanted.false) short);
+      refuses =
+          flat-too-long (IsWanted c.args.wanted) (left c.args.self.now) found.header (left found.following) h short;
+      kind = inr (flat-cut (IsWanted c.args.wanted) (left c.args.self.now) found.header (left found.following) h.spells
+          (c.is_wanted.ensures.0 c.if-not-is_wanted.false) short);
     }
 
 pub returns : goal.returns
@@ -47,4 +50,5 @@ returns c =
     let size = c.len.ensures in
     let fits : found.header.length ≤ length (left found.following) = omega arith in
     rw (c.split_at.ensures.front, c.split_at.ensures.following)
-    (is-flat (IsWanted c.args.wanted) (left c.args.self.now) found.header (left found.following) h (c.is_wanted.ensures.0 c.if-not-is_wanted.false) fits)
+    (is-flat (IsWanted c.args.wanted) (left c.args.self.now) found.header (left found.following) h
+    (c.is_wanted.ensures.0 c.if-not-is_wanted.false) fits)

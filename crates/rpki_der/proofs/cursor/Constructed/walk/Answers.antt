@@ -13,9 +13,11 @@ returns-then-is_empty-clause-fault c = λ e f.
 
 pub returns-in_err-size-clause-reads : goal.returns-in_err-size-clause-reads
 returns-in_err-size-clause-reads c =
-    let some : c.rest-octets.result.now ≢ [] = λ z. eqb-false _ _ (sym c.is_empty.ensures ∙ c.if-is_empty.false) (ap length z) in
+    let some : c.rest-octets.result.now ≢ [] = λ z. eqb-false _ _ (sym c.is_empty.ensures ∙ c.if-is_empty.false)
+    (ap length z) in
     let p = err_from_is_err_and c.from_residual.result c.from_residual.ensures.1 in
     rw (p.1, p.2, ← c.rest-octets.ensures) (some, any-refused some c.in_err-size.ensures.refused)
 
 pub returns-clause-reads : goal.returns-clause-reads
-returns-clause-reads c = rw (c.split_at.ensures.following, ← c.rest-octets.ensures) (some-left c.in_ok-size.ensures.accepted, any-accepted c.in_ok-size.ensures.accepted)
+returns-clause-reads c = rw (c.split_at.ensures.following, ← c.rest-octets.ensures)
+    (some-left c.in_ok-size.ensures.accepted, any-accepted c.in_ok-size.ensures.accepted)

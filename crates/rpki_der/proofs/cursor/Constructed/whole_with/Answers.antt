@@ -10,7 +10,16 @@ returns-in_err-found g c =
       before = c.args.self;
       after = c.op.new.arg2;
       all = refl;
-      read = record { keep = c.args.keep; held = c.requires.held; shown = _; shows = refl; rest = _; met = c.in_err-found.ensures; leaves = refl };
+      read = record {
+        keep = c.args.keep;
+        held = c.requires.held;
+        shown = _;
+        shows = refl;
+        rest = _;
+        met =
+            c.in_err-found.ensures;
+        leaves = refl;
+      };
       rest = refl;
     }))
 
@@ -21,7 +30,16 @@ returns-in_err-finish g c =
       before = c.args.self;
       after = c.op.new.arg2;
       all = refl;
-      read = record { keep = c.args.keep; held = c.requires.held; shown = _; shows = refl; rest = _; met = c.in_ok-found.ensures; leaves = refl };
+      read = record {
+        keep = c.args.keep;
+        held = c.requires.held;
+        shown = _;
+        shows = refl;
+        rest = _;
+        met =
+            c.in_ok-found.ensures;
+        leaves = refl;
+      };
       rest = refl;
     }) c.in_err-finish.ensures.1 (subst (λ d. g.E.From.from_gives d p.0) c.in_err-finish.ensures.0 p.2))
 
@@ -30,6 +48,15 @@ returns g c = record {
   before = c.args.self;
   after = c.op.new.arg2;
   all = refl;
-  read = record { keep = c.args.keep; held = c.requires.held; shown = _; shows = refl; rest = _; met = c.in_ok-found.ensures; leaves = refl };
+  read = record {
+    keep = c.args.keep;
+    held = c.requires.held;
+    shown = _;
+    shows = refl;
+    rest = _;
+    met =
+        c.in_ok-found.ensures;
+    leaves = refl;
+  };
   rest = c.in_ok-finish.ensures;
 }

@@ -10,4 +10,5 @@ pub overflow_add-result : goal.overflow_add-result
 overflow_add-result t c = omega (arith, c.digit_count.ensures, length-digits)
 
 pub returns : goal.returns
-returns t c = rw (digits-more _ _ _ _ c.if-room-eq0.false c.if-number-eq0.false, length-append) (omega (arith, c.digit_count.ensures))
+returns t c = rw (digits-more _ _ _ _ c.if-room-eq0.false c.if-number-eq0.false, length-append)
+    (omega (arith, c.digit_count.ensures))

@@ -13,9 +13,12 @@ loop-rest-preserved g c =
 
 pub returns-then-taken-eq0 : goal.returns-then-taken-eq0
 returns-then-taken-eq0 g c =
-    cut-before _ _ _ _ c.loop-rest.rest.now c.loop-rest.invariant (some-left _ _ c.loop-rest-test.true c.is_empty.ensures) (keeps-take _ _ _ _ (omega (arith, c.if-taken-eq0.true)) c.in_ok-taken.ensures.bytes)
+    cut-before _ _ _ _ c.loop-rest.rest.now c.loop-rest.invariant
+    (some-left _ _ c.loop-rest-test.true c.is_empty.ensures)
+    (keeps-take _ _ _ _ (omega (arith, c.if-taken-eq0.true)) c.in_ok-taken.ensures.bytes)
 
 pub returns-in_err-taken : goal.returns-in_err-taken
 returns-in_err-taken g c =
     let p = err_from_is_err_and c.from_residual.result c.from_residual.ensures.1 in
-    rw p.1 (cut-before _ _ _ _ c.loop-rest.rest.now c.loop-rest.invariant (some-left _ _ c.loop-rest-test.true c.is_empty.ensures) c.in_err-taken.ensures.bytes)
+    rw p.1 (cut-before _ _ _ _ c.loop-rest.rest.now c.loop-rest.invariant
+    (some-left _ _ c.loop-rest-test.true c.is_empty.ensures) c.in_err-taken.ensures.bytes)

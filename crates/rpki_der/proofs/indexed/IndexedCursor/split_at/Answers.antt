@@ -30,10 +30,12 @@ pub returns-clause-front : goal.returns-clause-front
 unfolding indexed_left
 returns-clause-front c =
     let self = c.args.self.now in
-    front-of-cut self.source.now self.start self.end c.args.at (seam-within self.source.now self.start self.end c.args.at self.ordered self.inside c.requires)
+    front-of-cut self.source.now self.start self.end c.args.at
+    (seam-within self.source.now self.start self.end c.args.at self.ordered self.inside c.requires)
 
 pub returns-clause-following : goal.returns-clause-following
 unfolding indexed_left
 returns-clause-following c =
     let self = c.args.self.now in
-    back-of-cut self.source.now self.start self.end c.args.at (seam-within self.source.now self.start self.end c.args.at self.ordered self.inside c.requires)
+    back-of-cut self.source.now self.start self.end c.args.at
+    (seam-within self.source.now self.start self.end c.args.at self.ordered self.inside c.requires)

@@ -3,7 +3,8 @@ use Rattle.std.proofs.lemmas.Bool.{iff_false}
 use Rattle.rpki_der.specs.IndexedCursor.{indexed_left}
 use Rattle.rpki_der.specs.WantedValue.{IsFormed}
 use Rattle.rpki_der.proofs.ReadingLaws.{UnlessMemory-from}
-use Rattle.rpki_der.proofs.WantedLaws.{flat-none, flat-kind, flat-unwanted, flat-too-long, flat-cut, is-flat, formed-found, formed-refusal}
+use Rattle.rpki_der.proofs.WantedLaws.{flat-none, flat-kind, flat-unwanted, flat-too-long, flat-cut, is-flat}
+use Rattle.rpki_der.proofs.WantedLaws.{formed-found, formed-refusal}
 use Rattle.rpki_der.proofs.indexed.IndexedCursor.take_contents.Goals as goal
 
 pub returns-in-Err : goal.returns-in-Err
@@ -24,7 +25,8 @@ returns-then-not-names c =
     let other = iff_false c.names.ensures c.if-not-names.true in
     formed-refusal c.args.tag c.args.constructed s s _ (record {
       unchanged = refl;
-      refuses = flat-unwanted (IsFormed c.args.tag c.args.constructed) s c.in-Ok.found.0 (indexed_left c.in-Ok.found.1) h other;
+      refuses = flat-unwanted (IsFormed c.args.tag c.args.constructed) s c.in-Ok.found.0 (indexed_left c.in-Ok.found.1)
+          h other;
       kind = (c.in-Ok.found.0, indexed_left c.in-Ok.found.1, h.spells, other);
     })
 
@@ -38,7 +40,8 @@ returns-then-len-length c =
     formed-refusal c.args.tag c.args.constructed s s _ (record {
       unchanged = refl;
       refuses = flat-too-long W s c.in-Ok.found.0 (indexed_left c.in-Ok.found.1) h short;
-      kind = inr (flat-cut W s c.in-Ok.found.0 (indexed_left c.in-Ok.found.1) h.spells (c.names.ensures.0 c.if-not-names.false) short);
+      kind = inr (flat-cut W s c.in-Ok.found.0 (indexed_left c.in-Ok.found.1) h.spells
+          (c.names.ensures.0 c.if-not-names.false) short);
     })
 
 pub returns : goal.returns
@@ -47,5 +50,7 @@ returns c =
     let W = IsFormed c.args.tag c.args.constructed in
     let size = c.len.ensures in
     let fits : c.in-Ok.found.0.length ≤ length (indexed_left c.in-Ok.found.1) = omega arith in
-    let found = is-flat W (indexed_left c.args.self.now) c.in-Ok.found.0 (indexed_left c.in-Ok.found.1) h (c.names.ensures.0 c.if-not-names.false) fits in
-    rw (c.split_at.ensures.front, c.split_at.ensures.following) (formed-found c.args.tag c.args.constructed (indexed_left c.args.self.now) _ _ found)
+    let found = is-flat W (indexed_left c.args.self.now) c.in-Ok.found.0 (indexed_left c.in-Ok.found.1) h
+    (c.names.ensures.0 c.if-not-names.false) fits in
+    rw (c.split_at.ensures.front, c.split_at.ensures.following)
+    (formed-found c.args.tag c.args.constructed (indexed_left c.args.self.now) _ _ found)

@@ -11,11 +11,13 @@ halves-preserved-then-place-past c =
     let low = c.halves.invariant.0 in
     let high = c.halves.invariant.1 in
     let test = c.halves-test.true in
-    let apart = siblings-apart m.entries.now m.ordered number middle c.entry_of-value.result c.entry_of-found.result c.entry_of-value.ensures
+    let apart = siblings-apart m.entries.now m.ordered number middle c.entry_of-value.result c.entry_of-found.result
+    c.entry_of-value.ensures
     (omega (arith, low)) (omega (arith, high, test)) c.entry_of-found.ensures
     (omega (arith, c.if-place-past.true, c.place.ensures, c.past-past.ensures)) in
     let parent = c.requires.member c.entry_of-value.result c.entry_of-value.ensures in (
       omega (arith, low),
       high,
-      subst (λ (p : Option ℕ). numbers_from (number + 1) p (drop (number + 1) m.entries.now) ≡ numbers_from (middle + 1) p (drop (middle + 1) m.entries.now)) parent apart,
+      subst (λ (p : Option ℕ). numbers_from (number + 1) p (drop (number + 1) m.entries.now) ≡ numbers_from (middle + 1)
+          p (drop (middle + 1) m.entries.now)) parent apart,
     )

@@ -1,8 +1,8 @@
-use Rattle.std.proofs.Common.{rules, true}
+use Rattle.std.proofs.Common.{rules}
 use Rattle.rpki_der.specs.TagName.{sequence}
-use Rattle.rpki_der.proofs.FirstFaultLaws.{read-parts-inside}
-use Rattle.rpki_examples.specs.NumberList.{parts_of, AreParts, ArePartsFault}
+use Rattle.rpki_der.proofs.FormatLaws.{takes-around}
+use Rattle.rpki_examples.specs.NumberList.{parts_of, parts}
 use Rattle.rpki_examples.proofs.number_list.NumberList.take_from.Goals as goal
 
 pub returns : goal.returns
-returns c = read-parts-inside parts_of sequence true AreParts ArePartsFault _ (λ b a x h. search rules) _ _ _ c.in_sequence.ensures
+returns c = takes-around parts_of sequence parts _ (λ b a x h. search rules) _ _ _ c.in_sequence.ensures

@@ -1,5 +1,5 @@
 use Rattle.std.proofs.Common.{[], ◌∷◌}
-use Rattle.rpki.specs.SignatureNames.{SpellsBare}
+use Rattle.rpki.specs.Prelude.{SpellsBare}
 use Rattle.rpki.proofs.AlgorithmFaultLaws.{bare-exactly}
 use Rattle.rpki_examples.proofs.own_algorithm.OwnAlgorithmSignatureAlgorithm.TheImpl.Goals as goal
 

@@ -16,9 +16,11 @@ returns-after-loop-end-clause-front c =
 
 pub returns-else-text-end-ne47-clause-value : goal.returns-else-text-end-ne47-clause-value
 returns-else-text-end-ne47-clause-value c =
-    let stops : not (is_slash (get_or c.args.text.now (c.loop-end.end - 1) 0)) ≡ false = rw c.if-text-end-ne47.false refl in
+    let stops : not (is_slash (get_or c.args.text.now (c.loop-end.end - 1) 0)) ≡ false = rw c.if-text-end-ne47.false
+    refl in
     let none : suffix_len (λ b. not (is_slash b)) (take c.loop-end.end c.args.text.now) ≡ 0 =
-    suffix_len-take_no (λ b. not (is_slash b)) c.args.text.now c.loop-end.end 0 c.loop-end-test.true c.loop-end.invariant.within stops in
+    suffix_len-take_no (λ b. not (is_slash b)) c.args.text.now c.loop-end.end 0 c.loop-end-test.true
+    c.loop-end.invariant.within stops in
     omega (arith, c.loop-end.invariant.within, c.loop-end.invariant.tail, none)
 
 pub returns-after-loop-end-clause-value : goal.returns-after-loop-end-clause-value

@@ -11,8 +11,11 @@ loop-rest-preserved c =
     let rest = c.loop-rest.rest.now in
     let front = c.split_at-in-loop-rest.ensures.front in
     let closed : is_dir (take n rest) ≡ true =
-    ap is_dir (sym (take-within n 255 rest (omega (arith, c.after_last_slash.ensures.within, c.split_at.ensures.front_len))) ∙ ap (take n) (sym c.split_at.ensures.front)) ∙ c.after_last_slash.ensures.front in
-    c.loop-rest.invariant ∙ front-skipped rest n closed (ap (λ p. names_refusal (segments p)) (sym front) ∙ c.are_ordinary.ensures c.if-not-are_ordinary.false)
+    ap is_dir
+    (sym (take-within n 255 rest (omega (arith, c.after_last_slash.ensures.within, c.split_at.ensures.front_len))) ∙ ap
+    (take n) (sym c.split_at.ensures.front)) ∙ c.after_last_slash.ensures.front in
+    c.loop-rest.invariant ∙ front-skipped rest n closed
+    (ap (λ p. names_refusal (segments p)) (sym front) ∙ c.are_ordinary.ensures c.if-not-are_ordinary.false)
     ∙ ap (λ p. names_refusal (segments p)) (sym c.split_at-in-loop-rest.ensures.back)
 
 pub returns-then-are_ordinary : goal.returns-then-are_ordinary

@@ -13,7 +13,11 @@ returns-then-is_empty c = λ t.
     ap (λ p. names_refusal (segments p)) none ∙ ap names_refusal segments-empty
 
 pub loop-i-preserved : goal.loop-i-preserved
-loop-i-preserved c = (omega arith, rw (c.is_odd.ensures, c.loop-i.invariant.1) (sym (ordinary-more 47 c.args.path.now c.loop-i.i c.loop-i.invariant.0 c.loop-i-test.true)))
+loop-i-preserved c = (
+  omega arith,
+  rw (c.is_odd.ensures, c.loop-i.invariant.1)
+      (sym (ordinary-more 47 c.args.path.now c.loop-i.i c.loop-i.invariant.0 c.loop-i-test.true)),
+)
 
 pub returns : goal.returns
 returns c = λ t.

@@ -18,4 +18,5 @@ returns-then-end-path c =
 pub returns-else-end-path : goal.returns-else-end-path
 returns-else-end-path c =
     let h : position_or_len is_slash c.args.path.now < length c.args.path.now = omega arith in
-    rw (tail-slice (c.slash_at-end.result + 1) c.args.path.now, c.slash_at-end.ensures.value) (segments-cut c.args.path.now h)
+    rw (tail-slice (c.slash_at-end.result + 1) c.args.path.now, c.slash_at-end.ensures.value)
+    (segments-cut c.args.path.now h)

@@ -11,4 +11,5 @@ returns-then-is_empty-clause-none c =
 pub returns-clause-some : goal.returns-clause-some
 returns-clause-some c =
     let some : 0 < length c.without_last_slash-front.result.now = grind (arith, common_steps) in
-    path_above-some c.args.path.now _ c.after_last_slash.result c.without_last_slash-front.ensures some c.after_last_slash.ensures.value
+    path_above-some c.args.path.now _ c.after_last_slash.result c.without_last_slash-front.ensures some
+    c.after_last_slash.ensures.value

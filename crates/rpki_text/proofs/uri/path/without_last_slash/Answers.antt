@@ -5,7 +5,8 @@ use Rattle.rpki_text.proofs.uri.path.without_last_slash.Goals as goal
 
 pub returns-then-last-eq47 : goal.returns-then-last-eq47
 returns-then-last-eq47 c =
-    without_slash-stripped c.args.path.now c.in-Some.front.now (c.in-Some.ensures.cases.0 ∙ ap (λ b. c.in-Some.front.now ++ b ∷ []) c.if-last-eq47.true)
+    without_slash-stripped c.args.path.now c.in-Some.front.now
+    (c.in-Some.ensures.cases.0 ∙ ap (λ b. c.in-Some.front.now ++ b ∷ []) c.if-last-eq47.true)
 
 pub returns-else-last-eq47 : goal.returns-else-last-eq47
 returns-else-last-eq47 c =

@@ -7,5 +7,6 @@ use Rattle.rpki_time.proofs.serial.Serial.decode.Goals as goal
 
 pub returns : goal.returns
 returns c =
-    read-whole-exactly (λ n. n) SpellsSerial IsSerialFault (λ s e k. leaf-no-memory integer false IsSerialContents s e k.0) _ (λ b a x h. search rules) _ _
+    read-whole-exactly (λ n. n) SpellsSerial IsSerialFault
+    (λ s e k. leaf-no-memory integer false IsSerialContents s e k.0) _ (λ b a x h. search rules) _ _
     (rw c.from_slice.ensures at c.whole.ensures)

@@ -2,11 +2,13 @@ use Rattle.std.proofs.Common.{◌<◌, ◌⊎◌, inl, inr, arith, length, get_o
 use Rattle.rpki_der.proofs.IntegerLaws.{octets-fit}
 use Rattle.rpki_time.proofs.OctetLaws.{padded-AreTwenty, number-padded}
 use Rattle.rpki_time.proofs.serial.Serial.from_slice.Goals as goal
-use Rattle.rpki_time.proofs.serial.Serial.from_slice.Goals.{else-octets-eq20-via-then-octets-eq20+else-octets-ge128, else-octets-eq20-via-else-octets-eq20}
+use Rattle.rpki_time.proofs.serial.Serial.from_slice.Goals.{else-octets-eq20-via-then-octets-eq20+else-octets-ge128}
+use Rattle.rpki_time.proofs.serial.Serial.from_slice.Goals.{else-octets-eq20-via-else-octets-eq20}
 
 pub invariant_of-result : goal.invariant_of-result
 invariant_of-result c =
-    let first : (length c.args.octets.now < 20) ⊎ (get_or c.args.octets.now 0 0 < 128) = elim c.else-octets-eq20.branch [
+    let first : (length c.args.octets.now < 20) ⊎ (get_or c.args.octets.now 0 0 < 128) =
+    elim c.else-octets-eq20.branch [
       | else-octets-eq20-via-then-octets-eq20+else-octets-ge128 w ↦ inr w.if-octets-ge128.false
       | else-octets-eq20-via-else-octets-eq20 w ↦ inl (omega arith)
     ] in

@@ -6,4 +6,5 @@ use Rattle.rpki_time.proofs.time.Time.decode.Goals as goal
 
 pub returns : goal.returns
 returns c =
-    read-whole-exactly (λ t. t) SpellsTime IsTimeFault time-exactly _ (λ b a x h. search rules) _ _ (rw c.from_slice.ensures at c.whole.ensures)
+    read-whole-exactly (λ t. t) SpellsTime IsTimeFault time-exactly _ (λ b a x h. search rules) _ _
+    (rw c.from_slice.ensures at c.whole.ensures)

@@ -12,7 +12,9 @@ use Rattle.rpki.proofs.crypto.digest.DigestAlgorithm.take_from.Goals as goal
 pub returns-in_err-take_algorithm : goal.returns-in_err-take_algorithm
 returns-in_err-take_algorithm c =
     tried-refused _ _ _ _ _ _ _ c.from_residual.ensures
-    (Refusal-weaker (dropped-none sequence true (IsIdentified sha256) IsDigestContents _ (λ w d h. h)) (λ k. k) c.in_err-take_algorithm.ensures)
+    (Refusal-weaker (dropped-none sequence true (IsIdentified sha256) IsDigestContents _ (λ w d h. h)) (λ k. k)
+    c.in_err-take_algorithm.ensures)
 
 pub returns : goal.returns
-returns c = dropped-accepted sequence true (IsIdentified sha256) IsDigestContents _ _ _ (λ b d h. (b, h)) (λ d h. h) c.in_ok-take_algorithm.ensures
+returns c = dropped-accepted sequence true (IsIdentified sha256) IsDigestContents _ _ _ (λ b d h. (b, h)) (λ d h. h)
+    c.in_ok-take_algorithm.ensures

@@ -1,7 +1,5 @@
 use Rattle.std.proofs.Common.{rules}
-use Rattle.rpki_der.specs.Cursor.{left}
-use Rattle.rpki_der.specs.TagName.{sequence}
-use Rattle.rpki_der.specs.Values.{HasTag}
+use Rattle.rpki_der.specs.Prelude.{left, sequence, HasTag}
 use Rattle.rpki_der.proofs.FirstFaultLaws.{tried-where}
 use Rattle.rpki.proofs.crypto.digest.DigestAlgorithm.take_opt_from.Goals as goal
 

@@ -1,6 +1,5 @@
 use Rattle.std.proofs.Common.{rules, true}
-use Rattle.rpki_der.specs.TagName.{set}
-use Rattle.rpki_der.specs.FirstFault.{FirstFault, IsEndFault}
+use Rattle.rpki_der.specs.Prelude.{set, FirstFault, IsEndFault}
 use Rattle.rpki_der.proofs.FirstFaultLaws.{read-parts-inside, reads-one-part}
 use Rattle.rpki.specs.Oids.{sha256}
 use Rattle.rpki.specs.Digest.{SpellsDigest}

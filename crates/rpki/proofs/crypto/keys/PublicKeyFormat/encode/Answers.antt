@@ -27,5 +27,6 @@ pub returns-in-EcdsaP256-clause-short : goal.returns-in-EcdsaP256-clause-short
 returns-in-EcdsaP256-clause-short c =
     rw c.new-in-EcdsaP256.ensures (
       (c.encode-in-EcdsaP256-2.ensures.short.1 (lit< tt), tt, c.encode-in-EcdsaP256.ensures.short.1 (lit< tt)),
-      rw (c.encode-in-EcdsaP256-2.ensures.encoded, c.encode-in-EcdsaP256.ensures.encoded, append-nil) (format-short EcdsaP256),
+      rw (c.encode-in-EcdsaP256-2.ensures.encoded, c.encode-in-EcdsaP256.ensures.encoded, append-nil)
+          (format-short EcdsaP256),
     )

@@ -7,7 +7,8 @@ pub returns-clause-short : goal.returns-clause-short
 returns-clause-short c =
     rw c.new.ensures (
       (c.encode-identifier.ensures.short.1 (lit< tt), c.encode-parameters.ensures.short.1 (lit< tt)),
-      rw (c.encode-identifier.ensures.encoded, c.encode-parameters.ensures.encoded) (identified-short rsa_encryption true (lit< tt)),
+      rw (c.encode-identifier.ensures.encoded, c.encode-parameters.ensures.encoded)
+          (identified-short rsa_encryption true (lit< tt)),
     )
 
 pub returns-clause-read_back : goal.returns-clause-read_back

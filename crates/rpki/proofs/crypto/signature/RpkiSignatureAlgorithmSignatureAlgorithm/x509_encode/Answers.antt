@@ -7,5 +7,6 @@ pub returns-clause-short : goal.returns-clause-short
 returns-clause-short c =
     rw c.new.ensures (
       (c.encode-identifier.ensures.short.1 (lit< tt), c.encode-parameters.ensures.short.1 (lit< tt)),
-      rw (c.encode-identifier.ensures.encoded, c.encode-parameters.ensures.encoded) (identified-short sha256_with_rsa_encryption true (lit< tt)),
+      rw (c.encode-identifier.ensures.encoded, c.encode-parameters.ensures.encoded)
+          (identified-short sha256_with_rsa_encryption true (lit< tt)),
     )

@@ -10,4 +10,5 @@ pub push-requires : goal.push-requires
 push-requires t c = rw (c.push_digits.ensures, length-append) (omega (arith, length-digits))
 
 pub returns : goal.returns
-returns t c = rw (digits-more _ _ _ _ c.if-room-eq0.false c.if-number-eq0.false) (pushed-twice _ _ _ _ _ c.push_digits.ensures c.push.ensures)
+returns t c = rw (digits-more _ _ _ _ c.if-room-eq0.false c.if-number-eq0.false)
+    (pushed-twice _ _ _ _ _ c.push_digits.ensures c.push.ensures)

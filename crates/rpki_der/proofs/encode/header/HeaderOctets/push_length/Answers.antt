@@ -10,4 +10,5 @@ pub overflow_add-digit_count : goal.overflow_add-digit_count
 overflow_add-digit_count c = omega (arith, c.digit_count.ensures, length-digits)
 
 pub returns : goal.returns
-returns c = rw (length-long c.args.contents_len c.if-contents_len-lt128.false, ← c.digit_count.ensures) (pushed-twice _ _ _ _ _ c.push-2.ensures c.push_digits.ensures)
+returns c = rw (length-long c.args.contents_len c.if-contents_len-lt128.false, ← c.digit_count.ensures)
+    (pushed-twice _ _ _ _ _ c.push-2.ensures c.push_digits.ensures)

@@ -13,4 +13,6 @@ pub returns : goal.returns
 returns c =
     let h = https-halves _ _ c.self.invariant in
     rw (c.split_at.ensures.front, c.as_slice.ensures, ← c.self.view_is)
-    (ap lowercase h.front ∙ map-append to_ascii_lowercase (take 8 c.self.inside.bytes) (https_authority c.self.inside.bytes) ∙ ap (λ s. s ++ lowercase (https_authority c.self.inside.bytes)) h.form.scheme)
+    (ap lowercase h.front ∙ map-append to_ascii_lowercase (take 8 c.self.inside.bytes)
+    (https_authority c.self.inside.bytes) ∙ ap (λ s. s ++ lowercase (https_authority c.self.inside.bytes))
+    h.form.scheme)

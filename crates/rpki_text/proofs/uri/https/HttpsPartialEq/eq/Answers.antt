@@ -6,9 +6,11 @@ pub returns-then-eq_authority : goal.returns-then-eq_authority
 unfolding https_uri_of
 returns-then-eq_authority c =
     rw (c.eq.ensures, c.path.ensures, c.path-then-eq_authority.ensures)
-    (sym (ap (λ v. v && bytes_eq (https_path c.args.self.now) (https_path c.args.other.now)) (sym c.eq_authority.ensures ∙ c.if-eq_authority.true)))
+    (sym (ap (λ v. v && bytes_eq (https_path c.args.self.now) (https_path c.args.other.now))
+    (sym c.eq_authority.ensures ∙ c.if-eq_authority.true)))
 
 pub returns-else-eq_authority : goal.returns-else-eq_authority
 unfolding https_uri_of
 returns-else-eq_authority c =
-    c.if-eq_authority.false ∙ sym (ap (λ v. v && bytes_eq (https_path c.args.self.now) (https_path c.args.other.now)) (sym c.eq_authority.ensures ∙ c.if-eq_authority.false))
+    c.if-eq_authority.false ∙ sym (ap (λ v. v && bytes_eq (https_path c.args.self.now) (https_path c.args.other.now))
+    (sym c.eq_authority.ensures ∙ c.if-eq_authority.false))

@@ -9,5 +9,6 @@ pub returns : goal.returns
 returns c =
     let h : is_dir (path_of c.self.inside.bytes) ≡ false = ap (λ t. is_dir (path_of t)) c.self.view_is ∙ c.requires in
     let e : (c.as_slice.result.now ++ 47 ∷ []) ++ [] ≡ with_slash c.self.inside.bytes =
-    append-nil (c.as_slice.result.now ++ 47 ∷ []) ∙ ap (λ t. t ++ 47 ∷ []) c.as_slice.ensures ∙ sym (dir_text-open c.self.inside.bytes _ _ c.self.invariant h) in
+    append-nil (c.as_slice.result.now ++ 47 ∷ []) ∙ ap (λ t. t ++ 47 ∷ []) c.as_slice.ensures ∙ sym
+    (dir_text-open c.self.inside.bytes _ _ c.self.invariant h) in
     rw (← c.self.view_is, ← e) c.joined_bytes.ensures

@@ -11,9 +11,11 @@ same_but_case-requires c =
     omega (arith, facts.fits, facts.module_name)
 
 pub returns-clause-text : goal.returns-clause-text
-returns-clause-text c = rw (c.same_but_case.ensures, c.as_slice.ensures, ← c.self.view_is) (eq_bytes-at c.self.inside.bytes c.args.other.now _ _ c.self.invariant)
+returns-clause-text c = rw (c.same_but_case.ensures, c.as_slice.ensures, ← c.self.view_is)
+    (eq_bytes-at c.self.inside.bytes c.args.other.now _ _ c.self.invariant)
 
 pub returns-clause-uri : goal.returns-clause-uri
 returns-clause-uri c h =
     rw (c.same_but_case.ensures, c.as_slice.ensures, ← c.self.view_is)
-    (eq_bytes-at c.self.inside.bytes c.args.other.now _ _ c.self.invariant ∙ eq_bytes-uri c.self.inside.bytes c.args.other.now _ _ c.self.invariant h)
+    (eq_bytes-at c.self.inside.bytes c.args.other.now _ _ c.self.invariant ∙ eq_bytes-uri c.self.inside.bytes
+    c.args.other.now _ _ c.self.invariant h)

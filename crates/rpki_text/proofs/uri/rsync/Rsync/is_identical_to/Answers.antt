@@ -4,7 +4,8 @@ use Rattle.rpki_text.proofs.MeaningLaws.{identical-test-none, identical-test-som
 use Rattle.rpki_text.proofs.uri.rsync.Rsync.is_identical_to.Goals as goal
 
 pub returns-in-None : goal.returns-in-None
-returns-in-None c = rw (← c.view.ensures, ← c.view-2.ensures) (sym (identical-test-none _ _ (sym c.in-None.ensures.path)))
+returns-in-None c =
+    rw (← c.view.ensures, ← c.view-2.ensures) (sym (identical-test-none _ _ (sym c.in-None.ensures.path)))
 
 pub returns-in-Some : goal.returns-in-Some
 returns-in-Some c =

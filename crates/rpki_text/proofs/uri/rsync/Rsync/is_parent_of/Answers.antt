@@ -6,7 +6,8 @@ use Rattle.rpki_text.proofs.MeaningLaws.{parent-irreflexive, parent-transitive}
 use Rattle.rpki_text.proofs.uri.rsync.Rsync.is_parent_of.Goals as goal
 
 pub returns-in-None-clause-value : goal.returns-in-None-clause-value
-returns-in-None-clause-value c = rw (← c.view.ensures, ← c.view-2.ensures) (sym (parent-test-none _ _ (sym c.in-None.ensures.path)))
+returns-in-None-clause-value c =
+    rw (← c.view.ensures, ← c.view-2.ensures) (sym (parent-test-none _ _ (sym c.in-None.ensures.path)))
 
 pub returns-in-Some-clause-value : goal.returns-in-Some-clause-value
 returns-in-Some-clause-value c =

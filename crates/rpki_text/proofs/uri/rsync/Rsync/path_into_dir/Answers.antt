@@ -8,22 +8,27 @@ use Rattle.rpki_text.proofs.uri.rsync.Rsync.path_into_dir.Goals as goal
 pub invariant_of-self : goal.invariant_of-self
 invariant_of-self c =
     let d = cut-dir c.self.inside.bytes _ _ c.self.invariant in
-    subst (λ (b : List ℕ). IsCut b c.self.inside.places.module_start c.self.inside.places.path_start) (sym (c.in_ok-bytes.ensures ∙ ap with_slash (sym c.self.view_is))) d
+    subst (λ (b : List ℕ). IsCut b c.self.inside.places.module_start c.self.inside.places.path_start)
+    (sym (c.in_ok-bytes.ensures ∙ ap with_slash (sym c.self.view_is))) d
 
 pub returns-then-path_is_dir-clause-ok : goal.returns-then-path_is_dir-clause-ok
 returns-then-path_is_dir-clause-ok c =
-    let whole : is_dir c.self.inside.bytes ≡ is_dir (path_of c.self.inside.bytes) = is_dir-text c.self.inside.bytes _ _ c.self.invariant in
+    let whole : is_dir c.self.inside.bytes ≡ is_dir (path_of c.self.inside.bytes) = is_dir-text c.self.inside.bytes _ _
+    c.self.invariant in
     let path = ap (λ b. is_dir (path_of b)) c.self.view_is in
     let marked = sym c.path_is_dir.ensures ∙ c.if-path_is_dir.true in
     rw (← c.self.view_is) (sym (with_slash-dir c.self.inside.bytes (whole ∙ path ∙ marked)))
 
 pub returns-then-path_is_dir-clause-meaning : goal.returns-then-path_is_dir-clause-meaning
-returns-then-path_is_dir-clause-meaning c = into_dir-same c.args.self.now (sym c.path_is_dir.ensures ∙ c.if-path_is_dir.true)
+returns-then-path_is_dir-clause-meaning c =
+    into_dir-same c.args.self.now (sym c.path_is_dir.ensures ∙ c.if-path_is_dir.true)
 
 pub returns-clause-meaning : goal.returns-clause-meaning
 returns-clause-meaning c =
-    let mine : IsCut c.args.self.now c.self.inside.places.module_start c.self.inside.places.path_start = rw (← c.self.view_is) c.self.invariant in
-    rw c.in_ok-bytes.ensures (into_dir-meaning c.args.self.now _ _ mine (sym c.path_is_dir.ensures ∙ c.if-path_is_dir.false))
+    let mine : IsCut c.args.self.now c.self.inside.places.module_start c.self.inside.places.path_start = rw
+    (← c.self.view_is) c.self.invariant in
+    rw c.in_ok-bytes.ensures (into_dir-meaning c.args.self.now _ _ mine
+    (sym c.path_is_dir.ensures ∙ c.if-path_is_dir.false))
 
 pub returns-clause-begins : goal.returns-clause-begins
 returns-clause-begins c = rw c.in_ok-bytes.ensures (into_dir-begins c.args.self.now)

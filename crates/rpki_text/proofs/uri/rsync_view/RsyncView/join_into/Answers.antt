@@ -17,6 +17,7 @@ returns-clause-written c =
     let n = length c.args.self.now.text.now + cond c.needs_slash.result 1 0 + length c.args.path.now in
     record {
       room = omega arith;
-      buffer = c.write_joined.ensures ∙ ap (λ j. j ++ drop n c.args.buffer.now) c.needs_slash.ensures ∙ ap (λ k. whole ++ drop k c.args.buffer.now) (sym size);
+      buffer = c.write_joined.ensures ∙ ap (λ j. j ++ drop n c.args.buffer.now) c.needs_slash.ensures ∙ ap
+          (λ k. whole ++ drop k c.args.buffer.now) (sym size);
       size = value;
     }

@@ -8,7 +8,8 @@ use Rattle.rpki_text.proofs.ParentEndLaws.{parent_end-made}
 use Rattle.rpki_text.proofs.uri.rsync_view.RsyncView.parent_len.Goals as goal
 
 pub returns-in_err-len-clause-none : goal.returns-in_err-len-clause-none
-returns-in_err-len-clause-none c = rw c.from_residual.ensures (parent-none _ (sym c.path.ensures ∙ sym c.as_bytes.ensures.value ∙ c.in_err-len.ensures.none))
+returns-in_err-len-clause-none c = rw c.from_residual.ensures
+    (parent-none _ (sym c.path.ensures ∙ sym c.as_bytes.ensures.value ∙ c.in_err-len.ensures.none))
 
 -- the parent ends within the text
 within : (t path : List ℕ) (m p n : ℕ) → IsCut t m p → path ≡ path_of t → n ≤ length path → p + n ≤ length t
@@ -24,14 +25,17 @@ overflow_add-result c =
     search rules
 
 pub returns-clause-within : goal.returns-clause-within
-returns-clause-within c = within _ _ _ _ _ c.args.self.now.cut (c.as_bytes.ensures.value ∙ c.path.ensures) c.in_ok-len.ensures.some.within
+returns-clause-within c =
+    within _ _ _ _ _ c.args.self.now.cut (c.as_bytes.ensures.value ∙ c.path.ensures) c.in_ok-len.ensures.some.within
 
 pub returns-clause-some : goal.returns-clause-some
 returns-clause-some c =
     parent-is _ _ _ c.args.self.now.cut c.in_ok-len.len
-    (subst (λ (s : List ℕ). IsParentLen s c.in_ok-len.len) (c.as_bytes.ensures.value ∙ c.path.ensures) c.in_ok-len.ensures.some)
+    (subst (λ (s : List ℕ). IsParentLen s c.in_ok-len.len) (c.as_bytes.ensures.value ∙ c.path.ensures)
+    c.in_ok-len.ensures.some)
 
 pub returns-clause-segments : goal.returns-clause-segments
 returns-clause-segments c =
     parent_end-made _ _ _ c.args.self.now.cut c.in_ok-len.len
-    (subst (λ (s : List ℕ). IsParentLen s c.in_ok-len.len) (c.as_bytes.ensures.value ∙ c.path.ensures) c.in_ok-len.ensures.some)
+    (subst (λ (s : List ℕ). IsParentLen s c.in_ok-len.len) (c.as_bytes.ensures.value ∙ c.path.ensures)
+    c.in_ok-len.ensures.some)

@@ -6,6 +6,7 @@ pub returns-clause-some : goal.returns-clause-some
 returns-clause-some c = record {
   path = c.in_ok-path.path.now;
   leads = sym c.in_ok-path.ensures.path;
-  stands = end-at c.args.self.now.text.now c.in_ok-path.path.now c.in_ok-path.ensures.tail.0 c.in_ok-path.ensures.tail.1;
+  stands = end-at c.args.self.now.text.now c.in_ok-path.path.now c.in_ok-path.ensures.tail.0
+      c.in_ok-path.ensures.tail.1;
   last = refl;
 }

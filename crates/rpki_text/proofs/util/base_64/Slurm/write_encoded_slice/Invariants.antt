@@ -11,4 +11,5 @@ invariant-loop-chunk g l =
     × (goal.iterator-loop-chunk g).is_finite l.chunk-iterator
     × (chunks_size l.chunk-iterator ≡ 768)
     × ((done : List ℕ) × Appends (g.W.Write.contents l.initial.target) (g.W.Write.contents l.target) done
-    × (done ++ encode_of url_safe_no_pad_indifferent (chunks_rest l.chunk-iterator) ≡ encode_of url_safe_no_pad_indifferent l.bytes))
+    × (done ++ encode_of url_safe_no_pad_indifferent (chunks_rest l.chunk-iterator) ≡ encode_of
+    url_safe_no_pad_indifferent l.bytes))

@@ -4,7 +4,8 @@ use Rattle.rpki.proofs.KeyIdentifierLaws.{not-octets, identifier-read, other-siz
 use Rattle.rpki.proofs.crypto.keys.key_identifier.KeyIdentifier.take_from.Goals as goal
 
 pub returns-in_err-octets : goal.returns-in_err-octets
-returns-in_err-octets c = tried-refused _ _ _ _ _ _ _ c.from_residual.ensures (not-octets _ _ _ c.in_err-octets.field-0.0 refl c.in_err-octets.ensures)
+returns-in_err-octets c = tried-refused _ _ _ _ _ _ _ c.from_residual.ensures
+    (not-octets _ _ _ c.in_err-octets.field-0.0 refl c.in_err-octets.ensures)
 
 pub returns-in-Ok : goal.returns-in-Ok
 returns-in-Ok c = identifier-read _ _ _ _ c.in_ok-octets.ensures c.in-Ok.ensures

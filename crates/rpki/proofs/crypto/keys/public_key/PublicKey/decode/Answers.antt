@@ -5,4 +5,5 @@ use Rattle.rpki.specs.KeyFault.{IsKeyFault}
 use Rattle.rpki.proofs.crypto.keys.public_key.PublicKey.decode.Goals as goal
 
 pub returns : goal.returns
-returns c = read-whole (λ k. k) SpellsKey IsKeyFault _ (λ b a x h. search rules) _ _ (rw c.new.ensures at c.whole_with.ensures)
+returns c =
+    read-whole (λ k. k) SpellsKey IsKeyFault _ (λ b a x h. search rules) _ _ (rw c.new.ensures at c.whole_with.ensures)

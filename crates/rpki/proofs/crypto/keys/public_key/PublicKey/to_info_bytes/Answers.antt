@@ -5,4 +5,8 @@ use Rattle.rpki.specs.PublicKey.{key_contents}
 use Rattle.rpki.proofs.crypto.keys.public_key.PublicKey.to_info_bytes.Goals as goal
 
 pub from_values-requires : goal.from_values-requires
-from_values-requires c = (c.encode_ref.ensures.short.1 c.requires, rw c.encode_ref.ensures.octets (omega (arith, tlv_at_most sequence true (key_contents c.args.self.now))))
+from_values-requires c = (
+  c.encode_ref.ensures.short.1 c.requires,
+  rw c.encode_ref.ensures.octets
+      (omega (arith, tlv_at_most sequence true (key_contents c.args.self.now))),
+)

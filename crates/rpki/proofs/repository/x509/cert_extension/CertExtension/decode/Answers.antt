@@ -5,4 +5,5 @@ use Rattle.rpki.specs.ExtensionFault.{IsKeptExtensionFault}
 use Rattle.rpki.proofs.repository.x509.cert_extension.CertExtension.decode.Goals as goal
 
 pub returns : goal.returns
-returns c = read-whole (λ x. x) SpellsExtension IsKeptExtensionFault _ (λ b a x h. search rules) _ _ (rw c.new.ensures at c.whole_with.ensures)
+returns c = read-whole (λ x. x) SpellsExtension IsKeptExtensionFault _ (λ b a x h. search rules) _ _
+    (rw c.new.ensures at c.whole_with.ensures)

@@ -9,4 +9,5 @@ use Rattle.rpki.proofs.repository.x509.name.Name.test_router.Goals as goal
 pub returns : goal.returns
 returns c =
     let h = rw c.indexed_cursor.ensures at c.inspect.ensures in
-    subst (λ (o : List ℕ). MatchResult c.inspect.result (λ u. IsRouterName o) (λ rule. BreaksRouterRule rule o)) c.self.view_is (inspected name_table router_strings c.self.inside.captured c.inspect.result c.self.invariant h)
+    subst (λ (o : List ℕ). MatchResult c.inspect.result (λ u. IsRouterName o) (λ rule. BreaksRouterRule rule o))
+    c.self.view_is (inspected name_table router_strings c.self.inside.captured c.inspect.result c.self.invariant h)

@@ -3,8 +3,9 @@ use Rattle.rpki_der.specs.TagName.{sequence}
 use Rattle.rpki_der.proofs.FirstFaultLaws.{read-parts-inside}
 use Rattle.rpki.specs.Name.{IsAttribute}
 use Rattle.rpki.specs.AnyValue.{SpellsAny}
-use Rattle.rpki.specs.NameFault.{IsAttributePartsFault}
+use Rattle.rpki.specs.NameFault.{attribute_parts}
 use Rattle.rpki.proofs.repository.x509.name.grammar.skip_attribute.Goals as goal
 
 pub returns : goal.returns
-returns c = read-parts-inside (λ u. tt) sequence true (SpellsAny IsAttribute) IsAttributePartsFault _ (λ b a x h. search rules) _ _ _ c.in_sequence.ensures
+returns c = read-parts-inside (λ u. tt) sequence true (SpellsAny IsAttribute) attribute_parts.fault _
+    (λ b a x h. search rules) _ _ _ c.in_sequence.ensures

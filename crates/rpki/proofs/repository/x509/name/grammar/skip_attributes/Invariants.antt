@@ -1,6 +1,5 @@
 use Rattle.std.proofs.Common.{length, true}
-use Rattle.rpki_der.specs.Cursor.{left}
-use Rattle.rpki_der.specs.TagName.{sequence}
+use Rattle.rpki_der.specs.Prelude.{left, sequence}
 use Rattle.rpki.specs.Name.{IsAttribute}
 use Rattle.rpki.proofs.NameLaws.{Remains}
 use Rattle.rpki.proofs.repository.x509.name.grammar.skip_attributes.Given as goal

@@ -1,6 +1,5 @@
 use Rattle.std.proofs.Common.{refl, true, false}
-use Rattle.rpki_der.specs.TagName.{sequence, oid}
-use Rattle.rpki_der.specs.Leaves.{IsOidOf}
+use Rattle.rpki_der.specs.Prelude.{sequence, oid, IsOidOf}
 use Rattle.rpki_der.proofs.ReadingLaws.{UnlessMemory-weaker}
 use Rattle.rpki_der.proofs.LeavesLaws.{leaf-no-memory}
 use Rattle.rpki_der.proofs.ComposedLaws.{outer-refused-exactly, inner-refused-exactly, inner-accepted}
@@ -11,7 +10,9 @@ use Rattle.rpki.proofs.repository.x509.name.grammar.take_attribute_type.Goals as
 
 pub returns-in_err-contents : goal.returns-in_err-contents
 returns-in_err-contents gen c =
-    tried-refused _ _ _ _ _ _ _ c.from_residual.ensures (outer-refused-exactly sequence true IsIdentifierThen _ _ _ c.in_err-contents.field-0.0 refl c.in_err-contents.ensures)
+    tried-refused _ _ _ _ _ _ _ c.from_residual.ensures
+    (outer-refused-exactly sequence true IsIdentifierThen _ _ _ c.in_err-contents.field-0.0 refl
+    c.in_err-contents.ensures)
 
 pub returns-in_err-identifier : goal.returns-in_err-identifier
 returns-in_err-identifier gen c =
@@ -23,4 +24,5 @@ returns-in_err-identifier gen c =
     (UnlessMemory-weaker e (unidentified m) h.refuses, leaf-no-memory oid false IsOidOf m e h.kind))
 
 pub returns : goal.returns
-returns gen c = inner-accepted sequence true IsIdentifierThen _ (gen.C.Cursor.octets_left c.in_ok-contents.contents) _ _ c.in_ok-contents.ensures (identified _ _ _ c.in_ok-identifier.ensures)
+returns gen c = inner-accepted sequence true IsIdentifierThen _ (gen.C.Cursor.octets_left c.in_ok-contents.contents) _ _
+    c.in_ok-contents.ensures (identified _ _ _ c.in_ok-identifier.ensures)

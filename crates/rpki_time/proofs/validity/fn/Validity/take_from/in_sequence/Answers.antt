@@ -1,16 +1,17 @@
-use Rattle.rpki_time.proofs.PeriodReadingLaws.{no-start, no-end, more-follows, both-read}
+use Rattle.std.proofs.Common.{[], Ok, Err}
+use Rattle.rpki_der.proofs.FormatLaws.{failed, given-as, first, after, last, and, all}
+use Rattle.rpki_der.proofs.PartsLaws.{pair-is}
+use Rattle.rpki_time.proofs.PeriodReadingLaws.{ends, period-said}
 use Rattle.rpki_time.proofs.validity.fn.Validity.take_from.in_sequence.Goals as goal
 
 pub returns-in-Err : goal.returns-in-Err
-returns-in-Err c = no-start _ _ c.in-Err.e c.in-Err.ensures
+returns-in-Err c = period-said _ [] (Err c.in-Err.e) (failed (first c.in-Err.ensures))
 
 pub returns-in-Err-take_from : goal.returns-in-Err-take_from
-returns-in-Err-take_from c = no-end _ _ _ c.in-Ok.time c.in-Err-take_from.e c.in-Ok.ensures c.in-Err-take_from.ensures
+returns-in-Err-take_from c =
+    period-said _ [] (Err c.in-Err-take_from.e) (failed (after c.in-Ok.ensures (last c.in-Err-take_from.ensures)))
 
 pub returns : goal.returns
 returns c =
-    let t = c.in-Ok.time in
-    let u = c.in-Ok-take_from.time in (
-      λ end. both-read _ _ _ t u c.new.result c.in-Ok.ensures c.in-Ok-take_from.ensures end c.new.ensures.not_before c.new.ensures.not_after,
-      λ some. more-follows _ _ _ t u c.in-Ok.ensures c.in-Ok-take_from.ensures some,
-    )
+    let is = pair-is (ends c.new.result) _ _ c.new.ensures.not_before c.new.ensures.not_after in
+    period-said _ _ (Ok c.new.result) (given-as is (and c.in-Ok.ensures (all c.in-Ok-take_from.ensures)))

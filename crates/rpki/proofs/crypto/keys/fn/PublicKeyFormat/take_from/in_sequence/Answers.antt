@@ -1,13 +1,9 @@
 use Rattle.std.proofs.Common.{◌≡◌, ℕ, List, false, inl, inr, refl}
-use Rattle.rpki_der.specs.Cursor.{left}
-use Rattle.rpki_der.specs.TagName.{oid}
-use Rattle.rpki_der.specs.Values.{SpellsLeaf}
-use Rattle.rpki_der.specs.Leaves.{IsOnly}
 use Rattle.rpki_der.specs.declared.error.DecodeError.{DecodeError}
-use Rattle.rpki_der.specs.FirstFault.FirstFault.{AtPart, Later}
+use Rattle.rpki_der.specs.Prelude.{left, oid, SpellsLeaf, IsOnly, AtPart, Later}
 use Rattle.rpki_der.proofs.ReadingLaws.{UnlessMemory-weaker}
 use Rattle.rpki_der.proofs.FirstFaultLaws.{tried-parts}
-use Rattle.rpki.specs.AlgorithmFault.{IsAnyNamedFault, IsFormatRestFault}
+use Rattle.rpki.specs.AlgorithmFault.{format_parts}
 use Rattle.rpki_der.proofs.ComposedLaws.{all-read, nothing-whole, nothing-after}
 use Rattle.rpki.specs.Oids.{rsa_encryption, ec_public_key, secp256r1}
 use Rattle.rpki.specs.KeyFormat.{IsFormatName, IsFormatContents}
@@ -16,7 +12,7 @@ use Rattle.rpki.proofs.PartLaws.{none-unknown, known-named}
 use Rattle.rpki.proofs.crypto.keys.fn.PublicKeyFormat.take_from.in_sequence.Goals as goal
 
 abbrev K : List ℕ → DecodeError → Type 0
-K = IsAnyNamedFault IsFormatRestFault
+K = format_parts.fault
 
 unknown-format : (x : List ℕ) → (x ≡ rsa_encryption → ⊥) → (x ≡ ec_public_key → ⊥) → IsFormatName x → ⊥
 unknown-format x f g (inl h) = f h
@@ -28,7 +24,8 @@ returns-in_err-identifier c =
     let e = c.in_err-identifier.field-0.0 in
     let h = c.in_err-identifier.ensures in
     record {
-      reads = tried-parts (λ f. f) IsFormatContents K s _ e _ c.from_residual.ensures (UnlessMemory-weaker e (no-format s) h.refuses, AtPart h.refuses h.kind);
+      reads = tried-parts (λ f. f) IsFormatContents K s _ e _ c.from_residual.ensures
+          (UnlessMemory-weaker e (no-format s) h.refuses, AtPart h.refuses h.kind);
       unknown = λ u. absurd (none-unknown IsFormatName s _ e h u);
     }
 
@@ -41,8 +38,12 @@ returns-in_err-take_null_or_nothing c =
     let is = c.is_named.ensures.0 c.if-is_named.true in
     let h = c.in_err-take_null_or_nothing.ensures in
     record {
-      reads = tried-parts (λ f. f) IsFormatContents K s _ c.in_err-take_null_or_nothing.field-0.0 _ c.from_residual-in_err-take_null_or_nothing.ensures
-          (UnlessMemory-weaker c.in_err-take_null_or_nothing.field-0.0 (rsa-not-read s _ _ a is) h.0, Later c.in_ok-identifier.identifier.0.now _ a (inl (is, h.1)));
+      reads = tried-parts (λ f. f) IsFormatContents K s _ c.in_err-take_null_or_nothing.field-0.0 _
+          c.from_residual-in_err-take_null_or_nothing.ensures (
+            UnlessMemory-weaker c.in_err-take_null_or_nothing.field-0.0 (rsa-not-read s _ _ a is) h.0,
+            Later
+                c.in_ok-identifier.identifier.0.now _ a (inl (is, h.1)),
+          );
       unknown = λ u. absurd (known-named IsFormatName s _ _ a (inl is) u);
     }
 
@@ -53,7 +54,14 @@ returns-in_ok-take_null_or_nothing c =
     let is = c.is_named.ensures.0 c.if-is_named.true in
     let h = c.in_ok-take_null_or_nothing.ensures in
     record {
-      reads = (λ end. rsa-read s _ _ _ a is (h.0 end), λ some. (rsa-not-read s _ _ a is (h.1 some).0, Later c.in_ok-identifier.identifier.0.now _ a (inl (is, (h.1 some).1))));
+      reads = (
+        λ end. rsa-read s _ _ _ a is (h.0 end),
+        λ some. (
+          rsa-not-read s _ _ a is (h.1 some).0,
+          Later c.in_ok-identifier.identifier.0.now _ a
+              (inl (is, (h.1 some).1)),
+        ),
+      );
       unknown = λ u. known-named IsFormatName s _ _ a (inl is) u;
     }
 
@@ -69,7 +77,8 @@ returns-in_err-skip_oid_if c =
     let h = c.in_err-skip_oid_if.ensures in
     record {
       reads = tried-parts (λ f. f) IsFormatContents K s _ e _ c.from_residual-in_err-skip_oid_if.ensures (
-        UnlessMemory-weaker e (λ none. ec-not-read s _ m a is (nothing-whole (SpellsLeaf oid false (IsOnly secp256r1)) m none)) h.refuses,
+        UnlessMemory-weaker e (λ none. ec-not-read s _ m a is
+            (nothing-whole (SpellsLeaf oid false (IsOnly secp256r1)) m none)) h.refuses,
         Later c.in_ok-identifier.identifier.0.now m a (inr (inl (is, AtPart h.refuses h.kind))),
       );
       unknown = λ u. absurd (known-named IsFormatName s _ _ a (inr is) u);
@@ -96,12 +105,15 @@ returns-in_ok-skip_oid_if c =
 
 pub returns-else-is_named-2 : goal.returns-else-is_named-2
 returns-else-is_named-2 c =
-    let other : c.in_ok-identifier.identifier.0.now ≡ rsa_encryption → ⊥ = λ e. let h = c.is_named.ensures.1 e in let k = c.if-is_named.false in cc in
-    let neither : c.in_ok-identifier.identifier.0.now ≡ ec_public_key → ⊥ = λ e. let h = c.is_named-else-is_named.ensures.1 e in let k = c.if-is_named-2.false in cc in
+    let other : c.in_ok-identifier.identifier.0.now ≡ rsa_encryption
+    → ⊥ = λ e. let h = c.is_named.ensures.1 e in let k = c.if-is_named.false in cc in
+    let neither : c.in_ok-identifier.identifier.0.now ≡ ec_public_key
+    → ⊥ = λ e. let h = c.is_named-else-is_named.ensures.1 e in let k = c.if-is_named-2.false in cc in
     rw c.content.ensures (record {
       reads = (
         other-format (left c.args.contents.now) _ _ c.in_ok-identifier.ensures other neither,
-        Later c.in_ok-identifier.identifier.0.now _ c.in_ok-identifier.ensures (inr (inr (unknown-format _ other neither, refl))),
+        Later c.in_ok-identifier.identifier.0.now _ c.in_ok-identifier.ensures
+            (inr (inr (unknown-format _ other neither, refl))),
       );
       unknown = λ u. refl;
     })

@@ -7,7 +7,8 @@ use Rattle.rpki.proofs.InspectionLaws.{Through}
 use Rattle.rpki.proofs.repository.x509.name.inspection.Profile.add_rdns.Given as goal
 
 abbrev pub invariant-relatives : goal.invariant-relatives
-invariant-relatives gen l = Through SpellsRelative attributes name_table (strings_of l.fn.self) l.fn.found l.all (gen.C.Cursor.octets_left l.fn.contents) (gen.C.Cursor.octets_left l.rest)
+invariant-relatives gen l = Through SpellsRelative attributes name_table (strings_of l.fn.self) l.fn.found l.all
+    (gen.C.Cursor.octets_left l.fn.contents) (gen.C.Cursor.octets_left l.rest)
 
 abbrev pub decreases-relatives : goal.decreases-relatives
 decreases-relatives gen l = length (gen.C.Cursor.octets_left l.rest)

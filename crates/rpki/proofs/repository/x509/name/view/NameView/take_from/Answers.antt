@@ -5,7 +5,8 @@ use Rattle.rpki.proofs.repository.x509.name.view.NameView.take_from.Goals as goa
 
 pub returns-in_err-skip_name : goal.returns-in_err-skip_name
 returns-in_err-skip_name c =
-    tried-refused _ _ _ _ _ _ _ c.from_residual.ensures (view-refused _ _ c.in_err-skip_name.field-0.0 c.in_err-skip_name.ensures)
+    tried-refused _ _ _ _ _ _ _ c.from_residual.ensures
+    (view-refused _ _ c.in_err-skip_name.field-0.0 c.in_err-skip_name.ensures)
 
 pub returns : goal.returns
 returns c = name-borrowed _ _ _ _ c.in_ok-skip_name.ensures c.rest-octets.ensures c.rest.ensures

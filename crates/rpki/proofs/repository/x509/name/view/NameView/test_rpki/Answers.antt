@@ -9,4 +9,5 @@ use Rattle.rpki.proofs.repository.x509.name.view.NameView.test_rpki.Goals as goa
 pub returns : goal.returns
 returns c =
     let h = rw c.from_slice.ensures at c.inspect.ensures in
-    subst (λ (o : List ℕ). MatchResult c.inspect.result (λ u. IsRpkiName o) (λ rule. BreaksRpkiRule rule o)) c.self.view_is (inspected name_table rpki_strings c.self.inside.octets.now c.inspect.result c.self.invariant h)
+    subst (λ (o : List ℕ). MatchResult c.inspect.result (λ u. IsRpkiName o) (λ rule. BreaksRpkiRule rule o))
+    c.self.view_is (inspected name_table rpki_strings c.self.inside.octets.now c.inspect.result c.self.invariant h)
