@@ -1,12 +1,11 @@
 -- Reading the parts of signed data in place.
-use Rattle.std.proofs.Common.{◌≡◌, ℕ, Bool, true, false, List, refl, ap, subst}
+use Rattle.std.proofs.Common.{◌≡◌, ℕ, Bool, true, false, List, refl, subst}
 use Rattle.rpki_der.specs.declared.error.DecodeError.{DecodeError}
 use Rattle.rpki_der.specs.declared.error.DecodeError.TheVariants.{Truncated, BadTag, BadLength, Unexpected, Content, Trailing, OutOfMemory}
 use Rattle.rpki_der.specs.declared.tag.Header.{Header}
-use Rattle.rpki_der.specs.TagName.{TagName, sequence, bit_string}
+use Rattle.rpki_der.specs.TagName.{sequence, bit_string}
 use Rattle.rpki_der.specs.Reading.{Spells, Accepts, Refuses, Refusal, UnlessMemory, SpellsNothing, OrMemoryWhere}
 use Rattle.rpki_der.specs.Values.{SpellsContents, IsContentsFault, GivesOuterFault, IsValueFault, IsLeafFault}
-use Rattle.rpki_der.specs.WantedValue.{SpellsWanted, IsTagged}
 use Rattle.rpki_der.specs.Leaves.{Bits, IsBits, bits_of}
 use Rattle.rpki_der.specs.Walk.{HasConstructed}
 use Rattle.rpki_der.specs.Inside.{HasInside}
@@ -31,29 +30,6 @@ value-no-memory W Cut s Unexpected h z = cc
 value-no-memory W Cut s (Content x) h z = h
 value-no-memory W Cut s Trailing h z = h
 value-no-memory W Cut s OutOfMemory h z = h
-
--- ---- a value of one form, of those of one tag
-
-tagged-of : (t : TagName) (f : Bool) (s c r : List ℕ) → Spells (SpellsContents t f) s c r → Spells (SpellsWanted (IsTagged t)) s (t, f, c) r
-tagged-of t f s c r v = record { front = v.front; parts = v.parts; spelled = record { wanted = refl; value = v.spelled } }
-
-pub tagged-found : (t : TagName) (f : Bool) (s c r : List ℕ) → Accepts (SpellsWanted (IsTagged t)) s (t, f, c) r → Accepts (SpellsContents t f) s c r
-tagged-found t f s c r a = record {
-  spells = record { front = a.spells.front; parts = a.spells.parts; spelled = a.spells.spelled.value };
-  only = λ d q v.
-      let e = a.only (t, f, d) q (tagged-of t f s d q v) in
-      (ap (λ (x : TagName × Bool × List ℕ). x.2) e.0, e.1);
-}
-
-pub tagged-none : (t : TagName) (f : Bool) (s : List ℕ) → Refuses (SpellsWanted (IsTagged t)) s → Refuses (SpellsContents t f) s
-tagged-none t f s none c r v = none (t, f, c) r (tagged-of t f s c r v)
-
--- the value is constructed
-pub tagged-other : (t : TagName) (s c r : List ℕ) → Accepts (SpellsWanted (IsTagged t)) s (t, true, c) r → Refuses (SpellsContents t false) s
-tagged-other t s c r a d q v =
-    let e = a.only (t, false, d) q (tagged-of t false s d q v) in
-    let k : false ≡ true = ap (λ (x : TagName × Bool × List ℕ). x.1) e.0 in
-    cc
 
 -- ---- a signature, of the contents of a bit string
 

@@ -12,15 +12,11 @@ use Rattle.rpki.specs.ExtensionValue.{ExtensionParts, IsExtensionContents, Spell
 use Rattle.rpki_cert.specs.Cert.{are_unique, AreExtensions}
 use Rattle.rpki_cert.specs.CertFault.{AreExtensionsFault}
 use Rattle.rpki_cert.specs.CertFault.AreExtensionsFault.{NotExtensions}
-use Rattle.rpki_cert.proofs.SomeLaws.{none-some, some-there}
+use Rattle.rpki_cert.proofs.SomeLaws.{none-some}
 
 -- nothing is there
 pub none-there : (s : List ℕ) → s ≡ [] → SpellsNothing AreExtensions s
 none-there s end xs k = none-some SpellsExtension (leaf-some sequence true IsExtensionContents) s end xs k.some
-
--- they are extensions, and each identifier stands once
-pub are-extensions : (s : List ℕ) (xs : List ExtensionParts) → s ≢ [] → IsOnly (SpellsEach SpellsExtension) xs s → IsTrue (are_unique xs) → IsOnly AreExtensions xs s
-are-extensions s xs some h unique = (record { some = some-there SpellsExtension s xs some h.0; unique = unique }, λ ys k. h.1 ys k.some.each)
 
 -- two have the same identifier
 pub repeated : (s : List ℕ) (xs : List ExtensionParts) → IsOnly (SpellsEach SpellsExtension) xs s → (IsTrue (are_unique xs) → ⊥) → SpellsNothing AreExtensions s

@@ -19,7 +19,7 @@ use Rattle.rpki.proofs.ExtensionFaultLaws.{extension-outer}
 use Rattle.rpki_der.proofs.LeafValueLaws.{leaf-shorter, contents-shorter}
 use Rattle.rpki_cert.specs.declared.cert_part.CertPart.{CertPart}
 use Rattle.rpki_cert.specs.declared.section.Section.{Section}
-use Rattle.rpki_cert.specs.Cert.{find, are_unique, extensions_tag}
+use Rattle.rpki_cert.specs.Cert.{find, are_unique}
 use Rattle.rpki_cert.specs.Known.{is_known, are_understood}
 use Rattle.rpki_cert.proofs.GatherLaws.{Gathers}
 pub use Rattle.rpki_cert.specs.ExtensionIndex.{Seeks}
@@ -164,9 +164,6 @@ seeks-not id s r (Some x) some h k = k
 pub record KeepsUnique (s r : List ℕ) : Type 0 where
   pub same : (xs : List ExtensionParts) → Each xs s → (ys : List ExtensionParts) × Each ys r × (are_unique xs ≡ are_unique ys)
 
-pub unique-all : (s : List ℕ) → KeepsUnique s s
-unique-all s = record { same = λ xs h. (xs, h, refl) }
-
 first-once : (x : ExtensionParts) (zs : List ExtensionParts) → find x.identifier zs ≡ None → are_unique (x ∷ zs) ≡ are_unique zs
 first-once x zs e = rw e refl
 
@@ -253,9 +250,6 @@ pub record Counts (s r : List ℕ) (n : ℕ) : Type 0 where
   pub back : (xs : List ExtensionParts) → Each xs s → (zs : List ExtensionParts) × Each zs r
   pub room : n + length r ≤ length s
 
-pub counts-all : (s : List ℕ) → Counts s s 0
-counts-all s = record { whole = λ zs h. (zs, h, omega arith); back = λ xs h. (xs, h); room = omega arith }
-
 pub counts-on : (s r q : List ℕ) (x : ExtensionParts) (n : ℕ) → r ≢ [] → Counts s r n → Accepts SpellsExtension r x q → Counts s q (n + 1)
 counts-on s r q x n some h a = record {
   whole = λ zs k. let (xs, each, e) = h.whole (x ∷ zs) (q, a.spells, k) in (xs, each, omega (arith, e));
@@ -292,15 +286,6 @@ only-none t s r e h = nothing-whole (SpellsContents t true) s (unless-memory e (
 
 abbrev IsAll : {V : Type 0} → (V → List ℕ → Type 0) → V → List ℕ → Type 0
 IsAll {V} G v s = G v s × ((w : V) → G w s → w ≡ v)
-
-pub frame-there : (s o l : List ℕ) → IsAll (SpellsContents extensions_tag true) o s → IsAll (SpellsContents sequence true) l o → IsAll SpellsFrame l s
-frame-there s o l h k = (record { contents = o; value = h.0; spelled = k.0 }, λ w g. k.1 w (subst (SpellsContents sequence true w) (h.1 g.contents g.value) g.spelled))
-
-pub frame-not : (s o : List ℕ) → IsAll (SpellsContents extensions_tag true) o s → SpellsNothing (SpellsContents sequence true) o → SpellsNothing SpellsFrame s
-frame-not s o h none w g = none w (subst (SpellsContents sequence true w) (h.1 g.contents g.value) g.spelled)
-
-pub frame-none : (s : List ℕ) → SpellsNothing (SpellsContents extensions_tag true) s → SpellsNothing SpellsFrame s
-frame-none s none w g = none g.contents g.value
 
 listed-frame : (xs : List ExtensionParts) (s : List ℕ) (g : SpellsListed xs s) → SpellsFrame g.spelled.contents s
 listed-frame xs s g = record { contents = g.contents; value = g.value; spelled = g.spelled.value }

@@ -38,9 +38,6 @@ headed-join (v ∷ vs) a b h k =
 pub headed-append : (a b : List ℕ) → AreHeaded a → AreHeaded b → AreHeaded (a ++ b)
 headed-append a b h k = headed-join h.0 a b h.1 k
 
-pub headed-none : (s : List ℕ) → s ≡ [] → AreHeaded s
-headed-none s e = ([], e)
-
 -- the values of c, which the value x at the front of s is the first of, unless there is none
 record After (s q c r : List ℕ) (front : List ℕ) : Type 0 where
   pub following : List ℕ

@@ -1,7 +1,6 @@
 -- Signed data whose signature has no unused bits: the octet that counts them, in front of the signature's.
-use Rattle.std.proofs.Common.{◌≡◌, ◌∙◌, ◌+◌, ◌-◌, ◌<◌, ◌↔◌, ℕ, Bool, true, false, inl, inr, List, ◌∷◌, ◌++◌, length, slice_index_or, arith, refl, sym, ap, append_assoc, length-append, IsTrue}
+use Rattle.std.proofs.Common.{◌≡◌, ◌∙◌, ◌+◌, ◌-◌, ◌↔◌, ℕ, Bool, true, false, inl, inr, List, ◌∷◌, ◌++◌, length, arith, refl, sym, ap, append_assoc, length-append, IsTrue}
 use Rattle.std.specs.Prelude.{codes}
-use Rattle.std.proofs.Math.Seq.{get_or-append_seam}
 use Rattle.rpki_der.specs.declared.error.DecodeError.{DecodeError}
 use Rattle.rpki_der.specs.TagName.{sequence, bit_string}
 use Rattle.rpki_der.specs.Header.{identifier_octets, length_octets}
@@ -17,14 +16,6 @@ use Rattle.rpki_cert.specs.CertFault.{IsRpkiAlgorithmFault, IsWholeSignedFault}
 
 longer : (s front end : List ℕ) (octet : ℕ) → s ≡ front ++ octet ∷ end → length s ≡ length front + (length end + 1)
 longer s front end octet e = omega (arith, ap length e, length-append front (octet ∷ end))
-
-pub last-fewer : (s front end : List ℕ) (octet last : ℕ) → s ≡ front ++ octet ∷ end → length end ≡ last → last < length s
-last-fewer s front end octet last e size = omega (arith, longer s front end octet e)
-
-pub octet-before : (s front end : List ℕ) (octet last : ℕ) → s ≡ front ++ octet ∷ end → length end ≡ last → slice_index_or s (length s - last - 1) 0 ≡ octet
-octet-before s front end octet last e size =
-    let i : length s - last - 1 ≡ length front = omega (arith, longer s front end octet e) in
-    ap (λ (n : ℕ). slice_index_or s n 0) i ∙ ap (λ (p : List ℕ). slice_index_or p (length front) 0) e ∙ get_or-append_seam front octet end 0
 
 -- ---- of signed data that is the count of unused bits
 

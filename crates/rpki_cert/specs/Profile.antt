@@ -1,13 +1,12 @@
 -- The profiles of certificates: trust anchors, certification authorities and end entities (RFC 6487 4), end entities
 -- without subject information access (RFC 9323 2), and BGPsec routers (RFC 8209 3.1). A name is held to its profile
 -- where this is asked for.
-use Rattle.std.specs.Prelude.{◌≡◌, ◌≢◌, ◌<◌, ◌≤ℤ◌, ◌⊎◌, ◌||◌, ◌&&◌, not, ℕ, Bool, true, false, List, [], Option, Some, None, IsTrue, Result, MatchResult}
+use Rattle.std.specs.Prelude.{◌≡◌, ◌≢◌, ◌<◌, ◌≤ℤ◌, ◌⊎◌, ◌||◌, ◌&&◌, not, ℕ, Bool, true, false, List, [], Option, Some, None, IsTrue}
 use Rattle.jiff.specs.Words.{civil_nanos}
 use Rattle.rpki_time.specs.Validity.{Period}
 use Rattle.rpki.specs.KeyIdentifier.{SpellsKeyIdentifier}
 use Rattle.rpki.specs.StrictName.{IsRpkiName, IsRouterName}
 use Rattle.rpki.specs.ExtensionValue.{ExtensionParts}
-use Rattle.rpki.specs.declared.repository.error.ValidationError.{ValidationError}
 use Rattle.rpki_cert.specs.declared.key_usage.KeyUsage.TheVariants.{Ca, Ee}
 use Rattle.rpki_text.specs.RsyncText.{rsync_refusal, uri_of, relative}
 use Rattle.rpki_cert.specs.declared.access_rule.AccessRule.{AccessRule}
@@ -20,12 +19,6 @@ use Rattle.rpki_cert.specs.Known.{subject_key_identifier, key_usage, basic_const
 use Rattle.rpki_cert.specs.ExtensionContent.{SpellsConstraints, SpellsAuthority, SpellsUsage, SpellsPurposes, SpellsPolicies}
 use Rattle.rpki_cert.specs.ResourceExtensions.{AreWellFormed, AreOwn}
 use Rattle.rpki_cert.specs.Access.{SpellsRsyncAccess, SpellsPoints, SpellsHeldAccess, SaysUri, ca_issuers, ca_repository, rpki_manifest, signed_object}
-
--- ---- a check
-
--- Ok exactly where P holds
-abbrev pub Checks : Type 0 → Result (Unit {0}) ValidationError → Type 0
-Checks P r = MatchResult r (λ _. P) (λ _. P → ⊥)
 
 -- ---- what is there
 

@@ -69,10 +69,3 @@ pub writes_then : {U E : Type 0} (a b c : Option (List ℕ)) (r : Result U E) (x
     → Writes b c r ys → Writes a c r (xs ++ ys)
 writes_then a b c (Ok u) xs ys p q = Appends-trans a b c xs ys p q
 writes_then a b c (Err e) xs ys p q = beginning_then a b c xs ys p q
-
--- whatever a call returned, a beginning of the octets was written
-pub writes-beginning : {U E : Type 0} (a b : Option (List ℕ)) (r : Result U E) (octets : List ℕ) → Writes a b r octets
-    → AppendsBeginning a b octets
-unfolding AppendsBeginning
-writes-beginning a b (Ok u) octets p = ([], (octets, sym (append-nil octets), p))
-writes-beginning a b (Err e) octets p = p

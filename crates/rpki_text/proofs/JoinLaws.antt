@@ -605,19 +605,6 @@ parent-meaning t m p c n k =
     ap Some (ap uri_of e ∙ uri_of-changed t m p c h y d ∙ rw k.closed refl)
     ∙ sym (ap (option_map made) (ap without_last k.last ∙ without_last-append (segments y) k.name))
 
-pub parent_uri-none : (t : List ℕ) → path_of t ≡ [] → parent_uri (uri_of t) ≡ None
-unfolding parent_uri uri_of
-parent_uri-none t e =
-    let made : List (List ℕ)
-    → RsyncUri = λ names. record {
-      authority = lowercase (authority_of t);
-      module_name = module_name_of t;
-      segments =
-          names;
-      is_dir = true;
-    } in
-    ap (λ names. option_map made (without_last names)) (ap segments e ∙ segments-empty)
-
 pub cut-dir : (t : List ℕ) (m n : ℕ) → IsCut t m n → IsCut (with_slash t) m n
 cut-dir t m n c = subst (λ (s : List ℕ). IsCut s m n) (append-nil (with_slash t))
     (cut-joined t m n c [] refl (ap names_refusal segments-empty))

@@ -64,10 +64,6 @@ not-read profile None Malformed h = absurd h
 not-read profile None (Refused e) h = absurd h
 not-read profile None (Violated e) h = absurd h
 
-pub not-read-of : (profile : Option Profile) (held : Option (Option (List ℕ))) (f : Fault) → IfSome held (λ source. IsRead source (Err f)) → IfSome held (λ source. Finds profile source (Err f))
-not-read-of profile None f h = tt
-not-read-of profile (Some source) f h = not-read profile source f h
-
 -- a file that was read
 was-read : (profile : Option Profile) (source : Option (List ℕ)) (input : List ℕ) (finding : Finding) → IsRead source (Ok input) → FindsIn profile input finding → Finds profile source finding
 was-read profile (Some octets) input finding h k = inl (h.1, subst (λ (w : List ℕ). FindsIn profile w finding) h.0 k)

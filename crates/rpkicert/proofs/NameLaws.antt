@@ -1,5 +1,5 @@
 -- Values read one after another, and what is written of them.
-use Rattle.std.proofs.Common.{◌≡◌, ℕ, true, false, List, [], ◌∷◌, ◌++◌, refl, sym, ap, subst, ◌∙◌, append_assoc}
+use Rattle.std.proofs.Common.{◌≡◌, ℕ, true, false, List, [], ◌∷◌, ◌++◌, refl, sym, ap, ◌∙◌, append_assoc}
 use Rattle.std.proofs.lemmas.List.{append-nil}
 use Rattle.std.specs.List.{flat_map}
 use Rattle.rpki_der.specs.Reading.{Spells}
@@ -7,7 +7,7 @@ use Rattle.rpki_der.specs.TagName.{oid, sequence}
 use Rattle.rpki_der.specs.Values.{SpellsContents, SpellsLeaf}
 use Rattle.rpki_der.specs.Leaves.{IsOidOf}
 use Rattle.rpki_der.specs.Members.{IsValue}
-use Rattle.rpki_der.specs.Each.{SpellsEach, SpellsSome}
+use Rattle.rpki_der.specs.Each.{SpellsEach}
 use Rattle.rpki.specs.Name.{attribute_of, SpellsAttribute}
 
 -- these values were read, and this was written of them
@@ -39,18 +39,6 @@ one-more G show input rest left text more x h s e = record {
   read = more-each G h.values h.front s.front x h.read s.spelled;
   written = e ∙ ap (λ (w : List ℕ). w ++ show x) h.written ∙ more-written show h.values x;
 }
-
-not-none : {V : Type 0} (G : V → List ℕ → Type 0) (xs : List V) (p : List ℕ) → (p ≡ [] → ⊥) → SpellsEach G xs p → xs ≡ [] → ⊥
-not-none G [] p some h e = some h
-not-none G (x ∷ xs) p some h e = cc
-
--- nothing is left
-pub all-some : {V : Type 0} (G : V → List ℕ → Type 0) (show : V → List ℕ) (input rest text : List ℕ) → (input ≡ [] → ⊥) → rest ≡ []
-    → HaveRead G show input rest text → (xs : List V) × SpellsSome G xs input × (text ≡ flat_map show xs)
-all-some G show input rest text some end h =
-    let whole : input ≡ h.front = h.parts ∙ ap (λ (q : List ℕ). h.front ++ q) end ∙ append-nil h.front in
-    let each = subst (SpellsEach G h.values) (sym whole) h.read in
-    (h.values, record { some = not-none G h.values input some each; each = each }, h.written)
 
 -- an attribute from its parts
 pub an-attribute : (contents id value p : List ℕ) → SpellsContents sequence true contents p → Spells (SpellsLeaf oid false IsOidOf) contents id value

@@ -3,7 +3,7 @@ use Rattle.std.proofs.Common.{◌≡◌, ℕ, ◌+◌, ◌<◌, ◌≤◌, List,
 use Rattle.std.proofs.lemmas.List.{append-nil, take_more, take_all, take-append-drop, map-append}
 use Rattle.std.specs.Prelude.{◌⊎◌, Option, max}
 use Rattle.std.specs.Io.KnownBytes.{Appends}
-use Rattle.std.proofs.KnownBytes.{Appends-trans, Appends-nil}
+use Rattle.std.proofs.KnownBytes.{Appends-trans}
 use Rattle.rpki_der.specs.Written.{AppendsBeginning, AppendsCut}
 use Rattle.rpkicert.specs.Shown.{ShownParts, AreSeen, outputs, faults, worst, AreCut, IsRun}
 use Rattle.rpkicert.specs.Shown.IsRun.{Whole, Cut}
@@ -35,9 +35,6 @@ pub record HaveSeen (P : List ℕ → ShownParts → Type 0) (names : List (List
   pub output : Appends old new (outputs all)
   pub faults_are : Appends was is (faults all)
   pub status_is : status ≡ worst all
-
-pub none-seen : (P : List ℕ → ShownParts → Type 0) (old was : Option (List ℕ)) → HaveSeen P [] old old was was 0
-none-seen P old was = record { all = []; seen = tt; output = Appends-nil old; faults_are = Appends-nil was; status_is = refl }
 
 names-more : {A : Type 0} (text : A → List ℕ) (files : List A) (i : ℕ) (file : A) → i < length files → file ≡ get_or files i file
     → map text (take (i + 1) files) ≡ map text (take i files) ++ (text file ∷ [])
