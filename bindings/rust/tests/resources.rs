@@ -76,10 +76,11 @@ fn entries(found: Option<IpResources>, is_v4: bool) -> Vec<String> {
 
 fn ip(number: usize, octets: &[u8], wanted: Result<&[&str], DecodeError>) {
     let found = IpResources::decode_families(octets).map(|(v4, v6)| {
-        let text = |found: &Option<IpResources>, is_v4| {
-            found.as_ref().and_then(|found| found.to_blocks().ok()).map(|blocks| round_trip(&blocks, is_v4))
-        };
-        (text(&v4, true), text(&v6, false));
+        for (found, is_v4) in [(&v4, true), (&v6, false)] {
+            if let Some(Ok(blocks)) = found.as_ref().map(IpResources::to_blocks) {
+                round_trip(&blocks, is_v4);
+            }
+        }
         [entries(v4, true), entries(v6, false)].concat()
     });
     assert_eq!(found, wanted.map(|words| words.iter().map(|word| word.to_string()).collect()), "row {number}");
