@@ -1040,9 +1040,8 @@ enum {
  * status with RPKI_SECOND added has the text of that without it. "unknown status": no call of that kind returns it.
  */
 static inline const char *rpki_status_text(int kind, rpki_status status) {
-    if (kind == RPKI_OF_URI && status > RPKI_SECOND && status <= RPKI_SECOND + RPKI_URI_OUT_OF_MEMORY) {
-        status = (rpki_status)(status - RPKI_SECOND);
-    }
+    rpki_status last = (rpki_status)(kind == RPKI_OF_URI ? RPKI_URI_OUT_OF_MEMORY : RPKI_TRAILING);
+    if (status > RPKI_SECOND && status <= RPKI_SECOND + last) status = (rpki_status)(status - RPKI_SECOND);
     if (kind == RPKI_OF_URI) {
         switch (status) {
             case RPKI_URI_INVALID_CHARACTERS: return "invalid characters";
