@@ -6,16 +6,15 @@
  * from call to call, nothing has to be freed, and no call writes to its input. Parts of the input are told as places
  * (struct rpki_place): where they start, counted from the first octet that was passed, and how many octets they have.
  *
- * Where the status is not 0, `out` is left as it was; only `*count` of rpki_index, and `*written` of the calls that say
- * so, are written with RPKI_TOO_SMALL too, and `*at` of rpki_base64_read with RPKI_INVALID_SYMBOL to
- * RPKI_INVALID_PADDING.
+ * Where the status is not 0, `out` is left as it was; only `*count` and `*written` of the calls that say so are written
+ * with RPKI_TOO_SMALL too, and `*at` of rpki_base64_read with RPKI_INVALID_SYMBOL to RPKI_INVALID_PADDING.
  *
  * What a call takes of memory it frees before it returns. At the peak rpki_walk, rpki_index, rpki_fault and
  * rpki_signed_data take up to 24 octets for each level of nesting, and 64 more; rpki_name_inspect takes the same of a
  * constructed value of an attribute. Those that write values or base 64, and rpki_base64_read, take copies of what they
  * read and of what they write, and for signed data an index of its headers. All others take none (those on
- * certificates, rpki_hex, rpki_serial_decimal, those that count times on, and the calls on URIs too), and so never
- * return RPKI_OUT_OF_MEMORY.
+ * certificates and resources, rpki_hex, rpki_serial_decimal, those that count times on, and the calls on URIs too), and
+ * so never return RPKI_OUT_OF_MEMORY.
  * So bound the size of what strangers send before you hand it in.
  *
  * What the caller owes, which no call can check:
@@ -113,7 +112,8 @@ enum {
 
     /* Of single calls, which name them. */
     RPKI_TOO_SMALL = 9,        /* the caller's array or buffer has no room */
-    RPKI_NO_ANSWER = 10,       /* there is nothing to answer: no path leads there, no parent, no fault, no such time */
+    RPKI_NO_ANSWER = 10,       /* there is nothing to answer: no path leads there, no parent, no fault, no such time,
+                                  resources that are not told */
     RPKI_NOT_OF_PROFILE = 11,  /* no call returns it: one of the statuses 32 to 37 says which rule is broken */
     RPKI_NO_PROFILE = 12,      /* no profile has this number */
     RPKI_OTHER_ALGORITHM = 13, /* an algorithm identifier, but of none of the algorithms that the call reads */
@@ -195,7 +195,7 @@ enum {
     RPKI_RULE_MANIFEST_PLACE = 118,          /* the manifest lies below the repository (RFC 6487 4.8.8.1, RFC 9286 2) */
     RPKI_RULE_NOTIFICATIONS = 119,           /* told by https URIs alone (RFC 8182 3.2) */
 
-    /* Calls on two texts add this to the number of what is wrong with the second. */
+    /* Calls on two texts, or on two contents, add this to the number of what is wrong with the second. */
     RPKI_SECOND = 16,
 
     /* Of rpki_name_inspect: the rule of the profile that the name breaks first, from the left. */
@@ -370,6 +370,24 @@ struct rpki_certificate_extensions {
     uint8_t policy; /* RPKI_POLICY_NONE to RPKI_POLICY_TRIM */
 };
 
+/* Families of addresses, by the version of IP. */
+enum { RPKI_IPV4 = 4, RPKI_IPV6 = 6 };
+
+/* A block of addresses, or that the addresses of a family are those of the issuer (RFC 3779 2.2.3). */
+struct rpki_ip_block {
+    uint8_t low[16];   /* the lowest address, most significant octet first; behind the 4 octets of IPv4 stand zeros */
+    uint8_t high[16];  /* the highest address, likewise */
+    uint8_t family;    /* RPKI_IPV4 or RPKI_IPV6 */
+    bool is_inherited; /* whether the family's addresses are those of the issuer; then `low` and `high` are zeros */
+};
+
+/* A block of AS numbers, or that the AS numbers are those of the issuer (RFC 3779 3.2.3). */
+struct rpki_as_block {
+    uint32_t low;      /* the lowest number */
+    uint32_t high;     /* the highest number */
+    bool is_inherited; /* whether the AS numbers are those of the issuer; then `low` and `high` are 0 */
+};
+
 /* The parts of an rsync URI, rsync://AUTHORITY/MODULE/PATH (RFC 5781). */
 struct rpki_rsync_parts {
     struct rpki_place authority;   /* not empty; a port stands in it */
@@ -469,6 +487,15 @@ RPKI_ASSERT_AT(certificate_extensions, authority_key, 332);
 RPKI_ASSERT_AT(certificate_extensions, is_ca, 352);
 RPKI_ASSERT_AT(certificate_extensions, usage, 353);
 RPKI_ASSERT_AT(certificate_extensions, policy, 354);
+RPKI_ASSERT(ip_block, sizeof(struct rpki_ip_block) == 34);
+RPKI_ASSERT_AT(ip_block, low, 0);
+RPKI_ASSERT_AT(ip_block, high, 16);
+RPKI_ASSERT_AT(ip_block, family, 32);
+RPKI_ASSERT_AT(ip_block, is_inherited, 33);
+RPKI_ASSERT(as_block, sizeof(struct rpki_as_block) == 12);
+RPKI_ASSERT_AT(as_block, low, 0);
+RPKI_ASSERT_AT(as_block, high, 4);
+RPKI_ASSERT_AT(as_block, is_inherited, 8);
 RPKI_ASSERT(rsync_parts, sizeof(struct rpki_rsync_parts) == 48);
 RPKI_ASSERT_AT(rsync_parts, authority, 0);
 RPKI_ASSERT_AT(rsync_parts, module_name, 16);
@@ -632,6 +659,64 @@ rpki_status rpki_certificate_extensions(const uint8_t *octets, size_t size, stru
  * 0, it is that of rpki_certificate.
  */
 rpki_status rpki_certificate_inspect(const uint8_t *octets, size_t size, uint8_t profile, bool strict);
+
+/* ---- Resources: all of the octets are the contents of one extension ---- */
+
+/*
+ * The calls below read the contents octets of an extension of resources, as rpki_extension and
+ * rpki_certificate_extensions tell their place, in exactly the canonical form (RFC 3779, RFC 6487 4.8.10, 4.8.11). Both
+ * policies have the same contents (RFC 8360 4.2.2). None takes memory. Which status where:
+ *
+ * RPKI_TRUNCATED, RPKI_BAD_TAG, RPKI_BAD_LENGTH, RPKI_UNEXPECTED or RPKI_CONTENT: no beginning of the octets is such
+ * contents, by the leftmost part that isn't there. RPKI_CONTENT also for a family that is neither IPv4 nor IPv6, or
+ * that stands behind IPv6; for no blocks; for a block that is empty, that should be a prefix or a shorter spelling, or
+ * that has no number between it and the one before; and for an AS number of 2^32 or more. RPKI_TRAILING: a beginning is
+ * such contents, and octets follow it; or octets follow the last part in the contents of a SEQUENCE.
+ */
+
+/*
+ * The addresses of id-pe-ipAddrBlocks (RFC 3779 2.2.3): an entry for each block, those of IPv4 first, in order. A
+ * family whose addresses are those of the issuer has one entry, with `is_inherited`; one that isn't named has none.
+ * `blocks` has room for `capacity` entries. There are fewer of them than octets.
+ *
+ * RPKI_OK: `*count` entries were written, and the rest of the array is as it was. RPKI_TOO_SMALL: `*count` is how many
+ * entries there are, and none was written. With another status neither is written.
+ */
+rpki_status rpki_ip_blocks(const uint8_t *octets, size_t size, struct rpki_ip_block *blocks, size_t capacity,
+                           size_t *count);
+
+/* The AS numbers of id-pe-autonomousSysIds (RFC 3779 3.2.3), as rpki_ip_blocks. There are no routing domain ones. */
+rpki_status rpki_as_blocks(const uint8_t *octets, size_t size, struct rpki_as_block *blocks, size_t capacity,
+                           size_t *count);
+
+/*
+ * Whether the addresses of `inner` are within those of `outer`, its issuer's (RFC 6487 7.2): in each family `inner`
+ * lists none, or says that they are the issuer's, or each address that it lists is one that `outer` lists.
+ *
+ * RPKI_NO_ANSWER: both are such contents, and `inner` lists addresses of a family of which `outer` says that it has
+ * those of its own issuer, so that its octets don't tell. Another status: that of `outer`; with RPKI_SECOND added,
+ * where `outer` is right, that of `inner`.
+ */
+rpki_status rpki_ip_blocks_encompass(const uint8_t *outer, size_t outer_size, const uint8_t *inner, size_t inner_size,
+                                     bool *out);
+
+/* The same of AS numbers. */
+rpki_status rpki_as_blocks_encompass(const uint8_t *outer, size_t outer_size, const uint8_t *inner, size_t inner_size,
+                                     bool *out);
+
+/*
+ * Writes the text of a block, of at most 79 octets, to the front of `out`, which has room for `capacity` octets: that
+ * of a prefix, as `10.0.0.0/8`, or of a range that is none, as `10.0.0.0-10.0.0.5`; IPv6 as RFC 5952 says; `inherit`
+ * where `is_inherited`. `*written` becomes the count of the octets. What is after them in `out` stays.
+ *
+ * RPKI_TOO_SMALL: there are more than `capacity`. Nothing is written to `out`, and `*written` is the count too.
+ * RPKI_CONTENT: the family is another, or the highest address is below the lowest. Of IPv4 only the first four octets
+ * are looked at, and where `is_inherited` nothing else.
+ */
+rpki_status rpki_ip_block_text(const struct rpki_ip_block *block, uint8_t *out, size_t capacity, size_t *written);
+
+/* The same of AS numbers, of at most 25 octets: `AS64496` of one number, `AS1-AS5` of a range. */
+rpki_status rpki_as_block_text(const struct rpki_as_block *block, uint8_t *out, size_t capacity, size_t *written);
 
 /* ---- URIs ---- */
 
@@ -955,9 +1040,8 @@ enum {
  * status with RPKI_SECOND added has the text of that without it. "unknown status": no call of that kind returns it.
  */
 static inline const char *rpki_status_text(int kind, rpki_status status) {
-    if (kind == RPKI_OF_URI && status > RPKI_SECOND && status <= RPKI_SECOND + RPKI_URI_OUT_OF_MEMORY) {
-        status = (rpki_status)(status - RPKI_SECOND);
-    }
+    rpki_status last = (rpki_status)(kind == RPKI_OF_URI ? RPKI_URI_OUT_OF_MEMORY : RPKI_TRAILING);
+    if (status > RPKI_SECOND && status <= RPKI_SECOND + last) status = (rpki_status)(status - RPKI_SECOND);
     if (kind == RPKI_OF_URI) {
         switch (status) {
             case RPKI_URI_INVALID_CHARACTERS: return "invalid characters";

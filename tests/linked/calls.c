@@ -829,7 +829,8 @@ static bool texts_differ(int kind) {
     bool well = true;
     for (one = 0; one < 256; one++) {
         const char *text = rpki_status_text(kind, (rpki_status)one);
-        bool is_second = kind == RPKI_OF_URI && one > RPKI_SECOND && one <= RPKI_SECOND + RPKI_URI_OUT_OF_MEMORY;
+        unsigned last = kind == RPKI_OF_URI ? RPKI_URI_OUT_OF_MEMORY : RPKI_TRAILING;
+        bool is_second = one > RPKI_SECOND && one <= RPKI_SECOND + last;
         for (other = 0; other < one && !is_second && strcmp(text, "unknown status"); other++) {
             well = well && strcmp(text, rpki_status_text(kind, (rpki_status)other));
         }

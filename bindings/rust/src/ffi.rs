@@ -136,6 +136,60 @@ pub(crate) fn index(octets: &[u8]) -> Result<Vec<Entry>, Status> {
     Ok(entries)
 }
 
+/// Entries that a call writes to an array, which is told the array and its capacity, and tells how many they are; first
+/// with room for `guess` entries.
+///
+/// # Safety
+/// Where the call returns 0, it has written to the front of the array as many entries as it tells, and no more than the
+/// capacity; where it returns `TOO_SMALL`, it tells more than the capacity.
+unsafe fn listed<T>(guess: usize, call: impl Fn(*mut T, usize, *mut usize) -> Status) -> Result<Vec<T>, Status> {
+    compared();
+    let mut entries = Vec::with_capacity(guess);
+    loop {
+        let mut count = 0;
+        match call(entries.as_mut_ptr(), entries.capacity(), &mut count) {
+            OK => {
+                // SAFETY: so many entries of the array were written, which has at least that capacity.
+                unsafe { entries.set_len(count) };
+                return Ok(entries);
+            }
+            TOO_SMALL => entries.reserve_exact(count),
+            status => return Err(status),
+        }
+    }
+}
+
+/// How many entries contents of this size have room in at first: as many as most certificates have.
+fn few(size: usize) -> usize {
+    (size / 4).min(64)
+}
+
+/// The entries of the contents of an extension of addresses.
+pub(crate) fn ip_blocks(octets: &[u8]) -> Result<Vec<IpBlock>, Status> {
+    let (start, size) = (octets.as_ptr(), octets.len());
+    // SAFETY: pointer and size are those of one slice, which is borrowed for the call; the rest is of `listed`.
+    unsafe { listed(few(size), |entries, capacity, count| rpki_ip_blocks(start, size, entries, capacity, count)) }
+}
+
+/// The entries of the contents of an extension of AS numbers.
+pub(crate) fn as_blocks(octets: &[u8]) -> Result<Vec<AsBlock>, Status> {
+    let (start, size) = (octets.as_ptr(), octets.len());
+    // SAFETY: pointer and size are those of one slice, which is borrowed for the call; the rest is of `listed`.
+    unsafe { listed(few(size), |entries, capacity, count| rpki_as_blocks(start, size, entries, capacity, count)) }
+}
+
+/// Whether the addresses of the second contents are within those of the first.
+pub(crate) fn ip_blocks_encompass(outer: &[u8], inner: &[u8]) -> Result<bool, Status> {
+    // SAFETY: both pointers and sizes are those of slices, which are borrowed for the call.
+    told(|out| unsafe { rpki_ip_blocks_encompass(outer.as_ptr(), outer.len(), inner.as_ptr(), inner.len(), out) })
+}
+
+/// Whether the AS numbers of the second contents are within those of the first.
+pub(crate) fn as_blocks_encompass(outer: &[u8], inner: &[u8]) -> Result<bool, Status> {
+    // SAFETY: both pointers and sizes are those of slices, which are borrowed for the call.
+    told(|out| unsafe { rpki_as_blocks_encompass(outer.as_ptr(), outer.len(), inner.as_ptr(), inner.len(), out) })
+}
+
 /// A status as a `Result`.
 fn done(status: Status) -> Result<(), Status> {
     match status {

@@ -2,4 +2,5 @@
 
 pub mod cert;
 pub mod error;
+pub mod resources;
 pub mod x509;

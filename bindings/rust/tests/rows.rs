@@ -323,7 +323,7 @@ fn status_text(number: u8, words: &str) -> Given {
         ("der", 2) => DecodeError::BadTag.to_string(),
         ("der", 3) => DecodeError::BadLength.to_string(),
         ("der", 4) => DecodeError::Unexpected.to_string(),
-        ("der", 5) => DecodeError::Content.to_string(),
+        ("der", 5 | 21) => DecodeError::Content.to_string(),
         ("der", 6) => DecodeError::Trailing.to_string(),
         ("der", 7) => DecodeError::OutOfMemory.to_string(),
         ("der", 13) => DecodeError::OtherAlgorithm.to_string(),

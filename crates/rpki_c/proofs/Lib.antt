@@ -10,6 +10,8 @@
 -- Where octets go wrong: FaultLaws. The index, in the middle of its writing: FillingLaws.
 -- Parts of parsed URIs, by their places: RsyncPlacesLaws, HttpsPlacesLaws. Parts of certificates: CertificateLaws; that
 --   one is held to a profile: InspectionLaws.
+-- Entries of blocks, one after another, and how many there are: BlockListLaws, ViewCountLaws. Two lists of blocks gone
+--   over at once: EncompassingLaws. Statuses of contents of resources: ResourceStatusLaws.
 
 mod SuffixLaws
 mod PartLaws
@@ -29,3 +31,7 @@ mod MadeLaws
 pub mod CertificateLaws
 pub mod InspectionLaws
 mod HexTextLaws
+mod BlockListLaws
+mod ViewCountLaws
+mod EncompassingLaws
+mod ResourceStatusLaws

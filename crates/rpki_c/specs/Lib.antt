@@ -32,3 +32,8 @@ pub mod Certificate
 pub mod CertificateExtensions
 pub mod CertificateInspection
 pub mod MadeExtension
+pub mod Filled
+pub mod ViewCount
+pub mod Resources
+pub mod Encompassing
+pub mod BlockText

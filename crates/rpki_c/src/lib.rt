@@ -6,11 +6,15 @@
 //! allocator is no parameter.
 #![tactic(auto)]
 
+mod address_texts;
+mod as_blocks;
 mod base_64;
+mod block_texts;
 mod certificate;
 mod certificate_extensions;
 mod certificate_inspection;
 mod digits;
+mod encompassing;
 mod extension_writing;
 mod extensions;
 mod faults;
@@ -20,13 +24,16 @@ mod https_parts;
 mod identifier_texts;
 mod identifiers;
 mod index;
+mod ip_blocks;
 mod key_writing;
 mod keys;
+mod line;
 mod moments;
 mod names;
 mod periods;
 mod place;
 mod ranges;
+mod resources;
 mod rsync;
 mod rsync_parts;
 mod serial_texts;

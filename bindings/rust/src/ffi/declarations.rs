@@ -124,6 +124,8 @@ pub(crate) const USAGE_EE: u8 = 2;
 pub(crate) const POLICY_NONE: u8 = 0;
 pub(crate) const POLICY_REFUSE: u8 = 1;
 pub(crate) const POLICY_TRIM: u8 = 2;
+pub(crate) const IPV4: u8 = 4;
+pub(crate) const IPV6: u8 = 6;
 pub(crate) const BASE64_XML: u8 = 0;
 pub(crate) const BASE64_SERDE: u8 = 1;
 pub(crate) const BASE64_SLURM: u8 = 2;
@@ -273,6 +275,25 @@ const _: () = assert!(size_of::<CertificateExtensions>() == 360);
 
 #[repr(C)]
 #[derive(Clone, Copy, Default)]
+pub(crate) struct IpBlock {
+    pub(crate) low: [u8; 16],
+    pub(crate) high: [u8; 16],
+    pub(crate) family: u8,
+    pub(crate) is_inherited: bool,
+}
+const _: () = assert!(size_of::<IpBlock>() == 34);
+
+#[repr(C)]
+#[derive(Clone, Copy, Default)]
+pub(crate) struct AsBlock {
+    pub(crate) low: u32,
+    pub(crate) high: u32,
+    pub(crate) is_inherited: bool,
+}
+const _: () = assert!(size_of::<AsBlock>() == 12);
+
+#[repr(C)]
+#[derive(Clone, Copy, Default)]
 pub(crate) struct RsyncParts {
     pub(crate) authority: Place,
     pub(crate) module_name: Place,
@@ -315,6 +336,46 @@ extern "C" {
         out: *mut CertificateExtensions,
     ) -> Status;
     pub(super) fn rpki_certificate_inspect(octets: *const u8, size: usize, profile: u8, strict: bool) -> Status;
+    pub(super) fn rpki_ip_blocks(
+        octets: *const u8,
+        size: usize,
+        blocks: *mut IpBlock,
+        capacity: usize,
+        count: *mut usize,
+    ) -> Status;
+    pub(super) fn rpki_as_blocks(
+        octets: *const u8,
+        size: usize,
+        blocks: *mut AsBlock,
+        capacity: usize,
+        count: *mut usize,
+    ) -> Status;
+    pub(super) fn rpki_ip_blocks_encompass(
+        outer: *const u8,
+        outer_size: usize,
+        inner: *const u8,
+        inner_size: usize,
+        out: *mut bool,
+    ) -> Status;
+    pub(super) fn rpki_as_blocks_encompass(
+        outer: *const u8,
+        outer_size: usize,
+        inner: *const u8,
+        inner_size: usize,
+        out: *mut bool,
+    ) -> Status;
+    pub(super) fn rpki_ip_block_text(
+        block: *const IpBlock,
+        out: *mut u8,
+        capacity: usize,
+        written: *mut usize,
+    ) -> Status;
+    pub(super) fn rpki_as_block_text(
+        block: *const AsBlock,
+        out: *mut u8,
+        capacity: usize,
+        written: *mut usize,
+    ) -> Status;
     pub(super) fn rpki_rsync_parse(text: *const u8, size: usize, out: *mut RsyncParts) -> Status;
     pub(super) fn rpki_rsync_relative_to(
         uri: *const u8,
