@@ -133,7 +133,7 @@ static size_t certificate_parts(const struct input *input) {
 }
 
 static size_t certificate_extensions(const struct input *input) {
-    struct rpki_certificate_extensions out;
+    struct rpki_known_extensions out;
     return rpki_certificate_extensions(input->octets, input->size, &out) == RPKI_OK ? input->found : 0;
 }
 

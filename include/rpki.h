@@ -349,7 +349,7 @@ enum {
 };
 
 /* The extensions that certificates of the RPKI have (RFC 6487 4.8), and what five of them say. */
-struct rpki_certificate_extensions {
+struct rpki_known_extensions {
     struct rpki_known_extension basic_constraints;        /* RFC 6487 4.8.1 */
     struct rpki_known_extension subject_key_identifier;   /* RFC 6487 4.8.2 */
     struct rpki_known_extension authority_key_identifier; /* RFC 6487 4.8.3 */
@@ -468,25 +468,25 @@ RPKI_ASSERT(known_extension, sizeof(struct rpki_known_extension) == 24);
 RPKI_ASSERT_AT(known_extension, octets, 0);
 RPKI_ASSERT_AT(known_extension, is_there, 16);
 RPKI_ASSERT_AT(known_extension, critical, 17);
-RPKI_ASSERT(certificate_extensions, sizeof(struct rpki_certificate_extensions) == 360);
-RPKI_ASSERT_AT(certificate_extensions, basic_constraints, 0);
-RPKI_ASSERT_AT(certificate_extensions, subject_key_identifier, 24);
-RPKI_ASSERT_AT(certificate_extensions, authority_key_identifier, 48);
-RPKI_ASSERT_AT(certificate_extensions, key_usage, 72);
-RPKI_ASSERT_AT(certificate_extensions, extended_key_usage, 96);
-RPKI_ASSERT_AT(certificate_extensions, crl_distribution_points, 120);
-RPKI_ASSERT_AT(certificate_extensions, authority_info_access, 144);
-RPKI_ASSERT_AT(certificate_extensions, subject_info_access, 168);
-RPKI_ASSERT_AT(certificate_extensions, certificate_policies, 192);
-RPKI_ASSERT_AT(certificate_extensions, ip_resources, 216);
-RPKI_ASSERT_AT(certificate_extensions, ip_resources_v2, 240);
-RPKI_ASSERT_AT(certificate_extensions, as_resources, 264);
-RPKI_ASSERT_AT(certificate_extensions, as_resources_v2, 288);
-RPKI_ASSERT_AT(certificate_extensions, subject_key, 312);
-RPKI_ASSERT_AT(certificate_extensions, authority_key, 332);
-RPKI_ASSERT_AT(certificate_extensions, is_ca, 352);
-RPKI_ASSERT_AT(certificate_extensions, usage, 353);
-RPKI_ASSERT_AT(certificate_extensions, policy, 354);
+RPKI_ASSERT(known_extensions, sizeof(struct rpki_known_extensions) == 360);
+RPKI_ASSERT_AT(known_extensions, basic_constraints, 0);
+RPKI_ASSERT_AT(known_extensions, subject_key_identifier, 24);
+RPKI_ASSERT_AT(known_extensions, authority_key_identifier, 48);
+RPKI_ASSERT_AT(known_extensions, key_usage, 72);
+RPKI_ASSERT_AT(known_extensions, extended_key_usage, 96);
+RPKI_ASSERT_AT(known_extensions, crl_distribution_points, 120);
+RPKI_ASSERT_AT(known_extensions, authority_info_access, 144);
+RPKI_ASSERT_AT(known_extensions, subject_info_access, 168);
+RPKI_ASSERT_AT(known_extensions, certificate_policies, 192);
+RPKI_ASSERT_AT(known_extensions, ip_resources, 216);
+RPKI_ASSERT_AT(known_extensions, ip_resources_v2, 240);
+RPKI_ASSERT_AT(known_extensions, as_resources, 264);
+RPKI_ASSERT_AT(known_extensions, as_resources_v2, 288);
+RPKI_ASSERT_AT(known_extensions, subject_key, 312);
+RPKI_ASSERT_AT(known_extensions, authority_key, 332);
+RPKI_ASSERT_AT(known_extensions, is_ca, 352);
+RPKI_ASSERT_AT(known_extensions, usage, 353);
+RPKI_ASSERT_AT(known_extensions, policy, 354);
 RPKI_ASSERT(ip_block, sizeof(struct rpki_ip_block) == 34);
 RPKI_ASSERT_AT(ip_block, low, 0);
 RPKI_ASSERT_AT(ip_block, high, 16);
@@ -641,7 +641,7 @@ rpki_status rpki_certificate(const uint8_t *octets, size_t size, struct rpki_cer
  * The status is from 80 to 84 where one of the five is there, but malformed, or not as critical as it has to be: the
  * first of them, in the order of these numbers. Else, where it is not 0, it is that of rpki_certificate.
  */
-rpki_status rpki_certificate_extensions(const uint8_t *octets, size_t size, struct rpki_certificate_extensions *out);
+rpki_status rpki_certificate_extensions(const uint8_t *octets, size_t size, struct rpki_known_extensions *out);
 
 /*
  * Reads a resource certificate, as rpki_certificate does, and holds it to the profile of this number, an

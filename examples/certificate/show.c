@@ -63,7 +63,7 @@ static void print_name(const char *what, const uint8_t *octets, struct rpki_plac
 }
 
 /* The key, and its identifier, which is that of the extension (RFC 6487 4.8.2). */
-static void print_key(const uint8_t *octets, size_t size, const struct rpki_certificate_extensions *known) {
+static void print_key(const uint8_t *octets, size_t size, const struct rpki_known_extensions *known) {
     struct rpki_key_parts key;
     uint8_t identifier[20];
     check("public key", rpki_public_key(octets, size, &key));
@@ -105,7 +105,7 @@ static void print_place(const char *name, struct rpki_place place) {
 /* What the octets say. */
 static void show(const uint8_t *octets, size_t size) {
     struct rpki_certificate_parts parts;
-    struct rpki_certificate_extensions known;
+    struct rpki_known_extensions known;
     struct rpki_walked walked;
     size_t zeros = 0;
     check("certificate", rpki_certificate(octets, size, &parts));

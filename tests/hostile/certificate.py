@@ -245,18 +245,25 @@ EXPONENT = bytes.fromhex("010001")
 MODULUS = b"\0" + b"\x80" + bytes(254) + b"\x01"
 
 
-def router_bits(octets):
+def router_bits(octets, unused=0):
     def change(it):
         router(it)
-        it.key.inside[1].inside = b"\0" + octets
+        it.key.inside[1].inside = bytes([unused]) + octets
     return change
 
 
-def version_2(it):
-    """The policy and the resources of RFC 8360."""
-    it.put(POLICIES, policies(policy(POLICY_V2)))
-    for old, new in ((ADDRESSES, ADDRESSES_V2), (NUMBERS, NUMBERS_V2)):
-        it.extension(old).inside[0].inside = oid(new)
+def of_version_2(*extensions, policy_too=True):
+    """The extensions by their identifiers of RFC 8360, and perhaps the policy."""
+    def change(it):
+        if policy_too:
+            it.put(POLICIES, policies(policy(POLICY_V2)))
+        for old, new in ((ADDRESSES, ADDRESSES_V2), (NUMBERS, NUMBERS_V2)):
+            if old in extensions:
+                it.extension(old).inside[0].inside = oid(new)
+    return change
+
+
+version_2 = of_version_2(ADDRESSES, NUMBERS)
 
 
 def period(first, last):

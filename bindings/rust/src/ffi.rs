@@ -104,7 +104,7 @@ readers! {
     key_identifier_read(rpki_key_identifier_read) -> [u8; 20];
     key_identifier_of_hex(rpki_key_identifier_of_hex) -> [u8; 20];
     certificate(rpki_certificate) -> CertificateParts;
-    certificate_extensions(rpki_certificate_extensions) -> CertificateExtensions;
+    certificate_extensions(rpki_certificate_extensions) -> KnownExtensions;
     rsync_parse(rpki_rsync_parse) -> RsyncParts;
     rsync_parent(rpki_rsync_parent) -> usize;
     https_parse(rpki_https_parse) -> HttpsParts;

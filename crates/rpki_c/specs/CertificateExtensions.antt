@@ -15,7 +15,7 @@ use Rattle.rpki_cert.specs.Known.{subject_key_identifier, key_usage, basic_const
 use Rattle.rpki_cert.specs.KnownView.{AreKnown, IsFirstWrong}
 use Rattle.rpki_cert.specs.View.{behind_first, IsCertWrong}
 use Rattle.rpki_c.specs.declared.certificate_extensions.KnownExtension.{KnownExtension}
-use Rattle.rpki_c.specs.declared.certificate_extensions.CertificateExtensions.{CertificateExtensions as Extensions}
+use Rattle.rpki_c.specs.declared.certificate_extensions.KnownExtensions.{KnownExtensions as Extensions}
 use Rattle.rpki_c.specs.Certificate.{part_number, behind_signed}
 use Rattle.rpki_c.specs.Place.{StandsBefore}
 

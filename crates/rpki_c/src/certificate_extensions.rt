@@ -28,7 +28,7 @@ pub struct KnownExtension {
 /// The extensions of a certificate.
 #[repr(C)]
 #[derive(Clone, Copy)]
-pub struct CertificateExtensions {
+pub struct KnownExtensions {
     /// The basic constraints (RFC 6487 4.8.1).
     pub basic_constraints: KnownExtension,
     /// The subject key identifier (RFC 6487 4.8.2).
@@ -156,12 +156,12 @@ fn extensions_of(
     found: &CertView<'_>,
     index: &ExtensionIndex<'_>,
     known: KnownView,
-) -> CertificateExtensions
+) -> KnownExtensions
     requires cert { (x : CertParts) × IsCertAt octets.now found.now x × AreKnown x.tbs.extensions known }
     requires index { index.now ≡ found.now.tbs.named.keyed.extensions.octets.now }
     ensures { HasExtensions octets.now result }
 {
-    CertificateExtensions {
+    KnownExtensions {
         basic_constraints: extension_at(octets, found, index, oid::CE_BASIC_CONSTRAINTS),
         subject_key_identifier: extension_at(octets, found, index, oid::CE_SUBJECT_KEY_IDENTIFIER),
         authority_key_identifier: extension_at(
@@ -200,7 +200,7 @@ fn extensions_of(
 /// the first of them. Else it is the number of the part that is wrong, as that of `rpki_certificate`. `out` is unchanged
 /// where the status is not 0. Nothing is allocated.
 #[unsafe(no_mangle)]
-pub extern "C" fn rpki_certificate_extensions(octets: &[u8], out: &mut CertificateExtensions) -> u8
+pub extern "C" fn rpki_certificate_extensions(octets: &[u8], out: &mut KnownExtensions) -> u8
     ensures { AreExtensionsRead octets.now result out.old out.new }
 {
     let found = match CertView::read(octets) {

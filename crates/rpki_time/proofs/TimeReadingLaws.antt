@@ -6,7 +6,7 @@ use Rattle.rpki_der.specs.declared.error.ContentError.{ContentError}
 use Rattle.rpki_der.specs.declared.error.DecodeError.{DecodeError}
 use Rattle.rpki_der.specs.declared.error.DecodeError.TheVariants.{Truncated, BadTag, BadLength, Unexpected, Content}
 use Rattle.rpki_der.specs.declared.error.DecodeError.TheVariants.{Trailing, OutOfMemory}
-use Rattle.rpki_der.specs.Prelude.{text_of, TagName, Spells, Accepts, Refusal, SpellsWanted, IsWantedFault, IsAnyTag}
+use Rattle.rpki_der.specs.Prelude.{text_of, TagName, Spells, Accepts, Refusal, SpellsWanted, IsWantedFault}
 use Rattle.rpki_der.specs.Prelude.{IsPrimitive}
 use Rattle.rpki_der.proofs.ReadingLaws.{Refusal-weaker}
 use Rattle.rpki_time.specs.TimeValue.{ReadsAs, SpellsTime, IsTimeFault}

@@ -3,8 +3,7 @@ use Rattle.std.proofs.Common.{◌≡◌, ◌↔◌, ℕ, ◌+◌, ◌<◌, ◌�
 use Rattle.std.proofs.Common.{refl, sym, ap, ◌∙◌, arith, inl, inr, lit<, length-append}
 use Rattle.jiff.specs.Types.{DateTime}
 use Rattle.rpki_der.specs.declared.error.DecodeError.{DecodeError}
-use Rattle.rpki_der.specs.Prelude.{TagName, IsTag, utc_time, generalized_time, tlv, Spells, Accepts, Reads, IsPrimitive}
-use Rattle.rpki_der.specs.Prelude.{SpellsContents}
+use Rattle.rpki_der.specs.Prelude.{TagName, utc_time, generalized_time, Spells, Accepts, Reads, IsPrimitive}
 use Rattle.rpki_der.proofs.EncodeLaws.{tlv-legal}
 use Rattle.rpki_time.specs.Time.{IsTimeYear, cut}
 use Rattle.rpki_time.specs.TimeText.{utc_text, generalized_text, is_utc_year, IsUtcYear}

@@ -2,6 +2,7 @@
 pub mod Serial
 pub mod Time
 pub mod TimeText
+pub mod MomentText
 pub mod TextPlaces
 pub mod TimeValue
 pub mod Validity

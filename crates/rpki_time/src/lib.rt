@@ -6,6 +6,7 @@
 
 mod decimal;
 pub mod laws;
+mod moment;
 mod serial;
 mod text;
 mod time;

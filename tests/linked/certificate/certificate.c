@@ -38,7 +38,7 @@ static bool untouched(const void *out, size_t size) {
 /* What either call writes. */
 union found {
     struct rpki_certificate_parts parts;
-    struct rpki_certificate_extensions extensions;
+    struct rpki_known_extensions extensions;
 };
 
 /* Makes a call on a copy of exactly these octets, so that a read beyond them is seen by a sanitizer. */
@@ -88,7 +88,7 @@ static void tell(const struct rpki_certificate_parts *found, char *text) {
 }
 
 /* What rpki_certificate_extensions found. The extensions are the first members of the struct. */
-static void tell_extensions(const struct rpki_certificate_extensions *found, char *text) {
+static void tell_extensions(const struct rpki_known_extensions *found, char *text) {
     struct rpki_known_extension known[13];
     const struct rpki_known_extension *each;
     memcpy(known, found, sizeof known);

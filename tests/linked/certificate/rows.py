@@ -23,7 +23,7 @@ import profiles  # noqa: E402
 
 RSA = certificates.oid("1.2.840.113549.1.1.1")
 
-# The known extensions, in the order of struct rpki_certificate_extensions.
+# The known extensions, in the order of struct rpki_known_extensions.
 KNOWN = [certificates.oid(text) for text in (
     "2.5.29.19", "2.5.29.14", "2.5.29.35", "2.5.29.15", "2.5.29.37", "2.5.29.31", "1.3.6.1.5.5.7.1.1",
     "1.3.6.1.5.5.7.1.11", "2.5.29.32", "1.3.6.1.5.5.7.1.7", "1.3.6.1.5.5.7.1.28", "1.3.6.1.5.5.7.1.8",

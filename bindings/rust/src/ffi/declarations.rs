@@ -251,7 +251,7 @@ const _: () = assert!(size_of::<KnownExtension>() == 24);
 
 #[repr(C)]
 #[derive(Clone, Copy, Default)]
-pub(crate) struct CertificateExtensions {
+pub(crate) struct KnownExtensions {
     pub(crate) basic_constraints: KnownExtension,
     pub(crate) subject_key_identifier: KnownExtension,
     pub(crate) authority_key_identifier: KnownExtension,
@@ -271,7 +271,7 @@ pub(crate) struct CertificateExtensions {
     pub(crate) usage: u8,
     pub(crate) policy: u8,
 }
-const _: () = assert!(size_of::<CertificateExtensions>() == 360);
+const _: () = assert!(size_of::<KnownExtensions>() == 360);
 
 #[repr(C)]
 #[derive(Clone, Copy, Default)]
@@ -330,11 +330,7 @@ extern "C" {
     pub(super) fn rpki_validity(octets: *const u8, size: usize, out: *mut Period) -> Status;
     pub(super) fn rpki_extension(octets: *const u8, size: usize, out: *mut ExtensionParts) -> Status;
     pub(super) fn rpki_certificate(octets: *const u8, size: usize, out: *mut CertificateParts) -> Status;
-    pub(super) fn rpki_certificate_extensions(
-        octets: *const u8,
-        size: usize,
-        out: *mut CertificateExtensions,
-    ) -> Status;
+    pub(super) fn rpki_certificate_extensions(octets: *const u8, size: usize, out: *mut KnownExtensions) -> Status;
     pub(super) fn rpki_certificate_inspect(octets: *const u8, size: usize, profile: u8, strict: bool) -> Status;
     pub(super) fn rpki_ip_blocks(
         octets: *const u8,

@@ -374,7 +374,7 @@ pub struct KnownExtensions {
 }
 
 impl KnownExtensions {
-    fn of(octets: &Bytes, found: &ffi::CertificateExtensions) -> KnownExtensions {
+    fn of(octets: &Bytes, found: &ffi::KnownExtensions) -> KnownExtensions {
         let known = |it: ffi::KnownExtension| {
             it.is_there.then(|| KnownExtension { critical: it.critical, octets: octets.slice(it.octets.range()) })
         };
