@@ -178,6 +178,12 @@ pub(crate) fn as_blocks(octets: &[u8]) -> Result<Vec<AsBlock>, Status> {
     unsafe { listed(few(size), |entries, capacity, count| rpki_as_blocks(start, size, entries, capacity, count)) }
 }
 
+/// Writes the text of a block of addresses to the front of the buffer, and says how many octets it has.
+pub(crate) fn ip_block_text(block: &IpBlock, out: &mut [u8; 79]) -> Result<usize, Status> {
+    // SAFETY: the block is borrowed for the call; pointer and size are those of a slice.
+    placed(out, |out, capacity, written| unsafe { rpki_ip_block_text(block, out, capacity, written) })
+}
+
 /// Whether the addresses of the second contents are within those of the first.
 pub(crate) fn ip_blocks_encompass(outer: &[u8], inner: &[u8]) -> Result<bool, Status> {
     // SAFETY: both pointers and sizes are those of slices, which are borrowed for the call.

@@ -2,7 +2,7 @@
 use Rattle.std.proofs.Common.{◌≡◌, ◌≤◌, ◌<◌, ◌+◌, inl, inr, ℕ, suc, List, [], ◌∷◌, ◌++◌, Option, None, Some, length, refl, sym, ap, ◌∙◌, subst, arith, length-append, true, false}
 use Rattle.std.specs.Prelude.{set, take, drop}
 use Rattle.std.proofs.lemmas.List.{length-map, set_split}
-use Rattle.rpki_der.specs.TagName.{null, sequence, TagName}
+use Rattle.rpki_der.specs.TagName.{null, sequence}
 use Rattle.rpki_der.specs.Leaves.{IsNull}
 use Rattle.rpki_der.specs.Values.{SpellsLeaf}
 use Rattle.rpki_der.proofs.EncodeLaws.{tlv-at-least}
@@ -105,9 +105,6 @@ few-blocks kind last (b ∷ bs) c h =
     some-front : (p : List ℕ) → SpellsNext kind last b p → 1 ≤ length p
     some-front [] k = absurd (block-some kind b k.block)
     some-front (y ∷ ys) k = omega arith
-
-leaf-longer : {V : Type 0} (t : TagName) (C : V → List ℕ → Type 0) (v : V) (p : List ℕ) (h : SpellsLeaf t true C v p) → length h.contents ≤ length p
-leaf-longer t C v p h = omega (arith, ap length h.value.octets, tlv-at-least t true h.contents)
 
 choice-few : (kind : ResourceKind) (x : ChoiceView) (p : List ℕ) → SpellsChoice kind x p → view_count x ≤ length p
 choice-few kind x p (inl h) =

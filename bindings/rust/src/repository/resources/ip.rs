@@ -57,11 +57,26 @@ impl AddressFamily {
         address.to_max(self.width())
     }
 
+    /// How a block is passed to the library.
+    fn entry(self, (low, high): (Addr, Addr)) -> ffi::IpBlock {
+        let passed = |address: Addr| match self {
+            AddressFamily::Ipv4 => address.to_min(32).0.to_be_bytes(),
+            AddressFamily::Ipv6 => address.0.to_be_bytes(),
+        };
+        let family = match self {
+            AddressFamily::Ipv4 => ffi::IPV4,
+            AddressFamily::Ipv6 => ffi::IPV6,
+        };
+        ffi::IpBlock { low: passed(low), high: passed(high), family, is_inherited: false }
+    }
+
+    /// Writes an address: the library's text of the block that has it alone, without the count of bits. What the
+    /// standard library writes of IP version 6 differs among its versions.
     fn write(self, address: Addr, f: &mut fmt::Formatter) -> fmt::Result {
-        match self {
-            AddressFamily::Ipv4 => write!(f, "{}", address.to_v4()),
-            AddressFamily::Ipv6 => write!(f, "{}", address.to_v6()),
-        }
+        let mut text = [0; 79];
+        let size = ffi::ip_block_text(&self.entry((address, address)), &mut text).expect("a block");
+        let text = std::str::from_utf8(&text[..size]).expect("a text of ASCII");
+        f.write_str(text.split_once('/').expect("a prefix").0)
     }
 
     fn write_block(self, block: &IpBlock, f: &mut fmt::Formatter) -> fmt::Result {
