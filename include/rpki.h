@@ -11,10 +11,10 @@
  *
  * What a call takes of memory it frees before it returns. At the peak rpki_walk, rpki_index, rpki_fault and
  * rpki_signed_data take up to 24 octets for each level of nesting, and 64 more; rpki_name_inspect takes the same of a
- * constructed value of an attribute. Those that write values or base 64, and rpki_base64_read, take copies of what they
- * read and of what they write, and for signed data an index of its headers. All others take none (those on
- * certificates and resources, rpki_hex, rpki_serial_decimal, those that count times on, and the calls on URIs too), and
- * so never return RPKI_OUT_OF_MEMORY.
+ * constructed value of an attribute. rpki_signed_data_write and rpki_signed_data_make take that, and once it is freed
+ * as many octets as they write. The others that write values or base 64, and rpki_base64_read, take up to two octets
+ * for each that they read or write, and 512 more. All others take none (those on certificates and resources, rpki_hex,
+ * rpki_serial_decimal, those that count times on, and the calls on URIs too), and so never return RPKI_OUT_OF_MEMORY.
  * So bound the size of what strangers send before you hand it in.
  *
  * What the caller owes, which no call can check:
@@ -860,8 +860,9 @@ rpki_status rpki_https_parts_into_dir(const uint8_t *text, size_t size, const st
  * The calls below write to the front of `out`, which has room for `capacity` octets, and `*written` becomes the count
  * of the octets. What is after them in `out` stays.
  *
- * RPKI_TOO_SMALL: there are more than `capacity`. Nothing is written to `out`, and `*written` is the count too. With
- * another status neither is written. RPKI_OUT_OF_MEMORY: malloc or realloc returned NULL; rpki_hex takes no memory.
+ * RPKI_TOO_SMALL: there are more than `capacity`, and nothing else is wrong. Nothing is written to `out`, and
+ * `*written` is the count too. With another status neither is written. RPKI_OUT_OF_MEMORY: malloc or realloc returned
+ * NULL; rpki_hex takes no memory.
  */
 
 /* The octets in hexadecimal digits, in upper case: two for each (RFC 4648 8). */
@@ -911,8 +912,7 @@ rpki_status rpki_base64_read(const uint8_t *text, size_t size, uint8_t flavour, 
 /*
  * The signed data of the RPKI that the octets are, in its normal form: exactly the octets that are signed, the
  * algorithm identifier with NULL for parameters, and the signature with no unused bits. The statuses are those of
- * rpki_signed_data too, but the number of an error in place of RPKI_OTHER_ALGORITHM. RPKI_TOO_LONG: its contents would
- * have 2^32 octets or more.
+ * rpki_signed_data too. RPKI_TOO_LONG: its contents would have 2^32 octets or more.
  */
 rpki_status rpki_signed_data_write(const uint8_t *octets, size_t size, uint8_t *out, size_t capacity, size_t *written);
 
@@ -1073,7 +1073,7 @@ static inline const char *rpki_status_text(int kind, rpki_status status) {
             case RPKI_INVALID_SYMBOL: return "no symbol of base 64";
             case RPKI_INVALID_LENGTH: return "no length of base 64";
             case RPKI_INVALID_LAST_SYMBOL: return "no last symbol of base 64";
-            case RPKI_INVALID_PADDING: return "other padding of base 64";
+            case RPKI_INVALID_PADDING: return "missing padding of base 64";
             case RPKI_TOO_NEW: return "object is not yet valid";
             case RPKI_TOO_OLD: return "object has expired";
             case RPKI_PART_CERTIFICATE: return "not a certificate";

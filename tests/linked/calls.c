@@ -873,6 +873,7 @@ int main(int count, char **words) {
     judge_alone("digits", digits());
     judge_alone("times and periods", times_and_periods());
     judge_alone("extensions that are written", written_extensions());
+    judge_alone("sizes of what is written, and peaks", sizes());
     printf("%u rows, %zu refused allocations: %u passed, %u failed\n", rows, refusals, passed, failed);
     return failed ? 1 : 0;
 }

@@ -1,4 +1,4 @@
-/* The calls on URIs that were parsed before, those that write values, and those on digits and times. */
+/* The calls on URIs that were parsed before, those that write values, those on digits and times, and large sizes. */
 #ifndef PARTS_H
 #define PARTS_H
 
@@ -14,5 +14,6 @@ bool refused_writing(void);
 bool digits(void);
 bool times_and_periods(void);
 bool written_extensions(void);
+bool sizes(void);
 
 #endif

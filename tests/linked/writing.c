@@ -127,7 +127,7 @@ static const struct {
     {signed_write, BITS_SIGNED, "", SIGNED, RPKI_OK},
     {signed_write, SIGNED " 00", "", NULL, RPKI_TRAILING},
     {signed_write, "30 17 30 02 04 05 30 0D " SHA " 05 00 03 02 00 AA", "", NULL, RPKI_TRUNCATED},
-    {signed_write, "30 0A 30 00 30 04 06 02 2A 03 03 00", "", NULL, RPKI_CONTENT},
+    {signed_write, "30 0A 30 00 30 04 06 02 2A 03 03 00", "", NULL, RPKI_OTHER_ALGORITHM},
     {signed_make, "30 00", "AA", SIGNED, RPKI_OK},
     {signed_make, "05 00", "", "30 14 05 00 30 0D " SHA " 05 00 03 01 00", RPKI_OK},
     {signed_make, "", "AA", NULL, RPKI_TRUNCATED},

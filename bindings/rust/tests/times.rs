@@ -90,7 +90,7 @@ fn times_from_now_on() {
 }
 
 /// Texts that are read, and the seconds that they name; others that are not.
-const TEXTS: [(&str, Option<i64>); 60] = [
+const TEXTS: [(&str, Option<i64>); 63] = [
     ("1970-01-01T00:00:00Z", Some(0)),
     ("1970-01-01T00:00:00z", Some(0)),
     ("1970-01-01 00:00:00 UTC", Some(0)),

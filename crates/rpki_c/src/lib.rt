@@ -41,6 +41,7 @@ mod serial_writing;
 mod serials;
 mod signed;
 mod signed_making;
+mod signed_value;
 mod signed_writing;
 mod status;
 mod stored;

@@ -83,7 +83,7 @@ fn read_parts<'a>(
 
 /// The parts of signed data by an algorithm of the RPKI, and of nothing else, as they stand in the octets. None where
 /// the algorithm identifier is another one.
-fn read_signed<'a>(
+pub(crate) fn read_signed<'a>(
     alloc: Global,
     octets: &'a [u8],
 ) -> Result<Option<(&'a [u8], bool, &'a [u8])>, DecodeError>

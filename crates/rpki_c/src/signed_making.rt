@@ -1,36 +1,25 @@
 //! Signed data of a value and a signature, written.
 
-ghost use Rattle.std.specs.Prelude.{◌≡◌, true};
-ghost use Rattle.rpki_der.specs.Members.{IsValue, SpellsValue};
-ghost use Rattle.rpki.specs.SignedData.{parts_of};
+ghost use Rattle.rpki_der.specs.Members.{SpellsValue};
 ghost use Rattle.rpki_der.specs.Reading.{Decodes};
 ghost use Rattle.rpki_c.specs.MadeSigned.{IsWholeValueFault, IsSignedMade};
 
-use crate::status::OUT_OF_MEMORY;
+use crate::signed_value::signed_of;
 use crate::stored::store_if_short;
-use bytes::Bytes;
-use rpki::crypto::{RpkiSignatureAlgorithm, Signature};
-use rpki::repository::x509::SignedData;
-use rpki_der::{Captured, Constructed, DecodeError};
+use rpki_der::{Constructed, DecodeError, Steps, walk_octets};
 use std::alloc::Global;
 
-/// One value, and nothing else, which is kept.
-fn kept_value(alloc: Global, octets: &[u8]) -> Result<Captured, DecodeError>
-    ensures { Decodes (λ c. c) SpellsValue IsWholeValueFault octets.now result }
+/// Whether the octets are one value, with everything nested in it, and nothing else.
+///
+/// The errors are those of the value; then `Trailing`. Allocation can fail only if it is constructed.
+fn test_value(alloc: Global, octets: &[u8]) -> Result<(), DecodeError>
+    ensures { Decodes (λ _. octets.now) SpellsValue IsWholeValueFault octets.now result }
 {
-    let mut cons = Constructed::from_slice(octets);
-    let value = cons.capture_one(alloc)?;
-    cons.finish()?;
-    Ok(value)
-}
-
-/// Signed data of one value, with parameters in its algorithm.
-fn signed_of(value: Captured, signature: Bytes) -> SignedData<RpkiSignatureAlgorithm>
-    requires { IsValue value }
-    ensures { result ≡ parts_of value true signature }
-{
-    let algorithm = RpkiSignatureAlgorithm::default();
-    SignedData::new(value, Signature::new(algorithm, signature))
+    let size = walk_octets(alloc, octets, &mut Steps::new())?;
+    let (_, following) = octets.split_at(size);
+    let rest = Constructed::from_slice(following);
+    rest.finish()?;
+    Ok(())
 }
 
 /// Writes signed data of the RPKI (RFC 5280 4.1, RFC 7935 2) to the front of the buffer: exactly the octets of the
@@ -49,14 +38,8 @@ pub extern "C" fn rpki_signed_data_make(
 ) -> u8
     ensures { IsSignedMade value.now signature.now result out.old out.new written.old written.new }
 {
-    let kept = match kept_value(alloc, value) {
-        Ok(kept) => kept,
-        Err(e) => return e.number(),
-    };
-    let Ok(bits) = Bytes::copy_from_slice(alloc, signature) else {
-        return OUT_OF_MEMORY;
-    };
-    let made = signed_of(kept, bits);
-    let encoder = made.encode_ref();
-    store_if_short(alloc, &encoder, out, written)
+    match test_value(alloc, value) {
+        Ok(()) => store_if_short(alloc, &signed_of(value, signature), out, written),
+        Err(e) => e.number(),
+    }
 }

@@ -66,12 +66,14 @@ pub(crate) fn store(octets: &[u8], out: &mut [u8], written: &mut usize) -> u8
     0
 }
 
-/// The octets of the values; `None` where allocation fails.
+/// The octets of the values, for which room is taken at once; `None` where allocation fails.
 fn octets_of<V: Values>(alloc: Global, values: &V) -> Option<Vec<u8>>
     requires { V.is_short values.now × (length (V.encoded values.now) < 2 ^ 63) }
     ensures { IfSome result (λ v. v.items ≡ V.encoded values.now) }
 {
-    let mut octets = Vec::new(alloc);
+    let Ok(mut octets) = Vec::with_capacity(alloc, values.encoded_len() as usize) else {
+        return None;
+    };
     match values.write_encoded(&mut octets) {
         Ok(()) => Some(octets),
         Err(_) => None,

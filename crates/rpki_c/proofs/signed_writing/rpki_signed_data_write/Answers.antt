@@ -2,20 +2,35 @@ use Rattle.std.proofs.Common.{◌<◌, ◌^◌, List, ℕ, length, refl, inl, in
 use Rattle.rpki_c.proofs.MadeLaws.{made-if}
 use Rattle.rpki_c.proofs.signed_writing.rpki_signed_data_write.Goals as goal
 
-pub returns-in-Ok : goal.returns-in-Ok
-returns-in-Ok c =
-    let e = c.encode_ref.ensures.octets in
-    let s = c.encode_ref.ensures.short in
+pub signed_of-requires : goal.signed_of-requires
+signed_of-requires c =
+    let h = rw c.in-Some.is at c.in-Ok.ensures in
+    h.1.0.spelled.one
+
+pub returns-in-Some : goal.returns-in-Some
+returns-in-Some c =
+    let h = rw c.in-Some.is at c.in-Ok.ensures in
+    let e = c.signed_of.ensures.octets in
+    let s = c.signed_of.ensures.short in
     inl (
-      c.in-Ok.data,
-      c.in-Ok.ensures.0,
+      _,
+      h.1.0,
       made-if _ _ _ _ _ _ _ _ _ (λ p. (s.0 p.0, subst (λ (x : List ℕ). length x < 2 ^ 63) e p.1))
           (λ q. (s.1 q.0, subst (λ (x : List ℕ). length x < 2 ^ 63) (sym e) q.1)) e c.store_if_short.ensures,
     )
 
+pub returns-in-None : goal.returns-in-None
+returns-in-None c =
+    let h = rw c.in-None.is at c.in-Ok.ensures in
+    inr (inl (refl, h, record { buffer = refl; size = refl }))
+
 pub returns-in-Err : goal.returns-in-Err
 returns-in-Err c =
-    inr (
-      record { error = c.in-Err.e; number = c.number.ensures; nothing = c.in-Err.ensures.0; kind = c.in-Err.ensures.1 },
+    let h = c.in-Err.ensures in
+    inr (inr (
+      record {
+        refused = record { error = c.in-Err.e; number = c.number.ensures; nothing = h.1.0; kind = h.1.1 };
+        other = h.0;
+      },
       record { buffer = refl; size = refl },
-    )
+    ))
