@@ -13,6 +13,7 @@ pub mod Text
 pub mod Equal
 pub mod Encoded
 pub mod EncodedResources
+pub mod ListText
 pub mod Either
 -- Lemmas that an `impl` cites.
 pub mod EqualLaws

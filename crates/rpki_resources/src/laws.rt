@@ -2,6 +2,8 @@
 
 ghost use Rattle.std.specs.Prelude.{◌≡◌, ◌↔◌, ◌++◌, List, IsTrue};
 ghost use Rattle.rpki_resources.specs.Equal.{same_blocks};
+ghost use Rattle.rpki_resources.specs.Encoded.{AreBlocksOf};
+ghost use Rattle.rpki_resources.specs.InPlace.{Octets, Holds};
 ghost use Rattle.rpki_resources.specs.declared.choice.ResourcesChoice.{ResourcesChoice};
 ghost use Rattle.rpki_resources.specs.Settled.{SettlesDown, SettlesThrough};
 ghost use Rattle.rpki_resources.specs.declared.block.Block.{Block};
@@ -23,6 +25,11 @@ pub fn chains_settle_within()
 pub fn chains_join()
     ensures { (top bottom : List Block) (upper lower : List ResourcesChoice)
         → SettlesDown top (upper ++ lower) bottom ↔ SettlesThrough top upper lower bottom }
+{}
+
+/// Blocks that were read in place have numbers of their kind.
+pub fn held_blocks_are_of_their_kind()
+    ensures { (x : Octets) (bs : List Block) → Holds x bs → AreBlocksOf x.kind bs }
 {}
 
 /// What `==` says of two sets: they have the same numbers.

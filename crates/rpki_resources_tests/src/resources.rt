@@ -12,6 +12,7 @@ mod hostile_numbers;
 mod pairs;
 mod sets;
 mod sizes;
+mod texts;
 mod written;
 
 ghost use Rattle.std.specs.Prelude.{◌<◌};
