@@ -42,3 +42,4 @@ pub mod WritableLaws
 pub mod BlocksOnlyLaws
 pub mod ResourcesOnlyLaws
 pub mod ListTextLaws
+pub mod AsReadLaws

@@ -14,6 +14,7 @@ pub mod Equal
 pub mod Encoded
 pub mod EncodedResources
 pub mod ListText
+pub mod AsRead
 pub mod Either
 -- Lemmas that an `impl` cites.
 pub mod EqualLaws

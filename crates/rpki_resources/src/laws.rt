@@ -2,7 +2,10 @@
 
 ghost use Rattle.std.specs.Prelude.{◌≡◌, ◌↔◌, ◌++◌, List, IsTrue};
 ghost use Rattle.rpki_resources.specs.Equal.{same_blocks};
+ghost use Rattle.rpki_resources.specs.AsRead.{IsAsBlockText};
 ghost use Rattle.rpki_resources.specs.Encoded.{AreBlocksOf};
+ghost use Rattle.rpki_resources.specs.Text.{as_block_text, IsAsBlockOf};
+ghost use Rattle.rpki_resources.specs.declared.as_text.AsBlock.{AsBlock};
 ghost use Rattle.rpki_resources.specs.InPlace.{Octets, Holds};
 ghost use Rattle.rpki_resources.specs.declared.choice.ResourcesChoice.{ResourcesChoice};
 ghost use Rattle.rpki_resources.specs.Settled.{SettlesDown, SettlesThrough};
@@ -25,6 +28,11 @@ pub fn chains_settle_within()
 pub fn chains_join()
     ensures { (top bottom : List Block) (upper lower : List ResourcesChoice)
         → SettlesDown top (upper ++ lower) bottom ↔ SettlesThrough top upper lower bottom }
+{}
+
+/// The text that is written of a block of AS numbers is read back, as that block.
+pub fn as_blocks_are_read_back()
+    ensures { (a : AsBlock) (b : Block) → IsAsBlockOf a b → IsAsBlockText (as_block_text a) a }
 {}
 
 /// Blocks that were read in place have numbers of their kind.

@@ -6,6 +6,7 @@
 
 mod address;
 mod as_number;
+mod as_read;
 mod as_text;
 mod block;
 mod blocks;
@@ -33,6 +34,7 @@ mod view;
 
 pub use address::Address;
 pub use as_number::take_as_number;
+pub use as_read::{ParseAsBlockError, ParseAsnError};
 pub use as_text::{AsBlock, AsRange, Asn};
 pub use block::Block;
 pub use blocks::Blocks;
