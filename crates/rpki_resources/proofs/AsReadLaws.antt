@@ -126,9 +126,9 @@ pub no-block : (min max : Asn) (low high : ℕ) → low ≡ min.0 → high ≡ m
 no-block min max low high e g below none = elim (split min.0 max.0) [
   | inl h ↦ absurd (none (Range (record { min = min; max = max })) (e, g, omega (arith, h, e, g), omega (arith, g, below)))
   | inr h ↦ (elim (split max.0 min.0) [
-      | inl k ↦ k
-      | inr k ↦ absurd (none (Id min) (e, omega (arith, h, k, g), omega (arith, g, below)))
-    ])
+    | inl k ↦ k
+    | inr k ↦ absurd (none (Id min) (e, omega (arith, h, k, g), omega (arith, g, below)))
+  ])
 ]
 
 -- ---- what is written is read back

@@ -43,3 +43,4 @@ pub mod BlocksOnlyLaws
 pub mod ResourcesOnlyLaws
 pub mod ListTextLaws
 pub mod AsReadLaws
+pub mod IpReadLaws

@@ -15,6 +15,7 @@ pub mod Encoded
 pub mod EncodedResources
 pub mod ListText
 pub mod AsRead
+pub mod IpRead
 pub mod Either
 -- Lemmas that an `impl` cites.
 pub mod EqualLaws
