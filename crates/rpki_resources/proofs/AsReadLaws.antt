@@ -133,7 +133,7 @@ no-block min max low high e g below none = elim (split min.0 max.0) [
 
 -- ---- what is written is read back
 
-number-first : (n : ℕ) → n < 2 ^ 64 → get_or (decimal n) 0 0 ≢ 43
+pub number-first : (n : ℕ) → n < 2 ^ 64 → get_or (decimal n) 0 0 ≢ 43
 number-first n small e =
     let d = decimal_is_IsNumeral n small in
     let within = digit_at (decimal n) 0 d.0.1 d.0.0 in

@@ -1,17 +1,24 @@
 -- Texts of prefixes, as they are read.
 use Rattle.std.proofs.Common.{◌≡◌, ◌≢◌, ◌≤◌, ◌<◌, ◌-◌, ◌%◌, ◌^◌, ℕ, zero, suc, List, [], ◌∷◌, ◌++◌, length, get_or, take, drop, refl, sym, ap, ◌∙◌, subst, inl, inr, arith}
-use Rattle.std.specs.Prelude.{Option, MatchOption, Some, None}
+use Rattle.std.specs.Prelude.{Option, MatchOption, Some, None, decimal}
 use Rattle.std.specs.Str.Parse.{AllDigits, without_leading_plus, digits_value}
 use Rattle.std.specs.Str.Pattern.{RFindsChar, SplitsAroundMatch}
 use Rattle.std.proofs.lemmas.Str.Pattern.{NoCharPasses-char, drop_at_char}
-use Rattle.std.proofs.lemmas.Str.Parse.{digit_at}
+use Rattle.std.proofs.lemmas.Str.Parse.{digit_at, without_leading_plus_none}
 use Rattle.std.proofs.lemmas.List.{take-append-drop}
 use Rattle.std.proofs.lemmas.Bool.Decides.{eqb_tells}
 use Rattle.std.proofs.NetLemmas.Theorems.{IsIpText_unique}
 use Rattle.std.specs.Net.Grammar.{IsIpText}
 use Rattle.std.specs.declared.net.ip_addr.IpAddr.{IpAddr}
+use Rattle.std.specs.declared.net.ip_addr.IpAddr.TheVariants.{V4, V6}
+use Rattle.std.specs.Net.Addr.{MatchIp, IsIpv4Addr, IsIpv6Addr, ipv4_octets, ipv6_segments}
+use Rattle.std.specs.Net.Text.{ip_text}
+use Rattle.std.proofs.NetLemmas.Texts.{IsDotted-ipv4_text, IsColonHex-ipv6_text}
+use Rattle.std.proofs.lemmas.Fmt.{decimal_is_IsNumeral}
 use denote.Ref.{Bor}
 use Rattle.rpki_resources.specs.declared.ip_text.Prefix.{Prefix}
+use Rattle.rpki_resources.specs.Text.{prefix_text}
+use Rattle.rpki_resources.proofs.AsReadLaws.{number-first}
 use Rattle.rpki_resources.specs.IpRead.{address_width, address_number, IsPrefixOfTexts, IsPrefixText}
 
 -- the text has no such octet
@@ -80,3 +87,22 @@ module _ (address size : List ℕ) (addr : IpAddr) (len : ℕ) (is_address : IsI
   not-zeros some p h =
       let zeros : address_number addr % 2 ^ (address_width addr - p.len) ≡ 0 = subst (λ (a : IpAddr). address_number a % 2 ^ (address_width a - p.len) ≡ 0) (same-address p h) h.zeros in
       some (subst (λ (n : ℕ). address_number addr % 2 ^ (address_width addr - n) ≡ 0) (sym h.value ∙ sym is_len) zeros)
+
+-- ---- what is written is read back
+
+address-read-back : (a : IpAddr) → MatchIp a IsIpv4Addr IsIpv6Addr → IsIpText (ip_text a) a
+address-read-back (V4 a) h = IsDotted-ipv4_text (ipv4_octets a) h.0 h.1
+address-read-back (V6 a) h = IsColonHex-ipv6_text (ipv6_segments a) h.0 h.1
+
+narrow : (a : IpAddr) → address_width a ≤ 128
+narrow (V4 a) = omega arith
+narrow (V6 a) = omega arith
+
+pub prefix-read-back : (p : Prefix) → MatchIp p.addr IsIpv4Addr IsIpv6Addr → p.len ≤ address_width p.addr
+    → address_number p.addr % 2 ^ (address_width p.addr - p.len) ≡ 0 → IsPrefixText (prefix_text (ip_text p.addr) p.len) p
+prefix-read-back p is few zeros =
+    let most = narrow p.addr in
+    let small : p.len < 2 ^ 64 = omega (arith, few, most) in
+    let d = decimal_is_IsNumeral p.len small in
+    let e : without_leading_plus (decimal p.len) ≡ decimal p.len = without_leading_plus_none (decimal p.len) (number-first p.len small) in
+    (ip_text p.addr, decimal p.len, refl, record { is_address = address-read-back p.addr is; digits = rw e d.0; value = rw e d.1; few = few; zeros = zeros })

@@ -1,10 +1,14 @@
 //! Laws of the definitions.
 
-ghost use Rattle.std.specs.Prelude.{◌≡◌, ◌↔◌, ◌++◌, List, IsTrue};
+ghost use Rattle.std.specs.Prelude.{◌≡◌, ◌≤◌, ◌-◌, ◌%◌, ◌^◌, ◌↔◌, ◌++◌, List, IsTrue};
+ghost use Rattle.std.specs.Net.Addr.{MatchIp, IsIpv4Addr, IsIpv6Addr};
+ghost use Rattle.std.specs.Net.Text.{ip_text};
 ghost use Rattle.rpki_resources.specs.Equal.{same_blocks};
 ghost use Rattle.rpki_resources.specs.AsRead.{IsAsBlockText};
 ghost use Rattle.rpki_resources.specs.Encoded.{AreBlocksOf};
-ghost use Rattle.rpki_resources.specs.Text.{as_block_text, IsAsBlockOf};
+ghost use Rattle.rpki_resources.specs.Text.{as_block_text, prefix_text, IsAsBlockOf};
+ghost use Rattle.rpki_resources.specs.IpRead.{address_width, address_number, IsPrefixText};
+ghost use Rattle.rpki_resources.specs.declared.ip_text.Prefix.{Prefix};
 ghost use Rattle.rpki_resources.specs.declared.as_text.AsBlock.{AsBlock};
 ghost use Rattle.rpki_resources.specs.InPlace.{Octets, Holds};
 ghost use Rattle.rpki_resources.specs.declared.choice.ResourcesChoice.{ResourcesChoice};
@@ -33,6 +37,14 @@ pub fn chains_join()
 /// The text that is written of a block of AS numbers is read back, as that block.
 pub fn as_blocks_are_read_back()
     ensures { (a : AsBlock) (b : Block) → IsAsBlockOf a b → IsAsBlockText (as_block_text a) a }
+{}
+
+/// The text that is written of a prefix is read back, as that prefix, where its address has as many bits at least as it
+/// says to be shared, and the others are 0.
+pub fn prefixes_are_read_back()
+    ensures { (p : Prefix) → MatchIp p.addr IsIpv4Addr IsIpv6Addr → p.len ≤ address_width p.addr
+        → address_number p.addr % 2 ^ (address_width p.addr - p.len) ≡ 0
+        → IsPrefixText (prefix_text (ip_text p.addr) p.len) p }
 {}
 
 /// Blocks that were read in place have numbers of their kind.

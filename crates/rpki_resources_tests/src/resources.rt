@@ -13,6 +13,7 @@ mod pairs;
 mod sets;
 mod sizes;
 mod texts;
+mod texts_read;
 mod written;
 
 ghost use Rattle.std.specs.Prelude.{◌<◌};
