@@ -63,7 +63,7 @@ cons-plain : (c : ℕ) (rest : List ℕ) → c ≢ 45 → IsPlain rest → IsPla
 cons-plain c rest other h zero lt e = other e
 cons-plain c rest other h (suc i) lt e = h i (omega arith) e
 
-plus-plain : (text : List ℕ) → AllDigits 10 (without_leading_plus text) → IsPlain text
+pub plus-plain : (text : List ℕ) → AllDigits 10 (without_leading_plus text) → IsPlain text
 plus-plain [] h = λ i lt e. absurd (omega arith)
 plus-plain (c ∷ rest) h = elim (eqb_tells c 43) [
   | inl k ↦ cons-plain c rest (λ e. absurd (omega (arith, k.1, e))) (digits-plain rest (rw k.0 at h))
@@ -100,7 +100,7 @@ not-plain (c ∷ low) high h = not-plain low high (λ i lt e. h (suc i) (omega (
 rest-plain : (c : ℕ) (rest : List ℕ) → IsPlain (c ∷ rest) → IsPlain rest
 rest-plain c rest h i lt e = h (suc i) (omega (arith, lt)) e
 
-one-split : (xs ys us vs : List ℕ) → xs ++ 45 ∷ ys ≡ us ++ 45 ∷ vs → IsPlain xs → IsPlain us → (xs ≡ us) × (ys ≡ vs)
+pub one-split : (xs ys us vs : List ℕ) → xs ++ 45 ∷ ys ≡ us ++ 45 ∷ vs → IsPlain xs → IsPlain us → (xs ≡ us) × (ys ≡ vs)
 one-split [] ys [] vs e p q = (refl, cc)
 one-split [] ys (u ∷ us) vs e p q = let same : u ≡ 45 = cc in absurd (q 0 (omega arith) same)
 one-split (x ∷ xs) ys [] vs e p q = let same : x ≡ 45 = cc in absurd (p 0 (omega arith) same)

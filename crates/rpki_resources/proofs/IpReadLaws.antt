@@ -55,7 +55,7 @@ one-cut c (x ∷ xs) ys (u ∷ us) vs e p q =
 digits-none : (ds : List ℕ) → AllDigits 10 ds → HasNo 47 ds
 digits-none ds h i lt e = let within = digit_at ds i h lt in absurd (omega (arith, within, e))
 
-cons-none : (c d : ℕ) (rest : List ℕ) → d ≢ c → HasNo c rest → HasNo c (d ∷ rest)
+pub cons-none : (c d : ℕ) (rest : List ℕ) → d ≢ c → HasNo c rest → HasNo c (d ∷ rest)
 cons-none c d rest other h zero lt e = other e
 cons-none c d rest other h (suc i) lt e = h i (omega arith) e
 
@@ -90,7 +90,7 @@ module _ (address size : List ℕ) (addr : IpAddr) (len : ℕ) (is_address : IsI
 
 -- ---- what is written is read back
 
-address-read-back : (a : IpAddr) → MatchIp a IsIpv4Addr IsIpv6Addr → IsIpText (ip_text a) a
+pub address-read-back : (a : IpAddr) → MatchIp a IsIpv4Addr IsIpv6Addr → IsIpText (ip_text a) a
 address-read-back (V4 a) h = IsDotted-ipv4_text (ipv4_octets a) h.0 h.1
 address-read-back (V6 a) h = IsColonHex-ipv6_text (ipv6_segments a) h.0 h.1
 

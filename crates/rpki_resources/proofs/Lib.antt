@@ -44,3 +44,4 @@ pub mod ResourcesOnlyLaws
 pub mod ListTextLaws
 pub mod AsReadLaws
 pub mod IpReadLaws
+pub mod AddressTextLaws

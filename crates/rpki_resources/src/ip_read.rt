@@ -1,10 +1,15 @@
-//! Texts of prefixes, as they are read: `10.0.0.0/8`.
+//! Texts of prefixes and blocks of addresses, as they are read: `10.0.0.0/8`, `10.0.0.0-10.0.0.5`.
 
-ghost use Rattle.std.specs.Prelude.{◌≡◌, ◌≤◌, ◌-◌, ◌^◌, ◌%◌, ◌↔◌, IsTrue, IfSome, IfNone};
+ghost use Rattle.std.specs.Prelude.{◌≡◌, ◌≤◌, ◌<◌, ◌⊎◌, ◌-◌, ◌^◌, ◌%◌, ◌↔◌, IsTrue, IfSome, IfNone};
+ghost use Rattle.std.specs.Net.Grammar.{IsIpText};
+ghost use Rattle.std.specs.declared.net.ip_addr.IpAddr.{IpAddr};
 ghost use Rattle.rpki_resources.specs.declared.ip_text.Prefix.{Prefix};
-ghost use Rattle.rpki_resources.specs.IpRead.{address_width, address_number, IsPrefixOfTexts};
+ghost use Rattle.rpki_resources.specs.declared.ip_text.IpBlock.{IpBlock};
+ghost use Rattle.rpki_resources.specs.IpRead.{address_width, address_number, IsPrefixOfTexts, IsPrefixText, family_of, IsIpRangeOfTexts, whole_prefix};
 
-use crate::ip_text::Prefix;
+use crate::block::Block;
+use crate::family::AddressFamily;
+use crate::ip_text::{IpBlock, Prefix};
 use std::error::Error;
 use std::fmt;
 use std::fmt::Display;
@@ -23,7 +28,8 @@ fn width_of(addr: IpAddr) -> u8
 
 /// The number that the bits of the address make.
 fn number_of(addr: IpAddr) -> u128
-    ensures { result ≡ address_number addr }
+    ensures number { result ≡ address_number addr }
+    ensures below { result < 2 ^ address_width addr }
 {
     match addr {
         IpAddr::V4(addr) => u128::from(addr.to_bits()),
@@ -99,3 +105,95 @@ impl Display for ParsePrefixError {
 }
 
 impl Error for ParsePrefixError {}
+
+/// The family of the address.
+fn family_of(addr: IpAddr) -> AddressFamily
+    ensures { result ≡ family_of addr }
+{
+    match addr {
+        IpAddr::V4(_) => AddressFamily::Ipv4,
+        IpAddr::V6(_) => AddressFamily::Ipv6,
+    }
+}
+
+/// The block of the addresses from the one that the first text writes to the one that the second does.
+fn range_of(low: &str, high: &str) -> Option<IpBlock>
+    ensures some { IfSome result (λ b. IsIpRangeOfTexts low.now high.now b) }
+    ensures none { IfNone result ((b : IpBlock) → IsIpRangeOfTexts low.now high.now b → ⊥) }
+{
+    let Ok(min) = low.parse::<IpAddr>() else {
+        return None;
+    };
+    let Ok(max) = high.parse::<IpAddr>() else {
+        return None;
+    };
+    let width = width_of(min);
+    if width_of(max) != width {
+        return None;
+    }
+    let block = Block {
+        low: number_of(min),
+        high: number_of(max),
+    };
+    IpBlock::of(family_of(min), block)
+}
+
+/// The prefix that the text writes, or the address, as the prefix of all of its bits.
+fn prefix_or_address(text: &str) -> Option<Prefix>
+    ensures some { IfSome result (λ p. IsPrefixText text.now p ⊎ ((a : IpAddr) × IsIpText text.now a
+        × (p ≡ whole_prefix a))) }
+    ensures no_prefix { IfNone result ((p : Prefix) → IsPrefixText text.now p → ⊥) }
+    ensures no_address { IfNone result ((a : IpAddr) → IsIpText text.now a → ⊥) }
+{
+    match text.parse::<Prefix>() {
+        Ok(prefix) => Some(prefix),
+        Err(_) => match text.parse::<IpAddr>() {
+            Ok(addr) => Some(Prefix {
+                addr,
+                len: width_of(addr),
+            }),
+            Err(_) => None,
+        },
+    }
+}
+
+/// Reads a prefix, as `10.0.0.0/8`; an address, as the prefix of all of its bits; or two addresses of one family with a
+/// hyphen between them, as `10.0.0.0-10.0.0.5`, of which the first is not above the second. Two that make a prefix are
+/// read as it.
+impl FromStr for IpBlock {
+    type Err = ParseIpBlockError;
+
+    ghost use Rattle.std.specs.Net.Grammar.{Parses};
+    ghost use Rattle.rpki_resources.specs.IpRead.{IsIpBlockText};
+
+    ghost from_str_gives = { λ s r. Parses IsIpBlockText s r };
+
+    fn from_str(s: &str) -> Result<IpBlock, ParseIpBlockError> {
+        match s.split_once('-') {
+            Some((low, high)) => match range_of(low, high) {
+                Some(block) => Ok(block),
+                None => Err(ParseIpBlockError),
+            },
+            None => match prefix_or_address(s) {
+                Some(prefix) => Ok(IpBlock::Prefix(prefix)),
+                None => Err(ParseIpBlockError),
+            },
+        }
+    }
+}
+
+/// Error returned when a text is not a block of addresses.
+#[derive(Clone, Copy, Debug, PartialEq, Eq)]
+pub struct ParseIpBlockError;
+
+impl Display for ParseIpBlockError {
+    ghost use Rattle.std.specs.Prelude.{Some, codes};
+
+    ghost output = { λ _. Some (codes "invalid block of addresses") };
+
+    fn fmt<W: fmt::Write>(&self, f: &mut fmt::Formatter<W>) -> fmt::Result {
+        f.write_str("invalid block of addresses")
+    }
+}
+
+impl Error for ParseIpBlockError {}

@@ -47,7 +47,7 @@ pub use encode::{
     ChoiceEncoder, Either, FamilyEncoder, IpResourcesEncoder, OneOrTwo, encode_block,
 };
 pub use family::AddressFamily;
-pub use ip_read::ParsePrefixError;
+pub use ip_read::{ParseIpBlockError, ParsePrefixError};
 pub use ip_reading::{take_family, take_ip_resources};
 pub use ip_text::{AddressRange, IpBlock, Prefix};
 pub use ip_view::IpResourcesView;

@@ -103,6 +103,44 @@ const PREFIXES: &[(&str, Option<&str>)] = &[
     ("", None),
 ];
 
+/// A text, and the text of the block of addresses that it is.
+const ADDRESSES: &[(&str, Option<&str>)] = &[
+    ("10.0.0.0/8", Some("10.0.0.0/8")),
+    ("192.0.2.1", Some("192.0.2.1/32")),
+    ("::", Some("::/128")),
+    ("2001:db8::1", Some("2001:db8::1/128")),
+    ("2001:DB8:0:0:0:0:0:1", Some("2001:db8::1/128")),
+    ("10.0.0.0-10.0.0.5", Some("10.0.0.0-10.0.0.5")),
+    ("10.0.0.0-10.255.255.255", Some("10.0.0.0/8")),
+    ("0.0.0.0-255.255.255.255", Some("0.0.0.0/0")),
+    ("192.0.2.1-192.0.2.1", Some("192.0.2.1/32")),
+    ("10.0.0.1-10.0.0.2", Some("10.0.0.1-10.0.0.2")),
+    ("2001:db8::-2001:db8::ffff", Some("2001:db8::/112")),
+    ("2001:db8::1-2001:db8:1::", Some("2001:db8::1-2001:db8:1::")),
+    ("::-ffff:ffff:ffff:ffff:ffff:ffff:ffff:ffff", Some("::/0")),
+    ("2001:db8::/32", Some("2001:db8::/32")),
+    ("", None),
+    ("-", None),
+    ("10.0.0.1/8", None),
+    ("10.0.0.5-10.0.0.0", None),
+    ("10.0.0.0-2001:db8::1", None),
+    ("::1-10.0.0.1", None),
+    ("10.0.0.0-", None),
+    ("-10.0.0.0", None),
+    ("10.0.0.0-10.0.0.1-10.0.0.2", None),
+    ("10.0.0.0/8-11.0.0.0/8", None),
+    ("10.0.0.0 - 10.0.0.5", None),
+    ("10.0.0.0/8,11.0.0.0/8", None),
+    ("AS1", None),
+    ("2001:db8::1::", None),
+    ("::2-::1", None),
+    ("256.0.0.0", None),
+];
+
+fn address_rows() -> &'static [(&'static str, Option<&'static str>)] {
+    ADDRESSES
+}
+
 fn number_rows() -> &'static [(&'static str, Option<u32>)] {
     NUMBERS
 }
@@ -168,6 +206,26 @@ fn is_prefix(alloc: Global, text: &str, expected: Option<&str>) -> Result<bool, 
 fn prefixes_that_are_read(rt: HostRuntime) -> Result<(), Fail> {
     for (text, expected) in prefix_rows() {
         assert!(rt; is_prefix(rt.alloc(), text, *expected)?, "{text}");
+    }
+    Ok(())
+}
+
+/// Whether the text is the block of addresses of this text.
+fn is_address_block(alloc: Global, text: &str, expected: Option<&str>) -> Result<bool, AllocError> {
+    match (IpBlock::from_str(text), expected) {
+        (Ok(block), Some(expected)) => {
+            let written = format!(in alloc; "{block}")?;
+            Ok(written.as_str() == expected)
+        }
+        (Err(_), None) => Ok(true),
+        _ => Ok(false),
+    }
+}
+
+#[test]
+fn blocks_of_addresses_that_are_read(rt: HostRuntime) -> Result<(), Fail> {
+    for (text, expected) in address_rows() {
+        assert!(rt; is_address_block(rt.alloc(), text, *expected)?, "{text}");
     }
     Ok(())
 }
