@@ -29,9 +29,6 @@ letter-tells u l c rest = elim (eqb_tells c u) [
   ])
 ]
 
-pub after-upper : (u l : ℕ) (text rest : List ℕ) → text ≡ u ∷ rest → after_letter u l text ≡ Some rest
-after-upper u l text rest e = rw e (elim (letter-tells u l u rest) [ inl h ↦ h.0 | inr h ↦ absurd (h.1 refl) ])
-
 pub after-lower : (u l : ℕ) (text rest : List ℕ) → text ≡ l ∷ rest → after_letter u l text ≡ Some rest
 after-lower u l text rest e = rw e (elim (letter-tells u l l rest) [ inl h ↦ h.0 | inr h ↦ absurd (h.2 refl) ])
 
