@@ -61,3 +61,17 @@ def make(folder):
                 "-extfile", path(".cnf"), "-extensions", "extensions", "-out", path(".pem"))
         openssl("x509", "-in", path(".pem"), "-outform", "DER", "-out", path(".der"))
     return {name: os.path.join(folder, name) for name, *_ in CERTIFICATES}
+
+
+def with_extensions(folder, lines):
+    """A certificate of an authority, by the anchor that [make] made, with these lines for its resources."""
+    config, path = os.path.join(folder, "resources.cnf"), os.path.join(folder, "resources.der")
+    with open(config, "w") as file:
+        others = [line for line in (COMMON + AUTHORITY + ISSUED).splitlines() if not line.startswith("sbgp-")]
+        text = "\n".join(others).format(name="ca", issuer="ta")
+        file.write("[extensions]\n" + "\n".join([text, *lines]) + "\n")
+    anchor = os.path.join(folder, "ta")
+    openssl("x509", "-req", "-in", os.path.join(folder, "ca.csr"), "-CA", anchor + ".pem", "-CAkey", anchor + ".key",
+            "-set_serial", "2", "-days", "365", "-sha256", "-extfile", config, "-extensions", "extensions",
+            "-outform", "DER", "-out", path)
+    return path

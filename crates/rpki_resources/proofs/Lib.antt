@@ -6,6 +6,7 @@
 -- How readings are put together; a choice by its tag, two ends: ComposingLaws.
 -- Blocks one behind another, counted, given by a cursor and kept: FollowLaws, ViewLaws, KeptLaws.
 -- Choices and families; that reading them takes no memory: ExtensionLaws, FamilyLaws, NoMemoryLaws.
+-- What a list is written as, by its prefixes and ranges: ListTextLaws.
 -- Down a chain: SettledLaws.
 -- What is written: octets of numbers, addresses, ends of ranges, blocks: NumberOctetsLaws, AddressWritingLaws,
 -- StrippedLaws, BlockWritingLaws. That it is read back: BlockReadBackLaws, ResourcesWritingLaws. That equal octets are
@@ -40,3 +41,7 @@ pub mod ResourcesApartLaws
 pub mod WritableLaws
 pub mod BlocksOnlyLaws
 pub mod ResourcesOnlyLaws
+pub mod ListTextLaws
+pub mod AsReadLaws
+pub mod IpReadLaws
+pub mod AddressTextLaws

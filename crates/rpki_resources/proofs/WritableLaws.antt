@@ -57,7 +57,8 @@ fits : (kind : ResourceKind) (b : Block) (p : List ℕ) → SpellsBlockOf kind b
 fits (Addresses family) b p h = (block-ascends (Addresses family) b p h, below-width (width family) b p h)
 fits AsNumbers b p h = (block-ascends AsNumbers b p h, below-32 b p h)
 
-all-fit : (kind : ResourceKind) (bs : List Block) (c : List ℕ) → SpellsEach (SpellsBlockOf kind) bs c
+-- blocks that contents spell have numbers of their kind
+pub all-fit : (kind : ResourceKind) (bs : List Block) (c : List ℕ) → SpellsEach (SpellsBlockOf kind) bs c
     → AreBlocksOf kind bs
 all-fit kind [] c h = tt
 all-fit kind (b ∷ bs) c h = (fits kind b h.1.front h.1.spelled, all-fit kind bs h.0 h.2)

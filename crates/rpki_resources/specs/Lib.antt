@@ -13,6 +13,9 @@ pub mod Text
 pub mod Equal
 pub mod Encoded
 pub mod EncodedResources
+pub mod ListText
+pub mod AsRead
+pub mod IpRead
 pub mod Either
 -- Lemmas that an `impl` cites.
 pub mod EqualLaws

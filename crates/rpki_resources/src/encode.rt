@@ -13,6 +13,7 @@ pub use address::{AddressBits, AddressEncoder};
 pub use block::{BlockEncoder, OneOrTwo, encode_block};
 pub use blocks::BlocksEncoder;
 pub use either::Either;
+pub(crate) use resources::are_blocks_of;
 pub use resources::{
     AsNumbersFrame, AsResourcesEncoder, ChoiceEncoder, FamilyEncoder, IpResourcesEncoder,
 };

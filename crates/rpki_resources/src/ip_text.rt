@@ -117,6 +117,7 @@ impl IpBlock {
     /// Returns None where the block is empty, or has a number that is no address of the family.
     pub fn of(family: AddressFamily, block: Block) -> Option<IpBlock>
         ensures some { IfSome result (λ b. IsIpBlockOf family b block) }
+        ensures within { IfSome result (λ _. IsBlockOfFamily family block) }
         ensures none { IfNone result (IsBlockOfFamily family block → ⊥) }
     {
         if block.low > block.high {

@@ -6,6 +6,7 @@
 
 mod address;
 mod as_number;
+mod as_read;
 mod as_text;
 mod block;
 mod blocks;
@@ -16,12 +17,14 @@ mod choice_view;
 mod difference;
 mod encode;
 mod family;
+mod ip_read;
 mod ip_reading;
 mod ip_text;
 mod ip_view;
 mod kept;
 mod kind;
 pub mod laws;
+mod list_text;
 mod listed;
 mod merge;
 mod prefix;
@@ -32,6 +35,7 @@ mod view;
 
 pub use address::Address;
 pub use as_number::take_as_number;
+pub use as_read::{ParseAsBlockError, ParseAsnError};
 pub use as_text::{AsBlock, AsRange, Asn};
 pub use block::Block;
 pub use blocks::Blocks;
@@ -43,10 +47,12 @@ pub use encode::{
     ChoiceEncoder, Either, FamilyEncoder, IpResourcesEncoder, OneOrTwo, encode_block,
 };
 pub use family::AddressFamily;
+pub use ip_read::{ParseIpBlockError, ParsePrefixError};
 pub use ip_reading::{take_family, take_ip_resources};
 pub use ip_text::{AddressRange, IpBlock, Prefix};
 pub use ip_view::IpResourcesView;
 pub use kind::ResourceKind;
+pub use list_text::{BlocksText, ChoiceText};
 pub use resources::{AsResources, IpResources};
 pub use settled::SettleError;
 pub use view::{BlockCursor, BlocksView};

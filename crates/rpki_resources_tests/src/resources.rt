@@ -12,6 +12,8 @@ mod hostile_numbers;
 mod pairs;
 mod sets;
 mod sizes;
+mod texts;
+mod texts_read;
 mod written;
 
 ghost use Rattle.std.specs.Prelude.{◌<◌};

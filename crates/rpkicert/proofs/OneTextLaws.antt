@@ -1,6 +1,6 @@
 -- A certificate has one text, and an input one answer.
-use Rattle.std.proofs.Common.{◌≡◌, ℕ, Bool, true, false, List, ◌∷◌, length, refl, sym, ap, ◌∙◌, inl, inr, arith}
-use Rattle.std.specs.Prelude.{Option, codes, decimal}
+use Rattle.std.proofs.Common.{◌≡◌, ℕ, Bool, true, false, List, ◌∷◌, length, refl, sym, ap, ◌∙◌, subst, inl, inr, arith}
+use Rattle.std.specs.Prelude.{Option, Some, None, codes, decimal}
 use Rattle.std.specs.Option.{option_map}
 use Rattle.rpki_der.specs.Number.{number_of, low_octets}
 use Rattle.rpki_der.specs.NumberLaws.{low_octets-full}
@@ -16,11 +16,17 @@ use Rattle.rpki_cert.specs.Cert.{TbsParts, CertParts}
 use Rattle.rpki_cert.specs.Known.{subject_key_identifier, key_usage, basic_constraints, crl_distribution_points, certificate_policies, authority_key_identifier, extended_key_usage, authority_info_access, subject_info_access, HasOnly, HasNone}
 use Rattle.rpki_cert.specs.ExtensionContent.{SpellsConstraints, SpellsAuthority, SpellsUsage, SpellsPurposes, SpellsPolicies}
 use Rattle.rpki_cert.specs.Access.{SpellsRsyncAccess, SpellsHttpsAccess, SpellsPoints, flat, HasUri, ca_issuers, ca_repository, rpki_manifest, signed_object, rpki_notify}
+use Rattle.rpki_resources.specs.declared.choice_view.ChoiceView.{ChoiceView}
+use Rattle.rpki_resources.specs.declared.choice_view.ChoiceView.TheVariants.{Missing, Inherit, Blocks}
+use Rattle.rpki_resources.specs.declared.ip_view.IpResourcesView.{IpResourcesView}
+use Rattle.rpki_resources.specs.InPlace.{Octets}
+use Rattle.rpki_resources.specs.ListText.{blocks_text}
 use Rattle.rpkicert.specs.declared.rendering.Form.{Form}
 use Rattle.rpkicert.specs.Field.{FieldParts, field_parts}
 use Rattle.rpkicert.specs.ValueText.{hex_digits, colon_digits, IsNumberText}
 use Rattle.rpkicert.specs.NameText.{parts_text, IsNameText}
 use Rattle.rpkicert.specs.KeySize.{number_bits, IsRsaSize, IsSizeOf}
+use Rattle.rpkicert.specs.ResourceText.{IsListText, IsChoiceText, AreKind, AreFamilies, AreAsNumbers, AreAddresses, AreNumbers, AreResources}
 use Rattle.rpkicert.specs.CertText.{authority_text, usage_text, purposes_text, policy_text, AreHead, AreMiddle, AreKey, Says, SaysOnly, SaysUri, AreIdentifiers, AreUses, AreIssuerPlaces, AreSubjectPlaces, AreFields}
 use Rattle.rpkicert.specs.Rendering.{rendering}
 use Rattle.rpkicert.specs.Finding.{IsCertificate}
@@ -116,6 +122,46 @@ one-subject es xs ys g h =
     let notify = one-uri subject_info_access (SpellsHttpsAccess rpki_notify) es g.3 h.3 g.7 h.7 in
     (rw (repository, manifest, object, notify) at g.8) ∙ sym h.8
 
+one-list-text : (x : Octets) (text other : List ℕ) → IsListText x text → IsListText x other → text ≡ other
+one-list-text x text other g h = g.2 ∙ ap (blocks_text x.kind) (h.1.1 g.0 g.1.0) ∙ sym h.2
+
+one-choice-text : (v : ChoiceView) (o p : Option (List ℕ)) → IsChoiceText v o → IsChoiceText v p → o ≡ p
+one-choice-text Missing o p g h = g ∙ sym h
+one-choice-text Inherit o p g h = g ∙ sym h
+one-choice-text (Blocks x) o p g h = let text = one-list-text x g.0 h.0 g.1 h.1 in (rw text at g.2) ∙ sym h.2
+
+one-kind : (label : List ℕ) (v : ChoiceView) (xs ys : List FieldParts) → AreKind label v xs → AreKind label v ys → xs ≡ ys
+one-kind label v xs ys g h = let text = one-choice-text v g.0 h.0 g.1 h.1 in (rw text at g.2) ∙ sym h.2
+
+one-families : (v : Option IpResourcesView) (xs ys : List FieldParts) → AreFamilies v xs → AreFamilies v ys → xs ≡ ys
+one-families None xs ys g h = g ∙ sym h
+one-families (Some x) xs ys g h =
+    let v4 = one-kind (codes "IPv4") x.v4 g.0 h.0 g.2 h.2 in
+    let v6 = one-kind (codes "IPv6") x.v6 g.1 h.1 g.3 h.3 in
+    (rw (v4, v6) at g.4) ∙ sym h.4
+
+one-as-numbers : (v : Option ChoiceView) (xs ys : List FieldParts) → AreAsNumbers v xs → AreAsNumbers v ys → xs ≡ ys
+one-as-numbers None xs ys g h = g ∙ sym h
+one-as-numbers (Some v) xs ys g h = one-kind (codes "AS") v xs ys g h
+
+one-addresses : (es : List ExtensionParts) (xs ys : List FieldParts) → AreAddresses es xs → AreAddresses es ys → xs ≡ ys
+one-addresses es xs ys (inl g) (inl h) = let same = h.1.1 g.0 g.1.0 in one-families h.0 xs ys (subst (λ (v : Option IpResourcesView). AreFamilies v xs) same g.2) h.2
+one-addresses es xs ys (inl g) (inr h) = absurd (h.0 g.0 g.1.0)
+one-addresses es xs ys (inr g) (inl h) = absurd (g.0 h.0 h.1.0)
+one-addresses es xs ys (inr g) (inr h) = g.1 ∙ sym h.1
+
+one-numbers : (es : List ExtensionParts) (xs ys : List FieldParts) → AreNumbers es xs → AreNumbers es ys → xs ≡ ys
+one-numbers es xs ys (inl g) (inl h) = let same = h.1.1 g.0 g.1.0 in one-as-numbers h.0 xs ys (subst (λ (v : Option ChoiceView). AreAsNumbers v xs) same g.2) h.2
+one-numbers es xs ys (inl g) (inr h) = absurd (h.0 g.0 g.1.0)
+one-numbers es xs ys (inr g) (inl h) = absurd (g.0 h.0 h.1.0)
+one-numbers es xs ys (inr g) (inr h) = g.1 ∙ sym h.1
+
+one-resources : (es : List ExtensionParts) (xs ys : List FieldParts) → AreResources es xs → AreResources es ys → xs ≡ ys
+one-resources es xs ys g h =
+    let addresses = one-addresses es g.0 h.0 g.2 h.2 in
+    let numbers = one-numbers es g.1 h.1 g.3 h.3 in
+    (rw (addresses, numbers) at g.4) ∙ sym h.4
+
 pub one-fields : (octets : List ℕ) (t : TbsParts) (xs ys : List FieldParts) → AreFields octets t xs → AreFields octets t ys → xs ≡ ys
 one-fields octets t xs ys g h =
     let head = one-head t g.head h.head g.are_head h.are_head in
@@ -125,7 +171,8 @@ one-fields octets t xs ys g h =
     let uses = one-uses t.extensions g.uses h.uses g.are_uses h.are_uses in
     let issuer = one-issuer t.extensions g.issuer h.issuer g.are_issuer h.are_issuer in
     let subject = one-subject t.extensions g.subject h.subject g.are_subject h.are_subject in
-    (rw (head, middle, key, identifiers, uses, issuer, subject) at g.parts) ∙ sym h.parts
+    let resources = one-resources t.extensions g.resources h.resources g.are_resources h.are_resources in
+    (rw (head, middle, key, identifiers, uses, issuer, subject, resources) at g.parts) ∙ sym h.parts
 
 -- ---- the text
 

@@ -20,6 +20,7 @@ use Rattle.rpkicert.specs.Field.{FieldParts, field_parts, field_if}
 use Rattle.rpkicert.specs.ValueText.{hex_digits, colon_digits, IsNumberText, time_text}
 use Rattle.rpkicert.specs.NameText.{IsNameText}
 use Rattle.rpkicert.specs.KeySize.{IsSizeText}
+use Rattle.rpkicert.specs.ResourceText.{AreResources}
 
 -- ---- the fields that each certificate has (RFC 5280 4.1)
 
@@ -189,6 +190,7 @@ pub record AreFields (octets : List ℕ) (t : TbsParts) (fields : List FieldPart
   pub uses : List FieldParts
   pub issuer : List FieldParts
   pub subject : List FieldParts
+  pub resources : List FieldParts
   pub are_head : AreHead t head
   pub are_middle : AreMiddle t middle
   pub are_key : AreKey t.key key
@@ -196,5 +198,6 @@ pub record AreFields (octets : List ℕ) (t : TbsParts) (fields : List FieldPart
   pub are_uses : AreUses t.extensions uses
   pub are_issuer : AreIssuerPlaces t.extensions issuer
   pub are_subject : AreSubjectPlaces t.extensions subject
-  pub parts : fields ≡ head ++ middle ++ key ++ identifiers ++ uses ++ issuer ++ subject
+  pub are_resources : AreResources t.extensions resources
+  pub parts : fields ≡ head ++ middle ++ key ++ identifiers ++ uses ++ issuer ++ subject ++ resources
       ++ map extension_field t.extensions ++ field_parts (codes "SHA-256 Fingerprint") (fingerprint_text octets) ∷ []

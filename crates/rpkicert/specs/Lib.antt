@@ -4,6 +4,7 @@ pub mod ValueText
 pub mod NameText
 pub mod KeySize
 pub mod Field
+pub mod ResourceText
 pub mod CertText
 pub mod Rendering
 pub mod Pem

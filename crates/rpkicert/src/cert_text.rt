@@ -8,6 +8,7 @@ use crate::field::{Field, push_field};
 use crate::key_size::size_text;
 use crate::name::{name_text, push_digits};
 use crate::place_text::{issuer_places, subject_places};
+use crate::resource_text::resources;
 use crate::value::{colon_digits, serial_text, time_text};
 use rpki::crypto::{PublicKey, PublicKeyFormat};
 use rpki::der::Oid;
@@ -192,6 +193,7 @@ pub fn fields(alloc: Global, octets: &[u8], tbs: &TbsCert) -> Result<Vec<Field>,
     let mut uses = uses(alloc, tbs)?;
     let mut issuer = issuer_places(alloc, tbs)?;
     let mut subject = subject_places(alloc, tbs)?;
+    let mut resources = resources(alloc, tbs)?;
     let mut extensions = extensions(alloc, tbs.extensions())?;
     let fingerprint = fingerprint(alloc, octets)?;
     fields.append(&mut middle)?;
@@ -200,6 +202,7 @@ pub fn fields(alloc: Global, octets: &[u8], tbs: &TbsCert) -> Result<Vec<Field>,
     fields.append(&mut uses)?;
     fields.append(&mut issuer)?;
     fields.append(&mut subject)?;
+    fields.append(&mut resources)?;
     fields.append(&mut extensions)?;
     push_field(&mut fields, b"SHA-256 Fingerprint", fingerprint.as_slice())?;
     Ok(fields)

@@ -17,6 +17,7 @@ mod place_text;
 mod profile;
 mod rendering;
 mod request;
+mod resource_text;
 mod runs;
 mod shown;
 mod sources;

@@ -67,7 +67,7 @@ fn is_block_of(kind: ResourceKind, block: Block) -> bool
 }
 
 /// Whether the numbers of each block are of the kind, one at least.
-fn are_blocks_of(kind: ResourceKind, blocks: &[Block]) -> bool
+pub(crate) fn are_blocks_of(kind: ResourceKind, blocks: &[Block]) -> bool
     ensures { IsTrue result ↔ AreBlocksOf kind blocks.now }
 {
     let mut rest = blocks;

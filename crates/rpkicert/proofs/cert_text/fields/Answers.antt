@@ -10,6 +10,7 @@ returns c = record {
   uses = c.in_ok-uses.uses.items;
   issuer = c.in_ok-issuer.issuer.items;
   subject = c.in_ok-subject.subject.items;
+  resources = c.in_ok-resources.resources.items;
   are_head = c.in_ok-fields.ensures;
   are_middle = c.in_ok-middle.ensures;
   are_key = c.in_ok-key.ensures;
@@ -17,7 +18,9 @@ returns c = record {
   are_uses = c.in_ok-uses.ensures;
   are_issuer = c.in_ok-issuer.ensures;
   are_subject = c.in_ok-subject.ensures;
+  are_resources = c.in_ok-resources.ensures;
   parts = c.in_ok-push_field.ensures ∙ rw (
+    c.in_ok-append-8.ensures.items,
     c.in_ok-append-7.ensures.items,
     c.in_ok-append-6.ensures.items,
     c.in_ok-append-5.ensures.items,
