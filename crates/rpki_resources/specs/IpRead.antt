@@ -1,7 +1,7 @@
 -- Texts of prefixes and blocks of addresses, as they are read: `10.0.0.0/8`, `10.0.0.0-10.0.0.5`.
 use Rattle.std.specs.Prelude.{◌≡◌, ◌≤◌, ◌⊎◌, ◌-◌, ◌^◌, ◌%◌, ℕ, List, ◌∷◌, ◌++◌}
 use Rattle.std.specs.Str.Parse.{IsNumeral, digits_value, without_leading_plus}
-use Rattle.std.specs.Net.Addr.{ipv4_bits, ipv6_bits}
+use Rattle.std.specs.Net.Addr.{MatchIp, IsIpv4Addr, IsIpv6Addr, ipv4_bits, ipv6_bits}
 use Rattle.std.specs.Net.Grammar.{IsIpText}
 use Rattle.std.specs.declared.net.ip_addr.IpAddr.{IpAddr}
 use Rattle.std.specs.declared.net.ip_addr.IpAddr.TheVariants.{V4, V6}
@@ -9,8 +9,9 @@ use Rattle.rpki_resources.specs.declared.block.Block.{Block}
 use Rattle.rpki_resources.specs.declared.family.AddressFamily.{AddressFamily}
 use Rattle.rpki_resources.specs.declared.family.AddressFamily.TheVariants.{Ipv4, Ipv6}
 use Rattle.rpki_resources.specs.declared.ip_text.Prefix.{Prefix}
+use Rattle.rpki_resources.specs.declared.ip_text.AddressRange.{AddressRange}
 use Rattle.rpki_resources.specs.declared.ip_text.IpBlock.{IpBlock}
-use Rattle.rpki_resources.specs.declared.ip_text.IpBlock.TheVariants.{Prefix as PrefixBlock}
+use Rattle.rpki_resources.specs.declared.ip_text.IpBlock.TheVariants.{Prefix as PrefixBlock, Range as RangeBlock}
 use Rattle.rpki_resources.specs.Text.{IsIpBlockOf}
 
 -- how many bits an address has
@@ -64,3 +65,19 @@ IsIpBlockText text b =
     ((p : Prefix) × IsPrefixText text p × (b ≡ PrefixBlock p))
     ⊎ (((a : IpAddr) × IsIpText text a × (b ≡ PrefixBlock (whole_prefix a)))
     ⊎ ((low high : List ℕ) × (text ≡ low ++ 45 ∷ high) × IsIpRangeOfTexts low high b))
+
+-- ---- what is read back of what is written
+
+-- its address is one, and no bit is 1 but those that are shared
+pub record IsWholePrefix (p : Prefix) : Type 0 where
+  pub address : MatchIp p.addr IsIpv4Addr IsIpv6Addr
+  pub few : p.len ≤ address_width p.addr
+  pub zeros : address_number p.addr % 2 ^ (address_width p.addr - p.len) ≡ 0
+
+-- its addresses are of one family and in order, and it is no prefix
+pub record IsWholeRange (r : AddressRange) : Type 0 where
+  pub min : MatchIp r.min IsIpv4Addr IsIpv6Addr
+  pub max : MatchIp r.max IsIpv4Addr IsIpv6Addr
+  pub one_family : family_of r.max ≡ family_of r.min
+  pub order : address_number r.min ≤ address_number r.max
+  pub is_block : IsIpBlockOf (family_of r.min) (RangeBlock r) (block_between r.min r.max)

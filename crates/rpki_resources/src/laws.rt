@@ -1,13 +1,12 @@
 //! Laws of the definitions.
 
-ghost use Rattle.std.specs.Prelude.{◌≡◌, ◌≤◌, ◌-◌, ◌%◌, ◌^◌, ◌↔◌, ◌++◌, List, IsTrue};
-ghost use Rattle.std.specs.Net.Addr.{MatchIp, IsIpv4Addr, IsIpv6Addr};
+ghost use Rattle.std.specs.Prelude.{◌≡◌, ◌↔◌, ◌++◌, List, IsTrue};
 ghost use Rattle.std.specs.Net.Text.{ip_text};
 ghost use Rattle.rpki_resources.specs.Equal.{same_blocks};
 ghost use Rattle.rpki_resources.specs.AsRead.{IsAsBlockText};
 ghost use Rattle.rpki_resources.specs.Encoded.{AreBlocksOf};
-ghost use Rattle.rpki_resources.specs.Text.{as_block_text, prefix_text, range_text, IsAsBlockOf, IsIpBlockOf};
-ghost use Rattle.rpki_resources.specs.IpRead.{address_width, address_number, family_of, block_between, IsPrefixText, IsIpBlockText};
+ghost use Rattle.rpki_resources.specs.Text.{as_block_text, prefix_text, range_text, IsAsBlockOf};
+ghost use Rattle.rpki_resources.specs.IpRead.{IsPrefixText, IsIpBlockText, IsWholePrefix, IsWholeRange};
 ghost use Rattle.rpki_resources.specs.declared.ip_text.AddressRange.{AddressRange};
 ghost use Rattle.rpki_resources.specs.declared.ip_text.IpBlock.TheVariants.{Range as RangeBlock};
 ghost use Rattle.rpki_resources.specs.declared.ip_text.Prefix.{Prefix};
@@ -41,20 +40,16 @@ pub fn as_blocks_are_read_back()
     ensures { (a : AsBlock) (b : Block) → IsAsBlockOf a b → IsAsBlockText (as_block_text a) a }
 {}
 
-/// The text that is written of a prefix is read back, as that prefix, where its address has as many bits at least as it
-/// says to be shared, and the others are 0.
+/// The text that is written of a prefix is read back, as that prefix, where no bit of its address is 1 but those that
+/// are shared.
 pub fn prefixes_are_read_back()
-    ensures { (p : Prefix) → MatchIp p.addr IsIpv4Addr IsIpv6Addr → p.len ≤ address_width p.addr
-        → address_number p.addr % 2 ^ (address_width p.addr - p.len) ≡ 0
-        → IsPrefixText (prefix_text (ip_text p.addr) p.len) p }
+    ensures { (p : Prefix) → IsWholePrefix p → IsPrefixText (prefix_text (ip_text p.addr) p.len) p }
 {}
 
 /// The text that is written of a range of addresses is read back, as that range, where it is no prefix and goes from an
 /// address to one of its family that is not below it.
 pub fn address_ranges_are_read_back()
-    ensures { (r : AddressRange) → MatchIp r.min IsIpv4Addr IsIpv6Addr → MatchIp r.max IsIpv4Addr IsIpv6Addr
-        → family_of r.max ≡ family_of r.min → address_number r.min ≤ address_number r.max
-        → IsIpBlockOf (family_of r.min) (RangeBlock r) (block_between r.min r.max)
+    ensures { (r : AddressRange) → IsWholeRange r
         → IsIpBlockText (range_text (ip_text r.min) (ip_text r.max)) (RangeBlock r) }
 {}
 
