@@ -1,0 +1,8 @@
+-- Which lemma file answers which question.
+--
+-- A list of entries that may be left out: CrlLaws.
+-- A value that stands for another: StandingForLaws. A revocation list in signed data: ListInLaws.
+
+pub mod CrlLaws
+pub mod StandingForLaws
+pub mod ListInLaws
