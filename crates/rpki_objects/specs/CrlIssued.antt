@@ -7,8 +7,12 @@ use Rattle.rpki.specs.Prelude.{verification_text}
 use Rattle.rpki_time.specs.Validity.{HoldsAt}
 use Rattle.rpki_cert.specs.RuleError.{ChecksBy}
 use Rattle.rpki_cert.specs.Valid.{HasReason, IsPeriodError, IsSignedBy, Unless}
-use Rattle.rpki_cert.specs.Verified.{Verified}
+use Rattle.rpki_cert.specs.Verified.{Verified, IsAuthorityAt, holder}
 use Rattle.rpki_objects.specs.Crl.{CrlParts}
+
+-- a path of authorities leads from the authority to a trust anchor, all of which is valid at the moment
+abbrev pub IsValidAt : Verified → DateTime → Type 0
+IsValidAt v at = IsAuthorityAt v.by at (holder v.cert v.resources)
 
 -- the list was issued by the moment
 abbrev pub IsOutAt : DateTime → CrlParts → Type 0

@@ -1,12 +1,12 @@
 //! The extensions of a revocation list: an authority key identifier and a number (RFC 6487 5).
 
-ghost use Rattle.std.specs.Prelude.{◌≡◌, ◌∷◌, [], ℕ, List, IfSome, IfNone};
+ghost use Rattle.std.specs.Prelude.{◌≡◌, ◌↔◌, ℕ, List, false, IsTrue, IfSome, IfNone};
 ghost use Rattle.rpki_der.specs.Prelude.{left, Takes, TakesAll};
 ghost use Rattle.rpki_objects.specs.Crl.{AreExtensions, IsAuthority, IsCrlNumber, ListExtensions, extensions_of};
 ghost use Rattle.rpki_objects.specs.Crl.{each_extension, extension_list, known_extensions, extensions};
 
 use rpki::crypto::KeyIdentifier;
-use rpki::der::{Class, Constructed, DecodeError, Keep, Tag};
+use rpki::der::{Class, Constructed, DecodeError, Keep, Oid, Tag};
 use rpki::oid;
 use rpki::repository::x509::{CertExtension, Serial};
 use rpki_cert::objects::take_authority;
@@ -20,16 +20,23 @@ pub struct CrlExtensions {
     pub crl_number: Serial,
 }
 
+/// Whether the extension has this identifier, and isn't critical.
+fn is_plain(extension: &CertExtension, id: Oid<&[u8]>) -> bool
+    ensures { IsTrue result ↔ ((extension.now.identifier ≡ id.entry.0.now) × (extension.now.critical ≡ false)) }
+{
+    if extension.id() != id {
+        return false;
+    }
+    !extension.critical()
+}
+
 /// The key identifier, if the extension is an authority key identifier that isn't critical.
 fn authority_of(extension: &CertExtension) -> Option<KeyIdentifier>
     ensures some { IfSome result (λ k. IsAuthority k extension.now) }
     ensures only { IfSome result (λ k. (j : List ℕ) → IsAuthority j extension.now → j ≡ k) }
     ensures none { IfNone result ((k : List ℕ) → IsAuthority k extension.now → ⊥) }
 {
-    if extension.id() != oid::CE_AUTHORITY_KEY_IDENTIFIER {
-        return None;
-    }
-    if extension.critical() {
+    if !is_plain(extension, oid::CE_AUTHORITY_KEY_IDENTIFIER) {
         return None;
     }
     match extension.cursor().whole(|cons| take_authority(cons)) {
@@ -44,10 +51,7 @@ fn number_of(extension: &CertExtension) -> Option<Serial>
     ensures only { IfSome result (λ n. (m : ℕ) → IsCrlNumber m extension.now → m ≡ n) }
     ensures none { IfNone result ((n : ℕ) → IsCrlNumber n extension.now → ⊥) }
 {
-    if extension.id() != oid::CE_CRL_NUMBER {
-        return None;
-    }
-    if extension.critical() {
+    if !is_plain(extension, oid::CE_CRL_NUMBER) {
         return None;
     }
     match Serial::decode(extension.octets()) {

@@ -4,8 +4,8 @@ ghost use Rattle.std.specs.Prelude.{◌≡◌, ◌↔◌, ◌<ℤ◌, IfOk, IsTr
 ghost use Rattle.jiff.specs.Words.{civil_nanos};
 ghost use Rattle.rpki_cert.specs.RuleError.{ChecksBy};
 ghost use Rattle.rpki_cert.specs.Valid.{HasReason};
-ghost use Rattle.rpki_cert.specs.Verified.{verified_by, checkers_by, holder, IsAuthorityAt};
-ghost use Rattle.rpki_objects.specs.CrlIssued.{ChecksList, IsOutAt};
+ghost use Rattle.rpki_cert.specs.Verified.{verified_by};
+ghost use Rattle.rpki_objects.specs.CrlIssued.{ChecksList, IsOutAt, IsValidAt};
 
 use crate::crl::Crl;
 use rpki::crypto::{KeyIdentifier, Provider};
@@ -59,8 +59,7 @@ impl Crl {
     ) -> Result<(), ValidationError>
         ensures exactly { ChecksList (verified_by P.rsa_of P.ecdsa_of P.sha1_of issuer.now) at self.now result }
         // A path of authorities leads from the issuer to a trust anchor, all of which is valid at the moment.
-        ensures path { IfOk result (λ _. IsAuthorityAt (checkers_by P.rsa_of P.ecdsa_of P.sha1_of issuer.now.provider) at
-            (holder issuer.now.cert issuer.now.resources)) }
+        ensures path { IfOk result (λ _. IsValidAt (verified_by P.rsa_of P.ecdsa_of P.sha1_of issuer.now) at) }
     {
         verify_period(issuer.period(), at)?;
         let authority = issuer.cert().tbs();
