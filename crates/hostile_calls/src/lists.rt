@@ -46,7 +46,12 @@ fn tell_asked(report: Report, list: &Crl, asked: &str) -> Result<(), Failure> {
 }
 
 /// Whether the trust anchor in front of a list has issued it, at this moment, and whether it is stale then.
-fn tell_issued(alloc: Global, report: Report, moment: &str, octets: Vec<u8>) -> Result<(), Failure> {
+fn tell_issued(
+    alloc: Global,
+    report: Report,
+    moment: &str,
+    octets: Vec<u8>,
+) -> Result<(), Failure> {
     let Ok(at) = moment.parse::<Time>() else {
         return Err(Failure::Usage);
     };

@@ -1,5 +1,5 @@
 -- Whether an authority has issued a list: what is asked, one after another.
-use Rattle.std.proofs.Common.{◌≡◌, ℕ, List, Result, Ok, Err, inl, inr}
+use Rattle.std.proofs.Common.{◌≡◌, Result, Ok, Err, inl, inr}
 use Rattle.std.specs.Prelude.{codes}
 use Rattle.jiff.specs.Types.{DateTime}
 use Rattle.rpki.specs.declared.repository.error.ValidationError.{ValidationError}
@@ -12,7 +12,7 @@ use Rattle.rpki_objects.specs.Crl.{CrlParts}
 use Rattle.rpki_objects.specs.CrlIssued.{IsOutAt, IsIssuedBy, IsNotIssued, ChecksList}
 
 module _ (v : Verified) (at : DateTime) (x : CrlParts) where
-  Refused : ValidationError → Type 0
+  abbrev pub Refused : ValidationError → Type 0
   Refused e = (IsIssuedBy v at x → ⊥) × IsNotIssued v at x e
 
   pub off-period : (e : ValidationError) → (HoldsAt v.period at → ⊥) × IsPeriodError v.period at e → Refused e
@@ -31,7 +31,7 @@ module _ (v : Verified) (at : DateTime) (x : CrlParts) where
       module _ (name : x.list.issuer ≡ v.cert.tbs.subject) where
         pub other-key : (e : ValidationError)
             → (x.list.extensions.authority ≡ v.by.sha1 v.cert.tbs.key.bits.octets → ⊥)
-              × HasReason (codes "authority key identifier mismatch") e
+            × HasReason (codes "authority key identifier mismatch") e
             → Refused e
         other-key e h = (λ k. h.0 k.authority, inr (period, inr (signature, inr (name, inl h))))
 

@@ -1,6 +1,7 @@
 -- A revocation list in signed data.
-use Rattle.std.proofs.Common.{◌≡◌, ◌≢◌, ◌∙◌, ℕ, Bool, List, [], inl, inr, refl, sym, ap, subst}
-use Rattle.std.specs.Prelude.{codes}
+use Rattle.std.proofs.Common.{◌≡◌, ◌≢◌, ◌∙◌, ℕ, Bool, true, false, List, [], inl, inr, refl, sym, ap}
+use Rattle.std.proofs.Math.Bool.{beq}
+use Rattle.std.specs.Prelude.{codes, not}
 use Rattle.rpki_der.specs.declared.error.DecodeError.{DecodeError}
 use Rattle.rpki_der.specs.declared.error.DecodeError.TheVariants.{Trailing}
 use Rattle.rpki_der.specs.Reading.{Accepts, Refusal, SpellsNothing}
@@ -76,3 +77,10 @@ module _ (s r : List ℕ) (d : SignedParts Bool) (a : Accepts SpellsWhole s d r)
             algorithm = same;
           })
           same-list
+
+-- two that are said to differ
+pub no-difference : (a b : Bool) → a ≡ b → not (beq a b) ≡ true → ⊥
+no-difference true true e d = cc
+no-difference true false e d = cc
+no-difference false true e d = cc
+no-difference false false e d = cc

@@ -1,6 +1,5 @@
 -- Certificate revocation lists (RFC 5280 5.1, in the profile of RFC 6487 5).
-use Rattle.std.specs.Prelude.{◌≡◌, ◌⊎◌, ℕ, Bool, false, List, [], ◌∷◌, map, Option, None, Some, Vec, codes}
-use Rattle.std.specs.List.{Any}
+use Rattle.std.specs.Prelude.{◌≡◌, ◌⊎◌, ℕ, Bool, false, List, [], ◌∷◌, map, Option, None, Some, Vec, codes, nat_eq, ◌||◌}
 use Rattle.jiff.specs.Types.{DateTime}
 use Rattle.rpki_der.specs.declared.error.DecodeError.{DecodeError}
 use Rattle.rpki_der.specs.declared.tag.Class.TheVariants.{Context}
@@ -182,6 +181,7 @@ abbrev pub listed : Option (List Entry) → List Entry
 listed None = []
 listed (Some xs) = xs
 
--- a certificate of this serial number is on the list
-abbrev pub IsRevoked : ℕ → Option (List Entry) → Type 0
-IsRevoked n xs = Any (λ (x : Entry). x.0 ≡ n) (listed xs)
+-- whether one of the entries is of the certificate of this serial number
+abbrev pub is_revoked : ℕ → List Entry → Bool
+is_revoked n [] = false
+is_revoked n (x ∷ xs) = nat_eq x.0 n || is_revoked n xs

@@ -1,5 +1,5 @@
 -- Whether an authority has issued a revocation list, and whether it still holds (RFC 5280 6.3.3, RFC 6487 5, 7.2).
-use Rattle.std.specs.Prelude.{◌≡◌, ◌≤ℤ◌, ℕ, List, Unit, Result, codes}
+use Rattle.std.specs.Prelude.{◌≡◌, ◌≤ℤ◌, Result, codes}
 use Rattle.jiff.specs.Types.{DateTime}
 use Rattle.jiff.specs.Words.{civil_nanos}
 use Rattle.rpki.specs.declared.repository.error.ValidationError.{ValidationError}
@@ -34,7 +34,7 @@ IsNotIssued issuer at x =
     (Unless (IsSignedBy issuer.by.rsa issuer.by.ecdsa issuer.cert.tbs.key x.signed) (HasReason verification_text)
     (Unless (x.list.issuer ≡ issuer.cert.tbs.subject) (HasReason (codes "issuer name mismatch"))
     (Unless (x.list.extensions.authority ≡ issuer.by.sha1 issuer.cert.tbs.key.bits.octets)
-        (HasReason (codes "authority key identifier mismatch"))
+    (HasReason (codes "authority key identifier mismatch"))
     (HasReason (codes "issued later")))))
 
 -- a check that the authority has issued the list

@@ -1,10 +1,9 @@
 //! Certificate revocation lists (RFC 5280 5, in the profile of RFC 6487 5).
 
-ghost use Rattle.std.specs.Prelude.{◌≡◌, ◌↔◌, IsOk, IsTrue};
-ghost use Rattle.std.specs.List.{Any};
+ghost use Rattle.std.specs.Prelude.{◌≡◌, ◌↔◌, IsOk};
 ghost use Rattle.rpki_der.specs.Prelude.{left, Takes, TakesWhole, CanShare};
 ghost use Rattle.rpki_cert.specs.Valid.{IsSignedBy};
-ghost use Rattle.rpki_objects.specs.Crl.{crl, entries_in, listed, IsRevoked};
+ghost use Rattle.rpki_objects.specs.Crl.{crl, entries_in, listed, is_revoked};
 
 use crate::crl_entry::CrlEntry;
 use crate::tbs_cert_list::TbsCertList;
@@ -36,7 +35,7 @@ impl Model for Crl {
 
 /// Whether an entry has this serial number.
 fn has_serial(entries: &[CrlEntry], serial: Serial) -> bool
-    ensures { IsTrue result ↔ Any (λ x. x.user_certificate ≡ serial) entries.now }
+    ensures { result ≡ is_revoked serial (entries_in entries.now) }
 {
     'entries: for entry in entries {
         if entry.user_certificate == serial {
@@ -139,7 +138,7 @@ impl Crl {
 
     /// Whether the list has a certificate of this serial number. Allocates nothing; takes a step an entry.
     pub fn contains(&self, serial: Serial) -> bool
-        ensures { IsTrue result ↔ IsRevoked serial self.now.list.revoked }
+        ensures { result ≡ is_revoked serial (listed self.now.list.revoked) }
     {
         match &self.tbs.revoked_certs {
             Some(entries) => has_serial(entries, serial),

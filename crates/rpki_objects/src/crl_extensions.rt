@@ -1,7 +1,8 @@
 //! The extensions of a revocation list: an authority key identifier and a number (RFC 6487 5).
 
 ghost use Rattle.std.specs.Prelude.{◌≡◌, ◌↔◌, ℕ, List, false, IsTrue, IfSome, IfNone};
-ghost use Rattle.rpki_der.specs.Prelude.{left, Takes, TakesAll};
+ghost use Rattle.rpki_der.specs.Prelude.{left, Decodes, Takes, TakesAll};
+ghost use Rattle.rpki_cert.specs.ExtensionContent.{SpellsAuthority, IsWholeAuthorityFault};
 ghost use Rattle.rpki_objects.specs.Crl.{AreExtensions, IsAuthority, IsCrlNumber, ListExtensions, extensions_of};
 ghost use Rattle.rpki_objects.specs.Crl.{each_extension, extension_list, known_extensions, extensions};
 
@@ -30,6 +31,13 @@ fn is_plain(extension: &CertExtension, id: Oid<&[u8]>) -> bool
     !extension.critical()
 }
 
+/// The identifier of an issuer's key that the octets are.
+fn identifier_of(octets: Constructed<'_>) -> Result<KeyIdentifier, DecodeError>
+    ensures { Decodes (λ k. k) SpellsAuthority IsWholeAuthorityFault (left octets.entry) result }
+{
+    octets.whole(|cons| take_authority(cons))
+}
+
 /// The key identifier, if the extension is an authority key identifier that isn't critical.
 fn authority_of(extension: &CertExtension) -> Option<KeyIdentifier>
     ensures some { IfSome result (λ k. IsAuthority k extension.now) }
@@ -39,7 +47,7 @@ fn authority_of(extension: &CertExtension) -> Option<KeyIdentifier>
     if !is_plain(extension, oid::CE_AUTHORITY_KEY_IDENTIFIER) {
         return None;
     }
-    match extension.cursor().whole(|cons| take_authority(cons)) {
+    match identifier_of(extension.cursor()) {
         Ok(identifier) => Some(identifier),
         Err(_) => None,
     }
@@ -84,13 +92,13 @@ impl CrlExtensions {
         ensures only { IfSome result (λ x. (v : ListExtensions) → AreExtensions v all.now → v ≡ extensions_of x) }
         ensures none { IfNone result ((v : ListExtensions) → AreExtensions v all.now → ⊥) }
     {
-        if all.len() != 2 {
+        let [first, second] = all else {
             return None;
+        };
+        if first.id() == oid::CE_AUTHORITY_KEY_IDENTIFIER {
+            return both_of(first, second);
         }
-        if all[0].id() == oid::CE_AUTHORITY_KEY_IDENTIFIER {
-            return both_of(&all[0], &all[1]);
-        }
-        both_of(&all[1], &all[0])
+        both_of(second, first)
     }
 }
 
@@ -127,10 +135,7 @@ fn take_extension_list<K: Keep>(
 }
 
 /// The SEQUENCE of the extensions that a revocation list has.
-fn take_known<K: Keep>(
-    keep: K,
-    cons: &mut Constructed<'_>,
-) -> Result<CrlExtensions, DecodeError>
+fn take_known<K: Keep>(keep: K, cons: &mut Constructed<'_>) -> Result<CrlExtensions, DecodeError>
     requires { K.holds keep (left cons.old) }
     ensures { Takes extensions_of known_extensions (left cons.old) (left cons.new) result }
 {

@@ -98,7 +98,10 @@ impl TbsCertList {
                     Err(e) => return Err(e),
                 };
                 let revoked_certs = take_opt_entries(keep.allocator(), contents)?;
-                let extensions = CrlExtensions::take_from(keep, contents)?;
+                let extensions = match CrlExtensions::take_from(keep, contents) {
+                    Ok(extensions) => extensions,
+                    Err(e) => return Err(e),
+                };
                 Ok(TbsCertList {
                     signature,
                     issuer,

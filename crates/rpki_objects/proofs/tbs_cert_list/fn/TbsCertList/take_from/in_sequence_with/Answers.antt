@@ -32,21 +32,22 @@ returns-in_err-revoked_certs g c =
     (after c.in_ok-skip_u8_if.ensures (after c.in-Ok.ensures (after c.in_ok-issuer.ensures
     (after c.in-Ok-take_from.ensures (after c.in-Ok-take_from-2.ensures (perhaps apart c.in_err-revoked_certs.ensures))))))
 
-pub returns-in_err-extensions : goal.returns-in_err-extensions
-returns-in_err-extensions g c =
-    tried fields_in fields _ _ c.from_residual-in_err-extensions.ensures
-    (after c.in_ok-skip_u8_if.ensures (after c.in-Ok.ensures (after c.in_ok-issuer.ensures
+pub returns-in-Err-take_from-3 : goal.returns-in-Err-take_from-3
+returns-in-Err-take_from-3 g c =
+    failed (after c.in_ok-skip_u8_if.ensures (after c.in-Ok.ensures (after c.in_ok-issuer.ensures
     (after c.in-Ok-take_from.ensures (after c.in-Ok-take_from-2.ensures
-    (past apart entries_of c.in_ok-revoked_certs.revoked_certs c.in_ok-revoked_certs.ensures (last c.in_err-extensions.ensures)))))))
+    (past apart entries_of c.in_ok-revoked_certs.revoked_certs c.in_ok-revoked_certs.ensures
+    (last c.in-Err-take_from-3.ensures)))))))
 
 pub returns : goal.returns
 returns g c =
     given (and c.in_ok-skip_u8_if.ensures (and c.in-Ok.ensures (and c.in_ok-issuer.ensures
     (and c.in-Ok-take_from.ensures (and c.in-Ok-take_from-2.ensures
-    (past-and apart entries_of c.in_ok-revoked_certs.revoked_certs c.in_ok-revoked_certs.ensures (all c.in_ok-extensions.ensures)))))))
+    (past-and apart entries_of c.in_ok-revoked_certs.revoked_certs c.in_ok-revoked_certs.ensures
+    (all c.in-Ok-take_from-3.ensures)))))))
 
-pub take_extensions-requires : goal.take_extensions-requires
-take_extensions-requires g c =
+pub take_from-requires-4 : goal.take_from-requires-4
+take_from-requires-4 g c =
     let holds = g.K.Keep.holds in
     let law = g.met.K.Keep.rest_held in
     let keep = c.args.keep in
