@@ -11,6 +11,7 @@
 mod certificates;
 mod cursors;
 mod encoders;
+mod lists;
 mod made;
 mod provider;
 mod readers;
@@ -60,6 +61,7 @@ fn tell_of(
         "text" => texts::tell(alloc, report, call, octets),
         "certificate" => certificates::tell(alloc, report, (call, path), octets),
         "resources" => resources::tell(alloc, report, call, octets),
+        "list" => lists::tell(alloc, report, (call, path), octets),
         "write" => encoders::tell(alloc, report, call, octets),
         _ => Err(Failure::Usage),
     }

@@ -51,10 +51,12 @@ fn is_zero_before(octets: &[u8], last: usize) -> bool
     octets[octets.len() - last - 1] == 0
 }
 
-/// Signed data whose signature has no unused bits: the octet in front of its octets counts them.
+/// Signed data whose signature has no unused bits: the octet in front of its octets counts them. Requires that `keep`
+/// can keep parts of what is left.
 ///
-/// The errors are those of signed data; then `Content` with the text `signature has unused bits`.
-fn take_signed<K: Keep>(keep: K, cons: &mut Constructed<'_>) -> Result<SignedData, DecodeError>
+/// The errors are those of signed data; then `Content` with the text `signature has unused bits`. An error leaves the
+/// cursor where it was.
+pub fn take_signed<K: Keep>(keep: K, cons: &mut Constructed<'_>) -> Result<SignedData, DecodeError>
     requires { K.holds keep (left cons.old) }
     ensures { Reads (λ x. x) SpellsWhole IsWholeSignedFault (left cons.old) (left cons.new) result }
 {

@@ -28,6 +28,7 @@ pub mod laws;
 mod listed;
 mod names;
 mod nested;
+pub mod objects;
 mod part;
 mod policy;
 mod profile;

@@ -60,7 +60,7 @@ impl<'p, P: Provider> ResourceCert<'p, P> {
     }
 
     /// The provider that its signature was checked with.
-    fn provider(&self) -> &'p P
+    pub fn provider(&self) -> &'p P
         ensures { result.now ≡ self.now.provider }
     {
         self.provider

@@ -19,7 +19,7 @@ use rpki::repository::error::{ValidationError, VerificationError};
 use rpki::repository::x509::{Name, SignedData, Time, Validity};
 
 /// The error of this text.
-pub(crate) fn unverified(text: &'static str) -> ValidationError
+pub fn unverified(text: &'static str) -> ValidationError
     ensures { HasReason text.now result }
 {
     ValidationError::Verification(VerificationError::new(ContentError::from_static(text)))
@@ -43,7 +43,7 @@ fn is_named(name: &Name, wanted: &Name) -> bool
 }
 
 /// Whether the period holds at the moment.
-pub(crate) fn verify_period(period: Validity, at: Time) -> Result<(), ValidationError>
+pub fn verify_period(period: Validity, at: Time) -> Result<(), ValidationError>
     ensures { ChecksBy (HoldsAt period at) (IsPeriodError period at) result }
 {
     match period.verify_at(at) {
@@ -117,7 +117,7 @@ impl TbsCert {
 }
 
 /// Whether the key has signed the data.
-fn verify_signature<P: Provider>(
+pub fn verify_signature<P: Provider>(
     signed: &SignedData,
     provider: &P,
     key: &PublicKey,

@@ -1,0 +1,92 @@
+//! Calls on revocation lists.
+
+use crate::provider::Stamps;
+use crate::refusal::Failure;
+use crate::report::Report;
+use bytes::Bytes;
+use rpki::repository::x509::{Serial, Time};
+use rpki_cert::Cert;
+use rpki_der::{Constructed, DecodeError};
+use rpki_objects::Crl;
+use std::alloc::Global;
+use std::io;
+
+/// The line of a time after 1970, in seconds since then.
+fn tell_time(report: Report, word: &str, time: Time) -> io::Result<()> {
+    report.number(word, time.to_binary_time() as u64)
+}
+
+/// The lines of what a list says.
+fn tell_parts(report: Report, list: &Crl) -> io::Result<()> {
+    report.values("issuer", &list.issuer().encode_ref())?;
+    tell_time(report, "this_update", list.this_update())?;
+    tell_time(report, "next_update", list.next_update())?;
+    report.shown("authority_key_identifier", &list.authority_key_identifier())?;
+    report.octets("crl_number", &list.crl_number().into_array())
+}
+
+/// The lines of the entries.
+fn tell_entries(report: Report, list: &Crl) -> io::Result<()> {
+    for entry in list.revoked_certs() {
+        report.octets("revoked", &entry.user_certificate.into_array())?;
+        tell_time(report, "at", entry.revocation_date)?;
+    }
+    Ok(())
+}
+
+/// The lines of the serial numbers that are asked for, parted by commas: whether each is on the list.
+fn tell_asked(report: Report, list: &Crl, asked: &str) -> Result<(), Failure> {
+    for text in asked.split(",") {
+        match text.parse::<Serial>() {
+            Ok(serial) => report.shown("contains", &list.contains(serial))?,
+            Err(_) => return Err(Failure::Usage),
+        }
+    }
+    Ok(())
+}
+
+/// Whether the trust anchor in front of a list has issued it, at this moment, and whether it is stale then.
+fn tell_issued(
+    alloc: Global,
+    report: Report,
+    moment: &str,
+    octets: Vec<u8>,
+) -> Result<(), Failure> {
+    let Ok(at) = moment.parse::<Time>() else {
+        return Err(Failure::Usage);
+    };
+    let mut cursor = Constructed::from_slice(octets.as_slice());
+    let anchor = Cert::take_from(alloc, &mut cursor)?;
+    let list = Crl::take_from(alloc, &mut cursor)?;
+    match anchor.verify_ta(alloc, &Stamps, true, at) {
+        Ok(issuer) => match list.verify(&issuer, at) {
+            Ok(()) => report.shown("stale", &list.is_stale(at))?,
+            Err(e) => report.shown("verify", &e)?,
+        },
+        Err(e) => report.shown("verify_ta", &e)?,
+    }
+    Ok(())
+}
+
+/// Tells of the list that the octets are.
+pub fn tell(
+    alloc: Global,
+    report: Report,
+    (call, asked): (&str, &str),
+    octets: Vec<u8>,
+) -> Result<(), Failure> {
+    if call == "issued" {
+        return tell_issued(alloc, report, asked, octets);
+    }
+    match (call, Crl::decode(alloc, Bytes::from_vec(octets)?)) {
+        ("read", Ok(list)) => {
+            tell_parts(report, &list)?;
+            tell_entries(report, &list)?;
+        }
+        ("contains", Ok(list)) => tell_asked(report, &list, asked)?,
+        ("read", Err(DecodeError::OutOfMemory)) => report.words("out of memory")?,
+        ("read", Err(e)) => report.shown("rejected", &e)?,
+        _ => return Err(Failure::Usage),
+    }
+    Ok(())
+}

@@ -1,0 +1,11 @@
+-- Which lemma file answers which question.
+--
+-- A list of entries that may be left out: CrlLaws. The extensions: ExtensionsLaws.
+-- A value that stands for another: StandingForLaws. A revocation list in signed data: ListInLaws. Whether an authority
+-- has issued it: IssuedLaws.
+
+pub mod CrlLaws
+pub mod ExtensionsLaws
+pub mod StandingForLaws
+pub mod ListInLaws
+pub mod IssuedLaws

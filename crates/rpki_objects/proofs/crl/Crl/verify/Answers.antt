@@ -1,0 +1,18 @@
+use Rattle.rpki_cert.specs.Verified.{verified_by}
+use Rattle.rpki_cert.proofs.TriedLaws.{tried-fault}
+use Rattle.rpki_objects.proofs.IssuedLaws.{unsigned}
+use Rattle.rpki_objects.proofs.crl.Crl.verify.Goals as goal
+
+pub returns-in_err-verify_signature-clause-exactly : goal.returns-in_err-verify_signature-clause-exactly
+returns-in_err-verify_signature-clause-exactly g c =
+    let v = verified_by g.P.Provider.rsa_of g.P.Provider.ecdsa_of g.P.Provider.sha1_of c.args.issuer.now in
+    let holds = rw c.period.ensures at c.in_ok-verify_period.ensures in
+    let signed = rw (
+      c.provider.ensures,
+      c.signed_data.ensures,
+      c.subject_public_key_info-key.ensures,
+      c.tbs-authority.ensures,
+      c.cert.ensures.value,
+    ) at c.in_err-verify_signature.ensures in
+    tried-fault _ _ _ _ c.from_residual-in_err-verify_signature.ensures
+    (unsigned v c.args.at c.args.self.now holds _ signed)

@@ -1,0 +1,16 @@
+use Rattle.rpki_der.proofs.FirstFaultLaws.{whole-no-memory}
+use Rattle.rpki_der.proofs.InsideLaws.{unless-memory}
+use Rattle.rpki_cert.specs.ExtensionContent.{SpellsAuthority, IsAuthorityFault}
+use Rattle.rpki_objects.proofs.ExtensionsLaws.{authority-no-memory}
+use Rattle.rpki_objects.proofs.crl_extensions.authority_of.Goals as goal
+
+pub returns-in-Ok-clause-only : goal.returns-in-Ok-clause-only
+returns-in-Ok-clause-only c j h = let d = rw c.cursor.ensures at c.in-Ok.ensures in d.1 j h.content
+
+pub returns-in-Err-clause-none : goal.returns-in-Err-clause-none
+returns-in-Err-clause-none c k h =
+    let d = rw c.cursor.ensures at c.in-Err.ensures in
+    let octets = c.args.extension.now.content in
+    let never = authority-no-memory octets in
+    unless-memory c.in-Err.field-0
+    (whole-no-memory SpellsAuthority IsAuthorityFault octets c.in-Err.field-0 never d.1) d.0 k h.content

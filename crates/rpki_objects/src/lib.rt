@@ -1,0 +1,16 @@
+//! The objects of the RPKI that stand beside certificates: revocation lists (RFC 5280 5, in the profile of RFC 6487 5).
+//!
+//! [Crl::decode] reads a list, [Crl::contains] tells whether a certificate is revoked, and [Crl::verify] whether a
+//! verified authority has issued the list.
+#![tactic(auto)]
+
+mod crl;
+mod crl_entry;
+mod crl_extensions;
+mod crl_issued;
+mod tbs_cert_list;
+
+pub use crl::Crl;
+pub use crl_entry::CrlEntry;
+pub use crl_extensions::CrlExtensions;
+pub use tbs_cert_list::TbsCertList;
