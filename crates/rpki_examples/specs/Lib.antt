@@ -2,4 +2,3 @@ pub mod Revoked
 pub mod Beside
 pub mod Verified
 pub mod NumberList
-pub mod RevocationList

@@ -1,14 +1,10 @@
 //! The layer as its users call it: verify signed data, write an algorithm type and a provider of one's own, read a
-//! SEQUENCE of one's own, one with a context tag and a list, and a revocation list, join URIs. docs/CALLING.md quotes
-//! these files.
+//! SEQUENCE of one's own, and one with a context tag and a list, join URIs. docs/CALLING.md quotes these files.
 #![tactic(auto)]
-
-ghost use Rattle.rpki_der.specs.Prelude.{left, CanShare};
 
 mod number_list;
 mod own_algorithm;
 mod own_provider;
-mod revocation_list;
 mod revoked;
 mod uris;
 mod verification;
@@ -16,7 +12,6 @@ mod verification;
 use crate::number_list::NumberList;
 use crate::own_algorithm::OwnAlgorithm;
 use crate::own_provider::OneSignature;
-use crate::revocation_list::RevocationList;
 use crate::revoked::RevokedCertificate;
 use crate::uris::beside;
 use crate::verification::verified;
@@ -24,7 +19,6 @@ use anyhow::{Result, bail};
 use bytes::Bytes;
 use rpki::crypto::{PublicKey, RpkiSignatureAlgorithm};
 use rpki::der::{Constructed, DecodeError};
-use rpki::repository::x509::SignedData;
 use rpki::uri::{Error, Rsync};
 use std::alloc::Global;
 
@@ -45,14 +39,6 @@ const REVOKED: &[u8] = b"\x30\x12\x02\x01\x7F\x17\x0D240229120000Z";
 /// Version 1 for the purpose 2.999, with the numbers 64496 and 64497.
 const NUMBERS: &[u8] =
     b"\x30\x15\xA0\x03\x02\x01\x01\x06\x02\x88\x37\x30\x0A\x02\x03\x00\xFB\xF0\x02\x03\x00\xFB\xF1";
-
-/// A revocation list with the entry above, of the issuer `CN=ca`, with the number 5.
-const LIST: &[u8] =
-    b"\x30\x7A\x30\x65\x02\x01\x01\x30\x0D\x06\x09\x2A\x86\x48\x86\xF7\x0D\x01\x01\x0B\x05\x00\x30\x0D\x31\x0B\
-      \x30\x09\x06\x03\x55\x04\x03\x13\x02\x63\x61\x17\x0D\x32\x34\x30\x33\x30\x31\x30\x30\x30\x30\x30\x30\x5A\
-      \x17\x0D\x32\x34\x30\x33\x30\x32\x30\x30\x30\x30\x30\x30\x5A\x30\x14\x30\x12\x02\x01\x7F\x17\x0D\x32\x34\
-      \x30\x32\x32\x39\x31\x32\x30\x30\x30\x30\x5A\xA0\x0E\x30\x0C\x30\x0A\x06\x03\x55\x1D\x14\x04\x03\x02\x01\
-      \x05\x30\x0D\x06\x09\x2A\x86\x48\x86\xF7\x0D\x01\x01\x0B\x05\x00\x03\x02\x00\xAA";
 
 /// Whether the key that the octets are has signed both.
 fn both_verified(alloc: Global) -> Result<bool, DecodeError> {
@@ -95,22 +81,6 @@ fn greatest_number(alloc: Global) -> Result<(u8, Option<u64>), DecodeError> {
     Ok((list.version, list.numbers.iter().copied().max()))
 }
 
-/// How many certificates a list revokes.
-fn revocations(alloc: Global) -> Result<usize, DecodeError> {
-    let signed = SignedData::<RpkiSignatureAlgorithm>::decode(alloc, Bytes::from_static(LIST))?;
-    let data = signed.data();
-    let list = data.cursor().whole_with(
-        data.shared(alloc),
-        |cons, keep|
-            requires { CanShare keep (left cons.old) }
-        { RevocationList::take_from(keep, cons) },
-    )?;
-    match &list.revoked {
-        Some(revoked) => Ok(revoked.len()),
-        None => Ok(0),
-    }
-}
-
 /// The URI of an object beside a manifest.
 fn object(alloc: Global) -> Result<Option<Rsync>, Error> {
     let manifest = Rsync::from_str(alloc, "rsync://host/module/ca/ca.mft")?;
@@ -124,10 +94,6 @@ fn main(rt: HostRuntime) -> Result<()> {
     }
     match year_of_revocation() {
         Ok(year) => println!(rt; "revoked in {year}")?,
-        Err(e) => bail!("refused {}", e.number()),
-    }
-    match revocations(rt.alloc()) {
-        Ok(count) => println!(rt; "revoked by the list: {count}")?,
         Err(e) => bail!("refused {}", e.number()),
     }
     match greatest_number(rt.alloc()) {

@@ -1,8 +1,0 @@
-use Rattle.std.proofs.Common.{rules}
-use Rattle.rpki_der.specs.TagName.{sequence}
-use Rattle.rpki_der.proofs.FormatLaws.{takes-around}
-use Rattle.rpki_examples.specs.RevocationList.{parts_of, parts}
-use Rattle.rpki_examples.proofs.revocation_list.RevocationList.take_from.Goals as goal
-
-pub returns : goal.returns
-returns g c = takes-around parts_of sequence parts _ (λ b a x h. search rules) _ _ _ c.in_sequence_with.ensures
