@@ -1,8 +1,9 @@
 """The processor time and the memory of each crate's proof, as `rt ci` makes it, and the budget that they are held to.
 
 Time is read off /proc while the proofs run, once a second. Machines differ, and so does one machine when it is busy: so
-a crate is compared with its line in the table of CONTRIBUTING.md after all of a run's times were divided by one factor,
-the median of how much longer than its line a crate took. What has grown beside the others is above its line then."""
+where half of the crates take longer than their lines in the table of CONTRIBUTING.md, all of a run's times are divided
+by one factor, the median of how much longer than its line a crate took. What has grown beside the others is above its
+line then."""
 import os
 import re
 import statistics
@@ -111,7 +112,7 @@ def above(costs):
     known = {crate: cost for crate, cost in costs.items() if crate in allowed}
     if len(known) < 4:
         return
-    factor = statistics.median(cost.minutes / allowed[crate].minutes for crate, cost in known.items())
+    factor = max(1, statistics.median(cost.minutes / allowed[crate].minutes for crate, cost in known.items()))
     for crate, cost in known.items():
         least = allowed[crate].minutes * factor * GROWTH
         if cost.minutes > least + 0.2:
