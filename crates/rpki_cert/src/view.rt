@@ -15,7 +15,7 @@ use rpki::crypto::{RpkiSignatureAlgorithm, SignatureAlgorithm};
 use rpki::der::{Constructed, Tag};
 
 /// The parts of signed data.
-#[derive(Drop)]
+#[derive(Clone, Copy)]
 pub struct Parts<'a> {
     /// The value that is signed.
     pub data: Section<'a>,
@@ -56,7 +56,7 @@ fn read_signature<'a>(rest: Constructed<'a>) -> Option<&'a [u8]>
 }
 
 /// The parts of signed data: what is signed, and what follows it, which is all of these contents.
-fn read_parts<'a>(signed: &'a [u8], behind: Constructed<'a>) -> Result<Parts<'a>, CertPart>
+pub fn read_parts<'a>(signed: &'a [u8], behind: Constructed<'a>) -> Result<Parts<'a>, CertPart>
     ensures signed { IfOk result (λ v. v.«data».octets.now ≡ signed.now) }
     ensures ok { IfOk result (λ v. ArePartsBehind signed.now (left behind.entry) v) }
     ensures err { IfErr result (λ q. AreBehindWrong (left behind.entry) q) }

@@ -2,10 +2,16 @@
 --
 -- A list of entries that may be left out: CrlLaws. The extensions: ExtensionsLaws.
 -- A value that stands for another: StandingForLaws. A revocation list in signed data: ListInLaws. Whether an authority
--- has issued it: IssuedLaws.
+-- has issued it: IssuedLaws. Read in place: entries, what is signed, that it is one value, lists: EntriesLaws,
+-- ListViewLaws, ListValueLaws, CrlViewLaws. Two extensions: TwoLaws.
 
 pub mod CrlLaws
 pub mod ExtensionsLaws
 pub mod StandingForLaws
 pub mod ListInLaws
 pub mod IssuedLaws
+pub mod EntriesLaws
+pub mod TwoLaws
+pub mod ListViewLaws
+pub mod ListValueLaws
+pub mod CrlViewLaws

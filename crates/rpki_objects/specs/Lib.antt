@@ -1,2 +1,4 @@
 pub mod Crl
 pub mod CrlIssued
+pub mod CrlView
+pub mod Serials

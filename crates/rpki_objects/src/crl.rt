@@ -1,9 +1,10 @@
 //! Certificate revocation lists (RFC 5280 5, in the profile of RFC 6487 5).
 
-ghost use Rattle.std.specs.Prelude.{◌≡◌, ◌↔◌, IsOk};
+ghost use Rattle.std.specs.Prelude.{◌≡◌, ◌↔◌, IfOk, IsOk};
 ghost use Rattle.rpki_der.specs.Prelude.{left, Takes, TakesWhole, CanShare};
 ghost use Rattle.rpki_cert.specs.Valid.{IsSignedBy};
 ghost use Rattle.rpki_objects.specs.Crl.{crl, entries_in, listed, is_revoked};
+ghost use Rattle.rpki_objects.specs.Serials.{AreSerials};
 
 use crate::crl_entry::CrlEntry;
 use crate::tbs_cert_list::TbsCertList;
@@ -12,7 +13,8 @@ use rpki::crypto::{KeyIdentifier, Provider, PublicKey, SignatureVerificationErro
 use rpki::der::{Constructed, DecodeError, Keep, Shared};
 use rpki::repository::x509::{Name, Serial, SignedData, Time};
 use rpki_cert::objects::take_signed;
-use std::alloc::Global;
+use std::alloc::{AllocError, Global};
+use std::collections::BTreeSet;
 use std::marker::Model;
 
 /// A revocation list: the signed octets as they came, the signature, and what the signed octets are.
@@ -20,17 +22,20 @@ use std::marker::Model;
 pub struct Crl {
     signed_data: SignedData,
     tbs: TbsCertList,
+    /// The serial numbers of the entries, once they have been asked for.
+    serials: Option<BTreeSet<Serial>>,
 }
 
 impl Model for Crl {
     ghost use Rattle.std.specs.Prelude.{◌≡◌};
     ghost use Rattle.rpki_objects.specs.Crl.{CrlParts, IsListIn, crl_parts, list_of};
+    ghost use Rattle.rpki_objects.specs.Serials.{IsKeptList};
 
     ghost Value = { CrlParts };
 
     ghost view = { λ x. crl_parts x.signed_data (list_of x.tbs) };
 
-    ghost invariant = { λ x. IsListIn (crl_parts x.signed_data (list_of x.tbs)) x.signed_data };
+    ghost invariant = { λ x. IsKeptList (crl_parts x.signed_data (list_of x.tbs)) x.signed_data x.serials };
 }
 
 /// Whether an entry has this serial number.
@@ -43,6 +48,17 @@ fn has_serial(entries: &[CrlEntry], serial: Serial) -> bool
         }
     }
     false
+}
+
+/// The serial numbers of the entries.
+fn serials_of(alloc: Global, entries: &[CrlEntry]) -> Result<BTreeSet<Serial>, AllocError>
+    ensures { IfOk result (λ set. AreSerials set (entries_in entries.now)) }
+{
+    let mut serials = BTreeSet::new(alloc);
+    'entries: for entry in entries {
+        serials.insert(entry.user_certificate)?;
+    }
+    Ok(serials)
 }
 
 impl Crl {
@@ -67,7 +83,11 @@ impl Crl {
             return Err(DecodeError::content("signature algorithms differ"));
         }
         *cons = after;
-        Ok(Crl { signed_data, tbs })
+        Ok(Crl {
+            signed_data,
+            tbs,
+            serials: None,
+        })
     }
 
     /// A revocation list, and nothing else. It shares the octets.
@@ -136,13 +156,26 @@ impl Crl {
         }
     }
 
-    /// Whether the list has a certificate of this serial number. Allocates nothing; takes a step an entry.
+    /// Keeps the serial numbers of the entries as a set, so that [Crl::contains] takes log n steps for n entries. What
+    /// the list says stays as it is.
+    ///
+    /// The error comes if allocation fails; then nothing is kept.
+    pub fn cache_serials(&mut self, alloc: Global) -> Result<(), AllocError>
+        ensures { self.new ≡ self.old }
+    {
+        let serials = serials_of(alloc, self.revoked_certs())?;
+        self.serials = Some(serials);
+        Ok(())
+    }
+
+    /// Whether the list has a certificate of this serial number. Allocates nothing; takes log n steps for n entries
+    /// after [Crl::cache_serials], and else a step an entry.
     pub fn contains(&self, serial: Serial) -> bool
         ensures { result ≡ is_revoked serial (listed self.now.list.revoked) }
     {
-        match &self.tbs.revoked_certs {
-            Some(entries) => has_serial(entries, serial),
-            None => false,
+        match &self.serials {
+            Some(serials) => serials.contains(&serial),
+            None => has_serial(self.revoked_certs(), serial),
         }
     }
 

@@ -1,16 +1,18 @@
 //! The extensions of a revocation list: an authority key identifier and a number (RFC 6487 5).
 
-ghost use Rattle.std.specs.Prelude.{◌≡◌, ◌↔◌, ℕ, List, false, IsTrue, IfSome, IfNone};
+ghost use Rattle.std.specs.Prelude.{◌≡◌, ◌↔◌, ℕ, List, [], ◌∷◌, false, IsTrue, IfSome, IfNone};
 ghost use Rattle.rpki_der.specs.Prelude.{left, Decodes, Takes, TakesAll};
 ghost use Rattle.rpki_cert.specs.ExtensionContent.{SpellsAuthority, IsWholeAuthorityFault};
 ghost use Rattle.rpki_objects.specs.Crl.{AreExtensions, IsAuthority, IsCrlNumber, ListExtensions, extensions_of};
 ghost use Rattle.rpki_objects.specs.Crl.{each_extension, extension_list, known_extensions, extensions};
+ghost use Rattle.rpki_objects.specs.CrlView.{AreTwo};
+ghost use Rattle.rpki_cert.specs.View.{IsWholeOf};
 
 use rpki::crypto::KeyIdentifier;
 use rpki::der::{Class, Constructed, DecodeError, Keep, Oid, Tag};
 use rpki::oid;
-use rpki::repository::x509::{CertExtension, Serial};
-use rpki_cert::objects::take_authority;
+use rpki::repository::x509::{CertExtension, ExtensionView, Serial};
+use rpki_cert::objects::{inside, take_authority};
 
 /// What the extensions of a revocation list say.
 #[derive(Clone, Copy)]
@@ -22,7 +24,7 @@ pub struct CrlExtensions {
 }
 
 /// Whether the extension has this identifier, and isn't critical.
-fn is_plain(extension: &CertExtension, id: Oid<&[u8]>) -> bool
+fn is_plain(extension: &ExtensionView<'_>, id: Oid<&[u8]>) -> bool
     ensures { IsTrue result ↔ ((extension.now.identifier ≡ id.entry.0.now) × (extension.now.critical ≡ false)) }
 {
     if extension.id() != id {
@@ -39,7 +41,7 @@ fn identifier_of(octets: Constructed<'_>) -> Result<KeyIdentifier, DecodeError>
 }
 
 /// The key identifier, if the extension is an authority key identifier that isn't critical.
-fn authority_of(extension: &CertExtension) -> Option<KeyIdentifier>
+fn authority_of(extension: &ExtensionView<'_>) -> Option<KeyIdentifier>
     ensures some { IfSome result (λ k. IsAuthority k extension.now) }
     ensures only { IfSome result (λ k. (j : List ℕ) → IsAuthority j extension.now → j ≡ k) }
     ensures none { IfNone result ((k : List ℕ) → IsAuthority k extension.now → ⊥) }
@@ -47,14 +49,14 @@ fn authority_of(extension: &CertExtension) -> Option<KeyIdentifier>
     if !is_plain(extension, oid::CE_AUTHORITY_KEY_IDENTIFIER) {
         return None;
     }
-    match identifier_of(extension.cursor()) {
+    match identifier_of(Constructed::from_slice(extension.octets())) {
         Ok(identifier) => Some(identifier),
         Err(_) => None,
     }
 }
 
 /// The number, if the extension is a number of a list that isn't critical.
-fn number_of(extension: &CertExtension) -> Option<Serial>
+fn number_of(extension: &ExtensionView<'_>) -> Option<Serial>
     ensures some { IfSome result (λ n. IsCrlNumber n extension.now) }
     ensures only { IfSome result (λ n. (m : ℕ) → IsCrlNumber m extension.now → m ≡ n) }
     ensures none { IfNone result ((n : ℕ) → IsCrlNumber n extension.now → ⊥) }
@@ -69,7 +71,7 @@ fn number_of(extension: &CertExtension) -> Option<Serial>
 }
 
 /// What the two say, if the first is an authority key identifier and the second a number.
-fn both_of(authority: &CertExtension, number: &CertExtension) -> Option<CrlExtensions>
+fn both_of(authority: &ExtensionView<'_>, number: &ExtensionView<'_>) -> Option<CrlExtensions>
     ensures some { IfSome result (λ x. IsAuthority x.authority_key_identifier authority.now
         × IsCrlNumber x.crl_number number.now) }
     ensures only { IfSome result (λ x. (v : ListExtensions) → IsAuthority v.authority authority.now
@@ -85,6 +87,19 @@ fn both_of(authority: &CertExtension, number: &CertExtension) -> Option<CrlExten
     })
 }
 
+/// What the two say, in either order.
+fn of_two(first: &ExtensionView<'_>, second: &ExtensionView<'_>) -> Option<CrlExtensions>
+    ensures some { IfSome result (λ x. AreExtensions (extensions_of x) (first.now ∷ second.now ∷ [])) }
+    ensures only { IfSome result (λ x. (v : ListExtensions) → AreExtensions v (first.now ∷ second.now ∷ [])
+        → v ≡ extensions_of x) }
+    ensures none { IfNone result ((v : ListExtensions) → AreExtensions v (first.now ∷ second.now ∷ []) → ⊥) }
+{
+    if first.id() == oid::CE_AUTHORITY_KEY_IDENTIFIER {
+        return both_of(first, second);
+    }
+    both_of(second, first)
+}
+
 impl CrlExtensions {
     /// What the extensions of a list say: two, in either order.
     fn of(all: &[CertExtension]) -> Option<CrlExtensions>
@@ -95,11 +110,41 @@ impl CrlExtensions {
         let [first, second] = all else {
             return None;
         };
-        if first.id() == oid::CE_AUTHORITY_KEY_IDENTIFIER {
-            return both_of(first, second);
-        }
-        both_of(second, first)
+        of_two(&first.view(), &second.view())
     }
+}
+
+/// What the extensions of a list say that are all of these contents: two, in either order. Allocates nothing.
+fn read_two(contents: Constructed<'_>) -> Option<CrlExtensions>
+    ensures { IsWholeOf extensions_of AreTwo (left contents.entry) result }
+{
+    let mut rest = contents;
+    let first = match ExtensionView::take_from(&mut rest) {
+        Ok(first) => first,
+        Err(_) => return None,
+    };
+    let second = match ExtensionView::take_from(&mut rest) {
+        Ok(second) => second,
+        Err(_) => return None,
+    };
+    if !rest.is_empty() {
+        return None;
+    }
+    of_two(&first, &second)
+}
+
+/// What the extensions of a list say, which are all that is left, under their tag: as [CrlExtensions::take_from] reads
+/// them. Allocates nothing.
+pub(crate) fn read_extensions(rest: Constructed<'_>) -> Option<CrlExtensions>
+    ensures { IsWholeOf extensions_of extensions.spells (left rest.entry) result }
+{
+    let Ok(list) = inside(rest, Tag::new(Class::Context, 0)) else {
+        return None;
+    };
+    let Ok(contents) = inside(list, Tag::SEQUENCE) else {
+        return None;
+    };
+    read_two(contents)
 }
 
 /// The extensions that these contents are, one after another.

@@ -5,11 +5,11 @@ use Rattle.rpki_objects.proofs.ExtensionsLaws.{authority-no-memory}
 use Rattle.rpki_objects.proofs.crl_extensions.authority_of.Goals as goal
 
 pub returns-in-Ok-clause-only : goal.returns-in-Ok-clause-only
-returns-in-Ok-clause-only c j h = let d = rw c.cursor.ensures at c.in-Ok.ensures in d.1 j h.content
+returns-in-Ok-clause-only c j h = let d = rw (c.from_slice.ensures, c.octets.ensures) at c.in-Ok.ensures in d.1 j h.content
 
 pub returns-in-Err-clause-none : goal.returns-in-Err-clause-none
 returns-in-Err-clause-none c k h =
-    let d = rw c.cursor.ensures at c.in-Err.ensures in
+    let d = rw (c.from_slice.ensures, c.octets.ensures) at c.in-Err.ensures in
     let octets = c.args.extension.now.content in
     let never = authority-no-memory octets in
     unless-memory c.in-Err.field-0

@@ -1,53 +1,35 @@
-use Rattle.std.proofs.Common.{List, rules, subst}
+use Rattle.std.proofs.Common.{List, sym, subst}
 use Rattle.rpki.specs.ExtensionValue.{ExtensionParts}
-use Rattle.rpki_objects.specs.Crl.{AreExtensions}
-use Rattle.rpki_objects.proofs.ExtensionsLaws.{some-weaker, none-weaker, two-items, in-order, turned}
+use Rattle.rpki_objects.specs.Crl.{AreExtensions, extensions_of}
+use Rattle.rpki_objects.proofs.ExtensionsLaws.{some-weaker, none-weaker, two-items}
 use Rattle.rpki_objects.proofs.crl_extensions.CrlExtensions.of.Goals as goal
 
-pub returns-then-eq-clause-only : goal.returns-then-eq-clause-only
-returns-then-eq-clause-only c =
+pub returns-clause-some : goal.returns-clause-some
+returns-clause-some c =
     let x = c.first-item.result in
     let y = c.second-item.result in
     let two = two-items c.args.all.now x y c.in-len2.len_at_least c.in-len2.len_below c.first-item.is c.second-item.is in
-    some-weaker c.both_of.result
-    (λ k f v h.
-    let parts = in-order x y v (search rules)
-    (subst (λ (xs : List ExtensionParts). AreExtensions v xs) two h) in
-    f v parts.0 parts.1)
-    c.both_of.ensures.only
-
-pub returns-then-eq-clause-none : goal.returns-then-eq-clause-none
-returns-then-eq-clause-none c =
-    let x = c.first-item.result in
-    let y = c.second-item.result in
-    let two = two-items c.args.all.now x y c.in-len2.len_at_least c.in-len2.len_below c.first-item.is c.second-item.is in
-    none-weaker c.both_of.result
-    (λ f v h.
-    let parts = in-order x y v (search rules)
-    (subst (λ (xs : List ExtensionParts). AreExtensions v xs) two h) in
-    f v parts.0 parts.1)
-    c.both_of.ensures.none
+    let say = rw (c.view.ensures, c.view-2.ensures) at c.of_two.ensures.some in
+    some-weaker c.of_two.result
+    (λ k f. subst (λ (xs : List ExtensionParts). AreExtensions (extensions_of k) xs) (sym two) f)
+    say
 
 pub returns-clause-only : goal.returns-clause-only
 returns-clause-only c =
     let x = c.first-item.result in
     let y = c.second-item.result in
     let two = two-items c.args.all.now x y c.in-len2.len_at_least c.in-len2.len_below c.first-item.is c.second-item.is in
-    some-weaker c.both_of-2.result
-    (λ k f v h.
-    let parts = turned x y v (λ e. search rules)
-    (subst (λ (xs : List ExtensionParts). AreExtensions v xs) two h) in
-    f v parts.0 parts.1)
-    c.both_of-2.ensures.only
+    let only = rw (c.view.ensures, c.view-2.ensures) at c.of_two.ensures.only in
+    some-weaker c.of_two.result
+    (λ k f v h. f v (subst (λ (xs : List ExtensionParts). AreExtensions v xs) two h))
+    only
 
 pub returns-clause-none : goal.returns-clause-none
 returns-clause-none c =
     let x = c.first-item.result in
     let y = c.second-item.result in
     let two = two-items c.args.all.now x y c.in-len2.len_at_least c.in-len2.len_below c.first-item.is c.second-item.is in
-    none-weaker c.both_of-2.result
-    (λ f v h.
-    let parts = turned x y v (λ e. search rules)
-    (subst (λ (xs : List ExtensionParts). AreExtensions v xs) two h) in
-    f v parts.0 parts.1)
-    c.both_of-2.ensures.none
+    let none = rw (c.view.ensures, c.view-2.ensures) at c.of_two.ensures.none in
+    none-weaker c.of_two.result
+    (λ f v h. f v (subst (λ (xs : List ExtensionParts). AreExtensions v xs) two h))
+    none
