@@ -133,20 +133,21 @@ enum {
     RPKI_TOO_NEW = 50, /* the period begins after the moment */
     RPKI_TOO_OLD = 51, /* the period ended before the moment */
 
-    /* Of rpki_certificate: the part that is wrong. */
+    /* Of rpki_certificate, and of rpki_crl, which has none of 70, 73 to 75, 77 and 78: the part that is wrong. */
     RPKI_PART_CERTIFICATE = 64,     /* the SEQUENCE around all: it isn't there, or something follows it */
     RPKI_PART_SIGNED = 65,          /* what is signed is no value, with everything nested in it */
     RPKI_PART_ALGORITHM = 66,       /* the algorithm identifier behind it is not that of RSA with SHA-256 */
     RPKI_PART_SIGNATURE = 67,       /* the signature: it is no BIT STRING, has unused bits, or something follows */
     RPKI_PART_TBS = 68,             /* what is signed is no SEQUENCE */
-    RPKI_PART_VERSION = 69,         /* the version is not v3 */
+    RPKI_PART_VERSION = 69,         /* the version is not v3, or of a list not v2 */
     RPKI_PART_SERIAL_NUMBER = 70,   /* the serial number is no unsigned INTEGER of at most 20 octets */
     RPKI_PART_TBS_ALGORITHM = 71,   /* the algorithm identifier in what is signed */
     RPKI_PART_ISSUER = 72,          /* the issuer is no name */
     RPKI_PART_VALIDITY = 73,        /* the period of validity */
     RPKI_PART_SUBJECT = 74,         /* the subject is no name */
     RPKI_PART_PUBLIC_KEY = 75,      /* the subject's key */
-    RPKI_PART_EXTENSIONS = 76,      /* the extensions: there are none, one is malformed, or something follows */
+    RPKI_PART_EXTENSIONS = 76,      /* the extensions: there are none, one is malformed, or something follows; of a
+                                       list: they are not exactly the two of RFC 6487 5, neither of them critical */
     RPKI_PART_EXTENSION_COUNT = 77, /* there are more extensions than RPKI_MOST_EXTENSIONS */
     RPKI_PART_EXTENSION_IDENTIFIERS = 78, /* two extensions have the same identifier */
     RPKI_PART_SAME_ALGORITHM = 79,        /* the two algorithm identifiers differ in their parameters */
@@ -194,6 +195,12 @@ enum {
     RPKI_RULE_OWN_RESOURCES = 117,           /* none of the issuer's (RFC 8630 2.3, RFC 8209 3.1.3.5) */
     RPKI_RULE_MANIFEST_PLACE = 118,          /* the manifest lies below the repository (RFC 6487 4.8.8.1, RFC 9286 2) */
     RPKI_RULE_NOTIFICATIONS = 119,           /* told by https URIs alone (RFC 8182 3.2) */
+
+    /* Of rpki_crl alone: the part that is wrong. */
+    RPKI_PART_THIS_UPDATE = 120, /* when the list was issued */
+    RPKI_PART_NEXT_UPDATE = 121, /* when the next list is issued at the latest */
+    RPKI_PART_REVOKED_CERTS =
+        122, /* the certificates that are revoked: one is no serial number and time, and no more */
 
     /* Calls on two texts, or on two contents, add this to the number of what is wrong with the second. */
     RPKI_SECOND = 16,
@@ -370,6 +377,28 @@ struct rpki_known_extensions {
     uint8_t policy; /* RPKI_POLICY_NONE to RPKI_POLICY_TRIM */
 };
 
+/* The parts of a revocation list (RFC 5280 5.1). The name has its header, for the calls that read names. */
+struct rpki_crl_parts {
+    struct rpki_place data;          /* what is signed: a SEQUENCE, its header included */
+    struct rpki_place algorithm;     /* the algorithm identifier behind it, its header included */
+    struct rpki_place signature;     /* the octets of the signature's bits */
+    struct rpki_place issuer;        /* the issuer's name, its header included */
+    struct rpki_place revoked_certs; /* the certificates that are revoked, one after another, each with its header; of
+                                        length 0 where there are none, or the list of them is left out */
+    struct rpki_moment this_update;  /* when the list was issued */
+    struct rpki_moment next_update;  /* when the next list is issued at the latest */
+    uint8_t crl_number[20];          /* the number of the list, with zeros in front (RFC 5280 5.2.3) */
+    uint8_t authority_key_identifier[20]; /* the identifier of the key that signed the list (RFC 5280 5.2.1) */
+    bool has_parameters;                  /* whether the algorithm identifiers have parameters, a NULL */
+};
+
+/* A certificate that is revoked (RFC 5280 5.1.2.6). */
+struct rpki_revoked_certificate {
+    uint8_t serial_number[20];          /* the serial number, with zeros in front */
+    struct rpki_moment revocation_date; /* when it was revoked */
+    size_t size;                        /* how many octets the entry has, its header included */
+};
+
 /* Families of addresses, by the version of IP. */
 enum { RPKI_IPV4 = 4, RPKI_IPV6 = 6 };
 
@@ -464,6 +493,21 @@ RPKI_ASSERT_AT(certificate_parts, serial_number, 176);
 RPKI_ASSERT_AT(certificate_parts, key_format, 196);
 RPKI_ASSERT_AT(certificate_parts, key_unused, 197);
 RPKI_ASSERT_AT(certificate_parts, has_parameters, 198);
+RPKI_ASSERT(crl_parts, sizeof(struct rpki_crl_parts) == 192);
+RPKI_ASSERT_AT(crl_parts, data, 0);
+RPKI_ASSERT_AT(crl_parts, algorithm, 16);
+RPKI_ASSERT_AT(crl_parts, signature, 32);
+RPKI_ASSERT_AT(crl_parts, issuer, 48);
+RPKI_ASSERT_AT(crl_parts, revoked_certs, 64);
+RPKI_ASSERT_AT(crl_parts, this_update, 80);
+RPKI_ASSERT_AT(crl_parts, next_update, 112);
+RPKI_ASSERT_AT(crl_parts, crl_number, 144);
+RPKI_ASSERT_AT(crl_parts, authority_key_identifier, 164);
+RPKI_ASSERT_AT(crl_parts, has_parameters, 184);
+RPKI_ASSERT(revoked_certificate, sizeof(struct rpki_revoked_certificate) == 64);
+RPKI_ASSERT_AT(revoked_certificate, serial_number, 0);
+RPKI_ASSERT_AT(revoked_certificate, revocation_date, 24);
+RPKI_ASSERT_AT(revoked_certificate, size, 56);
 RPKI_ASSERT(known_extension, sizeof(struct rpki_known_extension) == 24);
 RPKI_ASSERT_AT(known_extension, octets, 0);
 RPKI_ASSERT_AT(known_extension, is_there, 16);
@@ -659,6 +703,37 @@ rpki_status rpki_certificate_extensions(const uint8_t *octets, size_t size, stru
  * 0, it is that of rpki_certificate.
  */
 rpki_status rpki_certificate_inspect(const uint8_t *octets, size_t size, uint8_t profile, bool strict);
+
+/* ---- Revocation lists ---- */
+
+/*
+ * Reads a revocation list, which is all of the octets (RFC 5280 5.1, in the form of RFC 6487 5), and says what its
+ * parts are and where they stand: signed data of RSA with SHA-256, no bit of whose signature is unused; version 2;
+ * entries without extensions; an authority key identifier of twenty octets and a number, in either order, neither
+ * critical, and no other extension; and what is signed names the same algorithm. Whether the signature is that of a
+ * key, and whether a later list is due, is not looked at. Takes no memory.
+ *
+ * Where a status is not 0, it is an RPKI_PART_ number: from 64 to 67 the part of the signed data that is wrong, the
+ * leftmost; else of 68, 69, 71, 72, 120, 121, 122, 76, in this order, the part of what is signed, the leftmost;
+ * else 79.
+ */
+rpki_status rpki_crl(const uint8_t *octets, size_t size, struct rpki_crl_parts *out);
+
+/*
+ * The entry at the front of the octets, as of what rpki_crl tells the place of: a SEQUENCE of a serial number and a
+ * time, and nothing else. What follows is not looked at: the next entry begins `size` octets on. Takes no memory. The
+ * statuses are those of the calls that read values.
+ */
+rpki_status rpki_crl_entry(const uint8_t *octets, size_t size, struct rpki_revoked_certificate *out);
+
+/*
+ * Whether one of these entries, which rpki_crl tells the place of and which are all of the octets, is of the
+ * certificate of this serial number. `out` is written where the status is RPKI_OK. All entries are read, in a step
+ * each: for many questions keep their serial numbers. Takes no memory. RPKI_CONTENT: the first bit of the serial number
+ * is set. Else the status is that of the first that is no entry, a SEQUENCE of a serial number and a time and nothing
+ * else, as of the calls that read values.
+ */
+rpki_status rpki_crl_contains(const uint8_t *octets, size_t size, const uint8_t serial[20], bool *out);
 
 /* ---- Resources: all of the octets are the contents of one extension ---- */
 
@@ -1092,6 +1167,9 @@ static inline const char *rpki_status_text(int kind, rpki_status status) {
             case RPKI_PART_EXTENSION_COUNT: return "too many extensions";
             case RPKI_PART_EXTENSION_IDENTIFIERS: return "duplicate extension";
             case RPKI_PART_SAME_ALGORITHM: return "signature algorithms differ";
+            case RPKI_PART_THIS_UPDATE: return "no time of issue";
+            case RPKI_PART_NEXT_UPDATE: return "no time of the next list";
+            case RPKI_PART_REVOKED_CERTS: return "malformed entry of a revoked certificate";
             case RPKI_WRONG_BASIC_CONSTRAINTS: return "wrong basic constraints";
             case RPKI_WRONG_SUBJECT_KEY_IDENTIFIER: return "wrong subject key identifier";
             case RPKI_WRONG_AUTHORITY_KEY_IDENTIFIER: return "wrong authority key identifier";

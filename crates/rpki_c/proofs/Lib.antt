@@ -9,7 +9,7 @@
 -- What is made on a condition: MadeLaws. Hexadecimal digits: HexTextLaws.
 -- Where octets go wrong: FaultLaws. The index, in the middle of its writing: FillingLaws.
 -- Parts of parsed URIs, by their places: RsyncPlacesLaws, HttpsPlacesLaws. Parts of certificates: CertificateLaws; that
---   one is held to a profile: InspectionLaws.
+--   one is held to a profile: InspectionLaws. Parts of revocation lists: CrlLaws.
 -- Entries of blocks, one after another, and how many there are: BlockListLaws, ViewCountLaws. Two lists of blocks gone
 --   over at once: EncompassingLaws. Statuses of contents of resources: ResourceStatusLaws.
 
@@ -35,3 +35,4 @@ mod BlockListLaws
 mod ViewCountLaws
 mod EncompassingLaws
 mod ResourceStatusLaws
+mod CrlLaws

@@ -37,3 +37,4 @@ pub mod ViewCount
 pub mod Resources
 pub mod Encompassing
 pub mod BlockText
+pub mod Crl

@@ -13,6 +13,7 @@ mod block_texts;
 mod certificate;
 mod certificate_extensions;
 mod certificate_inspection;
+mod crl;
 mod digits;
 mod encompassing;
 mod extension_writing;

@@ -98,6 +98,8 @@ pub(crate) const RULE_RESOURCE_BLOCKS: Status = 116;
 pub(crate) const RULE_OWN_RESOURCES: Status = 117;
 pub(crate) const RULE_MANIFEST_PLACE: Status = 118;
 pub(crate) const RULE_NOTIFICATIONS: Status = 119;
+pub(crate) const PART_THIS_UPDATE: Status = 120;
+pub(crate) const PART_NEXT_UPDATE: Status = 121;
 pub(crate) const SECOND: Status = 16;
 pub(crate) const MISSING_COMMON_NAME: Status = 32;
 pub(crate) const SECOND_COMMON_NAME: Status = 33;
@@ -275,6 +277,31 @@ const _: () = assert!(size_of::<KnownExtensions>() == 360);
 
 #[repr(C)]
 #[derive(Clone, Copy, Default)]
+pub(crate) struct CrlParts {
+    pub(crate) data: Place,
+    pub(crate) algorithm: Place,
+    pub(crate) signature: Place,
+    pub(crate) issuer: Place,
+    pub(crate) revoked_certs: Place,
+    pub(crate) this_update: Moment,
+    pub(crate) next_update: Moment,
+    pub(crate) crl_number: [u8; 20],
+    pub(crate) authority_key_identifier: [u8; 20],
+    pub(crate) has_parameters: bool,
+}
+const _: () = assert!(size_of::<CrlParts>() == 192);
+
+#[repr(C)]
+#[derive(Clone, Copy, Default)]
+pub(crate) struct RevokedCertificate {
+    pub(crate) serial_number: [u8; 20],
+    pub(crate) revocation_date: Moment,
+    pub(crate) size: usize,
+}
+const _: () = assert!(size_of::<RevokedCertificate>() == 64);
+
+#[repr(C)]
+#[derive(Clone, Copy, Default)]
 pub(crate) struct IpBlock {
     pub(crate) low: [u8; 16],
     pub(crate) high: [u8; 16],
@@ -332,6 +359,9 @@ extern "C" {
     pub(super) fn rpki_certificate(octets: *const u8, size: usize, out: *mut CertificateParts) -> Status;
     pub(super) fn rpki_certificate_extensions(octets: *const u8, size: usize, out: *mut KnownExtensions) -> Status;
     pub(super) fn rpki_certificate_inspect(octets: *const u8, size: usize, profile: u8, strict: bool) -> Status;
+    pub(super) fn rpki_crl(octets: *const u8, size: usize, out: *mut CrlParts) -> Status;
+    pub(super) fn rpki_crl_entry(octets: *const u8, size: usize, out: *mut RevokedCertificate) -> Status;
+    pub(super) fn rpki_crl_contains(octets: *const u8, size: usize, serial: *const [u8; 20], out: *mut bool) -> Status;
     pub(super) fn rpki_ip_blocks(
         octets: *const u8,
         size: usize,

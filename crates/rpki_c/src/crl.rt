@@ -1,0 +1,158 @@
+//! Revocation lists.
+
+ghost use Rattle.std.specs.Prelude.{◌≡◌};
+ghost use Rattle.rpki_objects.specs.Crl.{CrlParts};
+ghost use Rattle.rpki_objects.specs.CrlView.{IsCrlAt};
+ghost use Rattle.rpki_c.specs.Crl.{crl_part_number, HasCrl, IsCrlRead, IsCrlSearched, IsEntryRead};
+
+use crate::certificate::place_of;
+use crate::place::Place;
+use crate::status::CONTENT;
+use crate::times::{Moment, moment_of};
+use rpki::crypto::SignatureAlgorithm;
+use rpki_der::Constructed;
+use rpki_objects::{CrlEntry, CrlPart, CrlView, entries_contain};
+use rpki_time::Serial;
+
+/// The parts of a revocation list.
+#[repr(C)]
+#[derive(Clone, Copy)]
+pub struct RevocationList {
+    /// What is signed, a SEQUENCE, with its header.
+    pub data: Place,
+    /// The algorithm identifier, with its header.
+    pub algorithm: Place,
+    /// The octets of the signature.
+    pub signature: Place,
+    /// The issuer, a name, with its header.
+    pub issuer: Place,
+    /// The entries, one after another; of length 0 where the list of them is left out.
+    pub revoked_certs: Place,
+    /// When the list was issued.
+    pub this_update: Moment,
+    /// When the next list is issued at the latest.
+    pub next_update: Moment,
+    /// The number of the list, with zeros in front.
+    pub crl_number: [u8; 20],
+    /// The identifier of the key that signed the list.
+    pub authority_key_identifier: [u8; 20],
+    /// Whether the algorithm has parameters, a NULL.
+    pub has_parameters: bool,
+}
+
+/// How a part that is wrong is passed.
+fn crl_part_number(part: CrlPart) -> u8
+    ensures { result ≡ crl_part_number part }
+{
+    match part {
+        CrlPart::List => 64,
+        CrlPart::Signed => 65,
+        CrlPart::Algorithm => 66,
+        CrlPart::Signature => 67,
+        CrlPart::Tbs => 68,
+        CrlPart::Version => 69,
+        CrlPart::TbsAlgorithm => 71,
+        CrlPart::Issuer => 72,
+        CrlPart::Extensions => 76,
+        CrlPart::SameAlgorithm => 79,
+        CrlPart::ThisUpdate => 120,
+        CrlPart::NextUpdate => 121,
+        CrlPart::RevokedCerts => 122,
+    }
+}
+
+/// The parts of the revocation list that the octets are.
+fn list_of(octets: &[u8], found: &CrlView<'_>) -> RevocationList
+    requires { (x : CrlParts) × IsCrlAt octets.now found.now x }
+    ensures { HasCrl octets.now result }
+{
+    let total = octets.len();
+    let behind = found.data.following;
+    let tbs = &found.tbs;
+    RevocationList {
+        data: place_of(total, 0, found.data),
+        algorithm: place_of(total, 0, found.algorithm),
+        signature: place_of(total, 0, found.signature),
+        issuer: place_of(total, behind, tbs.issuer),
+        revoked_certs: place_of(total, behind, tbs.revoked_certs),
+        this_update: moment_of(tbs.this_update),
+        next_update: moment_of(tbs.next_update),
+        crl_number: tbs.extensions.crl_number.into_array(),
+        authority_key_identifier: <[u8; 20]>::from(tbs.extensions.authority_key_identifier),
+        has_parameters: found.kind.has_parameters(),
+    }
+}
+
+/// Reads a revocation list (RFC 5280 5.1, RFC 6487 5), and says what its parts are and where they stand.
+///
+/// The status is 0. Else it is the number of the part that is wrong, and `out` is unchanged: of the signed data the
+/// leftmost; then of what is signed the leftmost; then that both algorithm identifiers are the same. Nothing is
+/// allocated.
+#[unsafe(no_mangle)]
+pub extern "C" fn rpki_crl(octets: &[u8], out: &mut RevocationList) -> u8
+    ensures { IsCrlRead octets.now result out.old out.new }
+{
+    match CrlView::read(octets) {
+        Ok(found) => {
+            *out = list_of(octets, &found);
+            0
+        }
+        Err(part) => crl_part_number(part),
+    }
+}
+
+/// Finds whether one of the entries of a revocation list, which are all of the octets, has this serial number, which is
+/// given by its twenty octets, the most significant first. All entries are read.
+///
+/// The status is 0; `CONTENT` where the first bit of the serial number is set, before the octets are looked at; else
+/// the number of the error of the first that is no entry. `out` is unchanged where the status is not 0. Nothing is
+/// allocated.
+#[unsafe(no_mangle)]
+pub extern "C" fn rpki_crl_contains(octets: &[u8], serial: &[u8; 20], out: &mut bool) -> u8
+    ensures { IsCrlSearched serial.now octets.now result out.old out.new }
+{
+    let Ok(number) = Serial::from_array(*serial) else {
+        return CONTENT;
+    };
+    match entries_contain(octets, number) {
+        Ok(found) => {
+            *out = found;
+            0
+        }
+        Err(e) => e.number(),
+    }
+}
+
+/// A certificate that is revoked.
+#[repr(C)]
+#[derive(Clone, Copy)]
+pub struct RevokedCertificate {
+    /// The serial number, with zeros in front.
+    pub serial_number: [u8; 20],
+    /// When it was revoked.
+    pub revocation_date: Moment,
+    /// How many octets the entry has.
+    pub size: usize,
+}
+
+/// Reads the entry of a revocation list at the front of the octets, a SEQUENCE of a serial number and a time and nothing
+/// else (RFC 5280 5.1.2.6, RFC 6487 5). What follows is not looked at.
+///
+/// The status is 0, or the number of the error; then `out` is unchanged. Nothing is allocated.
+#[unsafe(no_mangle)]
+pub extern "C" fn rpki_crl_entry(octets: &[u8], out: &mut RevokedCertificate) -> u8
+    ensures { IsEntryRead octets.now result out.old out.new }
+{
+    let mut rest = Constructed::from_slice(octets);
+    match CrlEntry::take_from(&mut rest) {
+        Ok(entry) => {
+            *out = RevokedCertificate {
+                serial_number: entry.user_certificate.into_array(),
+                revocation_date: moment_of(entry.revocation_date),
+                size: octets.len() - rest.rest().len(),
+            };
+            0
+        }
+        Err(e) => e.number(),
+    }
+}

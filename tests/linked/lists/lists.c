@@ -1,0 +1,212 @@
+/*
+ * Reads revocation lists with rpki_crl, and compares statuses and what is found with those of rows that rows.py writes;
+ * then asks rpki_crl_contains for each serial number on a list, and for others. What a call refuses leaves `out` as it
+ * was. No call allocates.
+ *
+ * usage: lists ROWS
+ */
+#include "../memory.h"
+
+#include <stdio.h>
+#include <stdlib.h>
+#include <string.h>
+
+#include "rpki.h"
+
+enum { FILL = 0x5A, MOST_OCTETS = 1 << 16, LINE = 6 * MOST_OCTETS };
+
+static unsigned passed = 0, failed = 0;
+
+static void judge(unsigned line, const char *what, bool well) {
+    if (well) {
+        passed++;
+        return;
+    }
+    failed++;
+    printf("line %u: %s\n", line, what);
+}
+
+static bool untouched(const void *out, size_t size) {
+    const unsigned char *octets = out;
+    size_t at;
+    for (at = 0; at < size; at++) {
+        if (octets[at] != FILL) return false;
+    }
+    return true;
+}
+
+static size_t hexadecimal(const char *digits, uint8_t *octets) {
+    size_t size = 0;
+    unsigned octet;
+    for (; sscanf(digits, "%2x", &octet) == 1 && digits[0] > ' ' && digits[1] > ' '; digits += 2) {
+        octets[size++] = (uint8_t)octet;
+    }
+    return size;
+}
+
+/* Memory of exactly these octets, so that a read beyond them is seen by a sanitizer. */
+static uint8_t *exactly(const uint8_t *octets, size_t size) {
+    uint8_t *copy = malloc(size ? size : 1);
+    if (!copy) exit(2);
+    if (size) memcpy(copy, octets, size);
+    return copy;
+}
+
+static rpki_status read_list(const uint8_t *octets, size_t size, struct rpki_crl_parts *out, bool *clean) {
+    uint8_t *copy = exactly(octets, size);
+    rpki_status status;
+    memset(out, FILL, sizeof *out);
+    count_allocations(0);
+    status = rpki_crl(copy, size, out);
+    *clean = allocations(clean) == 0;
+    count_allocations(NONE_REFUSED);
+    free(copy);
+    if (status != RPKI_OK) *clean = *clean && untouched(out, sizeof *out);
+    return status;
+}
+
+/* The status of a search, and what it answers: 0, 1, or FILL where nothing is written. */
+static rpki_status search(const uint8_t *octets, size_t size, const uint8_t *serial, unsigned char *answer,
+                          bool *clean) {
+    uint8_t *copy = exactly(octets, size), *number = exactly(serial, 20);
+    bool found;
+    rpki_status status;
+    memset(&found, FILL, sizeof found);
+    count_allocations(0);
+    status = rpki_crl_contains(copy, size, number, &found);
+    *clean = allocations(clean) == 0;
+    count_allocations(NONE_REFUSED);
+    free(copy);
+    free(number);
+    memcpy(answer, &found, 1);
+    return status;
+}
+
+static char *tell_octets(const uint8_t *octets, char *text) {
+    size_t number;
+    for (number = 0; number < 20; number++) text += sprintf(text, "%02x", octets[number]);
+    return text;
+}
+
+/* What was found, in the words of the row. */
+static void tell(const struct rpki_crl_parts *found, char *text) {
+    const struct rpki_place *places[5];
+    size_t number;
+    places[0] = &found->data, places[1] = &found->algorithm, places[2] = &found->signature;
+    places[3] = &found->issuer, places[4] = &found->revoked_certs;
+    for (number = 0; number < 5; number++) {
+        text += sprintf(text, "%zu %zu ", places[number]->start, places[number]->length);
+    }
+    text += sprintf(text, "%lld %lld ", (long long)found->this_update.seconds, (long long)found->next_update.seconds);
+    text = tell_octets(found->crl_number, text);
+    *text++ = ' ';
+    text = tell_octets(found->authority_key_identifier, text);
+    sprintf(text, " %u", found->has_parameters);
+}
+
+/* Asks for each serial number of the words, and for the numbers beside it, which are not among them. */
+static void ask(unsigned line, const uint8_t *entries, size_t size, const char *words) {
+    static const uint8_t negative[20] = {0x80};
+    const char *all = words;
+    unsigned char answer;
+    bool clean, well = true;
+    for (; words; words = strchr(words + 1, ' ')) {
+        uint8_t number[20];
+        char next[41];
+        hexadecimal(words + 1, number);
+        well = search(entries, size, number, &answer, &clean) == RPKI_OK && clean && answer == 1 && well;
+        number[0] ^= 0x40;
+        tell_octets(number, next);
+        if (strstr(all, next)) continue;
+        well = search(entries, size, number, &answer, &clean) == RPKI_OK && clean && answer == 0 && well;
+    }
+    judge(line, "a search", well);
+    well = search(entries, size, negative, &answer, &clean) == RPKI_CONTENT && clean && answer == FILL;
+    judge(line, "a search for a number below 0", well);
+}
+
+/* Reads the entries one after another, whose serial numbers are the words. */
+static void walk(unsigned line, const uint8_t *entries, size_t size, const char *words) {
+    size_t at = 0;
+    bool clean, well = true;
+    for (; words; words = strchr(words + 1, ' ')) {
+        uint8_t number[20], *copy = exactly(entries + at, size - at);
+        struct rpki_revoked_certificate found;
+        count_allocations(0);
+        well = rpki_crl_entry(copy, size - at, &found) == RPKI_OK && well;
+        well = allocations(&clean) == 0 && well;
+        count_allocations(NONE_REFUSED);
+        free(copy);
+        hexadecimal(words + 1, number);
+        well = well && !memcmp(found.serial_number, number, 20) && found.size <= size - at;
+        if (!well) break;
+        at += found.size;
+    }
+    judge(line, "the entries, one after another", well && at == size);
+}
+
+/* The words are a status and what is found. */
+static void list(unsigned line, const uint8_t *octets, size_t size, const char *words) {
+    static char told[1024];
+    struct rpki_crl_parts out;
+    unsigned wanted = (unsigned)strtoul(words, (char **)&words, 10);
+    bool clean;
+    rpki_status status = read_list(octets, size, &out, &clean);
+    judge(line, "allocates, or writes what it refuses", clean);
+    if (status != wanted) printf("status %u, not %u\n", status, wanted);
+    judge(line, "the status", status == wanted);
+    if (wanted != RPKI_OK || status != RPKI_OK) return;
+    tell(&out, told);
+    if (strncmp(told, words + 1, strlen(told))) printf("%s\nnot %s\n", told, words + 1);
+    judge(line, "the parts", !strncmp(told, words + 1, strlen(told)));
+    words += 1 + strlen(told);
+    ask(line, octets + out.revoked_certs.start, out.revoked_certs.length, *words ? words : NULL);
+    walk(line, octets + out.revoked_certs.start, out.revoked_certs.length, *words ? words : NULL);
+}
+
+/* The word is the status of a search in the entries. */
+static void entries(unsigned line, const uint8_t *octets, size_t size, const char *word) {
+    static const uint8_t number[20] = {0x40};
+    unsigned wanted = (unsigned)strtoul(word, NULL, 10);
+    unsigned char answer;
+    bool clean;
+    rpki_status status = search(octets, size, number, &answer, &clean);
+    if (status != wanted) printf("status %u, not %u\n", status, wanted);
+    judge(line, "entries", status == wanted && clean && answer == (wanted == RPKI_OK ? 0 : FILL));
+}
+
+static void beginnings(const uint8_t *octets, size_t size) {
+    struct rpki_crl_parts out;
+    size_t count;
+    bool clean, well = true;
+    for (count = 0; count < size; count++) {
+        well = read_list(octets, count, &out, &clean) == RPKI_PART_CERTIFICATE && clean && well;
+    }
+    judge(1, "each beginning", well);
+}
+
+static void row(unsigned line, const char *text) {
+    static uint8_t octets[MOST_OCTETS];
+    const char *digits = strchr(text, ' ') + 1, *words = strchr(digits, ' ') + 1;
+    size_t size = *digits == '-' ? 0 : hexadecimal(digits, octets);
+    if (line == 1) beginnings(octets, size);
+    if (!strncmp(text, "list ", 5)) {
+        list(line, octets, size, words);
+    } else {
+        entries(line, octets, size, words);
+    }
+}
+
+int main(int count, char **words) {
+    static char text[LINE];
+    unsigned line = 0;
+    FILE *file = count == 2 ? fopen(words[1], "r") : NULL;
+    if (!file) return 2;
+    while (fgets(text, sizeof text, file)) {
+        text[strcspn(text, "\n")] = 0;
+        row(++line, text);
+    }
+    fclose(file);
+    printf("%u passed, %u failed\n", passed, failed);
+    return failed || line == 0;
+}
