@@ -105,6 +105,8 @@ readers! {
     key_identifier_of_hex(rpki_key_identifier_of_hex) -> [u8; 20];
     certificate(rpki_certificate) -> CertificateParts;
     certificate_extensions(rpki_certificate_extensions) -> KnownExtensions;
+    crl(rpki_crl) -> CrlParts;
+    crl_entry(rpki_crl_entry) -> RevokedCertificate;
     rsync_parse(rpki_rsync_parse) -> RsyncParts;
     rsync_parent(rpki_rsync_parent) -> usize;
     https_parse(rpki_https_parse) -> HttpsParts;
@@ -214,6 +216,12 @@ pub(crate) fn certificate_inspect(octets: &[u8], profile: u8, strict: bool) -> R
     compared();
     // SAFETY: pointer and size are those of one slice, which is borrowed for the call.
     done(unsafe { rpki_certificate_inspect(octets.as_ptr(), octets.len(), profile, strict) })
+}
+
+/// Whether one of the entries of a revocation list has this serial number.
+pub(crate) fn crl_contains(entries: &[u8], serial: &[u8; 20]) -> Result<bool, Status> {
+    // SAFETY: pointer and size are those of one slice, which is borrowed for the call, as is the serial number.
+    told(|out| unsafe { rpki_crl_contains(entries.as_ptr(), entries.len(), serial, out) })
 }
 
 pub(crate) fn rsync_relative_to(uri: &[u8], base: &[u8]) -> Result<Place, Status> {
