@@ -83,7 +83,11 @@ pub fn tell(
             tell_parts(report, &list)?;
             tell_entries(report, &list)?;
         }
-        ("contains", Ok(list)) => tell_asked(report, &list, asked)?,
+        ("contains", Ok(mut list)) => {
+            tell_asked(report, &list, asked)?;
+            list.cache_serials(alloc)?;
+            tell_asked(report, &list, asked)?;
+        }
         ("read", Err(DecodeError::OutOfMemory)) => report.words("out of memory")?,
         ("read", Err(e)) => report.shown("rejected", &e)?,
         _ => return Err(Failure::Usage),
