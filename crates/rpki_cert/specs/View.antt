@@ -46,7 +46,9 @@ pub data FirstWrong {V : Type 0} (G : V → List ℕ → Type 0) (part : CertPar
 
 -- ---- extensions
 
--- how many are compared with one another at most
+-- How many are compared with one another at most. RFC 5280 4.2 has no bound: a certificate of more extensions, all of
+-- them well-formed and each with an identifier of its own, is valid and yet refused. The part that is named then,
+-- `ExtensionCount`, is the bound of this reader and nothing that the RFC forbids. The RPKI defines fewer than twenty.
 abbrev pub most_extensions : ℕ
 most_extensions = 64
 
@@ -66,6 +68,7 @@ pub record IsIdentified (s identifier q : List ℕ) : Type 0 where
 abbrev pub ending : List ℕ → ℕ
 ending id = slice_index id (length id - 1)
 
+-- the extensions are refused: they are no such list, or they are more than are compared, or two have one identifier
 pub data AreExtensionsWrong (s : List ℕ) (q : CertPart) : Type 0 where
   NotListed : SpellsNothing SpellsListed s → q ≡ Extensions → AreExtensionsWrong s q
   TooMany : (xs : List ExtensionParts) → SpellsListed xs s → most_extensions < length xs → q ≡ ExtensionCount
