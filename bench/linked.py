@@ -1,8 +1,8 @@
 #!/usr/bin/env python3
-"""Times the calls of the C library in one process (bench/linked.c; bench/resources.c those on resources) beside plain C
-with the same checks (bench/plain.c) and, where their headers are there, libcrypto and mbedtls (Debian's libssl-dev,
-libmbedtls-dev); and walks and signed data from Rust (bench/peers) beside the crates bcder and asn1, where Debian's
-packages of them (librust-bcder-dev, librust-asn1-dev) are there.
+"""Times the calls of the C library in one process (bench/linked.c; bench/resources.c those on resources, bench/texts.c
+serial numbers and base 64 as texts) beside plain C with the same checks (bench/plain.c) and, where their headers are
+there, libcrypto and mbedtls (Debian's libssl-dev, libmbedtls-dev); and walks and signed data from Rust (bench/peers)
+beside the crates bcder and asn1, where Debian's packages of them (librust-bcder-dev, librust-asn1-dev) are there.
 
 usage: bench/linked.py            (after bindings/archive)"""
 import base64
@@ -99,9 +99,10 @@ def main():
         print(f"{os.cpu_count()} cores, {time.strftime('%Y-%m-%d')}, beside {', '.join(found) or 'plain C alone'}")
         sys.stdout.flush()
         subprocess.run([program, CERTIFICATE, *roots(folder)], check=True)
-        resources = os.path.join(folder, "resources")
-        subprocess.run([*COMPILER, os.path.join(TOP, "bench", "resources.c"), ARCHIVE, "-o", resources], check=True)
-        subprocess.run([resources], check=True)
+        for name in ("resources", "texts"):
+            program = os.path.join(folder, name)
+            subprocess.run([*COMPILER, os.path.join(TOP, "bench", f"{name}.c"), ARCHIVE, "-o", program], check=True)
+            subprocess.run([program], check=True)
         if peers:
             subprocess.run([os.path.join(folder, "target", "release", "peers"), CERTIFICATE], check=True)
 
