@@ -37,6 +37,25 @@ fn store_encoded(engine: &GeneralPurpose, octets: &[u8], out: &mut [u8], written
     }
 }
 
+// An engine's tables are laid out on the stack where a function that names it begins: so each is named by a function of
+// its own, which isn't put into its callers.
+
+/// The same with the standard alphabet and padding.
+#[inline(never)]
+fn store_standard(octets: &[u8], out: &mut [u8], written: &mut usize) -> u8
+    ensures { IsStored (encode_of standard octets.now) result out.old out.new written.new }
+{
+    store_encoded(&STANDARD, octets, out, written)
+}
+
+/// The same with the alphabet that is safe in URLs, and no padding.
+#[inline(never)]
+fn store_url_safe(octets: &[u8], out: &mut [u8], written: &mut usize) -> u8
+    ensures { IsStored (encode_of url_safe_no_pad_indifferent octets.now) result out.old out.new written.new }
+{
+    store_encoded(&URL_SAFE_NO_PAD_INDIFFERENT, octets, out, written)
+}
+
 /// Writes the text of the octets in base 64 to the front of the buffer: with the standard alphabet and padding, or with
 /// the one that is safe in URLs and none. Allocates nothing.
 ///
@@ -52,9 +71,9 @@ pub extern "C" fn rpki_base64_write(
     ensures { IsStored (encoded_of url_safe octets.now) result out.old out.new written.new }
 {
     if url_safe {
-        store_encoded(&URL_SAFE_NO_PAD_INDIFFERENT, octets, out, written)
+        store_url_safe(octets, out, written)
     } else {
-        store_encoded(&STANDARD, octets, out, written)
+        store_standard(octets, out, written)
     }
 }
 
@@ -153,7 +172,41 @@ fn store_short(
     }
 }
 
+/// The same with the standard alphabet and padding.
+#[inline(never)]
+fn store_short_standard(
+    text: &[u8],
+    len: usize,
+    out: &mut [u8],
+    written: &mut usize,
+    at: &mut usize,
+) -> u8
+    requires { length text.now ≤ most_short }
+    ensures { IsDecodedTo (decode_of standard text.now) len result out.old out.new written.old written.new
+        at.old at.new }
+{
+    store_short(&STANDARD, text, len, out, written, at)
+}
+
+/// The same with the alphabet that is safe in URLs, and with padding or without.
+#[inline(never)]
+fn store_short_slurm(text: &[u8], out: &mut [u8], written: &mut usize, at: &mut usize) -> u8
+    requires { length text.now ≤ most_short }
+    ensures { IsDecodedTo (decode_of url_safe_no_pad_indifferent text.now) (length text.now) result out.old out.new
+        written.old written.new at.old at.new }
+{
+    store_short(
+        &URL_SAFE_NO_PAD_INDIFFERENT,
+        text,
+        text.len(),
+        out,
+        written,
+        at,
+    )
+}
+
 /// The same of a short text of an XML document: what is read is the text without its white space.
+#[inline(never)]
 fn store_short_xml(text: &[u8], out: &mut [u8], written: &mut usize, at: &mut usize) -> u8
     requires { length text.now ≤ most_short }
     ensures { IsDecodedTo (xml_decode_of text.now) (length text.now) result out.old out.new written.old written.new
@@ -167,7 +220,7 @@ fn store_short_xml(text: &[u8], out: &mut [u8], written: &mut usize, at: &mut us
             count += 1;
         }
     }
-    store_short(&STANDARD, &bare[..count], text.len(), out, written, at)
+    store_short_standard(&bare[..count], text.len(), out, written, at)
 }
 
 /// The same of a short text of an XML document in octets, which may not be UTF-8.
@@ -199,15 +252,8 @@ fn store_short_of(
 {
     match flavour {
         0 => store_short_bytes(text, out, written, at),
-        1 => store_short(&STANDARD, text, text.len(), out, written, at),
-        _ => store_short(
-            &URL_SAFE_NO_PAD_INDIFFERENT,
-            text,
-            text.len(),
-            out,
-            written,
-            at,
-        ),
+        1 => store_short_standard(text, text.len(), out, written, at),
+        _ => store_short_slurm(text, out, written, at),
     }
 }
 
