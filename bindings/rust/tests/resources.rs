@@ -469,3 +469,28 @@ fn choices() {
     assert_eq!(IpResources::blocks(IpBlocks::empty()), IpResources::missing());
     assert_eq!(InheritedResources.to_string(), "inherited resources");
 }
+
+/// Blocks and lists are serialized as their texts, and other texts are rejected.
+#[cfg(feature = "serde")]
+#[test]
+fn serialized() {
+    fn as_text<T>(text: &str, wanted: &str)
+    where
+        T: PartialEq + std::fmt::Debug + std::str::FromStr + serde::Serialize + serde::de::DeserializeOwned,
+    {
+        let value = text.parse::<T>().unwrap_or_else(|_| panic!("{text}"));
+        let quoted = format!("{wanted:?}");
+        assert_eq!(serde_json::to_string(&value).unwrap(), quoted);
+        assert_eq!(serde_json::from_str::<T>(&quoted).unwrap(), value);
+        assert_eq!(serde_json::from_str::<T>(&format!("{text:?}")).unwrap(), value);
+        for other in ["\"-\"", "\"AS1,\"", "\"10.0.0.0/33\"", "5", "null", "[]"] {
+            assert!(serde_json::from_str::<T>(other).is_err(), "{other}");
+        }
+    }
+    as_text::<AsBlock>("1-5", "AS1-AS5");
+    as_text::<AsBlocks>("AS4, AS1-AS3", "AS1-AS4");
+    as_text::<AsBlocks>("", "");
+    as_text::<Ipv4Blocks>("10.128.0.0/9,10.0.0.0/9", "10.0.0.0/8");
+    as_text::<Ipv4Blocks>("10.2.48.0-10.2.64.255", "10.2.48.0-10.2.64.255");
+    as_text::<Ipv6Blocks>("2001:db8:0:0::/32, ::1", "::1/128, 2001:db8::/32");
+}
