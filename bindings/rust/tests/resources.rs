@@ -78,6 +78,10 @@ fn entries(found: Option<IpResources>, is_v4: bool) -> Vec<String> {
 
 fn ip(number: usize, octets: &[u8], wanted: Result<&[&str], DecodeError>) {
     let found = IpResources::decode_families(octets).map(|(v4, v6)| {
+        // Contents are spelled in one way.
+        let told = |found: &Option<IpResources>| found.clone().unwrap_or_else(IpResources::missing);
+        let again = IpResources::encode_families(&told(&v4), &told(&v6));
+        assert_eq!(again.as_deref(), Some(octets), "row {number}");
         for (found, is_v4) in [(&v4, true), (&v6, false)] {
             if let Some(Ok(blocks)) = found.as_ref().map(IpResources::to_blocks) {
                 round_trip(&blocks, is_v4);
@@ -103,6 +107,7 @@ fn round_trip(blocks: &IpBlocks, is_v4: bool) {
 fn numbers(number: usize, octets: &[u8], wanted: Result<&[&str], DecodeError>) {
     let entry = |block: AsBlock| format!("{}:{}:0:{block}", block.min().into_u32(), block.max().into_u32());
     let found = AsResources::decode(octets).map(|found| match found.to_blocks() {
+        _ if found.encode().as_deref() != Some(octets) => panic!("row {number}: {found} is written otherwise"),
         Ok(blocks) => {
             assert_eq!(blocks.to_string().parse::<AsBlocks>().as_ref(), Ok(&blocks), "row {number}");
             assert_eq!(found.to_string(), blocks.to_string(), "row {number}");
@@ -453,6 +458,8 @@ fn choices() {
         assert_eq!(all.iter().filter(|other| are_equal(*other, choice)).count(), 1, "{text}");
     }
     assert_eq!(AsResources::blocks(AsBlocks::empty()), AsResources::missing());
+    assert_eq!(AsResources::missing().encode(), None);
+    assert_eq!(IpResources::encode_families(&IpResources::missing(), &IpResources::missing()), None);
     assert_ne!(AsResources::blocks("AS135".parse().unwrap()), all[2]);
 
     let blocks: IpBlocks = "10.0.0.0/8".parse::<Ipv4Blocks>().unwrap().into();

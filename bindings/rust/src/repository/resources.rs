@@ -5,6 +5,7 @@
 
 mod asn;
 mod choice;
+mod encode;
 mod ip;
 mod numbers;
 
