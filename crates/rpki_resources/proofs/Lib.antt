@@ -7,7 +7,7 @@
 -- Blocks one behind another, counted, given by a cursor and kept: FollowLaws, ViewLaws, KeptLaws.
 -- Choices and families; that reading them takes no memory: ExtensionLaws, FamilyLaws, NoMemoryLaws.
 -- What a list is written as, by its prefixes and ranges: ListTextLaws. As what a text is read: AsReadLaws, IpReadLaws,
--- AddressTextLaws; of a list ListReadLaws.
+-- AddressTextLaws; of a list ListReadLaws; that it is read back ListReadBackLaws.
 -- Down a chain: SettledLaws.
 -- What is written: octets of numbers, addresses, ends of ranges, blocks: NumberOctetsLaws, AddressWritingLaws,
 -- StrippedLaws, BlockWritingLaws. That it is read back: BlockReadBackLaws, ResourcesWritingLaws. That equal octets are
@@ -48,3 +48,4 @@ pub mod AsReadLaws
 pub mod IpReadLaws
 pub mod AddressTextLaws
 pub mod ListReadLaws
+pub mod ListReadBackLaws

@@ -1,5 +1,5 @@
 -- Texts of lists of blocks, as they are read.
-use Rattle.std.proofs.Common.{◌≡◌, ◌≢◌, ◌≤◌, ◌<◌, ◌⊎◌, inl, inr, ℕ, zero, suc, Bool, true, false, List, [], ◌∷◌, ◌++◌, length, get_or, refl, sym, ap, ◌∙◌, subst, append_assoc, arith}
+use Rattle.std.proofs.Common.{◌≡◌, ◌≢◌, inl, inr, ℕ, suc, Bool, true, false, List, [], ◌∷◌, ◌++◌, length, refl, sym, ap, ◌∙◌, subst, append_assoc, arith}
 use Rattle.std.specs.Prelude.{Option, Some, None, ◌==◌}
 use Rattle.std.specs.Str.{trim}
 use Rattle.std.proofs.lemmas.List.{append-nil}
@@ -20,7 +20,7 @@ use Rattle.rpki_resources.specs.declared.ip_text.IpBlock.TheVariants.{Prefix as 
 use Rattle.rpki_resources.specs.declared.list_read.ParseBlocksError.{ParseBlocksError}
 use Rattle.rpki_resources.specs.declared.list_read.ParseBlocksError.TheVariants.{OutOfMemory}
 use Rattle.rpki_resources.specs.Text.{IsAddressOfNumber, IsIpBlockOf}
-use Rattle.rpki_resources.specs.IpRead.{family_of, IsPrefixText, IsIpBlockText}
+use Rattle.rpki_resources.specs.IpRead.{family_of, IsIpBlockText}
 use Rattle.rpki_resources.specs.ListRead.{family_of_block, parts_at_commas, parts_of_rest, IsBlockText, IsBlockTextError, AreBlockTexts, AreBlockTextsError}
 use Rattle.rpki_resources.proofs.AsReadLaws.{not-plain, one-split}
 use Rattle.rpki_resources.proofs.IpReadLaws.{HasNo, one-cut, number-none, some-there}
@@ -41,9 +41,6 @@ one-part (x ∷ xs) h = elim (eqb_tells x 44) [
 pub record Reading (kind : ResourceKind) (text : List ℕ) (found : List Block) (left : Option (List ℕ)) : Type 0 where
   pub accepted : (bs : List Block) → AreBlockTexts kind (parts_of_rest left) bs → AreBlockTexts kind (parts_at_commas text) (found ++ bs)
   pub refused : (e : ParseBlocksError) → AreBlockTextsError kind (parts_of_rest left) e → AreBlockTextsError kind (parts_at_commas text) e
-
-pub reading-start : (kind : ResourceKind) (text : List ℕ) (found : List Block) → found ≡ [] → Reading kind text found (Some text)
-reading-start kind text found none = record { accepted = λ bs h. rw none h; refused = λ e h. h }
 
 module _ (kind : ResourceKind) (text : List ℕ) (found : List Block) (here part : List ℕ) (rest : Option (List ℕ))
     (is : Reading kind text found (Some here)) (parts : parts_at_commas here ≡ part ∷ parts_of_rest rest) where

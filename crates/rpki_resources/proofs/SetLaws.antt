@@ -1,8 +1,8 @@
 -- The numbers of blocks in any order.
-use Rattle.std.proofs.Common.{◌≡◌, ◌≢◌, ◌≤◌, ◌<◌, ◌⊎◌, ◌↔◌, inl, inr, ℕ, List, [], ◌∷◌, ◌++◌, refl, sym, ap, ◌∙◌, subst, take, drop, arith}
+use Rattle.std.proofs.Common.{◌≡◌, inl, inr, List, ◌++◌, sym, subst}
 use Rattle.std.specs.Prelude.{Result, Ok, Err, IfOk}
 use Rattle.rpki_resources.specs.declared.block.Block.{Block}
-use Rattle.rpki_resources.specs.Blocks.{IsIn, IsAmong, AreCanonical, AreUnited, AreNumbersOf}
+use Rattle.rpki_resources.specs.Blocks.{IsAmong, AreUnited, AreNumbersOf}
 use Rattle.rpki_resources.proofs.MergeLaws.{among-append}
 
 -- the numbers of two parts of a list together are those of the list

@@ -15,7 +15,7 @@ use Rattle.rpki_resources.specs.declared.list_read.ParseBlocksError.{ParseBlocks
 use Rattle.rpki_resources.specs.declared.list_read.ParseBlocksError.TheVariants.{BadIpBlock, BadAsBlock, OutOfMemory}
 use Rattle.rpki_resources.specs.Blocks.{AreNumbersOf}
 use Rattle.rpki_resources.specs.AsRead.{IsAsBlockText, IsAsBlockError, as_block_error_text}
-use Rattle.rpki_resources.specs.IpRead.{address_width, address_number, family_of, block_between, IsIpBlockText}
+use Rattle.rpki_resources.specs.IpRead.{address_width, address_number, family_of, block_between, IsIpBlockText, IsWholePrefix, IsWholeRange}
 
 -- ---- one block
 
@@ -95,3 +95,11 @@ abbrev pub blocks_error_text : ParseBlocksError → List ℕ
 blocks_error_text BadIpBlock = codes "invalid block of addresses"
 blocks_error_text (BadAsBlock e) = as_block_error_text e
 blocks_error_text OutOfMemory = codes "allocation failed"
+
+-- ---- what is read back of what is written
+
+-- A block of addresses of the family as it is written: a prefix whose other bits are 0, or a range from an address to
+-- one that is not below it, which is no prefix.
+abbrev pub IsWholeBlock : AddressFamily → IpBlock → Type 0
+IsWholeBlock family (PrefixBlock p) = (family_of p.addr ≡ family) × IsWholePrefix p
+IsWholeBlock family (RangeBlock r) = (family_of r.min ≡ family) × IsWholeRange r
