@@ -299,9 +299,10 @@ fn v6(text: &str) -> Addr {
 
 /// Whether two values are equal, each way; equal ones have one hash.
 fn are_equal<T: PartialEq + Hash>(one: &T, other: &T) -> bool {
-    assert_eq!(one == other, other == one);
-    assert!(one != other || hash_of(one) == hash_of(other));
-    one == other
+    let (there, back) = (one == other, other == one);
+    assert_eq!(there, back);
+    assert!(!there || hash_of(one) == hash_of(other));
+    there
 }
 
 /// Blocks and lists are equal where they are one set, whatever their form.
