@@ -1,7 +1,7 @@
 -- Texts of lists of blocks, as they are read: `10.0.0.0/8, 192.0.2.0-192.0.2.9`, `AS3-AS5, AS1`.
-use Rattle.std.specs.Prelude.{◌≡◌, ◌⊎◌, ◌==◌, ◌-◌, ◌^◌, ℕ, List, [], ◌∷◌, Option, Some, None, codes}
+use Rattle.std.specs.Prelude.{◌≡◌, ◌⊎◌, ◌==◌, ◌-◌, ◌^◌, ℕ, List, [], ◌∷◌, Option, Some, None, map, codes}
 use Rattle.std.specs.Int.Bits.{bit_or}
-use Rattle.std.specs.List.{slice_split}
+use Rattle.std.specs.List.{AllByRecursion, join_by, slice_split}
 use Rattle.std.specs.Str.{trim}
 use Rattle.rpki_resources.specs.declared.block.Block.{Block}
 use Rattle.rpki_resources.specs.declared.kind.ResourceKind.{ResourceKind}
@@ -14,6 +14,7 @@ use Rattle.rpki_resources.specs.declared.ip_text.IpBlock.TheVariants.{Prefix as 
 use Rattle.rpki_resources.specs.declared.list_read.ParseBlocksError.{ParseBlocksError}
 use Rattle.rpki_resources.specs.declared.list_read.ParseBlocksError.TheVariants.{BadIpBlock, BadAsBlock, OutOfMemory}
 use Rattle.rpki_resources.specs.Blocks.{AreNumbersOf}
+use Rattle.rpki_resources.specs.Text.{ip_block_text}
 use Rattle.rpki_resources.specs.AsRead.{IsAsBlockText, IsAsBlockError, as_block_error_text}
 use Rattle.rpki_resources.specs.IpRead.{address_width, address_number, family_of, block_between, IsIpBlockText, IsWholePrefix, IsWholeRange}
 
@@ -103,3 +104,12 @@ blocks_error_text OutOfMemory = codes "allocation failed"
 abbrev pub IsWholeBlock : AddressFamily → IpBlock → Type 0
 IsWholeBlock family (PrefixBlock p) = (family_of p.addr ≡ family) × IsWholePrefix p
 IsWholeBlock family (RangeBlock r) = (family_of r.min ≡ family) × IsWholeRange r
+
+-- the numbers of blocks of the family, each as it is written
+pub record AreWholeBlocks (family : AddressFamily) (xs : List IpBlock) (found : List Block) : Type 0 where
+  pub whole : AllByRecursion (IsWholeBlock family) xs
+  pub numbers : AreNumbersOf (map ip_numbers xs) found
+
+-- their texts, with a comma and a space between two of them
+abbrev pub ip_list_text : List IpBlock → List ℕ
+ip_list_text xs = join_by ip_block_text (codes ", ") xs

@@ -1,12 +1,11 @@
 //! Laws of the definitions.
 
-ghost use Rattle.std.specs.Prelude.{◌≡◌, ◌↔◌, ◌++◌, List, map, codes, IsTrue};
-ghost use Rattle.std.specs.List.{AllByRecursion, join_by};
+ghost use Rattle.std.specs.Prelude.{◌≡◌, ◌↔◌, ◌++◌, List, IsTrue};
 ghost use Rattle.std.specs.Net.Text.{ip_text};
 ghost use Rattle.rpki_resources.specs.Equal.{same_blocks};
 ghost use Rattle.rpki_resources.specs.AsRead.{IsAsBlockText};
 ghost use Rattle.rpki_resources.specs.Encoded.{AreBlocksOf};
-ghost use Rattle.rpki_resources.specs.Text.{as_block_text, ip_block_text, prefix_text, range_text, IsAsBlockOf};
+ghost use Rattle.rpki_resources.specs.Text.{as_block_text, prefix_text, range_text, IsAsBlockOf};
 ghost use Rattle.rpki_resources.specs.IpRead.{IsPrefixText, IsIpBlockText, IsWholePrefix, IsWholeRange};
 ghost use Rattle.rpki_resources.specs.declared.family.AddressFamily.{AddressFamily};
 ghost use Rattle.rpki_resources.specs.declared.ip_text.IpBlock.{IpBlock};
@@ -17,11 +16,11 @@ ghost use Rattle.rpki_resources.specs.declared.as_text.AsBlock.{AsBlock};
 ghost use Rattle.rpki_resources.specs.InPlace.{Octets, Holds};
 ghost use Rattle.rpki_resources.specs.declared.choice.ResourcesChoice.{ResourcesChoice};
 ghost use Rattle.rpki_resources.specs.ListText.{blocks_text};
-ghost use Rattle.rpki_resources.specs.ListRead.{ip_numbers, IsWholeBlock, IsBlocksText};
+ghost use Rattle.rpki_resources.specs.ListRead.{AreWholeBlocks, ip_list_text, IsBlocksText};
 ghost use Rattle.rpki_resources.specs.declared.kind.ResourceKind.TheVariants.{Addresses, AsNumbers};
 ghost use Rattle.rpki_resources.specs.Settled.{SettlesDown, SettlesThrough};
 ghost use Rattle.rpki_resources.specs.declared.block.Block.{Block};
-ghost use Rattle.rpki_resources.specs.Blocks.{IsSubset, AreCanonical, AreNumbersOf};
+ghost use Rattle.rpki_resources.specs.Blocks.{IsSubset, AreCanonical};
 
 /// A set has one list of blocks in canonical form.
 pub fn canonical_lists_are_sets()
@@ -78,7 +77,6 @@ pub fn as_lists_are_read_back()
 
 /// The text that is written of blocks of addresses of one family is read back, as the set of their numbers.
 pub fn address_lists_are_read_back()
-    ensures { (family : AddressFamily) (xs : List IpBlock) (bs : List Block) → AllByRecursion (IsWholeBlock family) xs
-        → AreNumbersOf (map ip_numbers xs) bs
-        → IsBlocksText (Addresses family) (join_by ip_block_text (codes ", ") xs) bs }
+    ensures { (family : AddressFamily) (xs : List IpBlock) (bs : List Block) → AreWholeBlocks family xs bs
+        → IsBlocksText (Addresses family) (ip_list_text xs) bs }
 {}
