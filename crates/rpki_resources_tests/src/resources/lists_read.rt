@@ -194,7 +194,7 @@ fn lists_that_are_read(rt: HostRuntime) -> Result<(), Fail> {
 }
 
 /// How many blocks there are.
-const COUNTS: [u32; 9] = [0, 1, 127, 128, 255, 256, 65_535, 65_536, 1_048_576];
+const COUNTS: [u32; 8] = [0, 1, 127, 128, 255, 256, 65_535, 65_536];
 
 /// So many numbers, each other one and then the rest, from the last to the first.
 fn backwards(alloc: Global, count: u32) -> Result<Vec<Block>, AllocError> {
