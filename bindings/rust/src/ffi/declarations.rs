@@ -332,6 +332,14 @@ extern "C" {
     pub(super) fn rpki_certificate(octets: *const u8, size: usize, out: *mut CertificateParts) -> Status;
     pub(super) fn rpki_certificate_extensions(octets: *const u8, size: usize, out: *mut KnownExtensions) -> Status;
     pub(super) fn rpki_certificate_inspect(octets: *const u8, size: usize, profile: u8, strict: bool) -> Status;
+    pub(super) fn rpki_certificate_checked(
+        octets: *const u8,
+        size: usize,
+        profile: u8,
+        strict: bool,
+        parts: *mut CertificateParts,
+        extensions: *mut KnownExtensions,
+    ) -> Status;
     pub(super) fn rpki_ip_blocks(
         octets: *const u8,
         size: usize,
