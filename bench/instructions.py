@@ -8,7 +8,8 @@ import re
 import subprocess
 import tempfile
 
-from linked import ARCHIVE, BESIDE, CERTIFICATE, COMPILER, TOP, links
+from certificates import write
+from linked import ARCHIVE, BESIDE, CERTIFICATE, COMPILER, SOURCES, links
 
 CALLS = [
     ("walk: plain C", ["rpki_walk", "rpki_index, capacity 0", "rpki_signed_data"]),
@@ -19,15 +20,18 @@ CALLS = [
     ("public key: plain C", ["rpki_public_key"]),
     ("extension: plain C", ["rpki_extension"]),
     ("rsync URI: plain C", ["rpki_rsync_parse"]),
+    ("each certificate: plain C", ["each: rpki_certificate_checked", "each: three calls"]),
     ("mbedtls_x509_crt_parse_der", ["rpki_certificate", "rpki_certificate_extensions", "both, and rpki_walk"]),
 ]
 FEW, MANY = 10, 110
+BATCH = 100
 
 
 def counted(program, name, count):
     """The instructions of a run that makes so many of these calls."""
-    words = ["valgrind", "--tool=callgrind", "--callgrind-out-file=/dev/null", program, CERTIFICATE, "--calls", name]
-    ran = subprocess.run([*words, str(count)], capture_output=True, text=True)
+    batch = os.path.join(os.path.dirname(program), "certificates")
+    words = ["valgrind", "--tool=callgrind", "--callgrind-out-file=/dev/null", program, CERTIFICATE, batch, "--calls"]
+    ran = subprocess.run([*words, name, str(count)], capture_output=True, text=True)
     found = re.search(r"Collected : (\d+)", ran.stderr)
     return int(found.group(1)) if ran.returncode == 0 and found else None
 
@@ -43,9 +47,10 @@ def main():
         program = os.path.join(folder, "linked")
         found = [name for name, (_, text, words) in BESIDE.items() if links(folder, text, words)]
         words = [f"-D{BESIDE[name][0]}" for name in found]
-        words += [os.path.join(TOP, "bench", "linked.c"), os.path.join(TOP, "bench", "plain.c"), ARCHIVE]
+        words += [*SOURCES, ARCHIVE]
         words += [word for name in found for word in BESIDE[name][2]]
         subprocess.run([*COMPILER, *words, "-o", program], check=True)
+        write(BATCH, os.path.join(folder, "certificates"))
         for plain, calls in CALLS:
             least = a_call(program, plain)
             if least is None:

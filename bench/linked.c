@@ -2,9 +2,11 @@
  * Times the calls of the C library in one process, beside plain C with the same checks (plain.c) and, where they are
  * there, beside libcrypto and mbedtls: processor time, in turn, the smallest of 31 rounds.
  *
- * usage: linked CERTIFICATE [ROOTS]
- *        linked CERTIFICATE --calls NAME COUNT    (so many of one contender's calls, and no clock:
+ * usage: linked CERTIFICATE CERTIFICATES [ROOTS]
+ *        linked CERTIFICATE CERTIFICATES --calls NAME COUNT    (so many of one contender's calls, and no clock:
  * bench/instructions.py)
+ *
+ * CERTIFICATES is a file of bench/certificates.py.
  */
 #define _POSIX_C_SOURCE 199309L
 
@@ -288,6 +290,66 @@ static size_t mbedtls_whole(const struct input *input) {
 }
 #endif
 
+/* ---- Certificates that differ: of each its size in 4 octets, the last first, and its octets ---- */
+
+/* How many of them a call reads. */
+static size_t each(const struct input *input, bool (*call)(const uint8_t *octets, size_t size)) {
+    size_t at = 0, found = 0;
+    while (at + 4 <= input->size) {
+        const uint8_t *octets = input->octets + at;
+        size_t size = octets[0] | (size_t)octets[1] << 8 | (size_t)octets[2] << 16;
+        found += call(octets + 4, size);
+        at += 4 + size;
+    }
+    return found;
+}
+
+static bool checks_plainly(const uint8_t *octets, size_t size) {
+    struct rpki_certificate_parts parts;
+    struct rpki_known_extensions extensions;
+    return plain_certificate(octets, size, &parts, &extensions);
+}
+
+static bool checks(const uint8_t *octets, size_t size) {
+    struct rpki_certificate_parts parts;
+    struct rpki_known_extensions extensions;
+    return rpki_certificate_checked(octets, size, RPKI_CERTIFICATE_CA, true, &parts, &extensions) == RPKI_OK;
+}
+
+static bool divides(const uint8_t *octets, size_t size) {
+    struct rpki_certificate_parts parts;
+    return rpki_certificate(octets, size, &parts) == RPKI_OK;
+}
+
+static bool inspects(const uint8_t *octets, size_t size) {
+    return rpki_certificate_inspect(octets, size, RPKI_CERTIFICATE_CA, true) == RPKI_OK;
+}
+
+static bool makes_three_calls(const uint8_t *octets, size_t size) {
+    struct rpki_known_extensions extensions;
+    return divides(octets, size) && rpki_certificate_extensions(octets, size, &extensions) == RPKI_OK &&
+           inspects(octets, size);
+}
+
+static size_t each_plainly(const struct input *input) { return each(input, checks_plainly); }
+
+static size_t each_checked(const struct input *input) { return each(input, checks); }
+
+static size_t each_divided(const struct input *input) { return each(input, divides); }
+
+static size_t each_inspected(const struct input *input) { return each(input, inspects); }
+
+static size_t each_by_three(const struct input *input) { return each(input, makes_three_calls); }
+
+#ifdef WITH_MBEDTLS
+static bool mbedtls_reads(const uint8_t *octets, size_t size) {
+    const struct input input = {NULL, octets, size, 1, 1, NULL};
+    return mbedtls_whole(&input) == 1;
+}
+
+static size_t each_by_mbedtls(const struct input *input) { return each(input, mbedtls_reads); }
+#endif
+
 /* ---- Inputs ---- */
 
 /* Puts a header in front of the last `size` octets of a room that is filled from its end. */
@@ -356,15 +418,28 @@ static struct input nulls(void) {
     return units("20 MB of NULLs", unit, sizeof unit, NULLS, 1);
 }
 
-static struct input certificate(const char *name, const char *path) {
-    struct input input = {name, NULL, 0, 5000, 0, NULL};
+/* The octets of a file. */
+static struct input of_file(const char *name, const char *path) {
+    struct input input = {name, NULL, 0, 1, 0, NULL};
     uint8_t *room = new_room();
     FILE *file = fopen(path, "rb");
     if (!file) stop(path);
     input.octets = room;
     input.size = fread(room, 1, ROOM, file);
     fclose(file);
+    return input;
+}
+
+static struct input certificate(const char *name, const char *path) {
+    struct input input = of_file(name, path);
+    input.repeats = 5000;
     input.found = walk_plainly(&input);
+    return input;
+}
+
+static struct input certificates(const char *path) {
+    struct input input = of_file("certificates that differ", path);
+    input.found = each_plainly(&input);
     return input;
 }
 
@@ -433,6 +508,18 @@ static const struct contender wholes[CONTENDERS] = {
 #endif
 };
 
+/* Of certificates that differ: an authority's parts, known extensions and profile, strict. */
+static const struct contender batches[CONTENDERS] = {
+    {"each certificate: plain C", each_plainly},
+    {"each: rpki_certificate_checked", each_checked},
+    {"each: rpki_certificate", each_divided},
+    {"each: rpki_certificate_inspect", each_inspected},
+    {"each: three calls", each_by_three},
+#ifdef WITH_MBEDTLS
+    {"each: mbedtls_x509_crt_parse_der", each_by_mbedtls},
+#endif
+};
+
 /* Readers of small values, on those of a certificate, and of a URI. */
 enum { READERS = 6 };
 static const struct contender readers[READERS][CONTENDERS] = {
@@ -458,6 +545,12 @@ static void measure_walks(struct input input, bool is_certificate) {
     measure(&input, indexes);
     if (is_certificate) measure(&input, wholes);
     free(input.entries);
+}
+
+static void measure_batch(struct input input) {
+    printf("\n%s: %zu octets, %zu certificates\n", input.name, input.size, input.found);
+    printf("%-34s%14s%12s%14s\n", "", "ns a call", "ns each", "x plain C");
+    measure(&input, batches);
 }
 
 /* What the readers read: parts of a certificate whose entries have room, and a URI of 122 octets. */
@@ -499,13 +592,13 @@ static bool calls(const struct input *input, const struct contender *contenders,
     return false;
 }
 
-static void make_calls(struct input input, const char *called, size_t count) {
+static void make_calls(struct input input, struct input batch, const char *called, size_t count) {
     struct input inputs[READERS];
     size_t place;
     bool are_made;
     make_room(&input);
     are_made = calls(&input, walks, called, count) || calls(&input, indexes, called, count) ||
-               calls(&input, wholes, called, count);
+               calls(&input, wholes, called, count) || calls(&batch, batches, called, count);
     find_inputs(&input, inputs);
     for (place = 0; place < READERS && !are_made; place++)
         are_made = calls(&inputs[place], readers[place], called, count);
@@ -514,17 +607,19 @@ static void make_calls(struct input input, const char *called, size_t count) {
 }
 
 int main(int count, char **words) {
-    if (count == 5 && strcmp(words[2], "--calls") == 0) {
-        make_calls(certificate("a certificate", words[1]), words[3], strtoul(words[4], NULL, 10));
+    if (count == 6 && strcmp(words[3], "--calls") == 0) {
+        make_calls(certificate("a certificate", words[1]), certificates(words[2]), words[4],
+                   strtoul(words[5], NULL, 10));
         return 0;
     }
-    if (count != 2 && count != 3) {
-        fprintf(stderr, "usage: linked CERTIFICATE [ROOTS | --calls NAME COUNT]\n");
+    if (count != 3 && count != 4) {
+        fprintf(stderr, "usage: linked CERTIFICATE CERTIFICATES [ROOTS | --calls NAME COUNT]\n");
         return 2;
     }
     measure_walks(certificate("a certificate", words[1]), true);
+    measure_batch(certificates(words[2]));
     measure_readers(certificate("a certificate", words[1]));
-    if (count == 3) measure_walks(certificate("roots", words[2]), false);
+    if (count == 4) measure_walks(certificate("roots", words[3]), false);
     measure_walks(small_values(), false);
     measure_walks(nested(LEVELS), false);
     measure_walks(nulls(), false);

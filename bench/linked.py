@@ -1,8 +1,9 @@
 #!/usr/bin/env python3
-"""Times the calls of the C library in one process (bench/linked.c; bench/resources.c those on resources) beside plain C
-with the same checks (bench/plain.c) and, where their headers are there, libcrypto and mbedtls (Debian's libssl-dev,
-libmbedtls-dev); and walks and signed data from Rust (bench/peers) beside the crates bcder and asn1, where Debian's
-packages of them (librust-bcder-dev, librust-asn1-dev) are there.
+"""Times the calls of the C library in one process (bench/linked.c; bench/resources.c those on resources, bench/texts.c
+serial numbers and base 64 as texts) beside plain C with the same checks (bench/plain.c, bench/plain_certificate.c) and,
+where their headers are there, libcrypto and mbedtls (Debian's libssl-dev, libmbedtls-dev); and walks and signed data
+from Rust (bench/peers) beside the crates bcder and asn1, where Debian's packages of them (librust-bcder-dev,
+librust-asn1-dev) are there.
 
 usage: bench/linked.py            (after bindings/archive)"""
 import base64
@@ -14,10 +15,14 @@ import sys
 import tempfile
 import time
 
+from certificates import write
+
 TOP = os.path.dirname(os.path.dirname(os.path.abspath(__file__)))
 ARCHIVE = os.path.join(TOP, "bindings", "out", "librpki.a")
 COMPILER = [os.environ.get("CC", "cc"), "-std=c99", "-O2", "-Wall", "-Wextra", f"-I{TOP}/include"]
 CERTIFICATE = os.path.join(TOP, "examples", "certificate.der")
+SOURCES = [os.path.join(TOP, "bench", name) for name in ("linked.c", "plain.c", "plain_certificate.c")]
+BATCH = 4000
 ROOTS = "/etc/ssl/certs/ca-certificates.crt"
 REGISTRY = "/usr/share/cargo/registry"
 FROM_REGISTRY = ["--offline", "--config", 'source.crates-io.replace-with="debian"']
@@ -89,7 +94,7 @@ def main():
         program = os.path.join(folder, "linked")
         found = [name for name, (_, text, words) in BESIDE.items() if links(folder, text, words)]
         words = [f"-D{BESIDE[name][0]}" for name in found]
-        words += [os.path.join(TOP, "bench", "linked.c"), os.path.join(TOP, "bench", "plain.c"), ARCHIVE]
+        words += [*SOURCES, ARCHIVE]
         words += [word for name in found for word in BESIDE[name][2]]
         subprocess.run([*COMPILER, *words, "-o", program], check=True)
         peers = has_peers(folder)
@@ -98,10 +103,13 @@ def main():
         found += ["bcder and asn1"] if peers else []
         print(f"{os.cpu_count()} cores, {time.strftime('%Y-%m-%d')}, beside {', '.join(found) or 'plain C alone'}")
         sys.stdout.flush()
-        subprocess.run([program, CERTIFICATE, *roots(folder)], check=True)
-        resources = os.path.join(folder, "resources")
-        subprocess.run([*COMPILER, os.path.join(TOP, "bench", "resources.c"), ARCHIVE, "-o", resources], check=True)
-        subprocess.run([resources], check=True)
+        batch = os.path.join(folder, "certificates")
+        write(BATCH, batch)
+        subprocess.run([program, CERTIFICATE, batch, *roots(folder)], check=True)
+        for name in ("resources", "texts"):
+            program = os.path.join(folder, name)
+            subprocess.run([*COMPILER, os.path.join(TOP, "bench", f"{name}.c"), ARCHIVE, "-o", program], check=True)
+            subprocess.run([program], check=True)
         if peers:
             subprocess.run([os.path.join(folder, "target", "release", "peers"), CERTIFICATE], check=True)
 

@@ -24,6 +24,10 @@ bool plain_extension(const uint8_t *octets, size_t size, struct rpki_extension_p
 /* A name that is strict as the profile of the RPKI wants it. */
 bool plain_name(const uint8_t *octets, size_t size);
 
+/* A certificate of an authority, strict, as rpki_certificate_checked reads it in that profile (plain_certificate.c). */
+bool plain_certificate(const uint8_t *octets, size_t size, struct rpki_certificate_parts *parts,
+                       struct rpki_known_extensions *known);
+
 /* An rsync URI: its parts, with the checks of rpki_rsync_parse and no word of which of them fails. */
 bool plain_rsync(const uint8_t *text, size_t size, struct rpki_rsync_parts *out);
 

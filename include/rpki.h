@@ -12,9 +12,10 @@
  * What a call takes of memory it frees before it returns. At the peak rpki_walk, rpki_index, rpki_fault and
  * rpki_signed_data take up to 24 octets for each level of nesting, and 64 more; rpki_name_inspect takes the same of a
  * constructed value of an attribute. rpki_signed_data_write and rpki_signed_data_make take that, and once it is freed
- * as many octets as they write. The others that write values or base 64, and rpki_base64_read, take up to two octets
- * for each that they read or write, and 512 more. All others take none (those on certificates and resources, rpki_hex,
- * rpki_serial_decimal, those that count times on, and the calls on URIs too), and so never return RPKI_OUT_OF_MEMORY.
+ * as many octets as they write. The others that write values, and rpki_base64_read of more than 128 octets, take up to
+ * two octets for each that they read or write, and 512 more. All others take none (those on certificates and resources,
+ * rpki_hex, rpki_base64_write, rpki_serial_decimal, those that count times on, and the calls on URIs too), and so never
+ * return RPKI_OUT_OF_MEMORY.
  * So bound the size of what strangers send before you hand it in.
  *
  * What the caller owes, which no call can check:
@@ -704,6 +705,18 @@ rpki_status rpki_certificate_extensions(const uint8_t *octets, size_t size, stru
  */
 rpki_status rpki_certificate_inspect(const uint8_t *octets, size_t size, uint8_t profile, bool strict);
 
+/*
+ * Reads a resource certificate once for all that the three calls above say: writes what rpki_certificate writes to
+ * `parts` and what rpki_certificate_extensions writes to `extensions`, and holds the certificate to the profile of this
+ * number. Takes no memory.
+ *
+ * RPKI_NO_PROFILE: no profile has the number; then the octets are not looked at. Else, where the status is not 0, it is
+ * the first that rpki_certificate, rpki_certificate_extensions and rpki_certificate_inspect have, in this order. Where
+ * it is not 0 neither `parts` nor `extensions` is written to.
+ */
+rpki_status rpki_certificate_checked(const uint8_t *octets, size_t size, uint8_t profile, bool strict,
+                                     struct rpki_certificate_parts *parts, struct rpki_known_extensions *extensions);
+
 /* ---- Revocation lists ---- */
 
 /*
@@ -937,7 +950,7 @@ rpki_status rpki_https_parts_into_dir(const uint8_t *text, size_t size, const st
  *
  * RPKI_TOO_SMALL: there are more than `capacity`, and nothing else is wrong. Nothing is written to `out`, and
  * `*written` is the count too. With another status neither is written. RPKI_OUT_OF_MEMORY: malloc or realloc returned
- * NULL; rpki_hex takes no memory.
+ * NULL; rpki_hex and rpki_base64_write take no memory.
  */
 
 /* The octets in hexadecimal digits, in upper case: two for each (RFC 4648 8). */
@@ -974,6 +987,8 @@ rpki_status rpki_base64_write(const uint8_t *octets, size_t size, bool url_safe,
  * the octet that is wrong, or that where the symbols end, or for missing padding the size of the text. In the flavour
  * of XML a place counts without white space, but for octets that are not UTF-8, and the size with it. In the other two,
  * octets that are not UTF-8 are no symbols. Any other status leaves `*at`.
+ *
+ * Takes no memory for a text of at most 128 octets, nor for one that is not UTF-8 in the flavour of XML.
  */
 enum {
     RPKI_BASE64_XML = 0,   /* the standard alphabet with padding; space, tab, line feed, form feed and carriage return
@@ -1015,7 +1030,8 @@ rpki_status rpki_rsa_key_write(const uint8_t *modulus, size_t modulus_size, cons
 
 /*
  * The RSA key with these bits, as a public key: a SEQUENCE of two INTEGERs that are not negative, and nothing else. The
- * statuses are those of the calls that read values. RPKI_TOO_LONG: as of rpki_public_key_write.
+ * statuses are those of the calls that read values. RPKI_TOO_LONG: as of rpki_public_key_write. RPKI_OUT_OF_MEMORY:
+ * only where the bits are a key's.
  */
 rpki_status rpki_rsa_key_of_bits(const uint8_t *bits, size_t size, uint8_t *out, size_t capacity, size_t *written);
 

@@ -64,7 +64,8 @@ def make(folder):
 
 
 def with_extensions(folder, lines):
-    """A certificate of an authority, by the anchor that [make] made, with these lines for its resources."""
+    """A certificate of an authority, by the anchor that [make] made, with these lines for its resources, or in place of
+    those of the same extensions."""
     config, path = os.path.join(folder, "resources.cnf"), os.path.join(folder, "resources.der")
     with open(config, "w") as file:
         others = [line for line in (COMMON + AUTHORITY + ISSUED).splitlines() if not line.startswith("sbgp-")]

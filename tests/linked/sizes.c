@@ -216,6 +216,21 @@ static const struct {
     {100000, "9DA45B58190113E7DEB447E86F0C14CE99EE388D"},
 };
 
+/* Bits without their last octet are no key's, whatever their size, and where there is no memory too. */
+static bool bits_told(const struct octets *bits) {
+    uint8_t out[1] = {0x5A};
+    size_t written = NOTHING;
+    bool well = rpki_rsa_key_of_bits(bits->at, bits->size - 1, out, sizeof out, &written) == RPKI_TRUNCATED;
+    count_allocations(0);
+    well = well && rpki_rsa_key_of_bits(bits->at, bits->size - 1, out, sizeof out, &written) == RPKI_TRUNCATED;
+    count_allocations(0);
+    well = well && rpki_rsa_key_of_bits(bits->at, bits->size, out, sizeof out, &written) == RPKI_OUT_OF_MEMORY;
+    count_allocations(NONE_REFUSED);
+    well = well && written == NOTHING && out[0] == 0x5A;
+    if (!well) printf("rsa_key_of_bits of %zu octets that are no key's\n", bits->size - 1);
+    return well;
+}
+
 static bool keys(size_t modulus) {
     static const struct octets none = {NULL, 0};
     struct given numbers, bits, key;
@@ -230,6 +245,7 @@ static bool keys(size_t modulus) {
     well = writes("public_key_write", key_write, &key, &key.one, copies(&key, &key.one));
     well = writes("rsa_key_write", rsa_write, &numbers, &key.one, copies(&numbers, &key.one)) && well;
     well = writes("rsa_key_of_bits", bits_write, &bits, &key.one, copies(&bits, &key.one)) && well;
+    well = bits_told(&bits.one) && well;
     for (row = 0; row < LENGTH(NAMES); row++) {
         struct octets name = octets_of("30 33 31 31 30 2F 06 03 55 04 03 13 28 40*00");
         memcpy(name.at + name.size - 40, NAMES[row].digits, 40);
@@ -265,15 +281,36 @@ static bool extension(size_t size) {
     return well;
 }
 
-/* Octets 00 are `AAAA`, three in four (RFC 4648 4). */
+/* A text that isn't base 64, in each flavour: it is told as that, whatever its size, and where. */
+static bool base64_told(const struct octets *text) {
+    static const uint8_t FLAVOURS[] = {RPKI_BASE64_XML, RPKI_BASE64_SERDE, RPKI_BASE64_SLURM};
+    uint8_t out[1] = {0x5A};
+    size_t row;
+    bool well = true;
+    for (row = 0; row < LENGTH(FLAVOURS); row++) {
+        size_t written = NOTHING, at = NOTHING;
+        rpki_status status = rpki_base64_read(text->at, text->size, FLAVOURS[row], out, sizeof out, &written, &at);
+        well = well && status == RPKI_INVALID_SYMBOL && at == text->size - 1 && written == NOTHING && out[0] == 0x5A;
+    }
+    if (!well) printf("base64_read of %zu octets that aren't base 64\n", text->size);
+    return well;
+}
+
+/* Octets 00 are `AAAA`, three in four (RFC 4648 4). A text of at most 128 octets is read without memory. */
 static bool base64(size_t groups) {
     struct given octets, text;
+    size_t most;
     bool well;
     octets.one = new_octets(NULL, 3 * groups, 0);
     text.one = new_octets(NULL, 4 * groups, 'A');
     octets.two = text.two = new_octets(NULL, 0, 0);
-    well = writes("base64_write", base64_write, &octets, &text.one, copies(&octets, &text.one));
-    well = writes("base64_read", base64_read, &text, &octets.one, copies(&text, &octets.one)) && well;
+    well = writes("base64_write", base64_write, &octets, &text.one, 0);
+    most = text.one.size > 128 ? copies(&text, &octets.one) : 0;
+    well = writes("base64_read", base64_read, &text, &octets.one, most) && well;
+    if (text.one.size > 0) {
+        text.one.at[text.one.size - 1] = '!';
+        well = base64_told(&text.one) && well;
+    }
     free(octets.one.at);
     free(octets.two.at);
     free(text.one.at);
@@ -299,7 +336,7 @@ static bool fault_of(size_t count) {
 }
 
 bool sizes(void) {
-    static const size_t SIZES[] = {0, 1, 127, 128, 255, 256, 1000, 65535, 65536, 70000, 100000, 1000000};
+    static const size_t SIZES[] = {0, 1, 31, 32, 33, 127, 128, 255, 256, 1000, 65535, 65536, 70000, 100000, 1000000};
     static const size_t MODULI[] = {1, 63, 64, 127, 128, 256, 512, 1000, 1024, 2048, 65535, 65536, 100000};
     static const size_t LEVELS[] = {1, 2, 100, 101, 1000, 100000, 100001};
     size_t row;

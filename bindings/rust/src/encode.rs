@@ -2,6 +2,16 @@
 
 use bytes::{BufMut, Bytes, BytesMut};
 
+/// The identifier octet of an INTEGER.
+pub(crate) const INTEGER: u8 = 0x02;
+/// The identifier octet of a BIT STRING.
+pub(crate) const BIT_STRING: u8 = 0x03;
+/// The identifier octet of NULL.
+pub(crate) const NULL: u8 = 0x05;
+/// The identifier octet of a SEQUENCE.
+pub(crate) const SEQUENCE: u8 = 0x30;
+/// The identifier octet of the constructed form of the context-specific tag 0.
+pub(crate) const CONSTRUCTED_0: u8 = 0xa0;
 /// The identifier octet of an OCTET STRING.
 pub(crate) const OCTET_STRING: u8 = 0x04;
 /// The identifier octet of the context-specific tag 6: of a URI among general names.

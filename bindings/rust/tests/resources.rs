@@ -3,11 +3,13 @@
 //! those of the standard library.
 
 use rpki_proved::repository::resources::{
-    as_encompass, ip_encompass, Addr, AsBlock, AsBlocks, AsResources, Asn, IpBlock, IpBlocks, IpResources, Ipv4Blocks,
-    Ipv6Blocks, Prefix, ResourcesChoice,
+    as_encompass, ip_encompass, Addr, AddressFamily, AddressRange, AsBlock, AsBlocks, AsRange, AsResources, Asn,
+    InheritedResources, IpBlock, IpBlocks, IpResources, Ipv4Blocks, Ipv6Blocks, Prefix, ResourcesChoice,
 };
 use rpki_proved::DecodeError;
+use std::collections::hash_map::DefaultHasher;
 use std::collections::BTreeSet;
+use std::hash::{Hash, Hasher};
 use std::net::{Ipv4Addr, Ipv6Addr};
 
 const ERRORS: [DecodeError; 6] = [
@@ -76,6 +78,10 @@ fn entries(found: Option<IpResources>, is_v4: bool) -> Vec<String> {
 
 fn ip(number: usize, octets: &[u8], wanted: Result<&[&str], DecodeError>) {
     let found = IpResources::decode_families(octets).map(|(v4, v6)| {
+        // Contents are spelled in one way.
+        let told = |found: &Option<IpResources>| found.clone().unwrap_or_else(IpResources::missing);
+        let again = IpResources::encode_families(&told(&v4), &told(&v6));
+        assert_eq!(again.as_deref(), Some(octets), "row {number}");
         for (found, is_v4) in [(&v4, true), (&v6, false)] {
             if let Some(Ok(blocks)) = found.as_ref().map(IpResources::to_blocks) {
                 round_trip(&blocks, is_v4);
@@ -101,6 +107,7 @@ fn round_trip(blocks: &IpBlocks, is_v4: bool) {
 fn numbers(number: usize, octets: &[u8], wanted: Result<&[&str], DecodeError>) {
     let entry = |block: AsBlock| format!("{}:{}:0:{block}", block.min().into_u32(), block.max().into_u32());
     let found = AsResources::decode(octets).map(|found| match found.to_blocks() {
+        _ if found.encode().as_deref() != Some(octets) => panic!("row {number}: {found} is written otherwise"),
         Ok(blocks) => {
             assert_eq!(blocks.to_string().parse::<AsBlocks>().as_ref(), Ok(&blocks), "row {number}");
             assert_eq!(found.to_string(), blocks.to_string(), "row {number}");
@@ -274,4 +281,224 @@ fn addresses() {
     assert_eq!(AsBlocks::all().iter().map(|block| block.asn_count()).collect::<Vec<_>>(), [u32::MAX]);
     assert!(!IpResources::blocks(IpBlocks::empty()).is_present());
     assert!(!AsResources::blocks(AsBlocks::empty()).is_present());
+}
+
+fn hash_of<T: Hash>(value: &T) -> u64 {
+    let mut hasher = DefaultHasher::new();
+    value.hash(&mut hasher);
+    hasher.finish()
+}
+
+fn v4(text: &str) -> Addr {
+    text.parse::<Ipv4Addr>().unwrap().into()
+}
+
+fn v6(text: &str) -> Addr {
+    text.parse::<Ipv6Addr>().unwrap().into()
+}
+
+/// Whether two values are equal, each way; equal ones have one hash.
+fn are_equal<T: PartialEq + Hash>(one: &T, other: &T) -> bool {
+    let (there, back) = (one == other, other == one);
+    assert_eq!(there, back);
+    assert!(!there || hash_of(one) == hash_of(other));
+    there
+}
+
+/// Blocks and lists are equal where they are one set, whatever their form.
+#[test]
+fn equal_blocks() {
+    let range = |low: &str, high: &str| IpBlock::Range(AddressRange::new(v4(low), v4(high)));
+    let prefix = |address: &str, len| IpBlock::Prefix(Prefix::new(v4(address), len));
+    let whole = IpBlock::Range(AddressRange::new(v6("::"), v6("ffff:ffff:ffff:ffff:ffff:ffff:ffff:ffff")));
+    assert_eq!(IpBlock::all(), whole);
+    for (one, other, wanted) in [
+        (prefix("10.0.0.0", 8), range("10.0.0.0", "10.255.255.255"), false),
+        // The last address of a range that is written of IP version 4 has ones behind its 32 bits.
+        (prefix("10.0.0.0", 8), IpBlock::from_v4_str("10.0.0.0-10.255.255.255").unwrap(), true),
+        (prefix("10.0.0.0", 8), IpBlock::from((v4("10.0.0.0"), v4("10.255.255.255").to_max(32))), true),
+        (prefix("10.0.0.0", 8), prefix("10.9.8.7", 8), true),
+        (prefix("10.0.0.0", 8), prefix("10.0.0.0", 9), false),
+        (prefix("10.0.0.0", 9), prefix("10.128.0.0", 9), false),
+        (prefix("10.0.0.1", 32), IpBlock::from_v4_str("10.0.0.1").unwrap(), true),
+        (prefix("10.0.0.1", 32), IpBlock::from_v4_str("10.0.0.1-10.0.0.1").unwrap(), true),
+        (range("10.0.0.0", "10.0.0.5"), range("10.0.0.0", "10.0.0.6"), false),
+        (range("10.0.0.0", "10.0.0.5"), range("10.0.0.1", "10.0.0.5"), false),
+        (prefix("0.0.0.0", 0), whole, true),
+    ] {
+        assert_eq!((one == other, other == one), (wanted, wanted), "{one:?} and {other:?}");
+        let lists: [IpBlocks; 2] = [[one].into_iter().collect(), [other].into_iter().collect()];
+        assert_eq!(are_equal(&lists[0], &lists[1]), wanted, "{one:?} and {other:?}");
+    }
+    let id = |number| AsBlock::Id(Asn::from_u32(number));
+    let numbers = |low, high| AsBlock::Range(AsRange::new(Asn::from_u32(low), Asn::from_u32(high)));
+    for (one, other, wanted) in [
+        (id(5), numbers(5, 5), true),
+        (id(5), AsBlock::from((Asn::from_u32(5), Asn::from_u32(5))), true),
+        (id(5), id(6), false),
+        (numbers(3000, 3999), numbers(3000, 3999), true),
+        (numbers(3000, 3999), numbers(3000, 4000), false),
+        (numbers(3000, 3999), numbers(3001, 3999), false),
+        (numbers(0, u32::MAX), AsBlock::all(), true),
+    ] {
+        assert_eq!((one == other, other == one), (wanted, wanted), "{one} and {other}");
+        let lists: [AsBlocks; 2] = [[one].into_iter().collect(), [other].into_iter().collect()];
+        assert_eq!(are_equal(&lists[0], &lists[1]), wanted, "{one} and {other}");
+    }
+    // The sets of RFC 3779, appendix B, each written as the appendix has it and in another way.
+    for (one, other, wanted) in [
+        ("10.0.32.0/20, 10.0.64.0/24, 10.1.0.0/16", "10.1.0.0/17, 10.1.128.0/17, 10.0.64.0/24, 10.0.32.0/20", true),
+        ("10.2.48.0/20, 10.2.64.0/24", "10.2.48.0-10.2.64.255", true),
+        ("10.0.0.0/8, 10.3.0.0/16", "10.0.0.0/8", true),
+        ("10.0.32.0/20", "10.0.32.0/21", false),
+        ("10.0.32.0/20", "", false),
+    ] {
+        let sets = [one, other].map(|text| text.parse::<Ipv4Blocks>().unwrap());
+        assert_eq!(are_equal(&sets[0], &sets[1]), wanted, "{one} and {other}");
+    }
+}
+
+/// Sets of addresses are joined, cut and compared as the sets that their texts say.
+#[test]
+fn address_sets() {
+    for (one, other, shared, joined, lacking) in [
+        ("10.0.0.0/8", "10.1.0.0/16", "10.1.0.0/16", "10.0.0.0/8", "10.0.0.0/16, 10.2.0.0-10.255.255.255"),
+        ("10.0.0.0/9", "10.128.0.0/9", "", "10.0.0.0/8", "10.0.0.0/9"),
+        ("10.0.0.0/24", "10.0.0.128-10.0.1.127", "10.0.0.128/25", "10.0.0.0-10.0.1.127", "10.0.0.0/25"),
+        ("", "10.0.0.0/8", "", "10.0.0.0/8", ""),
+        (
+            "0.0.0.0/0",
+            "0.0.0.0/32, 255.255.255.255/32",
+            "0.0.0.0/32, 255.255.255.255/32",
+            "0.0.0.0/0",
+            "0.0.0.1-255.255.255.254",
+        ),
+    ] {
+        let set = |text: &str| text.parse::<Ipv4Blocks>().unwrap();
+        let text = |blocks: IpBlocks| Ipv4Blocks::from(blocks).to_string();
+        let (a, b) = (set(one), set(other));
+        assert_eq!(text(a.intersection(&b)), shared, "{one} and {other}");
+        assert_eq!(text(b.intersection(&a)), shared, "{other} and {one}");
+        assert_eq!(text(a.union(&b)), joined, "{one} and {other}");
+        assert_eq!(text(b.union(&a)), joined, "{other} and {one}");
+        assert_eq!(text(a.difference(&b)), lacking, "{one} without {other}");
+        assert_eq!(a.contains(&b), shared == other, "{other} in {one}");
+        assert_eq!(b.contains(&a), shared == one, "{one} in {other}");
+        assert!(b.iter().all(|block| a.contains_block(block)) == a.contains(&b), "{other} in {one}");
+    }
+}
+
+/// How many numbers and blocks there are, whether there are any, and which are the first and the last.
+#[test]
+fn counts() {
+    for (low, high, count) in
+        [(0, 0, 1), (5, 5, 1), (3000, 3999, 1000), (5, 4, 0), (1, u32::MAX, u32::MAX), (0, u32::MAX, u32::MAX)]
+    {
+        let block = AsBlock::from((Asn::from_u32(low), Asn::from_u32(high)));
+        assert_eq!(block.asn_count(), count, "{block}");
+        assert_eq!((block.min().into_u32(), block.max().into_u32()), (low, high));
+    }
+    assert_eq!(AsBlock::Id(Asn::from_u32(5001)).asn_count(), 1);
+    assert_eq!((Asn::MIN.into_u32(), Asn::MAX.into_u32()), (0, 4_294_967_295));
+    assert_eq!(Asn::from_u32(0x0001_0203).to_raw(), [0, 1, 2, 3]);
+    // RFC 3779, appendix C: 135, 3000 to 3999, 5001.
+    for (text, ends) in [
+        ("AS135, AS3000-AS3999, AS5001", &[(135, 135), (3000, 3999), (5001, 5001)][..]),
+        ("AS5001, AS4000-AS5000", &[(4000, 5001)]),
+        ("", &[]),
+    ] {
+        let blocks: AsBlocks = text.parse().unwrap();
+        let found = blocks.iter().map(|block| (block.min().into_u32(), block.max().into_u32()));
+        assert_eq!(found.collect::<Vec<_>>(), ends, "{text}");
+        assert_eq!(blocks.is_empty(), ends.is_empty(), "{text}");
+    }
+    assert!(AsBlocks::empty().is_empty() && !AsBlocks::all().is_empty());
+    let reversed = AsBlock::from((Asn::from_u32(5), Asn::from_u32(4)));
+    assert!([reversed].into_iter().collect::<AsBlocks>().is_empty());
+    for (prefix, len, first, last) in [
+        (Prefix::new(v4("10.0.32.1"), 20), 20, v4("10.0.32.0"), v4("10.0.47.255").to_max(32)),
+        (Prefix::new(v4("10.0.64.0"), 24), 24, v4("10.0.64.0"), v4("10.0.64.255").to_max(32)),
+        (Prefix::new(v4("10.0.0.1"), 32), 32, v4("10.0.0.1"), v4("10.0.0.1").to_max(32)),
+        (Prefix::new(v6("2001:0:2::1"), 48), 48, v6("2001:0:2::"), v6("2001:0:2:ffff:ffff:ffff:ffff:ffff")),
+        (Prefix::new(v6("::1"), 128), 128, v6("::1"), v6("::1")),
+        (Prefix::new(v6("::1"), 127), 127, v6("::"), v6("::1")),
+    ] {
+        assert_eq!((prefix.addr_len(), prefix.addr(), prefix.range()), (len, first, (first, last)));
+        let block = IpBlock::from(prefix);
+        assert_eq!((block.min(), block.max()), (first, last));
+    }
+    let range = AddressRange::from_v4_str("10.2.48.0-10.2.64.255").unwrap();
+    assert_eq!((range.min(), range.max()), (v4("10.2.48.0"), v4("10.2.64.255").to_max(32)));
+    for (text, count) in [("", 0), ("10.0.0.0/8", 1), ("10.0.0.0/9, 10.128.0.0/9", 1), ("10.0.0.0/9, 11.0.0.0/9", 2)] {
+        let blocks: Ipv4Blocks = text.parse().unwrap();
+        assert_eq!((blocks.iter().count(), blocks.is_empty()), (count, count == 0), "{text}");
+    }
+    assert!(IpBlocks::empty().is_empty() && !IpBlocks::all().is_empty());
+    assert_eq!([AddressFamily::Ipv4, AddressFamily::Ipv6].map(|family| family.to_string()), ["IPv4", "IPv6"]);
+}
+
+/// What each method says of a choice: whether it is the issuer's, whether it is there, its blocks, and its text.
+#[test]
+fn choices() {
+    let blocks: AsBlocks = "AS135, AS3000-AS3999".parse().unwrap();
+    let all = [AsResources::missing(), AsResources::inherit(), AsResources::blocks(blocks.clone())];
+    for (choice, is_inherited, is_present, found, text) in [
+        (&all[0], false, false, Ok(AsBlocks::empty()), "none"),
+        (&all[1], true, true, Err(InheritedResources), "inherit"),
+        (&all[2], false, true, Ok(blocks.clone()), "AS135, AS3000-AS3999"),
+    ] {
+        assert_eq!((choice.is_inherited(), choice.is_present()), (is_inherited, is_present), "{text}");
+        let inner = choice.as_choice();
+        assert_eq!((inner.is_inherited(), inner.is_present()), (is_inherited, is_present), "{text}");
+        assert_eq!((choice.to_blocks(), inner.to_blocks()), (found.clone(), found), "{text}");
+        assert_eq!((choice.to_string(), inner.to_string()), (text.to_string(), text.to_string()));
+        let counted = inner.clone().map_blocks(|blocks| blocks.iter().count());
+        let wanted = [ResourcesChoice::Missing, ResourcesChoice::Inherit, ResourcesChoice::Blocks(2)];
+        let place = all.iter().position(|other| other == choice).unwrap();
+        assert_eq!(counted, wanted[place], "{text}");
+        assert_eq!(all.iter().filter(|other| are_equal(*other, choice)).count(), 1, "{text}");
+    }
+    assert_eq!(AsResources::blocks(AsBlocks::empty()), AsResources::missing());
+    assert_eq!(AsResources::missing().encode(), None);
+    assert_eq!(IpResources::encode_families(&IpResources::missing(), &IpResources::missing()), None);
+    assert_ne!(AsResources::blocks("AS135".parse().unwrap()), all[2]);
+
+    let blocks: IpBlocks = "10.0.0.0/8".parse::<Ipv4Blocks>().unwrap().into();
+    let all = [IpResources::missing(), IpResources::inherit(), IpResources::blocks(blocks.clone())];
+    for (choice, is_inherited, is_present, found) in [
+        (&all[0], false, false, Ok(IpBlocks::empty())),
+        (&all[1], true, true, Err(InheritedResources)),
+        (&all[2], false, true, Ok(blocks)),
+    ] {
+        assert_eq!((choice.is_inherited(), choice.is_present()), (is_inherited, is_present), "{choice:?}");
+        assert_eq!((choice.to_blocks(), choice.as_choice().to_blocks()), (found.clone(), found), "{choice:?}");
+        assert_eq!(all.iter().filter(|other| are_equal(*other, choice)).count(), 1, "{choice:?}");
+    }
+    assert_eq!(IpResources::blocks(IpBlocks::empty()), IpResources::missing());
+    assert_eq!(InheritedResources.to_string(), "inherited resources");
+}
+
+/// Blocks and lists are serialized as their texts, and other texts are rejected.
+#[cfg(feature = "serde")]
+#[test]
+fn serialized() {
+    fn as_text<T>(text: &str, wanted: &str)
+    where
+        T: PartialEq + std::fmt::Debug + std::str::FromStr + serde::Serialize + serde::de::DeserializeOwned,
+    {
+        let value = text.parse::<T>().unwrap_or_else(|_| panic!("{text}"));
+        let quoted = format!("{wanted:?}");
+        assert_eq!(serde_json::to_string(&value).unwrap(), quoted);
+        assert_eq!(serde_json::from_str::<T>(&quoted).unwrap(), value);
+        assert_eq!(serde_json::from_str::<T>(&format!("{text:?}")).unwrap(), value);
+        for other in ["\"-\"", "\"AS1,\"", "\"10.0.0.0/33\"", "5", "null", "[]"] {
+            assert!(serde_json::from_str::<T>(other).is_err(), "{other}");
+        }
+    }
+    as_text::<AsBlock>("1-5", "AS1-AS5");
+    as_text::<AsBlocks>("AS4, AS1-AS3", "AS1-AS4");
+    as_text::<AsBlocks>("", "");
+    as_text::<Ipv4Blocks>("10.128.0.0/9,10.0.0.0/9", "10.0.0.0/8");
+    as_text::<Ipv4Blocks>("10.2.48.0-10.2.64.255", "10.2.48.0-10.2.64.255");
+    as_text::<Ipv6Blocks>("2001:db8:0:0::/32, ::1", "::1/128, 2001:db8::/32");
 }

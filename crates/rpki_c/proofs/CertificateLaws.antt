@@ -138,7 +138,8 @@ found-place x s h id w y e n k p found is end outer inner first size =
     let here = ends-inside s l (y.content ++ r) (behind_signed x s h) list (found-ends id x.tbs.extensions l each y found) in
     inside s (y.content ++ r) y.content r (behind_signed x s h) w n k p here refl is outer inner (omega (arith, end, first)) size
 
--- the extensions of the certificate are those of the section
-pub listed : (s : List ℕ) (v : CertView) (x : CertParts) → IsCertAt s v x → SpellsEach SpellsExtension x.tbs.extensions v.tbs.named.keyed.extensions.octets.now
+-- the extensions of the certificate are those of the table
+pub listed : (s : List ℕ) (v : CertView) (x : CertParts) → IsCertAt s v x
+    → SpellsEach SpellsExtension x.tbs.extensions v.tbs.named.keyed.extensions
 listed s v x h =
-    subst (SpellsEach SpellsExtension x.tbs.extensions) (sym h.tbs.named.keyed.list_at.octets) (list_in x s h.spelled).1
+    subst (SpellsEach SpellsExtension x.tbs.extensions) (sym h.tbs.named.keyed.list_at) (list_in x s h.spelled).1

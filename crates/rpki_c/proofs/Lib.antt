@@ -6,7 +6,7 @@
 -- Signed data read in place: SignedReadingLaws.
 -- Any algorithm identifier; statuses of keys, of names, and of another algorithm: IdentifierLaws, KeyStatusLaws,
 --   NameStatusLaws, ElseLaws.
--- What is made on a condition: MadeLaws. Hexadecimal digits: HexTextLaws.
+-- What is made on a condition: MadeLaws. Hexadecimal digits: HexTextLaws. Base 64: Base64Laws.
 -- Where octets go wrong: FaultLaws. The index, in the middle of its writing: FillingLaws.
 -- Parts of parsed URIs, by their places: RsyncPlacesLaws, HttpsPlacesLaws. Parts of certificates: CertificateLaws; that
 --   one is held to a profile: InspectionLaws. Parts of revocation lists: CrlLaws.
@@ -31,6 +31,7 @@ mod MadeLaws
 pub mod CertificateLaws
 pub mod InspectionLaws
 mod HexTextLaws
+mod Base64Laws
 mod BlockListLaws
 mod ViewCountLaws
 mod EncompassingLaws

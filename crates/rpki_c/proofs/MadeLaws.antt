@@ -32,4 +32,4 @@ pub bits-unwritten : (bits b : List ℕ) (e : DecodeError) (status : ℕ) (old :
     → status ≡ error_number e → IsBitsWritten bits status old old before before
 bits-unwritten bits b e status old before same k n =
     subst (λ (s : List ℕ). IsBitsWritten s status old old before before) same
-    (inr (inr (record { error = e; number = n; nothing = k.0; kind = k.1 }, record { buffer = refl; size = refl })))
+    (inr (inr (record { error = e; number = n; nothing = k.0; kind = k.1 }), record { buffer = refl; size = refl }))

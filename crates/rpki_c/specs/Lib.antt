@@ -31,6 +31,7 @@ pub mod Extension
 pub mod Certificate
 pub mod CertificateExtensions
 pub mod CertificateInspection
+pub mod CertificateChecked
 pub mod MadeExtension
 pub mod Filled
 pub mod ViewCount

@@ -45,13 +45,18 @@ IsRsaWritten m e status old new before after =
     ⊎ (((m ≡ []) ⊎ (e ≡ [])) × (status ≡ content) × IsUnwritten old new before after)
     ⊎ (((m ≡ []) → ⊥) × ((e ≡ []) → ⊥) × (status ≡ 7) × IsUnwritten old new before after)))
 
--- The key with these bits is made. 7: allocation failed. Else the number of the error. Unless it is made, nothing was
--- written.
+-- Of bits that were not copied. 7: they are those of a key. Else the number of the error.
+abbrev pub IsUncopied : List ℕ → ℕ → Type 0
+IsUncopied bits status =
+    ((k : KeyParts) × IsRsaKey k bits × (status ≡ out_of_memory))
+    ⊎ IsRefused IsRsaKey (NeverMemory IsRsaKey IsRsaBitsFault) bits status
+
+-- The key with these bits is made. 7: they are those of a key, and allocation failed. Else the number of the error.
+-- Unless it is made, nothing was written.
 abbrev pub IsBitsWritten : List ℕ → ℕ → List ℕ → List ℕ → ℕ → ℕ → Type 0
 IsBitsWritten bits status old new before after =
     ((k : KeyParts) × IsRsaKey k bits × IsMadeIf (IsShortKey k) (key_octets k) status old new before after)
-    ⊎ ((status ≡ out_of_memory) × IsUnwritten old new before after)
-    ⊎ (IsRefused IsRsaKey (NeverMemory IsRsaKey IsRsaBitsFault) bits status × IsUnwritten old new before after)
+    ⊎ (IsUncopied bits status × IsUnwritten old new before after)
 
 -- The name of the subject with the key that the octets are is made. 7: allocation failed. 13: the identifier of the
 -- key's algorithm is another one. Else the number of the error. Unless it is made, nothing was written.

@@ -80,13 +80,17 @@ pub(crate) fn place_of(total: usize, behind: usize, section: Section<'_>) -> Pla
 }
 
 /// The parts of the certificate that the octets are.
-fn parts_of(octets: &[u8], found: &CertView<'_>) -> CertificateParts
+pub(crate) fn parts_of(octets: &[u8], found: &CertView<'_>) -> CertificateParts
     requires { (x : CertParts) × IsCertAt octets.now found.now x }
     ensures { HasCertificate octets.now result }
 {
     let total = octets.len();
     let behind = found.parts.data.following;
     let named = &found.tbs.named;
+    let extensions = Section {
+        octets: named.keyed.extensions.octets(),
+        following: 0,
+    };
     CertificateParts {
         data: place_of(total, 0, found.parts.data),
         algorithm: place_of(total, 0, found.parts.algorithm),
@@ -94,7 +98,7 @@ fn parts_of(octets: &[u8], found: &CertView<'_>) -> CertificateParts
         issuer: place_of(total, behind, named.issuer),
         subject: place_of(total, behind, named.subject),
         public_key: place_of(total, behind, named.keyed.octets),
-        extensions: place_of(total, behind, named.keyed.extensions),
+        extensions: place_of(total, behind, extensions),
         validity: Period {
             not_before: moment_of(named.validity.not_before()),
             not_after: moment_of(named.validity.not_after()),

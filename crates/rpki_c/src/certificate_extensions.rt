@@ -1,6 +1,7 @@
 //! The extensions of certificates.
 
 ghost use Rattle.std.specs.Prelude.{◌≡◌};
+ghost use Rattle.rpki_cert.specs.ExtensionTable.{identifier_of};
 ghost use Rattle.rpki_cert.specs.Cert.{CertParts};
 ghost use Rattle.rpki_cert.specs.View.{IsCertAt};
 ghost use Rattle.rpki_cert.specs.KnownView.{AreKnown};
@@ -9,9 +10,7 @@ ghost use Rattle.rpki_c.specs.CertificateExtensions.{known_number, usage_number,
 use crate::certificate::{part_number, place_of};
 use crate::place::Place;
 use rpki::crypto::KeyIdentifier;
-use rpki::oid;
-use rpki_cert::{CertView, ExtensionIndex, KeyUsage, KnownPart, KnownView, Overclaim, Section};
-use rpki_der::ConstOid;
+use rpki_cert::{CertView, ExtensionKind, KeyUsage, KnownPart, KnownView, Overclaim};
 
 /// An extension of a certificate, or that there is none.
 #[repr(C)]
@@ -70,7 +69,7 @@ pub struct KnownExtensions {
 }
 
 /// How an extension that is wrong is passed.
-fn known_number(part: KnownPart) -> u8
+pub(crate) fn known_number(part: KnownPart) -> u8
     ensures { result ≡ known_number part }
 {
     match part {
@@ -114,31 +113,18 @@ fn octets_of(identifier: Option<KeyIdentifier>) -> [u8; 20]
     }
 }
 
-/// The extension of this identifier in the certificate that the octets are, of whose extensions this is the index.
-fn extension_at(
-    octets: &[u8],
-    found: &CertView<'_>,
-    index: &ExtensionIndex<'_>,
-    id: ConstOid,
-) -> KnownExtension
-    requires { index.now ≡ found.now.tbs.named.keyed.extensions.octets.now }
+/// The extension of this kind in the certificate that the octets are.
+fn extension_at(octets: &[u8], found: &CertView<'_>, kind: ExtensionKind) -> KnownExtension
     ensures { (x : CertParts) (h : IsCertAt octets.now found.now x)
-        → IsFoundAt x octets.now h.spelled id.entry.0.now result }
+        → IsFoundAt x octets.now h.spelled (identifier_of kind) result }
 {
-    let list = found.tbs.named.keyed.extensions;
     let end = octets.len().saturating_sub(found.parts.data.following);
-    match index.find(id) {
-        Some((extension, following)) => {
-            let section = Section {
-                octets: extension.octets(),
-                following,
-            };
-            KnownExtension {
-                octets: place_of(end, list.following, section),
-                is_there: true,
-                critical: extension.critical(),
-            }
-        }
+    match found.tbs.named.keyed.extensions.listed(kind) {
+        Some(listed) => KnownExtension {
+            octets: place_of(end, 0, listed.contents),
+            is_there: true,
+            critical: listed.critical,
+        },
         None => KnownExtension {
             octets: Place {
                 start: 0,
@@ -150,41 +136,33 @@ fn extension_at(
     }
 }
 
-/// The extensions of the certificate that the octets are, of which this is the index, and which say this.
-fn extensions_of(
+/// The extensions of the certificate that the octets are, which say this.
+pub(crate) fn extensions_of(
     octets: &[u8],
     found: &CertView<'_>,
-    index: &ExtensionIndex<'_>,
     known: KnownView,
 ) -> KnownExtensions
-    requires cert { (x : CertParts) × IsCertAt octets.now found.now x × AreKnown x.tbs.extensions known }
-    requires index { index.now ≡ found.now.tbs.named.keyed.extensions.octets.now }
+    requires { (x : CertParts) × IsCertAt octets.now found.now x × AreKnown x.tbs.extensions known }
     ensures { HasExtensions octets.now result }
 {
     KnownExtensions {
-        basic_constraints: extension_at(octets, found, index, oid::CE_BASIC_CONSTRAINTS),
-        subject_key_identifier: extension_at(octets, found, index, oid::CE_SUBJECT_KEY_IDENTIFIER),
+        basic_constraints: extension_at(octets, found, ExtensionKind::BasicConstraints),
+        subject_key_identifier: extension_at(octets, found, ExtensionKind::SubjectKeyIdentifier),
         authority_key_identifier: extension_at(
             octets,
             found,
-            index,
-            oid::CE_AUTHORITY_KEY_IDENTIFIER,
+            ExtensionKind::AuthorityKeyIdentifier,
         ),
-        key_usage: extension_at(octets, found, index, oid::CE_KEY_USAGE),
-        extended_key_usage: extension_at(octets, found, index, oid::CE_EXTENDED_KEY_USAGE),
-        crl_distribution_points: extension_at(
-            octets,
-            found,
-            index,
-            oid::CE_CRL_DISTRIBUTION_POINTS,
-        ),
-        authority_info_access: extension_at(octets, found, index, oid::PE_AUTHORITY_INFO_ACCESS),
-        subject_info_access: extension_at(octets, found, index, oid::PE_SUBJECT_INFO_ACCESS),
-        certificate_policies: extension_at(octets, found, index, oid::CE_CERTIFICATE_POLICIES),
-        ip_resources: extension_at(octets, found, index, oid::PE_IP_ADDR_BLOCK),
-        ip_resources_v2: extension_at(octets, found, index, oid::PE_IP_ADDR_BLOCK_V2),
-        as_resources: extension_at(octets, found, index, oid::PE_AUTONOMOUS_SYS_IDS),
-        as_resources_v2: extension_at(octets, found, index, oid::PE_AUTONOMOUS_SYS_IDS_V2),
+        key_usage: extension_at(octets, found, ExtensionKind::KeyUsage),
+        extended_key_usage: extension_at(octets, found, ExtensionKind::ExtendedKeyUsage),
+        crl_distribution_points: extension_at(octets, found, ExtensionKind::CrlDistributionPoints),
+        authority_info_access: extension_at(octets, found, ExtensionKind::AuthorityInfoAccess),
+        subject_info_access: extension_at(octets, found, ExtensionKind::SubjectInfoAccess),
+        certificate_policies: extension_at(octets, found, ExtensionKind::CertificatePolicies),
+        ip_resources: extension_at(octets, found, ExtensionKind::IpResources),
+        ip_resources_v2: extension_at(octets, found, ExtensionKind::IpResourcesV2),
+        as_resources: extension_at(octets, found, ExtensionKind::AsResources),
+        as_resources_v2: extension_at(octets, found, ExtensionKind::AsResourcesV2),
         subject_key: octets_of(known.subject_key_identifier),
         authority_key: octets_of(known.authority_key_identifier),
         is_ca: known.ca,
@@ -207,10 +185,9 @@ pub extern "C" fn rpki_certificate_extensions(octets: &[u8], out: &mut KnownExte
         Ok(found) => found,
         Err(part) => return part_number(part),
     };
-    let index = ExtensionIndex::of(found.tbs.named.keyed.extensions.octets);
-    match index.known() {
+    match found.tbs.named.keyed.known() {
         Ok(known) => {
-            *out = extensions_of(octets, &found, &index, known);
+            *out = extensions_of(octets, &found, known);
             0
         }
         Err(part) => known_number(part),

@@ -12,7 +12,7 @@ use rpki_cert::{CertRule, CertView};
 
 /// A profile of certificates (RFC 6487 4, RFC 8209 3.1, RFC 9323 2).
 #[derive(Clone, Copy)]
-enum CertificateProfile {
+pub(crate) enum CertificateProfile {
     /// That of trust anchors.
     Ta,
     /// That of certification authorities.
@@ -26,7 +26,7 @@ enum CertificateProfile {
 }
 
 /// How a rule is passed.
-fn cert_rule_number(rule: CertRule) -> u8
+pub(crate) fn cert_rule_number(rule: CertRule) -> u8
     ensures { result ≡ cert_rule_number rule }
 {
     match rule {
@@ -69,7 +69,7 @@ fn cert_rule_number(rule: CertRule) -> u8
 }
 
 /// The profile of this number.
-fn profile_of(number: u8) -> Option<CertificateProfile>
+pub(crate) fn profile_of(number: u8) -> Option<CertificateProfile>
     ensures some { IfSome result (λ p. number ≡ profile_number p) }
     ensures none { IfNone result (4 < number) }
 {
@@ -84,7 +84,11 @@ fn profile_of(number: u8) -> Option<CertificateProfile>
 }
 
 /// Tests the certificate by the profile; returns the rule that it breaks first.
-fn test(cert: &CertView<'_>, profile: CertificateProfile, strict: bool) -> Result<(), CertRule>
+pub(crate) fn test(
+    cert: &CertView<'_>,
+    profile: CertificateProfile,
+    strict: bool,
+) -> Result<(), CertRule>
     requires { (s : List ℕ) × (x : CertParts) × IsCertAt s cert.now x }
     ensures { (s : List ℕ) (x : CertParts) → IsCertAt s cert.now x
         → TestsRules (HasProfile profile strict x.tbs) strict x.tbs (rules_of profile) result }

@@ -1,9 +1,11 @@
 //! Public keys, written.
 
-ghost use Rattle.rpki_der.specs.Reading.{Decodes};
-ghost use Rattle.rpki.specs.PublicKey.{SpellsKey};
+ghost use Rattle.rpki_der.specs.Prelude.{left, Takes, TakesAll, Decodes};
+ghost use Rattle.rpki_c.specs.Whole.{NeverMemory};
+ghost use Rattle.rpki.specs.KeyFault.{IsRsaBitsFault, rsa_bits, rsa_numbers};
+ghost use Rattle.rpki.specs.PublicKey.{SpellsKey, SpellsRsaBits};
 ghost use Rattle.rpki_c.specs.Key.{IsKeptKeyFault};
-ghost use Rattle.rpki_c.specs.MadeValues.{IsKeyWritten, IsRsaWritten, IsBitsWritten, IsNameWritten};
+ghost use Rattle.rpki_c.specs.MadeValues.{IsKeyWritten, IsRsaWritten, IsUncopied, IsBitsWritten, IsNameWritten};
 
 use crate::keys::key_status;
 use crate::status::{CONTENT, OUT_OF_MEMORY, TOO_LONG};
@@ -72,12 +74,45 @@ pub extern "C" fn rpki_rsa_key_write(
     }
 }
 
+/// Moves past the bits of an RSA key: a SEQUENCE of two non-negative INTEGERs. Allocates nothing.
+fn take_rsa_bits(cons: &mut Constructed<'_>) -> Result<(), DecodeError>
+    ensures { Takes (λ _. tt) rsa_bits (left cons.old) (left cons.new) result }
+{
+    cons.in_sequence(
+        |contents|
+            ensures { TakesAll (λ _. tt) rsa_numbers (left contents.old) (left contents.new) result }
+        {
+            contents.take_unsigned()?;
+            contents.take_unsigned()?;
+            Ok(())
+        },
+    )
+}
+
+/// Tests that all of the octets are the bits of an RSA key. Allocates nothing.
+fn check_rsa_bits(bits: &[u8]) -> Result<(), DecodeError>
+    ensures { Decodes (λ _. tt) SpellsRsaBits (NeverMemory SpellsRsaBits IsRsaBitsFault) bits.now result }
+{
+    Constructed::from_slice(bits).whole(take_rsa_bits)
+}
+
+/// The status of bits that there was no memory to copy: `OUT_OF_MEMORY` where they are those of an RSA key, else the
+/// number of the error.
+fn uncopied(bits: &[u8]) -> u8
+    ensures { IsUncopied bits.now result }
+{
+    match check_rsa_bits(bits) {
+        Ok(()) => OUT_OF_MEMORY,
+        Err(e) => e.number(),
+    }
+}
+
 /// Writes the RSA key with these bits, a SEQUENCE of two non-negative INTEGERs and nothing else, as a public key
 /// (SubjectPublicKeyInfo) to the front of the buffer.
 ///
 /// The status is 0; `TOO_SMALL` where the buffer is shorter, and nothing is written to it; in both cases `written` is
-/// the count of the octets. `TOO_LONG` as in [rpki_public_key_write]; `OUT_OF_MEMORY`; else it is the number of the
-/// error. Unless it is 0 or `TOO_SMALL`, nothing is written.
+/// the count of the octets. `TOO_LONG` as in [rpki_public_key_write]; `OUT_OF_MEMORY`, where the bits are those of a
+/// key; else it is the number of the error. Unless it is 0 or `TOO_SMALL`, nothing is written.
 #[unsafe(no_mangle)]
 pub extern "C" fn rpki_rsa_key_of_bits(
     alloc: Global,
@@ -88,7 +123,7 @@ pub extern "C" fn rpki_rsa_key_of_bits(
     ensures { IsBitsWritten bits.now result out.old out.new written.old written.new }
 {
     let Ok(bytes) = Bytes::copy_from_slice(alloc, bits) else {
-        return OUT_OF_MEMORY;
+        return uncopied(bits);
     };
     match PublicKey::rsa_from_bits_bytes(bytes) {
         Ok(key) => store_if_short(alloc, &key.encode_ref(), out, written),

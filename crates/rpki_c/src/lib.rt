@@ -11,6 +11,7 @@ mod as_blocks;
 mod base_64;
 mod block_texts;
 mod certificate;
+mod certificate_checked;
 mod certificate_extensions;
 mod certificate_inspection;
 mod crl;

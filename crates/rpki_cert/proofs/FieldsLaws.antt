@@ -68,7 +68,7 @@ keyed-read s m o p key k a x same i j is size = (
   key,
   x.extensions,
   record { first = a.spells.front; second = m; parts = a.spells.parts; one = a.spells.spelled; two = x.spelled },
-  record { same = same; key_at = section-front s a.spells.front m o p m k.octets a.spells.parts i j is size refl; list_at = x.section },
+  record { same = same; key_at = section-front s a.spells.front m o p m k.octets a.spells.parts i j is size refl; list_at = x.list },
 )
 
 -- the fields from the issuer on; the others are given no value yet

@@ -5,8 +5,8 @@
 --   GeneralNameLaws, AccessLaws.
 -- Keys: KeyLaws. Checks of profiles: ProfileLaws. Their rules: RuleLaws. What is verified: VerifiedLaws. What is claimed
 --   of resources, and what is settled: ResourceSetLaws.
--- Read in place: values, names, access descriptions, lists of extensions, their index, fields, certificates: NestedLaws,
---   NameViewLaws, AccessRuleLaws, ListedLaws, ExtensionIndexLaws, FieldsLaws, ViewLaws. That what is signed is one
+-- Read in place: values, names, access descriptions, lists of extensions, their table, fields, certificates: NestedLaws,
+--   NameViewLaws, AccessRuleLaws, ListedLaws, TableLaws, FieldsLaws, ViewLaws. That what is signed is one
 --   value: TbsValueLaws. That what is wrong is no certificate: WrongLaws.
 --   Values, one after another, of which something is kept: GatherLaws. What a `?` hands on: TriedLaws.
 
@@ -28,7 +28,7 @@ pub mod NestedLaws
 pub mod NameViewLaws
 pub mod AccessRuleLaws
 pub mod ListedLaws
-pub mod ExtensionIndexLaws
+pub mod TableLaws
 pub mod FieldsLaws
 pub mod TbsValueLaws
 pub mod ViewLaws

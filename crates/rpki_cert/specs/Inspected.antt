@@ -10,10 +10,10 @@ use Rattle.rpki_cert.specs.declared.extension_source.ExtensionSource.TheVariants
 use Rattle.rpki_cert.specs.declared.inspected.Inspected.{Inspected}
 use Rattle.rpki_cert.specs.Cert.{TbsParts}
 
--- the extensions: values that are kept; or octets, one extension after another
+-- the extensions: values that are kept; or those of a table
 abbrev pub AreIn : List ExtensionParts → ExtensionSource → Type 0
 AreIn xs (Kept all) = all.now ≡ xs
-AreIn xs (Listed octets) = SpellsEach SpellsExtension xs octets
+AreIn xs (Listed table) = SpellsEach SpellsExtension xs table.now
 
 -- its format and its bits are those of the key
 abbrev pub IsKeyOf : KeyParts → KeyBits → Type 0

@@ -9,10 +9,6 @@ use Rattle.rpki_cert.specs.declared.known_view.KnownView.{KnownView}
 use Rattle.rpki_cert.specs.Known.{subject_key_identifier, key_usage, basic_constraints, certificate_policies, authority_key_identifier, present, HasOnly, HasNone}
 use Rattle.rpki_cert.specs.ExtensionContent.{SpellsConstraints, SpellsAuthority, SpellsUsage, SpellsPolicies}
 
--- P holds of the extensions that s is
-abbrev pub OfListed : List ℕ → (List ExtensionParts → Type 0) → Type 0
-OfListed s P = (xs : List ExtensionParts) → SpellsEach SpellsExtension xs s → P xs
-
 -- what the extensions say: each is there, as critical as it has to be and in its form, or isn't there
 pub record AreKnown (xs : List ExtensionParts) (v : KnownView) : Type 0 where
   pub constraints : HasOnly basic_constraints true SpellsConstraints xs (present v.ca)

@@ -7,7 +7,7 @@ pub mod GeneralName
 pub mod Access
 pub mod InPlace
 pub mod View
-pub mod ExtensionIndex
+pub mod ExtensionTable
 pub mod KnownView
 pub mod Inspected
 pub mod Keys

@@ -16,6 +16,9 @@ use Rattle.rpki.specs.ExtensionValue.{ExtensionParts, SpellsExtension}
 use Rattle.rpki_cert.specs.declared.cert_part.CertPart.{CertPart}
 use Rattle.rpki_cert.specs.declared.cert_part.CertPart.TheVariants.{Certificate, Signed, Algorithm, Signature, Tbs, Version, SerialNumber, TbsAlgorithm, Issuer, Validity, Subject, PublicKey, Extensions, ExtensionCount, ExtensionIdentifiers, SameAlgorithm}
 use Rattle.rpki_cert.specs.declared.section.Section.{Section}
+use Rattle.rpki_cert.specs.declared.extension_table.Passed.{Passed}
+pub use Rattle.rpki_cert.specs.ExtensionTable.{behind_first}
+use Rattle.rpki_cert.specs.ExtensionTable.{OfListed}
 use Rattle.rpki_cert.specs.declared.fields.Keyed.{Keyed}
 use Rattle.rpki_cert.specs.declared.fields.Named.{Named}
 use Rattle.rpki_cert.specs.declared.fields.TbsView.{TbsView}
@@ -46,7 +49,9 @@ pub data FirstWrong {V : Type 0} (G : V → List ℕ → Type 0) (part : CertPar
 
 -- ---- extensions
 
--- how many are compared with one another at most
+-- How many are compared with one another at most. RFC 5280 4.2 has no bound: a certificate of more extensions, all of
+-- them well-formed and each with an identifier of its own, is valid and yet refused. The part that is named then,
+-- `ExtensionCount`, is the bound of this reader and nothing that the RFC forbids. The RPKI defines fewer than twenty.
 abbrev pub most_extensions : ℕ
 most_extensions = 64
 
@@ -54,18 +59,7 @@ most_extensions = 64
 abbrev pub SpellsListed : List ExtensionParts → List ℕ → Type 0
 SpellsListed = SpellsLeaf extensions_tag true (SpellsLeaf sequence true (SpellsSome SpellsExtension))
 
--- s begins with a SEQUENCE whose contents begin with an OBJECT IDENTIFIER of these contents octets, which may not be
--- those of an identifier, and q follows the SEQUENCE
-pub record IsIdentified (s identifier q : List ℕ) : Type 0 where
-  pub contents : List ℕ
-  pub behind : List ℕ
-  pub around : Accepts (SpellsContents sequence true) s contents q
-  pub named : Accepts (SpellsContents oid false) contents identifier behind
-
--- the last octet of an identifier
-abbrev pub ending : List ℕ → ℕ
-ending id = slice_index id (length id - 1)
-
+-- the extensions are refused: they are no such list, or they are more than are compared, or two have one identifier
 pub data AreExtensionsWrong (s : List ℕ) (q : CertPart) : Type 0 where
   NotListed : SpellsNothing SpellsListed s → q ≡ Extensions → AreExtensionsWrong s q
   TooMany : (xs : List ExtensionParts) → SpellsListed xs s → most_extensions < length xs → q ≡ ExtensionCount
@@ -77,28 +71,24 @@ pub data AreExtensionsWrong (s : List ℕ) (q : CertPart) : Type 0 where
 abbrev pub SpellsFrame : List ℕ → List ℕ → Type 0
 SpellsFrame = SpellsLeaf extensions_tag true (SpellsContents sequence true)
 
--- all of s is the extensions, and the section is the contents of their list, which nothing follows
-pub record AreExtensionsAt (s : List ℕ) (p : Section) : Type 0 where
+-- all of s is the extensions, and these octets are the contents of their list
+pub record AreExtensionsAt (s l : List ℕ) : Type 0 where
   pub extensions : List ExtensionParts
   pub spelled : SpellsExtensions extensions s
   pub few : length extensions ≤ most_extensions
-  pub section : IsSection p spelled.spelled.contents []
-
--- of the octets of these extensions, one after another, what follows the first with this identifier
-abbrev pub behind_first : List ℕ → (xs : List ExtensionParts) (s : List ℕ) → SpellsEach SpellsExtension xs s → List ℕ
-behind_first id [] s h = []
-behind_first id (x ∷ xs) s h = if bytes_eq x.identifier id then h.0 else behind_first id xs h.0 h.2
-
--- so many octets follow the first extension in s with this identifier
-abbrev pub FollowFirst : List ℕ → List ℕ → ℕ → Type 0
-FollowFirst id s n =
-    (xs : List ExtensionParts) (h : SpellsEach SpellsExtension xs s) → n ≡ length (behind_first id xs s h)
+  pub list : l ≡ spelled.spelled.contents
 
 -- these octets are extensions, so many
 pub record HasCount (s : List ℕ) (n : ℕ) : Type 0 where
   pub extensions : List ExtensionParts
   pub some : SpellsSome SpellsExtension extensions s
   pub count : length extensions ≡ n
+
+-- they were read: this is their table and their count, and where each has a slot of its own no two have one identifier
+pub record IsPassed (s : List ℕ) (p : Passed) : Type 0 where
+  pub table : p.table ≡ s
+  pub count : HasCount s p.count
+  pub apart : IsTrue p.apart → OfListed s (λ xs. IsTrue (are_unique xs))
 
 -- ---- TBSCertificate
 
@@ -107,13 +97,13 @@ abbrev pub TakesName : List ℕ → List ℕ → Option Section → Type 0
 TakesName s r (Some p) = (v : List ℕ) × Accepts SpellsNameOctets s v r × IsSection p v r
 TakesName s r None = Refuses SpellsNameOctets s
 
--- The sections are those of a key and of extensions. Here and below, h says which octets spell which part, and so what
+-- The section is that of a key, and the list that of extensions. Here and below, h says which octets spell which part, and so what
 -- follows each.
 pub record IsKeyedIn (key : KeyParts) (xs : List ExtensionParts) (s : List ℕ)
     (h : SpellsBoth SpellsKey SpellsExtensions key xs s) (k : Keyed) : Type 0 where
   pub same : k.key ≡ key
   pub key_at : IsSection k.octets h.first h.second
-  pub list_at : IsSection k.extensions h.two.spelled.contents []
+  pub list_at : k.extensions ≡ h.two.spelled.contents
 
 -- all of s is a key and extensions, of which these are the sections
 abbrev pub IsKeyedAt : List ℕ → Keyed → Type 0

@@ -9,6 +9,7 @@ ghost use Rattle.rpki.specs.PublicKey.{key_of};
 ghost use Rattle.rpki.specs.StrictName.{IsRpkiName, IsRouterName};
 ghost use Rattle.rpki.specs.ExtensionValue.{ExtensionParts};
 ghost use Rattle.rpki_cert.specs.Cert.{TbsParts, find};
+ghost use Rattle.rpki_cert.specs.ExtensionTable.{identifier_of};
 ghost use Rattle.rpki_cert.specs.Known.{Says, certificate_policies, subject_info_access};
 ghost use Rattle.rpki_cert.specs.ExtensionContent.{SpellsConstraints, IsWholeConstraintsFault, IsWholeSubjectFault, SpellsAuthority, IsWholeAuthorityFault, SpellsUsage, IsWholeUsageFault, SpellsPurposes, SpellsPolicies, IsWholePoliciesFault};
 ghost use Rattle.rpki_cert.specs.Access.{SpellsRsyncAccess, SpellsPoints, SpellsHeldAccess};
@@ -19,6 +20,7 @@ ghost use Rattle.rpki_cert.specs.Rule.{Obeys};
 ghost use Rattle.rpki_cert.specs.RuleError.{ChecksBy, SaysRule, SaysName, ChecksSome, ChecksValue, ChecksUri, ChecksVersion, ChecksOwn, IsRuleError};
 
 use crate::access_rule::AccessRule;
+use crate::extension_kind::ExtensionKind;
 use crate::extension_source::ExtensionSource;
 use crate::inspected::Inspected;
 use crate::key_rule::KeyBits;
@@ -77,22 +79,23 @@ fn is_router(found: Option<bool>) -> bool
 fn has_addresses(all: &ExtensionSource<'_>) -> bool
     ensures { (xs : List ExtensionParts) → AreIn xs all.now → result ≡ has_addresses xs }
 {
-    all.find(oid::PE_IP_ADDR_BLOCK).is_some() || all.find(oid::PE_IP_ADDR_BLOCK_V2).is_some()
+    all.find(ExtensionKind::IpResources).is_some()
+        || all.find(ExtensionKind::IpResourcesV2).is_some()
 }
 
 /// Whether numbers of autonomous systems are there.
 fn has_numbers(all: &ExtensionSource<'_>) -> bool
     ensures { (xs : List ExtensionParts) → AreIn xs all.now → result ≡ has_numbers xs }
 {
-    all.find(oid::PE_AUTONOMOUS_SYS_IDS).is_some()
-        || all.find(oid::PE_AUTONOMOUS_SYS_IDS_V2).is_some()
+    all.find(ExtensionKind::AsResources).is_some()
+        || all.find(ExtensionKind::AsResourcesV2).is_some()
 }
 
-/// Whether the extension of this identifier is critical, or not there.
-fn is_critical_at(all: &ExtensionSource<'_>, id: ConstOid) -> bool
-    ensures { (xs : List ExtensionParts) → AreIn xs all.now → result ≡ is_critical (find id.entry.0.now xs) }
+/// Whether the extension of this kind is critical, or not there.
+fn is_critical_at(all: &ExtensionSource<'_>, kind: ExtensionKind) -> bool
+    ensures { (xs : List ExtensionParts) → AreIn xs all.now → result ≡ is_critical (find (identifier_of kind) xs) }
 {
-    match all.find(id) {
+    match all.find(kind) {
         Some(extension) => extension.critical(),
         None => true,
     }
@@ -103,10 +106,10 @@ fn has_resources(all: &ExtensionSource<'_>) -> bool
     ensures { (xs : List ExtensionParts) → AreIn xs all.now → result ≡ has_resources xs }
 {
     (has_addresses(all) || has_numbers(all))
-        && is_critical_at(all, oid::PE_IP_ADDR_BLOCK)
-        && is_critical_at(all, oid::PE_IP_ADDR_BLOCK_V2)
-        && is_critical_at(all, oid::PE_AUTONOMOUS_SYS_IDS)
-        && is_critical_at(all, oid::PE_AUTONOMOUS_SYS_IDS_V2)
+        && is_critical_at(all, ExtensionKind::IpResources)
+        && is_critical_at(all, ExtensionKind::IpResourcesV2)
+        && is_critical_at(all, ExtensionKind::AsResources)
+        && is_critical_at(all, ExtensionKind::AsResourcesV2)
 }
 
 /// Whether numbers of autonomous systems are there, and no addresses.
@@ -122,12 +125,12 @@ fn is_of_version(policy: Overclaim, all: &ExtensionSource<'_>) -> bool
 {
     match policy {
         Overclaim::Refuse => {
-            all.find(oid::PE_IP_ADDR_BLOCK_V2).is_none()
-                && all.find(oid::PE_AUTONOMOUS_SYS_IDS_V2).is_none()
+            all.find(ExtensionKind::IpResourcesV2).is_none()
+                && all.find(ExtensionKind::AsResourcesV2).is_none()
         }
         Overclaim::Trim => {
-            all.find(oid::PE_IP_ADDR_BLOCK).is_none()
-                && all.find(oid::PE_AUTONOMOUS_SYS_IDS).is_none()
+            all.find(ExtensionKind::IpResources).is_none()
+                && all.find(ExtensionKind::AsResources).is_none()
         }
     }
 }
@@ -136,7 +139,7 @@ fn is_of_version(policy: Overclaim, all: &ExtensionSource<'_>) -> bool
 fn inspect_version(all: &ExtensionSource<'_>) -> Result<(), ValidationError>
     ensures { (xs : List ExtensionParts) → AreIn xs all.now → ChecksVersion xs result }
 {
-    match overclaim_in(all.find(oid::CE_CERTIFICATE_POLICIES)) {
+    match overclaim_in(all.find(ExtensionKind::CertificatePolicies)) {
         Ok(Some(policy)) => {
             if is_of_version(policy, all) {
                 return Ok(());
@@ -181,7 +184,7 @@ fn has_manifest_below(all: &ExtensionSource<'_>) -> bool
     ensures { (xs : List ExtensionParts) → AreIn xs all.now
         → IsTrue result ↔ SaysManifestBelow (find subject_info_access xs) }
 {
-    let access = oid::PE_SUBJECT_INFO_ACCESS;
+    let access = ExtensionKind::SubjectInfoAccess;
     match access_in(all.find(access), oid::AD_CA_REPOSITORY) {
         Ok(Some(base)) => match access_in(all.find(access), oid::AD_RPKI_MANIFEST) {
             Ok(Some(text)) => is_below(base, text),
@@ -467,84 +470,88 @@ impl Inspected<'_> {
             CertRule::RouterSubject => inspect_router_name(&self.subject, strict),
             CertRule::RsaKey => inspect_key(&self.key),
             CertRule::RouterKey => inspect_router_key(&self.key),
-            CertRule::BasicConstraints => inspect_constraints(all.find(oid::CE_BASIC_CONSTRAINTS)),
+            CertRule::BasicConstraints => inspect_constraints(all.find(
+                ExtensionKind::BasicConstraints,
+            )),
             CertRule::NoBasicConstraints => inspect_absent(
-                all.find(oid::CE_BASIC_CONSTRAINTS),
+                all.find(ExtensionKind::BasicConstraints),
                 CertRule::NoBasicConstraints,
             ),
             CertRule::SubjectKeyIdentifier => inspect_identifier(all.find(
-                oid::CE_SUBJECT_KEY_IDENTIFIER,
+                ExtensionKind::SubjectKeyIdentifier,
             )),
             CertRule::AuthorityKeyIdentifier => inspect_authority(all.find(
-                oid::CE_AUTHORITY_KEY_IDENTIFIER,
+                ExtensionKind::AuthorityKeyIdentifier,
             )),
             CertRule::OwnAuthority => inspect_own_authority(
-                all.find(oid::CE_AUTHORITY_KEY_IDENTIFIER),
-                all.find(oid::CE_SUBJECT_KEY_IDENTIFIER),
+                all.find(ExtensionKind::AuthorityKeyIdentifier),
+                all.find(ExtensionKind::SubjectKeyIdentifier),
             ),
             CertRule::SelfIssued => inspect_same(&self.issuer, &self.subject),
             CertRule::AuthorityUsage => inspect_usage(
-                all.find(oid::CE_KEY_USAGE),
+                all.find(ExtensionKind::KeyUsage),
                 KeyUsage::Ca,
                 CertRule::AuthorityUsage,
             ),
             CertRule::EndUsage => inspect_usage(
-                all.find(oid::CE_KEY_USAGE),
+                all.find(ExtensionKind::KeyUsage),
                 KeyUsage::Ee,
                 CertRule::EndUsage,
             ),
             CertRule::NoExtendedKeyUsage => inspect_absent(
-                all.find(oid::CE_EXTENDED_KEY_USAGE),
+                all.find(ExtensionKind::ExtendedKeyUsage),
                 CertRule::NoExtendedKeyUsage,
             ),
-            CertRule::RouterPurpose => inspect_purpose(all.find(oid::CE_EXTENDED_KEY_USAGE)),
+            CertRule::RouterPurpose => inspect_purpose(all.find(ExtensionKind::ExtendedKeyUsage)),
             CertRule::RevocationList => inspect_revocation(all.find(
-                oid::CE_CRL_DISTRIBUTION_POINTS,
+                ExtensionKind::CrlDistributionPoints,
             )),
             CertRule::NoRevocationList => inspect_absent(
-                all.find(oid::CE_CRL_DISTRIBUTION_POINTS),
+                all.find(ExtensionKind::CrlDistributionPoints),
                 CertRule::NoRevocationList,
             ),
             CertRule::IssuerCertificate => inspect_access(
-                all.find(oid::PE_AUTHORITY_INFO_ACCESS),
+                all.find(ExtensionKind::AuthorityInfoAccess),
                 oid::AD_CA_ISSUERS,
                 CertRule::IssuerCertificate,
             ),
             CertRule::NoIssuerCertificate => inspect_absent(
-                all.find(oid::PE_AUTHORITY_INFO_ACCESS),
+                all.find(ExtensionKind::AuthorityInfoAccess),
                 CertRule::NoIssuerCertificate,
             ),
             CertRule::Repository => inspect_access(
-                all.find(oid::PE_SUBJECT_INFO_ACCESS),
+                all.find(ExtensionKind::SubjectInfoAccess),
                 oid::AD_CA_REPOSITORY,
                 CertRule::Repository,
             ),
             CertRule::Manifest => inspect_access(
-                all.find(oid::PE_SUBJECT_INFO_ACCESS),
+                all.find(ExtensionKind::SubjectInfoAccess),
                 oid::AD_RPKI_MANIFEST,
                 CertRule::Manifest,
             ),
             CertRule::SignedObject => inspect_access(
-                all.find(oid::PE_SUBJECT_INFO_ACCESS),
+                all.find(ExtensionKind::SubjectInfoAccess),
                 oid::AD_SIGNED_OBJECT,
                 CertRule::SignedObject,
             ),
             CertRule::ManifestPlace => inspect_place(all),
             CertRule::ObjectAccess => inspect_held(
-                all.find(oid::PE_SUBJECT_INFO_ACCESS),
+                all.find(ExtensionKind::SubjectInfoAccess),
                 AccessRule::EndEntity,
                 CertRule::ObjectAccess,
             ),
             CertRule::Notifications => inspect_held(
-                all.find(oid::PE_SUBJECT_INFO_ACCESS),
+                all.find(ExtensionKind::SubjectInfoAccess),
                 AccessRule::Notification,
                 CertRule::Notifications,
             ),
             CertRule::NoSubjectAccess => inspect_absent(
-                all.find(oid::PE_SUBJECT_INFO_ACCESS),
+                all.find(ExtensionKind::SubjectInfoAccess),
                 CertRule::NoSubjectAccess,
             ),
-            CertRule::CertificatePolicies => inspect_policy(all.find(oid::CE_CERTIFICATE_POLICIES)),
+            CertRule::CertificatePolicies => inspect_policy(all.find(
+                ExtensionKind::CertificatePolicies,
+            )),
             CertRule::Resources => inspect_that(has_resources(all), CertRule::Resources),
             CertRule::ResourceVersion => inspect_version(all),
             CertRule::ResourceBlocks => inspect_that(

@@ -1,16 +1,16 @@
-//! Extensions by their identifiers, kept as values or one after another in octets.
+//! Extensions by their identifiers, kept as values or in a table.
 
 ghost use Rattle.std.specs.Prelude.{◌≡◌, List};
 ghost use Rattle.rpki.specs.ExtensionValue.{ExtensionParts};
 ghost use Rattle.rpki_cert.specs.Cert.{find};
 ghost use Rattle.rpki_cert.specs.Known.{are_understood};
-ghost use Rattle.rpki_cert.specs.KnownView.{OfListed};
+ghost use Rattle.rpki_cert.specs.ExtensionTable.{identifier_of};
 ghost use Rattle.rpki_cert.specs.Inspected.{AreIn};
 
-use crate::extension_index::ExtensionIndex;
+use crate::extension_kind::{ExtensionKind, is_understood};
+use crate::extension_table::ExtensionTable;
 use crate::extensions::find;
-use crate::understood::{are_understood, are_understood_in};
-use rpki::der::{ConstOid, Constructed};
+use rpki::der::ConstOid;
 use rpki::repository::x509::{CertExtension, ExtensionView};
 
 /// The extensions of a certificate.
@@ -18,8 +18,8 @@ use rpki::repository::x509::{CertExtension, ExtensionView};
 pub enum ExtensionSource<'a> {
     /// Those that are kept.
     Kept(&'a [CertExtension]),
-    /// Those that octets are, one after another.
-    Listed(ExtensionIndex<'a>),
+    /// Those of a table.
+    Listed(&'a ExtensionTable<'a>),
 }
 
 /// The extension of this identifier, of those that are kept.
@@ -32,24 +32,26 @@ pub fn find_kept<'a>(all: &'a [CertExtension], id: ConstOid) -> Option<Extension
     }
 }
 
-/// The extension of this identifier, of those that octets are.
-pub fn find_listed<'a>(list: &ExtensionIndex<'a>, id: ConstOid) -> Option<ExtensionView<'a>>
-    ensures { OfListed list.now (λ xs. result ≡ find id.entry.0.now xs) }
+/// Whether every critical extension is a known one (RFC 5280 4.2).
+pub fn are_understood(all: &[CertExtension]) -> bool
+    ensures { result ≡ are_understood all.now }
 {
-    match list.find(id) {
-        Some((extension, _)) => Some(extension),
-        None => None,
+    'extensions: for extension in all {
+        if !is_understood(extension.critical(), extension.id()) {
+            return false;
+        }
     }
+    true
 }
 
 impl<'a> ExtensionSource<'a> {
-    /// The extension of this identifier.
-    pub fn find(&self, id: ConstOid) -> Option<ExtensionView<'a>>
-        ensures { (xs : List ExtensionParts) → AreIn xs self.now → result ≡ find id.entry.0.now xs }
+    /// The extension of this kind.
+    pub fn find(&self, kind: ExtensionKind) -> Option<ExtensionView<'a>>
+        ensures { (xs : List ExtensionParts) → AreIn xs self.now → result ≡ find (identifier_of kind) xs }
     {
         match self {
-            ExtensionSource::Kept(all) => find_kept(all, id),
-            ExtensionSource::Listed(list) => find_listed(list, id),
+            ExtensionSource::Kept(all) => find_kept(all, kind.id()),
+            ExtensionSource::Listed(table) => table.find(kind),
         }
     }
 
@@ -59,9 +61,7 @@ impl<'a> ExtensionSource<'a> {
     {
         match self {
             ExtensionSource::Kept(all) => are_understood(all),
-            ExtensionSource::Listed(list) => are_understood_in(Constructed::from_slice(
-                list.octets(),
-            )),
+            ExtensionSource::Listed(table) => table.are_understood(),
         }
     }
 }

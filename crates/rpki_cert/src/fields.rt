@@ -6,6 +6,7 @@ ghost use Rattle.rpki_cert.specs.Cert.{TbsParts, AreFields, fields_of, SpellsTbs
 ghost use Rattle.rpki_cert.specs.View.{TakesName, IsKeyedAt, IsNamedIn, IsTbsIn, AreNamed, AreKeyedWrong, AreNamedWrong, AreFieldsWrong, IsTbsWrong};
 
 use crate::cert_part::CertPart;
+use crate::extension_table::ExtensionTable;
 use crate::listed::{only_in, read_extensions};
 use crate::names::take_name;
 use crate::nested::front_of;
@@ -22,8 +23,8 @@ pub struct Keyed<'a> {
     pub key: PublicKeyView<'a>,
     /// The octets of the key.
     pub octets: Section<'a>,
-    /// The extensions, one after another.
-    pub extensions: Section<'a>,
+    /// The extensions.
+    pub extensions: ExtensionTable<'a>,
 }
 
 /// The fields from the issuer on.

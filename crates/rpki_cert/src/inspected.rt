@@ -5,7 +5,6 @@ ghost use Rattle.rpki_cert.specs.Cert.{CertParts};
 ghost use Rattle.rpki_cert.specs.View.{IsCertAt};
 ghost use Rattle.rpki_cert.specs.Inspected.{IsKeyOf, IsReadOf};
 
-use crate::extension_index::ExtensionIndex;
 use crate::extension_source::ExtensionSource;
 use crate::key_rule::KeyBits;
 use crate::tbs::TbsCert;
@@ -68,9 +67,9 @@ impl TbsCert {
     }
 }
 
-impl<'a> CertView<'a> {
+impl CertView<'_> {
     /// What the rules read of the certificate.
-    pub(crate) fn inspected(&self) -> Inspected<'a>
+    pub(crate) fn inspected(&self) -> Inspected<'_>
         requires { (s : List ℕ) × (x : CertParts) × IsCertAt s self.now x }
         ensures { (s : List ℕ) (x : CertParts) → IsCertAt s self.now x → IsReadOf x.tbs result }
     {
@@ -81,7 +80,7 @@ impl<'a> CertView<'a> {
             subject: NameView::new(named.subject.octets),
             validity: named.validity,
             key: read_key(&named.keyed.key),
-            extensions: ExtensionSource::Listed(ExtensionIndex::of(named.keyed.extensions.octets)),
+            extensions: ExtensionSource::Listed(&named.keyed.extensions),
         }
     }
 }

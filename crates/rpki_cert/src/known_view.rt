@@ -1,17 +1,17 @@
 //! What the extensions of a certificate say, read in place without memory (RFC 6487 4.8).
 
 ghost use Rattle.std.specs.Prelude.{IfOk, IfErr};
-ghost use Rattle.rpki_cert.specs.KnownView.{OfListed, AreKnown, IsFirstWrong};
+ghost use Rattle.rpki_cert.specs.ExtensionTable.{OfListed};
+ghost use Rattle.rpki_cert.specs.KnownView.{AreKnown, IsFirstWrong};
 
-use crate::extension_index::ExtensionIndex;
-use crate::extension_source::find_listed;
+use crate::extension_kind::ExtensionKind;
+use crate::extension_table::ExtensionTable;
 use crate::fields::Keyed;
 use crate::key_usage::KeyUsage;
 use crate::known::{authority_in, constraints_in, overclaim_in, subject_in, usage_in};
 use crate::known_part::KnownPart;
 use crate::policy::Overclaim;
 use rpki::crypto::KeyIdentifier;
-use rpki::oid;
 
 /// What the extensions say that are read without memory.
 #[derive(Clone, Copy)]
@@ -29,7 +29,7 @@ pub struct KnownView {
     pub overclaim: Option<Overclaim>,
 }
 
-impl ExtensionIndex<'_> {
+impl ExtensionTable<'_> {
     /// What the extensions say: the basic constraints, both key identifiers, the key usage and the policy. Allocates
     /// nothing.
     ///
@@ -39,29 +39,27 @@ impl ExtensionIndex<'_> {
         ensures ok { IfOk result (λ v. OfListed self.now (λ xs. AreKnown xs v)) }
         ensures err { IfErr result (λ q. OfListed self.now (λ xs. IsFirstWrong xs q)) }
     {
-        let ca = match constraints_in(find_listed(self, oid::CE_BASIC_CONSTRAINTS)) {
+        let ca = match constraints_in(self.find(ExtensionKind::BasicConstraints)) {
             Ok(ca) => ca,
             Err(_) => return Err(KnownPart::BasicConstraints),
         };
-        let subject_key_identifier = match subject_in(find_listed(
-            self,
-            oid::CE_SUBJECT_KEY_IDENTIFIER,
+        let subject_key_identifier = match subject_in(self.find(
+            ExtensionKind::SubjectKeyIdentifier,
         )) {
             Ok(found) => found,
             Err(_) => return Err(KnownPart::SubjectKeyIdentifier),
         };
-        let authority_key_identifier = match authority_in(find_listed(
-            self,
-            oid::CE_AUTHORITY_KEY_IDENTIFIER,
+        let authority_key_identifier = match authority_in(self.find(
+            ExtensionKind::AuthorityKeyIdentifier,
         )) {
             Ok(found) => found,
             Err(_) => return Err(KnownPart::AuthorityKeyIdentifier),
         };
-        let key_usage = match usage_in(find_listed(self, oid::CE_KEY_USAGE)) {
+        let key_usage = match usage_in(self.find(ExtensionKind::KeyUsage)) {
             Ok(found) => found,
             Err(_) => return Err(KnownPart::KeyUsage),
         };
-        match overclaim_in(find_listed(self, oid::CE_CERTIFICATE_POLICIES)) {
+        match overclaim_in(self.find(ExtensionKind::CertificatePolicies)) {
             Ok(overclaim) => Ok(KnownView {
                 ca,
                 subject_key_identifier,
@@ -75,11 +73,11 @@ impl ExtensionIndex<'_> {
 }
 
 impl<'a> Keyed<'a> {
-    /// What the extensions say, as [ExtensionIndex::known].
+    /// What the extensions say, as [ExtensionTable::known].
     pub fn known(&self) -> Result<KnownView, KnownPart>
-        ensures ok { IfOk result (λ v. OfListed self.now.extensions.octets.now (λ xs. AreKnown xs v)) }
-        ensures err { IfErr result (λ q. OfListed self.now.extensions.octets.now (λ xs. IsFirstWrong xs q)) }
+        ensures ok { IfOk result (λ v. OfListed self.now.extensions (λ xs. AreKnown xs v)) }
+        ensures err { IfErr result (λ q. OfListed self.now.extensions (λ xs. IsFirstWrong xs q)) }
     {
-        ExtensionIndex::of(self.extensions.octets).known()
+        self.extensions.known()
     }
 }

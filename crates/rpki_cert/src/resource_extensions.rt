@@ -6,17 +6,16 @@ ghost use Rattle.rpki_der.specs.Reading.{Reads, Decodes};
 ghost use Rattle.rpki.specs.ExtensionValue.{ExtensionParts};
 ghost use Rattle.rpki_resources.specs.Extension.{SpellsIpResources, IsIpResourcesFault, SpellsAsResources, IsAsResourcesFault};
 ghost use Rattle.rpki_cert.specs.Known.{IsSaid};
-ghost use Rattle.rpki_cert.specs.KnownView.{OfListed};
+ghost use Rattle.rpki_cert.specs.ExtensionTable.{OfListed};
 ghost use Rattle.rpki_cert.specs.Inspected.{AreIn};
 ghost use Rattle.rpki_cert.specs.ResourceExtensions.{first_there, addresses_of, numbers_of, IsWholeIpFault, IsWholeAsFault, IsWellFormed, AreWellFormed, is_own, are_own_addresses, are_own_numbers, SaysThat, AreOwn};
 
-use crate::extension_index::ExtensionIndex;
+use crate::extension_kind::ExtensionKind;
 use crate::extension_source::ExtensionSource;
 use crate::fields::Keyed;
 use crate::known::wanted;
 use crate::tbs::TbsCert;
 use rpki::der::{Constructed, DecodeError};
-use rpki::oid;
 use rpki::repository::error::ValidationError;
 use rpki::repository::x509::ExtensionView;
 use rpki_resources::{ChoiceView, IpResourcesView, take_as_resources, take_ip_resources};
@@ -39,8 +38,8 @@ fn addresses_of<'a>(all: &ExtensionSource<'a>) -> Option<ExtensionView<'a>>
     ensures { (xs : List ExtensionParts) → AreIn xs all.now → result ≡ addresses_of xs }
 {
     first_there(
-        all.find(oid::PE_IP_ADDR_BLOCK),
-        all.find(oid::PE_IP_ADDR_BLOCK_V2),
+        all.find(ExtensionKind::IpResources),
+        all.find(ExtensionKind::IpResourcesV2),
     )
 }
 
@@ -49,8 +48,8 @@ fn numbers_of<'a>(all: &ExtensionSource<'a>) -> Option<ExtensionView<'a>>
     ensures { (xs : List ExtensionParts) → AreIn xs all.now → result ≡ numbers_of xs }
 {
     first_there(
-        all.find(oid::PE_AUTONOMOUS_SYS_IDS),
-        all.find(oid::PE_AUTONOMOUS_SYS_IDS_V2),
+        all.find(ExtensionKind::AsResources),
+        all.find(ExtensionKind::AsResourcesV2),
     )
 }
 
@@ -215,22 +214,20 @@ impl TbsCert {
     }
 }
 
-impl<'a> Keyed<'a> {
+impl Keyed<'_> {
     /// The addresses, as [TbsCert::ip_resources].
-    pub fn ip_resources(&self) -> Result<Option<IpResourcesView<'a>>, ValidationError>
-        ensures { OfListed self.now.extensions.octets.now
+    pub fn ip_resources(&self) -> Result<Option<IpResourcesView<'_>>, ValidationError>
+        ensures { OfListed self.now.extensions
             (λ xs. IsSaid true SpellsIpResources IsWholeIpFault (addresses_of xs) result) }
     {
-        let index = ExtensionIndex::of(self.extensions.octets);
-        ip_resources_in(addresses_of(&ExtensionSource::Listed(index)))
+        ip_resources_in(addresses_of(&ExtensionSource::Listed(&self.extensions)))
     }
 
     /// The numbers of autonomous systems, as [TbsCert::as_resources].
-    pub fn as_resources(&self) -> Result<Option<ChoiceView<'a>>, ValidationError>
-        ensures { OfListed self.now.extensions.octets.now
+    pub fn as_resources(&self) -> Result<Option<ChoiceView<'_>>, ValidationError>
+        ensures { OfListed self.now.extensions
             (λ xs. IsSaid true SpellsAsResources IsWholeAsFault (numbers_of xs) result) }
     {
-        let index = ExtensionIndex::of(self.extensions.octets);
-        as_resources_in(numbers_of(&ExtensionSource::Listed(index)))
+        as_resources_in(numbers_of(&ExtensionSource::Listed(&self.extensions)))
     }
 }

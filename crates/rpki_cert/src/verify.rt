@@ -9,9 +9,9 @@ ghost use Rattle.rpki_cert.specs.RuleError.{ChecksBy};
 ghost use Rattle.rpki_cert.specs.Valid.{HasReason, IsPeriodError, IsSignedBy, HasSubject, IsOtherSubject, ChecksSigned, HasAuthority, IsOtherAuthority, ChecksIssued, ChecksAnchor};
 
 use crate::cert::Cert;
+use crate::extension_source::are_understood;
 use crate::extensions::find;
 use crate::tbs::TbsCert;
-use crate::understood::are_understood;
 use rpki::crypto::{KeyIdentifier, Provider, PublicKey, PublicKeyFormat};
 use rpki::der::ContentError;
 use rpki::oid;

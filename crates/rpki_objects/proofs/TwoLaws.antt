@@ -74,9 +74,6 @@ module _ (s r : List ℕ) (x : ExtensionParts) (a : Accepts SpellsExtension s x 
 
 -- ---- the tag and the SEQUENCE around them
 
-pub no-frame : (s : List ℕ) → SpellsNothing (SpellsContents extensions_tag true) s → SpellsNothing extensions.spells s
-no-frame s none v h = none h.contents h.value
-
 module _ (s c : List ℕ) (outer : SpellsContents extensions_tag true c s)
     (one-outer : (d : List ℕ) → SpellsContents extensions_tag true d s → d ≡ c) where
   pub no-list : SpellsNothing (SpellsContents sequence true) c → SpellsNothing extensions.spells s

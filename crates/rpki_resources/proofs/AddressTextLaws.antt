@@ -1,4 +1,4 @@
--- A text of an address has no hyphen, so that a hyphen parts two of them.
+-- A text of an address has digits, dots and colons alone, so that a hyphen or a comma parts two of them.
 use Rattle.std.proofs.Common.{◌≡◌, ◌≢◌, ◌≤◌, ◌<◌, ◌^◌, ℕ, suc, Bool, true, false, List, [], ◌∷◌, ◌++◌, refl, ap, sym, ◌∙◌, subst, inl, inr, arith}
 use Rattle.std.specs.Prelude.{codes, decimal, Option, Some, None, IfSome, IfNone}
 use Rattle.std.proofs.NetLemmas.Theorems.{IsIpText_unique}
@@ -21,58 +21,66 @@ use Rattle.rpki_resources.specs.IpRead.{address_width, address_number, family_of
 use Rattle.rpki_resources.proofs.AsReadLaws.{plus-plain, not-plain, one-split}
 use Rattle.rpki_resources.proofs.IpReadLaws.{HasNo, cons-none, address-read-back}
 
-nothing : HasNo 45 []
-nothing = λ i lt e. absurd (omega arith)
+pub joined-none : (c : ℕ) (xs ys : List ℕ) → HasNo c xs → HasNo c ys → HasNo c (xs ++ ys)
+joined-none c [] ys h k = k
+joined-none c (x ∷ xs) ys h k = cons-none c x (xs ++ ys) (h 0 (omega arith)) (joined-none c xs ys (λ i lt e. h (suc i) (omega (arith, lt)) e) k)
 
-both : (xs ys : List ℕ) → HasNo 45 xs → HasNo 45 ys → HasNo 45 (xs ++ ys)
-both [] ys h k = k
-both (x ∷ xs) ys h k = cons-none 45 x (xs ++ ys) (h 0 (omega arith)) (both xs ys (λ i lt e. h (suc i) (omega (arith, lt)) e) k)
+-- a character that is no digit, dot or colon
+module _ (c : ℕ) (other : 16 ≤ digit_value c) (below : c < 48) (no_dot : 46 ≢ c) where
+  nothing : HasNo c []
+  nothing = λ i lt e. absurd (omega arith)
 
-no-digit : (d : ℕ) → digit_value d < 16 → d ≢ 45
-no-digit d h e = let k : digit_value 45 < 16 = subst (λ (n : ℕ). digit_value n < 16) e h in absurd (omega (arith, k))
+  no-digit : (d : ℕ) → digit_value d < 16 → d ≢ c
+  no-digit d h e = let k : digit_value c < 16 = subst (λ (n : ℕ). digit_value n < 16) e h in absurd (omega (arith, k, other))
 
-hex-none : (ds : List ℕ) → AllDigits 16 ds → HasNo 45 ds
-hex-none [] h = nothing
-hex-none (d ∷ ds) h = cons-none 45 d ds (no-digit d h.0) (hex-none ds h.1)
+  hex-none : (ds : List ℕ) → AllDigits 16 ds → HasNo c ds
+  hex-none [] h = nothing
+  hex-none (d ∷ ds) h = cons-none c d ds (no-digit d h.0) (hex-none ds h.1)
 
-decimal-none : (n : ℕ) → n < 256 → HasNo 45 (decimal n)
-decimal-none n small =
-    let d = decimal_is_IsNumeral n (omega arith) in
-    λ i lt e. let within = digit_at (decimal n) i d.0.1 lt in absurd (omega (arith, within, e))
+  pub decimal-none : (n : ℕ) → n < 2 ^ 64 → HasNo c (decimal n)
+  decimal-none n small =
+      let d = decimal_is_IsNumeral n small in
+      λ i lt e. let within = digit_at (decimal n) i d.0.1 lt in absurd (omega (arith, within, e, below))
 
-dot : (xs ys : List ℕ) → HasNo 45 xs → HasNo 45 ys → HasNo 45 (xs ++ codes "." ++ ys)
-dot xs ys h k = both (xs ++ codes ".") ys (both xs (codes ".") h (cons-none 45 46 [] (λ e. absurd (omega (arith, e))) nothing)) k
+  octet-none : (n : ℕ) → n < 256 → HasNo c (decimal n)
+  octet-none n small = decimal-none n (omega (arith, small))
 
-dotted-none : (text octets : List ℕ) → IsDotted text octets → HasNo 45 text
-dotted-none text octets h =
-    let ab : HasNo 45 (decimal h.a ++ codes "." ++ decimal h.b) = dot (decimal h.a) (decimal h.b) (decimal-none h.a h.fit.0) (decimal-none h.b h.fit.1) in
-    let abc : HasNo 45 (decimal h.a ++ codes "." ++ decimal h.b ++ codes "." ++ decimal h.c) = dot (decimal h.a ++ codes "." ++ decimal h.b) (decimal h.c) ab (decimal-none h.c h.fit.2) in
-    subst (HasNo 45) (sym h.spelled) (dot (decimal h.a ++ codes "." ++ decimal h.b ++ codes "." ++ decimal h.c) (decimal h.d) abc (decimal-none h.d h.fit.3))
+  dot : (xs ys : List ℕ) → HasNo c xs → HasNo c ys → HasNo c (xs ++ codes "." ++ ys)
+  dot xs ys h k = joined-none c (xs ++ codes ".") ys (joined-none c xs (codes ".") h (cons-none c 46 [] no_dot nothing)) k
 
-colon : HasNo 45 (codes ":")
-colon = cons-none 45 58 [] (λ e. absurd (omega (arith, e))) nothing
+  dotted-none : (text octets : List ℕ) → IsDotted text octets → HasNo c text
+  dotted-none text octets h =
+      let ab : HasNo c (decimal h.a ++ codes "." ++ decimal h.b) = dot (decimal h.a) (decimal h.b) (octet-none h.a h.fit.0) (octet-none h.b h.fit.1) in
+      let abc : HasNo c (decimal h.a ++ codes "." ++ decimal h.b ++ codes "." ++ decimal h.c) = dot (decimal h.a ++ codes "." ++ decimal h.b) (decimal h.c) ab (octet-none h.c h.fit.2) in
+      subst (HasNo c) (sym h.spelled) (dot (decimal h.a ++ codes "." ++ decimal h.b ++ codes "." ++ decimal h.c) (decimal h.d) abc (octet-none h.d h.fit.3))
 
-groups-none : (ipv4 : Bool) (lead text segments : List ℕ) → HasNo 45 lead → IsGroupsAfter ipv4 lead text segments → HasNo 45 text
-groups-none ipv4 lead text [] g h = subst (HasNo 45) (sym h) nothing
-groups-none ipv4 lead text (s ∷ segments) g (inl h) =
-    subst (HasNo 45) (sym h.2) (both (lead ++ h.0) h.1 (both lead h.0 g (hex-none h.0 h.3.0.0.1)) (groups-none ipv4 (codes ":") h.1 segments colon h.4))
-groups-none ipv4 lead text (s ∷ segments) g (inr h) = subst (HasNo 45) (sym h.3) (both lead h.0 g (dotted-none h.0 h.1 h.4))
+  colon : HasNo c (codes ":")
+  colon = cons-none c 58 [] (λ e. absurd (omega (arith, e, below))) nothing
 
-elided-none : (text segments : List ℕ) → IsElided text segments → HasNo 45 text
-elided-none text segments h =
-    subst (HasNo 45) (sym h.spelled)
-    (both (h.head_text ++ codes "::") h.tail_text
-    (both h.head_text (codes "::") (groups-none false [] h.head_text h.head nothing h.head_groups) (cons-none 45 58 (codes ":") (λ e. absurd (omega (arith, e))) colon))
-    (groups-none true [] h.tail_text h.tail nothing h.tail_groups))
+  groups-none : (ipv4 : Bool) (lead text segments : List ℕ) → HasNo c lead → IsGroupsAfter ipv4 lead text segments → HasNo c text
+  groups-none ipv4 lead text [] g h = subst (HasNo c) (sym h) nothing
+  groups-none ipv4 lead text (s ∷ segments) g (inl h) =
+      subst (HasNo c) (sym h.2) (joined-none c (lead ++ h.0) h.1 (joined-none c lead h.0 g (hex-none h.0 h.3.0.0.1)) (groups-none ipv4 (codes ":") h.1 segments colon h.4))
+  groups-none ipv4 lead text (s ∷ segments) g (inr h) = subst (HasNo c) (sym h.3) (joined-none c lead h.0 g (dotted-none h.0 h.1 h.4))
+
+  elided-none : (text segments : List ℕ) → IsElided text segments → HasNo c text
+  elided-none text segments h =
+      subst (HasNo c) (sym h.spelled)
+      (joined-none c (h.head_text ++ codes "::") h.tail_text
+      (joined-none c h.head_text (codes "::") (groups-none false [] h.head_text h.head nothing h.head_groups) (cons-none c 58 (codes ":") (λ e. absurd (omega (arith, e, below))) colon))
+      (groups-none true [] h.tail_text h.tail nothing h.tail_groups))
+
+  pub address-lacks : (text : List ℕ) (a : IpAddr) → IsIpText text a → HasNo c text
+  address-lacks text (V4 a) h = dotted-none text (ipv4_octets a) h
+  address-lacks text (V6 a) (inl h) = groups-none true [] text (ipv6_segments a) nothing h.0
+  address-lacks text (V6 a) (inr h) = elided-none text (ipv6_segments a) h
 
 pub address-none : (text : List ℕ) (a : IpAddr) → IsIpText text a → HasNo 45 text
-address-none text (V4 a) h = dotted-none text (ipv4_octets a) h
-address-none text (V6 a) (inl h) = groups-none true [] text (ipv6_segments a) nothing h.0
-address-none text (V6 a) (inr h) = elided-none text (ipv6_segments a) h
+address-none = address-lacks 45 (omega arith) (omega arith) (λ e. absurd (omega (arith, e)))
 
 pub prefix-none : (text : List ℕ) (p : Prefix) → IsPrefixText text p → HasNo 45 text
 prefix-none text p h =
-    subst (HasNo 45) (sym h.2) (both h.0 (47 ∷ h.1) (address-none h.0 p.addr h.3.is_address) (cons-none 45 47 h.1 (λ e. absurd (omega (arith, e))) (plus-plain h.1 h.3.digits.1)))
+    subst (HasNo 45) (sym h.2) (joined-none 45 h.0 (47 ∷ h.1) (address-none h.0 p.addr h.3.is_address) (cons-none 45 47 h.1 (λ e. absurd (omega (arith, e))) (plus-plain h.1 h.3.digits.1)))
 
 -- nothing is read where the parts at the hyphen make no block
 pub no-range : (text low high : List ℕ) → text ≡ low ++ 45 ∷ high → HasNo 45 low → ((b : IpBlock) → IsIpRangeOfTexts low high b → ⊥) → (b : IpBlock) → IsIpBlockText text b → ⊥

@@ -1,12 +1,13 @@
 -- Which lemma file answers which question.
 --
 -- Subsets, and that a set has one list: BlocksLaws, EqualBlocksLaws. What two sets make: MergeLaws, UnionLaws,
--- DifferenceLaws.
+-- DifferenceLaws. The numbers of blocks in any order: SetLaws.
 -- Bits, prefixes and ranges of addresses; AS numbers: OctetsLaws, AddressLaws, PrefixLaws, RangeLaws, AsNumberLaws.
 -- How readings are put together; a choice by its tag, two ends: ComposingLaws.
 -- Blocks one behind another, counted, given by a cursor and kept: FollowLaws, ViewLaws, KeptLaws.
 -- Choices and families; that reading them takes no memory: ExtensionLaws, FamilyLaws, NoMemoryLaws.
--- What a list is written as, by its prefixes and ranges: ListTextLaws.
+-- What a list is written as, by its prefixes and ranges: ListTextLaws. As what a text is read: AsReadLaws, IpReadLaws,
+-- AddressTextLaws; of a list ListReadLaws; that it is read back ListReadBackLaws.
 -- Down a chain: SettledLaws.
 -- What is written: octets of numbers, addresses, ends of ranges, blocks: NumberOctetsLaws, AddressWritingLaws,
 -- StrippedLaws, BlockWritingLaws. That it is read back: BlockReadBackLaws, ResourcesWritingLaws. That equal octets are
@@ -28,6 +29,7 @@ pub mod NoMemoryLaws
 pub mod MergeLaws
 pub mod DifferenceLaws
 pub mod UnionLaws
+pub mod SetLaws
 pub mod EqualBlocksLaws
 pub mod SettledLaws
 pub mod NumberOctetsLaws
@@ -45,3 +47,5 @@ pub mod ListTextLaws
 pub mod AsReadLaws
 pub mod IpReadLaws
 pub mod AddressTextLaws
+pub mod ListReadLaws
+pub mod ListReadBackLaws

@@ -1,6 +1,5 @@
 -- Texts of blocks, as those of the prefixes and ranges that they are.
-use Rattle.std.proofs.Common.{◌≡◌, ◌≢◌, ◌≤◌, ◌<◌, ◌+◌, ◌-◌, ◌*◌, ◌/◌, ◌%◌, ◌^◌, ◌⊎◌, inl, inr, ℕ, zero, suc, true, false, List, refl, sym, ap, ◌∙◌, subst, arith}
-use Rattle.std.proofs.lemmas.Nat.{pow_pos}
+use Rattle.std.proofs.Common.{◌≡◌, ◌≢◌, ◌≤◌, ◌<◌, ◌+◌, ◌-◌, ◌*◌, ◌%◌, ◌^◌, ◌⊎◌, inl, inr, ℕ, zero, suc, true, false, List, refl, sym, ap, ◌∙◌, subst, arith}
 use Rattle.std.proofs.Math.Nat.{mul-mod_left}
 use Rattle.std.proofs.Math.Pow.{pow-lt}
 use Rattle.std.proofs.lemmas.Bool.Decides.{eqb_tells}
@@ -20,6 +19,7 @@ use Rattle.rpki_resources.specs.Address.{width, IsPrefix}
 use Rattle.rpki_resources.specs.Text.{as_number_text, range_text, prefix_text, as_block_text, ip_block_text, IsAsBlockOf, IsAddressOfNumber, IsIpBlockOf}
 use Rattle.rpki_resources.specs.ListText.{address_text, shares, address_range_text, address_block_text, number_block_text, block_text}
 use Rattle.rpki_resources.proofs.BlocksLaws.{split}
+use Rattle.rpki_resources.proofs.PrefixLaws.{shared-prefix}
 
 -- ---- AS numbers
 
@@ -60,15 +60,6 @@ shares-tells family b bits = elim (eqb_tells (b.low % 2 ^ (width family - bits))
   ])
   | inr h ↦ inr (rw h.0 refl, λ e _. h.1 e)
 ]
-
-times-part : (low part : ℕ) → 0 < part → low % part ≡ 0 → low ≡ (low / part) * part
-times-part low part some h = grind arith
-
-shared-prefix : (low high k : ℕ) → low % 2 ^ k ≡ 0 → suc high ≡ low + 2 ^ k → IsPrefix low high
-shared-prefix low high k h e =
-    let some : 0 < 2 ^ k = pow_pos k in
-    let whole : low ≡ (low / 2 ^ k) * 2 ^ k = times-part low (2 ^ k) some h in
-    (low / 2 ^ k, k, whole, omega arith)
 
 -- a block that is no prefix is written as a range
 range-text : (family : AddressFamily) (b : Block) (bits : ℕ) → (IsPrefix b.low b.high → ⊥) → address_block_text family b bits ≡ address_range_text family b

@@ -1,6 +1,8 @@
 -- Numbers that are all those that begin alike.
 use Rattle.std.proofs.Common.{◌≡◌, ◌≤◌, ◌<◌, ◌+◌, ◌-◌, ◌*◌, ◌/◌, ◌%◌, ◌^◌, ◌↔◌, inl, inr, ℕ, zero, suc, subst, arith}
 use Rattle.std.proofs.Math.Nat.{pow-suc, pow-le-pow_right}
+use Rattle.std.proofs.Math.Nat.{mul-mod_left}
+use Rattle.std.proofs.Math.Pow.{pow-lt}
 use Rattle.std.proofs.lemmas.Nat.{pow_pos}
 use Rattle.rpki_resources.proofs.BlocksLaws.{split}
 use Rattle.rpki_resources.specs.Address.{IsPrefix}
@@ -35,19 +37,6 @@ doubled low high even odd (q, k, l, h) =
 
 pub halves : (low high : ℕ) → low % 2 ≡ 0 → high % 2 ≡ 1 → IsPrefix low high ↔ IsPrefix (low / 2) (high / 2)
 halves low high even odd = (halved low high even odd, doubled low high even odd)
-
-pub begins-odd : (low high : ℕ) → low < high → low % 2 ≡ 1 → IsPrefix low high → ⊥
-begins-odd low high some odd (q, zero, l, h) = let same : low ≡ high = single low high q l h in omega arith
-begins-odd low high some odd (q, suc k, l, h) =
-    let half : low / 2 ≡ q * 2 ^ k = half-low low q (2 ^ k) (rw (← twice k) l) in
-    let whole : low ≡ q * (2 * 2 ^ k) = rw (← twice k) l in
-    omega arith
-
-pub ends-even : (low high : ℕ) → low < high → high % 2 ≡ 0 → IsPrefix low high → ⊥
-ends-even low high some even (q, zero, l, h) = let same : low ≡ high = single low high q l h in omega arith
-ends-even low high some even (q, suc k, l, h) =
-    let whole : suc high ≡ suc q * (2 * 2 ^ k) = rw (← twice k) h in
-    omega arith
 
 pub one-number : (n : ℕ) → IsPrefix n n
 one-number n = (n, 0, omega arith, omega arith)
@@ -136,3 +125,41 @@ pub shared-bits : (w m low high : ℕ) → m ≤ w → ((q : ℕ) × (low ≡ q 
 shared-bits w m low high le h =
     let e : m ≡ w - (w - m) = omega arith in
     (h.0, subst (λ (k : ℕ). low ≡ h.0 * 2 ^ k) e h.1, subst (λ (k : ℕ). suc high ≡ suc h.0 * 2 ^ k) e h.2)
+
+-- ---- how many numbers a prefix has
+
+-- a number of powers of 2 that is between a power and the next one is that power
+one-power : (k m : ℕ) → 2 ^ m ≤ 2 ^ k → 2 ^ k < 2 * 2 ^ m → k ≡ m
+one-power k m least most = elim (split k m) [
+  | inl h ↦ (let less : 2 ^ k < 2 ^ m = pow-lt h in absurd (omega (arith, less, least)))
+  | inr h ↦ (elim (split m k) [
+    | inl g ↦ (
+        let grow : 2 ^ suc m ≤ 2 ^ k = pow-le-pow_right (omega arith) g in
+        let double : 2 ^ suc m ≡ 2 * 2 ^ m = twice m in
+        absurd (omega (arith, grow, double, most)))
+    | inr g ↦ omega (arith, h, g)
+  ])
+]
+
+pub prefix-order : (low high : ℕ) → IsPrefix low high → low ≤ high
+prefix-order low high (q, k, l, h) = let some : 0 < 2 ^ k = pow_pos k in omega (arith, some, l, h)
+
+-- its numbers are as many as a power of 2, at a multiple of that
+pub prefix-count : (low high count m : ℕ) → count + low ≡ suc high → 2 ^ m ≤ count → count < 2 * 2 ^ m → IsPrefix low high
+    → (count ≡ 2 ^ m) × (low % 2 ^ m ≡ 0)
+prefix-count low high count m e least most (q, k, l, h) =
+    let all : count ≡ 2 ^ k = omega (arith, e, l, h) in
+    let same : k ≡ m = one-power k m (rw all at least) (rw all at most) in
+    (subst (λ (j : ℕ). count ≡ 2 ^ j) same all, subst (λ (j : ℕ). low % 2 ^ j ≡ 0) same (rw l (mul-mod_left q (2 ^ k))))
+
+times-part : (low part : ℕ) → 0 < part → low % part ≡ 0 → low ≡ (low / part) * part
+times-part low part some h = grind arith
+
+pub shared-prefix : (low high k : ℕ) → low % 2 ^ k ≡ 0 → suc high ≡ low + 2 ^ k → IsPrefix low high
+shared-prefix low high k h e =
+    let some : 0 < 2 ^ k = pow_pos k in
+    let whole : low ≡ (low / 2 ^ k) * 2 ^ k = times-part low (2 ^ k) some h in
+    (low / 2 ^ k, k, whole, omega arith)
+
+pub all-numbers : (low high : ℕ) → high < 2 ^ 128 → high - low ≡ 2 ^ 128 - 1 → IsPrefix low high
+all-numbers low high small all = (0, 128, omega (arith, small, all), omega (arith, small, all))

@@ -62,3 +62,8 @@ pub record AreLacking (xs ys found : List Block) : Type 0 where
 pub record AreUnited (xs ys found : List Block) : Type 0 where
   pub numbers : (n : ℕ) → IsAmong n found ↔ (IsAmong n xs ⊎ IsAmong n ys)
   pub canonical : AreCanonical found
+
+-- the numbers of blocks in any order, which may overlap and may be empty, in canonical form
+pub record AreNumbersOf (blocks found : List Block) : Type 0 where
+  pub numbers : (n : ℕ) → IsAmong n found ↔ IsAmong n blocks
+  pub canonical : AreCanonical found

@@ -16,6 +16,7 @@ pub mod EncodedResources
 pub mod ListText
 pub mod AsRead
 pub mod IpRead
+pub mod ListRead
 pub mod Either
 -- Lemmas that an `impl` cites.
 pub mod EqualLaws

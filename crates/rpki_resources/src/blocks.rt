@@ -2,13 +2,14 @@
 
 ghost use Rattle.std.specs.Prelude.{◌≡◌, ◌≢◌, ◌≤◌, ◌↔◌, List, [], ◌∷◌, IsTrue, IfSome, IfNone, IfOk, IfErr};
 ghost use Rattle.rpki_resources.specs.declared.block.Block.{Block};
-ghost use Rattle.rpki_resources.specs.Blocks.{IsAmong, IsSubset, AreCanonical, AreShared, AreUnited, AreLacking};
+ghost use Rattle.rpki_resources.specs.Blocks.{IsAmong, IsSubset, AreCanonical, AreNumbersOf, AreShared, AreUnited, AreLacking};
 ghost use Rattle.rpki_resources.specs.InPlace.{HoldsOnly};
 
 use crate::block::Block;
 use crate::canonical::are_canonical;
 use crate::difference::lacking;
 use crate::merge::shared;
+use crate::set::numbers_of;
 use crate::union::united;
 use crate::view::BlocksView;
 use std::alloc::{AllocError, Global};
@@ -92,6 +93,18 @@ impl Blocks {
             return None;
         }
         Some(Blocks { items })
+    }
+
+    /// The set of the numbers of these blocks, which may stand in any order, overlap, and be empty. It takes n log n
+    /// steps.
+    ///
+    /// Returns `AllocError` if allocation fails, only where there is a block.
+    pub fn of(alloc: Global, blocks: &[Block]) -> Result<Blocks, AllocError>
+        ensures numbers { IfOk result (λ x. AreNumbersOf blocks.now x) }
+        ensures memory { IfErr result (λ _. blocks.now ≢ []) }
+    {
+        let items = numbers_of(alloc, blocks)?;
+        Ok(Blocks { items })
     }
 
     /// Keeps the blocks that were read in place. They are allocated once.

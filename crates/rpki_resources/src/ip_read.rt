@@ -17,7 +17,7 @@ use std::net::IpAddr;
 use std::str::FromStr;
 
 /// How many bits the address has.
-fn width_of(addr: IpAddr) -> u8
+pub fn width_of(addr: IpAddr) -> u8
     ensures { result ≡ address_width addr }
 {
     match addr {
@@ -27,7 +27,7 @@ fn width_of(addr: IpAddr) -> u8
 }
 
 /// The number that the bits of the address make.
-fn number_of(addr: IpAddr) -> u128
+pub fn number_of(addr: IpAddr) -> u128
     ensures number { result ≡ address_number addr }
     ensures below { result < 2 ^ address_width addr }
 {
@@ -107,7 +107,7 @@ impl Display for ParsePrefixError {
 impl Error for ParsePrefixError {}
 
 /// The family of the address.
-fn family_of(addr: IpAddr) -> AddressFamily
+pub fn family_of(addr: IpAddr) -> AddressFamily
     ensures { result ≡ family_of addr }
 {
     match addr {

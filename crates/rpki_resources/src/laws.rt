@@ -7,12 +7,17 @@ ghost use Rattle.rpki_resources.specs.AsRead.{IsAsBlockText};
 ghost use Rattle.rpki_resources.specs.Encoded.{AreBlocksOf};
 ghost use Rattle.rpki_resources.specs.Text.{as_block_text, prefix_text, range_text, IsAsBlockOf};
 ghost use Rattle.rpki_resources.specs.IpRead.{IsPrefixText, IsIpBlockText, IsWholePrefix, IsWholeRange};
+ghost use Rattle.rpki_resources.specs.declared.family.AddressFamily.{AddressFamily};
+ghost use Rattle.rpki_resources.specs.declared.ip_text.IpBlock.{IpBlock};
 ghost use Rattle.rpki_resources.specs.declared.ip_text.AddressRange.{AddressRange};
 ghost use Rattle.rpki_resources.specs.declared.ip_text.IpBlock.TheVariants.{Range as RangeBlock};
 ghost use Rattle.rpki_resources.specs.declared.ip_text.Prefix.{Prefix};
 ghost use Rattle.rpki_resources.specs.declared.as_text.AsBlock.{AsBlock};
 ghost use Rattle.rpki_resources.specs.InPlace.{Octets, Holds};
 ghost use Rattle.rpki_resources.specs.declared.choice.ResourcesChoice.{ResourcesChoice};
+ghost use Rattle.rpki_resources.specs.ListText.{blocks_text};
+ghost use Rattle.rpki_resources.specs.ListRead.{AreWholeBlocks, ip_list_text, IsBlocksText};
+ghost use Rattle.rpki_resources.specs.declared.kind.ResourceKind.TheVariants.{Addresses, AsNumbers};
 ghost use Rattle.rpki_resources.specs.Settled.{SettlesDown, SettlesThrough};
 ghost use Rattle.rpki_resources.specs.declared.block.Block.{Block};
 ghost use Rattle.rpki_resources.specs.Blocks.{IsSubset, AreCanonical};
@@ -62,4 +67,16 @@ pub fn held_blocks_are_of_their_kind()
 pub fn equal_blocks_are_one_set()
     ensures { (xs ys : List Block) → AreCanonical xs → AreCanonical ys
         → IsTrue (same_blocks xs ys) ↔ (IsSubset xs ys × IsSubset ys xs) }
+{}
+
+/// The text that is written of a set of AS numbers is read back, as that set.
+pub fn as_lists_are_read_back()
+    ensures { (bs : List Block) → AreCanonical bs → AreBlocksOf AsNumbers bs
+        → IsBlocksText AsNumbers (blocks_text AsNumbers bs) bs }
+{}
+
+/// The text that is written of blocks of addresses of one family is read back, as the set of their numbers.
+pub fn address_lists_are_read_back()
+    ensures { (family : AddressFamily) (xs : List IpBlock) (bs : List Block) → AreWholeBlocks family xs bs
+        → IsBlocksText (Addresses family) (ip_list_text xs) bs }
 {}

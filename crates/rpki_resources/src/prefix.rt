@@ -1,6 +1,6 @@
 //! Blocks of addresses, each as a prefix or as a range (RFC 3779 2.2.3.7 to 2.2.3.9).
 
-ghost use Rattle.std.specs.Prelude.{◌≡◌, ◌*◌, ◌^◌, ◌↔◌, ℕ, suc, IsTrue, IfSome, IfNone};
+ghost use Rattle.std.specs.Prelude.{◌≡◌, ◌<◌, ◌*◌, ◌^◌, ◌↔◌, ℕ, suc, IsTrue, IfSome, IfNone};
 ghost use Rattle.rpki_der.specs.Cursor.{left};
 ghost use Rattle.rpki_der.specs.Reading.{Reads};
 ghost use Rattle.rpki_der.specs.FirstFault.{ReadsParts};
@@ -12,23 +12,35 @@ use crate::block::Block;
 use crate::family::AddressFamily;
 use rpki_der::{Constructed, DecodeError, Tag};
 
-/// Whether the numbers are all those that begin alike: from some number followed by zeros to that followed by ones.
+/// This power of 2.
+fn power_of_two(exponent: u32) -> u128
+    requires { exponent < 128 }
+    ensures { result ≡ 2 ^ exponent }
+{
+    1 << exponent
+}
+
+/// Whether the numbers are all those that begin alike: from some number followed by zeros to that followed by ones. So
+/// they are as many as a power of 2, from a multiple of it on.
 pub fn is_prefix(low: u128, high: u128) -> bool
     ensures { IsTrue result ↔ IsPrefix low high }
 {
-    let mut first = low;
-    let mut last = high;
-    'bits: while first < last {
-        if first % 2 == 1 {
-            return false;
-        }
-        if last % 2 == 0 {
-            return false;
-        }
-        first /= 2;
-        last /= 2;
+    if high < low {
+        return false;
     }
-    first == last
+    let others = high - low;
+    if others == u128::MAX {
+        return true;
+    }
+    let count = others + 1;
+    let power = power_of_two(count.ilog2());
+    if count != power {
+        return false;
+    }
+    if low % power != 0 {
+        return false;
+    }
+    true
 }
 
 /// How many bits the numbers of a prefix don't share.

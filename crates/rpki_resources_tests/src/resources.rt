@@ -9,6 +9,7 @@ mod hostile_around;
 mod hostile_ipv4;
 mod hostile_ipv6;
 mod hostile_numbers;
+mod lists_read;
 mod pairs;
 mod sets;
 mod sizes;

@@ -1,5 +1,6 @@
 -- Definitions: what the contracts say. They are trusted, and read against the standards.
 pub mod Serial
+pub mod Undigited
 pub mod Time
 pub mod TimeText
 pub mod MomentText

@@ -29,7 +29,7 @@ refusal-of octets der.OutOfMemory h = tt
 pub refused-holds : (profile : Option Profile) (octets : List ℕ) (f : Fault) → IsRefusal octets f → HoldsTo profile octets (Err f)
 refused-holds profile octets (Refused e) h = h
 refused-holds profile octets OutOfMemory h = tt
-refused-holds profile octets Unreadable h = absurd h
+refused-holds profile octets (Unreadable cause) h = absurd h
 refused-holds profile octets TooLarge h = absurd h
 refused-holds profile octets Malformed h = absurd h
 refused-holds profile octets (Violated e) h = absurd h
@@ -51,13 +51,13 @@ unless-memory (Verification e) P z h = h
 
 -- a file that was not read
 pub not-read : (profile : Option Profile) (source : Option (List ℕ)) (f : Fault) → IsRead source (Err f) → Finds profile source (Err f)
-not-read profile (Some octets) Unreadable h = absurd h
+not-read profile (Some octets) (Unreadable cause) h = absurd h
 not-read profile (Some octets) TooLarge h = inr (inl (h, refl))
 not-read profile (Some octets) OutOfMemory h = inr (inr refl)
 not-read profile (Some octets) Malformed h = absurd h
 not-read profile (Some octets) (Refused e) h = absurd h
 not-read profile (Some octets) (Violated e) h = absurd h
-not-read profile None Unreadable h = inl refl
+not-read profile None (Unreadable cause) h = inl (cause, refl)
 not-read profile None TooLarge h = absurd h
 not-read profile None OutOfMemory h = inr refl
 not-read profile None Malformed h = absurd h

@@ -30,7 +30,7 @@ one-held profile octets found (Err (Violated e)) g h =
     absurd (h.2 (subst (λ (c : CertParts). Meets profile c.tbs) (one-certificate octets found.1 h.0 g.1 h.1) g.2))
 one-held profile octets found (Err (Refused e)) g h = absurd (h.1 found.1 g.1.0)
 one-held profile octets found (Err OutOfMemory) g h = inr refl
-one-held profile octets found (Err Unreadable) g h = absurd h
+one-held profile octets found (Err (Unreadable cause)) g h = absurd h
 one-held profile octets found (Err TooLarge) g h = absurd h
 one-held profile octets found (Err Malformed) g h = absurd h
 
@@ -45,7 +45,7 @@ one-found-in profile input found f (inr (inr g)) h = absurd cc
 
 pub one-finding : (profile : Option Profile) (source : Option (List ℕ)) (found : List ℕ × CertParts)
     → Finds profile source (Ok found) → (f : Finding) → Finds profile source f → (f ≡ Ok found) ⊎ (f ≡ Err OutOfMemory)
-one-finding profile None found (inl g) f h = absurd cc
+one-finding profile None found (inl g) f h = absurd (let a = g.1 in cc)
 one-finding profile None found (inr g) f h = absurd cc
 one-finding profile (Some input) found (inl g) f (inl h) = one-found-in profile input found f g.1 h.1
 one-finding profile (Some input) found (inl g) f (inr (inl h)) = absurd (let a = g.0 in let b = h.0 in omega arith)
@@ -61,7 +61,7 @@ one-shown (Some form) name found s t g h =
     h.2 ∙ ap (λ (text : List ℕ). shown_parts text [] 0) (one-text-of form name found.0 found.1.tbs h.0 g.0 h.1 g.1) ∙ sym g.2
 
 fault-status : (fault : Fault) → status_of fault ≡ 0 → ⊥
-fault-status Unreadable e = omega arith
+fault-status (Unreadable cause) e = omega arith
 fault-status TooLarge e = omega arith
 fault-status OutOfMemory e = omega arith
 fault-status Malformed e = omega arith

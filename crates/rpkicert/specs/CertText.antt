@@ -16,7 +16,7 @@ use Rattle.rpki_cert.specs.Cert.{TbsParts}
 use Rattle.rpki_cert.specs.Known.{subject_key_identifier, key_usage, basic_constraints, crl_distribution_points, certificate_policies, authority_key_identifier, extended_key_usage, authority_info_access, subject_info_access, ip_addr_blocks, ip_addr_blocks_v2, autonomous_sys_ids, autonomous_sys_ids_v2, HasOnly, HasNone}
 use Rattle.rpki_cert.specs.ExtensionContent.{SpellsConstraints, SpellsAuthority, SpellsUsage, SpellsPurposes, SpellsPolicies}
 use Rattle.rpki_cert.specs.Access.{SpellsRsyncAccess, SpellsHttpsAccess, SpellsPoints, HasUri, ca_issuers, ca_repository, rpki_manifest, signed_object, rpki_notify}
-use Rattle.rpkicert.specs.Field.{FieldParts, field_parts, field_if}
+use Rattle.rpkicert.specs.Field.{FieldParts, field_parts, field_if, other_text}
 use Rattle.rpkicert.specs.ValueText.{hex_digits, colon_digits, IsNumberText, time_text}
 use Rattle.rpkicert.specs.NameText.{IsNameText}
 use Rattle.rpkicert.specs.KeySize.{IsSizeText}
@@ -56,11 +56,11 @@ AreKey k fields = (size : List ℕ) × IsSizeText k size × (fields ≡ key_fiel
 
 -- ---- what the extensions say (RFC 6487 4.8)
 
--- What is shown of an extension: nothing where it isn't there; what its value is shown as; or that it is malformed, or
--- not as critical as it has to be.
+-- What is shown of an extension: nothing where it isn't there; what its value is shown as; or that it is not as the
+-- profile has it.
 abbrev pub Says : {V : Type 0} → (Option V → Type 0) → Type 0 → (V → List ℕ) → Option (List ℕ) → Type 0
 Says {V} Has Not show o =
-    ((v : Option V) × Has v × (o ≡ option_map show v)) ⊎ (Not × (o ≡ Some (codes "malformed")))
+    ((v : Option V) × Has v × (o ≡ option_map show v)) ⊎ (Not × (o ≡ Some other_text))
 
 abbrev pub authority_text : Unit {0} → List ℕ
 authority_text u = codes "CA:TRUE"

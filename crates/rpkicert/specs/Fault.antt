@@ -5,6 +5,10 @@ use Rattle.rpki_der.specs.declared.error.DecodeError.TheVariants.{Truncated, Bad
 use Rattle.rpki_der.specs.declared.error.DecodeError.TheVariants as der
 use Rattle.rpki_der.specs.ErrorText.{error_text}
 use Rattle.rpki.specs.ErrorContent.{validation_text}
+use Rattle.std.specs.declared.io.ErrorKind.{ErrorKind}
+use Rattle.std.specs.declared.io.ErrorKind.TheVariants.{NotFound, PermissionDenied, IsADirectory}
+use Rattle.rpkicert.specs.declared.fault.Cause.{Cause}
+use Rattle.rpkicert.specs.declared.fault.Cause.TheVariants.{Absent, Denied, Folder, Other}
 use Rattle.rpkicert.specs.declared.fault.Fault.{Fault}
 use Rattle.rpkicert.specs.declared.fault.Fault.TheVariants.{Unreadable, TooLarge, OutOfMemory, Malformed, Refused, Violated}
 
@@ -12,8 +16,22 @@ use Rattle.rpkicert.specs.declared.fault.Fault.TheVariants.{Unreadable, TooLarge
 abbrev pub most_octets : ℕ
 most_octets = 1_048_576
 
+-- the cause that the host's error of a kind is
+abbrev pub cause_of : ErrorKind → Cause
+cause_of NotFound = Absent
+cause_of PermissionDenied = Denied
+cause_of IsADirectory = Folder
+cause_of kind = Other
+
+-- that a file could not be read, and why, in the host's words (POSIX, <errno.h>)
+abbrev pub unreadable_text : Cause → List ℕ
+unreadable_text Absent = codes "cannot be read: No such file or directory"
+unreadable_text Denied = codes "cannot be read: Permission denied"
+unreadable_text Folder = codes "cannot be read: Is a directory"
+unreadable_text Other = codes "cannot be read"
+
 abbrev pub fault_text : Fault → List ℕ
-fault_text Unreadable = codes "cannot be read"
+fault_text (Unreadable cause) = unreadable_text cause
 fault_text TooLarge = codes "larger than 1048576 octets"
 fault_text OutOfMemory = codes "out of memory"
 fault_text Malformed = codes "malformed PEM"
@@ -22,7 +40,7 @@ fault_text (Violated e) = codes "violates the profile: " ++ unwrap_or (validatio
 
 -- the exit status
 abbrev pub status_of : Fault → ℕ
-status_of Unreadable = 2
+status_of (Unreadable cause) = 2
 status_of TooLarge = 2
 status_of OutOfMemory = 2
 status_of Malformed = 1

@@ -11,6 +11,7 @@ use Rattle.rpki_cert.specs.RuleError.{IsFirstError}
 use Rattle.rpki.specs.declared.repository.error.ValidationError.{ValidationError}
 use Rattle.rpkicert.specs.declared.profile.Profile.{Profile}
 use Rattle.rpkicert.specs.declared.profile.Profile.TheVariants.{Ta, Ca, Ee, Detached, Router}
+use Rattle.rpkicert.specs.declared.fault.Cause.{Cause}
 use Rattle.rpkicert.specs.declared.fault.Fault.{Fault}
 use Rattle.rpkicert.specs.declared.fault.Fault.TheVariants.{Unreadable, TooLarge, OutOfMemory, Malformed, Refused, Violated}
 use Rattle.rpkicert.specs.Pem.{octets_of}
@@ -55,7 +56,7 @@ abbrev pub IsRefusal : List ℕ → Fault → Type 0
 IsRefusal octets (Refused e) =
     (e ≢ der.OutOfMemory) × SpellsNothing SpellsCert octets × IsWholeFault SpellsCert IsCertFault octets e
 IsRefusal octets OutOfMemory = Unit {0}
-IsRefusal octets Unreadable = ⊥
+IsRefusal octets (Unreadable cause) = ⊥
 IsRefusal octets TooLarge = ⊥
 IsRefusal octets Malformed = ⊥
 IsRefusal octets (Violated e) = ⊥
@@ -69,7 +70,7 @@ HoldsTo profile octets (Err (Violated e)) =
     (c : CertParts) × IsCertificate octets c × (Meets profile c.tbs → ⊥) × IsViolation profile c.tbs e
 HoldsTo profile octets (Err (Refused e)) = IsRefusal octets (Refused e)
 HoldsTo profile octets (Err OutOfMemory) = Unit {0}
-HoldsTo profile octets (Err Unreadable) = ⊥
+HoldsTo profile octets (Err (Unreadable cause)) = ⊥
 HoldsTo profile octets (Err TooLarge) = ⊥
 HoldsTo profile octets (Err Malformed) = ⊥
 
@@ -81,7 +82,7 @@ FindsIn profile input finding =
 
 -- The same of a file, which may not be there, or have too many octets.
 abbrev pub Finds : Option Profile → Option (List ℕ) → Finding → Type 0
-Finds profile None finding = (finding ≡ Err Unreadable) ⊎ (finding ≡ Err OutOfMemory)
+Finds profile None finding = ((cause : Cause) × (finding ≡ Err (Unreadable cause))) ⊎ (finding ≡ Err OutOfMemory)
 Finds profile (Some input) finding =
     ((length input ≤ most_octets) × FindsIn profile input finding)
     ⊎ ((most_octets < length input) × (finding ≡ Err TooLarge)) ⊎ (finding ≡ Err OutOfMemory)
@@ -94,14 +95,14 @@ IsFoundAlone profile source found =
 -- What reading a file gives: all of its octets, which are few enough; or why not.
 abbrev pub IsRead : Option (List ℕ) → Result (List ℕ) Fault → Type 0
 IsRead (Some octets) (Ok read) = (read ≡ octets) × (length octets ≤ most_octets)
-IsRead (Some octets) (Err Unreadable) = ⊥
+IsRead (Some octets) (Err (Unreadable cause)) = ⊥
 IsRead (Some octets) (Err TooLarge) = most_octets < length octets
 IsRead (Some octets) (Err OutOfMemory) = Unit {0}
 IsRead (Some octets) (Err Malformed) = ⊥
 IsRead (Some octets) (Err (Refused e)) = ⊥
 IsRead (Some octets) (Err (Violated e)) = ⊥
 IsRead None (Ok read) = ⊥
-IsRead None (Err Unreadable) = Unit {0}
+IsRead None (Err (Unreadable cause)) = Unit {0}
 IsRead None (Err TooLarge) = ⊥
 IsRead None (Err OutOfMemory) = Unit {0}
 IsRead None (Err Malformed) = ⊥
@@ -111,7 +112,7 @@ IsRead None (Err (Violated e)) = ⊥
 -- What reading to the end gives where these octets are left; a reader may fail.
 abbrev pub IsReadFrom : List ℕ → Result (List ℕ) Fault → Type 0
 IsReadFrom octets (Ok read) = (read ≡ octets) × (length octets ≤ most_octets)
-IsReadFrom octets (Err Unreadable) = Unit {0}
+IsReadFrom octets (Err (Unreadable cause)) = Unit {0}
 IsReadFrom octets (Err TooLarge) = most_octets < length octets
 IsReadFrom octets (Err OutOfMemory) = Unit {0}
 IsReadFrom octets (Err Malformed) = ⊥

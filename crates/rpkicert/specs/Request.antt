@@ -15,6 +15,10 @@ use Rattle.rpkicert.specs.declared.profile.Profile.TheVariants.{Ta, Ca, Ee, Deta
 abbrev pub flag : List ℕ → Rule
 flag name = record (new_rule name) { long = Some name; action = Some SetTrue }
 
+-- `--help` or `-h`
+abbrev pub help_flag : Rule
+help_flag = record (new_rule (codes "help")) { short = Some 104; long = Some (codes "help"); action = Some SetTrue }
+
 -- `--profile` takes a value, which is the name of a profile (`named_profile`, below)
 abbrev pub profile_option : Rule
 profile_option = record (new_rule (codes "profile")) { long = Some (codes "profile") }
@@ -30,7 +34,7 @@ command_alone =
 
 abbrev pub command_app : App
 command_app =
-    with_rule (with_rule (with_rule (with_rule (with_rule (with_rule command_alone (flag (codes "help")))
+    with_rule (with_rule (with_rule (with_rule (with_rule (with_rule command_alone help_flag)
     (flag (codes "version"))) (flag (codes "json"))) (flag (codes "check"))) profile_option) files_rule
 
 -- what `clap` matches in the words; None where it finds a fault in them

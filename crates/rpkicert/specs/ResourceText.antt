@@ -10,7 +10,7 @@ use Rattle.rpki_resources.specs.InPlace.{Octets, HoldsOnly}
 use Rattle.rpki_resources.specs.ListText.{blocks_text}
 use Rattle.rpki_cert.specs.Known.{SaysOnly, SaysNone}
 use Rattle.rpki_cert.specs.ResourceExtensions.{addresses_of, numbers_of}
-use Rattle.rpkicert.specs.Field.{FieldParts, field_parts, field_if}
+use Rattle.rpkicert.specs.Field.{FieldParts, field_parts, field_if, other_text}
 
 -- the blocks that these octets are, in order
 abbrev pub IsListText : Octets → List ℕ → Type 0
@@ -37,21 +37,21 @@ abbrev pub AreAsNumbers : Option ChoiceView → List FieldParts → Type 0
 AreAsNumbers None fields = fields ≡ []
 AreAsNumbers (Some v) fields = AreKind (codes "AS") v fields
 
-abbrev pub malformed_field : List ℕ → FieldParts
-malformed_field label = field_parts label (codes "malformed")
+abbrev pub other_field : List ℕ → FieldParts
+other_field label = field_parts label other_text
 
--- the addresses; or that they are malformed, or not as critical as they have to be
+-- the addresses; or that they are not as the profile has them
 abbrev pub AreAddresses : List ExtensionParts → List FieldParts → Type 0
 AreAddresses xs fields =
     ((v : Option IpResourcesView) × SaysOnly true SpellsIpResources (addresses_of xs) v × AreFamilies v fields)
     ⊎ (SaysNone true SpellsIpResources (addresses_of xs)
-    × (fields ≡ malformed_field (codes "IPv4") ∷ malformed_field (codes "IPv6") ∷ []))
+    × (fields ≡ other_field (codes "IPv4") ∷ other_field (codes "IPv6") ∷ []))
 
 -- the AS numbers, in the same way
 abbrev pub AreNumbers : List ExtensionParts → List FieldParts → Type 0
 AreNumbers xs fields =
     ((v : Option ChoiceView) × SaysOnly true SpellsAsResources (numbers_of xs) v × AreAsNumbers v fields)
-    ⊎ (SaysNone true SpellsAsResources (numbers_of xs) × (fields ≡ malformed_field (codes "AS") ∷ []))
+    ⊎ (SaysNone true SpellsAsResources (numbers_of xs) × (fields ≡ other_field (codes "AS") ∷ []))
 
 abbrev pub AreResources : List ExtensionParts → List FieldParts → Type 0
 AreResources xs fields =

@@ -1,20 +1,21 @@
 //! What is shown of extensions: key identifiers, and what the key is for.
 
-ghost use Rattle.std.specs.Prelude.{◌≡◌, codes, IfOk, Some};
+ghost use Rattle.std.specs.Prelude.{◌≡◌, IfOk, Some};
 ghost use Rattle.std.specs.Option.{option_map};
+ghost use Rattle.rpkicert.specs.Field.{other_text};
 ghost use Rattle.rpkicert.specs.CertText.{usage_text, purposes_text, policy_text, IsSubjectText, IsAuthorityText, IsConstraintsText, IsUsageText, IsPurposesText, IsPolicyText, AreIdentifiers, AreUses};
 
-use crate::field::{Field, push_field_if};
+use crate::field::{Field, OTHER, push_field_if};
 use crate::memory::is_memory;
 use crate::value::colon_digits;
 use rpki_cert::{KeyUsage, Overclaim, TbsCert};
 use std::alloc::{AllocError, Global};
 
-/// What is shown of an extension that is malformed, or not as critical as it has to be.
-pub fn malformed(alloc: Global) -> Result<Option<Vec<u8>>, AllocError>
-    ensures { IfOk result (λ o. option_map (λ v. v.items) o ≡ Some (codes "malformed")) }
+/// What is shown of an extension that is not as the profile has it: of another value, or not as critical.
+pub fn not_of_profile(alloc: Global) -> Result<Option<Vec<u8>>, AllocError>
+    ensures { IfOk result (λ o. option_map (λ v. v.items) o ≡ Some other_text) }
 {
-    let text = Vec::from_slice(alloc, b"malformed")?;
+    let text = Vec::from_slice(alloc, OTHER)?;
     Ok(Some(text))
 }
 
@@ -28,7 +29,7 @@ fn subject_identifier(alloc: Global, tbs: &TbsCert) -> Result<Option<Vec<u8>>, A
             Ok(Some(text))
         }
         Ok(None) => Ok(None),
-        Err(_) => malformed(alloc),
+        Err(_) => not_of_profile(alloc),
     }
 }
 
@@ -42,7 +43,7 @@ fn authority_identifier(alloc: Global, tbs: &TbsCert) -> Result<Option<Vec<u8>>,
             Ok(Some(text))
         }
         Ok(None) => Ok(None),
-        Err(_) => malformed(alloc),
+        Err(_) => not_of_profile(alloc),
     }
 }
 
@@ -68,7 +69,7 @@ fn constraints(alloc: Global, tbs: &TbsCert) -> Result<Option<Vec<u8>>, AllocErr
             Ok(Some(text))
         }
         Ok(false) => Ok(None),
-        Err(_) => malformed(alloc),
+        Err(_) => not_of_profile(alloc),
     }
 }
 
@@ -92,7 +93,7 @@ fn usage(alloc: Global, tbs: &TbsCert) -> Result<Option<Vec<u8>>, AllocError>
             Ok(Some(text))
         }
         Ok(None) => Ok(None),
-        Err(_) => malformed(alloc),
+        Err(_) => not_of_profile(alloc),
     }
 }
 
@@ -117,7 +118,7 @@ fn purposes(alloc: Global, tbs: &TbsCert) -> Result<Option<Vec<u8>>, AllocError>
             if is_memory(e) {
                 return Err(AllocError);
             }
-            malformed(alloc)
+            not_of_profile(alloc)
         }
     }
 }
@@ -142,7 +143,7 @@ fn policies(alloc: Global, tbs: &TbsCert) -> Result<Option<Vec<u8>>, AllocError>
             Ok(Some(text))
         }
         Ok(None) => Ok(None),
-        Err(_) => malformed(alloc),
+        Err(_) => not_of_profile(alloc),
     }
 }
 

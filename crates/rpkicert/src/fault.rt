@@ -1,17 +1,57 @@
 //! Why nothing is printed of a file.
 
 ghost use Rattle.std.specs.Prelude.{◌≡◌, IfOk, OnOk, ◌++◌, string_bytes};
-ghost use Rattle.rpkicert.specs.Fault.{fault_text, status_of};
+ghost use Rattle.rpkicert.specs.Fault.{cause_of, unreadable_text, fault_text, status_of};
 
 use rpki::der::DecodeError;
 use rpki::repository::error::ValidationError;
 use std::alloc::{AllocError, AllocFailed, Global};
+use std::io::ErrorKind;
+
+/// Why a file could not be read to its end.
+#[derive(Clone, Copy, Debug, PartialEq, Eq)]
+pub enum Cause {
+    /// There is no file of this name.
+    Absent,
+    /// It may not be read.
+    Denied,
+    /// It is a folder.
+    Folder,
+    /// The host says something else.
+    Other,
+}
+
+impl Cause {
+    /// The cause that the host's error of this kind is.
+    pub fn of(kind: ErrorKind) -> Cause
+        ensures { result ≡ cause_of kind }
+    {
+        match kind {
+            ErrorKind::NotFound => Cause::Absent,
+            ErrorKind::PermissionDenied => Cause::Denied,
+            ErrorKind::IsADirectory => Cause::Folder,
+            _ => Cause::Other,
+        }
+    }
+
+    /// What a person reads of it: the host's words (POSIX, <errno.h>).
+    fn text(self) -> &'static str
+        ensures { result.now ≡ unreadable_text self }
+    {
+        match self {
+            Cause::Absent => "cannot be read: No such file or directory",
+            Cause::Denied => "cannot be read: Permission denied",
+            Cause::Folder => "cannot be read: Is a directory",
+            Cause::Other => "cannot be read",
+        }
+    }
+}
 
 /// Why nothing is printed of a file.
 #[derive(Clone, Copy, Debug, PartialEq, Eq)]
 pub enum Fault {
     /// There is no such file, or it could not be read to its end.
-    Unreadable,
+    Unreadable(Cause),
     /// It has more than 1,048,576 octets.
     TooLarge,
     /// Allocation failed.
@@ -30,7 +70,7 @@ impl Fault {
         ensures { result ≡ status_of self }
     {
         match self {
-            Fault::Unreadable | Fault::TooLarge | Fault::OutOfMemory => 2,
+            Fault::Unreadable(_) | Fault::TooLarge | Fault::OutOfMemory => 2,
             Fault::Malformed | Fault::Refused(_) | Fault::Violated(_) => 1,
         }
     }
@@ -42,7 +82,7 @@ impl Fault {
         ensures { IfOk result (λ text. string_bytes text ≡ fault_text self) }
     {
         match self {
-            Fault::Unreadable => String::from_str(alloc, "cannot be read"),
+            Fault::Unreadable(cause) => String::from_str(alloc, cause.text()),
             Fault::TooLarge => String::from_str(alloc, "larger than 1048576 octets"),
             Fault::OutOfMemory => String::from_str(alloc, "out of memory"),
             Fault::Malformed => String::from_str(alloc, "malformed PEM"),

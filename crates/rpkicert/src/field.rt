@@ -7,6 +7,9 @@ ghost use Rattle.rpkicert.specs.Field.{field_parts, field_if};
 use std::alloc::AllocError;
 use std::marker::Model;
 
+/// What is shown of an extension that is not as the profile has it: of another value, or not as critical.
+pub const OTHER: &[u8] = b"not of the RPKI's profile";
+
 /// A label and a value.
 #[derive(Drop)]
 pub struct Field {

@@ -4,7 +4,7 @@ ghost use Rattle.std.specs.Prelude.{IfSome};
 ghost use Rattle.rpkicert.specs.Finding.{IsReadFrom};
 ghost use Rattle.rpkicert.specs.View.{read_of};
 
-use crate::fault::Fault;
+use crate::fault::{Cause, Fault};
 use std::alloc::Global;
 use std::io::Read;
 
@@ -29,7 +29,7 @@ pub fn read_whole<R: Read>(alloc: Global, input: &mut R) -> Result<Vec<u8>, Faul
                 }
                 all.extend_from_slice(&buffer[..n])?;
             }
-            Err(_) => return Err(Fault::Unreadable),
+            Err(e) => return Err(Fault::Unreadable(Cause::of(e.kind()))),
         }
     }
     Err(Fault::TooLarge)

@@ -1,9 +1,8 @@
 //! Certificates in the textual encoding of RFC 7468.
 
 ghost use Rattle.std.specs.Prelude.{◌≡◌, drop, IfOk};
-ghost use Rattle.std.specs.List.{list_all};
 ghost use Rattle.std.specs.Option.{option_map};
-ghost use Rattle.rpkicert.specs.Pem.{is_space, before_hyphen, without_space, pem_octets, octets_of};
+ghost use Rattle.rpkicert.specs.Pem.{is_space, from_begin, before_hyphen, without_space, pem_octets, octets_of};
 
 use crate::name::after;
 use base64::DecodeAllocError;
@@ -23,11 +22,17 @@ fn is_space(octet: u8) -> bool
     octet == b' ' || octet == b'\t' || octet == b'\n' || octet == b'\r'
 }
 
-/// Whether all of the octets are white space.
-fn is_blank(text: &[u8]) -> bool
-    ensures { result ≡ list_all is_space text.now }
+/// The text from the first line on that begins a certificate. None if there is none.
+fn from_begin(text: &[u8]) -> Option<&[u8]>
+    ensures { option_map (λ rest. rest.now) result ≡ from_begin text.entry.now }
 {
-    text.iter().all(|octet| is_space(*octet))
+    for at in 0..text.len() {
+        let rest = after(text, at);
+        if rest.starts_with(BEGIN) {
+            return Some(rest);
+        }
+    }
+    None
 }
 
 /// What is before the first hyphen.
@@ -50,14 +55,14 @@ fn without_space(alloc: Global, text: &[u8]) -> Result<Vec<u8>, AllocError>
         .collect(alloc)
 }
 
-/// The octets of the certificate that the text is.
+/// The octets of the one certificate in the text, which begins with its first line.
 fn pem_octets(alloc: Global, text: &[u8]) -> Result<Option<Vec<u8>>, AllocError>
     ensures { IfOk result (λ o. option_map (λ v. v.items) o ≡ pem_octets text.now) }
 {
     let rest = after(text, 27);
     let body = before_hyphen(alloc, rest)?;
     let tail = after(rest, body.len());
-    if text.starts_with(BEGIN) && tail.starts_with(END) && is_blank(after(tail, 25)) {
+    if tail.starts_with(END) && from_begin(after(tail, 25)).is_none() {
         let digits = without_space(alloc, body.as_slice())?;
         return match STANDARD.decode(alloc, digits.as_slice()) {
             Ok(octets) => Ok(Some(octets)),
@@ -68,15 +73,22 @@ fn pem_octets(alloc: Global, text: &[u8]) -> Result<Option<Vec<u8>>, AllocError>
     Ok(None)
 }
 
-/// The octets that an input stands for: those of the certificate that it is in the textual encoding, where it begins
-/// so; else its own. None if it begins as a text, and isn't exactly one certificate in that encoding.
+/// The octets that an input stands for: its own where it begins as a SEQUENCE; else those of the certificate in it in
+/// the textual encoding; else its own. None if it begins as a text, or a certificate in it does, and isn't exactly one
+/// certificate in that encoding.
 ///
 /// Returns `AllocError` if allocation fails.
 pub fn octets_of(alloc: Global, input: Vec<u8>) -> Result<Option<Vec<u8>>, AllocError>
     ensures { IfOk result (λ o. option_map (λ v. v.items) o ≡ octets_of input.items) }
 {
+    if input.as_slice().starts_with(b"0") {
+        return Ok(Some(input));
+    }
+    if let Some(text) = from_begin(input.as_slice()) {
+        return pem_octets(alloc, text);
+    }
     if input.as_slice().starts_with(b"-----BEGIN") {
-        return pem_octets(alloc, input.as_slice());
+        return Ok(None);
     }
     Ok(Some(input))
 }

@@ -7,7 +7,7 @@ ghost use Rattle.rpki_cert.specs.Access.{SpellsRsyncAccess, SpellsHttpsAccess, S
 ghost use Rattle.rpkicert.specs.CertText.{SaysUri, AreIssuerPlaces, AreSubjectPlaces};
 ghost use Rattle.rpkicert.specs.View.{Shows};
 
-use crate::extension_text::malformed;
+use crate::extension_text::not_of_profile;
 use crate::field::{Field, push_field_if};
 use crate::memory::is_memory;
 use rpki::repository::error::ValidationError;
@@ -32,7 +32,7 @@ fn rsync_text(
             if is_memory(e) {
                 return Err(AllocError);
             }
-            malformed(alloc)
+            not_of_profile(alloc)
         }
     }
 }
@@ -54,7 +54,7 @@ fn https_text(
             if is_memory(e) {
                 return Err(AllocError);
             }
-            malformed(alloc)
+            not_of_profile(alloc)
         }
     }
 }

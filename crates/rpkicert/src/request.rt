@@ -2,7 +2,7 @@
 
 ghost use Rattle.std.specs.Prelude.{◌≡◌, map, codes, IfOk, false, option_map, string_bytes};
 ghost use Rattle.clap.specs.Words.{all_of, app_of, first_of, rule_of};
-ghost use Rattle.rpkicert.specs.Request.{flag, profile_option, files_rule, command_app, matched, is_given, form_of, named_profile, some_files, request_of};
+ghost use Rattle.rpkicert.specs.Request.{flag, help_flag, profile_option, files_rule, command_app, matched, is_given, form_of, named_profile, some_files, request_of};
 ghost use Rattle.rpkicert.specs.RequestView.{asked_of, rows_in};
 
 use crate::profile::Profile;
@@ -30,6 +30,17 @@ fn flag<'a>(alloc: Global, name: &'a str) -> Arg<'a>
     Arg::new(alloc, name).long(name).action(ArgAction::SetTrue)
 }
 
+/// The flag for help, which has a letter too.
+fn help_flag<'a>(alloc: Global) -> Arg<'a>
+    ensures rule { rule_of result ≡ help_flag }
+    ensures local { result.global ≡ false }
+{
+    Arg::new(alloc, "help")
+        .short('h')
+        .long("help")
+        .action(ArgAction::SetTrue)
+}
+
 /// The option for a profile.
 fn profile_option<'a>(alloc: Global) -> Arg<'a>
     ensures rule { rule_of result ≡ profile_option }
@@ -53,7 +64,7 @@ fn command<'a>(alloc: Global) -> Result<Command<'a>, AllocError>
     Command::new(alloc, "rpkicert")
         .no_binary_name(true)
         .disable_help_flag(true)
-        .arg(flag(alloc, "help"))?
+        .arg(help_flag(alloc))?
         .arg(flag(alloc, "version"))?
         .arg(flag(alloc, "json"))?
         .arg(flag(alloc, "check"))?

@@ -2,9 +2,9 @@
 
 ghost use Rattle.std.specs.Prelude.{◌≡◌, ◌∷◌, [], codes, IfOk};
 ghost use Rattle.std.specs.Option.{option_map};
-ghost use Rattle.rpkicert.specs.ResourceText.{IsListText, IsChoiceText, AreKind, AreFamilies, AreAsNumbers, malformed_field, AreAddresses, AreNumbers, AreResources};
+ghost use Rattle.rpkicert.specs.ResourceText.{IsListText, IsChoiceText, AreKind, AreFamilies, AreAsNumbers, other_field, AreAddresses, AreNumbers, AreResources};
 
-use crate::field::{Field, push_field, push_field_if};
+use crate::field::{Field, OTHER, push_field, push_field_if};
 use rpki_cert::TbsCert;
 use rpki_resources::{Blocks, BlocksView, ChoiceView, IpResourcesView};
 use std::alloc::{AllocError, Global};
@@ -60,22 +60,22 @@ fn families(alloc: Global, found: &IpResourcesView<'_>) -> Result<Vec<Field>, Al
     Ok(fields)
 }
 
-/// That a kind is malformed.
-fn malformed_kind(alloc: Global, label: &[u8]) -> Result<Vec<Field>, AllocError>
-    ensures { IfOk result (λ fields. fields.items ≡ malformed_field label.now ∷ []) }
+/// That a kind is not as the profile has it.
+fn other_kind(alloc: Global, label: &[u8]) -> Result<Vec<Field>, AllocError>
+    ensures { IfOk result (λ fields. fields.items ≡ other_field label.now ∷ []) }
 {
     let mut fields = Vec::new(alloc);
-    push_field(&mut fields, label, b"malformed")?;
+    push_field(&mut fields, label, OTHER)?;
     Ok(fields)
 }
 
-/// That both families are malformed.
-fn malformed_families(alloc: Global) -> Result<Vec<Field>, AllocError>
+/// That both families are not.
+fn other_families(alloc: Global) -> Result<Vec<Field>, AllocError>
     ensures { IfOk result (λ fields. fields.items
-        ≡ malformed_field (codes "IPv4") ∷ malformed_field (codes "IPv6") ∷ []) }
+        ≡ other_field (codes "IPv4") ∷ other_field (codes "IPv6") ∷ []) }
 {
-    let mut fields = malformed_kind(alloc, b"IPv4")?;
-    push_field(&mut fields, b"IPv6", b"malformed")?;
+    let mut fields = other_kind(alloc, b"IPv4")?;
+    push_field(&mut fields, b"IPv6", OTHER)?;
     Ok(fields)
 }
 
@@ -86,7 +86,7 @@ fn addresses(alloc: Global, tbs: &TbsCert) -> Result<Vec<Field>, AllocError>
     match tbs.ip_resources() {
         Ok(Some(found)) => families(alloc, &found),
         Ok(None) => Ok(Vec::new(alloc)),
-        Err(_) => malformed_families(alloc),
+        Err(_) => other_families(alloc),
     }
 }
 
@@ -97,7 +97,7 @@ fn numbers(alloc: Global, tbs: &TbsCert) -> Result<Vec<Field>, AllocError>
     match tbs.as_resources() {
         Ok(Some(found)) => kind(alloc, b"AS", &found),
         Ok(None) => Ok(Vec::new(alloc)),
-        Err(_) => malformed_kind(alloc, b"AS"),
+        Err(_) => other_kind(alloc, b"AS"),
     }
 }
 

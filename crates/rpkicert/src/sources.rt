@@ -1,6 +1,6 @@
 //! Where files are read.
 
-use crate::fault::Fault;
+use crate::fault::{Cause, Fault};
 use crate::input::read_whole;
 use std::alloc::Global;
 use std::fs;
@@ -40,7 +40,7 @@ impl Sources for Host<'_> {
         }
         match fs::open(self.rt, name) {
             Ok(mut file) => read_whole(alloc, &mut file),
-            Err(_) => Err(Fault::Unreadable),
+            Err(e) => Err(Fault::Unreadable(Cause::of(e.kind()))),
         }
     }
 }

@@ -15,13 +15,13 @@ pub const HELP: &[u8] = b"\
 rpkicert - print certificates of the RPKI
 
 usage: rpkicert [--json|--check] [--profile ta|ca|ee|detached|router] FILE..
-       rpkicert --help
+       rpkicert -h | --help
        rpkicert --version
 
 Prints the fields of each certificate (RFC 5280, in the profiles of RFC 6487
 and RFC 8209), a field a line. A FILE has one certificate, as DER or in the
-textual encoding of RFC 7468 (PEM), and at most 1048576 octets; - is standard
-input.
+textual encoding of RFC 7468 (PEM) with other text around it, and at most
+1048576 octets; - is standard input.
 
   --json       print an object of JSON a line
   --check      print a line a file: its name, and OK or what is wrong
@@ -32,5 +32,5 @@ input.
 
 Exit status: 0 if all is well; 1 if a file is no certificate or violates the
 profile; 2 if a file can't be read, for a wrong usage, and if writing fails.
-Resources (RFC 3779) are not read, and signatures are not verified.
+Signatures are not verified.
 ";

@@ -1,7 +1,8 @@
 /*
  * Reads certificates with rpki_certificate and rpki_certificate_extensions, and compares statuses and places with those
  * of rows that rows.py writes. What a call refuses leaves `out` as it was. Each beginning of a certificate is none, nor
- * is one with an octet more. Then holds them to each profile with rpki_certificate_inspect. No call allocates.
+ * is one with an octet more. Then holds them to each profile with rpki_certificate_inspect, and asks for all of this at
+ * once with rpki_certificate_checked. No call allocates.
  *
  * usage: certificate ROWS
  */
@@ -149,6 +150,26 @@ static rpki_status inspected(const uint8_t *octets, size_t size, unsigned profil
     return status;
 }
 
+/* Asks for all at once on a copy of exactly these octets, where no allocation succeeds. */
+static rpki_status checked(const uint8_t *octets, size_t size, unsigned profile, bool strict, union found *parts,
+                           union found *extensions, bool *clean) {
+    uint8_t *copy = malloc(size + 1);
+    rpki_status status;
+    if (!copy) exit(2);
+    memcpy(copy, octets, size);
+    memset(parts, FILL, sizeof *parts);
+    memset(extensions, FILL, sizeof *extensions);
+    count_allocations(0);
+    status = rpki_certificate_checked(copy, size, (uint8_t)profile, strict, &parts->parts, &extensions->extensions);
+    *clean = allocations(clean) == 0;
+    count_allocations(NONE_REFUSED);
+    free(copy);
+    if (status != RPKI_OK) {
+        *clean = *clean && untouched(parts, sizeof *parts) && untouched(extensions, sizeof *extensions);
+    }
+    return status;
+}
+
 /* The words are the statuses of the first four profiles, strict; then the same not strict; then of the fifth. */
 static void inspect(unsigned line, const uint8_t *octets, size_t size, const char *words) {
     unsigned number;
@@ -165,6 +186,30 @@ static void inspect(unsigned line, const uint8_t *octets, size_t size, const cha
     judge(line, "another profile", inspected(octets, size, 5, true, &clean) == RPKI_NO_PROFILE && clean);
 }
 
+/* Asks for all at once: what the rows of the three calls say, of which the first that is not 0 is the status. */
+static void check(unsigned line, const uint8_t *octets, size_t size, const char *words, const char *known,
+                  const char *inspections) {
+    static char told[1024];
+    unsigned number;
+    for (number = 0; number < 10; number++) {
+        unsigned wanted = (unsigned)strtoul(known, NULL, 10);
+        unsigned broken = (unsigned)strtoul(inspections, (char **)&inspections, 10);
+        unsigned profile = number < 8 ? number % 4 : RPKI_CERTIFICATE_DETACHED_EE;
+        union found parts, extensions;
+        bool clean;
+        rpki_status status;
+        if (wanted == RPKI_OK) wanted = broken;
+        status = checked(octets, size, profile, number < 4 || number == 8, &parts, &extensions, &clean);
+        if (status != wanted) printf("profile %u: status %u, not %u\n", profile, status, wanted);
+        judge(line, "a check", status == wanted && clean);
+        if (wanted != RPKI_OK || status != RPKI_OK) continue;
+        tell(&parts.parts, told);
+        judge(line, "the parts of a check", !strcmp(told, strchr(words, ' ') + 1));
+        tell_extensions(&extensions.extensions, told);
+        judge(line, "the extensions of a check", !strcmp(told, strchr(known, ' ') + 1));
+    }
+}
+
 static void row(unsigned line, char *text) {
     static uint8_t octets[MOST_OCTETS];
     char *bar = strstr(text, " | "), *second = bar ? strstr(bar + 3, " | ") : NULL;
@@ -174,6 +219,7 @@ static void row(unsigned line, char *text) {
     compare(line, false, octets, size, strchr(text, ' ') + 1);
     compare(line, true, octets, size, bar + 3);
     inspect(line, octets, size, second + 3);
+    check(line, octets, size, strchr(text, ' ') + 1, bar + 3, second + 3);
 }
 
 int main(int count, char **words) {

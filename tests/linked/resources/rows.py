@@ -335,4 +335,5 @@ def main():
         print(line)
 
 
-main()
+if __name__ == "__main__":
+    main()

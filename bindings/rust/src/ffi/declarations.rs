@@ -359,6 +359,14 @@ extern "C" {
     pub(super) fn rpki_certificate(octets: *const u8, size: usize, out: *mut CertificateParts) -> Status;
     pub(super) fn rpki_certificate_extensions(octets: *const u8, size: usize, out: *mut KnownExtensions) -> Status;
     pub(super) fn rpki_certificate_inspect(octets: *const u8, size: usize, profile: u8, strict: bool) -> Status;
+    pub(super) fn rpki_certificate_checked(
+        octets: *const u8,
+        size: usize,
+        profile: u8,
+        strict: bool,
+        parts: *mut CertificateParts,
+        extensions: *mut KnownExtensions,
+    ) -> Status;
     pub(super) fn rpki_crl(octets: *const u8, size: usize, out: *mut CrlParts) -> Status;
     pub(super) fn rpki_crl_entry(octets: *const u8, size: usize, out: *mut RevokedCertificate) -> Status;
     pub(super) fn rpki_crl_contains(octets: *const u8, size: usize, serial: *const [u8; 20], out: *mut bool) -> Status;

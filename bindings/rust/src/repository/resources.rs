@@ -5,6 +5,7 @@
 
 mod asn;
 mod choice;
+mod encode;
 mod ip;
 mod numbers;
 
@@ -16,6 +17,36 @@ pub use ip::{
 
 use crate::ffi;
 use crate::view::DecodeError;
+
+/// Serialized as its text, and read from it.
+#[cfg(feature = "serde")]
+macro_rules! serialized_as_text {
+    ($($name:ty, $expected:literal;)*) => {
+        $(
+            impl serde::Serialize for $name {
+                /// Writes the text.
+                fn serialize<S: serde::Serializer>(&self, serializer: S) -> Result<S::Ok, S::Error> {
+                    serializer.collect_str(self)
+                }
+            }
+
+            impl<'de> serde::Deserialize<'de> for $name {
+                /// Reads the text.
+                fn deserialize<D: serde::Deserializer<'de>>(deserializer: D) -> Result<Self, D::Error> {
+                    crate::texts::borrowed(deserializer, $expected, str::parse)
+                }
+            }
+        )*
+    };
+}
+
+#[cfg(feature = "serde")]
+serialized_as_text! {
+    AsBlock, "a block of AS numbers";
+    AsBlocks, "a list of blocks of AS numbers";
+    Ipv4Blocks, "a list of blocks of IPv4 addresses";
+    Ipv6Blocks, "a list of blocks of IPv6 addresses";
+}
 
 /// The error of a call on two contents, of which the first may be right.
 fn error_of_two(status: ffi::Status) -> DecodeError {

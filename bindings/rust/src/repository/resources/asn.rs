@@ -1,9 +1,12 @@
 //! AS numbers, blocks of them, and what certificates have of them (RFC 3779 3).
 
 use super::choice::{InheritedResources, ResourcesChoice};
+use super::encode;
 use super::numbers::{self, Ends};
+use crate::encode::{value, CONSTRUCTED_0, SEQUENCE};
 use crate::ffi;
 use crate::view::DecodeError;
+use bytes::Bytes;
 use std::error::Error;
 use std::fmt;
 use std::str::FromStr;
@@ -244,6 +247,14 @@ impl AsBlocks {
         self.0.is_empty()
     }
 
+    /// A block as a number or a range (RFC 3779 3.2.3.6 to 3.2.3.8).
+    fn encode_block((low, high): &Ends) -> Bytes {
+        if low == high {
+            return encode::number(*low);
+        }
+        value(SEQUENCE, &[encode::number(*low), encode::number(*high)].concat())
+    }
+
     /// The blocks, in order.
     pub fn iter(&self) -> impl Iterator<Item = AsBlock> + '_ {
         // Ends are made of numbers below 2^32.
@@ -327,6 +338,21 @@ impl AsResources {
             return Ok(AsResources::inherit());
         }
         Ok(AsResources::blocks(AsBlocks(entries.iter().map(|entry| (entry.low.into(), entry.high.into())).collect())))
+    }
+
+    /// The contents of the extension (RFC 3779 3.2.3), of which [decode](AsResources::decode) makes these resources; `None`
+    /// where there are none.
+    ///
+    /// ```
+    /// use rpki_proved::repository::resources::AsResources;
+    ///
+    /// let numbers = AsResources::blocks("AS135, AS5001".parse()?);
+    /// assert_eq!(numbers.encode().unwrap(), &b"\x30\x0c\xa0\x0a\x30\x08\x02\x02\x00\x87\x02\x02\x13\x89"[..]);
+    /// # Ok::<(), rpki_proved::repository::resources::ParseAsnError>(())
+    /// ```
+    pub fn encode(&self) -> Option<Bytes> {
+        let choice = encode::choice(&self.0, |blocks| blocks.0.iter().map(AsBlocks::encode_block).collect())?;
+        Some(value(SEQUENCE, &value(CONSTRUCTED_0, &choice)))
     }
 
     /// None.

@@ -4,9 +4,12 @@
 //! families are alike. What has a text says of which family that is.
 
 use super::choice::{InheritedResources, ResourcesChoice};
+use super::encode;
 use super::numbers::{self, Ends};
+use crate::encode::{value, OCTET_STRING, SEQUENCE};
 use crate::ffi;
 use crate::view::DecodeError;
+use bytes::Bytes;
 use std::error::Error;
 use std::fmt;
 use std::net::{IpAddr, Ipv4Addr, Ipv6Addr};
@@ -40,6 +43,14 @@ impl AddressFamily {
         match self {
             AddressFamily::Ipv4 => 32,
             AddressFamily::Ipv6 => 128,
+        }
+    }
+
+    /// The octets that name it.
+    fn octets(self) -> &'static [u8] {
+        match self {
+            AddressFamily::Ipv4 => &[0, 1],
+            AddressFamily::Ipv6 => &[0, 2],
         }
     }
 
@@ -576,6 +587,31 @@ impl IpResources {
         let entries = ffi::ip_blocks(octets).map_err(DecodeError::from_status)?;
         let (v4, v6) = entries.split_at(entries.iter().filter(|entry| entry.family == ffi::IPV4).count());
         Ok((IpResources::of(AddressFamily::Ipv4, v4), IpResources::of(AddressFamily::Ipv6, v6)))
+    }
+
+    /// The contents of the extension (RFC 3779 2.2.3), of which [decode_families](IpResources::decode_families) makes these
+    /// resources; `None` where neither family has any.
+    ///
+    /// ```
+    /// use rpki_proved::repository::resources::{IpResources, Ipv4Blocks};
+    ///
+    /// let v4 = IpResources::blocks("10.0.0.0/8".parse::<Ipv4Blocks>()?.into());
+    /// let octets = IpResources::encode_families(&v4, &IpResources::inherit()).unwrap();
+    /// assert_eq!(IpResources::decode_families(&octets), Ok((Some(v4), Some(IpResources::inherit()))));
+    /// # Ok::<(), rpki_proved::repository::resources::FromStrError>(())
+    /// ```
+    pub fn encode_families(v4: &Self, v6: &Self) -> Option<Bytes> {
+        let families = [(AddressFamily::Ipv4, v4), (AddressFamily::Ipv6, v6)];
+        let named: Vec<Bytes> =
+            families.into_iter().filter_map(|(family, found)| found.encode_family(family)).collect();
+        (!named.is_empty()).then(|| value(SEQUENCE, &named.concat()))
+    }
+
+    /// The name of a family, and its addresses.
+    fn encode_family(&self, family: AddressFamily) -> Option<Bytes> {
+        let block = |ends: &Ends| encode::addresses(*ends, family.width());
+        let choice = encode::choice(&self.0, |blocks| blocks.0.iter().map(block).collect())?;
+        Some(value(SEQUENCE, &[value(OCTET_STRING, family.octets()), choice].concat()))
     }
 
     /// What the entries of a family say.

@@ -44,7 +44,7 @@ returns c =
         issuer = inside s h.tbs.spelled.two.two.second x.tbs.issuer f.second behind v.tbs.named.issuer.octets.now v.parts.«data».following v.tbs.named.issuer.following c.place_of-4.result (ends-inside s d h.tbs.spelled.two.two.second behind whole (named-ends x s h)) (f.parts ∙ ap (λ (w : List ℕ). w ++ f.second) f.one.same) n.issuer.octets outer n.issuer.following c.place_of-4.ensures.start c.place_of-4.ensures.size;
         subject = inside s f.two.second x.tbs.subject f.two.two.second behind v.tbs.named.subject.octets.now v.parts.«data».following v.tbs.named.subject.following c.place_of-5.result (ends-inside s d f.two.second behind whole (subject-ends x s h)) (f.two.two.parts ∙ ap (λ (w : List ℕ). w ++ f.two.two.second) f.two.two.one.same) n.subject.octets outer n.subject.following c.place_of-5.ensures.start c.place_of-5.ensures.size;
         key = inside s f.two.two.second f.two.two.two.first f.two.two.two.second behind v.tbs.named.keyed.octets.octets.now v.parts.«data».following v.tbs.named.keyed.octets.following c.place_of-6.result key_behind f.two.two.two.parts k.key_at.octets outer k.key_at.following c.place_of-6.ensures.start c.place_of-6.ensures.size;
-        extensions = stands s ((list_in x s h).0 ++ behind) (list_in x s h).0 behind v.tbs.named.keyed.extensions.octets.now v.parts.«data».following v.tbs.named.keyed.extensions.following c.place_of-7.result list_behind refl k.list_at.octets (omega (arith, outer, k.list_at.following)) c.place_of-7.ensures.start c.place_of-7.ensures.size;
+        extensions = stands s ((list_in x s h).0 ++ behind) (list_in x s h).0 behind c.octets.result.now v.parts.«data».following 0 c.place_of-7.result list_behind refl (c.octets.ensures ∙ k.list_at) (omega (arith, outer)) c.place_of-7.ensures.start c.place_of-7.ensures.size;
       };
       format = c.format_number.ensures ∙ ap format_number (c.algorithm.ensures ∙ ap (λ y. y.format) k.same);
       unused = c.unused.ensures.value ∙ ap (λ y. y.bits.unused) k.same;

@@ -3,7 +3,7 @@ use Rattle.rpki_c.proofs.certificate_extensions.extensions_of.Goals as goal
 
 pub returns : goal.returns
 returns c =
-    let (x, h, known) = c.requires.cert in
+    let (x, h, known) = c.requires in
     record {
       cert = x;
       spelled = h.spelled;

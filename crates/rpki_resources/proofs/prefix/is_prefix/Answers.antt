@@ -1,22 +1,41 @@
-use Rattle.std.proofs.Common.{◌≡◌, ◌%◌, arith}
-use Rattle.rpki_resources.proofs.BlocksLaws.{through}
-use Rattle.rpki_resources.proofs.PrefixLaws.{halves, begins-odd, ends-even}
+use Rattle.std.proofs.Common.{◌≡◌, ◌+◌, ◌-◌, suc, refl, sym, ◌∙◌, arith}
+use Rattle.rpki_resources.proofs.PrefixLaws.{prefix-order, prefix-count, shared-prefix, all-numbers}
 use Rattle.rpki_resources.proofs.prefix.is_prefix.Goals as goal
 
-pub returns-then-first-eq1 : goal.returns-then-first-eq1
-returns-then-first-eq1 c = (
+pub returns-then-high-low : goal.returns-then-high-low
+returns-then-high-low c = (
   λ z. let no : ⊥ = cc in absurd no,
-  λ p. absurd (begins-odd c.bits.first c.bits.last c.bits-test.true c.if-first-eq1.true (c.bits.invariant.0 p)),
+  λ p. let order = prefix-order c.args.low c.args.high p in absurd (omega (arith, order, c.if-high-low.true)),
 )
 
-pub returns-then-last-eq0 : goal.returns-then-last-eq0
-returns-then-last-eq0 c = (
-  λ z. let no : ⊥ = cc in absurd no,
-  λ p. absurd (ends-even c.bits.first c.bits.last c.bits-test.true c.if-last-eq0.true (c.bits.invariant.0 p)),
+pub returns-then-others : goal.returns-then-others
+returns-then-others c = (
+  λ z. all-numbers c.args.low c.args.high (omega (arith, c.ranges.high)) (omega (arith, c.if-others.true)),
+  λ p. refl,
 )
 
-pub bits-preserved : goal.bits-preserved
-bits-preserved c =
-    let even : c.bits.first % 2 ≡ 0 = omega arith in
-    let odd : c.bits.last % 2 ≡ 1 = omega arith in
-    through c.bits.invariant (halves c.bits.first c.bits.last even odd)
+pub returns-then-count-power : goal.returns-then-count-power
+returns-then-count-power c =
+    let e : (c.args.high - c.args.low + 1) + c.args.low ≡ suc c.args.high = omega (arith, c.if-high-low.false) in (
+      λ z. let no : ⊥ = cc in absurd no,
+      λ p.
+          let k = prefix-count c.args.low c.args.high (c.args.high - c.args.low + 1) c.ilog2.result e c.ilog2.ensures.power_le c.ilog2.ensures.next_power_gt p in
+          absurd (c.if-count-power.true (k.0 ∙ sym c.power_of_two-power.ensures)),
+    )
+
+pub returns-then-low-power-ne0 : goal.returns-then-low-power-ne0
+returns-then-low-power-ne0 c =
+    let e : (c.args.high - c.args.low + 1) + c.args.low ≡ suc c.args.high = omega (arith, c.if-high-low.false) in (
+      λ z. let no : ⊥ = cc in absurd no,
+      λ p.
+          let k = prefix-count c.args.low c.args.high (c.args.high - c.args.low + 1) c.ilog2.result e c.ilog2.ensures.power_le c.ilog2.ensures.next_power_gt p in
+          absurd (c.if-low-power-ne0.true (rw c.power_of_two-power.ensures k.1)),
+    )
+
+pub returns : goal.returns
+returns c = (
+  λ z.
+      shared-prefix c.args.low c.args.high c.ilog2.result (rw c.power_of_two-power.ensures at c.if-low-power-ne0.false)
+      (omega (arith, c.if-high-low.false, c.if-count-power.false, c.power_of_two-power.ensures)),
+  λ p. refl,
+)

@@ -42,7 +42,7 @@ impl<'a> ExtensionView<'a> {
     }
 
     /// The extension of these parts.
-    pub(super) fn of_parts(id: Oid<&'a [u8]>, critical: bool, octets: &'a [u8]) -> ExtensionView<'a>
+    pub fn of_parts(id: Oid<&'a [u8]>, critical: bool, octets: &'a [u8]) -> ExtensionView<'a>
         ensures { result ≡ extension_parts id.entry.0.now critical octets.entry.now }
     {
         ExtensionView {

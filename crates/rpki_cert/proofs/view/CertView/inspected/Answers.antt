@@ -24,5 +24,5 @@ returns c = λ s x h.
       subject = c.new-2.ensures ∙ n.subject.octets;
       validity = n.validity;
       key = c.read_key.ensures ∙ n.keyed.same;
-      extensions = subst (SpellsEach SpellsExtension x.tbs.extensions) (sym (c.of.ensures ∙ n.keyed.list_at.octets)) f.two.two.two.two.spelled.spelled.some.each;
+      extensions = subst (SpellsEach SpellsExtension x.tbs.extensions) (sym n.keyed.list_at) f.two.two.two.two.spelled.spelled.some.each;
     }

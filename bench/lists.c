@@ -1,0 +1,73 @@
+/*
+ * Times rpki_crl and rpki_crl_contains on a revocation list, beside libcrypto's d2i_X509_CRL: nanoseconds of processor
+ * time an entry, the smallest of 31 rounds in turn. A search asks for a number that isn't there.
+ *
+ * usage: cc -O2 -Iinclude bench/lists.c bindings/out/librpki.a -lcrypto -o lists && ./lists LIST
+ */
+#include <openssl/x509.h>
+#include <stdio.h>
+#include <stdlib.h>
+#include <time.h>
+
+#include "rpki.h"
+
+enum { ROUNDS = 31, MOST_OCTETS = 1 << 24, CALLS = 3 };
+
+static uint8_t octets[MOST_OCTETS];
+static size_t size;
+static struct rpki_crl_parts parts;
+
+static double now(void) {
+    struct timespec at;
+    clock_gettime(CLOCK_PROCESS_CPUTIME_ID, &at);
+    return (double)at.tv_sec * 1e9 + (double)at.tv_nsec;
+}
+
+static bool reads(void) { return rpki_crl(octets, size, &parts) == RPKI_OK; }
+
+static bool searches(void) {
+    static const uint8_t serial[20] = {0x11};
+    bool found;
+    return rpki_crl_contains(octets + parts.revoked_certs.start, parts.revoked_certs.length, serial, &found) == RPKI_OK;
+}
+
+static bool reads_by_openssl(void) {
+    const unsigned char *at = octets;
+    X509_CRL *list = d2i_X509_CRL(NULL, &at, (long)size);
+    X509_CRL_free(list);
+    return list != NULL;
+}
+
+static const struct {
+    const char *name;
+    bool (*call)(void);
+} calls[CALLS] = {{"rpki_crl", reads}, {"rpki_crl_contains", searches}, {"d2i_X509_CRL", reads_by_openssl}};
+
+static size_t entries(void) {
+    struct rpki_revoked_certificate entry;
+    size_t at = parts.revoked_certs.start, end = at + parts.revoked_certs.length, count = 0;
+    for (; at < end && rpki_crl_entry(octets + at, end - at, &entry) == RPKI_OK; at += entry.size) count++;
+    return count;
+}
+
+int main(int count, char **words) {
+    double least[CALLS] = {1e18, 1e18, 1e18};
+    FILE *file = count == 2 ? fopen(words[1], "rb") : NULL;
+    int round, call;
+    if (!file) return 2;
+    size = fread(octets, 1, sizeof octets, file);
+    fclose(file);
+    for (round = 0; round < ROUNDS; round++) {
+        for (call = 0; call < CALLS; call++) {
+            double begun = now();
+            if (!calls[call].call()) return 1;
+            begun = now() - begun;
+            if (begun < least[call]) least[call] = begun;
+        }
+    }
+    for (call = 0; call < CALLS; call++) {
+        printf("%s: %.1f ns an entry, %.2f of d2i_X509_CRL\n", calls[call].name, least[call] / (double)entries(),
+               least[call] / least[CALLS - 1]);
+    }
+    return 0;
+}

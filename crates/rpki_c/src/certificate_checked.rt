@@ -1,0 +1,59 @@
+//! Certificates, of which all is asked at once.
+
+ghost use Rattle.rpki_c.specs.CertificateChecked.{IsCheckedAs, IsCertificateChecked};
+
+use crate::certificate::{CertificateParts, part_number, parts_of};
+use crate::certificate_extensions::{KnownExtensions, extensions_of, known_number};
+use crate::certificate_inspection::{CertificateProfile, cert_rule_number, profile_of, test};
+use crate::status::NO_PROFILE;
+use rpki_cert::CertView;
+
+/// Reads a resource certificate, and tests it by the profile; returns the status.
+fn check(
+    octets: &[u8],
+    profile: CertificateProfile,
+    strict: bool,
+    parts: &mut CertificateParts,
+    extensions: &mut KnownExtensions,
+) -> u8
+    ensures { IsCheckedAs octets.now profile strict result parts.old parts.new extensions.old extensions.new }
+{
+    let found = match CertView::read(octets) {
+        Ok(found) => found,
+        Err(part) => return part_number(part),
+    };
+    let known = match found.tbs.named.keyed.known() {
+        Ok(known) => known,
+        Err(part) => return known_number(part),
+    };
+    match test(&found, profile, strict) {
+        Ok(()) => {
+            *parts = parts_of(octets, &found);
+            *extensions = extensions_of(octets, &found, known);
+            0
+        }
+        Err(rule) => cert_rule_number(rule),
+    }
+}
+
+/// Reads a resource certificate once: says what [crate::certificate::rpki_certificate] and
+/// [crate::certificate_extensions::rpki_certificate_extensions] say, and tests it by the profile of this number, as
+/// [crate::certificate_inspection::rpki_certificate_inspect].
+///
+/// The status is 0. Else it is the first that these three calls have, in this order, but that 12, for another number of a
+/// profile, comes before the octets are looked at; and `parts` and `extensions` are unchanged. Nothing is allocated.
+#[unsafe(no_mangle)]
+pub extern "C" fn rpki_certificate_checked(
+    octets: &[u8],
+    profile: u8,
+    strict: bool,
+    parts: &mut CertificateParts,
+    extensions: &mut KnownExtensions,
+) -> u8
+    ensures { IsCertificateChecked octets.now profile strict result parts.old parts.new extensions.old extensions.new }
+{
+    match profile_of(profile) {
+        Some(profile) => check(octets, profile, strict, parts, extensions),
+        None => NO_PROFILE,
+    }
+}

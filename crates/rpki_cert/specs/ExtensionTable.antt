@@ -1,0 +1,81 @@
+-- The table of the extensions of a certificate (RFC 6487 4.8).
+use Rattle.std.specs.Prelude.{◌≡◌, ◌≢◌, ◌⊎◌, ◌-◌, ℕ, Bool, List, [], ◌∷◌, Option, Some, None, if◌then◌else◌, slice_index, get_or, length, bytes_eq}
+use Rattle.rpki_der.specs.Each.{SpellsEach}
+use Rattle.rpki.specs.ExtensionValue.{ExtensionParts, SpellsExtension}
+use Rattle.rpki_cert.specs.declared.extension_kind.ExtensionKind.{ExtensionKind}
+use Rattle.rpki_cert.specs.declared.listed_extension.ListedExtension.{ListedExtension}
+use Rattle.rpki_cert.specs.Cert.{find}
+use Rattle.rpki_cert.specs.Known.{subject_key_identifier, key_usage, basic_constraints, crl_distribution_points, certificate_policies, authority_key_identifier, extended_key_usage, authority_info_access, ip_addr_blocks, ip_addr_blocks_v2, autonomous_sys_ids, autonomous_sys_ids_v2, subject_info_access, are_understood}
+
+-- P holds of the extensions that s is
+abbrev pub OfListed : List ℕ → (List ExtensionParts → Type 0) → Type 0
+OfListed s P = (xs : List ExtensionParts) → SpellsEach SpellsExtension xs s → P xs
+
+-- ---- kinds
+
+-- the contents octets of the identifier
+abbrev pub identifier_of : ExtensionKind → List ℕ
+identifier_of ExtensionKind.SubjectKeyIdentifier = subject_key_identifier
+identifier_of ExtensionKind.KeyUsage = key_usage
+identifier_of ExtensionKind.BasicConstraints = basic_constraints
+identifier_of ExtensionKind.CrlDistributionPoints = crl_distribution_points
+identifier_of ExtensionKind.CertificatePolicies = certificate_policies
+identifier_of ExtensionKind.AuthorityKeyIdentifier = authority_key_identifier
+identifier_of ExtensionKind.ExtendedKeyUsage = extended_key_usage
+identifier_of ExtensionKind.AuthorityInfoAccess = authority_info_access
+identifier_of ExtensionKind.IpResources = ip_addr_blocks
+identifier_of ExtensionKind.AsResources = autonomous_sys_ids
+identifier_of ExtensionKind.SubjectInfoAccess = subject_info_access
+identifier_of ExtensionKind.IpResourcesV2 = ip_addr_blocks_v2
+identifier_of ExtensionKind.AsResourcesV2 = autonomous_sys_ids_v2
+
+-- the slot of each
+abbrev pub slot_of : ExtensionKind → ℕ
+slot_of ExtensionKind.SubjectKeyIdentifier = 0
+slot_of ExtensionKind.KeyUsage = 1
+slot_of ExtensionKind.BasicConstraints = 2
+slot_of ExtensionKind.CrlDistributionPoints = 3
+slot_of ExtensionKind.CertificatePolicies = 4
+slot_of ExtensionKind.AuthorityKeyIdentifier = 5
+slot_of ExtensionKind.ExtendedKeyUsage = 6
+slot_of ExtensionKind.AuthorityInfoAccess = 7
+slot_of ExtensionKind.IpResources = 8
+slot_of ExtensionKind.AsResources = 9
+slot_of ExtensionKind.SubjectInfoAccess = 10
+slot_of ExtensionKind.IpResourcesV2 = 11
+slot_of ExtensionKind.AsResourcesV2 = 12
+
+-- the last octet of an identifier
+abbrev pub ending : List ℕ → ℕ
+ending id = slice_index id (length id - 1)
+
+-- an extension of the identifier is in this slot: that of its kind; or the last, which all others share
+abbrev pub IsSlot : List ℕ → ℕ → Type 0
+IsSlot id n =
+    ((k : ExtensionKind) × (id ≡ identifier_of k) × (n ≡ slot_of k))
+    ⊎ (((k : ExtensionKind) → id ≢ identifier_of k) × (n ≡ 13))
+
+-- ---- what is found
+
+-- of the octets of these extensions, one after another, what follows the first with this identifier
+abbrev pub behind_first : List ℕ → (xs : List ExtensionParts) (s : List ℕ) → SpellsEach SpellsExtension xs s → List ℕ
+behind_first id [] s h = []
+behind_first id (x ∷ xs) s h = if bytes_eq x.identifier id then h.0 else behind_first id xs h.0 h.2
+
+-- what is kept of the extension x, which r follows
+pub record IsListed (x : ExtensionParts) (r : List ℕ) (f : ListedExtension) : Type 0 where
+  pub critical : f.critical ≡ x.critical
+  pub octets : f.contents.octets.now ≡ x.content
+  pub following : f.contents.following ≡ length r
+
+-- what is found in s of the identifier: what is kept of the first extension of it; or that there is none
+abbrev pub FindsListed : List ℕ → List ℕ → Option ListedExtension → Type 0
+FindsListed id s None = OfListed s (λ xs. find id xs ≡ None)
+FindsListed id s (Some f) =
+    (xs : List ExtensionParts) (h : SpellsEach SpellsExtension xs s)
+    → (x : ExtensionParts) × (find id xs ≡ Some x) × (x.identifier ≡ id) × IsListed x (behind_first id xs s h) f
+
+-- in its slot is what is found of each kind, and whether all critical extensions are known is said
+pub record IsTable (s : List ℕ) (slots : List (Option ListedExtension)) (understood : Bool) : Type 0 where
+  pub found : (k : ExtensionKind) → FindsListed (identifier_of k) s (get_or slots (slot_of k) None)
+  pub known : OfListed s (λ xs. understood ≡ are_understood xs)
