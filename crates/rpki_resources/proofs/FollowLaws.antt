@@ -166,6 +166,10 @@ following-blocks kind bs c h some = let k = taken-apart kind None bs c h in reco
 pub blocks-following : (kind : ResourceKind) (bs : List Block) (c : List ℕ) → AreBlocks kind bs c → SpellsFollowing kind None bs c
 blocks-following kind bs c h = put-together kind None bs c h.each h.canonical (first-anywhere bs)
 
+-- a block, and blocks that stand behind it
+pub following-canonical : (kind : ResourceKind) (b : Block) (bs : List Block) (c : List ℕ) → b.low ≤ b.high → SpellsFollowing kind (Some b.high) bs c → AreCanonical (b ∷ bs)
+following-canonical kind b bs c up h = let k = taken-apart kind (Some b.high) bs c h in (up, past-first b.high bs k.2, k.1)
+
 pub blocks-some : (kind : ResourceKind) (bs : List Block) (c : List ℕ) → AreBlocks kind bs c → c ≢ []
 blocks-some kind bs c h = some-octets kind bs c (blocks-following kind bs c h) h.some
 

@@ -8,7 +8,7 @@
 -- Choices and families; that reading them takes no memory: ExtensionLaws, FamilyLaws, NoMemoryLaws.
 -- What a list is written as, by its prefixes and ranges: ListTextLaws. As what a text is read: AsReadLaws, IpReadLaws,
 -- AddressTextLaws; of a list ListReadLaws; that it is read back ListReadBackLaws.
--- Down a chain: SettledLaws.
+-- Down a chain: SettledLaws. Lists that are found and then compared as they are read: UnreadLaws, ComparedLaws.
 -- What is written: octets of numbers, addresses, ends of ranges, blocks: NumberOctetsLaws, AddressWritingLaws,
 -- StrippedLaws, BlockWritingLaws. That it is read back: BlockReadBackLaws, ResourcesWritingLaws. That equal octets are
 -- of equal resources: BlocksApartLaws, ResourcesApartLaws. That what is read can be written, and is the only spelling:
@@ -32,6 +32,8 @@ pub mod UnionLaws
 pub mod SetLaws
 pub mod EqualBlocksLaws
 pub mod SettledLaws
+pub mod ComparedLaws
+pub mod UnreadLaws
 pub mod NumberOctetsLaws
 pub mod AddressWritingLaws
 pub mod StrippedLaws

@@ -9,6 +9,8 @@ pub mod InPlace
 pub mod Extension
 pub mod Kept
 pub mod Settled
+pub mod Compared
+pub mod Unread
 pub mod Text
 pub mod Equal
 pub mod Encoded

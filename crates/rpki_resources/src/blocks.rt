@@ -33,6 +33,12 @@ impl Model for Blocks {
     ghost invariant = { λ x. AreCanonical x.items.items };
 }
 
+/// A set of addresses of one family (RFC 3779 2.2.3.5).
+pub type IpBlocks = Blocks;
+
+/// A set of AS numbers (RFC 3779 3.2.3.3).
+pub type AsBlocks = Blocks;
+
 /// Whether each number of some blocks is in others. It goes over both once.
 fn is_part(part: &[Block], whole: &[Block]) -> bool
     requires part { AreCanonical part.now }

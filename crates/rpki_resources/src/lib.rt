@@ -14,6 +14,7 @@ mod canonical;
 mod choice;
 mod choice_reading;
 mod choice_view;
+mod compared;
 mod difference;
 mod encode;
 mod family;
@@ -33,6 +34,7 @@ mod resources;
 mod set;
 mod settled;
 mod union;
+mod unread;
 mod view;
 
 pub use address::Address;
@@ -40,10 +42,11 @@ pub use as_number::take_as_number;
 pub use as_read::{ParseAsBlockError, ParseAsnError};
 pub use as_text::{AsBlock, AsRange, Asn};
 pub use block::Block;
-pub use blocks::Blocks;
+pub use blocks::{AsBlocks, Blocks, IpBlocks};
 pub use choice::ResourcesChoice;
 pub use choice_reading::take_as_resources;
 pub use choice_view::ChoiceView;
+pub use compared::{as_resources_encompass, ip_resources_encompass};
 pub use encode::{
     AddressBits, AddressEncoder, AsNumbersFrame, AsResourcesEncoder, BlockEncoder, BlocksEncoder,
     ChoiceEncoder, Either, FamilyEncoder, IpResourcesEncoder, OneOrTwo, encode_block,

@@ -102,7 +102,7 @@ fn block_of_text(kind: ResourceKind, text: &str) -> Result<Block, ParseBlocksErr
     }
 }
 
-/// What stands before the first comma of a text, and what stands behind it, where there is one.
+/// What stands before the first comma of a text, and what stands after it, where there is one.
 fn first_part(text: &str) -> (&str, Option<&str>)
     ensures { parts_at_commas text.now ≡ result.0.now ∷ parts_of_rest (option_map (λ t. t.now) result.1) }
 {
@@ -137,7 +137,7 @@ impl Blocks {
     /// each, where there is any: what [Blocks::text] writes is read back. A text of white space is the empty set. Blocks
     /// of addresses are those of the family alone.
     ///
-    /// The error is that of the first part that is no block of the kind; `OutOfMemory` if allocation fails, only behind
+    /// The error is that of the first part that is no block of the kind; `OutOfMemory` if allocation fails, only after
     /// a part that is one.
     pub fn from_text(
         alloc: Global,

@@ -5,6 +5,7 @@
 
 mod accepted;
 mod chains;
+mod compared;
 mod hostile_around;
 mod hostile_ipv4;
 mod hostile_ipv6;

@@ -109,3 +109,18 @@ fn lists_of_many_blocks(rt: HostRuntime) -> Result<(), Fail> {
     }
     Ok(())
 }
+
+/// Whether contents of so many numbers encompass themselves, in place: none are no contents.
+fn encompass_themselves(alloc: Global, count: u32) -> Result<bool, AllocError> {
+    let octets = numbers(alloc, count)?;
+    let answer = as_resources_encompass(octets.as_slice(), octets.as_slice());
+    Ok(answer == if count == 0 { None } else { Some(true) })
+}
+
+#[test]
+fn contents_of_many_blocks_are_compared(rt: HostRuntime) -> Result<(), Fail> {
+    for count in count_rows() {
+        assert!(rt; encompass_themselves(rt.alloc(), *count)?, "{count}");
+    }
+    Ok(())
+}
