@@ -95,7 +95,7 @@ fn tell_flags(report: Report, tbs: &TbsCert) -> io::Result<()> {
 
 /// Lines of the others.
 fn tell_located(alloc: Global, report: Report, tbs: &TbsCert) -> io::Result<()> {
-    tell_part(report, "extended_key_usage", tbs.extended_key_usage(alloc))?;
+    tell_part(report, "extended_key_usage", tbs.extended_key_usage())?;
     tell_part(report, "crl_uri", tbs.crl_uri(alloc))?;
     tell_part(report, "ca_issuer", tbs.ca_issuer(alloc))?;
     tell_part(report, "ca_repository", tbs.ca_repository(alloc))?;

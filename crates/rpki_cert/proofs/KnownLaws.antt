@@ -1,8 +1,8 @@
 -- Extensions by their identifiers, and what their octets say.
-use Rattle.std.proofs.Common.{◌≡◌, ◌≢◌, ℕ, Bool, List, Option, Some, None, Result, Ok, Err, refl, sym, ap, subst, ◌∙◌}
+use Rattle.std.proofs.Common.{◌≡◌, ◌≢◌, ℕ, Bool, false, List, Option, Some, None, Result, Ok, Err, refl, sym, ap, subst, ◌∙◌}
 use Rattle.rpki_der.specs.declared.error.DecodeError.{DecodeError}
 use Rattle.rpki_der.specs.declared.error.DecodeError.TheVariants.{OutOfMemory}
-use Rattle.std.specs.Prelude.{IsErr, IsErrAnd, MatchResult}
+use Rattle.std.specs.Prelude.{IsErr, IsErrAnd, IfOk, IfErr, MatchResult}
 use Rattle.rpki_der.proofs.ReadingLaws.{UnlessMemory-weaker, UnlessMemory-from}
 use Rattle.rpki.specs.declared.repository.error.ValidationError.{ValidationError}
 use Rattle.rpki.specs.declared.repository.error.ValidationError.TheVariants.{Decoding, Inspection, Verification}
@@ -11,6 +11,7 @@ use Rattle.rpki_der.proofs.InsideLaws.{unless-memory}
 use Rattle.rpki_der.proofs.FirstFaultLaws.{whole-no-memory}
 use Rattle.rpki.specs.ExtensionValue.{ExtensionParts}
 use Rattle.rpki_cert.specs.Known.{Says, SaysOnly, SaysNone, IsFoundWrong, UnlessNoMemory}
+use Rattle.rpki_cert.specs.Access.{SaysUri}
 
 one-of : (x y : ExtensionParts) → ◌≡◌ {A = Option ExtensionParts} (Some x) (Some y) → x ≡ y
 one-of x y e = cc
@@ -77,7 +78,8 @@ pub tried-unless : {X : Type 0} (P : X → Type 0) (Q : Type 0) (F : ValidationE
 tried-unless P Q F (Ok x) h q = absurd h.1
 tried-unless P Q F (Err e) h q = unless-from e q
 
--- the octets are no value, or allocation failed
-pub not-read-or-memory : {V : Type 0} (critical : Bool) (G : V → List ℕ → Type 0) (found : Option ExtensionParts) (K : List ℕ → DecodeError → Type 0) (x : ExtensionParts) (e : DecodeError)
-    → (found ≡ Some x) × (x.critical ≡ critical) → UnlessMemory e (SpellsNothing G x.content) × IsWholeFault G K x.content e → UnlessMemory e (SaysNone critical G found)
-not-read-or-memory critical G found K x e is h = UnlessMemory-weaker e (no-value critical G found x is) h.0
+-- a URI that was found, kept: allocation may fail
+pub kept-uri : (G : Option (List ℕ) → List ℕ → Type 0) (found : Option ExtensionParts) (text : Option (List ℕ)) (r : Result (Option (List ℕ)) ValidationError) → SaysUri G found text
+    → IfOk r (λ o. o ≡ text) → IfErr r (λ e. e ≡ Decoding OutOfMemory) → MatchResult r (SaysUri G found) (λ e. UnlessNoMemory e (SaysNone {V = Option (List ℕ)} false G found))
+kept-uri G found text (Ok u) h is none = subst (SaysUri G found) (sym is) h
+kept-uri G found text (Err e) h none is = subst (λ (d : ValidationError). UnlessNoMemory d (SaysNone {V = Option (List ℕ)} false G found)) (sym is) tt

@@ -52,6 +52,11 @@ pub uri-other : (G : Option (List ℕ) → List ℕ → Type 0) (K : List ℕ �
 uri-other G K rule found e h says =
     found-other false G K rule found (SaysSomeUri G found) h.0 e h.1 (λ k. (k.1.0, k.1.1.0, λ same. uri-missing G found h k)) says
 
+-- the extension is wrong, and has no URI
+pub uri-wrong : (G : Option (List ℕ) → List ℕ → Type 0) (K : List ℕ → DecodeError → Type 0) (rule : CertRule) (found : Option ExtensionParts) (e : ValidationError) → IsFoundWrong false G K found e
+    → (SaysSomeUri G found → ⊥) × SaysFound false G K rule found e
+uri-wrong G K rule found e h = found-wrong false G K rule found (SaysSomeUri G found) e h (λ k. (k.1.0, k.1.1.0))
+
 -- ---- a URI below another one
 
 pub is-empty : (b : Bool) (path : List ℕ) → b ≡ (length path == 0) → IsTrue b ↔ (path ≡ [])

@@ -17,8 +17,8 @@ use Rattle.rpki_cert.specs.declared.listed_extension.ListedExtension.{ListedExte
 use Rattle.rpki_cert.specs.declared.extension_table.Passed.{Passed}
 use Rattle.rpki_cert.specs.Cert.{find, are_unique}
 use Rattle.rpki_cert.specs.Known.{is_known, are_understood}
-use Rattle.rpki_cert.specs.ExtensionTable.{OfListed, identifier_of, slot_of, ending, IsSlot, behind_first, IsListed, FindsListed, IsTable}
-use Rattle.rpki_cert.specs.View.{HasCount, IsPassed}
+use Rattle.rpki_cert.specs.ExtensionTable.{identifier_of, slot_of, ending, IsSlot, behind_first, IsListed, FindsListed, IsTable}
+use Rattle.rpki_cert.specs.View.{IsPassed}
 use Rattle.rpki_cert.proofs.GatherLaws.{Gathers, gathers-all, gathers-on}
 use Rattle.rpki_cert.proofs.ListedLaws.{Each, each-rest, each-none, each-end, find-other, first-once}
 

@@ -12,9 +12,9 @@ use Rattle.rpki_cert.specs.Known.{UnlessNoMemory}
 use Rattle.rpki_cert.specs.Profile.{IsTaProfile, IsCaProfile}
 use Rattle.rpki_cert.specs.Rule.{ta_rules}
 use Rattle.rpki_cert.specs.RuleError.{IsFirstError}
-use Rattle.rpki_cert.specs.Valid.{Unless, IsIssued, IsUnissued, IsPeriodError, IsAnchor, IsNoAnchor}
-use Rattle.rpki_cert.specs.ResourceSet.{HasResources, HasNoResources, SettlesUnder, SettlesOwn, AreWithin}
-use Rattle.rpki_cert.specs.Verified.{Checkers, Verified, Holder, holder, IsRoot, IsNoRoot, IsAuthorityAt, IsVerified, IsOnPath, IsOffPath, IsVerifiedBy, IsUnverified, HasPath, ChecksPath, ChecksLink, ChecksRoot, IsRefusedWith, IsRefusedLink, IsRefusedRoot, IsRootWith, DescendsFrom}
+use Rattle.rpki_cert.specs.Valid.{IsIssued, IsUnissued, IsPeriodError, IsAnchor, IsNoAnchor}
+use Rattle.rpki_cert.specs.ResourceSet.{HasNoResources, SettlesUnder, SettlesOwn, AreWithin}
+use Rattle.rpki_cert.specs.Verified.{Checkers, Verified, Holder, holder, IsRoot, IsAuthorityAt, IsVerified, IsOnPath, IsOffPath, IsVerifiedBy, HasPath, ChecksPath, ChecksLink, ChecksRoot, IsRefusedWith, IsRefusedLink, IsRefusedRoot, DescendsFrom}
 use Rattle.rpki_cert.specs.Verified.IsAuthorityAt.{Root, Issued}
 use Rattle.rpki_cert.specs.Verified.DescendsFrom.{Itself, Below}
 use Rattle.rpki_cert.proofs.KnownLaws.{unless-from, unless-weaker}

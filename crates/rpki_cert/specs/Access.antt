@@ -1,50 +1,31 @@
 -- The URIs of certificates: CRL distribution points, and authority and subject information access (RFC 6487 4.8.6 to
 -- 4.8.8, RFC 8182 3.2).
-use Rattle.std.specs.Prelude.{◌≡◌, ◌≢◌, ◌⊎◌, ◌||◌, not, ℕ, Bool, true, false, List, [], ◌∷◌, Option, Some, None, IsTrue, Result, Vec, MatchResult, bytes_eq, codes, if◌then◌else◌}
+use Rattle.std.specs.Prelude.{map, ◌≡◌, ◌||◌, not, ℕ, Bool, true, false, List, [], ◌∷◌, Option, Some, None, IsTrue, Result, MatchResult, bytes_eq, if◌then◌else◌}
 use Rattle.std.specs.Option.{is_some}
+use Rattle.std.specs.List.{list_all}
 use Rattle.rpki_der.specs.declared.error.DecodeError.{DecodeError}
 use Rattle.rpki_der.specs.declared.tag.Class.TheVariants.{Context}
 use Rattle.rpki_der.specs.TagName.{TagName, tag_of, oid, sequence}
-use Rattle.rpki_der.specs.Reading.{AnyFault, Finds, Decodes, OrMemoryWhere, IsWholeFault}
+use Rattle.rpki_der.specs.Reading.{AnyFault}
 use Rattle.rpki_der.specs.Values.{SpellsLeaf, IsLeafFault}
 use Rattle.rpki_der.specs.Leaves.{IsOid, IsOidOf}
 use Rattle.rpki_der.specs.Parts.{Then}
-use Rattle.rpki_der.specs.Each.{SpellsEach, SpellsSome, IsEachFault}
-use Rattle.rpki_der.specs.FirstFault.{FirstFault, IsEndFault, IsInsideFault, ReadsParts}
+use Rattle.rpki_der.specs.Each.{SpellsSome}
 use Rattle.rpki_text.specs.RsyncText.{rsync_refusal}
 use Rattle.rpki_text.specs.HttpsText.{https_refusal}
-use Rattle.rpki.specs.UnknownAlgorithm.{IsContentWith}
 use Rattle.rpki.specs.ExtensionValue.{ExtensionParts}
 use Rattle.rpki.specs.declared.repository.error.ValidationError.{ValidationError}
 use Rattle.rpki_cert.specs.declared.access_rule.AccessRule.{AccessRule}
 use Rattle.rpki_cert.specs.declared.access_rule.AccessRule.TheVariants.{EndEntity, Notification}
 use Rattle.rpki_cert.specs.Cert.{find}
-use Rattle.rpki_cert.specs.GeneralName.{SpellsText, IsTextFault, SpellsName, IsNameFault}
+use Rattle.rpki_cert.specs.GeneralName.{SpellsText, SpellsName}
 use Rattle.rpki_cert.specs.Known.{SaysOnly, IsFoundWrong, HasNone, UnlessNoMemory}
 
 -- what f makes of some value that is spelled
 abbrev pub Through : {V W : Type 0} → (W → V) → (W → List ℕ → Type 0) → V → List ℕ → Type 0
 Through {V} {W} f G v p = (w : W) × G w p × (v ≡ f w)
 
--- ---- values of one type, one at least, that are kept while they are read
-
-abbrev pub IsSomeFault : {V : Type 0} → (V → List ℕ → Type 0) → (List ℕ → DecodeError → Type 0) → List ℕ → DecodeError
-    → Type 0
-IsSomeFault G K s e =
-    ((s ≡ []) × IsContentWith (codes "empty SEQUENCE") e) ⊎ ((s ≢ []) × IsEachFault G K s e)
-
--- the same, and memory is taken of what was read
-abbrev pub IsKeptFault : {V : Type 0} → (V → List ℕ → Type 0) → (List ℕ → DecodeError → Type 0) → List ℕ → DecodeError
-    → Type 0
-IsKeptFault G K = OrMemoryWhere (λ s. s ≢ []) (IsSomeFault G K)
-
--- ---- general names, of which the text of a URI is kept
-
-abbrev pub IsUriFault : List ℕ → DecodeError → Type 0
-IsUriFault = OrMemoryWhere (Finds SpellsText) IsTextFault
-
-abbrev pub IsKeptNameFault : List ℕ → DecodeError → Type 0
-IsKeptNameFault = OrMemoryWhere (Finds SpellsText) IsNameFault
+-- ---- URIs
 
 -- a URI
 abbrev pub SpellsUri : Option (List ℕ) → List ℕ → Type 0
@@ -61,8 +42,6 @@ first_https [] = None
 first_https (None ∷ xs) = first_https xs
 first_https (Some text ∷ xs) = if is_some (https_refusal text) then first_https xs else Some text
 
--- ---- access descriptions: a SEQUENCE of a method and of a general name (RFC 5280 4.2.2.1, 4.2.2.2)
-
 -- an object identifier, and whether it is this one
 abbrev pub IsOidAs : List ℕ → Bool → List ℕ → Type 0
 IsOidAs expected same c = IsOid c × (same ≡ bytes_eq c expected)
@@ -73,64 +52,30 @@ SpellsOidAs expected = SpellsLeaf oid false (IsOidAs expected)
 abbrev pub IsOidAsFault : List ℕ → List ℕ → DecodeError → Type 0
 IsOidAsFault expected = IsLeafFault oid false (IsOidAs expected)
 
+-- ---- access descriptions: a SEQUENCE of a method and of a general name (RFC 5280 4.2.2.1, 4.2.2.2)
+
+-- by the contents octets of its method and by its name
+abbrev pub SpellsDescription : List ℕ × Option (List ℕ) → List ℕ → Type 0
+SpellsDescription = SpellsLeaf sequence true (Then (SpellsLeaf oid false IsOidOf) SpellsName)
+
+-- a SEQUENCE of them, one at least: what f makes of all
+abbrev pub SpellsAccess : {V : Type 0} → (List (List ℕ × Option (List ℕ)) → V) → V → List ℕ → Type 0
+SpellsAccess f = SpellsLeaf sequence true (Through f (SpellsSome SpellsDescription))
+
 -- the name of a description of this method; of another there is None
 abbrev pub chosen : Bool × Option (List ℕ) → Option (List ℕ)
 chosen (true, name) = name
 chosen (false, name) = None
 
-abbrev pub IsAccess : List ℕ → Option (List ℕ) → List ℕ → Type 0
-IsAccess method = Through chosen (Then (SpellsOidAs method) SpellsName)
+abbrev pub named : List ℕ → List (List ℕ × Option (List ℕ)) → List (Option (List ℕ))
+named method = map (λ x. chosen (bytes_eq x.0 method, x.1))
 
-abbrev pub SpellsAccess : List ℕ → Option (List ℕ) → List ℕ → Type 0
-SpellsAccess method = SpellsLeaf sequence true (IsAccess method)
-
-abbrev pub IsAccessPartsFault : List ℕ → List ℕ → DecodeError → Type 0
-IsAccessPartsFault method =
-    FirstFault (SpellsOidAs method) (IsOidAsFault method) (λ same.
-    FirstFault SpellsName IsKeptNameFault (λ name. IsEndFault))
-
-abbrev pub IsAccessFault : List ℕ → List ℕ → DecodeError → Type 0
-IsAccessFault method = IsInsideFault sequence true (IsAccessPartsFault method)
-
--- descriptions, one after another
-abbrev pub SpellsEachAccess : List ℕ → List (Option (List ℕ)) → List ℕ → Type 0
-SpellsEachAccess method = SpellsEach (SpellsAccess method)
-
-abbrev pub IsEachAccessFault : List ℕ → List ℕ → DecodeError → Type 0
-IsEachAccessFault method = IsEachFault (SpellsAccess method) (IsAccessFault method)
-
--- a reader of all of them found s and left r
-abbrev pub ReadsEachAccess : {Z : Type 0} → List ℕ → List ℕ → List ℕ → Result (Vec (Option (List ℕ)) Z) DecodeError
-    → Type 0
-ReadsEachAccess method = ReadsParts (λ v. v.items) (SpellsEachAccess method) (IsEachAccessFault method)
-
--- one description at least: the first rsync URI of this method; the first https URI
-abbrev pub SpellsSomeRsync : List ℕ → Option (List ℕ) → List ℕ → Type 0
-SpellsSomeRsync method = Through first_rsync (SpellsSome (SpellsAccess method))
-
-abbrev pub SpellsSomeHttps : List ℕ → Option (List ℕ) → List ℕ → Type 0
-SpellsSomeHttps method = Through first_https (SpellsSome (SpellsAccess method))
-
+-- the first rsync URI of this method; the first https URI
 abbrev pub SpellsRsyncAccess : List ℕ → Option (List ℕ) → List ℕ → Type 0
-SpellsRsyncAccess method = SpellsLeaf sequence true (SpellsSomeRsync method)
+SpellsRsyncAccess method = SpellsAccess (λ xs. first_rsync (named method xs))
 
 abbrev pub SpellsHttpsAccess : List ℕ → Option (List ℕ) → List ℕ → Type 0
-SpellsHttpsAccess method = SpellsLeaf sequence true (SpellsSomeHttps method)
-
-abbrev pub AreAccessesFault : List ℕ → List ℕ → DecodeError → Type 0
-AreAccessesFault method = IsKeptFault (SpellsAccess method) (IsAccessFault method)
-
-abbrev pub IsAccessesFault : List ℕ → List ℕ → DecodeError → Type 0
-IsAccessesFault method = IsInsideFault sequence true (AreAccessesFault method)
-
--- all of the octets are access descriptions, of which this is the URI; or they aren't
-abbrev pub DecodesRsync : List ℕ → List ℕ → Result (Option (List ℕ)) DecodeError → Type 0
-DecodesRsync method =
-    Decodes (λ u. u) (SpellsRsyncAccess method) (IsWholeFault (SpellsRsyncAccess method) (IsAccessesFault method))
-
-abbrev pub DecodesHttps : List ℕ → List ℕ → Result (Option (List ℕ)) DecodeError → Type 0
-DecodesHttps method =
-    Decodes (λ u. u) (SpellsHttpsAccess method) (IsWholeFault (SpellsHttpsAccess method) (IsAccessesFault method))
+SpellsHttpsAccess method = SpellsAccess (λ xs. first_https (named method xs))
 
 -- ---- CRL distribution points: exactly one, of which there is exactly a full name (RFC 5280 4.2.1.13)
 
@@ -141,26 +86,14 @@ context_0 = tag_of Context 0
 abbrev pub SpellsFullName : Option (List ℕ) → List ℕ → Type 0
 SpellsFullName = SpellsLeaf context_0 true (Through first_rsync (SpellsSome SpellsUri))
 
-abbrev pub IsFullNameFault : List ℕ → DecodeError → Type 0
-IsFullNameFault = IsInsideFault context_0 true (IsKeptFault SpellsUri IsUriFault)
-
 abbrev pub SpellsPointName : Option (List ℕ) → List ℕ → Type 0
 SpellsPointName = SpellsLeaf context_0 true SpellsFullName
-
-abbrev pub IsPointNameFault : List ℕ → DecodeError → Type 0
-IsPointNameFault = IsInsideFault context_0 true (FirstFault SpellsFullName IsFullNameFault (λ name. IsEndFault))
 
 abbrev pub SpellsPoint : Option (List ℕ) → List ℕ → Type 0
 SpellsPoint = SpellsLeaf sequence true SpellsPointName
 
-abbrev pub IsPointFault : List ℕ → DecodeError → Type 0
-IsPointFault = IsInsideFault sequence true (FirstFault SpellsPointName IsPointNameFault (λ name. IsEndFault))
-
 abbrev pub SpellsPoints : Option (List ℕ) → List ℕ → Type 0
 SpellsPoints = SpellsLeaf sequence true SpellsPoint
-
-abbrev pub IsPointsFault : List ℕ → DecodeError → Type 0
-IsPointsFault = IsInsideFault sequence true (FirstFault SpellsPoint IsPointFault (λ point. IsEndFault))
 
 -- ---- the methods (RFC 5280 4.2.2.1, 4.2.2.2, RFC 6487 4.8.8, RFC 8182 3.2)
 
@@ -198,13 +131,10 @@ abbrev pub allows : AccessRule → List ℕ × Option (List ℕ) → Bool
 allows EndEntity x = bytes_eq x.0 signed_object || bytes_eq x.0 rpki_notify
 allows Notification x = not (bytes_eq x.0 rpki_notify) || is_https x.1
 
--- such a description
-abbrev pub IsHeldAccess : AccessRule → List ℕ × Option (List ℕ) → List ℕ → Type 0
-IsHeldAccess rule x c = Then (SpellsLeaf oid false IsOidOf) SpellsName x c × IsTrue (allows rule x)
-
 -- such descriptions, one at least, and no others
 abbrev pub SpellsHeldAccess : AccessRule → List (List ℕ × Option (List ℕ)) → List ℕ → Type 0
-SpellsHeldAccess rule = SpellsLeaf sequence true (SpellsSome (SpellsLeaf sequence true (IsHeldAccess rule)))
+SpellsHeldAccess rule xs s =
+    SpellsLeaf sequence true (SpellsSome SpellsDescription) xs s × IsTrue (list_all (allows rule) xs)
 
 -- ---- what a certificate says
 

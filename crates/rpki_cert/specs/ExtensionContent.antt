@@ -1,19 +1,18 @@
 -- What the octets of the extensions are, each in the form of RFC 6487 4.8.
 use Rattle.rpki_der.specs.Parts.{Then}
-use Rattle.std.specs.Prelude.{codes, ◌≢◌, ◌≡◌, ◌⊎◌, ◌||◌, ℕ, Bool, true, false, List, [], ◌∷◌}
+use Rattle.std.specs.Prelude.{◌≢◌, ◌≡◌, ◌⊎◌, ◌||◌, ℕ, Bool, true, false, List, [], ◌∷◌}
 use Rattle.rpki_der.specs.declared.error.DecodeError.{DecodeError}
 use Rattle.rpki_der.specs.declared.tag.Class.TheVariants.{Context}
 use Rattle.rpki_der.specs.TagName.{TagName, tag_of, sequence, bit_string, oid, ia5_string}
 use Rattle.rpki_der.specs.Values.{SpellsLeaf, IsLeafFault}
 use Rattle.rpki_der.specs.Leaves.{IsOnly}
 use Rattle.rpki_der.specs.DefaultFalse.{SpellsTrue, IsTrueFault}
-use Rattle.rpki_der.specs.Each.{SpellsSome, IsEachFault}
+use Rattle.rpki_der.specs.Each.{SpellsSome}
 use Rattle.rpki_der.specs.FirstFault.{FirstFault, IsEndFault, IsInsideFault}
 use Rattle.std.specs.Str.{IsAscii}
-use Rattle.rpki.specs.UnknownAlgorithm.{IsContentWith}
 use Rattle.rpki_der.specs.Reading.{IsWholeFault}
 use Rattle.rpki.specs.KeyIdentifier.{SpellsKeyIdentifier, IsKeyIdentifier, IsIdentifierFault}
-use Rattle.rpki_cert.specs.Access.{SpellsOidAs, IsOidAsFault}
+use Rattle.rpki_cert.specs.Access.{SpellsOidAs}
 use Rattle.rpki_cert.specs.declared.key_usage.KeyUsage.{KeyUsage}
 use Rattle.rpki_cert.specs.declared.key_usage.KeyUsage.TheVariants.{Ca, Ee}
 use Rattle.rpki_cert.specs.declared.policy.Overclaim.{Overclaim}
@@ -94,17 +93,6 @@ pub record ArePurposes (router : Bool) (c : List ℕ) : Type 0 where
 
 abbrev pub SpellsPurposes : Bool → List ℕ → Type 0
 SpellsPurposes = SpellsLeaf sequence true ArePurposes
-
--- no purpose; or one that isn't an object identifier; they are kept while they are read
-abbrev pub IsPurposeFault : List ℕ → DecodeError → Type 0
-IsPurposeFault = IsOidAsFault router_purpose
-
-abbrev pub ArePurposesFault : List ℕ → DecodeError → Type 0
-ArePurposesFault s e =
-    ((s ≡ []) × IsContentWith (codes "no key purposes") e) ⊎ ((s ≢ []) × IsEachFault SpellsPurpose IsPurposeFault s e)
-
-abbrev pub IsPurposesFault : List ℕ → DecodeError → Type 0
-IsPurposesFault = IsInsideFault sequence true ArePurposesFault
 
 -- ---- certificate policies: the one of the RPKI (RFC 6487 4.8.9, RFC 6484 1.2, RFC 8360 4.2.1)
 

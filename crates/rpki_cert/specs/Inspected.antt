@@ -8,7 +8,9 @@ use Rattle.rpki.specs.ExtensionValue.{ExtensionParts, SpellsExtension}
 use Rattle.rpki_cert.specs.declared.extension_source.ExtensionSource.{ExtensionSource}
 use Rattle.rpki_cert.specs.declared.extension_source.ExtensionSource.TheVariants.{Kept, Listed}
 use Rattle.rpki_cert.specs.declared.inspected.Inspected.{Inspected}
-use Rattle.rpki_cert.specs.Cert.{TbsParts}
+use Rattle.rpki_cert.specs.Cert.{TbsParts, find}
+use Rattle.rpki_cert.specs.Known.{subject_info_access}
+use Rattle.rpki_cert.specs.AccessInformation.{IsTold}
 
 -- the extensions: values that are kept; or those of a table
 abbrev pub AreIn : List ExtensionParts → ExtensionSource → Type 0
@@ -27,3 +29,4 @@ pub record IsReadOf (t : TbsParts) (v : Inspected) : Type 0 where
   pub validity : v.validity ≡ t.validity
   pub key : IsKeyOf t.key v.key
   pub extensions : AreIn t.extensions v.extensions
+  pub access : IsTold (find subject_info_access t.extensions) v.access

@@ -166,12 +166,6 @@ abbrev pub FindsOnly : {V : Type 0} → List ℕ → Bool → (V → List ℕ �
     → List ExtensionParts → Result (Option V) ValidationError → Type 0
 FindsOnly id critical G K xs = IsSaid critical G K (find id xs)
 
--- the same where allocation can fail
-abbrev pub FindsKept : {V : Type 0} → List ℕ → Bool → (V → List ℕ → Type 0) → List ExtensionParts
-    → Result (Option V) ValidationError → Type 0
-FindsKept id critical G xs result =
-    MatchResult result (HasOnly id critical G xs) (λ e. UnlessNoMemory e (HasNone id critical G xs))
-
 abbrev pub FindsThere : List ℕ → Bool → (Unit {0} → List ℕ → Type 0) → (List ℕ → DecodeError → Type 0)
     → List ExtensionParts → Result Bool ValidationError → Type 0
 FindsThere id critical G K xs = IsSaidThere critical G K (find id xs)

@@ -1,8 +1,7 @@
 -- What the extensions of a certificate say, where they are read in place (RFC 6487 4.8).
-use Rattle.std.specs.Prelude.{ℕ, true, false, List}
-use Rattle.rpki_der.specs.Each.{SpellsEach}
+use Rattle.std.specs.Prelude.{true, false, List}
 use Rattle.rpki.specs.KeyIdentifier.{SpellsKeyIdentifier}
-use Rattle.rpki.specs.ExtensionValue.{ExtensionParts, SpellsExtension}
+use Rattle.rpki.specs.ExtensionValue.{ExtensionParts}
 use Rattle.rpki_cert.specs.declared.known_part.KnownPart.{KnownPart}
 use Rattle.rpki_cert.specs.declared.known_part.KnownPart.TheVariants.{BasicConstraints, SubjectKeyIdentifier, AuthorityKeyIdentifier, KeyUsage, CertificatePolicies}
 use Rattle.rpki_cert.specs.declared.known_view.KnownView.{KnownView}

@@ -5,6 +5,8 @@ pub mod Known
 pub mod ExtensionContent
 pub mod GeneralName
 pub mod Access
+pub mod AccessDescription
+pub mod AccessInformation
 pub mod InPlace
 pub mod View
 pub mod ExtensionTable

@@ -1,10 +1,10 @@
 -- Certificates that are read in place: what stands where, and which part is wrong (RFC 5280 4.1).
-use Rattle.std.specs.Prelude.{◌≡◌, ◌≤◌, ◌<◌, ◌++◌, ◌-◌, ℕ, Bool, true, false, List, slice_index, Option, Some, None, IsTrue, length, bytes_eq, if◌then◌else◌, [], ◌∷◌}
-use Rattle.rpki_der.specs.TagName.{sequence, oid, bit_string}
+use Rattle.std.specs.Prelude.{◌≡◌, ◌≤◌, ◌<◌, ◌++◌, ◌-◌, ℕ, Bool, true, false, List, Option, Some, None, IsTrue, length, if◌then◌else◌, [], ◌∷◌}
+use Rattle.rpki_der.specs.TagName.{sequence, bit_string}
 use Rattle.rpki_der.specs.Reading.{Accepts, Refuses, SpellsNothing}
 use Rattle.rpki_der.specs.Values.{SpellsContents, SpellsLeaf}
 use Rattle.rpki_der.specs.Leaves.{IsBits, bits_of}
-use Rattle.rpki_der.specs.Each.{SpellsEach, SpellsSome}
+use Rattle.rpki_der.specs.Each.{SpellsSome}
 use Rattle.rpki_der.specs.Members.{SpellsValue, IsValue}
 use Rattle.rpki_der.specs.Parts.{Then, SpellsBoth}
 use Rattle.rpki_time.specs.Serial.{SpellsSerial}
@@ -97,8 +97,8 @@ abbrev pub TakesName : List ℕ → List ℕ → Option Section → Type 0
 TakesName s r (Some p) = (v : List ℕ) × Accepts SpellsNameOctets s v r × IsSection p v r
 TakesName s r None = Refuses SpellsNameOctets s
 
--- The section is that of a key, and the list that of extensions. Here and below, h says which octets spell which part, and so what
--- follows each.
+-- The section is that of a key, and the list that of extensions. Here and below, h says which octets spell which part,
+-- and so what follows each.
 pub record IsKeyedIn (key : KeyParts) (xs : List ExtensionParts) (s : List ℕ)
     (h : SpellsBoth SpellsKey SpellsExtensions key xs s) (k : Keyed) : Type 0 where
   pub same : k.key ≡ key

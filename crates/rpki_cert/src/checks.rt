@@ -1,6 +1,6 @@
 //! The rules of the profiles of certificates, one by one (RFC 6487 4, RFC 8209 3.1).
 
-ghost use Rattle.std.specs.Prelude.{◌≡◌, ◌<◌, ◌⊎◌, ◌↔◌, ◌&&◌, not, true, false, ℕ, List, None, Some, Option, IsTrue};
+ghost use Rattle.std.specs.Prelude.{◌≡◌, ◌<◌, ◌↔◌, ◌&&◌, not, true, false, List, None, Some, Option, IsTrue};
 ghost use Rattle.rpki_der.specs.Reading.{AnyFault};
 ghost use Rattle.rpki_der.specs.Leaves.{bits_of};
 ghost use Rattle.rpki.specs.KeyIdentifier.{SpellsKeyIdentifier};
@@ -10,15 +10,18 @@ ghost use Rattle.rpki.specs.StrictName.{IsRpkiName, IsRouterName};
 ghost use Rattle.rpki.specs.ExtensionValue.{ExtensionParts};
 ghost use Rattle.rpki_cert.specs.Cert.{TbsParts, find};
 ghost use Rattle.rpki_cert.specs.ExtensionTable.{identifier_of};
-ghost use Rattle.rpki_cert.specs.Known.{Says, certificate_policies, subject_info_access};
+ghost use Rattle.rpki_cert.specs.Known.{Says};
 ghost use Rattle.rpki_cert.specs.ExtensionContent.{SpellsConstraints, IsWholeConstraintsFault, IsWholeSubjectFault, SpellsAuthority, IsWholeAuthorityFault, SpellsUsage, IsWholeUsageFault, SpellsPurposes, SpellsPolicies, IsWholePoliciesFault};
-ghost use Rattle.rpki_cert.specs.Access.{SpellsRsyncAccess, SpellsPoints, SpellsHeldAccess};
+ghost use Rattle.rpki_cert.specs.Access.{SpellsPoints, SpellsHeldAccess};
+ghost use Rattle.rpki_cert.specs.AccessInformation.{SpellsUriOf, IsTold};
 ghost use Rattle.rpki_cert.specs.Keys.{IsRpkiKey, IsRouterKey};
-ghost use Rattle.rpki_cert.specs.Profile.{SaysSome, SaysSomeUri, IsBelow, SaysManifestBelow, IsOrdered, has_addresses, has_numbers, is_critical, has_resources, is_of_version, HasOneVersion};
+ghost use Rattle.rpki_cert.specs.Profile.{SaysSome, IsBelow, SaysManifestBelow, IsOrdered, has_addresses, has_numbers, is_critical, has_resources, is_of_version};
 ghost use Rattle.rpki_cert.specs.Inspected.{AreIn, IsReadOf};
 ghost use Rattle.rpki_cert.specs.Rule.{Obeys};
 ghost use Rattle.rpki_cert.specs.RuleError.{ChecksBy, SaysRule, SaysName, ChecksSome, ChecksValue, ChecksUri, ChecksVersion, ChecksOwn, IsRuleError};
 
+use crate::access_information::AccessInformation;
+use crate::access_method::AccessMethod;
 use crate::access_rule::AccessRule;
 use crate::extension_kind::ExtensionKind;
 use crate::extension_source::ExtensionSource;
@@ -26,8 +29,8 @@ use crate::inspected::Inspected;
 use crate::key_rule::KeyBits;
 use crate::key_usage::KeyUsage;
 use crate::known::{
-    access_in, authority_in, constraints_in, overclaim_in, points_in, purposes_in, subject_in,
-    usage_in,
+    authority_in, constraints_in, information_in, overclaim_in, points_in, purposes_in, subject_in,
+    uri_in, usage_in,
 };
 use crate::part::are_same;
 use crate::policy::Overclaim;
@@ -35,8 +38,6 @@ use crate::resource_extensions::{are_own, are_well_formed};
 use crate::rule::CertRule;
 use crate::verify::is_identifier;
 use rpki::crypto::KeyIdentifier;
-use rpki::der::{ConstOid, Constructed};
-use rpki::oid;
 use rpki::repository::error::ValidationError;
 use rpki::repository::x509::{ExtensionView, NameView, Serial, Validity};
 use rpki::uri::RsyncView;
@@ -151,15 +152,18 @@ fn inspect_version(all: &ExtensionSource<'_>) -> Result<(), ValidationError>
     }
 }
 
-/// Whether access information was found that is not critical, and each description of which obeys the rule.
-fn has_held_access(found: Option<ExtensionView<'_>>, rule: AccessRule) -> bool
-    ensures { IsTrue result ↔ SaysSome false (SpellsHeldAccess rule) found.entry }
+/// Whether access information was found, each description of which obeys the rule.
+fn has_held_access(
+    told: &Result<Option<AccessInformation<'_>>, ValidationError>,
+    rule: AccessRule,
+) -> bool
+    ensures { (found : Option ExtensionParts) → IsTold found told.now
+        → IsTrue result ↔ SaysSome false (SpellsHeldAccess rule) found }
 {
-    match found {
-        Some(extension) => {
-            !extension.critical() && rule.are_all_held(Constructed::from_slice(extension.octets()))
-        }
-        None => false,
+    match told {
+        Ok(Some(access)) => access.obeys(rule),
+        Ok(None) => false,
+        Err(_) => false,
     }
 }
 
@@ -180,13 +184,12 @@ fn is_below(base: &[u8], text: &[u8]) -> bool
 }
 
 /// Whether access information was found that has the URI of a manifest below that of its repository.
-fn has_manifest_below(all: &ExtensionSource<'_>) -> bool
-    ensures { (xs : List ExtensionParts) → AreIn xs all.now
-        → IsTrue result ↔ SaysManifestBelow (find subject_info_access xs) }
+fn has_manifest_below(told: &Result<Option<AccessInformation<'_>>, ValidationError>) -> bool
+    ensures { (found : Option ExtensionParts) → IsTold found told.now
+        → IsTrue result ↔ SaysManifestBelow found }
 {
-    let access = ExtensionKind::SubjectInfoAccess;
-    match access_in(all.find(access), oid::AD_CA_REPOSITORY) {
-        Ok(Some(base)) => match access_in(all.find(access), oid::AD_RPKI_MANIFEST) {
+    match uri_in(told, AccessMethod::CaRepository) {
+        Ok(Some(base)) => match uri_in(told, AccessMethod::RpkiManifest) {
             Ok(Some(text)) => is_below(base, text),
             Ok(None) => false,
             Err(_) => false,
@@ -412,15 +415,16 @@ fn inspect_revocation(found: Option<ExtensionView<'_>>) -> Result<(), Validation
     }
 }
 
-/// Whether a URI of this method was found, as the rule has it.
+/// Whether access information tells a URI of this method, as the rule has it.
 fn inspect_access(
-    found: Option<ExtensionView<'_>>,
-    method: ConstOid,
+    told: &Result<Option<AccessInformation<'_>>, ValidationError>,
+    method: AccessMethod,
     rule: CertRule,
 ) -> Result<(), ValidationError>
-    ensures { ChecksUri (SpellsRsyncAccess method.entry.0.now) rule found.entry result }
+    ensures { (found : Option ExtensionParts) → IsTold found told.now
+        → ChecksUri (SpellsUriOf method) rule found result }
 {
-    match access_in(found, method) {
+    match uri_in(told, method) {
         Ok(Some(_)) => Ok(()),
         Ok(None) => Err(rejected(rule)),
         Err(e) => Err(e),
@@ -429,24 +433,27 @@ fn inspect_access(
 
 /// Whether access information was found, each description of which obeys the rule of access.
 fn inspect_held(
-    found: Option<ExtensionView<'_>>,
+    told: &Result<Option<AccessInformation<'_>>, ValidationError>,
     held: AccessRule,
     rule: CertRule,
 ) -> Result<(), ValidationError>
-    ensures { ChecksBy (SaysSome false (SpellsHeldAccess held) found.entry) (SaysRule rule) result }
+    ensures { (found : Option ExtensionParts) → IsTold found told.now
+        → ChecksBy (SaysSome false (SpellsHeldAccess held) found) (SaysRule rule) result }
 {
-    if !has_held_access(found, held) {
+    if !has_held_access(told, held) {
         return Err(rejected(rule));
     }
     Ok(())
 }
 
 /// Whether the URI of the manifest was found below that of the repository.
-fn inspect_place(all: &ExtensionSource<'_>) -> Result<(), ValidationError>
-    ensures { (xs : List ExtensionParts) → AreIn xs all.now
-        → ChecksBy (SaysManifestBelow (find subject_info_access xs)) (SaysRule CertRule.ManifestPlace) result }
+fn inspect_place(
+    told: &Result<Option<AccessInformation<'_>>, ValidationError>,
+) -> Result<(), ValidationError>
+    ensures { (found : Option ExtensionParts) → IsTold found told.now
+        → ChecksBy (SaysManifestBelow found) (SaysRule CertRule.ManifestPlace) result }
 {
-    if !has_manifest_below(all) {
+    if !has_manifest_below(told) {
         return Err(rejected(CertRule::ManifestPlace));
     }
     Ok(())
@@ -511,8 +518,8 @@ impl Inspected<'_> {
                 CertRule::NoRevocationList,
             ),
             CertRule::IssuerCertificate => inspect_access(
-                all.find(ExtensionKind::AuthorityInfoAccess),
-                oid::AD_CA_ISSUERS,
+                &information_in(all.find(ExtensionKind::AuthorityInfoAccess)),
+                AccessMethod::CaIssuers,
                 CertRule::IssuerCertificate,
             ),
             CertRule::NoIssuerCertificate => inspect_absent(
@@ -520,28 +527,28 @@ impl Inspected<'_> {
                 CertRule::NoIssuerCertificate,
             ),
             CertRule::Repository => inspect_access(
-                all.find(ExtensionKind::SubjectInfoAccess),
-                oid::AD_CA_REPOSITORY,
+                &self.access,
+                AccessMethod::CaRepository,
                 CertRule::Repository,
             ),
             CertRule::Manifest => inspect_access(
-                all.find(ExtensionKind::SubjectInfoAccess),
-                oid::AD_RPKI_MANIFEST,
+                &self.access,
+                AccessMethod::RpkiManifest,
                 CertRule::Manifest,
             ),
             CertRule::SignedObject => inspect_access(
-                all.find(ExtensionKind::SubjectInfoAccess),
-                oid::AD_SIGNED_OBJECT,
+                &self.access,
+                AccessMethod::SignedObject,
                 CertRule::SignedObject,
             ),
-            CertRule::ManifestPlace => inspect_place(all),
+            CertRule::ManifestPlace => inspect_place(&self.access),
             CertRule::ObjectAccess => inspect_held(
-                all.find(ExtensionKind::SubjectInfoAccess),
+                &self.access,
                 AccessRule::EndEntity,
                 CertRule::ObjectAccess,
             ),
             CertRule::Notifications => inspect_held(
-                all.find(ExtensionKind::SubjectInfoAccess),
+                &self.access,
                 AccessRule::Notification,
                 CertRule::Notifications,
             ),

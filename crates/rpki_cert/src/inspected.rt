@@ -5,11 +5,16 @@ ghost use Rattle.rpki_cert.specs.Cert.{CertParts};
 ghost use Rattle.rpki_cert.specs.View.{IsCertAt};
 ghost use Rattle.rpki_cert.specs.Inspected.{IsKeyOf, IsReadOf};
 
-use crate::extension_source::ExtensionSource;
+use crate::access_information::AccessInformation;
+use crate::extension_kind::ExtensionKind;
+use crate::extension_source::{ExtensionSource, find_kept};
 use crate::key_rule::KeyBits;
+use crate::known::information_in;
 use crate::tbs::TbsCert;
 use crate::view::CertView;
 use rpki::crypto::{PublicKey, PublicKeyView};
+use rpki::oid;
+use rpki::repository::error::ValidationError;
 use rpki::repository::x509::{NameView, Serial, Validity};
 
 /// What the rules of profiles read of a certificate.
@@ -27,6 +32,8 @@ pub struct Inspected<'a> {
     pub key: KeyBits<'a>,
     /// The extensions.
     pub extensions: ExtensionSource<'a>,
+    /// What the subject information access tells.
+    pub access: Result<Option<AccessInformation<'a>>, ValidationError>,
 }
 
 /// The bits of a key that is kept.
@@ -63,6 +70,7 @@ impl TbsCert {
             validity: self.validity(),
             key: kept_key(self.subject_public_key_info()),
             extensions: ExtensionSource::Kept(self.extensions()),
+            access: information_in(find_kept(self.extensions(), oid::PE_SUBJECT_INFO_ACCESS)),
         }
     }
 }
@@ -81,6 +89,12 @@ impl CertView<'_> {
             validity: named.validity,
             key: read_key(&named.keyed.key),
             extensions: ExtensionSource::Listed(&named.keyed.extensions),
+            access: information_in(
+                named
+                    .keyed
+                    .extensions
+                    .find(ExtensionKind::SubjectInfoAccess),
+            ),
         }
     }
 }

@@ -1,60 +1,38 @@
 //! What the extensions of a certificate say (RFC 6487 4.8).
 
-ghost use Rattle.std.specs.Prelude.{◌≡◌, Bool, List, ℕ, true, false, Option, Some, None, IfOk, IfErr, IfSome, IfNone, MatchResult};
+ghost use Rattle.std.specs.Prelude.{◌≡◌, true, false, Option, Some, None, IfOk, IfErr, IfSome, IfNone};
 ghost use Rattle.std.specs.Option.{option_copied};
 ghost use Rattle.rpki.specs.KeyIdentifier.{SpellsKeyIdentifier};
 ghost use Rattle.rpki_der.specs.Cursor.{left};
-ghost use Rattle.rpki_der.specs.Reading.{AnyFault, Decodes, IsWholeFault};
+ghost use Rattle.rpki_der.specs.Reading.{AnyFault, Decodes};
 ghost use Rattle.rpki_der.specs.ErrorText.{text_of};
 ghost use Rattle.rpki.specs.ErrorContent.{content_of};
 ghost use Rattle.rpki.specs.ExtensionValue.{ExtensionParts};
-ghost use Rattle.rpki_cert.specs.Cert.{find};
-ghost use Rattle.rpki_cert.specs.Known.{subject_key_identifier, key_usage, basic_constraints, authority_key_identifier, extended_key_usage, certificate_policies, critical_text, IsOtherCritical, IsSaid, IsSaidThere, FindsOnly, FindsKept, FindsThere};
-ghost use Rattle.rpki_cert.specs.Access.{SpellsRsyncAccess, SpellsPoints, IsSaidUri};
-ghost use Rattle.rpki_cert.specs.ExtensionContent.{SpellsConstraints, IsWholeConstraintsFault, IsWholeSubjectFault, SpellsAuthority, IsWholeAuthorityFault, SpellsUsage, IsWholeUsageFault, SpellsPurposes, IsPurposesFault, SpellsPolicies, IsWholePoliciesFault};
+ghost use Rattle.rpki_cert.specs.Known.{subject_key_identifier, key_usage, basic_constraints, authority_key_identifier, extended_key_usage, certificate_policies, critical_text, IsOtherCritical, IsSaid, IsSaidThere, FindsOnly, FindsThere};
+ghost use Rattle.rpki_cert.specs.Access.{SpellsPoints, IsSaidUri};
+ghost use Rattle.rpki_cert.specs.AccessInformation.{SpellsUriOf, IsTold};
+ghost use Rattle.rpki_cert.specs.ExtensionContent.{SpellsConstraints, IsWholeConstraintsFault, IsWholeSubjectFault, SpellsAuthority, IsWholeAuthorityFault, SpellsUsage, IsWholeUsageFault, SpellsPurposes, SpellsPolicies, IsWholePoliciesFault};
 
-use crate::access_view::{read_accesses, read_points};
+use crate::access_information::AccessInformation;
+use crate::access_method::AccessMethod;
+use crate::access_view::read_points;
 use crate::contents::{skip_constraints, take_authority};
 use crate::extension_source::find_kept;
-use crate::extensions::find;
 use crate::key_usage::KeyUsage;
 use crate::policy::Overclaim;
-use crate::purposes::{read_purposes, take_purposes};
+use crate::purposes::read_purposes;
 use crate::tbs::TbsCert;
 use rpki::crypto::KeyIdentifier;
-use rpki::der::{ConstOid, Constructed, ContentError, DecodeError};
+use rpki::der::{Constructed, ContentError, DecodeError};
 use rpki::oid;
 use rpki::repository::error::{InspectionError, ValidationError};
-use rpki::repository::x509::{CertExtension, ExtensionView};
-use std::alloc::Global;
+use rpki::repository::x509::ExtensionView;
 
 /// The error of an extension that isn't as critical as it has to be.
 fn other_critical() -> InspectionError
     ensures { text_of (content_of result) ≡ critical_text }
 {
     InspectionError::new(ContentError::from_static("extension is not as critical as it has to be"))
-}
-
-/// The extension of this identifier, which has to be critical or not.
-pub fn find_as<'a>(
-    all: &'a [CertExtension],
-    id: ConstOid,
-    critical: bool,
-) -> Result<Option<&'a CertExtension>, InspectionError>
-    ensures some { IfOk result (λ o. IfSome o (λ x. (find id.entry.0.now all.now ≡ Some x.now)
-        × (x.now.critical ≡ critical))) }
-    ensures none { IfOk result (λ o. IfNone o (find id.entry.0.now all.now ≡ None)) }
-    ensures err { IfErr result (λ e. IsOtherCritical critical (find id.entry.0.now all.now) e) }
-{
-    match find(all, id) {
-        Some(extension) => {
-            if extension.critical() != critical {
-                return Err(other_critical());
-            }
-            Ok(Some(extension))
-        }
-        None => Ok(None),
-    }
 }
 
 /// What was found of an extension, which has to be critical or not.
@@ -104,14 +82,6 @@ fn usage_of(octets: Constructed<'_>) -> Result<KeyUsage, DecodeError>
     ensures { Decodes (λ u. u) SpellsUsage IsWholeUsageFault (left octets.entry) result }
 {
     octets.whole(|cons| KeyUsage::take_from(cons))
-}
-
-/// Whether the octets of the extension name the purpose of a BGPsec router.
-fn purposes_of(alloc: Global, extension: &CertExtension) -> Result<bool, DecodeError>
-    ensures { Decodes (λ b. b) SpellsPurposes (IsWholeFault SpellsPurposes IsPurposesFault) extension.now.content
-        result }
-{
-    extension.cursor().whole(|cons| take_purposes(alloc, cons))
 }
 
 /// The policy that the octets name.
@@ -224,23 +194,36 @@ pub fn points_in<'a>(found: Option<ExtensionView<'a>>) -> Result<Option<&'a [u8]
     }
 }
 
-/// The URI of this method, as the extension that was found says it (RFC 6487 4.8.7, 4.8.8).
-pub fn access_in<'a>(
+/// What the access information that was found tells (RFC 6487 4.8.7, 4.8.8).
+pub fn information_in<'a>(
     found: Option<ExtensionView<'a>>,
-    method: ConstOid,
-) -> Result<Option<&'a [u8]>, ValidationError>
-    ensures { IsSaidUri option_copied (SpellsRsyncAccess method.entry.0.now) found.entry result }
+) -> Result<Option<AccessInformation<'a>>, ValidationError>
+    ensures { IsTold found.entry result }
 {
     match wanted(found, false) {
-        Ok(Some(extension)) => match read_accesses(
-            Constructed::from_slice(extension.octets()),
-            method,
-        ) {
-            Ok(found) => Ok(found),
+        Ok(Some(extension)) => match AccessInformation::read(Constructed::from_slice(
+            extension.octets(),
+        )) {
+            Ok(found) => Ok(Some(found)),
             Err(e) => Err(ValidationError::Decoding(e)),
         },
         Ok(None) => Ok(None),
         Err(e) => Err(ValidationError::Inspection(e)),
+    }
+}
+
+/// The URI of this method, as access information tells it.
+pub fn uri_in<'a>(
+    told: &Result<Option<AccessInformation<'a>>, ValidationError>,
+    method: AccessMethod,
+) -> Result<Option<&'a [u8]>, ValidationError>
+    ensures { (found : Option ExtensionParts) → IsTold found told.now
+        → IsSaidUri option_copied (SpellsUriOf method) found result }
+{
+    match told {
+        Ok(Some(access)) => Ok(access.uri(method)),
+        Ok(None) => Ok(None),
+        Err(e) => Err(*e),
     }
 }
 
@@ -288,18 +271,11 @@ impl TbsCert {
     /// Whether the purpose of a BGPsec router is among those of the subject's key, where the extension is there: one
     /// purpose at least, and not critical (RFC 6487 4.8.5, RFC 8209 3.1.3.2).
     ///
-    /// Returns `Inspection` if the extension is critical; `Decoding` if its octets are another value, or if allocation
-    /// fails.
-    pub fn extended_key_usage(&self, alloc: Global) -> Result<Option<bool>, ValidationError>
-        ensures { FindsKept extended_key_usage false SpellsPurposes self.now.extensions result }
+    /// Returns `Inspection` if the extension is critical; `Decoding` if its octets are another value.
+    pub fn extended_key_usage(&self) -> Result<Option<bool>, ValidationError>
+        ensures { FindsOnly extended_key_usage false SpellsPurposes AnyFault self.now.extensions result }
     {
-        match find_as(self.extensions(), oid::CE_EXTENDED_KEY_USAGE, false)? {
-            Some(extension) => match purposes_of(alloc, extension) {
-                Ok(found) => Ok(Some(found)),
-                Err(e) => Err(ValidationError::Decoding(e)),
-            },
-            None => Ok(None),
-        }
+        purposes_in(find_kept(self.extensions(), oid::CE_EXTENDED_KEY_USAGE))
     }
 
     /// What the policy of the certificate says of resources that the issuer's certificate hasn't, where the extension

@@ -5,7 +5,9 @@
 //! issues what is verified.
 #![tactic(auto)]
 
-mod access;
+mod access_description;
+mod access_information;
+mod access_method;
 mod access_rule;
 mod access_view;
 mod cert;
@@ -46,11 +48,13 @@ mod verify;
 mod version;
 mod view;
 
+pub use access_description::{AccessDescription, point_names};
 pub use cert::Cert;
 pub use cert_part::CertPart;
 pub use extension_kind::ExtensionKind;
 pub use extension_table::ExtensionTable;
 pub use fields::{Keyed, Named, TbsView};
+pub use general_name::take_name as take_general_name;
 pub use key_usage::KeyUsage;
 pub use known_part::KnownPart;
 pub use known_view::KnownView;

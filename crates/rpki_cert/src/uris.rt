@@ -1,11 +1,14 @@
 //! Where things are, as a certificate says (RFC 6487 4.8.6 to 4.8.8).
 
-ghost use Rattle.rpki_der.specs.Reading.{Decodes, IsWholeFault};
+ghost use Rattle.std.specs.Prelude.{◌≡◌, IfOk, IfErr};
+ghost use Rattle.std.specs.Option.{option_copied};
 ghost use Rattle.rpki_cert.specs.Known.{crl_distribution_points, authority_info_access, subject_info_access};
-ghost use Rattle.rpki_cert.specs.Access.{SpellsRsyncAccess, SpellsHttpsAccess, SpellsPoints, IsPointsFault, DecodesRsync, DecodesHttps, FindsUri, ca_issuers, ca_repository, rpki_manifest, signed_object, rpki_notify};
+ghost use Rattle.rpki_cert.specs.Access.{SpellsRsyncAccess, SpellsHttpsAccess, SpellsPoints, FindsUri, ca_issuers, ca_repository, rpki_manifest, signed_object, rpki_notify};
+ghost use Rattle.rpki_cert.specs.AccessInformation.{SpellsUriOf};
 
-use crate::access::{take_https_access, take_points, take_rsync_access};
-use crate::known::find_as;
+use crate::access_method::AccessMethod;
+use crate::extension_source::find_kept;
+use crate::known::{information_in, points_in, uri_in};
 use crate::tbs::TbsCert;
 use rpki::der::{ConstOid, DecodeError};
 use rpki::oid;
@@ -14,39 +17,32 @@ use rpki::repository::x509::CertExtension;
 use rpki::uri::{Https, Rsync};
 use std::alloc::Global;
 
-/// The first rsync URI of this method, in the access descriptions that the octets of the extension are.
-fn rsync_of(
-    alloc: Global,
-    extension: &CertExtension,
-    method: ConstOid,
-) -> Result<Option<Rsync>, DecodeError>
-    ensures { DecodesRsync method.entry.0.now extension.now.content result }
+/// The rsync URI of a text that was found, kept as a copy.
+fn keep_rsync(alloc: Global, found: Option<&[u8]>) -> Result<Option<Rsync>, ValidationError>
+    ensures ok { IfOk result (λ o. o ≡ option_copied found.entry) }
+    ensures err { IfErr result (λ e. e ≡ ValidationError.Decoding DecodeError.OutOfMemory) }
 {
-    let mut cons = extension.cursor();
-    let found = take_rsync_access(alloc, &mut cons, method)?;
-    cons.finish()?;
-    Ok(found)
+    match found {
+        Some(text) => match Rsync::from_slice(alloc, text) {
+            Ok(uri) => Ok(Some(uri)),
+            Err(_) => Err(ValidationError::Decoding(DecodeError::OutOfMemory)),
+        },
+        None => Ok(None),
+    }
 }
 
-/// The first https URI of this method, in the access descriptions that the octets of the extension are.
-fn https_of(
-    alloc: Global,
-    extension: &CertExtension,
-    method: ConstOid,
-) -> Result<Option<Https>, DecodeError>
-    ensures { DecodesHttps method.entry.0.now extension.now.content result }
+/// The https URI of a text that was found, kept as a copy.
+fn keep_https(alloc: Global, found: Option<&[u8]>) -> Result<Option<Https>, ValidationError>
+    ensures ok { IfOk result (λ o. o ≡ option_copied found.entry) }
+    ensures err { IfErr result (λ e. e ≡ ValidationError.Decoding DecodeError.OutOfMemory) }
 {
-    let mut cons = extension.cursor();
-    let found = take_https_access(alloc, &mut cons, method)?;
-    cons.finish()?;
-    Ok(found)
-}
-
-/// The first rsync URI of the CRL distribution point that the octets of the extension are.
-fn point_of(alloc: Global, extension: &CertExtension) -> Result<Option<Rsync>, DecodeError>
-    ensures { Decodes (λ u. u) SpellsPoints (IsWholeFault SpellsPoints IsPointsFault) extension.now.content result }
-{
-    extension.cursor().whole(|cons| take_points(alloc, cons))
+    match found {
+        Some(text) => match Https::from_slice(alloc, text) {
+            Ok(uri) => Ok(Some(uri)),
+            Err(_) => Err(ValidationError::Decoding(DecodeError::OutOfMemory)),
+        },
+        None => Ok(None),
+    }
 }
 
 /// The first rsync URI of this method, in the extension of this identifier.
@@ -54,35 +50,13 @@ fn rsync_at(
     alloc: Global,
     all: &[CertExtension],
     id: ConstOid,
-    method: ConstOid,
+    method: AccessMethod,
 ) -> Result<Option<Rsync>, ValidationError>
-    ensures { FindsUri id.entry.0.now (SpellsRsyncAccess method.entry.0.now) all.now result }
+    ensures { FindsUri id.entry.0.now (SpellsUriOf method) all.now result }
 {
-    match find_as(all, id, false)? {
-        Some(extension) => match rsync_of(alloc, extension, method) {
-            Ok(found) => Ok(found),
-            Err(e) => Err(ValidationError::Decoding(e)),
-        },
-        None => Ok(None),
-    }
-}
-
-/// The first https URI of this method, in the extension of this identifier.
-fn https_at(
-    alloc: Global,
-    all: &[CertExtension],
-    id: ConstOid,
-    method: ConstOid,
-) -> Result<Option<Https>, ValidationError>
-    ensures { FindsUri id.entry.0.now (SpellsHttpsAccess method.entry.0.now) all.now result }
-{
-    match find_as(all, id, false)? {
-        Some(extension) => match https_of(alloc, extension, method) {
-            Ok(found) => Ok(found),
-            Err(e) => Err(ValidationError::Decoding(e)),
-        },
-        None => Ok(None),
-    }
+    let told = information_in(find_kept(all, id));
+    let found = uri_in(&told, method)?;
+    keep_rsync(alloc, found)
 }
 
 impl TbsCert {
@@ -94,13 +68,8 @@ impl TbsCert {
     pub fn crl_uri(&self, alloc: Global) -> Result<Option<Rsync>, ValidationError>
         ensures { FindsUri crl_distribution_points SpellsPoints self.now.extensions result }
     {
-        match find_as(self.extensions(), oid::CE_CRL_DISTRIBUTION_POINTS, false)? {
-            Some(extension) => match point_of(alloc, extension) {
-                Ok(found) => Ok(found),
-                Err(e) => Err(ValidationError::Decoding(e)),
-            },
-            None => Ok(None),
-        }
+        let found = points_in(find_kept(self.extensions(), oid::CE_CRL_DISTRIBUTION_POINTS))?;
+        keep_rsync(alloc, found)
     }
 
     /// Where the issuer's certificate is: the first rsync URI of the method `id-ad-caIssuers` in authority information
@@ -115,7 +84,7 @@ impl TbsCert {
             alloc,
             self.extensions(),
             oid::PE_AUTHORITY_INFO_ACCESS,
-            oid::AD_CA_ISSUERS,
+            AccessMethod::CaIssuers,
         )
     }
 
@@ -131,7 +100,7 @@ impl TbsCert {
             alloc,
             self.extensions(),
             oid::PE_SUBJECT_INFO_ACCESS,
-            oid::AD_CA_REPOSITORY,
+            AccessMethod::CaRepository,
         )
     }
 
@@ -147,7 +116,7 @@ impl TbsCert {
             alloc,
             self.extensions(),
             oid::PE_SUBJECT_INFO_ACCESS,
-            oid::AD_RPKI_MANIFEST,
+            AccessMethod::RpkiManifest,
         )
     }
 
@@ -163,7 +132,7 @@ impl TbsCert {
             alloc,
             self.extensions(),
             oid::PE_SUBJECT_INFO_ACCESS,
-            oid::AD_SIGNED_OBJECT,
+            AccessMethod::SignedObject,
         )
     }
 
@@ -175,11 +144,8 @@ impl TbsCert {
     pub fn rpki_notify(&self, alloc: Global) -> Result<Option<Https>, ValidationError>
         ensures { FindsUri subject_info_access (SpellsHttpsAccess rpki_notify) self.now.extensions result }
     {
-        https_at(
-            alloc,
-            self.extensions(),
-            oid::PE_SUBJECT_INFO_ACCESS,
-            oid::AD_RPKI_NOTIFY,
-        )
+        let told = information_in(find_kept(self.extensions(), oid::PE_SUBJECT_INFO_ACCESS));
+        let found = uri_in(&told, AccessMethod::RpkiNotify)?;
+        keep_https(alloc, found)
     }
 }

@@ -1,28 +1,16 @@
-use Rattle.std.proofs.Common.{false, Some, None, refl}
-use Rattle.rpki_cert.specs.Access.{SpellsRsyncAccess, IsAccessesFault}
+use Rattle.std.specs.Option.{option_copied}
+use Rattle.rpki_cert.specs.AccessInformation.{SpellsUriOf}
 use Rattle.rpki_cert.specs.Cert.{find}
-use Rattle.rpki_cert.proofs.KnownLaws.{only-none, only-value, not-read-or-memory, other-critical, tried-unless}
+use Rattle.rpki_cert.proofs.KnownLaws.{kept-uri, tried-unless}
 use Rattle.rpki_cert.proofs.uris.rsync_at.Goals as goal
 
-pub returns-in_err-extension : goal.returns-in_err-extension
-returns-in_err-extension c =
-    tried-unless _ _ _ _ c.from_residual.ensures (other-critical false (SpellsRsyncAccess c.args.method.0.now) (find c.args.id.0.now c.args.all.now) (let h = c.in_err-extension.ensures.err in (h.1, h.2, h.3)))
+pub returns-in_err-found : goal.returns-in_err-found
+returns-in_err-found c =
+    let told = rw c.find_kept.ensures at c.information_in-told.ensures in
+    tried-unless _ _ _ _ c.from_residual.ensures (c.in_err-found.ensures (find c.args.id.0.now c.args.all.now) told).0
 
-pub returns-in-Ok : goal.returns-in-Ok
-returns-in-Ok c =
-    let some = rw c.in-Some.is at c.in_ok-extension.ensures.some in (
-      Some c.in-Ok.found,
-      only-value false (SpellsRsyncAccess c.args.method.0.now) (find c.args.id.0.now c.args.all.now) c.in-Some.extension.now c.in-Ok.found some c.in-Ok.ensures,
-      refl,
-    )
-
-pub returns-in-Err : goal.returns-in-Err
-returns-in-Err c =
-    let some = rw c.in-Some.is at c.in_ok-extension.ensures.some in
-    not-read-or-memory false (SpellsRsyncAccess c.args.method.0.now) (find c.args.id.0.now c.args.all.now) (IsAccessesFault c.args.method.0.now) c.in-Some.extension.now c.in-Err.e some
-    c.in-Err.ensures
-
-pub returns-in-None : goal.returns-in-None
-returns-in-None c =
-    let none = rw c.in-None.is at c.in_ok-extension.ensures.none in
-    (None, only-none false (SpellsRsyncAccess c.args.method.0.now) (find c.args.id.0.now c.args.all.now) none, refl)
+pub returns : goal.returns
+returns c =
+    let told = rw c.find_kept.ensures at c.information_in-told.ensures in
+    kept-uri (SpellsUriOf c.args.method) (find c.args.id.0.now c.args.all.now) (option_copied c.in_ok-found.found) c.keep_rsync.result (c.in_ok-found.ensures (find c.args.id.0.now c.args.all.now) told)
+    c.keep_rsync.ensures.ok c.keep_rsync.ensures.err

@@ -1,5 +1,7 @@
 use Rattle.std.proofs.Common.{IsTrue}
 use Rattle.rpki_cert.specs.declared.rule.CertRule.TheVariants.{ResourceBlocks, OwnResources}
+use Rattle.rpki_cert.specs.Cert.{find}
+use Rattle.rpki_cert.specs.Known.{authority_info_access, subject_info_access}
 use Rattle.rpki_cert.specs.ResourceExtensions.{AreWellFormed, AreOwn}
 use Rattle.rpki_cert.specs.RuleError.{SaysRule}
 use Rattle.rpki_cert.proofs.RuleLaws.{obeys-at, by-test}
@@ -57,19 +59,19 @@ pub returns-in-NoRevocationList : goal.returns-in-NoRevocationList
 returns-in-NoRevocationList c = λ t h. obeys-at c.args.strict t _ _ _ c.in-NoRevocationList.is (rw (c.find-in-NoRevocationList.ensures t.extensions h.extensions) at c.inspect_absent-in-NoRevocationList.ensures)
 
 pub returns-in-IssuerCertificate : goal.returns-in-IssuerCertificate
-returns-in-IssuerCertificate c = λ t h. obeys-at c.args.strict t _ _ _ c.in-IssuerCertificate.is (rw (c.find-in-IssuerCertificate.ensures t.extensions h.extensions) at c.inspect_access.ensures)
+returns-in-IssuerCertificate c = λ t h. obeys-at c.args.strict t _ _ _ c.in-IssuerCertificate.is (c.inspect_access.ensures (find authority_info_access t.extensions) (rw (c.find-in-IssuerCertificate.ensures t.extensions h.extensions) at c.information_in.ensures))
 
 pub returns-in-NoIssuerCertificate : goal.returns-in-NoIssuerCertificate
 returns-in-NoIssuerCertificate c = λ t h. obeys-at c.args.strict t _ _ _ c.in-NoIssuerCertificate.is (rw (c.find-in-NoIssuerCertificate.ensures t.extensions h.extensions) at c.inspect_absent-in-NoIssuerCertificate.ensures)
 
 pub returns-in-Repository : goal.returns-in-Repository
-returns-in-Repository c = λ t h. obeys-at c.args.strict t _ _ _ c.in-Repository.is (rw (c.find-in-Repository.ensures t.extensions h.extensions) at c.inspect_access-in-Repository.ensures)
+returns-in-Repository c = λ t h. obeys-at c.args.strict t _ _ _ c.in-Repository.is (c.inspect_access-in-Repository.ensures (find subject_info_access t.extensions) h.access)
 
 pub returns-in-Manifest : goal.returns-in-Manifest
-returns-in-Manifest c = λ t h. obeys-at c.args.strict t _ _ _ c.in-Manifest.is (rw (c.find-in-Manifest.ensures t.extensions h.extensions) at c.inspect_access-in-Manifest.ensures)
+returns-in-Manifest c = λ t h. obeys-at c.args.strict t _ _ _ c.in-Manifest.is (c.inspect_access-in-Manifest.ensures (find subject_info_access t.extensions) h.access)
 
 pub returns-in-SignedObject : goal.returns-in-SignedObject
-returns-in-SignedObject c = λ t h. obeys-at c.args.strict t _ _ _ c.in-SignedObject.is (rw (c.find-in-SignedObject.ensures t.extensions h.extensions) at c.inspect_access-in-SignedObject.ensures)
+returns-in-SignedObject c = λ t h. obeys-at c.args.strict t _ _ _ c.in-SignedObject.is (c.inspect_access-in-SignedObject.ensures (find subject_info_access t.extensions) h.access)
 
 pub returns-in-NoSubjectAccess : goal.returns-in-NoSubjectAccess
 returns-in-NoSubjectAccess c = λ t h. obeys-at c.args.strict t _ _ _ c.in-NoSubjectAccess.is (rw (c.find-in-NoSubjectAccess.ensures t.extensions h.extensions) at c.inspect_absent-in-NoSubjectAccess.ensures)
@@ -84,13 +86,13 @@ pub returns-in-RouterNumbers : goal.returns-in-RouterNumbers
 returns-in-RouterNumbers c = λ t h. obeys-at c.args.strict t _ _ _ c.in-RouterNumbers.is (rw (c.has_numbers_alone.ensures t.extensions h.extensions) at c.inspect_that-in-RouterNumbers.ensures)
 
 pub returns-in-ObjectAccess : goal.returns-in-ObjectAccess
-returns-in-ObjectAccess c = λ t h. obeys-at c.args.strict t _ _ _ c.in-ObjectAccess.is (rw (c.find-in-ObjectAccess.ensures t.extensions h.extensions) at c.inspect_held.ensures)
+returns-in-ObjectAccess c = λ t h. obeys-at c.args.strict t _ _ _ c.in-ObjectAccess.is (c.inspect_held.ensures (find subject_info_access t.extensions) h.access)
 
 pub returns-in-ManifestPlace : goal.returns-in-ManifestPlace
-returns-in-ManifestPlace c = λ t h. obeys-at c.args.strict t _ _ _ c.in-ManifestPlace.is (c.inspect_place.ensures t.extensions h.extensions)
+returns-in-ManifestPlace c = λ t h. obeys-at c.args.strict t _ _ _ c.in-ManifestPlace.is (c.inspect_place.ensures (find subject_info_access t.extensions) h.access)
 
 pub returns-in-Notifications : goal.returns-in-Notifications
-returns-in-Notifications c = λ t h. obeys-at c.args.strict t _ _ _ c.in-Notifications.is (rw (c.find-in-Notifications.ensures t.extensions h.extensions) at c.inspect_held-in-Notifications.ensures)
+returns-in-Notifications c = λ t h. obeys-at c.args.strict t _ _ _ c.in-Notifications.is (c.inspect_held-in-Notifications.ensures (find subject_info_access t.extensions) h.access)
 
 pub returns-in-Validity : goal.returns-in-Validity
 returns-in-Validity c = λ t h. obeys-at c.args.strict t _ _ _ c.in-Validity.is (rw h.validity at c.inspect_validity.ensures)

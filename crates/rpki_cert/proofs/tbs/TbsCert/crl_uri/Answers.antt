@@ -1,29 +1,14 @@
-use Rattle.std.proofs.Common.{false, Some, None, refl}
+use Rattle.std.specs.Option.{option_copied}
 use Rattle.rpki_cert.specs.Known.{crl_distribution_points}
-use Rattle.rpki_cert.specs.Access.{SpellsPoints, IsPointsFault}
+use Rattle.rpki_cert.specs.Access.{SpellsPoints}
 use Rattle.rpki_cert.specs.Cert.{find}
-use Rattle.rpki_cert.proofs.KnownLaws.{only-none, only-value, not-read-or-memory, other-critical, tried-unless}
+use Rattle.rpki_cert.proofs.KnownLaws.{kept-uri, tried-unless}
 use Rattle.rpki_cert.proofs.tbs.TbsCert.crl_uri.Goals as goal
 
-pub returns-in_err-extension : goal.returns-in_err-extension
-returns-in_err-extension c =
-    let xs = c.args.self.now.extensions in
-    let h = rw c.extensions.ensures at c.in_err-extension.ensures.err in
-    tried-unless _ _ _ _ c.from_residual.ensures (other-critical false SpellsPoints (find crl_distribution_points xs) (h.1, h.2, h.3))
+pub returns-in_err-found : goal.returns-in_err-found
+returns-in_err-found c = tried-unless _ _ _ _ c.from_residual.ensures (rw (c.find_kept.ensures, c.extensions.ensures) at c.in_err-found.ensures).0
 
-pub returns-in-Ok : goal.returns-in-Ok
-returns-in-Ok c =
-    let xs = c.args.self.now.extensions in
-    let some = rw (c.extensions.ensures, c.in-Some.is) at c.in_ok-extension.ensures.some in
-    (Some c.in-Ok.found, only-value false SpellsPoints (find crl_distribution_points xs) c.in-Some.extension.now c.in-Ok.found some c.in-Ok.ensures, refl)
-
-pub returns-in-Err : goal.returns-in-Err
-returns-in-Err c =
-    let xs = c.args.self.now.extensions in
-    let some = rw (c.extensions.ensures, c.in-Some.is) at c.in_ok-extension.ensures.some in
-    not-read-or-memory false SpellsPoints (find crl_distribution_points xs) IsPointsFault c.in-Some.extension.now c.in-Err.e some c.in-Err.ensures
-
-pub returns-in-None : goal.returns-in-None
-returns-in-None c =
-    let none = rw (c.extensions.ensures, c.in-None.is) at c.in_ok-extension.ensures.none in
-    (None, only-none false SpellsPoints (find crl_distribution_points c.args.self.now.extensions) none, refl)
+pub returns : goal.returns
+returns c =
+    kept-uri SpellsPoints (find crl_distribution_points c.args.self.now.extensions) (option_copied c.in_ok-found.found) c.keep_rsync.result (rw (c.find_kept.ensures, c.extensions.ensures) at c.in_ok-found.ensures)
+    c.keep_rsync.ensures.ok c.keep_rsync.ensures.err

@@ -18,11 +18,13 @@ pub returns : goal.returns
 returns c = λ s x h.
     let n = h.tbs.named in
     let f = h.spelled.tbs.spelled.two.two.two in
+    let each = subst (SpellsEach SpellsExtension x.tbs.extensions) (sym n.keyed.list_at) f.two.two.two.two.spelled.spelled.some.each in
     record {
       serial = h.tbs.serial;
       issuer = c.new.ensures ∙ n.issuer.octets;
       subject = c.new-2.ensures ∙ n.subject.octets;
       validity = n.validity;
       key = c.read_key.ensures ∙ n.keyed.same;
-      extensions = subst (SpellsEach SpellsExtension x.tbs.extensions) (sym n.keyed.list_at) f.two.two.two.two.spelled.spelled.some.each;
+      extensions = each;
+      access = rw (c.find.ensures x.tbs.extensions each) at c.information_in.ensures;
     }
