@@ -67,7 +67,7 @@ extern "C" {
 
 /* The version of this header. */
 #define RPKI_VERSION_MAJOR 0
-#define RPKI_VERSION_MINOR 1
+#define RPKI_VERSION_MINOR 2
 #define RPKI_VERSION_PATCH 0
 
 /* A version in one number; a later version has a larger one. */
@@ -81,6 +81,13 @@ uint32_t rpki_version(void);
 
 /* What a call returns: RPKI_OK, or the number of what is wrong. */
 typedef uint8_t rpki_status;
+
+/* Compilers that know the attribute warn where a status is not looked at. */
+#if defined(__GNUC__)
+#define RPKI_CHECKED __attribute__((warn_unused_result))
+#else
+#define RPKI_CHECKED
+#endif
 
 enum {
     RPKI_OK = 0,
@@ -378,6 +385,32 @@ struct rpki_known_extensions {
     uint8_t policy; /* RPKI_POLICY_NONE to RPKI_POLICY_TRIM */
 };
 
+/* Methods of access (RFC 5280 4.2.2). */
+enum {
+    RPKI_ACCESS_OTHER = 0,         /* none of these */
+    RPKI_ACCESS_CA_ISSUERS = 1,    /* id-ad-caIssuers: the certificate of the issuer (RFC 6487 4.8.7) */
+    RPKI_ACCESS_CA_REPOSITORY = 2, /* id-ad-caRepository: where the subject publishes (RFC 6487 4.8.8.1) */
+    RPKI_ACCESS_RPKI_MANIFEST = 3, /* id-ad-rpkiManifest: the subject's manifest (RFC 6487 4.8.8.1) */
+    RPKI_ACCESS_SIGNED_OBJECT = 4, /* id-ad-signedObject: what the subject's key signs (RFC 6487 4.8.8.2) */
+    RPKI_ACCESS_RPKI_NOTIFY = 5    /* id-ad-rpkiNotify: where changes are notified (RFC 8182 3.2) */
+};
+
+/* The parts of an access description (RFC 5280 4.2.2.1). */
+struct rpki_access_parts {
+    struct rpki_place id;  /* the contents octets of the object identifier of its method */
+    struct rpki_place uri; /* the text of the URI that says where; of length 0 where the name is of another form */
+    size_t size;           /* how many octets the description has, its header included */
+    uint8_t method;        /* RPKI_ACCESS_OTHER to RPKI_ACCESS_RPKI_NOTIFY */
+    bool is_uri;           /* whether the name is a URI */
+};
+
+/* A general name (RFC 5280 4.2.1.6). */
+struct rpki_general_name_parts {
+    struct rpki_place uri; /* the text of the URI; of length 0 where the name is of another form */
+    size_t size;           /* how many octets the name has, its header included */
+    bool is_uri;           /* whether the name is a URI */
+};
+
 /* The parts of a revocation list (RFC 5280 5.1). The name has its header, for the calls that read names. */
 struct rpki_crl_parts {
     struct rpki_place data;          /* what is signed: a SEQUENCE, its header included */
@@ -430,6 +463,615 @@ struct rpki_https_parts {
     struct rpki_place authority; /* may be empty */
     struct rpki_place path;      /* empty, or begins with its slash */
 };
+
+/* ---- Values at the front of the octets: more may follow them ---- */
+
+/*
+ * Reads the header at the front of the octets. Its contents need not be there. Takes no memory.
+ *
+ * RPKI_TRUNCATED: the octets end within a header; there may be none. RPKI_BAD_TAG, RPKI_BAD_LENGTH: there is no header,
+ * by the first octet from the left that no header goes on with.
+ */
+rpki_status rpki_header(const uint8_t *octets, size_t size, struct rpki_header_parts *out) RPKI_CHECKED;
+
+/*
+ * Walks the value at the front of the octets, with all that is nested in it, to any depth. Structure alone counts: the
+ * contents of a primitive value are not looked at.
+ *
+ * RPKI_TRUNCATED, RPKI_BAD_TAG, RPKI_BAD_LENGTH: from the left, the first header that is none, or with RPKI_TRUNCATED
+ * the first value that passes the end of the value around it or of the octets. RPKI_OUT_OF_MEMORY: the walk keeps eight
+ * octets or more for each value that it is inside of, and could not; never where the value is primitive.
+ */
+rpki_status rpki_walk(const uint8_t *octets, size_t size, struct rpki_walked *out) RPKI_CHECKED;
+
+/*
+ * Walks as rpki_walk does, and writes an entry for each header, in order of place: the first is that of the value
+ * itself, and the values in a value follow its entry. `entries` has room for `capacity` entries.
+ *
+ * RPKI_OK: `*count` entries were written, and the rest of the array is as it was. RPKI_TOO_SMALL: `*count` is how many
+ * entries there are, and none was written. The others are those of rpki_walk, and then neither is written. The entries
+ * go straight to the array: beside that the call takes no more memory than rpki_walk.
+ */
+rpki_status rpki_index(const uint8_t *octets, size_t size, struct rpki_entry *entries, size_t capacity,
+                       size_t *count) RPKI_CHECKED;
+
+/*
+ * Says where the value at the front of the octets goes wrong. `*at` becomes the place where the leftmost value begins
+ * that is none, itself or nested in it: there no header begins; or one does, and the contents that it announces pass
+ * the end of the value around it or of the octets. It is the place of what rpki_walk and rpki_index return, and 0 where
+ * there are no octets.
+ *
+ * RPKI_NO_ANSWER: a value begins the octets, so nothing is wrong. RPKI_OUT_OF_MEMORY as rpki_walk.
+ */
+rpki_status rpki_fault(const uint8_t *octets, size_t size, size_t *at) RPKI_CHECKED;
+
+/* ---- Values that are all of the octets ---- */
+
+/*
+ * The calls below read one value of a type, and nothing may follow it. Which status where:
+ *
+ * RPKI_TRUNCATED, RPKI_BAD_TAG, RPKI_BAD_LENGTH, RPKI_UNEXPECTED or RPKI_CONTENT: no beginning of the octets is such a
+ * value. RPKI_TRAILING: a beginning is, and octets follow it; or octets follow the last part in the value's contents.
+ * RPKI_OUT_OF_MEMORY: malloc or realloc returned NULL.
+ */
+
+/*
+ * Signed data of the RPKI (RFC 5280 4.1): a SEQUENCE of one value, an algorithm identifier and a BIT STRING. The
+ * algorithm identifier is sha256WithRSAEncryption, with NULL for parameters or with none (RFC 7935 2).
+ *
+ * RPKI_OTHER_ALGORITHM: the octets are well formed as far as the algorithm identifier, and that is another one. The
+ * SEQUENCE is all there; one value begins its contents, with all that is nested in it; and what follows that is a
+ * SEQUENCE of an object identifier and perhaps one value more (RFC 5280 4.1.1.2), but not the one above. What is in
+ * that one value, and what follows the algorithm identifier, is not looked at.
+ *
+ * Nothing is verified. Verify that the signature's octets sign exactly the octets of `data`, by an RSA library.
+ */
+rpki_status rpki_signed_data(const uint8_t *octets, size_t size, struct rpki_signed_parts *out) RPKI_CHECKED;
+
+/*
+ * A public key, a SubjectPublicKeyInfo (RFC 5280 4.1.2.7): an algorithm identifier of RSA (rsaEncryption with NULL or
+ * without parameters) or of P-256 (id-ecPublicKey with secp256r1), and a BIT STRING. The bits are not looked at.
+ *
+ * RPKI_OTHER_ALGORITHM: the SEQUENCE is all there, and its contents begin with a SEQUENCE of an object identifier and
+ * perhaps one value more (RFC 5280 4.1.1.2), but with neither of the two above: another object identifier, curve or
+ * parameters. What is in that one value, and what follows the algorithm identifier, is not looked at.
+ */
+rpki_status rpki_public_key(const uint8_t *octets, size_t size, struct rpki_key_parts *out) RPKI_CHECKED;
+
+/* The key identifier of a public key: the SHA-1 digest of its bits (RFC 5280 4.2.1.2). Statuses as rpki_public_key. */
+rpki_status rpki_key_identifier(const uint8_t *octets, size_t size, uint8_t out[20]) RPKI_CHECKED;
+
+/*
+ * Inspects a name (RFC 5280 4.1.2.4). `profile` is RPKI_PROFILE_RPKI or RPKI_PROFILE_ROUTER, in eight bits: C cuts a
+ * larger number down to them before the call, so that 256 is RPKI_PROFILE_RPKI. Where `strict` is false, any name will
+ * do; where it is true, it has to be of the profile: one common name, at most one serial number, of the
+ * strings that the profile permits, and what else docs/SPECIFICATION.md, "Names", permits.
+ *
+ * RPKI_MISSING_COMMON_NAME to RPKI_ATTRIBUTE_NOT_PERMITTED: it is a name, `strict` is true, and it is not of the
+ * profile. The status is that of the first attribute, from the left, with which a rule is broken: a second one of its
+ * kind; else a string that is not permitted. Where none breaks a rule, a common name is missing. A relative
+ * distinguished name may have several attributes. RPKI_NO_PROFILE: `profile` is another number, whatever the octets
+ * are. Else as above: RPKI_CONTENT also for a name without relative distinguished names, for one of those without
+ * attributes, and for an attribute without a value.
+ */
+rpki_status rpki_name_inspect(const uint8_t *octets, size_t size, uint8_t profile, bool strict) RPKI_CHECKED;
+
+/*
+ * A serial number (RFC 5280 4.1.2.2): an INTEGER that is not negative, of at most 20 contents octets. `out` becomes the
+ * number, most significant octet first, with zeros in front. RPKI_CONTENT: another INTEGER.
+ */
+rpki_status rpki_serial(const uint8_t *octets, size_t size, uint8_t out[20]) RPKI_CHECKED;
+
+/*
+ * A time: UTC time YYMMDDHHMMSSZ, of the years 1950 to 2049, or generalized time YYYYMMDDHHMMSSZ (RFC 5280 4.1.2.5).
+ * RPKI_CONTENT: another primitive value, or a date or time of day that there is not.
+ */
+rpki_status rpki_time(const uint8_t *octets, size_t size, struct rpki_moment *out) RPKI_CHECKED;
+
+/* A period of validity (RFC 5280 4.1.2.5): a SEQUENCE of two times. */
+rpki_status rpki_validity(const uint8_t *octets, size_t size, struct rpki_period *out) RPKI_CHECKED;
+
+/*
+ * An extension of a certificate (RFC 5280 4.1): a SEQUENCE of an object identifier, perhaps a BOOLEAN, and an OCTET
+ * STRING. A BOOLEAN that is FALSE, which DER leaves out, is read. What is in the OCTET STRING is not looked at.
+ */
+rpki_status rpki_extension(const uint8_t *octets, size_t size, struct rpki_extension_parts *out) RPKI_CHECKED;
+
+/* ---- Certificates: all of the octets are one ---- */
+
+/*
+ * Reads a resource certificate (RFC 5280 4.1, in the form of RFC 6487 4), and says what its parts are and where they
+ * stand: signed data of RSA with SHA-256; version 3; each extension's identifier once; and what is signed names the
+ * same algorithm. Names have attributes with any values; rpki_name_inspect holds them to a profile. The extensions are
+ * read one after another with rpki_header and rpki_extension. Whether they are those of a profile, and whether the
+ * signature is that of a key, is not looked at. Takes no memory.
+ *
+ * Where a status is not 0, it is an RPKI_PART_ number: from 64 to 67 the part of the signed data that is wrong, the
+ * leftmost; else from 68 to 78 the part of what is signed, the leftmost; else 79. RPKI_PART_EXTENSION_COUNT says
+ * nothing else of the octets: the certificate may be well-formed. No certificate of the RPKI has so many.
+ */
+rpki_status rpki_certificate(const uint8_t *octets, size_t size, struct rpki_certificate_parts *out) RPKI_CHECKED;
+
+/*
+ * Reads a resource certificate, as rpki_certificate does, and says where its extensions stand (RFC 6487 4.8), and what
+ * five of them say: basic constraints, both key identifiers, key usage and certificate policies. The others are not
+ * looked at, nor is which of them a profile wants. Takes no memory.
+ *
+ * The status is from 80 to 84 where one of the five is there, but malformed, or not as critical as it has to be: the
+ * first of them, in the order of these numbers. Else, where it is not 0, it is that of rpki_certificate.
+ */
+rpki_status rpki_certificate_extensions(const uint8_t *octets, size_t size,
+                                        struct rpki_known_extensions *out) RPKI_CHECKED;
+
+/*
+ * Reads a resource certificate, as rpki_certificate does, and holds it to the profile of this number, an
+ * RPKI_CERTIFICATE_ constant (RFC 6487 4, RFC 8209 3.1, RFC 9323 2). With `strict` false the names are not held to
+ * theirs. Whether the signature is that of a key, a moment is in the period, or the issuer has the resources, is not
+ * looked at. Takes no memory.
+ *
+ * The status is from 85 to 119 where the octets are a certificate that breaks a rule of the profile: the first of these
+ * that is broken. Of a trust anchor they are tested in the order 85, 86, 87, 112, 94, 108, 109, 115, 116, 88, 90, 98,
+ * 92, 96, 101, 103, 104, 105, 118, 119, 114, 113, 117; of an authority as far as 96 in the same order, then 104, 105,
+ * 118, 119, 95, 100, 102; of an end entity as far as 98, then 93, 97, 106, 111, 119, 95, 100, 102; of one without
+ * subject information access as far as 97, then 107, 95, 100, 102; of a router as far as 116, then 89, 91, 93, 97, 110,
+ * 117, 107, 99, 95, 100, 102. An extension that a rule wants, and that is malformed or not as critical as it has to be,
+ * breaks the rule. RPKI_NO_PROFILE: no profile has the number; then the octets are not looked at. Else, where it is not
+ * 0, it is that of rpki_certificate.
+ */
+rpki_status rpki_certificate_inspect(const uint8_t *octets, size_t size, uint8_t profile, bool strict) RPKI_CHECKED;
+
+/*
+ * Reads a resource certificate once for all that the three calls above say: writes what rpki_certificate writes to
+ * `parts` and what rpki_certificate_extensions writes to `extensions`, and holds the certificate to the profile of this
+ * number. Takes no memory.
+ *
+ * RPKI_NO_PROFILE: no profile has the number; then the octets are not looked at. Else, where the status is not 0, it is
+ * the first that rpki_certificate, rpki_certificate_extensions and rpki_certificate_inspect have, in this order. Where
+ * it is not 0 neither `parts` nor `extensions` is written to.
+ */
+rpki_status rpki_certificate_checked(const uint8_t *octets, size_t size, uint8_t profile, bool strict,
+                                     struct rpki_certificate_parts *parts,
+                                     struct rpki_known_extensions *extensions) RPKI_CHECKED;
+
+/* ---- Where something is, as extensions of a certificate say ---- */
+
+/*
+ * The calls below read what is inside the octets of an extension, as rpki_certificate_extensions tells their place, and
+ * take no memory. Their statuses are those of the calls that read values; RPKI_CONTENT also for what is no general
+ * name, which has a tag from [0] to [8] and contents of its form (RFC 5280 4.2.1.6): IA5String under [1], [2] and [6],
+ * a Name under [4], 4 or 16 octets under [7], an object identifier under [8], values under [0], [3] and [5]. Whether a
+ * text is a URI of a scheme is for rpki_rsync_parse and rpki_https_parse to say.
+ */
+
+/*
+ * The access description at the front of the octets (RFC 5280 4.2.2.1): a SEQUENCE of an object identifier and a
+ * general name, and nothing else. What follows is not looked at: the next description begins `size` octets on. A
+ * subject or authority information access is a SEQUENCE of descriptions, whose header rpki_header reads.
+ */
+rpki_status rpki_access_description(const uint8_t *octets, size_t size, struct rpki_access_parts *out) RPKI_CHECKED;
+
+/* The general name at the front of the octets. What follows is not looked at: the next name begins `size` octets on. */
+rpki_status rpki_general_name(const uint8_t *octets, size_t size, struct rpki_general_name_parts *out) RPKI_CHECKED;
+
+/*
+ * Where the general names stand, one after another, in CRL distribution points, which are all of the octets (RFC 5280
+ * 4.2.1.13): of exactly one point, which has a full name and nothing else (RFC 6487 4.8.6). The names are not read.
+ */
+rpki_status rpki_distribution_point(const uint8_t *octets, size_t size, struct rpki_place *out) RPKI_CHECKED;
+
+/* ---- Revocation lists ---- */
+
+/*
+ * Reads a revocation list, which is all of the octets (RFC 5280 5.1, in the form of RFC 6487 5), and says what its
+ * parts are and where they stand: signed data of RSA with SHA-256, no bit of whose signature is unused; version 2;
+ * entries without extensions; an authority key identifier of twenty octets and a number, in either order, neither
+ * critical, and no other extension; and what is signed names the same algorithm. Whether the signature is that of a
+ * key, and whether a later list is due, is not looked at. Takes no memory.
+ *
+ * Where a status is not 0, it is an RPKI_PART_ number: from 64 to 67 the part of the signed data that is wrong, the
+ * leftmost; else of 68, 69, 71, 72, 120, 121, 122, 76, in this order, the part of what is signed, the leftmost;
+ * else 79.
+ */
+rpki_status rpki_crl(const uint8_t *octets, size_t size, struct rpki_crl_parts *out) RPKI_CHECKED;
+
+/*
+ * The entry at the front of the octets, as of what rpki_crl tells the place of: a SEQUENCE of a serial number and a
+ * time, and nothing else. What follows is not looked at: the next entry begins `size` octets on. Takes no memory. The
+ * statuses are those of the calls that read values.
+ */
+rpki_status rpki_crl_entry(const uint8_t *octets, size_t size, struct rpki_revoked_certificate *out) RPKI_CHECKED;
+
+/*
+ * Whether one of these entries, which rpki_crl tells the place of and which are all of the octets, is of the
+ * certificate of this serial number. `out` is written where the status is RPKI_OK. All entries are read, in a step
+ * each: for many questions keep their serial numbers. Takes no memory. RPKI_CONTENT: the first bit of the serial number
+ * is set. Else the status is that of the first that is no entry, a SEQUENCE of a serial number and a time and nothing
+ * else, as of the calls that read values.
+ */
+rpki_status rpki_crl_contains(const uint8_t *octets, size_t size, const uint8_t serial[20], bool *out) RPKI_CHECKED;
+
+/* ---- Resources: all of the octets are the contents of one extension ---- */
+
+/*
+ * The calls below read the contents octets of an extension of resources, as rpki_extension and
+ * rpki_certificate_extensions tell their place, in exactly the canonical form (RFC 3779, RFC 6487 4.8.10, 4.8.11). Both
+ * policies have the same contents (RFC 8360 4.2.2). None takes memory. Which status where:
+ *
+ * RPKI_TRUNCATED, RPKI_BAD_TAG, RPKI_BAD_LENGTH, RPKI_UNEXPECTED or RPKI_CONTENT: no beginning of the octets is such
+ * contents, by the leftmost part that isn't there. RPKI_CONTENT also for a family that is neither IPv4 nor IPv6, or
+ * that stands behind IPv6; for no blocks; for a block that is empty, that should be a prefix or a shorter spelling, or
+ * that has no number between it and the one before; and for an AS number of 2^32 or more. RPKI_TRAILING: a beginning is
+ * such contents, and octets follow it; or octets follow the last part in the contents of a SEQUENCE.
+ */
+
+/*
+ * The addresses of id-pe-ipAddrBlocks (RFC 3779 2.2.3): an entry for each block, those of IPv4 first, in order. A
+ * family whose addresses are those of the issuer has one entry, with `is_inherited`; one that isn't named has none.
+ * `blocks` has room for `capacity` entries. There are fewer of them than octets.
+ *
+ * RPKI_OK: `*count` entries were written, and the rest of the array is as it was. RPKI_TOO_SMALL: `*count` is how many
+ * entries there are, and none was written. With another status neither is written.
+ */
+rpki_status rpki_ip_blocks(const uint8_t *octets, size_t size, struct rpki_ip_block *blocks, size_t capacity,
+                           size_t *count) RPKI_CHECKED;
+
+/* The AS numbers of id-pe-autonomousSysIds (RFC 3779 3.2.3), as rpki_ip_blocks. There are no routing domain ones. */
+rpki_status rpki_as_blocks(const uint8_t *octets, size_t size, struct rpki_as_block *blocks, size_t capacity,
+                           size_t *count) RPKI_CHECKED;
+
+/*
+ * Whether the addresses of `inner` are within those of `outer`, its issuer's (RFC 6487 7.2): in each family `inner`
+ * lists none, or says that they are the issuer's, or each address that it lists is one that `outer` lists.
+ *
+ * RPKI_NO_ANSWER: both are such contents, and `inner` lists addresses of a family of which `outer` says that it has
+ * those of its own issuer, so that its octets don't tell. Another status: that of `outer`; with RPKI_SECOND added,
+ * where `outer` is right, that of `inner`.
+ */
+rpki_status rpki_ip_blocks_encompass(const uint8_t *outer, size_t outer_size, const uint8_t *inner, size_t inner_size,
+                                     bool *out) RPKI_CHECKED;
+
+/* The same of AS numbers. */
+rpki_status rpki_as_blocks_encompass(const uint8_t *outer, size_t outer_size, const uint8_t *inner, size_t inner_size,
+                                     bool *out) RPKI_CHECKED;
+
+/*
+ * Writes the text of a block, of at most 79 octets, to the front of `out`, which has room for `capacity` octets: that
+ * of a prefix, as `10.0.0.0/8`, or of a range that is none, as `10.0.0.0-10.0.0.5`; IPv6 as RFC 5952 says; `inherit`
+ * where `is_inherited`. `*written` becomes the count of the octets. What is after them in `out` stays.
+ *
+ * RPKI_TOO_SMALL: there are more than `capacity`. Nothing is written to `out`, and `*written` is the count too.
+ * RPKI_CONTENT: the family is another, or the highest address is below the lowest. Of IPv4 only the first four octets
+ * are looked at, and where `is_inherited` nothing else.
+ */
+rpki_status rpki_ip_block_text(const struct rpki_ip_block *block, uint8_t *out, size_t capacity,
+                               size_t *written) RPKI_CHECKED;
+
+/* The same of AS numbers, of at most 25 octets: `AS64496` of one number, `AS1-AS5` of a range. */
+rpki_status rpki_as_block_text(const struct rpki_as_block *block, uint8_t *out, size_t capacity,
+                               size_t *written) RPKI_CHECKED;
+
+/* ---- URIs ---- */
+
+/*
+ * Reads an rsync URI (RFC 5781), and says where its parts stand. The scheme may be in upper case. No segment is `.`,
+ * `..` or, but for the last, empty: so the path stays in its module. That is a promise on the text as it is spelled:
+ * `%2e%2e` is a segment like another, as nothing is decoded. Who decodes `%` and two digits, to make the name of a file
+ * for example, has to look for `..` and for slashes after that.
+ *
+ * Where a status is not 0, it is an RPKI_URI_ number: 1, 4, 3, 5 to 7 or 2, the first that is wrong in this order.
+ */
+rpki_status rpki_rsync_parse(const uint8_t *text, size_t size, struct rpki_rsync_parts *out) RPKI_CHECKED;
+
+/*
+ * Says where in the text `uri` the path stands that leads from `base` to it: the segments after those of `base`, with
+ * the last slash. The place is empty, at the end of the text, where both have the same segments. Authorities are
+ * compared without regard to case, all else exactly.
+ *
+ * RPKI_NO_ANSWER: both are rsync URIs, in two modules, or the segments of `base` do not begin those of `uri`. An
+ * RPKI_URI_ number: what is wrong with `uri`; with RPKI_SECOND added, with `base`, where `uri` is right.
+ */
+rpki_status rpki_rsync_relative_to(const uint8_t *uri, size_t uri_size, const uint8_t *base, size_t base_size,
+                                   struct rpki_place *out) RPKI_CHECKED;
+
+/*
+ * Writes `base` with `path` after it to `out`, which has room for `capacity` octets: `base` itself where the path is
+ * empty, else with a slash between them where `base` ends with none. `*written` becomes the count of the octets; what
+ * is after them in `out` stays. The text has at most base_size + 1 + path_size octets, and 3,080 are always enough.
+ *
+ * RPKI_TOO_SMALL: the text is longer than `capacity`; nothing is written. An RPKI_URI_ number: what is wrong with
+ * `base`; with RPKI_SECOND added, where `base` is right, what is wrong with `path`, or last RPKI_URI_LONG_URI of the
+ * text: a base of 3,036 octets and a path of 60 that begins with `../` give RPKI_SECOND + RPKI_URI_DOT_SEGMENTS.
+ */
+rpki_status rpki_rsync_join(const uint8_t *base, size_t base_size, const uint8_t *path, size_t path_size, uint8_t *out,
+                            size_t capacity, size_t *written) RPKI_CHECKED;
+
+/*
+ * The parent of an rsync URI, without its last segment and with the slash before that, is the first `*out` octets of
+ * the text. RPKI_NO_ANSWER: its path is empty. Else as rpki_rsync_parse.
+ */
+rpki_status rpki_rsync_parent(const uint8_t *text, size_t size, size_t *out) RPKI_CHECKED;
+
+/*
+ * Reads an https URI, and says where its parts stand. Its segments and its length are free, and the authority may be
+ * empty. RPKI_URI_INVALID_CHARACTERS, RPKI_URI_BAD_SCHEME or RPKI_URI_BAD_URI, the first in this order.
+ */
+rpki_status rpki_https_parse(const uint8_t *text, size_t size, struct rpki_https_parts *out) RPKI_CHECKED;
+
+/* ---- URIs that were read before ---- */
+
+/*
+ * The calls below take the text of a URI and the parts that rpki_rsync_parse or rpki_https_parse found in it, and read
+ * the text no second time. They are safe with any parts: where the places are not laid out as those of a text of this
+ * size, the status is RPKI_OTHER_PARTS, and nothing is written. With other parts that are laid out so, nothing is
+ * promised of the answer.
+ *
+ * The calls that make a URI tell its text alone: its parts are those of the first URI, but `path.length` becomes the
+ * size of the new text less `path.start`.
+ */
+
+/* As rpki_rsync_relative_to, with no RPKI_URI_ number. */
+rpki_status rpki_rsync_parts_relative_to(const uint8_t *uri, size_t uri_size, const struct rpki_rsync_parts *parts,
+                                         const uint8_t *base, size_t base_size,
+                                         const struct rpki_rsync_parts *base_parts,
+                                         struct rpki_place *out) RPKI_CHECKED;
+
+/* Whether both are the same URI: they differ at most in the case of the scheme and of the authority. */
+rpki_status rpki_rsync_parts_equal(const uint8_t *uri, size_t uri_size, const struct rpki_rsync_parts *parts,
+                                   const uint8_t *other, size_t other_size, const struct rpki_rsync_parts *other_parts,
+                                   bool *out) RPKI_CHECKED;
+
+/* Whether `other` lies below `uri`: in the same module, with more segments, of which the first are those of `uri`. */
+rpki_status rpki_rsync_parts_is_parent_of(const uint8_t *uri, size_t uri_size, const struct rpki_rsync_parts *parts,
+                                          const uint8_t *other, size_t other_size,
+                                          const struct rpki_rsync_parts *other_parts, bool *out) RPKI_CHECKED;
+
+/* Whether both are in the same module and have the same segments, with a slash last or without. */
+rpki_status rpki_rsync_parts_is_identical_to(const uint8_t *uri, size_t uri_size, const struct rpki_rsync_parts *parts,
+                                             const uint8_t *other, size_t other_size,
+                                             const struct rpki_rsync_parts *other_parts, bool *out) RPKI_CHECKED;
+
+/*
+ * Writes the text with its scheme and its authority in lower case to the front of `out`, which has room for `capacity`
+ * octets. Two URIs are the same exactly where these texts are: so it serves to hash them. `*written` becomes the count
+ * of the octets, which is `size`.
+ *
+ * RPKI_TOO_SMALL: the text is longer than `capacity`. Nothing is written to `out`, and `*written` is the count too.
+ */
+rpki_status rpki_rsync_parts_canonical(const uint8_t *text, size_t size, const struct rpki_rsync_parts *parts,
+                                       uint8_t *out, size_t capacity, size_t *written) RPKI_CHECKED;
+
+/* As rpki_rsync_parent, with no RPKI_URI_ number. */
+rpki_status rpki_rsync_parts_parent(const uint8_t *text, size_t size, const struct rpki_rsync_parts *parts,
+                                    size_t *out) RPKI_CHECKED;
+
+/*
+ * Writes `base` with `path` after it to `out`, as rpki_rsync_join. RPKI_TOO_SMALL: as of rpki_rsync_parts_canonical. An
+ * RPKI_URI_ number: what is wrong with `path`, or last RPKI_URI_LONG_URI of the text.
+ */
+rpki_status rpki_rsync_parts_join(const uint8_t *base, size_t base_size, const struct rpki_rsync_parts *parts,
+                                  const uint8_t *path, size_t path_size, uint8_t *out, size_t capacity,
+                                  size_t *written) RPKI_CHECKED;
+
+/*
+ * Writes the text to `out`, with a slash last unless its path is empty or has one. It may have one octet more than is
+ * read again. RPKI_TOO_SMALL: as of rpki_rsync_parts_canonical.
+ */
+rpki_status rpki_rsync_parts_into_dir(const uint8_t *text, size_t size, const struct rpki_rsync_parts *parts,
+                                      uint8_t *out, size_t capacity, size_t *written) RPKI_CHECKED;
+
+/* Whether both are the same https URI: they differ at most in the case of the scheme and of the authority. */
+rpki_status rpki_https_parts_equal(const uint8_t *uri, size_t uri_size, const struct rpki_https_parts *parts,
+                                   const uint8_t *other, size_t other_size, const struct rpki_https_parts *other_parts,
+                                   bool *out) RPKI_CHECKED;
+
+/* As rpki_rsync_parts_canonical. */
+rpki_status rpki_https_parts_canonical(const uint8_t *text, size_t size, const struct rpki_https_parts *parts,
+                                       uint8_t *out, size_t capacity, size_t *written) RPKI_CHECKED;
+
+/*
+ * The URI above is the first `*out` octets of the text: one last slash of the path dropped, and then everything after
+ * the last slash that is left. RPKI_NO_ANSWER: nothing is left.
+ */
+rpki_status rpki_https_parts_parent(const uint8_t *text, size_t size, const struct rpki_https_parts *parts,
+                                    size_t *out) RPKI_CHECKED;
+
+/*
+ * Writes `base` with `path` after it to `out`, and a slash between them where the path of `base` is empty or ends with
+ * none. RPKI_TOO_SMALL: as of rpki_rsync_parts_canonical. RPKI_URI_INVALID_CHARACTERS: of `path`.
+ */
+rpki_status rpki_https_parts_join(const uint8_t *base, size_t base_size, const struct rpki_https_parts *parts,
+                                  const uint8_t *path, size_t path_size, uint8_t *out, size_t capacity,
+                                  size_t *written) RPKI_CHECKED;
+
+/* As rpki_rsync_parts_into_dir. */
+rpki_status rpki_https_parts_into_dir(const uint8_t *text, size_t size, const struct rpki_https_parts *parts,
+                                      uint8_t *out, size_t capacity, size_t *written) RPKI_CHECKED;
+
+/* ---- What is written ---- */
+
+/*
+ * The calls below write to the front of `out`, which has room for `capacity` octets, and `*written` becomes the count
+ * of the octets. What is after them in `out` stays.
+ *
+ * RPKI_TOO_SMALL: there are more than `capacity`, and nothing else is wrong. Nothing is written to `out`, and
+ * `*written` is the count too. With another status neither is written. RPKI_OUT_OF_MEMORY: malloc or realloc returned
+ * NULL; rpki_hex and rpki_base64_write take no memory.
+ */
+
+/* The octets in hexadecimal digits, in upper case: two for each (RFC 4648 8). */
+rpki_status rpki_hex(const uint8_t *octets, size_t size, uint8_t *out, size_t capacity, size_t *written) RPKI_CHECKED;
+
+/* The INTEGER of a serial number, of at most 22 octets. RPKI_CONTENT: the first bit is set. */
+rpki_status rpki_serial_write(const uint8_t serial[20], uint8_t *out, size_t capacity, size_t *written) RPKI_CHECKED;
+
+/*
+ * The value of a time, of at most 17 octets: UTC time in the years 1950 to 2049, generalized time in the others (RFC
+ * 5280 4.1.2.5). `moment->seconds` is not looked at. RPKI_CONTENT: the years 0 to 9999 have no such moment.
+ */
+rpki_status rpki_time_write(const struct rpki_moment *moment, uint8_t *out, size_t capacity,
+                            size_t *written) RPKI_CHECKED;
+
+/*
+ * The moment so many years later, or earlier, on the same day at the same time; 29 February becomes 28 February.
+ * `moment->seconds` is not looked at. Takes no memory. `out` is written where the status is RPKI_OK.
+ *
+ * RPKI_CONTENT: the years 0 to 9999 have no such moment. RPKI_NO_ANSWER: its year is not of these.
+ */
+rpki_status rpki_time_years_on(const struct rpki_moment *moment, int32_t years, struct rpki_moment *out) RPKI_CHECKED;
+
+/*
+ * The text of the octets in base 64: with the standard alphabet and padding (RFC 4648 4), or, where `url_safe` is true,
+ * with the one that is safe in URLs, and none (RFC 4648 5).
+ */
+rpki_status rpki_base64_write(const uint8_t *octets, size_t size, bool url_safe, uint8_t *out, size_t capacity,
+                              size_t *written) RPKI_CHECKED;
+
+/*
+ * The octets of a text in base 64. `flavour` is one of the three below; another number is RPKI_BASE64_SLURM.
+ *
+ * RPKI_INVALID_SYMBOL to RPKI_INVALID_PADDING: the text is not base 64 of the flavour, and `*at` becomes the place of
+ * the octet that is wrong, or that where the symbols end, or for missing padding the size of the text. In the flavour
+ * of XML a place counts without white space, but for octets that are not UTF-8, and the size with it. In the other two,
+ * octets that are not UTF-8 are no symbols. Any other status leaves `*at`.
+ *
+ * Takes no memory for a text of at most 128 octets, nor for one that is not UTF-8 in the flavour of XML.
+ */
+enum {
+    RPKI_BASE64_XML = 0,   /* the standard alphabet with padding; space, tab, line feed, form feed and carriage return
+                              anywhere */
+    RPKI_BASE64_SERDE = 1, /* the standard alphabet with padding */
+    RPKI_BASE64_SLURM = 2  /* the alphabet that is safe in URLs, with padding or without (RFC 8416) */
+};
+rpki_status rpki_base64_read(const uint8_t *text, size_t size, uint8_t flavour, uint8_t *out, size_t capacity,
+                             size_t *written, size_t *at) RPKI_CHECKED;
+
+/*
+ * The signed data of the RPKI that the octets are, in its normal form: exactly the octets that are signed, the
+ * algorithm identifier with NULL for parameters, and the signature with no unused bits. The statuses are those of
+ * rpki_signed_data too. RPKI_TOO_LONG: its contents would have 2^32 octets or more.
+ */
+rpki_status rpki_signed_data_write(const uint8_t *octets, size_t size, uint8_t *out, size_t capacity,
+                                   size_t *written) RPKI_CHECKED;
+
+/*
+ * Signed data of the RPKI (RFC 5280 4.1, RFC 7935 2): exactly the octets of the value, sha256WithRSAEncryption with
+ * NULL for parameters, and the signature with no unused bits. The statuses are those of the calls that read values,
+ * where the octets are not one value, with all that is nested in it, and nothing else. RPKI_TOO_LONG: its contents
+ * would have 2^32 octets or more.
+ */
+rpki_status rpki_signed_data_make(const uint8_t *value, size_t size, const uint8_t *signature, size_t signature_size,
+                                  uint8_t *out, size_t capacity, size_t *written) RPKI_CHECKED;
+
+/*
+ * The public key that the octets are, as it is written: with NULL for the parameters of RSA. The statuses are those of
+ * rpki_public_key too. RPKI_TOO_LONG: its contents would have 2^32 octets or more.
+ */
+rpki_status rpki_public_key_write(const uint8_t *octets, size_t size, uint8_t *out, size_t capacity,
+                                  size_t *written) RPKI_CHECKED;
+
+/*
+ * The RSA key of two numbers, the most significant octet first, as a public key. Leading zeros are left out.
+ * RPKI_TOO_LONG: they have more than 2^31 octets together. RPKI_CONTENT: they don't, and one of them has no octets.
+ */
+rpki_status rpki_rsa_key_write(const uint8_t *modulus, size_t modulus_size, const uint8_t *exponent,
+                               size_t exponent_size, uint8_t *out, size_t capacity, size_t *written) RPKI_CHECKED;
+
+/*
+ * The RSA key with these bits, as a public key: a SEQUENCE of two INTEGERs that are not negative, and nothing else. The
+ * statuses are those of the calls that read values. RPKI_TOO_LONG: as of rpki_public_key_write. RPKI_OUT_OF_MEMORY:
+ * only where the bits are a key's.
+ */
+rpki_status rpki_rsa_key_of_bits(const uint8_t *bits, size_t size, uint8_t *out, size_t capacity,
+                                 size_t *written) RPKI_CHECKED;
+
+/*
+ * The name of the subject with the public key that the octets are, of 53 octets: one common name, the digits of its key
+ * identifier (RFC 6487 4.5). The statuses are those of rpki_public_key too.
+ */
+rpki_status rpki_name_of_key(const uint8_t *octets, size_t size, uint8_t *out, size_t capacity,
+                             size_t *written) RPKI_CHECKED;
+
+/*
+ * The extension of a certificate (RFC 5280 4.1) with these contents octets of its identifier, which are not looked at,
+ * and an OCTET STRING of the octets. Where it is not critical the BOOLEAN is left out. RPKI_TOO_LONG: as of
+ * rpki_public_key_write.
+ */
+rpki_status rpki_extension_write(const uint8_t *id, size_t id_size, bool critical, const uint8_t *octets, size_t size,
+                                 uint8_t *out, size_t capacity, size_t *written) RPKI_CHECKED;
+
+/* ---- Digits ---- */
+
+/*
+ * The decimal digits of a serial number, at most 48, without zeros in front. Written as above; takes no memory.
+ * RPKI_CONTENT: the first bit is set.
+ */
+rpki_status rpki_serial_decimal(const uint8_t serial[20], uint8_t *out, size_t capacity, size_t *written) RPKI_CHECKED;
+
+/*
+ * The twenty octets of the serial number that decimal digits write, of which any number of zeros may stand in front.
+ * RPKI_CONTENT: there are none, another octet is among them, or the number is 2^159 or more.
+ */
+rpki_status rpki_serial_of_decimal(const uint8_t *text, size_t size, uint8_t out[20]) RPKI_CHECKED;
+
+/*
+ * The twenty octets of the serial number that the octets write, the most significant first. RPKI_CONTENT: there are
+ * none, more than twenty, or twenty of which the first bit is set.
+ */
+rpki_status rpki_serial_of_octets(const uint8_t *octets, size_t size, uint8_t out[20]) RPKI_CHECKED;
+
+/*
+ * The twenty octets of a key identifier that is all of the octets: an OCTET STRING of twenty (RFC 6487 4.8.2). The
+ * statuses are those of the calls that read values; RPKI_CONTENT: another number of octets.
+ */
+rpki_status rpki_key_identifier_read(const uint8_t *octets, size_t size, uint8_t out[20]) RPKI_CHECKED;
+
+/*
+ * The twenty octets of the key identifier that forty hexadecimal digits of either case write; rpki_hex writes them.
+ * RPKI_CONTENT: the text is not forty of them.
+ */
+rpki_status rpki_key_identifier_of_hex(const uint8_t *text, size_t size, uint8_t out[20]) RPKI_CHECKED;
+
+/* ---- Times and periods ---- */
+
+/* Of a moment that is passed to these calls the seconds are not looked at. */
+
+/* As rpki_time_write, but UTC time in any year, with its last two digits (X.690 11.8): 15 octets. */
+rpki_status rpki_time_write_utc(const struct rpki_moment *moment, uint8_t *out, size_t capacity,
+                                size_t *written) RPKI_CHECKED;
+
+/* As rpki_time_write, but generalized time in any year (X.690 11.7): 17 octets. */
+rpki_status rpki_time_write_generalized(const struct rpki_moment *moment, uint8_t *out, size_t capacity,
+                                        size_t *written) RPKI_CHECKED;
+
+/*
+ * The moment so many seconds later, or earlier, every day with 86,400. Takes no memory. `out` is written where the
+ * status is RPKI_OK. RPKI_CONTENT and RPKI_NO_ANSWER: as of rpki_time_years_on.
+ */
+rpki_status rpki_time_seconds_on(const struct rpki_moment *moment, int64_t seconds,
+                                 struct rpki_moment *out) RPKI_CHECKED;
+
+/*
+ * The value of a period of validity, of at most 36 octets: a SEQUENCE of two times, each as rpki_time_write writes it.
+ * RPKI_CONTENT: the years 0 to 9999 have no such moment as one of the two.
+ */
+rpki_status rpki_validity_write(const struct rpki_period *period, uint8_t *out, size_t capacity,
+                                size_t *written) RPKI_CHECKED;
+
+/*
+ * Whether the period holds at the moment; it does at both of its ends (RFC 5280 4.1.2.5). Takes no memory.
+ * RPKI_TOO_NEW: it begins after the moment. Else RPKI_TOO_OLD: it ended before the moment. RPKI_CONTENT: the years 0 to
+ * 9999 have no such moment as one of the three.
+ */
+rpki_status rpki_validity_at(const struct rpki_period *period, const struct rpki_moment *moment) RPKI_CHECKED;
+
+/*
+ * The period that holds exactly where both do: from the later start to the earlier end. Takes no memory. RPKI_CONTENT:
+ * the years 0 to 9999 have no such moment as one of the four; then `out` is left as it was.
+ */
+rpki_status rpki_validity_trim(const struct rpki_period *period, const struct rpki_period *other,
+                               struct rpki_period *out) RPKI_CHECKED;
+
+/* ---- Sizes ---- */
 
 /* Sizes and offsets are those of the library, which is built for 64 bits: an array of size -1 is refused here. */
 #define RPKI_ASSERT(name, condition) typedef char rpki_assert_##name[(condition) ? 1 : -1]
@@ -494,6 +1136,16 @@ RPKI_ASSERT_AT(certificate_parts, serial_number, 176);
 RPKI_ASSERT_AT(certificate_parts, key_format, 196);
 RPKI_ASSERT_AT(certificate_parts, key_unused, 197);
 RPKI_ASSERT_AT(certificate_parts, has_parameters, 198);
+RPKI_ASSERT(access_parts, sizeof(struct rpki_access_parts) == 48);
+RPKI_ASSERT_AT(access_parts, id, 0);
+RPKI_ASSERT_AT(access_parts, uri, 16);
+RPKI_ASSERT_AT(access_parts, size, 32);
+RPKI_ASSERT_AT(access_parts, method, 40);
+RPKI_ASSERT_AT(access_parts, is_uri, 41);
+RPKI_ASSERT(general_name_parts, sizeof(struct rpki_general_name_parts) == 32);
+RPKI_ASSERT_AT(general_name_parts, uri, 0);
+RPKI_ASSERT_AT(general_name_parts, size, 16);
+RPKI_ASSERT_AT(general_name_parts, is_uri, 24);
 RPKI_ASSERT(crl_parts, sizeof(struct rpki_crl_parts) == 192);
 RPKI_ASSERT_AT(crl_parts, data, 0);
 RPKI_ASSERT_AT(crl_parts, algorithm, 16);
@@ -550,573 +1202,6 @@ RPKI_ASSERT_AT(https_parts, authority, 0);
 RPKI_ASSERT_AT(https_parts, path, 16);
 #undef RPKI_ASSERT_AT
 #undef RPKI_ASSERT
-
-/* ---- Values at the front of the octets: more may follow them ---- */
-
-/*
- * Reads the header at the front of the octets. Its contents need not be there. Takes no memory.
- *
- * RPKI_TRUNCATED: the octets end within a header; there may be none. RPKI_BAD_TAG, RPKI_BAD_LENGTH: there is no header,
- * by the first octet from the left that no header goes on with.
- */
-rpki_status rpki_header(const uint8_t *octets, size_t size, struct rpki_header_parts *out);
-
-/*
- * Walks the value at the front of the octets, with all that is nested in it, to any depth. Structure alone counts: the
- * contents of a primitive value are not looked at.
- *
- * RPKI_TRUNCATED, RPKI_BAD_TAG, RPKI_BAD_LENGTH: from the left, the first header that is none, or with RPKI_TRUNCATED
- * the first value that passes the end of the value around it or of the octets. RPKI_OUT_OF_MEMORY: the walk keeps eight
- * octets or more for each value that it is inside of, and could not; never where the value is primitive.
- */
-rpki_status rpki_walk(const uint8_t *octets, size_t size, struct rpki_walked *out);
-
-/*
- * Walks as rpki_walk does, and writes an entry for each header, in order of place: the first is that of the value
- * itself, and the values in a value follow its entry. `entries` has room for `capacity` entries.
- *
- * RPKI_OK: `*count` entries were written, and the rest of the array is as it was. RPKI_TOO_SMALL: `*count` is how many
- * entries there are, and none was written. The others are those of rpki_walk, and then neither is written. The entries
- * go straight to the array: beside that the call takes no more memory than rpki_walk.
- */
-rpki_status rpki_index(const uint8_t *octets, size_t size, struct rpki_entry *entries, size_t capacity, size_t *count);
-
-/*
- * Says where the value at the front of the octets goes wrong. `*at` becomes the place where the leftmost value begins
- * that is none, itself or nested in it: there no header begins; or one does, and the contents that it announces pass
- * the end of the value around it or of the octets. It is the place of what rpki_walk and rpki_index return, and 0 where
- * there are no octets.
- *
- * RPKI_NO_ANSWER: a value begins the octets, so nothing is wrong. RPKI_OUT_OF_MEMORY as rpki_walk.
- */
-rpki_status rpki_fault(const uint8_t *octets, size_t size, size_t *at);
-
-/* ---- Values that are all of the octets ---- */
-
-/*
- * The calls below read one value of a type, and nothing may follow it. Which status where:
- *
- * RPKI_TRUNCATED, RPKI_BAD_TAG, RPKI_BAD_LENGTH, RPKI_UNEXPECTED or RPKI_CONTENT: no beginning of the octets is such a
- * value. RPKI_TRAILING: a beginning is, and octets follow it; or octets follow the last part in the value's contents.
- * RPKI_OUT_OF_MEMORY: malloc or realloc returned NULL.
- */
-
-/*
- * Signed data of the RPKI (RFC 5280 4.1): a SEQUENCE of one value, an algorithm identifier and a BIT STRING. The
- * algorithm identifier is sha256WithRSAEncryption, with NULL for parameters or with none (RFC 7935 2).
- *
- * RPKI_OTHER_ALGORITHM: the octets are well formed as far as the algorithm identifier, and that is another one. The
- * SEQUENCE is all there; one value begins its contents, with all that is nested in it; and what follows that is a
- * SEQUENCE of an object identifier and perhaps one value more (RFC 5280 4.1.1.2), but not the one above. What is in
- * that one value, and what follows the algorithm identifier, is not looked at.
- *
- * Nothing is verified. Verify that the signature's octets sign exactly the octets of `data`, by an RSA library.
- */
-rpki_status rpki_signed_data(const uint8_t *octets, size_t size, struct rpki_signed_parts *out);
-
-/*
- * A public key, a SubjectPublicKeyInfo (RFC 5280 4.1.2.7): an algorithm identifier of RSA (rsaEncryption with NULL or
- * without parameters) or of P-256 (id-ecPublicKey with secp256r1), and a BIT STRING. The bits are not looked at.
- *
- * RPKI_OTHER_ALGORITHM: the SEQUENCE is all there, and its contents begin with a SEQUENCE of an object identifier and
- * perhaps one value more (RFC 5280 4.1.1.2), but with neither of the two above: another object identifier, curve or
- * parameters. What is in that one value, and what follows the algorithm identifier, is not looked at.
- */
-rpki_status rpki_public_key(const uint8_t *octets, size_t size, struct rpki_key_parts *out);
-
-/* The key identifier of a public key: the SHA-1 digest of its bits (RFC 5280 4.2.1.2). Statuses as rpki_public_key. */
-rpki_status rpki_key_identifier(const uint8_t *octets, size_t size, uint8_t out[20]);
-
-/*
- * Inspects a name (RFC 5280 4.1.2.4). `profile` is RPKI_PROFILE_RPKI or RPKI_PROFILE_ROUTER, in eight bits: C cuts a
- * larger number down to them before the call, so that 256 is RPKI_PROFILE_RPKI. Where `strict` is false, any name will
- * do; where it is true, it has to be of the profile: one common name, at most one serial number, of the
- * strings that the profile permits, and what else docs/SPECIFICATION.md, "Names", permits.
- *
- * RPKI_MISSING_COMMON_NAME to RPKI_ATTRIBUTE_NOT_PERMITTED: it is a name, `strict` is true, and it is not of the
- * profile. The status is that of the first attribute, from the left, with which a rule is broken: a second one of its
- * kind; else a string that is not permitted. Where none breaks a rule, a common name is missing. A relative
- * distinguished name may have several attributes. RPKI_NO_PROFILE: `profile` is another number, whatever the octets
- * are. Else as above: RPKI_CONTENT also for a name without relative distinguished names, for one of those without
- * attributes, and for an attribute without a value.
- */
-rpki_status rpki_name_inspect(const uint8_t *octets, size_t size, uint8_t profile, bool strict);
-
-/*
- * A serial number (RFC 5280 4.1.2.2): an INTEGER that is not negative, of at most 20 contents octets. `out` becomes the
- * number, most significant octet first, with zeros in front. RPKI_CONTENT: another INTEGER.
- */
-rpki_status rpki_serial(const uint8_t *octets, size_t size, uint8_t out[20]);
-
-/*
- * A time: UTC time YYMMDDHHMMSSZ, of the years 1950 to 2049, or generalized time YYYYMMDDHHMMSSZ (RFC 5280 4.1.2.5).
- * RPKI_CONTENT: another primitive value, or a date or time of day that there is not.
- */
-rpki_status rpki_time(const uint8_t *octets, size_t size, struct rpki_moment *out);
-
-/* A period of validity (RFC 5280 4.1.2.5): a SEQUENCE of two times. */
-rpki_status rpki_validity(const uint8_t *octets, size_t size, struct rpki_period *out);
-
-/*
- * An extension of a certificate (RFC 5280 4.1): a SEQUENCE of an object identifier, perhaps a BOOLEAN, and an OCTET
- * STRING. A BOOLEAN that is FALSE, which DER leaves out, is read. What is in the OCTET STRING is not looked at.
- */
-rpki_status rpki_extension(const uint8_t *octets, size_t size, struct rpki_extension_parts *out);
-
-/* ---- Certificates: all of the octets are one ---- */
-
-/*
- * Reads a resource certificate (RFC 5280 4.1, in the form of RFC 6487 4), and says what its parts are and where they
- * stand: signed data of RSA with SHA-256; version 3; each extension's identifier once; and what is signed names the
- * same algorithm. Names have attributes with any values; rpki_name_inspect holds them to a profile. The extensions are
- * read one after another with rpki_header and rpki_extension. Whether they are those of a profile, and whether the
- * signature is that of a key, is not looked at. Takes no memory.
- *
- * Where a status is not 0, it is an RPKI_PART_ number: from 64 to 67 the part of the signed data that is wrong, the
- * leftmost; else from 68 to 78 the part of what is signed, the leftmost; else 79. RPKI_PART_EXTENSION_COUNT says
- * nothing else of the octets: the certificate may be well-formed. No certificate of the RPKI has so many.
- */
-rpki_status rpki_certificate(const uint8_t *octets, size_t size, struct rpki_certificate_parts *out);
-
-/*
- * Reads a resource certificate, as rpki_certificate does, and says where its extensions stand (RFC 6487 4.8), and what
- * five of them say: basic constraints, both key identifiers, key usage and certificate policies. The others are not
- * looked at, nor is which of them a profile wants. Takes no memory.
- *
- * The status is from 80 to 84 where one of the five is there, but malformed, or not as critical as it has to be: the
- * first of them, in the order of these numbers. Else, where it is not 0, it is that of rpki_certificate.
- */
-rpki_status rpki_certificate_extensions(const uint8_t *octets, size_t size, struct rpki_known_extensions *out);
-
-/*
- * Reads a resource certificate, as rpki_certificate does, and holds it to the profile of this number, an
- * RPKI_CERTIFICATE_ constant (RFC 6487 4, RFC 8209 3.1, RFC 9323 2). With `strict` false the names are not held to
- * theirs. Whether the signature is that of a key, a moment is in the period, or the issuer has the resources, is not
- * looked at. Takes no memory.
- *
- * The status is from 85 to 119 where the octets are a certificate that breaks a rule of the profile: the first of these
- * that is broken. Of a trust anchor they are tested in the order 85, 86, 87, 112, 94, 108, 109, 115, 116, 88, 90, 98,
- * 92, 96, 101, 103, 104, 105, 118, 119, 114, 113, 117; of an authority as far as 96 in the same order, then 104, 105,
- * 118, 119, 95, 100, 102; of an end entity as far as 98, then 93, 97, 106, 111, 119, 95, 100, 102; of one without
- * subject information access as far as 97, then 107, 95, 100, 102; of a router as far as 116, then 89, 91, 93, 97, 110,
- * 117, 107, 99, 95, 100, 102. An extension that a rule wants, and that is malformed or not as critical as it has to be,
- * breaks the rule. RPKI_NO_PROFILE: no profile has the number; then the octets are not looked at. Else, where it is not
- * 0, it is that of rpki_certificate.
- */
-rpki_status rpki_certificate_inspect(const uint8_t *octets, size_t size, uint8_t profile, bool strict);
-
-/*
- * Reads a resource certificate once for all that the three calls above say: writes what rpki_certificate writes to
- * `parts` and what rpki_certificate_extensions writes to `extensions`, and holds the certificate to the profile of this
- * number. Takes no memory.
- *
- * RPKI_NO_PROFILE: no profile has the number; then the octets are not looked at. Else, where the status is not 0, it is
- * the first that rpki_certificate, rpki_certificate_extensions and rpki_certificate_inspect have, in this order. Where
- * it is not 0 neither `parts` nor `extensions` is written to.
- */
-rpki_status rpki_certificate_checked(const uint8_t *octets, size_t size, uint8_t profile, bool strict,
-                                     struct rpki_certificate_parts *parts, struct rpki_known_extensions *extensions);
-
-/* ---- Revocation lists ---- */
-
-/*
- * Reads a revocation list, which is all of the octets (RFC 5280 5.1, in the form of RFC 6487 5), and says what its
- * parts are and where they stand: signed data of RSA with SHA-256, no bit of whose signature is unused; version 2;
- * entries without extensions; an authority key identifier of twenty octets and a number, in either order, neither
- * critical, and no other extension; and what is signed names the same algorithm. Whether the signature is that of a
- * key, and whether a later list is due, is not looked at. Takes no memory.
- *
- * Where a status is not 0, it is an RPKI_PART_ number: from 64 to 67 the part of the signed data that is wrong, the
- * leftmost; else of 68, 69, 71, 72, 120, 121, 122, 76, in this order, the part of what is signed, the leftmost;
- * else 79.
- */
-rpki_status rpki_crl(const uint8_t *octets, size_t size, struct rpki_crl_parts *out);
-
-/*
- * The entry at the front of the octets, as of what rpki_crl tells the place of: a SEQUENCE of a serial number and a
- * time, and nothing else. What follows is not looked at: the next entry begins `size` octets on. Takes no memory. The
- * statuses are those of the calls that read values.
- */
-rpki_status rpki_crl_entry(const uint8_t *octets, size_t size, struct rpki_revoked_certificate *out);
-
-/*
- * Whether one of these entries, which rpki_crl tells the place of and which are all of the octets, is of the
- * certificate of this serial number. `out` is written where the status is RPKI_OK. All entries are read, in a step
- * each: for many questions keep their serial numbers. Takes no memory. RPKI_CONTENT: the first bit of the serial number
- * is set. Else the status is that of the first that is no entry, a SEQUENCE of a serial number and a time and nothing
- * else, as of the calls that read values.
- */
-rpki_status rpki_crl_contains(const uint8_t *octets, size_t size, const uint8_t serial[20], bool *out);
-
-/* ---- Resources: all of the octets are the contents of one extension ---- */
-
-/*
- * The calls below read the contents octets of an extension of resources, as rpki_extension and
- * rpki_certificate_extensions tell their place, in exactly the canonical form (RFC 3779, RFC 6487 4.8.10, 4.8.11). Both
- * policies have the same contents (RFC 8360 4.2.2). None takes memory. Which status where:
- *
- * RPKI_TRUNCATED, RPKI_BAD_TAG, RPKI_BAD_LENGTH, RPKI_UNEXPECTED or RPKI_CONTENT: no beginning of the octets is such
- * contents, by the leftmost part that isn't there. RPKI_CONTENT also for a family that is neither IPv4 nor IPv6, or
- * that stands behind IPv6; for no blocks; for a block that is empty, that should be a prefix or a shorter spelling, or
- * that has no number between it and the one before; and for an AS number of 2^32 or more. RPKI_TRAILING: a beginning is
- * such contents, and octets follow it; or octets follow the last part in the contents of a SEQUENCE.
- */
-
-/*
- * The addresses of id-pe-ipAddrBlocks (RFC 3779 2.2.3): an entry for each block, those of IPv4 first, in order. A
- * family whose addresses are those of the issuer has one entry, with `is_inherited`; one that isn't named has none.
- * `blocks` has room for `capacity` entries. There are fewer of them than octets.
- *
- * RPKI_OK: `*count` entries were written, and the rest of the array is as it was. RPKI_TOO_SMALL: `*count` is how many
- * entries there are, and none was written. With another status neither is written.
- */
-rpki_status rpki_ip_blocks(const uint8_t *octets, size_t size, struct rpki_ip_block *blocks, size_t capacity,
-                           size_t *count);
-
-/* The AS numbers of id-pe-autonomousSysIds (RFC 3779 3.2.3), as rpki_ip_blocks. There are no routing domain ones. */
-rpki_status rpki_as_blocks(const uint8_t *octets, size_t size, struct rpki_as_block *blocks, size_t capacity,
-                           size_t *count);
-
-/*
- * Whether the addresses of `inner` are within those of `outer`, its issuer's (RFC 6487 7.2): in each family `inner`
- * lists none, or says that they are the issuer's, or each address that it lists is one that `outer` lists.
- *
- * RPKI_NO_ANSWER: both are such contents, and `inner` lists addresses of a family of which `outer` says that it has
- * those of its own issuer, so that its octets don't tell. Another status: that of `outer`; with RPKI_SECOND added,
- * where `outer` is right, that of `inner`.
- */
-rpki_status rpki_ip_blocks_encompass(const uint8_t *outer, size_t outer_size, const uint8_t *inner, size_t inner_size,
-                                     bool *out);
-
-/* The same of AS numbers. */
-rpki_status rpki_as_blocks_encompass(const uint8_t *outer, size_t outer_size, const uint8_t *inner, size_t inner_size,
-                                     bool *out);
-
-/*
- * Writes the text of a block, of at most 79 octets, to the front of `out`, which has room for `capacity` octets: that
- * of a prefix, as `10.0.0.0/8`, or of a range that is none, as `10.0.0.0-10.0.0.5`; IPv6 as RFC 5952 says; `inherit`
- * where `is_inherited`. `*written` becomes the count of the octets. What is after them in `out` stays.
- *
- * RPKI_TOO_SMALL: there are more than `capacity`. Nothing is written to `out`, and `*written` is the count too.
- * RPKI_CONTENT: the family is another, or the highest address is below the lowest. Of IPv4 only the first four octets
- * are looked at, and where `is_inherited` nothing else.
- */
-rpki_status rpki_ip_block_text(const struct rpki_ip_block *block, uint8_t *out, size_t capacity, size_t *written);
-
-/* The same of AS numbers, of at most 25 octets: `AS64496` of one number, `AS1-AS5` of a range. */
-rpki_status rpki_as_block_text(const struct rpki_as_block *block, uint8_t *out, size_t capacity, size_t *written);
-
-/* ---- URIs ---- */
-
-/*
- * Reads an rsync URI (RFC 5781), and says where its parts stand. The scheme may be in upper case. No segment is `.`,
- * `..` or, but for the last, empty: so the path stays in its module. That is a promise on the text as it is spelled:
- * `%2e%2e` is a segment like another, as nothing is decoded. Who decodes `%` and two digits, to make the name of a file
- * for example, has to look for `..` and for slashes after that.
- *
- * Where a status is not 0, it is an RPKI_URI_ number: 1, 4, 3, 5 to 7 or 2, the first that is wrong in this order.
- */
-rpki_status rpki_rsync_parse(const uint8_t *text, size_t size, struct rpki_rsync_parts *out);
-
-/*
- * Says where in the text `uri` the path stands that leads from `base` to it: the segments after those of `base`, with
- * the last slash. The place is empty, at the end of the text, where both have the same segments. Authorities are
- * compared without regard to case, all else exactly.
- *
- * RPKI_NO_ANSWER: both are rsync URIs, in two modules, or the segments of `base` do not begin those of `uri`. An
- * RPKI_URI_ number: what is wrong with `uri`; with RPKI_SECOND added, with `base`, where `uri` is right.
- */
-rpki_status rpki_rsync_relative_to(const uint8_t *uri, size_t uri_size, const uint8_t *base, size_t base_size,
-                                   struct rpki_place *out);
-
-/*
- * Writes `base` with `path` after it to `out`, which has room for `capacity` octets: `base` itself where the path is
- * empty, else with a slash between them where `base` ends with none. `*written` becomes the count of the octets; what
- * is after them in `out` stays. The text has at most base_size + 1 + path_size octets, and 3,080 are always enough.
- *
- * RPKI_TOO_SMALL: the text is longer than `capacity`; nothing is written. An RPKI_URI_ number: what is wrong with
- * `base`; with RPKI_SECOND added, where `base` is right, what is wrong with `path`, or last RPKI_URI_LONG_URI of the
- * text: a base of 3,036 octets and a path of 60 that begins with `../` give RPKI_SECOND + RPKI_URI_DOT_SEGMENTS.
- */
-rpki_status rpki_rsync_join(const uint8_t *base, size_t base_size, const uint8_t *path, size_t path_size, uint8_t *out,
-                            size_t capacity, size_t *written);
-
-/*
- * The parent of an rsync URI, without its last segment and with the slash before that, is the first `*out` octets of
- * the text. RPKI_NO_ANSWER: its path is empty. Else as rpki_rsync_parse.
- */
-rpki_status rpki_rsync_parent(const uint8_t *text, size_t size, size_t *out);
-
-/*
- * Reads an https URI, and says where its parts stand. Its segments and its length are free, and the authority may be
- * empty. RPKI_URI_INVALID_CHARACTERS, RPKI_URI_BAD_SCHEME or RPKI_URI_BAD_URI, the first in this order.
- */
-rpki_status rpki_https_parse(const uint8_t *text, size_t size, struct rpki_https_parts *out);
-
-/* ---- URIs that were read before ---- */
-
-/*
- * The calls below take the text of a URI and the parts that rpki_rsync_parse or rpki_https_parse found in it, and read
- * the text no second time. They are safe with any parts: where the places are not laid out as those of a text of this
- * size, the status is RPKI_OTHER_PARTS, and nothing is written. With other parts that are laid out so, nothing is
- * promised of the answer.
- *
- * The calls that make a URI tell its text alone: its parts are those of the first URI, but `path.length` becomes the
- * size of the new text less `path.start`.
- */
-
-/* As rpki_rsync_relative_to, with no RPKI_URI_ number. */
-rpki_status rpki_rsync_parts_relative_to(const uint8_t *uri, size_t uri_size, const struct rpki_rsync_parts *parts,
-                                         const uint8_t *base, size_t base_size,
-                                         const struct rpki_rsync_parts *base_parts, struct rpki_place *out);
-
-/* Whether both are the same URI: they differ at most in the case of the scheme and of the authority. */
-rpki_status rpki_rsync_parts_equal(const uint8_t *uri, size_t uri_size, const struct rpki_rsync_parts *parts,
-                                   const uint8_t *other, size_t other_size, const struct rpki_rsync_parts *other_parts,
-                                   bool *out);
-
-/* Whether `other` lies below `uri`: in the same module, with more segments, of which the first are those of `uri`. */
-rpki_status rpki_rsync_parts_is_parent_of(const uint8_t *uri, size_t uri_size, const struct rpki_rsync_parts *parts,
-                                          const uint8_t *other, size_t other_size,
-                                          const struct rpki_rsync_parts *other_parts, bool *out);
-
-/* Whether both are in the same module and have the same segments, with a slash last or without. */
-rpki_status rpki_rsync_parts_is_identical_to(const uint8_t *uri, size_t uri_size, const struct rpki_rsync_parts *parts,
-                                             const uint8_t *other, size_t other_size,
-                                             const struct rpki_rsync_parts *other_parts, bool *out);
-
-/*
- * Writes the text with its scheme and its authority in lower case to the front of `out`, which has room for `capacity`
- * octets. Two URIs are the same exactly where these texts are: so it serves to hash them. `*written` becomes the count
- * of the octets, which is `size`.
- *
- * RPKI_TOO_SMALL: the text is longer than `capacity`. Nothing is written to `out`, and `*written` is the count too.
- */
-rpki_status rpki_rsync_parts_canonical(const uint8_t *text, size_t size, const struct rpki_rsync_parts *parts,
-                                       uint8_t *out, size_t capacity, size_t *written);
-
-/* As rpki_rsync_parent, with no RPKI_URI_ number. */
-rpki_status rpki_rsync_parts_parent(const uint8_t *text, size_t size, const struct rpki_rsync_parts *parts,
-                                    size_t *out);
-
-/*
- * Writes `base` with `path` after it to `out`, as rpki_rsync_join. RPKI_TOO_SMALL: as of rpki_rsync_parts_canonical. An
- * RPKI_URI_ number: what is wrong with `path`, or last RPKI_URI_LONG_URI of the text.
- */
-rpki_status rpki_rsync_parts_join(const uint8_t *base, size_t base_size, const struct rpki_rsync_parts *parts,
-                                  const uint8_t *path, size_t path_size, uint8_t *out, size_t capacity,
-                                  size_t *written);
-
-/*
- * Writes the text to `out`, with a slash last unless its path is empty or has one. It may have one octet more than is
- * read again. RPKI_TOO_SMALL: as of rpki_rsync_parts_canonical.
- */
-rpki_status rpki_rsync_parts_into_dir(const uint8_t *text, size_t size, const struct rpki_rsync_parts *parts,
-                                      uint8_t *out, size_t capacity, size_t *written);
-
-/* Whether both are the same https URI: they differ at most in the case of the scheme and of the authority. */
-rpki_status rpki_https_parts_equal(const uint8_t *uri, size_t uri_size, const struct rpki_https_parts *parts,
-                                   const uint8_t *other, size_t other_size, const struct rpki_https_parts *other_parts,
-                                   bool *out);
-
-/* As rpki_rsync_parts_canonical. */
-rpki_status rpki_https_parts_canonical(const uint8_t *text, size_t size, const struct rpki_https_parts *parts,
-                                       uint8_t *out, size_t capacity, size_t *written);
-
-/*
- * The URI above is the first `*out` octets of the text: one last slash of the path dropped, and then everything after
- * the last slash that is left. RPKI_NO_ANSWER: nothing is left.
- */
-rpki_status rpki_https_parts_parent(const uint8_t *text, size_t size, const struct rpki_https_parts *parts,
-                                    size_t *out);
-
-/*
- * Writes `base` with `path` after it to `out`, and a slash between them where the path of `base` is empty or ends with
- * none. RPKI_TOO_SMALL: as of rpki_rsync_parts_canonical. RPKI_URI_INVALID_CHARACTERS: of `path`.
- */
-rpki_status rpki_https_parts_join(const uint8_t *base, size_t base_size, const struct rpki_https_parts *parts,
-                                  const uint8_t *path, size_t path_size, uint8_t *out, size_t capacity,
-                                  size_t *written);
-
-/* As rpki_rsync_parts_into_dir. */
-rpki_status rpki_https_parts_into_dir(const uint8_t *text, size_t size, const struct rpki_https_parts *parts,
-                                      uint8_t *out, size_t capacity, size_t *written);
-
-/* ---- What is written ---- */
-
-/*
- * The calls below write to the front of `out`, which has room for `capacity` octets, and `*written` becomes the count
- * of the octets. What is after them in `out` stays.
- *
- * RPKI_TOO_SMALL: there are more than `capacity`, and nothing else is wrong. Nothing is written to `out`, and
- * `*written` is the count too. With another status neither is written. RPKI_OUT_OF_MEMORY: malloc or realloc returned
- * NULL; rpki_hex and rpki_base64_write take no memory.
- */
-
-/* The octets in hexadecimal digits, in upper case: two for each (RFC 4648 8). */
-rpki_status rpki_hex(const uint8_t *octets, size_t size, uint8_t *out, size_t capacity, size_t *written);
-
-/* The INTEGER of a serial number, of at most 22 octets. RPKI_CONTENT: the first bit is set. */
-rpki_status rpki_serial_write(const uint8_t serial[20], uint8_t *out, size_t capacity, size_t *written);
-
-/*
- * The value of a time, of at most 17 octets: UTC time in the years 1950 to 2049, generalized time in the others (RFC
- * 5280 4.1.2.5). `moment->seconds` is not looked at. RPKI_CONTENT: the years 0 to 9999 have no such moment.
- */
-rpki_status rpki_time_write(const struct rpki_moment *moment, uint8_t *out, size_t capacity, size_t *written);
-
-/*
- * The moment so many years later, or earlier, on the same day at the same time; 29 February becomes 28 February.
- * `moment->seconds` is not looked at. Takes no memory. `out` is written where the status is RPKI_OK.
- *
- * RPKI_CONTENT: the years 0 to 9999 have no such moment. RPKI_NO_ANSWER: its year is not of these.
- */
-rpki_status rpki_time_years_on(const struct rpki_moment *moment, int32_t years, struct rpki_moment *out);
-
-/*
- * The text of the octets in base 64: with the standard alphabet and padding (RFC 4648 4), or, where `url_safe` is true,
- * with the one that is safe in URLs, and none (RFC 4648 5).
- */
-rpki_status rpki_base64_write(const uint8_t *octets, size_t size, bool url_safe, uint8_t *out, size_t capacity,
-                              size_t *written);
-
-/*
- * The octets of a text in base 64. `flavour` is one of the three below; another number is RPKI_BASE64_SLURM.
- *
- * RPKI_INVALID_SYMBOL to RPKI_INVALID_PADDING: the text is not base 64 of the flavour, and `*at` becomes the place of
- * the octet that is wrong, or that where the symbols end, or for missing padding the size of the text. In the flavour
- * of XML a place counts without white space, but for octets that are not UTF-8, and the size with it. In the other two,
- * octets that are not UTF-8 are no symbols. Any other status leaves `*at`.
- *
- * Takes no memory for a text of at most 128 octets, nor for one that is not UTF-8 in the flavour of XML.
- */
-enum {
-    RPKI_BASE64_XML = 0,   /* the standard alphabet with padding; space, tab, line feed, form feed and carriage return
-                              anywhere */
-    RPKI_BASE64_SERDE = 1, /* the standard alphabet with padding */
-    RPKI_BASE64_SLURM = 2  /* the alphabet that is safe in URLs, with padding or without (RFC 8416) */
-};
-rpki_status rpki_base64_read(const uint8_t *text, size_t size, uint8_t flavour, uint8_t *out, size_t capacity,
-                             size_t *written, size_t *at);
-
-/*
- * The signed data of the RPKI that the octets are, in its normal form: exactly the octets that are signed, the
- * algorithm identifier with NULL for parameters, and the signature with no unused bits. The statuses are those of
- * rpki_signed_data too. RPKI_TOO_LONG: its contents would have 2^32 octets or more.
- */
-rpki_status rpki_signed_data_write(const uint8_t *octets, size_t size, uint8_t *out, size_t capacity, size_t *written);
-
-/*
- * Signed data of the RPKI (RFC 5280 4.1, RFC 7935 2): exactly the octets of the value, sha256WithRSAEncryption with
- * NULL for parameters, and the signature with no unused bits. The statuses are those of the calls that read values,
- * where the octets are not one value, with all that is nested in it, and nothing else. RPKI_TOO_LONG: its contents
- * would have 2^32 octets or more.
- */
-rpki_status rpki_signed_data_make(const uint8_t *value, size_t size, const uint8_t *signature, size_t signature_size,
-                                  uint8_t *out, size_t capacity, size_t *written);
-
-/*
- * The public key that the octets are, as it is written: with NULL for the parameters of RSA. The statuses are those of
- * rpki_public_key too. RPKI_TOO_LONG: its contents would have 2^32 octets or more.
- */
-rpki_status rpki_public_key_write(const uint8_t *octets, size_t size, uint8_t *out, size_t capacity, size_t *written);
-
-/*
- * The RSA key of two numbers, the most significant octet first, as a public key. Leading zeros are left out.
- * RPKI_TOO_LONG: they have more than 2^31 octets together. RPKI_CONTENT: they don't, and one of them has no octets.
- */
-rpki_status rpki_rsa_key_write(const uint8_t *modulus, size_t modulus_size, const uint8_t *exponent,
-                               size_t exponent_size, uint8_t *out, size_t capacity, size_t *written);
-
-/*
- * The RSA key with these bits, as a public key: a SEQUENCE of two INTEGERs that are not negative, and nothing else. The
- * statuses are those of the calls that read values. RPKI_TOO_LONG: as of rpki_public_key_write. RPKI_OUT_OF_MEMORY:
- * only where the bits are a key's.
- */
-rpki_status rpki_rsa_key_of_bits(const uint8_t *bits, size_t size, uint8_t *out, size_t capacity, size_t *written);
-
-/*
- * The name of the subject with the public key that the octets are, of 53 octets: one common name, the digits of its key
- * identifier (RFC 6487 4.5). The statuses are those of rpki_public_key too.
- */
-rpki_status rpki_name_of_key(const uint8_t *octets, size_t size, uint8_t *out, size_t capacity, size_t *written);
-
-/*
- * The extension of a certificate (RFC 5280 4.1) with these contents octets of its identifier, which are not looked at,
- * and an OCTET STRING of the octets. Where it is not critical the BOOLEAN is left out. RPKI_TOO_LONG: as of
- * rpki_public_key_write.
- */
-rpki_status rpki_extension_write(const uint8_t *id, size_t id_size, bool critical, const uint8_t *octets, size_t size,
-                                 uint8_t *out, size_t capacity, size_t *written);
-
-/* ---- Digits ---- */
-
-/*
- * The decimal digits of a serial number, at most 48, without zeros in front. Written as above; takes no memory.
- * RPKI_CONTENT: the first bit is set.
- */
-rpki_status rpki_serial_decimal(const uint8_t serial[20], uint8_t *out, size_t capacity, size_t *written);
-
-/*
- * The twenty octets of the serial number that decimal digits write, of which any number of zeros may stand in front.
- * RPKI_CONTENT: there are none, another octet is among them, or the number is 2^159 or more.
- */
-rpki_status rpki_serial_of_decimal(const uint8_t *text, size_t size, uint8_t out[20]);
-
-/*
- * The twenty octets of the serial number that the octets write, the most significant first. RPKI_CONTENT: there are
- * none, more than twenty, or twenty of which the first bit is set.
- */
-rpki_status rpki_serial_of_octets(const uint8_t *octets, size_t size, uint8_t out[20]);
-
-/*
- * The twenty octets of a key identifier that is all of the octets: an OCTET STRING of twenty (RFC 6487 4.8.2). The
- * statuses are those of the calls that read values; RPKI_CONTENT: another number of octets.
- */
-rpki_status rpki_key_identifier_read(const uint8_t *octets, size_t size, uint8_t out[20]);
-
-/*
- * The twenty octets of the key identifier that forty hexadecimal digits of either case write; rpki_hex writes them.
- * RPKI_CONTENT: the text is not forty of them.
- */
-rpki_status rpki_key_identifier_of_hex(const uint8_t *text, size_t size, uint8_t out[20]);
-
-/* ---- Times and periods ---- */
-
-/* Of a moment that is passed to these calls the seconds are not looked at. */
-
-/* As rpki_time_write, but UTC time in any year, with its last two digits (X.690 11.8): 15 octets. */
-rpki_status rpki_time_write_utc(const struct rpki_moment *moment, uint8_t *out, size_t capacity, size_t *written);
-
-/* As rpki_time_write, but generalized time in any year (X.690 11.7): 17 octets. */
-rpki_status rpki_time_write_generalized(const struct rpki_moment *moment, uint8_t *out, size_t capacity,
-                                        size_t *written);
-
-/*
- * The moment so many seconds later, or earlier, every day with 86,400. Takes no memory. `out` is written where the
- * status is RPKI_OK. RPKI_CONTENT and RPKI_NO_ANSWER: as of rpki_time_years_on.
- */
-rpki_status rpki_time_seconds_on(const struct rpki_moment *moment, int64_t seconds, struct rpki_moment *out);
-
-/*
- * The value of a period of validity, of at most 36 octets: a SEQUENCE of two times, each as rpki_time_write writes it.
- * RPKI_CONTENT: the years 0 to 9999 have no such moment as one of the two.
- */
-rpki_status rpki_validity_write(const struct rpki_period *period, uint8_t *out, size_t capacity, size_t *written);
-
-/*
- * Whether the period holds at the moment; it does at both of its ends (RFC 5280 4.1.2.5). Takes no memory.
- * RPKI_TOO_NEW: it begins after the moment. Else RPKI_TOO_OLD: it ended before the moment. RPKI_CONTENT: the years 0 to
- * 9999 have no such moment as one of the three.
- */
-rpki_status rpki_validity_at(const struct rpki_period *period, const struct rpki_moment *moment);
-
-/*
- * The period that holds exactly where both do: from the later start to the earlier end. Takes no memory. RPKI_CONTENT:
- * the years 0 to 9999 have no such moment as one of the four; then `out` is left as it was.
- */
-rpki_status rpki_validity_trim(const struct rpki_period *period, const struct rpki_period *other,
-                               struct rpki_period *out);
 
 /* ---- In this header alone: nothing below is in the library, and nothing below is proved ---- */
 

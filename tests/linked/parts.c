@@ -347,16 +347,17 @@ static bool rsync_shifted_parts(void) {
             uri.parts.module_name.length = path - module - 1;
             uri.parts.path.start = path;
             uri.parts.path.length = uri.text.size - path;
-            (void)rpki_rsync_parts_relative_to(uri.text.at, uri.text.size, &uri.parts, other.text.at, other.text.size,
-                                               &other.parts, &place);
+            well = well && rpki_rsync_parts_relative_to(uri.text.at, uri.text.size, &uri.parts, other.text.at,
+                                                        other.text.size, &other.parts, &place) != RPKI_OTHER_PARTS;
             well = well && place.start + place.length <= uri.text.size;
-            (void)rpki_rsync_parts_equal(uri.text.at, uri.text.size, &uri.parts, other.text.at, other.text.size,
-                                         &other.parts, &is);
+            well = well && rpki_rsync_parts_equal(uri.text.at, uri.text.size, &uri.parts, other.text.at,
+                                                  other.text.size, &other.parts, &is) != RPKI_OTHER_PARTS;
             (void)rsync_canonical(&uri, out, sizeof out, &told_one);
             (void)rsync_into_dir(&uri, out, sizeof out, &told_one);
             well = well && rsync_join(&uri, out, sizeof out, &told_one) != RPKI_OTHER_PARTS && told_one <= sizeof out;
             told_one = 0;
-            (void)rpki_rsync_parts_parent(uri.text.at, uri.text.size, &uri.parts, &told_one);
+            well =
+                well && rpki_rsync_parts_parent(uri.text.at, uri.text.size, &uri.parts, &told_one) != RPKI_OTHER_PARTS;
             well = well && told_one <= uri.text.size;
         }
     }

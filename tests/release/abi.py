@@ -13,14 +13,14 @@ INCLUDE = os.path.join(TOP, "include")
 
 def asked(text):
     """The lines, each as what a program prints: a text, and an expression for each number in it."""
-    for result, name, parameters in re.findall(r"^(\w+) (rpki_\w+)\(([^)]*)\);", text, re.M):
+    for result, name, parameters in re.findall(r"^(\w+) (rpki_\w+)\(([^)]*)\)(?:\s+RPKI_CHECKED)?;", text, re.M):
         yield f"call {name}: {result} of {' '.join(parameters.split())}", []
     yield "type rpki_status: %llu", ["sizeof(rpki_status)"]
     for body in re.findall(r"enum \{(.*?)\}", text, re.S):
         for name in re.findall(r"RPKI_\w+", body):
             yield f"constant {name}: %llu", [name]
     for name in re.findall(r"^#define (RPKI_\w+) ", text, re.M):
-        if not name.startswith("RPKI_VERSION"):
+        if not name.startswith(("RPKI_VERSION", "RPKI_CHECKED")):
             yield f"constant {name}: %llu", [name]
     for name, body in re.findall(r"^struct (rpki_\w+) \{(.*?)^\};", text, re.S | re.M):
         yield f"struct {name}: %llu octets", [f"sizeof(struct {name})"]

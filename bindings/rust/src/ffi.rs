@@ -105,6 +105,9 @@ readers! {
     key_identifier_of_hex(rpki_key_identifier_of_hex) -> [u8; 20];
     certificate(rpki_certificate) -> CertificateParts;
     certificate_extensions(rpki_certificate_extensions) -> KnownExtensions;
+    access_description(rpki_access_description) -> AccessParts;
+    general_name(rpki_general_name) -> GeneralNameParts;
+    distribution_point(rpki_distribution_point) -> Place;
     crl(rpki_crl) -> CrlParts;
     crl_entry(rpki_crl_entry) -> RevokedCertificate;
     rsync_parse(rpki_rsync_parse) -> RsyncParts;

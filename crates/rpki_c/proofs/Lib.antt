@@ -9,9 +9,9 @@
 -- What is made on a condition: MadeLaws. Hexadecimal digits: HexTextLaws. Base 64: Base64Laws.
 -- Where octets go wrong: FaultLaws. The index, in the middle of its writing: FillingLaws.
 -- Parts of parsed URIs, by their places: RsyncPlacesLaws, HttpsPlacesLaws. Parts of certificates: CertificateLaws; that
---   one is held to a profile: InspectionLaws. Parts of revocation lists: CrlLaws.
--- Entries of blocks, one after another, and how many there are: BlockListLaws, ViewCountLaws. Two lists of blocks gone
---   over at once: EncompassingLaws. Statuses of contents of resources: ResourceStatusLaws.
+--   one is held to a profile: InspectionLaws. Parts of revocation lists: CrlLaws. Where something is: AccessLaws.
+-- Entries of blocks, one after another, and how many there are: BlockListLaws, ViewCountLaws. Statuses of
+--   contents of resources: ResourceStatusLaws.
 
 mod SuffixLaws
 mod PartLaws
@@ -28,12 +28,12 @@ mod NameStatusLaws
 mod RsyncPlacesLaws
 mod HttpsPlacesLaws
 mod MadeLaws
+mod AccessLaws
 pub mod CertificateLaws
 pub mod InspectionLaws
 mod HexTextLaws
 mod Base64Laws
 mod BlockListLaws
 mod ViewCountLaws
-mod EncompassingLaws
 mod ResourceStatusLaws
 mod CrlLaws

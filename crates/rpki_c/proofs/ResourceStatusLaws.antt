@@ -1,6 +1,5 @@
 -- What the calls on contents of the extensions of resources return.
-use Rattle.std.proofs.Common.{◌≡◌, ◌≤◌, ◌<◌, ◌+◌, ◌↔◌, inl, inr, ℕ, List, ◌++◌, length, take, drop, Bool, refl, sym, ap, ◌∙◌, arith, append_assoc, length-append, drop-drop}
-use Rattle.std.specs.Prelude.{IsTrue}
+use Rattle.std.proofs.Common.{◌≡◌, ◌≤◌, ◌<◌, ◌+◌, inl, inr, ℕ, List, ◌++◌, length, take, drop, Bool, refl, sym, ap, ◌∙◌, arith, append_assoc, length-append, drop-drop}
 use Rattle.std.proofs.Math.Seq.{take-append_seam, drop-append_seam}
 use Rattle.rpki_der.specs.declared.error.DecodeError.{DecodeError}
 use Rattle.rpki_der.specs.Error.{error_number}
@@ -22,7 +21,8 @@ use Rattle.rpki_c.specs.declared.as_blocks.AsEntry.{AsEntry}
 use Rattle.rpki_c.specs.Filled.{AreFilled}
 use Rattle.rpki_c.specs.ViewCount.{view_count, IsFilledAt}
 use Rattle.rpki_c.specs.Resources.{IsWholeIpFault, IsWholeAsFault, family_entries, ip_entries, as_entries, IsIpFilled, IsAsFilled}
-use Rattle.rpki_c.specs.Encompassing.{IsUntold, SaysWithin, IsIpCompared, IsAsCompared}
+use Rattle.rpki_resources.specs.Compared.{AreIpWithin, HasNoIpAnswer, AreAsWithin, HasNoAsAnswer}
+use Rattle.rpki_c.specs.Encompassing.{IsIpCompared, IsAsCompared}
 use Rattle.rpki_c.proofs.ViewCountLaws.{family-count, as-count, ip-kept, as-kept, ip-spelled, as-spelled}
 
 -- ---- entries
@@ -111,19 +111,13 @@ module _ (s t : List ℕ) (x : ChoiceView) (h : SpellsAsResources x s) (old : Bo
         refl,
       ))
 
-  module _ (y : ChoiceView) (i : SpellsAsResources y t) where
-    pub as-answered : (answer : Bool) → ((v w : ResourcesChoice) → IsChoiceOf v y → IsChoiceOf w x → (IsUntold v w → ⊥) × SaysWithin v w answer) → IsAsCompared s t 0 old answer
-    as-answered answer says =
-        let v = as-kept x s h in
-        let w = as-kept y t i in
-        let r = says w.0 v.0 w.1 v.1 in
-        inl (as_of v.0, as_of w.0, as-spelled x v.0 s h v.1, as-spelled y w.0 t i w.1, inl (refl, r.0, r.1))
-
-    pub as-untold : ((v w : ResourcesChoice) → IsChoiceOf v y → IsChoiceOf w x → IsUntold v w) → IsAsCompared s t 10 old old
-    as-untold says =
-        let v = as-kept x s h in
-        let w = as-kept y t i in
-        inl (as_of v.0, as_of w.0, as-spelled x v.0 s h v.1, as-spelled y w.0 t i w.1, inr (refl, says w.0 v.0 w.1 v.1, refl))
+  pub as-untold : HasNoAsAnswer s t → (y : ChoiceView) → SpellsAsResources y t → IsAsCompared s t 10 old old
+  as-untold none y i =
+      let v = as-kept x s h in
+      let w = as-kept y t i in
+      let one = as-spelled x v.0 s h v.1 in
+      let two = as-spelled y w.0 t i w.1 in
+      inl (as_of v.0, as_of w.0, one, two, inr (refl, none (as_of v.0) (as_of w.0) one two, refl))
 
 module _ (s t : List ℕ) (x : IpResourcesView) (h : SpellsIpResources x s) (old : Bool) where
   pub ip-second : (e : DecodeError) (n : ℕ) → n ≡ error_number e → UnlessMemory e (SpellsNothing SpellsIpResources t) × IsWholeIpFault t e → IsIpCompared s t (n + 16) old old
@@ -135,42 +129,16 @@ module _ (s t : List ℕ) (x : IpResourcesView) (h : SpellsIpResources x s) (old
         refl,
       ))
 
-  module _ (y : IpResourcesView) (i : SpellsIpResources y t) where
-    pub ip-answered : (a b answer : Bool) → IsTrue answer ↔ (IsTrue a × IsTrue b)
-        → ((v w : ResourcesChoice) → IsChoiceOf v y.v4 → IsChoiceOf w x.v4 → (IsUntold v w → ⊥) × SaysWithin v w a)
-        → ((v w : ResourcesChoice) → IsChoiceOf v y.v6 → IsChoiceOf w x.v6 → (IsUntold v w → ⊥) × SaysWithin v w b)
-        → IsIpCompared s t 0 old answer
-    ip-answered a b answer both four six =
-        let v = ip-kept x s h in
-        let w = ip-kept y t i in
-        let p = four w.0.v4 v.0.v4 w.1.0 v.1.0 in
-        let q = six w.0.v6 v.0.v6 w.1.1 v.1.1 in
-        inl (
-          v.0,
-          w.0,
-          ip-spelled x v.0 s h v.1,
-          ip-spelled y w.0 t i w.1,
-          inl (
-            refl,
-            record {
-              v4 = p.0;
-              v6 = q.0;
-              within = (
-                λ z. let k = both.0 z in (p.1.0 k.0, q.1.0 k.1),
-                λ z. both.1 (p.1.1 z.0, q.1.1 z.1),
-              );
-            },
-          ),
-        )
+  pub ip-untold : HasNoIpAnswer s t → (y : IpResourcesView) → SpellsIpResources y t → IsIpCompared s t 10 old old
+  ip-untold none y i =
+      let v = ip-kept x s h in
+      let w = ip-kept y t i in
+      let one = ip-spelled x v.0 s h v.1 in
+      let two = ip-spelled y w.0 t i w.1 in
+      inl (v.0, w.0, one, two, inr (refl, none v.0 w.0 one two, refl))
 
-    pub v4-untold : ((v w : ResourcesChoice) → IsChoiceOf v y.v4 → IsChoiceOf w x.v4 → IsUntold v w) → IsIpCompared s t 10 old old
-    v4-untold says =
-        let v = ip-kept x s h in
-        let w = ip-kept y t i in
-        inl (v.0, w.0, ip-spelled x v.0 s h v.1, ip-spelled y w.0 t i w.1, inr (refl, inl (says w.0.v4 v.0.v4 w.1.0 v.1.0), refl))
+pub as-answered : (s t : List ℕ) (old answer : Bool) → AreAsWithin s t answer → IsAsCompared s t 0 old answer
+as-answered s t old answer h = inl (h.0, h.1, h.2, h.3, inl (refl, h.4, h.5))
 
-    pub v6-untold : ((v w : ResourcesChoice) → IsChoiceOf v y.v6 → IsChoiceOf w x.v6 → IsUntold v w) → IsIpCompared s t 10 old old
-    v6-untold says =
-        let v = ip-kept x s h in
-        let w = ip-kept y t i in
-        inl (v.0, w.0, ip-spelled x v.0 s h v.1, ip-spelled y w.0 t i w.1, inr (refl, inr (says w.0.v6 v.0.v6 w.1.1 v.1.1), refl))
+pub ip-answered : (s t : List ℕ) (old answer : Bool) → AreIpWithin s t answer → IsIpCompared s t 0 old answer
+ip-answered s t old answer h = inl (h.0, h.1, h.2, h.3, inl (refl, h.4))

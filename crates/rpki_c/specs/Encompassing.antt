@@ -1,46 +1,14 @@
 -- What a status says of two contents of an extension of resources, where the one may encompass the other.
-use Rattle.std.specs.Prelude.{◌≡◌, ◌⊎◌, ◌+◌, ◌↔◌, ℕ, Bool, List, [], IsTrue}
+use Rattle.std.specs.Prelude.{◌≡◌, ◌⊎◌, ◌+◌, ℕ, Bool, List}
 use Rattle.rpki_der.specs.declared.error.DecodeError.{DecodeError}
-use Rattle.rpki_resources.specs.declared.block.Block.{Block}
-use Rattle.rpki_resources.specs.declared.choice.ResourcesChoice.{ResourcesChoice}
-use Rattle.rpki_resources.specs.declared.choice.ResourcesChoice.TheVariants.{Missing, Inherit, Blocks}
 use Rattle.rpki_resources.specs.declared.resources.IpResources.{IpResources}
 use Rattle.rpki_resources.specs.declared.resources.AsResources.{AsResources}
 use Rattle.rpki_resources.specs.Extension.{SpellsIpResources, SpellsAsResources}
 use Rattle.rpki_resources.specs.Kept.{SpellsIp, SpellsAs}
-use Rattle.rpki_resources.specs.Settled.{IsWithin}
+use Rattle.rpki_resources.specs.Compared.{IsUntold, SaysWithin, SaysBothWithin, IsUntoldOfEither}
 use Rattle.rpki_c.specs.Status.{no_answer, second}
 use Rattle.rpki_c.specs.Resources.{IsWholeIpFault, IsWholeAsFault}
 use Rattle.rpki_c.specs.Whole.{IsRefused}
-
--- the blocks that are listed
-abbrev pub listed : ResourcesChoice → List Block
-listed Missing = []
-listed Inherit = []
-listed (Blocks bs) = bs
-
--- the first lists blocks, and the second has those of an issuer: which these are, its octets don't say
-abbrev pub IsUntold : ResourcesChoice → ResourcesChoice → Type 0
-IsUntold Missing outer = ⊥
-IsUntold Inherit outer = ⊥
-IsUntold (Blocks bs) Missing = ⊥
-IsUntold (Blocks bs) Inherit = Unit {0}
-IsUntold (Blocks bs) (Blocks cs) = ⊥
-
--- Whether resources are within those of the second, an issuer's: none, and those of the issuer, always are; those that
--- are listed where each of their numbers is listed there (RFC 6487 7.2).
-abbrev pub SaysWithin : ResourcesChoice → ResourcesChoice → Bool → Type 0
-SaysWithin inner outer answer = IsTrue answer ↔ IsWithin inner (listed outer)
-
--- the same of both families: each has an answer, and it is yes for both
-pub record SaysBothWithin (inner outer : IpResources) (answer : Bool) : Type 0 where
-  pub v4 : IsUntold inner.v4 outer.v4 → ⊥
-  pub v6 : IsUntold inner.v6 outer.v6 → ⊥
-  pub within : IsTrue answer ↔ (IsWithin inner.v4 (listed outer.v4) × IsWithin inner.v6 (listed outer.v6))
-
--- a family has no answer
-abbrev pub IsUntoldOfEither : IpResources → IpResources → Type 0
-IsUntoldOfEither inner outer = IsUntold inner.v4 outer.v4 ⊎ IsUntold inner.v6 outer.v6
 
 -- the status is that much more than the number of the error
 pub record IsSecondRefused {V : Type 0} (G : V → List ℕ → Type 0) (K : List ℕ → DecodeError → Type 0)

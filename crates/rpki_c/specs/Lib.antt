@@ -39,3 +39,4 @@ pub mod Resources
 pub mod Encompassing
 pub mod BlockText
 pub mod Crl
+pub mod Access

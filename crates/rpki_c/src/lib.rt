@@ -6,6 +6,7 @@
 //! allocator is no parameter.
 #![tactic(auto)]
 
+mod access;
 mod address_texts;
 mod as_blocks;
 mod base_64;

@@ -9,7 +9,7 @@ use std::mem::size_of;
 pub(crate) type Status = u8;
 
 pub(crate) const VERSION_MAJOR: u32 = 0;
-pub(crate) const VERSION_MINOR: u32 = 1;
+pub(crate) const VERSION_MINOR: u32 = 2;
 pub(crate) const VERSION_PATCH: u32 = 0;
 pub(crate) const NO_PARENT: usize = usize::MAX;
 pub(crate) const MOST_EXTENSIONS: usize = 64;
@@ -126,6 +126,12 @@ pub(crate) const USAGE_EE: u8 = 2;
 pub(crate) const POLICY_NONE: u8 = 0;
 pub(crate) const POLICY_REFUSE: u8 = 1;
 pub(crate) const POLICY_TRIM: u8 = 2;
+pub(crate) const ACCESS_OTHER: u8 = 0;
+pub(crate) const ACCESS_CA_ISSUERS: u8 = 1;
+pub(crate) const ACCESS_CA_REPOSITORY: u8 = 2;
+pub(crate) const ACCESS_RPKI_MANIFEST: u8 = 3;
+pub(crate) const ACCESS_SIGNED_OBJECT: u8 = 4;
+pub(crate) const ACCESS_RPKI_NOTIFY: u8 = 5;
 pub(crate) const IPV4: u8 = 4;
 pub(crate) const IPV6: u8 = 6;
 pub(crate) const BASE64_XML: u8 = 0;
@@ -277,6 +283,26 @@ const _: () = assert!(size_of::<KnownExtensions>() == 360);
 
 #[repr(C)]
 #[derive(Clone, Copy, Default)]
+pub(crate) struct AccessParts {
+    pub(crate) id: Place,
+    pub(crate) uri: Place,
+    pub(crate) size: usize,
+    pub(crate) method: u8,
+    pub(crate) is_uri: bool,
+}
+const _: () = assert!(size_of::<AccessParts>() == 48);
+
+#[repr(C)]
+#[derive(Clone, Copy, Default)]
+pub(crate) struct GeneralNameParts {
+    pub(crate) uri: Place,
+    pub(crate) size: usize,
+    pub(crate) is_uri: bool,
+}
+const _: () = assert!(size_of::<GeneralNameParts>() == 32);
+
+#[repr(C)]
+#[derive(Clone, Copy, Default)]
 pub(crate) struct CrlParts {
     pub(crate) data: Place,
     pub(crate) algorithm: Place,
@@ -367,6 +393,9 @@ extern "C" {
         parts: *mut CertificateParts,
         extensions: *mut KnownExtensions,
     ) -> Status;
+    pub(super) fn rpki_access_description(octets: *const u8, size: usize, out: *mut AccessParts) -> Status;
+    pub(super) fn rpki_general_name(octets: *const u8, size: usize, out: *mut GeneralNameParts) -> Status;
+    pub(super) fn rpki_distribution_point(octets: *const u8, size: usize, out: *mut Place) -> Status;
     pub(super) fn rpki_crl(octets: *const u8, size: usize, out: *mut CrlParts) -> Status;
     pub(super) fn rpki_crl_entry(octets: *const u8, size: usize, out: *mut RevokedCertificate) -> Status;
     pub(super) fn rpki_crl_contains(octets: *const u8, size: usize, serial: *const [u8; 20], out: *mut bool) -> Status;

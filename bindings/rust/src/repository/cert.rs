@@ -9,8 +9,10 @@ use bytes::Bytes;
 use std::error::Error;
 use std::fmt;
 
+mod access;
 mod rule;
 
+pub use access::{AccessDescription, AccessMethod};
 pub use rule::CertRule;
 
 /// The part of a certificate that is wrong: of the signed data the leftmost; then of what is signed the leftmost; then
