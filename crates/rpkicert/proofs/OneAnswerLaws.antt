@@ -4,7 +4,7 @@ use Rattle.std.proofs.lemmas.List.Elements.{All-tail}
 use Rattle.std.specs.Io.KnownBytes.{Appends}
 use Rattle.std.specs.Prelude.{◌⊎◌, Option, Some, None, Ok, Err, IsSome, IfSome}
 use Rattle.rpki_cert.specs.Cert.{CertParts}
-use Rattle.rpkicert.specs.declared.profile.Profile.{Profile}
+use Rattle.rpkicert.specs.declared.profile.Inspection.{Inspection}
 use Rattle.rpkicert.specs.declared.fault.Fault.{Fault}
 use Rattle.rpkicert.specs.declared.fault.Fault.TheVariants.{Unreadable, TooLarge, OutOfMemory, Malformed, Refused, Violated}
 use Rattle.rpkicert.specs.declared.rendering.Form.{Form}
@@ -23,35 +23,35 @@ IsAlone found f = (f ≡ Ok found) ⊎ (f ≡ Err OutOfMemory)
 same-found : (a b : List ℕ × CertParts) → a.0 ≡ b.0 → a.1 ≡ b.1 → a ≡ b
 same-found a b p q = let e : (a.0, a.1) ≡ (b.0, b.1) = rw (p, q) refl in e
 
-one-held : (profile : Option Profile) (octets : List ℕ) (found : List ℕ × CertParts) (f : Finding) → HoldsTo profile octets (Ok found) → HoldsTo profile octets f → IsAlone found f
-one-held profile octets found (Ok other) g h =
+one-held : (inspection : Option Inspection) (octets : List ℕ) (found : List ℕ × CertParts) (f : Finding) → HoldsTo inspection octets (Ok found) → HoldsTo inspection octets f → IsAlone found f
+one-held inspection octets found (Ok other) g h =
     inl (ap (λ (w : List ℕ × CertParts). Ok w) (same-found other found (h.0 ∙ sym g.0) (one-certificate octets other.1 found.1 h.1 g.1)))
-one-held profile octets found (Err (Violated e)) g h =
-    absurd (h.2 (subst (λ (c : CertParts). Meets profile c.tbs) (one-certificate octets found.1 h.0 g.1 h.1) g.2))
-one-held profile octets found (Err (Refused e)) g h = absurd (h.1 found.1 g.1.0)
-one-held profile octets found (Err OutOfMemory) g h = inr refl
-one-held profile octets found (Err (Unreadable cause)) g h = absurd h
-one-held profile octets found (Err TooLarge) g h = absurd h
-one-held profile octets found (Err Malformed) g h = absurd h
+one-held inspection octets found (Err (Violated e)) g h =
+    absurd (h.2 (subst (λ (c : CertParts). Meets inspection c.tbs) (one-certificate octets found.1 h.0 g.1 h.1) g.2))
+one-held inspection octets found (Err (Refused e)) g h = absurd (h.1 found.1 g.1.0)
+one-held inspection octets found (Err OutOfMemory) g h = inr refl
+one-held inspection octets found (Err (Unreadable cause)) g h = absurd h
+one-held inspection octets found (Err TooLarge) g h = absurd h
+one-held inspection octets found (Err Malformed) g h = absurd h
 
-one-found-in : (profile : Option Profile) (input : List ℕ) (found : List ℕ × CertParts) (f : Finding) → FindsIn profile input (Ok found) → FindsIn profile input f → IsAlone found f
-one-found-in profile input found f (inl g) (inl h) =
+one-found-in : (inspection : Option Inspection) (input : List ℕ) (found : List ℕ × CertParts) (f : Finding) → FindsIn inspection input (Ok found) → FindsIn inspection input f → IsAlone found f
+one-found-in inspection input found f (inl g) (inl h) =
     let same : h.0 ≡ g.0 = cc in
-    one-held profile g.0 found f g.2 (subst (λ (octets : List ℕ). HoldsTo profile octets f) same h.2)
-one-found-in profile input found f (inl g) (inr (inl h)) = absurd (let a = g.1 in let b = h.0 in cc)
-one-found-in profile input found f (inl g) (inr (inr h)) = inr h
-one-found-in profile input found f (inr (inl g)) h = absurd (let a = g.1 in cc)
-one-found-in profile input found f (inr (inr g)) h = absurd cc
+    one-held inspection g.0 found f g.2 (subst (λ (octets : List ℕ). HoldsTo inspection octets f) same h.2)
+one-found-in inspection input found f (inl g) (inr (inl h)) = absurd (let a = g.1 in let b = h.0 in cc)
+one-found-in inspection input found f (inl g) (inr (inr h)) = inr h
+one-found-in inspection input found f (inr (inl g)) h = absurd (let a = g.1 in cc)
+one-found-in inspection input found f (inr (inr g)) h = absurd cc
 
-pub one-finding : (profile : Option Profile) (source : Option (List ℕ)) (found : List ℕ × CertParts)
-    → Finds profile source (Ok found) → (f : Finding) → Finds profile source f → (f ≡ Ok found) ⊎ (f ≡ Err OutOfMemory)
-one-finding profile None found (inl g) f h = absurd (let a = g.1 in cc)
-one-finding profile None found (inr g) f h = absurd cc
-one-finding profile (Some input) found (inl g) f (inl h) = one-found-in profile input found f g.1 h.1
-one-finding profile (Some input) found (inl g) f (inr (inl h)) = absurd (let a = g.0 in let b = h.0 in omega arith)
-one-finding profile (Some input) found (inl g) f (inr (inr h)) = inr h
-one-finding profile (Some input) found (inr (inl g)) f h = absurd (let a = g.1 in cc)
-one-finding profile (Some input) found (inr (inr g)) f h = absurd cc
+pub one-finding : (inspection : Option Inspection) (source : Option (List ℕ)) (found : List ℕ × CertParts)
+    → Finds inspection source (Ok found) → (f : Finding) → Finds inspection source f → (f ≡ Ok found) ⊎ (f ≡ Err OutOfMemory)
+one-finding inspection None found (inl g) f h = absurd (let a = g.1 in cc)
+one-finding inspection None found (inr g) f h = absurd cc
+one-finding inspection (Some input) found (inl g) f (inl h) = one-found-in inspection input found f g.1 h.1
+one-finding inspection (Some input) found (inl g) f (inr (inl h)) = absurd (let a = g.0 in let b = h.0 in omega arith)
+one-finding inspection (Some input) found (inl g) f (inr (inr h)) = inr h
+one-finding inspection (Some input) found (inr (inl g)) f h = absurd (let a = g.1 in cc)
+one-finding inspection (Some input) found (inr (inr g)) f h = absurd cc
 
 -- ---- what is seen
 
@@ -78,16 +78,16 @@ other-shown : (form : Option Form) (name : List ℕ) (found : List ℕ × CertPa
 other-shown form name found f s t (inl e) g h = inl (one-shown form name found s t g (subst (λ (w : Finding). IsShown form name w t) e h))
 other-shown form name found f s t (inr e) g h = inr (inl (subst (λ (w : Finding). IsShown form name w t) e h))
 
-good-seen : (form : Option Form) (profile : Option Profile) (name : List ℕ) (source : Option (List ℕ)) (f : Finding) (s t : ShownParts) → Finds profile source f → IsShown form name f s
-    → s.status ≡ 0 → IsSeen form profile name source t → (t ≡ s) ⊎ LacksMemory form name t
-good-seen form profile name source (Err fault) s t g k z h = absurd (fault-status fault (sym (shown-status form name fault s k) ∙ z))
-good-seen form profile name source (Ok found) s t g k z (inl h) = other-shown form name found h.0 s t (one-finding profile source found g h.0 h.1) k h.2
-good-seen form profile name source (Ok found) s t g k z (inr h) = inr (inr h)
+good-seen : (form : Option Form) (inspection : Option Inspection) (name : List ℕ) (source : Option (List ℕ)) (f : Finding) (s t : ShownParts) → Finds inspection source f → IsShown form name f s
+    → s.status ≡ 0 → IsSeen form inspection name source t → (t ≡ s) ⊎ LacksMemory form name t
+good-seen form inspection name source (Err fault) s t g k z h = absurd (fault-status fault (sym (shown-status form name fault s k) ∙ z))
+good-seen form inspection name source (Ok found) s t g k z (inl h) = other-shown form name found h.0 s t (one-finding inspection source found g h.0 h.1) k h.2
+good-seen form inspection name source (Ok found) s t g k z (inr h) = inr (inr h)
 
-pub one-seen : (form : Option Form) (profile : Option Profile) (name : List ℕ) (source : Option (List ℕ)) (s t : ShownParts)
-    → IsSeen form profile name source s → s.status ≡ 0 → IsSeen form profile name source t → (t ≡ s) ⊎ LacksMemory form name t
-one-seen form profile name source s t (inl g) z h = good-seen form profile name source g.0 s t g.1 g.2 z h
-one-seen form profile name source s t (inr g) z h = absurd (let e : s.status ≡ 2 = ap (λ (w : ShownParts). w.status) g in omega arith)
+pub one-seen : (form : Option Form) (inspection : Option Inspection) (name : List ℕ) (source : Option (List ℕ)) (s t : ShownParts)
+    → IsSeen form inspection name source s → s.status ≡ 0 → IsSeen form inspection name source t → (t ≡ s) ⊎ LacksMemory form name t
+one-seen form inspection name source s t (inl g) z h = good-seen form inspection name source g.0 s t g.1 g.2 z h
+one-seen form inspection name source s t (inr g) z h = absurd (let e : s.status ≡ 2 = ap (λ (w : ShownParts). w.status) g in omega arith)
 
 -- ---- a run
 
@@ -99,10 +99,10 @@ unless-lacking : (form : Option Form) (name : List ℕ) (s t : ShownParts) → (
 unless-lacking form name s t (inl e) z = e
 unless-lacking form name s t (inr g) z = absurd (let e = lacking-status form name t g in omega arith)
 
-one-sees : (held : Option (Option (List ℕ))) (form : Option Form) (profile : Option Profile) (name : List ℕ) (s t : ShownParts) → IsSome held
-    → IfSome held (λ source. IsSeen form profile name source s) → IfSome held (λ source. IsSeen form profile name source t) → s.status ≡ 0 → t.status ≡ 0 → t ≡ s
-one-sees None form profile name s t known g h y z = absurd cc
-one-sees (Some source) form profile name s t known g h y z = unless-lacking form name s t (one-seen form profile name source s t g y h) z
+one-sees : (held : Option (Option (List ℕ))) (form : Option Form) (inspection : Option Inspection) (name : List ℕ) (s t : ShownParts) → IsSome held
+    → IfSome held (λ source. IsSeen form inspection name source s) → IfSome held (λ source. IsSeen form inspection name source t) → s.status ≡ 0 → t.status ≡ 0 → t ≡ s
+one-sees None form inspection name s t known g h y z = absurd cc
+one-sees (Some source) form inspection name s t known g h y z = unless-lacking form name s t (one-seen form inspection name source s t g y h) z
 
 one-all : (holds : List ℕ → Option (Option (List ℕ))) (a : Asked) (names : List (List ℕ)) (all others : List ShownParts) → AreKnown holds names
     → AreSeen (Sees holds a) names all → AreSeen (Sees holds a) names others → worst all ≡ 0 → worst others ≡ 0 → others ≡ all
@@ -112,7 +112,7 @@ one-all holds a [] (s ∷ ss) others known g h y z = absurd g
 one-all holds a (name ∷ names) [] others known g h y z = absurd g
 one-all holds a (name ∷ names) (s ∷ ss) [] known g h y z = absurd h
 one-all holds a (name ∷ names) (s ∷ ss) (t ∷ ts) known g h y z =
-    let first = one-sees (holds name) a.form a.profile name s t (known 0 [] (omega arith)) g.0 h.0 (omega arith) (omega arith) in
+    let first = one-sees (holds name) a.form a.inspection name s t (known 0 [] (omega arith)) g.0 h.0 (omega arith) (omega arith) in
     let rest = one-all holds a names ss ts (All-tail (λ (n : List ℕ). IsSome (holds n)) name names known) g.1 h.1 (omega arith) (omega arith) in
     rw (first, rest) refl
 

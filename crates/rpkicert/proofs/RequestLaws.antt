@@ -3,8 +3,8 @@ use Rattle.std.proofs.Common.{◌≡◌, ◌↔◌, ℕ, ◌<◌, false, List, [
 use Rattle.std.specs.Prelude.{Option, Some, None, IsSome, option_to_list, option_and_then, option_map, codes}
 use Rattle.clap.specs.Words.{Row, all_of, first_of}
 use Rattle.rpkicert.specs.declared.rendering.Form.{Form}
-use Rattle.rpkicert.specs.declared.profile.Profile.{Profile}
-use Rattle.rpkicert.specs.Request.{Asked, asked, is_given, form_of, named_profile, some_files, request_of, files, wanted_in}
+use Rattle.rpkicert.specs.declared.profile.Inspection.{Inspection}
+use Rattle.rpkicert.specs.Request.{Asked, asked, is_given, form_of, named_inspection, some_files, request_of, files, wanted_in}
 
 -- what is left of a list after its first element
 pub drop-next : {A : Type 0} (old new : List A) (next : Option A) (n : ℕ) → n ≡ length old → old ≡ option_to_list next ++ new → IsSome next ↔ (0 < n) → drop 1 old ≡ new
@@ -13,11 +13,11 @@ drop-next (x ∷ xs) new None n size is some = absurd (let h = some.1 (omega (ar
 drop-next old new (Some x) n size is some = ap (λ w. drop 1 w) is
 
 -- a request from its parts
-pub of-parts : (rows : List Row) (form : Option (Option Form)) (profile : Option (Option Profile)) (all : Option (List (List ℕ)))
-    → form ≡ form_of (is_given (codes "json") rows) (is_given (codes "check") rows) → profile ≡ named_profile (first_of (codes "profile") rows)
+pub of-parts : (rows : List Row) (form : Option (Option Form)) (inspection : Option (Option Inspection)) (all : Option (List (List ℕ)))
+    → form ≡ form_of (is_given (codes "json") rows) (is_given (codes "check") rows) → inspection ≡ named_inspection (is_given (codes "lax") rows) (first_of (codes "profile") rows)
     → all ≡ some_files (all_of (codes "FILE") rows)
-    → option_and_then (λ f. option_and_then (λ p. option_map (asked f p) all) profile) form ≡ request_of rows
-of-parts rows form profile all a b d = rw (a, b, d) refl
+    → option_and_then (λ f. option_and_then (λ p. option_map (asked f p) all) inspection) form ≡ request_of rows
+of-parts rows form inspection all a b d = rw (a, b, d) refl
 
 -- the files that are asked for
 pub the-files : (rows : List Row) (x a : Asked) → is_given (codes "help") rows ≡ false → is_given (codes "version") rows ≡ false

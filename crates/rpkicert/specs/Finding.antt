@@ -1,5 +1,5 @@
 -- What is found of a file.
-use Rattle.std.specs.Prelude.{◌≡◌, ◌≢◌, ◌⊎◌, ◌<◌, ◌≤◌, ℕ, true, List, length, Option, Some, None, Result, Ok, Err}
+use Rattle.std.specs.Prelude.{◌≡◌, ◌≢◌, ◌⊎◌, ◌<◌, ◌≤◌, ℕ, Bool, List, length, Option, Some, None, Result, Ok, Err}
 use Rattle.rpki_der.specs.declared.error.DecodeError.TheVariants as der
 use Rattle.rpki_der.specs.Reading.{SpellsNothing, IsWholeFault}
 use Rattle.rpki_cert.specs.Cert.{TbsParts, CertParts, SpellsCert}
@@ -10,6 +10,7 @@ use Rattle.rpki_cert.specs.Rule.{ta_rules, ca_rules, ee_rules, detached_rules, r
 use Rattle.rpki_cert.specs.RuleError.{IsFirstError}
 use Rattle.rpki.specs.declared.repository.error.ValidationError.{ValidationError}
 use Rattle.rpkicert.specs.declared.profile.Profile.{Profile}
+use Rattle.rpkicert.specs.declared.profile.Inspection.{Inspection}
 use Rattle.rpkicert.specs.declared.profile.Profile.TheVariants.{Ta, Ca, Ee, Detached, Router}
 use Rattle.rpkicert.specs.declared.fault.Cause.{Cause}
 use Rattle.rpkicert.specs.declared.fault.Fault.{Fault}
@@ -17,13 +18,13 @@ use Rattle.rpkicert.specs.declared.fault.Fault.TheVariants.{Unreadable, TooLarge
 use Rattle.rpkicert.specs.Pem.{octets_of}
 use Rattle.rpkicert.specs.Fault.{most_octets}
 
--- the certificate has the profile, with the names that it wants (RFC 6487 4, RFC 9323 2, RFC 8209 3.1)
-abbrev pub HasProfile : Profile → TbsParts → Type 0
-HasProfile Ta t = IsTaProfile true t
-HasProfile Ca t = IsCaProfile true t
-HasProfile Ee t = IsEeProfile true t
-HasProfile Detached t = IsDetachedProfile true t
-HasProfile Router t = IsRouterProfile true t
+-- the certificate has the profile, strictly with the names that it wants (RFC 6487 4, RFC 9323 2, RFC 8209 3.1)
+abbrev pub HasProfile : Profile → Bool → TbsParts → Type 0
+HasProfile Ta strict t = IsTaProfile strict t
+HasProfile Ca strict t = IsCaProfile strict t
+HasProfile Ee strict t = IsEeProfile strict t
+HasProfile Detached strict t = IsDetachedProfile strict t
+HasProfile Router strict t = IsRouterProfile strict t
 
 -- the rules of the profile, in their order
 abbrev pub rules_of : Profile → List CertRule
@@ -34,14 +35,14 @@ rules_of Detached = detached_rules
 rules_of Router = router_rules
 
 -- the same where a profile is asked for
-abbrev pub Meets : Option Profile → TbsParts → Type 0
+abbrev pub Meets : Option Inspection → TbsParts → Type 0
 Meets None t = Unit {0}
-Meets (Some profile) t = HasProfile profile t
+Meets (Some inspection) t = HasProfile inspection.profile inspection.strict t
 
 -- the error is that of the first of the rules that the certificate breaks
-abbrev pub IsViolation : Option Profile → TbsParts → ValidationError → Type 0
+abbrev pub IsViolation : Option Inspection → TbsParts → ValidationError → Type 0
 IsViolation None t e = ⊥
-IsViolation (Some profile) t e = IsFirstError true t (rules_of profile) e
+IsViolation (Some inspection) t e = IsFirstError inspection.strict t (rules_of inspection.profile) e
 
 -- a certificate and its octets, or a fault
 abbrev pub Finding : Type 0
@@ -63,34 +64,34 @@ IsRefusal octets (Violated e) = ⊥
 
 -- What is found of octets: the certificate that they are, where it has the profile that is asked for; or why there is
 -- none, or it hasn't; or allocation failed.
-abbrev pub HoldsTo : Option Profile → List ℕ → Finding → Type 0
-HoldsTo profile octets (Ok found) =
-    (found.0 ≡ octets) × IsCertificate octets found.1 × Meets profile found.1.tbs
-HoldsTo profile octets (Err (Violated e)) =
-    (c : CertParts) × IsCertificate octets c × (Meets profile c.tbs → ⊥) × IsViolation profile c.tbs e
-HoldsTo profile octets (Err (Refused e)) = IsRefusal octets (Refused e)
-HoldsTo profile octets (Err OutOfMemory) = Unit {0}
-HoldsTo profile octets (Err (Unreadable cause)) = ⊥
-HoldsTo profile octets (Err TooLarge) = ⊥
-HoldsTo profile octets (Err Malformed) = ⊥
+abbrev pub HoldsTo : Option Inspection → List ℕ → Finding → Type 0
+HoldsTo inspection octets (Ok found) =
+    (found.0 ≡ octets) × IsCertificate octets found.1 × Meets inspection found.1.tbs
+HoldsTo inspection octets (Err (Violated e)) =
+    (c : CertParts) × IsCertificate octets c × (Meets inspection c.tbs → ⊥) × IsViolation inspection c.tbs e
+HoldsTo inspection octets (Err (Refused e)) = IsRefusal octets (Refused e)
+HoldsTo inspection octets (Err OutOfMemory) = Unit {0}
+HoldsTo inspection octets (Err (Unreadable cause)) = ⊥
+HoldsTo inspection octets (Err TooLarge) = ⊥
+HoldsTo inspection octets (Err Malformed) = ⊥
 
 -- The same of an input, which may be a text that stands for octets, or for none.
-abbrev pub FindsIn : Option Profile → List ℕ → Finding → Type 0
-FindsIn profile input finding =
-    ((octets : List ℕ) × (octets_of input ≡ Some octets) × HoldsTo profile octets finding)
+abbrev pub FindsIn : Option Inspection → List ℕ → Finding → Type 0
+FindsIn inspection input finding =
+    ((octets : List ℕ) × (octets_of input ≡ Some octets) × HoldsTo inspection octets finding)
     ⊎ ((octets_of input ≡ None) × (finding ≡ Err Malformed)) ⊎ (finding ≡ Err OutOfMemory)
 
 -- The same of a file, which may not be there, or have too many octets.
-abbrev pub Finds : Option Profile → Option (List ℕ) → Finding → Type 0
-Finds profile None finding = ((cause : Cause) × (finding ≡ Err (Unreadable cause))) ⊎ (finding ≡ Err OutOfMemory)
-Finds profile (Some input) finding =
-    ((length input ≤ most_octets) × FindsIn profile input finding)
+abbrev pub Finds : Option Inspection → Option (List ℕ) → Finding → Type 0
+Finds inspection None finding = ((cause : Cause) × (finding ≡ Err (Unreadable cause))) ⊎ (finding ≡ Err OutOfMemory)
+Finds inspection (Some input) finding =
+    ((length input ≤ most_octets) × FindsIn inspection input finding)
     ⊎ ((most_octets < length input) × (finding ≡ Err TooLarge)) ⊎ (finding ≡ Err OutOfMemory)
 
 -- where this certificate is found, nothing else is, unless allocation fails
-abbrev pub IsFoundAlone : Option Profile → Option (List ℕ) → List ℕ × CertParts → Type 0
-IsFoundAlone profile source found =
-    Finds profile source (Ok found) → (f : Finding) → Finds profile source f → (f ≡ Ok found) ⊎ (f ≡ Err OutOfMemory)
+abbrev pub IsFoundAlone : Option Inspection → Option (List ℕ) → List ℕ × CertParts → Type 0
+IsFoundAlone inspection source found =
+    Finds inspection source (Ok found) → (f : Finding) → Finds inspection source f → (f ≡ Ok found) ⊎ (f ≡ Err OutOfMemory)
 
 -- What reading a file gives: all of its octets, which are few enough; or why not.
 abbrev pub IsRead : Option (List ℕ) → Result (List ℕ) Fault → Type 0

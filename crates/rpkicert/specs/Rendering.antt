@@ -1,5 +1,6 @@
 -- The two renderings of a list of fields: lines, and an object of JSON.
-use Rattle.std.specs.Prelude.{ℕ, List, [], ◌∷◌, ◌++◌, codes}
+use Rattle.std.specs.Prelude.{ℕ, List, [], ◌∷◌, ◌++◌, ◌||◌, if◌then◌else◌, nat_eq, map, codes}
+use Rattle.std.specs.Char.{to_ascii_lowercase}
 use Rattle.std.specs.List.{flat_map}
 use Rattle.std.specs.Str.Lossy.{utf8_lossy}
 use Rattle.serde_json.specs.Data.{string}
@@ -24,9 +25,17 @@ lines fields = flat_map field_line fields
 abbrev pub json_text : List ℕ → List ℕ
 json_text text = compact_text (string (utf8_lossy text))
 
+-- an octet of a name: letters in lower case, and a low line for a space or a hyphen
+abbrev pub name_octet : ℕ → ℕ
+name_octet octet = if nat_eq octet 32 || nat_eq octet 45 then 95 else to_ascii_lowercase octet
+
+-- the name of a member: the label, as a word
+abbrev pub member_name : List ℕ → List ℕ
+member_name label = map name_octet label
+
 -- a field as a member
 abbrev pub member : FieldParts → List ℕ
-member f = json_text f.label ++ codes ":" ++ json_text f.value
+member f = json_text (member_name f.label) ++ codes ":" ++ json_text f.value
 
 -- a member after another one
 abbrev pub next_member : FieldParts → List ℕ

@@ -1,5 +1,5 @@
 -- What the words ask for.
-use Rattle.std.specs.Prelude.{ℕ, Bool, true, false, if◌then◌else◌, List, [], ◌∷◌, codes, bytes_eq, unwrap_or, Option, Some, None, option_and_then, option_map}
+use Rattle.std.specs.Prelude.{ℕ, Bool, true, false, if◌then◌else◌, not, List, [], ◌∷◌, codes, bytes_eq, unwrap_or, Option, Some, None, option_and_then, option_map}
 use Rattle.clap.specs.Words.{App, Row, Rule, all_of, fault_of, first_of, matches_of, new_app, new_rule, with_rule}
 use Rattle.clap.specs.Simple.{on_top}
 use Rattle.clap.specs.Walk.{is_empty}
@@ -7,6 +7,7 @@ use Rattle.clap.specs.declared.builder.action.ArgAction.TheVariants.{Append, Set
 use Rattle.rpkicert.specs.declared.rendering.Form.{Form}
 use Rattle.rpkicert.specs.declared.rendering.Form.TheVariants.{Text, Json}
 use Rattle.rpkicert.specs.declared.profile.Profile.{Profile}
+use Rattle.rpkicert.specs.declared.profile.Inspection.{Inspection}
 use Rattle.rpkicert.specs.declared.profile.Profile.TheVariants.{Ta, Ca, Ee, Detached, Router}
 
 -- ---- the command, in the words of `clap`
@@ -34,8 +35,9 @@ command_alone =
 
 abbrev pub command_app : App
 command_app =
-    with_rule (with_rule (with_rule (with_rule (with_rule (with_rule command_alone help_flag)
-    (flag (codes "version"))) (flag (codes "json"))) (flag (codes "check"))) profile_option) files_rule
+    with_rule (with_rule (with_rule (with_rule (with_rule (with_rule (with_rule command_alone help_flag)
+    (flag (codes "version"))) (flag (codes "json"))) (flag (codes "check"))) (flag (codes "lax"))) profile_option)
+    files_rule
 
 -- what `clap` matches in the words; None where it finds a fault in them
 abbrev pub matched : List (List ℕ) → Option (List Row)
@@ -64,10 +66,12 @@ profile_of word =
     else if bytes_eq word (codes "router") then Some Router
     else None
 
--- the profile that was named, if one was
-abbrev pub named_profile : Option (List ℕ) → Option (Option Profile)
-named_profile None = Some None
-named_profile (Some name) = option_map Some (profile_of name)
+-- how certificates are held to the profile that was named, if one was; without one there are no names to be lax of
+abbrev pub named_inspection : (lax : Bool) → Option (List ℕ) → Option (Option Inspection)
+named_inspection true None = None
+named_inspection false None = Some None
+named_inspection lax (Some name) =
+    option_map (λ profile. Some (record { profile = profile; strict = not lax })) (profile_of name)
 
 -- the files, of which there is one at least
 abbrev pub some_files : Option (List (List ℕ)) → Option (List (List ℕ))
@@ -75,20 +79,21 @@ some_files None = None
 some_files (Some []) = None
 some_files (Some (file ∷ files)) = Some (file ∷ files)
 
--- how certificates are printed, their profile, and the files
+-- how certificates are printed, how they are held to a profile, and the files
 pub record Asked : Type 0 where
   pub form : Option Form
-  pub profile : Option Profile
+  pub inspection : Option Inspection
   pub files : List (List ℕ)
 
-abbrev pub asked : Option Form → Option Profile → List (List ℕ) → Asked
-asked form profile files = record { form = form; profile = profile; files = files }
+abbrev pub asked : Option Form → Option Inspection → List (List ℕ) → Asked
+asked form inspection files = record { form = form; inspection = inspection; files = files }
 
 -- `--json` or `--check` or neither, a profile, perhaps, and files
 abbrev pub request_of : List Row → Option Asked
 request_of rows =
-    option_and_then (λ form. option_and_then (λ profile. option_map (asked form profile)
-    (some_files (all_of (codes "FILE") rows))) (named_profile (first_of (codes "profile") rows)))
+    option_and_then (λ form. option_and_then (λ inspection. option_map (asked form inspection)
+    (some_files (all_of (codes "FILE") rows)))
+    (named_inspection (is_given (codes "lax") rows) (first_of (codes "profile") rows)))
     (form_of (is_given (codes "json") rows) (is_given (codes "check") rows))
 
 -- what words ask for: the help, the version, or files

@@ -6,7 +6,7 @@ use Rattle.rpkicert.specs.declared.request.Request.{Request}
 use Rattle.rpkicert.specs.Request.{Asked, asked, Wanted, help, version, files, wanted_in, wanted_of}
 
 abbrev pub asked_of : Request → Asked
-asked_of r = asked r.form r.profile (map (λ file. file.now) r.files.now)
+asked_of r = asked r.form r.inspection (map (λ file. file.now) r.files.now)
 
 -- what was matched
 abbrev pub rows_in : ArgMatches → List Row

@@ -6,7 +6,7 @@ use Rattle.rpki_der.specs.Written.{AppendsBeginning, AppendsCut}
 use Rattle.rpki_cert.specs.Cert.{TbsParts}
 use Rattle.rpkicert.specs.declared.rendering.Form.{Form}
 use Rattle.rpkicert.specs.declared.rendering.Form.TheVariants.{Text, Json}
-use Rattle.rpkicert.specs.declared.profile.Profile.{Profile}
+use Rattle.rpkicert.specs.declared.profile.Inspection.{Inspection}
 use Rattle.rpkicert.specs.declared.fault.Fault.TheVariants.{OutOfMemory}
 use Rattle.rpkicert.specs.ValueText.{hex_pair}
 use Rattle.rpkicert.specs.Field.{FieldParts, field_parts}
@@ -62,9 +62,9 @@ IsShown (Some form) name (Err fault) s =
     s ≡ shown_parts [] (codes "rpkicert: " ++ line name (fault_text fault)) (status_of fault)
 
 -- What is seen of a file: what was found, as it is shown; or that there was no memory to show it.
-abbrev pub IsSeen : Option Form → Option Profile → List ℕ → Option (List ℕ) → ShownParts → Type 0
-IsSeen form profile name source s =
-    ((finding : Finding) × Finds profile source finding × IsShown form name finding s)
+abbrev pub IsSeen : Option Form → Option Inspection → List ℕ → Option (List ℕ) → ShownParts → Type 0
+IsSeen form inspection name source s =
+    ((finding : Finding) × Finds inspection source finding × IsShown form name finding s)
     ⊎ (s ≡ shown_parts [] memory_text 2)
 
 -- there was no memory to find what is shown, or to show it
@@ -72,9 +72,9 @@ abbrev pub LacksMemory : Option Form → List ℕ → ShownParts → Type 0
 LacksMemory form name s = IsShown form name (Err OutOfMemory) s ⊎ (s ≡ shown_parts [] memory_text 2)
 
 -- where something is seen with the status 0, nothing else is, unless memory is lacking
-abbrev pub HasOneGoodAnswer : Option Form → Option Profile → List ℕ → Option (List ℕ) → Type 0
-HasOneGoodAnswer form profile name source =
-    (s t : ShownParts) → IsSeen form profile name source s → s.status ≡ 0 → IsSeen form profile name source t
+abbrev pub HasOneGoodAnswer : Option Form → Option Inspection → List ℕ → Option (List ℕ) → Type 0
+HasOneGoodAnswer form inspection name source =
+    (s t : ShownParts) → IsSeen form inspection name source s → s.status ≡ 0 → IsSeen form inspection name source t
     → (t ≡ s) ⊎ LacksMemory form name t
 
 -- ---- a run
@@ -120,7 +120,7 @@ pub data IsRun (P : List ℕ → ShownParts → Type 0) (names : List (List ℕ)
 
 -- what is seen of the file of this name, where it is known what files hold
 abbrev pub Sees : (List ℕ → Option (Option (List ℕ))) → Asked → List ℕ → ShownParts → Type 0
-Sees holds a name s = IfSome (holds name) (λ source. IsSeen a.form a.profile name source s)
+Sees holds a name s = IfSome (holds name) (λ source. IsSeen a.form a.inspection name source s)
 
 -- the run of what is asked for
 abbrev pub IsRunOf : (List ℕ → Option (Option (List ℕ))) → (old new was is : Option (List ℕ)) → ℕ → Asked → Type 0

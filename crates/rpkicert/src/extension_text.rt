@@ -108,7 +108,7 @@ fn purposes_text(router: bool) -> &'static [u8]
 fn purposes(alloc: Global, tbs: &TbsCert) -> Result<Option<Vec<u8>>, AllocError>
     ensures { IfOk result (λ o. IsPurposesText tbs.now.extensions (option_map (λ v. v.items) o)) }
 {
-    match tbs.extended_key_usage(alloc) {
+    match tbs.extended_key_usage() {
         Ok(Some(router)) => {
             let text = Vec::from_slice(alloc, purposes_text(router))?;
             Ok(Some(text))

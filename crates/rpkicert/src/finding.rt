@@ -6,7 +6,7 @@ ghost use Rattle.rpkicert.specs.FindingView.{finding_of};
 
 use crate::fault::Fault;
 use crate::pem::octets_of;
-use crate::profile::{Profile, inspect};
+use crate::profile::{Inspection, inspect};
 use crate::sources::Sources;
 use bytes::Bytes;
 use rpki_cert::Cert;
@@ -32,22 +32,22 @@ fn decoded(alloc: Global, octets: &[u8]) -> Result<Cert, Fault>
 }
 
 /// The certificate of these octets, where it has the profile.
-fn held(alloc: Global, profile: Option<Profile>, octets: Vec<u8>) -> Result<Found, Fault>
-    ensures { HoldsTo profile octets.items (finding_of result) }
+fn held(alloc: Global, inspection: Option<Inspection>, octets: Vec<u8>) -> Result<Found, Fault>
+    ensures { HoldsTo inspection octets.items (finding_of result) }
 {
     let cert = decoded(alloc, octets.as_slice())?;
-    match inspect(profile, cert.tbs()) {
+    match inspect(inspection, cert.tbs()) {
         Ok(()) => Ok(Found { octets, cert }),
         Err(e) => Err(Fault::Violated(e)),
     }
 }
 
 /// The certificate that an input stands for, where it has the profile.
-fn found_in(alloc: Global, profile: Option<Profile>, input: Vec<u8>) -> Result<Found, Fault>
-    ensures { FindsIn profile input.items (finding_of result) }
+fn found_in(alloc: Global, inspection: Option<Inspection>, input: Vec<u8>) -> Result<Found, Fault>
+    ensures { FindsIn inspection input.items (finding_of result) }
 {
     match octets_of(alloc, input)? {
-        Some(octets) => held(alloc, profile, octets),
+        Some(octets) => held(alloc, inspection, octets),
         None => Err(Fault::Malformed),
     }
 }
@@ -59,11 +59,11 @@ fn found_in(alloc: Global, profile: Option<Profile>, input: Vec<u8>) -> Result<F
 pub fn find<S: Sources>(
     alloc: Global,
     sources: &S,
-    profile: Option<Profile>,
+    inspection: Option<Inspection>,
     name: &str,
 ) -> Result<Found, Fault>
-    ensures { IfSome (S.holds sources.now name.now) (λ source. Finds profile source (finding_of result)) }
+    ensures { IfSome (S.holds sources.now name.now) (λ source. Finds inspection source (finding_of result)) }
 {
     let input = sources.read(alloc, name)?;
-    found_in(alloc, profile, input)
+    found_in(alloc, inspection, input)
 }

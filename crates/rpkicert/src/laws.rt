@@ -2,7 +2,7 @@
 
 ghost use Rattle.std.specs.Prelude.{ℕ, List, Option};
 ghost use Rattle.rpki_cert.specs.Cert.{TbsParts, CertParts};
-ghost use Rattle.rpkicert.specs.declared.profile.Profile.{Profile};
+ghost use Rattle.rpkicert.specs.declared.profile.Inspection.{Inspection};
 ghost use Rattle.rpkicert.specs.declared.rendering.Form.{Form};
 ghost use Rattle.rpkicert.specs.AtMostOne.{AtMostOne};
 ghost use Rattle.rpkicert.specs.CertText.{AreFields};
@@ -20,10 +20,10 @@ pub fn one_text()
 /// Where a certificate is found in a file, nothing else is found; and where it is shown, nothing else is seen; unless
 /// allocation fails.
 pub fn one_answer()
-    ensures found { (profile : Option Profile) (source : Option (List ℕ)) (found : List ℕ × CertParts)
-        → IsFoundAlone profile source found }
-    ensures seen { (form : Option Form) (profile : Option Profile) (name : List ℕ) (source : Option (List ℕ))
-        → HasOneGoodAnswer form profile name source }
+    ensures found { (inspection : Option Inspection) (source : Option (List ℕ)) (found : List ℕ × CertParts)
+        → IsFoundAlone inspection source found }
+    ensures seen { (form : Option Form) (inspection : Option Inspection) (name : List ℕ) (source : Option (List ℕ))
+        → HasOneGoodAnswer form inspection name source }
 {}
 
 /// Where a run of what is asked for ends with the status 0, each run of it that does writes the same.

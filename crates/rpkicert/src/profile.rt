@@ -1,8 +1,8 @@
 //! The profiles of certificates (RFC 6487 4, RFC 9323 2, RFC 8209 3.1).
 
 ghost use Rattle.std.specs.Prelude.{◌≡◌};
-ghost use Rattle.rpki_cert.specs.RuleError.{ChecksBy};
-ghost use Rattle.rpkicert.specs.Finding.{Meets, IsViolation};
+ghost use Rattle.rpki_cert.specs.RuleError.{ChecksBy, IsFirstError};
+ghost use Rattle.rpkicert.specs.Finding.{HasProfile, rules_of, Meets, IsViolation};
 ghost use Rattle.rpkicert.specs.Request.{profile_of};
 
 use rpki::repository::error::ValidationError;
@@ -44,17 +44,35 @@ impl Profile {
     }
 }
 
-/// Whether the certificate has the profile that is asked for, if one is; the error is that of the rule of the profile
-/// that is broken first.
-pub fn inspect(profile: Option<Profile>, tbs: &TbsCert) -> Result<(), ValidationError>
-    ensures { ChecksBy (Meets profile tbs.now) (IsViolation profile tbs.now) result }
+/// How a certificate is held to a profile.
+#[derive(Clone, Copy, Debug, PartialEq, Eq)]
+pub struct Inspection {
+    /// The profile.
+    pub profile: Profile,
+    /// Whether the names are held to theirs.
+    pub strict: bool,
+}
+
+/// Whether the certificate has the profile; the error is that of the rule of the profile that is broken first.
+fn inspect_as(profile: Profile, tbs: &TbsCert, strict: bool) -> Result<(), ValidationError>
+    ensures { ChecksBy (HasProfile profile strict tbs.now) (IsFirstError strict tbs.now (rules_of profile)) result }
 {
     match profile {
+        Profile::Ta => tbs.inspect_ta(strict),
+        Profile::Ca => tbs.inspect_ca(strict),
+        Profile::Ee => tbs.inspect_ee(strict),
+        Profile::Detached => tbs.inspect_detached_ee(strict),
+        Profile::Router => tbs.inspect_router(strict),
+    }
+}
+
+/// Whether the certificate has the profile that is asked for, if one is; the error is that of the rule of the profile
+/// that is broken first.
+pub fn inspect(inspection: Option<Inspection>, tbs: &TbsCert) -> Result<(), ValidationError>
+    ensures { ChecksBy (Meets inspection tbs.now) (IsViolation inspection tbs.now) result }
+{
+    match inspection {
         None => Ok(()),
-        Some(Profile::Ta) => tbs.inspect_ta(true),
-        Some(Profile::Ca) => tbs.inspect_ca(true),
-        Some(Profile::Ee) => tbs.inspect_ee(true),
-        Some(Profile::Detached) => tbs.inspect_detached_ee(true),
-        Some(Profile::Router) => tbs.inspect_router(true),
+        Some(inspection) => inspect_as(inspection.profile, tbs, inspection.strict),
     }
 }

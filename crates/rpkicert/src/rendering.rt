@@ -2,7 +2,7 @@
 
 ghost use Rattle.std.specs.Prelude.{◌≡◌, ◌++◌, OnOk, IfOk, string_bytes};
 ghost use Rattle.std.specs.List.{flat_map};
-ghost use Rattle.rpkicert.specs.Rendering.{field_line, lines, json_text, member, next_member, members, object, rendering};
+ghost use Rattle.rpkicert.specs.Rendering.{field_line, lines, json_text, name_octet, member_name, member, next_member, members, object, rendering};
 
 use crate::field::Field;
 use serde_json::Value;
@@ -13,7 +13,7 @@ use std::alloc::{AllocError, Global};
 pub enum Form {
     /// A line for each field.
     Text,
-    /// An object of JSON, with a member for each field (RFC 8259).
+    /// An object of JSON, with a member for each field, named by its label in lower case (RFC 8259).
     Json,
 }
 
@@ -55,11 +55,29 @@ fn push_json(text: &mut Vec<u8>, value: &[u8]) -> Result<(), AllocError>
     text.extend_from_slice(json.as_bytes())
 }
 
+/// An octet of a label, as it is in the name of a member.
+fn name_octet(octet: u8) -> u8
+    ensures { result ≡ name_octet octet }
+{
+    if octet == b' ' || octet == b'-' {
+        return b'_';
+    }
+    octet.to_ascii_lowercase()
+}
+
+/// The name of a field's member: its label in lower case, a word.
+fn member_name(alloc: Global, label: &[u8]) -> Result<Vec<u8>, AllocError>
+    ensures { IfOk result (λ name. name.items ≡ member_name label.now) }
+{
+    label.iter().map(|octet| name_octet(*octet)).collect(alloc)
+}
+
 /// Adds a field as a member of an object.
 fn push_member(text: &mut Vec<u8>, field: &Field) -> Result<(), AllocError>
     ensures { OnOk result (text.new.items ≡ text.old.items ++ member field.now) }
 {
-    push_json(text, field.label())?;
+    let name = member_name(*text.allocator(), field.label())?;
+    push_json(text, name.as_slice())?;
     text.push(b':')?;
     push_json(text, field.value())
 }

@@ -2,10 +2,10 @@
 
 ghost use Rattle.std.specs.Prelude.{◌≡◌, map, codes, IfOk, false, option_map, string_bytes};
 ghost use Rattle.clap.specs.Words.{all_of, app_of, first_of, rule_of};
-ghost use Rattle.rpkicert.specs.Request.{flag, help_flag, profile_option, files_rule, command_app, matched, is_given, form_of, named_profile, some_files, request_of};
+ghost use Rattle.rpkicert.specs.Request.{flag, help_flag, profile_option, files_rule, command_app, matched, is_given, form_of, named_inspection, some_files, request_of};
 ghost use Rattle.rpkicert.specs.RequestView.{asked_of, rows_in};
 
-use crate::profile::Profile;
+use crate::profile::{Inspection, Profile};
 use crate::rendering::Form;
 use clap::error::ErrorKind;
 use clap::{Arg, ArgAction, ArgMatches, Command};
@@ -16,8 +16,8 @@ use std::alloc::{AllocError, Global};
 pub struct Request<'m, 'a> {
     /// How certificates are printed; without a form there is a line for each file.
     pub form: Option<Form>,
-    /// The profile that certificates are held to.
-    pub profile: Option<Profile>,
+    /// How certificates are held to a profile, if they are.
+    pub inspection: Option<Inspection>,
     /// The names of the files.
     pub files: &'m [&'a str],
 }
@@ -68,6 +68,7 @@ fn command<'a>(alloc: Global) -> Result<Command<'a>, AllocError>
         .arg(flag(alloc, "version"))?
         .arg(flag(alloc, "json"))?
         .arg(flag(alloc, "check"))?
+        .arg(flag(alloc, "lax"))?
         .arg(profile_option(alloc))?
         .arg(files_rule(alloc))
 }
@@ -110,16 +111,25 @@ fn form_of(json: bool, check: bool) -> Option<Option<Form>>
     }
 }
 
-/// The profile of this name, if one is named. None if there is no profile of that name.
-fn named_profile(name: Option<&str>) -> Option<Option<Profile>>
-    ensures { result ≡ named_profile (option_map (λ name. name.now) name.entry) }
+/// How a certificate is held to the profile of this name, if one is named. None if there is no profile of that name, or
+/// none is named that names are not to be held to.
+fn named_inspection(lax: bool, name: Option<&str>) -> Option<Option<Inspection>>
+    ensures { result ≡ named_inspection lax (option_map (λ name. name.now) name.entry) }
 {
     match name {
         Some(name) => match Profile::of(name) {
-            Some(profile) => Some(Some(profile)),
+            Some(profile) => Some(Some(Inspection {
+                profile,
+                strict: !lax,
+            })),
             None => None,
         },
-        None => Some(None),
+        None => {
+            if lax {
+                return None;
+            }
+            Some(None)
+        }
     }
 }
 
@@ -136,16 +146,16 @@ fn some_files<'m, 'a>(files: Option<&'m [&'a str]>) -> Option<&'m [&'a str]>
 
 impl<'m, 'a> Request<'m, 'a> {
     /// What is asked for of files: how certificates are printed, a profile, perhaps, and the files. None if there are
-    /// none, or two ways are asked for.
+    /// none, or two ways are asked for, or what belongs to a profile without one.
     pub fn of(matches: &'m ArgMatches<'a>) -> Option<Request<'m, 'a>>
         ensures { option_map asked_of result ≡ request_of (rows_in matches.entry.now) }
     {
         let form = form_of(is_given(matches, "json"), is_given(matches, "check"))?;
-        let profile = named_profile(matches.get_str("profile"))?;
+        let inspection = named_inspection(is_given(matches, "lax"), matches.get_str("profile"))?;
         let files = some_files(matches.get_raw("FILE"))?;
         Some(Request {
             form,
-            profile,
+            inspection,
             files,
         })
     }

@@ -27,7 +27,7 @@ fn seen<S: Sources>(
 ) -> Result<Shown, AllocError>
     ensures { Sees (S.holds sources.now) (asked_of request.now) name.now (seen_of result) }
 {
-    let found = find(alloc, sources, request.profile, name);
+    let found = find(alloc, sources, request.inspection, name);
     show(alloc, request.form, name, found)
 }
 

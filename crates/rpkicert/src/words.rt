@@ -2,7 +2,7 @@
 
 /// How the program is used.
 pub const USAGE: &[u8] =
-    b"usage: rpkicert [--json|--check] [--profile ta|ca|ee|detached|router] FILE..\n";
+    b"usage: rpkicert [--json|--check] [--profile ta|ca|ee|detached|router [--lax]] FILE..\n";
 
 /// The program's name and version.
 pub const VERSION: &[u8] = b"rpkicert 0.1.0\n";
@@ -14,7 +14,8 @@ pub const OUT_OF_MEMORY: &[u8] = b"rpkicert: out of memory\n";
 pub const HELP: &[u8] = b"\
 rpkicert - print certificates of the RPKI
 
-usage: rpkicert [--json|--check] [--profile ta|ca|ee|detached|router] FILE..
+usage: rpkicert [--json|--check] [--profile ta|ca|ee|detached|router [--lax]]
+                FILE..
        rpkicert -h | --help
        rpkicert --version
 
@@ -29,6 +30,7 @@ textual encoding of RFC 7468 (PEM) with other text around it, and at most
                certification authority (ca), an end entity (ee), one without
                subject information access (detached, RFC 9323) or a BGPsec
                router (router)
+  --lax        with --profile, don't hold the names to the profile
 
 Exit status: 0 if all is well; 1 if a file is no certificate or violates the
 profile; 2 if a file can't be read, for a wrong usage, and if writing fails.

@@ -7,7 +7,7 @@ pub returns-in_err-cert : goal.returns-in_err-cert
 returns-in_err-cert c =
     let p = err_from_is_err_and c.from_residual.result c.from_residual.ensures.1 in
     let h = rw c.as_slice.ensures.value at c.in_err-cert.ensures in
-    rw (p.1, p.2) (refused-holds c.args.profile c.args.octets.items c.in_err-cert.field-0.0 h)
+    rw (p.1, p.2) (refused-holds c.args.inspection c.args.octets.items c.in_err-cert.field-0.0 h)
 
 pub returns-in-Ok : goal.returns-in-Ok
 returns-in-Ok c = (

@@ -16,5 +16,6 @@ returns c =
     let version = c.in_ok-arg-2.ensures.shape c.flag.ensures.local ∙ ap₂ with_rule help c.flag.ensures.rule in
     let json = c.in_ok-arg-3.ensures.shape c.flag-2.ensures.local ∙ ap₂ with_rule version c.flag-2.ensures.rule in
     let check = c.in_ok-arg-4.ensures.shape c.flag-3.ensures.local ∙ ap₂ with_rule json c.flag-3.ensures.rule in
-    let profile = c.in_ok-arg-5.ensures.shape c.profile_option.ensures.local ∙ ap₂ with_rule check c.profile_option.ensures.rule in
-    IfOk-weaker c.arg-6.result _ _ (λ r h. h.shape c.files_rule.ensures.local ∙ ap₂ with_rule profile c.files_rule.ensures.rule) c.arg-6.ensures
+    let lax = c.in_ok-arg-5.ensures.shape c.flag-4.ensures.local ∙ ap₂ with_rule check c.flag-4.ensures.rule in
+    let profile = c.in_ok-arg-6.ensures.shape c.profile_option.ensures.local ∙ ap₂ with_rule lax c.profile_option.ensures.rule in
+    IfOk-weaker c.arg-7.result _ _ (λ r h. h.shape c.files_rule.ensures.local ∙ ap₂ with_rule profile c.files_rule.ensures.rule) c.arg-7.ensures
