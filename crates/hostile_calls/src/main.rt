@@ -13,6 +13,7 @@ mod cursors;
 mod encoders;
 mod lists;
 mod made;
+mod objects;
 mod provider;
 mod readers;
 mod refusal;
@@ -62,6 +63,7 @@ fn tell_of(
         "certificate" => certificates::tell(alloc, report, (call, path), octets),
         "resources" => resources::tell(alloc, report, call, octets),
         "list" => lists::tell(alloc, report, (call, path), octets),
+        "object" => objects::tell(alloc, report, (call, path), octets),
         "write" => encoders::tell(alloc, report, call, octets),
         _ => Err(Failure::Usage),
     }

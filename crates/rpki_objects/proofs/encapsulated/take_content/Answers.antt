@@ -1,0 +1,9 @@
+use Rattle.std.proofs.Common.{rules}
+use Rattle.rpki_der.proofs.FormatLaws.{takes-around-one}
+use Rattle.rpki_objects.specs.SignedObject.{zero_tag, kept_octets}
+use Rattle.rpki_objects.proofs.encapsulated.take_content.Goals as goal
+
+pub returns : goal.returns
+returns g c =
+    takes-around-one (λ b. b) zero_tag kept_octets _ (λ b a x h. search rules) _ _ _
+    (rw c.new.ensures at c.in_constructed_with.ensures)
