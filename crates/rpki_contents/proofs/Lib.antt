@@ -1,0 +1,32 @@
+-- Which lemma file answers which question.
+--
+-- A value of which something has to hold: SuchLaws. Whether names differ: NamesLaws. The files of a manifest in place,
+-- and room for their names: FilesLaws, RoomLaws. A manifest over its fields: ManifestLaws. A manifest read in place:
+-- ManifestViewLaws. Files that are written: WritingLaws.
+-- A part, and others that its value says: ThenByLaws.
+-- The prefixes of an attestation, and its families: RoaAddressLaws, RoaLaws.
+-- What it authorizes, and whether that is within resources: OriginLaws, WithinLaws.
+-- The providers of a customer: AspaLaws. Attestations of providers that are written: AspaWritingLaws.
+-- Both in place: InPlaceLaws, AspaViewLaws, AddressViewLaws, FamilyViewLaws; where prefixes stand: StandsLaws.
+-- Lists that are written: ListedLaws.
+
+pub mod AddressViewLaws
+pub mod AspaLaws
+pub mod AspaViewLaws
+pub mod AspaWritingLaws
+pub mod FamilyViewLaws
+pub mod FilesLaws
+pub mod InPlaceLaws
+pub mod ListedLaws
+pub mod ManifestLaws
+pub mod ManifestViewLaws
+pub mod NamesLaws
+pub mod OriginLaws
+pub mod RoaAddressLaws
+pub mod RoaLaws
+pub mod RoomLaws
+pub mod StandsLaws
+pub mod SuchLaws
+pub mod ThenByLaws
+pub mod WithinLaws
+pub mod WritingLaws

@@ -1,0 +1,13 @@
+use Rattle.std.proofs.Common.{length}
+use Rattle.rpki_contents.specs.Encoded.{CanWriteFiles}
+use Rattle.rpki_contents.proofs.encode.can_write_files.Given as goal
+
+-- all can be written exactly where those that are left can
+abbrev pub invariant-each : goal.invariant-each
+invariant-each l = record {
+  there : CanWriteFiles l.rest → CanWriteFiles l.files;
+  back : CanWriteFiles l.files → CanWriteFiles l.rest;
+}
+
+abbrev pub decreases-each : goal.decreases-each
+decreases-each l = length l.rest

@@ -1,0 +1,17 @@
+use Rattle.std.proofs.Common.{ap, length}
+use Rattle.rpki_contents.proofs.InPlaceLaws.{contents-missing}
+use Rattle.rpki_contents.proofs.AddressViewLaws.{family-taken, no-family}
+use Rattle.rpki_contents.proofs.StandsLaws.{family-stands}
+use Rattle.rpki_contents.proofs.family_view.take_family_view.Goals as goal
+
+pub returns-in-Ok-clause-taken : goal.returns-in-Ok-clause-taken
+returns-in-Ok-clause-taken c =
+    family-taken _ _ _ c.read_family.result c.in-Ok.ensures c.read_family.ensures.some c.read_family.ensures.none
+
+pub returns-in-Ok-clause-stand : goal.returns-in-Ok-clause-stand
+returns-in-Ok-clause-stand c =
+    family-stands _ _ _ _ c.read_family.result c.in-Ok.ensures (ap length c.rest.ensures) c.read_family.ensures.stand
+    c.read_family.ensures.following
+
+pub returns-in-Err-clause-taken : goal.returns-in-Err-clause-taken
+returns-in-Err-clause-taken c = no-family _ (contents-missing _ _ c.in-Err.field-0 c.in-Err.ensures)

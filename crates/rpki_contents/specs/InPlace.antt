@@ -1,0 +1,15 @@
+-- Values that are all of some octets, in place.
+use Rattle.std.specs.Prelude.{◌≡◌, ◌++◌, ℕ, List, true, length}
+use Rattle.rpki_der.specs.Prelude.{sequence, SpellsContents}
+
+-- all of s is a SEQUENCE of these contents, and of no others
+pub record IsSequenceOf (s contents : List ℕ) : Type 0 where
+  pub spelled : SpellsContents sequence true contents s
+  pub only : (d : List ℕ) → SpellsContents sequence true d s → d ≡ contents
+
+-- the part stands somewhere in s, and so many octets follow it
+pub record StandsIn (s part : List ℕ) (following : ℕ) : Type 0 where
+  pub front : List ℕ
+  pub behind : List ℕ
+  pub parts : s ≡ front ++ (part ++ behind)
+  pub size : following ≡ length behind

@@ -1,0 +1,102 @@
+-- Manifests that are read in place: what stands where, and which part is wrong (RFC 9286 4.2).
+use Rattle.std.specs.Prelude.{◌≡◌, ℕ, true, List, [], ◌∷◌, length, Option, Some, None}
+use Rattle.rpki_der.specs.Prelude.{sequence, Refuses, Spells, SpellsNothing, SpellsContents, Format}
+use Rattle.rpki_der.specs.Prelude.{this_oid, optional_of}
+use Rattle.rpki_time.specs.Serial.{serial_number}
+use Rattle.rpki_time.specs.TimeValue.{generalized}
+use Rattle.rpki.specs.Oids.{sha256}
+use Rattle.rpki_contents.specs.declared.file_view.FileView.{FileView}
+use Rattle.rpki_contents.specs.declared.manifest_part.ManifestPart.{ManifestPart}
+use Rattle.rpki_contents.specs.declared.manifest_part.ManifestPart.TheVariants as P
+use Rattle.rpki_contents.specs.declared.manifest_view.ManifestView.{ManifestView}
+use Rattle.rpki_contents.specs.ListedFile.{ListedFile, file}
+use Rattle.rpki_contents.specs.FilesInPlace.{FileOctets, AreFiles}
+use Rattle.rpki_contents.specs.Manifest.{ManifestParts, parts_of, Fields, fields_of, listing, fields_with}
+use Rattle.rpki_contents.specs.Manifest.{listed_fields, AreInOrder}
+
+-- ---- files
+
+abbrev pub file_in : FileView → ListedFile
+file_in x = (x.name.now, x.hash)
+
+-- Of the files that were left the first was given, and the others are left now; none was given where none was left.
+abbrev pub GivesFile : List ListedFile → Option FileView → List ℕ → Type 0
+GivesFile [] found after = (optional_of file_in found ≡ None) × (after ≡ [])
+GivesFile (x ∷ xs) found after = (optional_of file_in found ≡ Some x) × AreFiles xs after
+
+-- ---- the list of files
+
+abbrev pub view_list : Format (List ListedFile)
+view_list = listing file
+
+-- all of s is the list of these files, whose contents octets and count these are
+pub record IsListOf (s : List ℕ) (v : FileOctets) (xs : List ListedFile) : Type 0 where
+  pub spelled : view_list.spells xs s
+  pub octets : spelled.contents ≡ v.octets
+  pub count : length xs ≡ v.count
+
+-- a reader of the list that is all of s
+abbrev pub ReadsList : List ℕ → Option FileOctets → Type 0
+ReadsList s (Some v) = (xs : List ListedFile) × IsListOf s v xs
+ReadsList s None = SpellsNothing view_list.spells s
+
+-- a reader of all of s: Some is the contents of a SEQUENCE, and of no other, and None says that it is none
+abbrev pub ReadsContents : List ℕ → Option (List ℕ) → Type 0
+ReadsContents s (Some c) =
+    SpellsContents sequence true c s × ((d : List ℕ) → SpellsContents sequence true d s → d ≡ c)
+ReadsContents s None = SpellsNothing (SpellsContents sequence true) s
+
+-- ---- the fields
+
+abbrev pub view_fields : Format Fields
+view_fields = fields_with file
+
+abbrev pub view_manifest : Format Fields
+view_manifest = listed_fields file
+
+-- what the view says, with these files
+abbrev pub parts_in : ManifestView → List ListedFile → ManifestParts
+parts_in v xs = parts_of v.manifest_number v.this_update v.next_update xs
+
+-- all of c is the fields, and the list of files has these contents octets and this count
+pub record AreFieldsAt (c : List ℕ) (v : ManifestView) (xs : List ListedFile) : Type 0 where
+  pub spelled : view_fields.spells (fields_of (parts_in v xs)) c
+  pub octets : spelled.two.two.two.two.contents ≡ v.files.octets
+  pub count : length xs ≡ v.files.count
+
+-- ---- which part is wrong
+
+-- q is wrong in s, which a value of G should begin: it doesn't, and q is this part; or it does, and L says it of what
+-- follows
+pub data FirstPart {V : Type 0} (G : V → List ℕ → Type 0) (part : ManifestPart) (L : List ℕ → ManifestPart → Type 0)
+    (s : List ℕ) (q : ManifestPart) : Type 0 where
+  AtPart : Refuses G s → q ≡ part → FirstPart G part L s q
+  Later : (v : V) (r : List ℕ) → Spells G s v r → L r q → FirstPart G part L s q
+
+-- all of s is to be the list of files
+abbrev pub IsListWrong : List ℕ → ManifestPart → Type 0
+IsListWrong s q = SpellsNothing view_list.spells s × (q ≡ P.FileList)
+
+-- all of c is to be the fields
+abbrev pub AreFieldsWrong : List ℕ → ManifestPart → Type 0
+AreFieldsWrong =
+    FirstPart serial_number.spells P.Number
+    (FirstPart generalized.spells P.ThisUpdate
+    (FirstPart generalized.spells P.NextUpdate
+    (FirstPart (this_oid sha256).spells P.HashAlgorithm IsListWrong)))
+
+-- ---- a manifest
+
+-- all of s is a manifest of these files, but that some may have the same name
+pub record IsManifestAt (s : List ℕ) (v : ManifestView) (xs : List ListedFile) : Type 0 where
+  pub contents : List ℕ
+  pub value : SpellsContents sequence true contents s
+  pub fields : AreFieldsAt contents v xs
+  pub order : AreInOrder v.this_update v.next_update
+
+-- all of s is to be such a manifest: the SEQUENCE around all; then the fields; then that the times are in order
+pub data IsManifestWrong (s : List ℕ) (q : ManifestPart) : Type 0 where
+  NoManifest : SpellsNothing (SpellsContents sequence true) s → q ≡ P.Manifest → IsManifestWrong s q
+  InFields : (c : List ℕ) → SpellsContents sequence true c s → AreFieldsWrong c q → IsManifestWrong s q
+  OutOfOrder : (x : ManifestParts) → view_manifest.spells (fields_of x) s
+      → (AreInOrder x.this_update x.next_update → ⊥) → q ≡ P.Order → IsManifestWrong s q

@@ -1,0 +1,333 @@
+//! Manifests as they are written (RFC 9286 4.2).
+
+ghost use Rattle.std.specs.Prelude.{◌≡◌, ◌≤◌, ◌<◌, ◌^◌, ◌↔◌, false, IsTrue, IsSome, IfSome, IfNone, length};
+ghost use Rattle.rpki_der.specs.Prelude.{ia5_string, bit_string, tlv};
+ghost use Rattle.rpki_der.specs.Written.{Writes};
+ghost use Rattle.rpki_contents.specs.Encoded.{file_octets, files_octets, CanWriteFile, CanWriteFiles, manifest_octets};
+ghost use Rattle.rpki_contents.specs.Encoded.{hash_contents, front_octets, listing_octets};
+
+use crate::file_and_hash::FileAndHash;
+use crate::manifest::ManifestContent;
+use rpki::crypto::DigestAlgorithm;
+use rpki::der::{ConstOid, Primitive, PrimitiveContent, Sequence, Tag, Values, write_whole};
+use rpki::repository::x509::{GeneralizedTime, Serial};
+use std::io;
+use std::io::Write;
+use std::marker::Model;
+
+/// The name of a file as the contents of an IA5String.
+#[derive(Clone, Copy)]
+pub struct FileNameContent<'a> {
+    file: &'a FileAndHash,
+}
+
+impl<'a> PrimitiveContent for FileNameContent<'a> {
+    ghost use Rattle.rpki_der.specs.TagName.{ia5_string};
+
+    ghost plain = { ia5_string };
+
+    const TAG: Tag = Tag::IA5_STRING;
+
+    ghost contents = { λ x. x.file.now.0 };
+
+    fn encoded_len(&self) -> u64 {
+        self.file.file().len() as u64
+    }
+
+    #[tactic(auto, using(rpki_der::proofs::WritingLaws::writes_of_cut))]
+    fn write_encoded<W: Write>(&self, out: &mut W) -> Result<(), io::Error> {
+        write_whole(out, self.file.file())
+    }
+
+    fn plain_tag(&self) -> Tag {
+        Self::TAG
+    }
+}
+
+/// An encoder for the parts of a file: its name and its digest.
+#[derive(Drop)]
+pub struct FileParts<'a> {
+    file: &'a FileAndHash,
+}
+
+impl<'a> Model for FileParts<'a> {
+    ghost use Rattle.rpki_contents.specs.ListedFile.{ListedFile};
+    ghost use Rattle.rpki_contents.specs.Encoded.{CanWriteFile};
+
+    ghost Value = { ListedFile };
+
+    ghost view = { λ x. x.file.now };
+
+    ghost invariant = { λ x. CanWriteFile x.file.now };
+}
+
+/// An encoder for the name of a file.
+fn encode_name(file: &FileAndHash) -> Primitive<FileNameContent<'_>>
+    requires { CanWriteFile file.now }
+    ensures octets { ⟦<Primitive<FileNameContent<'static>> as Values>⟧.encoded result
+        ≡ tlv ia5_string false file.now.0 }
+    ensures short { ⟦<Primitive<FileNameContent<'static>> as Values>⟧.is_short result }
+{
+    FileNameContent { file }.encode()
+}
+
+/// How many octets the name has as it is written.
+fn name_len(file: &FileAndHash) -> u64
+    requires { CanWriteFile file.now }
+    ensures { result ≡ length (tlv ia5_string false file.now.0) }
+{
+    encode_name(file).encoded_len()
+}
+
+/// Writes the name.
+fn write_name<W: Write>(out: &mut W, file: &FileAndHash) -> Result<(), io::Error>
+    requires { CanWriteFile file.now }
+    ensures { Writes (W.contents out.old) (W.contents out.new) result (tlv ia5_string false file.now.0) }
+{
+    encode_name(file).write_encoded(out)
+}
+
+/// Writes the digest.
+fn write_hash<W: Write>(out: &mut W, file: &FileAndHash) -> Result<(), io::Error>
+    requires { CanWriteFile file.now }
+    ensures { Writes (W.contents out.old) (W.contents out.new) result
+        (tlv bit_string false (hash_contents file.now.1)) }
+{
+    file.hash().encode_bits().write_encoded(out)
+}
+
+/// The name and the digest.
+impl<'a> Values for FileParts<'a> {
+    ghost use Rattle.std.specs.Prelude.{refl};
+    ghost use Rattle.rpki_der.specs.Members.{IsValueList};
+    ghost use Rattle.rpki_der.specs.Tree.Tree.{Captured};
+    ghost use Rattle.rpki_der.specs.TreeLaws.{as_it_is};
+    ghost use Rattle.rpki_contents.specs.Encoded.{file_contents};
+
+    ghost tree = { λ x. Captured (file_contents x) };
+
+    ghost encoded = { file_contents };
+
+    ghost is_short = { λ x. IsValueList (file_contents x) };
+
+    ghost spelled = { λ _. refl };
+
+    ghost measured = { λ _. as_it_is };
+
+    ghost are_values = { λ x h. h };
+
+    fn fits(&self) -> bool {
+        let _ = &self.file;
+        true
+    }
+
+    fn count(&self) -> u64 {
+        let _ = &self.file;
+        2
+    }
+
+    fn encoded_len(&self) -> u64 {
+        name_len(self.file) + self.file.hash().encode_bits().encoded_len()
+    }
+
+    fn write_encoded<W: Write>(&self, out: &mut W) -> Result<(), io::Error> {
+        write_name(out, self.file)?;
+        write_hash(out, self.file)
+    }
+}
+
+/// An encoder for a file.
+fn encode_file(file: &FileAndHash) -> Sequence<FileParts<'_>>
+    requires { CanWriteFile file.now }
+    ensures octets { ⟦<Sequence<FileParts<'static>> as Values>⟧.encoded result ≡ file_octets file.now }
+    ensures short { ⟦<Sequence<FileParts<'static>> as Values>⟧.is_short result }
+{
+    Sequence::new(FileParts { file })
+}
+
+/// Whether a length announces each part of the file: whether its name has fewer than 2^31 octets.
+fn can_write_file(file: &FileAndHash) -> bool
+    ensures { IsTrue result ↔ CanWriteFile file.now }
+{
+    let hash = file.hash();
+    hash.as_slice().len() == 32 && file.file().len() < 1 << 31
+}
+
+/// Whether each of the files can be written.
+fn can_write_files(files: &[FileAndHash]) -> bool
+    ensures { IsTrue result ↔ CanWriteFiles files.now }
+{
+    let mut rest = files;
+    'each: while let Some((first, following)) = rest.split_first() {
+        if !can_write_file(first) {
+            return false;
+        }
+        rest = following;
+    }
+    true
+}
+
+/// How many octets the file has as it is written.
+fn file_len(file: &FileAndHash) -> u64
+    requires { CanWriteFile file.now }
+    ensures { result ≡ length (file_octets file.now) }
+{
+    encode_file(file).encoded_len()
+}
+
+/// How many octets the files have as they are written; None where they are 2^63 or more.
+fn files_len(files: &[FileAndHash]) -> Option<u64>
+    requires { CanWriteFiles files.now }
+    ensures some { IfSome result (λ n. (n ≡ length (files_octets files.now)) × (n < 2 ^ 63)) }
+    ensures none { IfNone result (2 ^ 63 ≤ length (files_octets files.now)) }
+{
+    let mut total: u64 = 0;
+    let mut rest = files;
+    'each: while let Some((first, following)) = rest.split_first() {
+        total += file_len(first);
+        if total >= 1 << 63 {
+            return None;
+        }
+        rest = following;
+    }
+    Some(total)
+}
+
+/// Writes the files, one after another.
+fn write_files<W: Write>(out: &mut W, files: &[FileAndHash]) -> Result<(), io::Error>
+    requires { CanWriteFiles files.now }
+    ensures { Writes (W.contents out.old) (W.contents out.new) result (files_octets files.now) }
+{
+    let mut rest = files;
+    'each: while let Some((first, following)) = rest.split_first() {
+        encode_file(first).write_encoded(out)?;
+        rest = following;
+    }
+    Ok(())
+}
+
+/// An encoder for files, one after another; it borrows them. It allocates nothing.
+#[derive(Drop)]
+pub struct FilesEncoder<'a> {
+    files: &'a [FileAndHash],
+}
+
+impl<'a> Model for FilesEncoder<'a> {
+    ghost use Rattle.std.specs.Prelude.{List};
+    ghost use Rattle.rpki_contents.specs.ListedFile.{ListedFile};
+    ghost use Rattle.rpki_contents.specs.Encoded.{CanWriteFiles};
+
+    ghost Value = { List ListedFile };
+
+    ghost view = { λ x. x.files.now };
+
+    ghost invariant = { λ x. CanWriteFiles x.files.now };
+}
+
+impl<'a> FilesEncoder<'a> {
+    /// The encoder for these files; None where a name has 2^31 octets or more.
+    pub fn new(files: &'a [FileAndHash]) -> Option<FilesEncoder<'a>>
+        ensures some { IsSome result ↔ CanWriteFiles files.now }
+        ensures value { IfSome result (λ x. x ≡ files.now) }
+        ensures short { IfSome result (λ x. ⟦<FilesEncoder<'static> as Values>⟧.is_short x) }
+    {
+        if can_write_files(files) {
+            Some(FilesEncoder { files })
+        } else {
+            None
+        }
+    }
+}
+
+/// The files, one after another.
+impl<'a> Values for FilesEncoder<'a> {
+    ghost use Rattle.std.specs.Prelude.{refl};
+    ghost use Rattle.rpki_der.specs.Members.{IsValueList};
+    ghost use Rattle.rpki_der.specs.Tree.Tree.{Captured};
+    ghost use Rattle.rpki_der.specs.TreeLaws.{as_it_is};
+    ghost use Rattle.rpki_contents.specs.Encoded.{files_octets};
+
+    ghost tree = { λ x. Captured (files_octets x) };
+
+    ghost encoded = { files_octets };
+
+    ghost is_short = { λ x. IsValueList (files_octets x) };
+
+    ghost spelled = { λ _. refl };
+
+    ghost measured = { λ _. as_it_is };
+
+    ghost are_values = { λ x h. h };
+
+    fn fits(&self) -> bool {
+        match files_len(self.files) {
+            Some(_) => true,
+            None => false,
+        }
+    }
+
+    fn count(&self) -> u64 {
+        self.files.len() as u64
+    }
+
+    fn encoded_len(&self) -> u64 {
+        match files_len(self.files) {
+            Some(length) => length,
+            None => 0,
+        }
+    }
+
+    fn write_encoded<W: Write>(&self, out: &mut W) -> Result<(), io::Error> {
+        write_files(out, self.files)
+    }
+}
+
+/// An encoder for the number and the times of a manifest.
+type Front = (
+    Primitive<Serial>,
+    Primitive<GeneralizedTime>,
+    Primitive<GeneralizedTime>,
+);
+
+/// An encoder for the rest of a manifest: the identifier of the algorithm of digests, and the files.
+type Listing<'a> = (Primitive<ConstOid>, Sequence<FilesEncoder<'a>>);
+
+/// An encoder for a manifest; it borrows the files.
+pub type ManifestEncoder<'a> = Sequence<(Front, Listing<'a>)>;
+
+/// An encoder for the rest of the manifest that lists these files.
+#[tactic(auto, unfolding(crate::specs::Encoded::listing_octets))]
+fn encode_listing(files: FilesEncoder<'_>) -> Listing<'_>
+    ensures { ⟦<Listing<'static> as Values>⟧.encoded result ≡ listing_octets files.entry }
+{
+    let algorithm = DigestAlgorithm::sha256().encode_oid();
+    (algorithm, Sequence::new(files))
+}
+
+impl ManifestContent {
+    /// An encoder for the manifest, whose version is left out; None where a name of a file has 2^31 octets or more.
+    /// Times are written without parts of a second (X.690 11.7). It borrows the files, and allocates nothing.
+    pub fn encode(&self) -> Option<ManifestEncoder<'_>>
+        ensures some { IsSome result ↔ CanWriteFiles self.now.files }
+        ensures octets { IfSome result (λ x. ⟦<ManifestEncoder<'static> as Values>⟧.encoded x
+            ≡ manifest_octets self.now) }
+    {
+        match FilesEncoder::new(self.file_list()) {
+            Some(files) => Some(Sequence::new((self.encode_front(), encode_listing(files)))),
+            None => None,
+        }
+    }
+
+    /// An encoder for the number and the times.
+    #[tactic(auto, unfolding(crate::specs::Encoded::front_octets))]
+    fn encode_front(&self) -> Front
+        ensures { ⟦<Front as Values>⟧.encoded result
+            ≡ front_octets self.now.number self.now.this_update self.now.next_update }
+    {
+        (
+            self.manifest_number().encode(),
+            self.this_update().encode_generalized_time(),
+            self.next_update().encode_generalized_time(),
+        )
+    }
+}

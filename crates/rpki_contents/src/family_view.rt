@@ -1,0 +1,203 @@
+//! The prefixes of route origin attestations by family, read in place without memory (RFC 9582 4.3).
+
+ghost use Rattle.std.specs.Prelude.{◌≡◌, List, true, false, None, ℕ, IfSome, IfNone, length};
+ghost use Rattle.rpki_der.specs.Prelude.{left, SpellsNothing};
+ghost use Rattle.rpki_resources.specs.Address.{width};
+ghost use Rattle.rpki_contents.specs.RoaAddress.{Family, addresses, each_address, family_parts};
+ghost use Rattle.rpki_contents.specs.Roa.{alone, families, together};
+ghost use Rattle.rpki_contents.specs.RoaView.{AreAddressesAt, AreBlocksAt, AreBothAt, AreFamiliesIn, AreTogetherAt};
+ghost use Rattle.rpki_contents.specs.RoaView.{HasNoFamilies, IsFamilyAt, IsFamilyIn, IsOfPrefixes, TakesFamily};
+ghost use Rattle.rpki_contents.specs.InPlace.{StandsIn};
+ghost use Rattle.rpki_contents.specs.RoaView.{BothStand, FamilyStands, StandTogether};
+
+use crate::inside::inside;
+use crate::roa_address::RoaIpAddress;
+use rpki_der::Constructed;
+use rpki_resources::{AddressFamily, take_family};
+
+/// One family, whose prefixes are borrowed from the octets that they were read from.
+#[derive(Clone, Copy)]
+pub(crate) struct FamilyView<'a> {
+    /// The family.
+    pub(crate) family: AddressFamily,
+    /// The prefixes, one after another.
+    pub(crate) addresses: &'a [u8],
+    /// How many octets follow the family.
+    pub(crate) following: usize,
+}
+
+/// The prefixes of both families, one after another; no octets for a family that isn't there.
+#[derive(Clone, Copy)]
+pub(crate) struct BothView<'a> {
+    /// Those of IP version 4.
+    pub(crate) v4: &'a [u8],
+    /// Those of IP version 6.
+    pub(crate) v6: &'a [u8],
+    /// How many octets follow those of IP version 4.
+    pub(crate) v4_following: usize,
+    /// How many octets follow those of IP version 6.
+    pub(crate) v6_following: usize,
+}
+
+/// Whether all that is left are prefixes of the family, one after another.
+fn are_addresses(contents: Constructed<'_>, family: AddressFamily) -> bool
+    ensures yes { result ≡ true → IsOfPrefixes (width family) (left contents.entry) }
+    ensures no { result ≡ false → SpellsNothing (each_address (width family)).spells (left contents.entry) }
+{
+    let mut rest = contents;
+    'each: while !rest.is_empty() {
+        match RoaIpAddress::take_from(&mut rest, family) {
+            Ok(_) => {}
+            Err(_) => return false,
+        }
+    }
+    true
+}
+
+/// The octets of the prefixes of the family, whose list is all that is left: one at least.
+fn read_addresses<'a>(rest: Constructed<'a>, family: AddressFamily) -> Option<&'a [u8]>
+    ensures some { IfSome result (λ p. AreAddressesAt (width family) (left rest.entry) p.now) }
+    ensures stand { IfSome result (λ p. StandsIn (left rest.entry) p.now 0) }
+    ensures none { IfNone result (SpellsNothing (addresses (width family)).spells (left rest.entry)) }
+{
+    match inside(rest) {
+        Some(contents) => {
+            if contents.is_empty() {
+                return None;
+            }
+            if !are_addresses(contents, family) {
+                return None;
+            }
+            Some(contents.rest())
+        }
+        None => None,
+    }
+}
+
+/// The name of a family and its prefixes, which are all that is left; so many octets follow them.
+fn read_family<'a>(contents: Constructed<'a>, following: usize) -> Option<FamilyView<'a>>
+    ensures some { IfSome result (λ v. IsFamilyIn (left contents.entry) v) }
+    ensures stand { IfSome result (λ v. StandsIn (left contents.entry) v.addresses.now 0) }
+    ensures following { IfSome result (λ v. v.following ≡ following) }
+    ensures none { IfNone result (SpellsNothing family_parts.spells (left contents.entry)) }
+{
+    let mut rest = contents;
+    let family = match take_family(&mut rest) {
+        Ok(family) => family,
+        Err(_) => return None,
+    };
+    match read_addresses(rest, family) {
+        Some(addresses) => Some(FamilyView {
+            family,
+            addresses,
+            following,
+        }),
+        None => None,
+    }
+}
+
+/// A SEQUENCE of the name of a family and of its prefixes.
+fn take_family_view<'a>(cons: &mut Constructed<'a>) -> Option<FamilyView<'a>>
+    ensures taken { TakesFamily (left cons.old) (left cons.new) result }
+    ensures stand { IfSome result (λ v. FamilyStands (left cons.old) (left cons.new) v) }
+{
+    match cons.take_sequence() {
+        Ok(contents) => read_family(contents, cons.rest().len()),
+        Err(_) => None,
+    }
+}
+
+/// The prefixes of the one family that there is.
+fn alone_view<'a>(only: FamilyView<'a>) -> BothView<'a>
+    ensures both { (x : Family) → IsFamilyAt only.entry x → AreBothAt (alone x) result.v4.now result.v6.now }
+    ensures stand { (s : List ℕ) → StandsIn s only.entry.addresses.now only.entry.following → BothStand s result }
+{
+    match only.family {
+        AddressFamily::Ipv4 => BothView {
+            v4: only.addresses,
+            v6: &[],
+            v4_following: only.following,
+            v6_following: 0,
+        },
+        AddressFamily::Ipv6 => BothView {
+            v4: &[],
+            v6: only.addresses,
+            v4_following: 0,
+            v6_following: only.following,
+        },
+    }
+}
+
+/// The prefixes of two families: one of each, and where it is `strict`, IP version 4 first.
+fn together_view<'a>(
+    strict: bool,
+    first: FamilyView<'a>,
+    second: FamilyView<'a>,
+) -> Option<BothView<'a>>
+    ensures some { IfSome result (λ v. AreTogetherAt strict first.entry second.entry v) }
+    ensures stand { IfSome result (λ v. StandTogether first.entry second.entry v) }
+    ensures none { IfNone result ((x y : Family) → IsFamilyAt first.entry x → IsFamilyAt second.entry y
+        → together strict x y ≡ None) }
+{
+    match first.family {
+        AddressFamily::Ipv4 => match second.family {
+            AddressFamily::Ipv4 => None,
+            AddressFamily::Ipv6 => Some(BothView {
+                v4: first.addresses,
+                v6: second.addresses,
+                v4_following: first.following,
+                v6_following: second.following,
+            }),
+        },
+        AddressFamily::Ipv6 => match second.family {
+            AddressFamily::Ipv4 => {
+                if strict {
+                    return None;
+                }
+                Some(BothView {
+                    v4: second.addresses,
+                    v6: first.addresses,
+                    v4_following: second.following,
+                    v6_following: first.following,
+                })
+            }
+            AddressFamily::Ipv6 => None,
+        },
+    }
+}
+
+/// The prefixes of one family or of two, which are all that is left.
+fn read_families<'a>(contents: Constructed<'a>, strict: bool) -> Option<BothView<'a>>
+    ensures some { IfSome result (λ v. AreFamiliesIn strict (left contents.entry) v) }
+    ensures stand { IfSome result (λ v. BothStand (left contents.entry) v) }
+    ensures none { IfNone result (HasNoFamilies strict (left contents.entry)) }
+{
+    let mut rest = contents;
+    let first = match take_family_view(&mut rest) {
+        Some(first) => first,
+        None => return None,
+    };
+    if rest.is_empty() {
+        return Some(alone_view(first));
+    }
+    let second = match take_family_view(&mut rest) {
+        Some(second) => second,
+        None => return None,
+    };
+    if !rest.is_empty() {
+        return None;
+    }
+    together_view(strict, first, second)
+}
+
+/// The prefixes of both families, whose list is all that is left.
+pub(crate) fn read_blocks<'a>(rest: Constructed<'a>, strict: bool) -> Option<BothView<'a>>
+    ensures some { IfSome result (λ v. AreBlocksAt strict (left rest.entry) v) }
+    ensures stand { IfSome result (λ v. BothStand (left rest.entry) v) }
+    ensures none { IfNone result (SpellsNothing (families strict).spells (left rest.entry)) }
+{
+    match inside(rest) {
+        Some(contents) => read_families(contents, strict),
+        None => None,
+    }
+}

@@ -1,0 +1,6 @@
+//! Manifests.
+
+mod changed;
+mod reading;
+mod refused;
+mod sizes;

@@ -1,0 +1,253 @@
+//! Worked cases of route origin attestations.
+
+mod accepted;
+mod hostile;
+mod sizes;
+mod within;
+
+use crate::hexadecimal::octets_of;
+use rpki_contents::{AddressCursor, RoaIpAddress, RoaPart, RoaView, RouteOriginAttestation};
+use rpki_der::Constructed;
+use rpki_der_tests::kinds::{Outcome, outcome_of};
+use rpki_resources::{Address, AddressFamily, Block, Blocks};
+use std::alloc::{AllocError, Global};
+use std::test::Fail;
+
+/// The texts of what an attestation authorizes, a line each.
+fn text_of(alloc: Global, found: &RouteOriginAttestation) -> Result<String, AllocError> {
+    let mut text = String::new(alloc);
+    let mut origins = found.origins();
+    while let Some(origin) = origins.next_origin() {
+        if !text.is_empty() {
+            text.push('\n')?;
+        }
+        let line = format!(in alloc; "{origin}")?;
+        text.push_str(line.as_str())?;
+    }
+    Ok(text)
+}
+
+/// Whether the cursor gives these prefixes, and no more.
+fn gives(cursor: AddressCursor<'_>, expected: &[RoaIpAddress]) -> bool {
+    let mut rest = cursor;
+    for address in expected {
+        if rest.next_address() != Some(*address) {
+            return false;
+        }
+    }
+    rest.next_address().is_none()
+}
+
+/// Whether these octets, read in place, are the attestation.
+fn is_in_place(octets: &[u8], strict: bool, found: &RouteOriginAttestation) -> bool {
+    match RoaView::read(octets, strict) {
+        Ok(view) => {
+            view.as_id == found.as_id()
+                && gives(view.v4_addrs(), found.v4_addrs())
+                && gives(view.v6_addrs(), found.v6_addrs())
+        }
+        Err(_) => false,
+    }
+}
+
+/// Whether these octets are accepted, and authorize what the text says.
+fn has_text(alloc: Global, octets: &[u8], strict: bool, text: &str) -> Result<bool, AllocError> {
+    match RouteOriginAttestation::decode(alloc, octets, strict) {
+        Ok(found) => {
+            let origins = text_of(alloc, &found)?;
+            Ok(origins.as_str() == text && is_in_place(octets, strict, &found))
+        }
+        Err(_) => Ok(false),
+    }
+}
+
+#[test]
+fn accepted_attestations(rt: HostRuntime) -> Result<(), Fail> {
+    for (name, digits, strict, text) in accepted::rows() {
+        let octets = octets_of(rt.alloc(), digits)?;
+        assert!(rt;
+            has_text(rt.alloc(), octets.as_slice(), false, text)?,
+            "{name}"
+        );
+        assert!(rt;
+            has_text(rt.alloc(), octets.as_slice(), true, text)? == *strict,
+            "{name}, strictly"
+        );
+    }
+    Ok(())
+}
+
+/// Whether the octets are rejected as expected, whole and at a cursor, which stays where it was.
+fn is_rejected(alloc: Global, octets: &[u8], strict: bool, expected: Outcome) -> bool {
+    let mut cons = Constructed::from_slice(octets);
+    let first = outcome_of(RouteOriginAttestation::take_from(alloc, strict, &mut cons));
+    let left = cons.rest().len();
+    let stays = match first {
+        Outcome::Read => left < octets.len(),
+        outcome => outcome == expected && left == octets.len(),
+    };
+    stays
+        && RoaView::read(octets, strict).is_err()
+        && outcome_of(RouteOriginAttestation::decode(alloc, octets, strict)) == expected
+}
+
+/// The name of the first row that isn't rejected as it says, strictly or not.
+fn unlike(
+    alloc: Global,
+    rows: &'static [(&'static str, &'static str, Outcome)],
+) -> Result<Option<&'static str>, AllocError> {
+    for (name, text, expected) in rows {
+        let octets = octets_of(alloc, text)?;
+        if !is_rejected(alloc, octets.as_slice(), false, *expected) {
+            return Ok(Some(*name));
+        }
+        if !is_rejected(alloc, octets.as_slice(), true, *expected) {
+            return Ok(Some(*name));
+        }
+    }
+    Ok(None)
+}
+
+#[test]
+fn hostile_attestations(rt: HostRuntime) -> Result<(), Fail> {
+    let first = unlike(rt.alloc(), hostile::first())?;
+    assert!(rt; first.is_none(), "{first:?}");
+    let second = unlike(rt.alloc(), hostile::second())?;
+    assert!(rt; second.is_none(), "{second:?}");
+    let third = unlike(rt.alloc(), hostile::third())?;
+    assert!(rt; third.is_none(), "{third:?}");
+    Ok(())
+}
+
+/// Whether IP version 6 in front of IP version 4 is refused strictly, as an error of contents.
+fn is_out_of_order(alloc: Global) -> Result<bool, AllocError> {
+    let octets = octets_of(
+        alloc,
+        "3026020300fbf0301f300f040200023009300703050020010db8300c04020001300630040302000a",
+    )?;
+    Ok(is_rejected(alloc, octets.as_slice(), true, Outcome::Content))
+}
+
+#[test]
+fn families_in_order(rt: HostRuntime) -> Result<(), Fail> {
+    assert!(rt; is_out_of_order(rt.alloc())?);
+    Ok(())
+}
+
+/// The prefixes of an attestation as they are kept: a maximum length that is left out is none.
+const KEPT: [RoaIpAddress; 2] = [
+    RoaIpAddress {
+        prefix: Address {
+            number: 10,
+            size: 8,
+        },
+        max_length: Some(8),
+    },
+    RoaIpAddress {
+        prefix: Address {
+            number: 41,
+            size: 10,
+        },
+        max_length: None,
+    },
+];
+
+/// Whether these octets have these prefixes of IP version 4, and none of IP version 6.
+fn has_kept(alloc: Global) -> Result<bool, AllocError> {
+    let octets = octets_of(
+        alloc,
+        "301f020300fbf03018301604020001301030070302000a02010830050303060a40",
+    )?;
+    match RouteOriginAttestation::decode(alloc, octets.as_slice(), true) {
+        Ok(found) => Ok(
+            found.v4_addrs() == KEPT.as_slice()
+                && found.v6_addrs().is_empty()
+                && found.as_id() == 64496,
+        ),
+        Err(_) => Ok(false),
+    }
+}
+
+#[test]
+fn prefixes_as_they_are_kept(rt: HostRuntime) -> Result<(), Fail> {
+    assert!(rt; has_kept(rt.alloc())?);
+    Ok(())
+}
+
+/// A name, the octets, and the part that is wrong strictly.
+const PARTS: &[(&str, &str, RoaPart)] = &[
+    ("no octets", "", RoaPart::Attestation),
+    (
+        "a SET",
+        "3113020101300e300c04020001300630040302000a",
+        RoaPart::Attestation,
+    ),
+    (
+        "something behind it",
+        "3013020101300e300c04020001300630040302000a0500",
+        RoaPart::Attestation,
+    ),
+    ("an empty SEQUENCE", "3000", RoaPart::AsId),
+    (
+        "version 0",
+        "3018a003020100020101300e300c04020001300630040302000a",
+        RoaPart::AsId,
+    ),
+    (
+        "an AS number of 2^32",
+        "301702050100000000300e300c04020001300630040302000a",
+        RoaPart::AsId,
+    ),
+    ("no families", "3003020101", RoaPart::AddressBlocks),
+    (
+        "an empty list of families",
+        "30050201013000",
+        RoaPart::AddressBlocks,
+    ),
+    (
+        "three families",
+        "3032020101302d300c04020001300630040302000a300f040200023009300703050020010db8300c04020001300630040302000a",
+        RoaPart::AddressBlocks,
+    ),
+    (
+        "a maximum length of 33",
+        "30160201013011300f04020001300930070302000a020121",
+        RoaPart::AddressBlocks,
+    ),
+    (
+        "something behind the families",
+        "3015020101300e300c04020001300630040302000a0500",
+        RoaPart::AddressBlocks,
+    ),
+    (
+        "IP version 6 first",
+        "3024020101301f300f040200023009300703050020010db8300c04020001300630040302000a",
+        RoaPart::AddressBlocks,
+    ),
+    (
+        "an AS number of -1 and no families",
+        "30050201ff3000",
+        RoaPart::AsId,
+    ),
+];
+
+fn part_rows() -> &'static [(&'static str, &'static str, RoaPart)] {
+    PARTS
+}
+
+/// Whether this part of the octets is said to be wrong.
+fn is_wrong_in(octets: &[u8], expected: RoaPart) -> bool {
+    match RoaView::read(octets, true) {
+        Ok(_) => false,
+        Err(part) => part == expected,
+    }
+}
+
+#[test]
+fn wrong_parts(rt: HostRuntime) -> Result<(), Fail> {
+    for (name, text, expected) in part_rows() {
+        let octets = octets_of(rt.alloc(), text)?;
+        assert!(rt; is_wrong_in(octets.as_slice(), *expected), "{name}");
+    }
+    Ok(())
+}
