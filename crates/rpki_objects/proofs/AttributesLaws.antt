@@ -12,7 +12,7 @@ use Rattle.rpki_objects.specs.SignedAttributes.{Attribute, AttributeValues, Attr
 use Rattle.rpki_objects.specs.SignedAttributes.{message_of, with_octets, attribute_list, signed_attributes}
 use Rattle.rpki_objects.proofs.StandingForLaws.{none-there, none-stands, one-stands}
 
-abbrev parts_from : List ℕ → AttributeValues → AttributesParts
+abbrev pub parts_from : List ℕ → AttributeValues → AttributesParts
 parts_from message values = record { message = message; values = values }
 
 -- ---- a value with its octets

@@ -5,17 +5,30 @@
 -- has issued it: IssuedLaws. Read in place: entries, what is signed, that it is one value, lists: EntriesLaws,
 -- ListViewLaws, ListValueLaws, CrlViewLaws. Two extensions: TwoLaws. The attribute of a type, and what attributes say:
 -- SoughtLaws. The signed attributes of a signer: AttributesLaws. Whether a signed object is valid: ObjectVerifiedLaws.
+-- Readers in place of a part, and of what stands in it: InPlaceLaws. Attributes that are read one after another:
+-- TogetherLaws. Signed objects that are read in place, and what is wrong with others: ObjectViewLaws, ObjectWrongLaws.
+-- Signed objects of one type: TypedObjectLaws. Rules, one after another: RulesLaws.
+-- What is written: WrittenLaws. A revocation list that is written, and that it is read: ListWritingLaws, ListReadLaws.
 
-pub mod CrlLaws
-pub mod ExtensionsLaws
-pub mod StandingForLaws
-pub mod ListInLaws
-pub mod IssuedLaws
-pub mod EntriesLaws
-pub mod TwoLaws
-pub mod ListViewLaws
-pub mod ListValueLaws
-pub mod CrlViewLaws
-pub mod SoughtLaws
 pub mod AttributesLaws
+pub mod CrlLaws
+pub mod CrlViewLaws
+pub mod EntriesLaws
+pub mod ExtensionsLaws
+pub mod InPlaceLaws
+pub mod IssuedLaws
+pub mod ListInLaws
+pub mod ListReadLaws
+pub mod ListValueLaws
+pub mod ListViewLaws
+pub mod ListWritingLaws
 pub mod ObjectVerifiedLaws
+pub mod ObjectViewLaws
+pub mod ObjectWrongLaws
+pub mod RulesLaws
+pub mod SoughtLaws
+pub mod StandingForLaws
+pub mod TogetherLaws
+pub mod TwoLaws
+pub mod TypedObjectLaws
+pub mod WrittenLaws

@@ -1,8 +1,16 @@
+-- Definitions: what the contracts say. They are trusted, and read against the standards.
 pub mod Crl
 pub mod CrlIssued
 pub mod CrlView
+pub mod EncodedCrl
+pub mod ObjectResources
 pub mod ObjectVerified
+pub mod Processed
 pub mod Serials
 pub mod SignedAttributes
 pub mod SignedObject
+pub mod SignedObjectView
 pub mod Sought
+pub mod TypedObject
+-- Lemmas that an impl cites.
+pub mod EncodedLaws

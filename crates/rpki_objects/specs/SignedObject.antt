@@ -1,5 +1,5 @@
 -- Signed objects (RFC 5652 3, 5; in the profile of RFC 6488 2).
-use Rattle.std.specs.Prelude.{◌≡◌, ℕ, Bool, List, [], ◌∷◌}
+use Rattle.std.specs.Prelude.{ℕ, Bool, List, [], ◌∷◌}
 use Rattle.rpki_der.specs.declared.tag.Class.TheVariants.{Context}
 use Rattle.rpki_der.specs.Prelude.{TagName, tag_of, sequence, set, octet_string, Format, around, only, then, kept}
 use Rattle.rpki_der.specs.Prelude.{octets_under, any_oid, this_oid, this_number, leaf}

@@ -9,14 +9,14 @@ ghost use Rattle.rpki_objects.specs.SignedAttributes.{content_type, message_dige
 ghost use Rattle.rpki_objects.specs.SignedAttributes.{binary_signing_time};
 
 use crate::attribute::{AttributeView, are_known, values_of};
-use crate::message_digest::MessageDigest;
 use rpki::der::{Constructed, Oid};
 use rpki::oid;
 use rpki::repository::x509::Time;
+use rpki_contents::MessageDigest;
 
-/// The values of the attributes.
+/// What the signed attributes of a signed object say.
 #[derive(Clone, Copy)]
-pub(crate) struct KnownAttributes<'a> {
+pub struct KnownAttributes<'a> {
     /// The type of the content.
     pub content_type: Oid<&'a [u8]>,
     /// The digest of the content.

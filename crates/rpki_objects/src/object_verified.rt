@@ -1,6 +1,7 @@
 //! Whether signed objects are valid at a moment (RFC 6488 3).
 
 ghost use Rattle.std.specs.Prelude.{◌≡◌, ◌↔◌, Option, IfOk, IsTrue, codes};
+ghost use Rattle.std.specs.Option.{option_copied};
 ghost use Rattle.rpki.specs.ErrorTexts.{verification_text};
 ghost use Rattle.rpki_cert.specs.Profile.{IsEeProfile};
 ghost use Rattle.rpki_cert.specs.ResourceSet.{AreWithin};
@@ -8,16 +9,18 @@ ghost use Rattle.rpki_cert.specs.RuleError.{ChecksBy};
 ghost use Rattle.rpki_cert.specs.Valid.{HasReason, HasSubject, IsOtherSubject};
 ghost use Rattle.rpki_cert.specs.Verified.{checkers_by, verified_by, holder, HasPath};
 ghost use Rattle.rpki_objects.specs.Crl.{listed, is_revoked};
-ghost use Rattle.rpki_objects.specs.ObjectVerified.{HasSignedType, HasSignedDigest, IsSignedByKey, ChecksSigned, ChecksObject};
+ghost use Rattle.rpki_objects.specs.ObjectVerified.{HasSignedType, HasSignedDigest, IsSignedByKey, ChecksSigned};
+ghost use Rattle.rpki_objects.specs.ObjectVerified.{ChecksObject};
+ghost use Rattle.rpki_objects.specs.Processed.{IsUnrevoked, revoked_text};
 
 use crate::crl::Crl;
-use crate::message_digest::MessageDigest;
 use crate::signed_object::SignedObject;
 use rpki::crypto::{KeyIdentifier, Provider};
 use rpki::repository::error::ValidationError;
 use rpki::repository::x509::Time;
 use rpki_cert::objects::unverified;
 use rpki_cert::{ResourceCert, ResourceSet};
+use rpki_contents::MessageDigest;
 use std::alloc::Global;
 
 /// Whether the key identifier is there and is this one.
@@ -128,5 +131,20 @@ impl SignedObject {
         ensures { result ≡ is_revoked self.now.cert.tbs.serial (listed list.now.list.revoked) }
     {
         list.contains(self.cert().tbs().serial_number())
+    }
+
+    /// The rule that the certificate of the object is not on the list, where there is one (RFC 6488 3).
+    pub(crate) fn verify_unrevoked(&self, list: Option<&Crl>) -> Result<(), ValidationError>
+        ensures { ChecksBy (IsUnrevoked (option_copied list.entry) self.now.cert) (HasReason revoked_text) result }
+    {
+        match list {
+            Some(list) => {
+                if self.is_revoked_by(list) {
+                    return Err(unverified("revoked certificate"));
+                }
+                Ok(())
+            }
+            None => Ok(()),
+        }
     }
 }

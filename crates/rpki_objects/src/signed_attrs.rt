@@ -8,10 +8,10 @@ ghost use Rattle.rpki_objects.specs.SignedAttributes.{message_of, signed_attribu
 
 use crate::attribute::AttributeView;
 use crate::known_attributes::KnownAttributes;
-use crate::message_digest::MessageDigest;
 use bytes::Bytes;
 use rpki::der::{Class, Constructed, DecodeError, Oid, Tag};
 use rpki::repository::x509::Time;
+use rpki_contents::MessageDigest;
 use std::alloc::{AllocError, Global};
 
 /// The attributes that a signer signs.

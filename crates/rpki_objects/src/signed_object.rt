@@ -6,19 +6,20 @@
 //!     content      [0] EXPLICIT SignedData }
 //! ```
 
-ghost use Rattle.std.specs.Prelude.{◌≡◌};
+ghost use Rattle.std.specs.Prelude.{◌≡◌, ◌↔◌, IsTrue};
 ghost use Rattle.rpki_der.specs.Prelude.{left, Takes, TakesAll, TakesWhole, CanShare};
-ghost use Rattle.rpki_objects.specs.SignedObject.{object_of, data_fields_of, object_fields_of, object_fields, signed_object};
+ghost use Rattle.rpki_objects.specs.SignedObject.{object_of, data_fields_of, object_fields_of, object_fields};
+ghost use Rattle.rpki_objects.specs.SignedObject.{signed_object};
 ghost use Rattle.rpki_objects.specs.SignedObject.{explicit_data};
 
-use crate::message_digest::MessageDigest;
 use crate::signed_data::ObjectData;
 use bytes::Bytes;
 use rpki::crypto::{KeyIdentifier, RpkiSignature};
-use rpki::der::{Class, Constructed, DecodeError, Keep, Oid, Shared, Tag};
+use rpki::der::{Class, ConstOid, Constructed, DecodeError, Keep, Oid, Shared, Tag};
 use rpki::oid;
 use rpki::repository::x509::Time;
 use rpki_cert::Cert;
+use rpki_contents::MessageDigest;
 use std::alloc::Global;
 use std::marker::Model;
 
@@ -105,6 +106,13 @@ impl SignedObject {
         ensures { result.now.0 ≡ self.now.content.content_type }
     {
         &self.data.content.content_type
+    }
+
+    /// Whether the content has this type.
+    pub(crate) fn has_type(&self, wanted: ConstOid) -> bool
+        ensures { IsTrue result ↔ (self.now.content.content_type ≡ wanted.entry.0.now) }
+    {
+        self.content_type().0.as_slice() == wanted.0
     }
 
     /// The octets of the content.

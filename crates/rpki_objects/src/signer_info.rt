@@ -33,7 +33,7 @@ pub struct SignerInfo {
 }
 
 /// The identifier of the signer's key, under the implicit tag 0.
-fn take_identifier(cons: &mut Constructed<'_>) -> Result<KeyIdentifier, DecodeError>
+pub(crate) fn take_identifier(cons: &mut Constructed<'_>) -> Result<KeyIdentifier, DecodeError>
     ensures { Takes (λ k. k) signer_identifier (left cons.old) (left cons.new) result }
 {
     let mut after = *cons;

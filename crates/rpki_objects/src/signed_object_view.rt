@@ -1,0 +1,108 @@
+//! Signed objects, read in place without memory (RFC 5652 3, 5; in the profile of RFC 6488 2).
+
+ghost use Rattle.std.specs.Prelude.{IfOk, IfErr};
+ghost use Rattle.rpki_der.specs.Prelude.{left};
+ghost use Rattle.rpki_objects.specs.SignedObject.{ObjectParts};
+ghost use Rattle.rpki_objects.specs.SignedObjectView.{TakesCertificate, IsDataIn, AreDataFieldsWrong, IsObjectAt};
+ghost use Rattle.rpki_objects.specs.SignedObjectView.{IsObjectWrong, HasManyExtensions};
+
+use crate::content_view::ContentView;
+use crate::object_part::ObjectPart;
+use crate::signer_view::{SignerView, read_signers};
+use rpki::crypto::DigestAlgorithm;
+use rpki::der::{Class, Constructed, Tag};
+use rpki::oid;
+use rpki_cert::objects::inside;
+use rpki_cert::{CertView, Section};
+
+/// A signed object whose parts are borrowed from the octets that it was read from. Nothing of it is verified.
+#[derive(Clone, Copy)]
+pub struct SignedObjectView<'a> {
+    /// The content, and its type.
+    pub content: ContentView<'a>,
+    /// The octets of the signer's certificate.
+    pub cert: Section<'a>,
+    /// The signer.
+    pub signer: SignerView<'a>,
+}
+
+/// The octets of the one certificate, under the implicit tag 0.
+fn take_certificate<'a>(cons: &mut Constructed<'a>) -> Result<Section<'a>, ObjectPart>
+    ensures { TakesCertificate (left cons.old) (left cons.new) result }
+{
+    let octets = match cons.take_constructed_if(Tag::new(Class::Context, 0)) {
+        Ok(contents) => contents.rest(),
+        Err(_) => return Err(ObjectPart::Certificates),
+    };
+    match CertView::read(octets) {
+        Ok(_) => Ok(Section {
+            octets,
+            following: cons.rest().len(),
+        }),
+        Err(part) => Err(ObjectPart::Certificate(part)),
+    }
+}
+
+/// The fields of signed data, which are all that is left.
+fn read_fields<'a>(
+    contents: Constructed<'a>,
+    strict: bool,
+) -> Result<SignedObjectView<'a>, ObjectPart>
+    ensures ok { IfOk result (λ v. IsDataIn strict (left contents.entry) v) }
+    ensures err { IfErr result (λ q. AreDataFieldsWrong strict (left contents.entry) q) }
+{
+    let mut rest = contents;
+    match rest.skip_u8_if(3) {
+        Ok(()) => {}
+        Err(_) => return Err(ObjectPart::Version),
+    }
+    match DigestAlgorithm::skip_set(&mut rest) {
+        Ok(()) => {}
+        Err(_) => return Err(ObjectPart::DigestAlgorithms),
+    }
+    let content = match ContentView::take_from(&mut rest) {
+        Some(content) => content,
+        None => return Err(ObjectPart::Content),
+    };
+    let cert = match take_certificate(&mut rest) {
+        Ok(cert) => cert,
+        Err(part) => return Err(part),
+    };
+    match read_signers(rest, strict) {
+        Ok(signer) => Ok(SignedObjectView {
+            content,
+            cert,
+            signer,
+        }),
+        Err(part) => Err(part),
+    }
+}
+
+impl<'a> SignedObjectView<'a> {
+    /// A signed object, and nothing else, as [SignedObject::decode](crate::SignedObject::decode) reads it, whose
+    /// certificate has at most 64 extensions: see [CertView::read](rpki_cert::CertView::read). Allocates nothing.
+    ///
+    /// The error is the part that is wrong: the leftmost, and of the certificate the one that its reader names.
+    pub fn read(octets: &'a [u8], strict: bool) -> Result<SignedObjectView<'a>, ObjectPart>
+        ensures ok { IfOk result (λ v. (x : ObjectParts) × IsObjectAt strict octets.now v x) }
+        ensures err { IfErr result (λ q. IsObjectWrong strict octets.now q) }
+        ensures none { IfErr result (λ _. HasManyExtensions strict octets.now) }
+    {
+        let mut contents = match inside(Constructed::from_slice(octets), Tag::SEQUENCE) {
+            Ok(contents) => contents,
+            Err(_) => return Err(ObjectPart::Object),
+        };
+        match contents.skip_oid_if(oid::SIGNED_DATA) {
+            Ok(()) => {}
+            Err(_) => return Err(ObjectPart::ObjectType),
+        }
+        let explicit = match inside(contents, Tag::new(Class::Context, 0)) {
+            Ok(explicit) => explicit,
+            Err(_) => return Err(ObjectPart::SignedData),
+        };
+        match inside(explicit, Tag::SEQUENCE) {
+            Ok(fields) => read_fields(fields, strict),
+            Err(_) => Err(ObjectPart::SignedData),
+        }
+    }
+}

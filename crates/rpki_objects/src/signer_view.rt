@@ -1,0 +1,85 @@
+//! The signer of a signed object, read in place without memory (RFC 5652 5.3, RFC 6488 2.1.6).
+
+ghost use Rattle.std.specs.Prelude.{IfOk, IfErr};
+ghost use Rattle.rpki_der.specs.Prelude.{left};
+ghost use Rattle.rpki_objects.specs.SignedObjectView.{IsSignerIn, AreSignersAt, AreSignerFieldsWrong, AreSignersWrong};
+
+use crate::content_view::read_octets;
+use crate::object_part::ObjectPart;
+use crate::signed_attrs_view::SignedAttrsView;
+use crate::signer_info::take_identifier;
+use rpki::crypto::{DigestAlgorithm, KeyIdentifier, RpkiSignatureAlgorithm};
+use rpki::der::{Constructed, Tag};
+use rpki_cert::Section;
+use rpki_cert::objects::inside;
+
+/// A signer.
+#[derive(Clone, Copy)]
+pub struct SignerView<'a> {
+    /// The identifier of the signer's key.
+    pub identifier: KeyIdentifier,
+    /// What is signed.
+    pub signed_attrs: SignedAttrsView<'a>,
+    /// The algorithm of the signature.
+    pub algorithm: RpkiSignatureAlgorithm,
+    /// The octets of the signature.
+    pub signature: Section<'a>,
+}
+
+/// The fields, which are all that is left.
+fn read_fields<'a>(contents: Constructed<'a>, strict: bool) -> Result<SignerView<'a>, ObjectPart>
+    ensures ok { IfOk result (λ v. IsSignerIn strict (left contents.entry) v) }
+    ensures err { IfErr result (λ q. AreSignerFieldsWrong strict (left contents.entry) q) }
+{
+    let mut rest = contents;
+    match rest.skip_u8_if(3) {
+        Ok(()) => {}
+        Err(_) => return Err(ObjectPart::SignerVersion),
+    }
+    let identifier = match take_identifier(&mut rest) {
+        Ok(identifier) => identifier,
+        Err(_) => return Err(ObjectPart::SignerIdentifier),
+    };
+    match DigestAlgorithm::take_from(&mut rest) {
+        Ok(_) => {}
+        Err(_) => return Err(ObjectPart::SignerDigestAlgorithm),
+    }
+    let signed_attrs = match SignedAttrsView::take_from(&mut rest, strict) {
+        Some(attributes) => attributes,
+        None => return Err(ObjectPart::SignedAttrs),
+    };
+    let algorithm = match RpkiSignatureAlgorithm::cms_take_from(&mut rest) {
+        Ok(algorithm) => algorithm,
+        Err(_) => return Err(ObjectPart::SignatureAlgorithm),
+    };
+    match read_octets(rest) {
+        Some(octets) => Ok(SignerView {
+            identifier,
+            signed_attrs,
+            algorithm,
+            signature: Section {
+                octets,
+                following: 0,
+            },
+        }),
+        None => Err(ObjectPart::Signature),
+    }
+}
+
+/// The one signer of the SET that is all that is left.
+pub(crate) fn read_signers<'a>(
+    rest: Constructed<'a>,
+    strict: bool,
+) -> Result<SignerView<'a>, ObjectPart>
+    ensures ok { IfOk result (λ v. AreSignersAt strict (left rest.entry) v) }
+    ensures err { IfErr result (λ q. AreSignersWrong strict (left rest.entry) q) }
+{
+    let signers = match inside(rest, Tag::SET) {
+        Ok(contents) => contents,
+        Err(_) => return Err(ObjectPart::Signers),
+    };
+    match inside(signers, Tag::SEQUENCE) {
+        Ok(contents) => read_fields(contents, strict),
+        Err(_) => Err(ObjectPart::Signer),
+    }
+}

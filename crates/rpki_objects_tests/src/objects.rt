@@ -1,0 +1,6 @@
+//! The octets of objects, as hexadecimal digits.
+
+pub mod authority;
+pub mod manifests;
+pub mod origins;
+pub mod providers;
