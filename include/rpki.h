@@ -210,6 +210,44 @@ enum {
     RPKI_PART_REVOKED_CERTS =
         122, /* the certificates that are revoked: one is no serial number and time, and no more */
 
+    /* Of rpki_signed_object, beside those of rpki_certificate: the part that is wrong. */
+    RPKI_PART_OBJECT = 123,              /* the SEQUENCE around all: it isn't there, or something follows it */
+    RPKI_PART_OBJECT_TYPE = 124,         /* the type is not id-signedData */
+    RPKI_PART_SIGNED_DATA = 125,         /* the tag and the SEQUENCE of signed data, or something follows it */
+    RPKI_PART_OBJECT_VERSION = 126,      /* the version of the signed data is not 3 */
+    RPKI_PART_DIGEST_ALGORITHMS = 127,   /* they are not SHA-256 alone */
+    RPKI_PART_CONTENT = 128,             /* the content and its type: not there, or something follows them */
+    RPKI_PART_CERTIFICATES = 129,        /* the set of the certificate; what it contains has statuses from 64 to 79 */
+    RPKI_PART_SIGNERS = 130,             /* the set of the signer: revocation lists are there, or something follows */
+    RPKI_PART_SIGNER = 131,              /* the signer is no SEQUENCE, or another follows it */
+    RPKI_PART_SIGNER_VERSION = 132,      /* the version of the signer is not 3 */
+    RPKI_PART_SIGNER_IDENTIFIER = 133,   /* the signer has no key identifier of twenty octets */
+    RPKI_PART_SIGNER_DIGEST = 134,       /* the signer's digest algorithm is not SHA-256 */
+    RPKI_PART_SIGNED_ATTRIBUTES = 135,   /* the signed attributes are others than those of RFC 6488 2.1.6.4 */
+    RPKI_PART_SIGNATURE_ALGORITHM = 136, /* not that of RSA, or of RSA with SHA-256 (RFC 7935 2) */
+    RPKI_PART_OBJECT_SIGNATURE = 137,    /* no OCTET STRING, or something follows: unsigned attributes may not */
+
+    /* Of rpki_manifest: the part that is wrong. */
+    RPKI_PART_MANIFEST = 138,             /* the SEQUENCE around all: it isn't there, or something follows it */
+    RPKI_PART_MANIFEST_NUMBER = 139,      /* the number is no unsigned INTEGER of at most 20 octets, or a version is */
+    RPKI_PART_MANIFEST_THIS_UPDATE = 140, /* when the manifest was issued: no GeneralizedTime */
+    RPKI_PART_MANIFEST_NEXT_UPDATE = 141, /* when the next manifest is issued at the latest: likewise */
+    RPKI_PART_HASH_ALGORITHM = 142,       /* the algorithm of the digests is not SHA-256 */
+    RPKI_PART_FILE_LIST = 143,            /* the files: one is no name and digest, and no more; or something follows */
+    RPKI_PART_UPDATE_ORDER = 144,         /* the next update is not after this update */
+
+    /* Of rpki_roa: the part that is wrong. */
+    RPKI_PART_ROA = 145,            /* the SEQUENCE around all: it isn't there, or something follows it */
+    RPKI_PART_AS_ID = 146,          /* the AS number is no INTEGER below 2^32, or a version is there */
+    RPKI_PART_ADDRESS_BLOCKS = 147, /* the prefixes: a family, a prefix, or something that follows them */
+
+    /* Of rpki_aspa: the part that is wrong. */
+    RPKI_PART_ASPA = 148,         /* the SEQUENCE around all: it isn't there, or something follows it */
+    RPKI_PART_ASPA_VERSION = 149, /* the version is not 1 */
+    RPKI_PART_CUSTOMER = 150,     /* the customer is no INTEGER below 2^32 */
+    RPKI_PART_PROVIDERS = 151,    /* the providers: none, one is no such INTEGER, not above the one before it, or the
+                                     customer; or something follows them */
+
     /* Calls on two texts, or on two contents, add this to the number of what is wrong with the second. */
     RPKI_SECOND = 16,
 
@@ -431,6 +469,71 @@ struct rpki_revoked_certificate {
     uint8_t serial_number[20];          /* the serial number, with zeros in front */
     struct rpki_moment revocation_date; /* when it was revoked */
     size_t size;                        /* how many octets the entry has, its header included */
+};
+
+/* The parts of a signed object (RFC 5652 3, 5; RFC 6488 2). */
+struct rpki_signed_object_parts {
+    struct rpki_place content_type;      /* the type of the content: the contents octets of its object identifier */
+    struct rpki_place content;           /* the octets of the content */
+    struct rpki_place certificate;       /* the signer's certificate, its header included */
+    struct rpki_place signed_attributes; /* the signed attributes, their header included: what is signed are these
+                                            octets, but with 0x31 in place of the first (RFC 5652 5.4) */
+    struct rpki_place signature;         /* the octets of the signature */
+    struct rpki_moment signing_time;     /* when the attributes were signed, where has_signing_time; else zeros */
+    uint64_t binary_signing_time;        /* the same in seconds since 1970, where has_binary_signing_time; else 0 */
+    uint8_t message_digest[32];          /* the digest of the content, by SHA-256, that is signed */
+    uint8_t signer_identifier[20];       /* the identifier of the signer's key */
+    bool is_type_signed;                 /* whether the type of the content is the one that is signed */
+    bool has_signing_time;
+    bool has_binary_signing_time;
+    bool has_parameters; /* whether the algorithm of the signature has parameters, a NULL */
+};
+
+/* The parts of a manifest (RFC 9286 4.2). */
+struct rpki_manifest_parts {
+    struct rpki_place files;        /* the files, one after another, each with its header; of length 0 if none */
+    size_t count;                   /* how many files there are */
+    struct rpki_moment this_update; /* when the manifest was issued */
+    struct rpki_moment next_update; /* when the next manifest is issued at the latest */
+    uint8_t manifest_number[20];    /* the number of the manifest, with zeros in front */
+};
+
+/* A file that a manifest lists (RFC 9286 4.2.1). */
+struct rpki_manifest_file_parts {
+    struct rpki_place name; /* the octets of its name, which are ASCII characters */
+    size_t size;            /* how many octets the entry has, its header included */
+    uint8_t digest[32];     /* the digest of the file, by SHA-256 */
+};
+
+/* The parts of a route origin attestation (RFC 9582 4). */
+struct rpki_roa_parts {
+    struct rpki_place v4; /* the prefixes of IPv4, one after another, each with its header; of length 0 if none */
+    struct rpki_place v6; /* those of IPv6 */
+    size_t v4_count;      /* how many prefixes of IPv4 there are */
+    size_t v6_count;      /* how many prefixes of IPv6 there are */
+    uint32_t as_id;       /* the AS number that may announce them */
+};
+
+/* A prefix of a route origin attestation (RFC 9582 4.3.2). */
+struct rpki_roa_address_parts {
+    uint8_t address[16]; /* the lowest address; behind the four octets of IPv4 stand zeros */
+    size_t size;         /* how many octets the entry has, its header included */
+    uint8_t length;      /* how many bits the prefix has */
+    uint8_t max_length;  /* how many bits a prefix in it that is announced may have: `length` unless has_max_length */
+    bool has_max_length; /* whether the maximum length is there; it may be `length` all the same */
+};
+
+/* The parts of an attestation of providers (draft-ietf-sidrops-aspa-profile, version 1). */
+struct rpki_aspa_parts {
+    struct rpki_place providers; /* the providers, one after another, each with its header */
+    size_t count;                /* how many providers there are */
+    uint32_t customer;           /* the AS number of the customer */
+};
+
+/* A provider. */
+struct rpki_aspa_provider_parts {
+    size_t size;     /* how many octets the entry has, its header included */
+    uint32_t number; /* its AS number */
 };
 
 /* Families of addresses, by the version of IP. */
@@ -689,6 +792,89 @@ rpki_status rpki_crl_entry(const uint8_t *octets, size_t size, struct rpki_revok
  * else, as of the calls that read values.
  */
 rpki_status rpki_crl_contains(const uint8_t *octets, size_t size, const uint8_t serial[20], bool *out) RPKI_CHECKED;
+
+/* ---- Signed objects ---- */
+
+/*
+ * Reads a signed object, which is all of the octets (RFC 5652, in the profile of RFC 6488 2), and says what its parts
+ * are and where they stand: version 3; SHA-256 alone; a content with its type; one certificate, of at most
+ * RPKI_MOST_EXTENSIONS extensions; no revocation lists; one signer of version 3, named by a key identifier, without
+ * unsigned attributes, whose signed attributes are a content type and a message digest, once each, a signing time and a
+ * binary signing time, at most once each, and no others. If `strict`, the signing time is there, and the binary signing
+ * time is not (RFC 9589 4). Takes no memory.
+ *
+ * Nothing is verified. An object is valid (RFC 6488 3) where, in this order,
+ *  1. is_type_signed;
+ *  2. SHA-256 of the content is message_digest;
+ *  3. rpki_certificate_checked accepts the certificate as that of an end entity, and its subject key identifier is
+ *     signer_identifier;
+ *  4. the certificate's key has made the signature, by RSA with SHA-256 (RFC 7935 2), of the octet 0x31 and then of the
+ *     octets of signed_attributes behind their first (RFC 5652 5.4);
+ *  5. the certificate is valid: its issuer has signed it, and so on to a trust anchor; none is revoked; and the
+ *     resources that the content speaks of are the certificate's.
+ *
+ * Where a status is not 0, it is an RPKI_PART_ number: the leftmost part that is wrong; of the certificate the one that
+ * rpki_certificate names, from 64 to 79.
+ */
+rpki_status rpki_signed_object(const uint8_t *octets, size_t size, bool strict,
+                               struct rpki_signed_object_parts *out) RPKI_CHECKED;
+
+/* ---- What signed objects contain: all of the octets are a content, as rpki_signed_object tells its place ---- */
+
+/*
+ * Reads a manifest (RFC 9286 4.2), and says what its parts are and where its files stand: version 0, which is left out;
+ * a number; two times; SHA-256; and files, each of a name of letters, digits, `-` and `_`, one at least, a dot and
+ * three small letters, and of a digest. Whether a later manifest is due is not looked at. Takes no memory.
+ *
+ * Whether two files have the same name, which RFC 9286 4.2.1 forbids, is not looked at either: compare the names.
+ *
+ * Where a status is not 0, it is an RPKI_PART_ number: from 138 to 143 the leftmost part that is wrong; else 144.
+ */
+rpki_status rpki_manifest(const uint8_t *octets, size_t size, struct rpki_manifest_parts *out) RPKI_CHECKED;
+
+/*
+ * The file at the front of the octets, as of what rpki_manifest tells the place of: a SEQUENCE of a name and a digest,
+ * and nothing else. What follows is not looked at: the next file begins `size` octets on. Takes no memory. The statuses
+ * are those of the calls that read values; RPKI_CONTENT also for a name of other characters, and for a digest of
+ * another size or with bits that are not used.
+ */
+rpki_status rpki_manifest_file(const uint8_t *octets, size_t size, struct rpki_manifest_file_parts *out) RPKI_CHECKED;
+
+/*
+ * Reads a route origin attestation (RFC 9582 4), and says which AS number it is for and where its prefixes stand:
+ * version 0, which is left out; the AS number; and one or two families, each at most once, with a prefix at least. If
+ * `strict`, IPv4 is in front of IPv6 (RFC 9582 4.3.3). Prefixes in another order, or twice, are accepted. Whether they
+ * are resources of the certificate is not looked at. Takes no memory.
+ *
+ * Where a status is not 0, it is an RPKI_PART_ number, from 145 to 147: the leftmost part that is wrong.
+ */
+rpki_status rpki_roa(const uint8_t *octets, size_t size, bool strict, struct rpki_roa_parts *out) RPKI_CHECKED;
+
+/*
+ * The prefix at the front of the octets, as of what rpki_roa tells the places of, of this family, RPKI_IPV4 or
+ * RPKI_IPV6: a SEQUENCE of its bits and of a maximum length, which may be left out, and nothing else. What follows is
+ * not looked at: the next prefix begins `size` octets on. Takes no memory. RPKI_CONTENT: the family is another. Else
+ * the statuses are those of the calls that read values; RPKI_CONTENT also for more bits than an address has, and for a
+ * maximum length below that of the prefix or above that of an address.
+ */
+rpki_status rpki_roa_address(const uint8_t *octets, size_t size, uint8_t family,
+                             struct rpki_roa_address_parts *out) RPKI_CHECKED;
+
+/*
+ * Reads an attestation of the providers of an autonomous system (draft-ietf-sidrops-aspa-profile), and says who the
+ * customer is and where the providers stand: version 1; the customer; and providers, one at least, each above the one
+ * before it, none of which is the customer. Takes no memory.
+ *
+ * Where a status is not 0, it is an RPKI_PART_ number, from 148 to 151: the leftmost part that is wrong.
+ */
+rpki_status rpki_aspa(const uint8_t *octets, size_t size, struct rpki_aspa_parts *out) RPKI_CHECKED;
+
+/*
+ * The provider at the front of the octets, as of what rpki_aspa tells the place of: an INTEGER below 2^32. What follows
+ * is not looked at: the next provider begins `size` octets on. Takes no memory. The statuses are those of the calls
+ * that read values.
+ */
+rpki_status rpki_aspa_provider(const uint8_t *octets, size_t size, struct rpki_aspa_provider_parts *out) RPKI_CHECKED;
 
 /* ---- Resources: all of the octets are the contents of one extension ---- */
 
@@ -1157,6 +1343,49 @@ RPKI_ASSERT_AT(crl_parts, next_update, 112);
 RPKI_ASSERT_AT(crl_parts, crl_number, 144);
 RPKI_ASSERT_AT(crl_parts, authority_key_identifier, 164);
 RPKI_ASSERT_AT(crl_parts, has_parameters, 184);
+RPKI_ASSERT(signed_object_parts, sizeof(struct rpki_signed_object_parts) == 176);
+RPKI_ASSERT_AT(signed_object_parts, content_type, 0);
+RPKI_ASSERT_AT(signed_object_parts, content, 16);
+RPKI_ASSERT_AT(signed_object_parts, certificate, 32);
+RPKI_ASSERT_AT(signed_object_parts, signed_attributes, 48);
+RPKI_ASSERT_AT(signed_object_parts, signature, 64);
+RPKI_ASSERT_AT(signed_object_parts, signing_time, 80);
+RPKI_ASSERT_AT(signed_object_parts, binary_signing_time, 112);
+RPKI_ASSERT_AT(signed_object_parts, message_digest, 120);
+RPKI_ASSERT_AT(signed_object_parts, signer_identifier, 152);
+RPKI_ASSERT_AT(signed_object_parts, is_type_signed, 172);
+RPKI_ASSERT_AT(signed_object_parts, has_signing_time, 173);
+RPKI_ASSERT_AT(signed_object_parts, has_binary_signing_time, 174);
+RPKI_ASSERT_AT(signed_object_parts, has_parameters, 175);
+RPKI_ASSERT(manifest_parts, sizeof(struct rpki_manifest_parts) == 112);
+RPKI_ASSERT_AT(manifest_parts, files, 0);
+RPKI_ASSERT_AT(manifest_parts, count, 16);
+RPKI_ASSERT_AT(manifest_parts, this_update, 24);
+RPKI_ASSERT_AT(manifest_parts, next_update, 56);
+RPKI_ASSERT_AT(manifest_parts, manifest_number, 88);
+RPKI_ASSERT(manifest_file_parts, sizeof(struct rpki_manifest_file_parts) == 56);
+RPKI_ASSERT_AT(manifest_file_parts, name, 0);
+RPKI_ASSERT_AT(manifest_file_parts, size, 16);
+RPKI_ASSERT_AT(manifest_file_parts, digest, 24);
+RPKI_ASSERT(roa_parts, sizeof(struct rpki_roa_parts) == 56);
+RPKI_ASSERT_AT(roa_parts, v4, 0);
+RPKI_ASSERT_AT(roa_parts, v6, 16);
+RPKI_ASSERT_AT(roa_parts, v4_count, 32);
+RPKI_ASSERT_AT(roa_parts, v6_count, 40);
+RPKI_ASSERT_AT(roa_parts, as_id, 48);
+RPKI_ASSERT(roa_address_parts, sizeof(struct rpki_roa_address_parts) == 32);
+RPKI_ASSERT_AT(roa_address_parts, address, 0);
+RPKI_ASSERT_AT(roa_address_parts, size, 16);
+RPKI_ASSERT_AT(roa_address_parts, length, 24);
+RPKI_ASSERT_AT(roa_address_parts, max_length, 25);
+RPKI_ASSERT_AT(roa_address_parts, has_max_length, 26);
+RPKI_ASSERT(aspa_parts, sizeof(struct rpki_aspa_parts) == 32);
+RPKI_ASSERT_AT(aspa_parts, providers, 0);
+RPKI_ASSERT_AT(aspa_parts, count, 16);
+RPKI_ASSERT_AT(aspa_parts, customer, 24);
+RPKI_ASSERT(aspa_provider_parts, sizeof(struct rpki_aspa_provider_parts) == 16);
+RPKI_ASSERT_AT(aspa_provider_parts, size, 0);
+RPKI_ASSERT_AT(aspa_provider_parts, number, 8);
 RPKI_ASSERT(revoked_certificate, sizeof(struct rpki_revoked_certificate) == 64);
 RPKI_ASSERT_AT(revoked_certificate, serial_number, 0);
 RPKI_ASSERT_AT(revoked_certificate, revocation_date, 24);
@@ -1271,6 +1500,35 @@ static inline const char *rpki_status_text(int kind, rpki_status status) {
             case RPKI_PART_THIS_UPDATE: return "no time of issue";
             case RPKI_PART_NEXT_UPDATE: return "no time of the next list";
             case RPKI_PART_REVOKED_CERTS: return "malformed entry of a revoked certificate";
+            case RPKI_PART_OBJECT: return "not a signed object";
+            case RPKI_PART_OBJECT_TYPE: return "type is not that of signed data";
+            case RPKI_PART_SIGNED_DATA: return "malformed signed object";
+            case RPKI_PART_OBJECT_VERSION: return "other version of signed data";
+            case RPKI_PART_DIGEST_ALGORITHMS: return "digest algorithms are not SHA-256 alone";
+            case RPKI_PART_CONTENT: return "malformed content";
+            case RPKI_PART_CERTIFICATES: return "missing certificate";
+            case RPKI_PART_SIGNERS: return "no signers, or more than these";
+            case RPKI_PART_SIGNER: return "not one signer";
+            case RPKI_PART_SIGNER_VERSION: return "other version of the signer";
+            case RPKI_PART_SIGNER_IDENTIFIER: return "malformed key identifier of the signer";
+            case RPKI_PART_SIGNER_DIGEST: return "digest algorithm of the signer is not SHA-256";
+            case RPKI_PART_SIGNED_ATTRIBUTES: return "signed attributes that no signed object has";
+            case RPKI_PART_SIGNATURE_ALGORITHM: return "other algorithm of the signature";
+            case RPKI_PART_OBJECT_SIGNATURE: return "malformed signature of the object";
+            case RPKI_PART_MANIFEST: return "not a manifest";
+            case RPKI_PART_MANIFEST_NUMBER: return "malformed number of the manifest";
+            case RPKI_PART_MANIFEST_THIS_UPDATE: return "malformed time of issue of the manifest";
+            case RPKI_PART_MANIFEST_NEXT_UPDATE: return "malformed time of the next manifest";
+            case RPKI_PART_HASH_ALGORITHM: return "algorithm of digests is not SHA-256";
+            case RPKI_PART_FILE_LIST: return "malformed list of files";
+            case RPKI_PART_UPDATE_ORDER: return "next update not after this update";
+            case RPKI_PART_ROA: return "not a route origin attestation";
+            case RPKI_PART_AS_ID: return "malformed AS number";
+            case RPKI_PART_ADDRESS_BLOCKS: return "malformed list of prefixes";
+            case RPKI_PART_ASPA: return "not an attestation of providers";
+            case RPKI_PART_ASPA_VERSION: return "other version of the attestation";
+            case RPKI_PART_CUSTOMER: return "malformed customer";
+            case RPKI_PART_PROVIDERS: return "malformed list of providers";
             case RPKI_WRONG_BASIC_CONSTRAINTS: return "wrong basic constraints";
             case RPKI_WRONG_SUBJECT_KEY_IDENTIFIER: return "wrong subject key identifier";
             case RPKI_WRONG_AUTHORITY_KEY_IDENTIFIER: return "wrong authority key identifier";

@@ -9,7 +9,9 @@
 -- What is made on a condition: MadeLaws. Hexadecimal digits: HexTextLaws. Base 64: Base64Laws.
 -- Where octets go wrong: FaultLaws. The index, in the middle of its writing: FillingLaws.
 -- Parts of parsed URIs, by their places: RsyncPlacesLaws, HttpsPlacesLaws. Parts of certificates: CertificateLaws; that
---   one is held to a profile: InspectionLaws. Parts of revocation lists: CrlLaws. Where something is: AccessLaws.
+--   one is held to a profile: InspectionLaws. Parts of revocation lists: CrlLaws; of signed
+--   objects: SignedObjectLaws; of manifests and attestations: ContentLaws, RoaPlaceLaws; how many: CountLaws. Where
+--   something is: AccessLaws.
 -- Entries of blocks, one after another, and how many there are: BlockListLaws, ViewCountLaws. Statuses of
 --   contents of resources: ResourceStatusLaws.
 
@@ -37,3 +39,7 @@ mod BlockListLaws
 mod ViewCountLaws
 mod ResourceStatusLaws
 mod CrlLaws
+pub mod SignedObjectLaws
+mod ContentLaws
+mod CountLaws
+mod RoaPlaceLaws

@@ -39,4 +39,8 @@ pub mod Resources
 pub mod Encompassing
 pub mod BlockText
 pub mod Crl
+pub mod SignedObject
+pub mod Manifest
+pub mod Roa
+pub mod Aspa
 pub mod Access

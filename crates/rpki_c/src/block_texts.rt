@@ -19,7 +19,7 @@ use rpki_resources::{AddressFamily, AsBlock, Asn, Block, IpBlock};
 const INHERIT: &[u8; 7] = b"inherit";
 
 /// The family that a number names.
-fn family_of(number: u8) -> Option<AddressFamily>
+pub(crate) fn family_of(number: u8) -> Option<AddressFamily>
     ensures some { IfSome result (λ family. number ≡ family_number family) }
     ensures none { IfNone result ((family : AddressFamily) → number ≡ family_number family → ⊥) }
 {

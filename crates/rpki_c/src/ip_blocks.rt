@@ -37,7 +37,7 @@ fn family_number(family: AddressFamily) -> u8
 }
 
 /// The octets of an address.
-fn octets_of(family: AddressFamily, number: u128) -> [u8; 16]
+pub(crate) fn octets_of(family: AddressFamily, number: u128) -> [u8; 16]
     ensures { result ≡ address_octets family number }
 {
     let octets = number.to_be_bytes();

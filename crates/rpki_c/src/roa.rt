@@ -1,0 +1,148 @@
+//! Route origin attestations.
+
+ghost use Rattle.std.specs.Prelude.{◌≡◌, List, length};
+ghost use Rattle.rpki_resources.specs.Address.{width};
+ghost use Rattle.rpki_contents.specs.declared.roa_address.RoaIpAddress.{RoaIpAddress};
+ghost use Rattle.rpki_contents.specs.RoaAddress.{each_address};
+ghost use Rattle.rpki_contents.specs.Roa.{AttestationParts};
+ghost use Rattle.rpki_contents.specs.RoaView.{IsRoaAt, PrefixesStand};
+ghost use Rattle.rpki_c.specs.Roa.{roa_part_number, HasRoa, IsRoaRead, IsAddressRead};
+
+use crate::block_texts::family_of;
+use crate::certificate::place_of;
+use crate::ip_blocks::octets_of;
+use crate::place::Place;
+use crate::status::CONTENT;
+use rpki_cert::Section;
+use rpki_contents::{AddressCursor, RoaIpAddress, RoaPart, RoaView};
+use rpki_der::Constructed;
+use rpki_resources::AddressFamily;
+
+/// The parts of a route origin attestation.
+#[repr(C)]
+#[derive(Clone, Copy)]
+pub struct RoaParts {
+    /// The prefixes of IP version 4, one after another; of length 0 where the family isn't there.
+    pub v4: Place,
+    /// The prefixes of IP version 6, one after another; of length 0 where the family isn't there.
+    pub v6: Place,
+    /// How many prefixes of IP version 4 there are.
+    pub v4_count: usize,
+    /// How many prefixes of IP version 6 there are.
+    pub v6_count: usize,
+    /// The AS number that may announce the prefixes.
+    pub as_id: u32,
+}
+
+/// How a part that is wrong is passed.
+fn roa_part_number(part: RoaPart) -> u8
+    ensures { result ≡ roa_part_number part }
+{
+    match part {
+        RoaPart::Attestation => 145,
+        RoaPart::AsId => 146,
+        RoaPart::AddressBlocks => 147,
+    }
+}
+
+/// How many prefixes of the family the octets are.
+fn count_addresses(family: AddressFamily, octets: &[u8]) -> usize
+    ensures { (xs : List RoaIpAddress) → (each_address (width family)).spells xs octets.now → result ≡ length xs }
+{
+    let mut rest = AddressCursor {
+        family,
+        rest: Constructed::from_slice(octets),
+    };
+    let mut count = 0;
+    'each: while let Some(_) = rest.next_address() {
+        count += 1;
+    }
+    count
+}
+
+/// The parts of the attestation that the octets are.
+fn roa_of(octets: &[u8], strict: bool, found: RoaView<'_>) -> RoaParts
+    requires attestation { (x : AttestationParts) × IsRoaAt strict octets.now found x }
+    requires stand { PrefixesStand octets.now found }
+    ensures { HasRoa strict octets.now result }
+{
+    let total = octets.len();
+    let v4 = Section {
+        octets: found.v4,
+        following: found.v4_following,
+    };
+    let v6 = Section {
+        octets: found.v6,
+        following: found.v6_following,
+    };
+    RoaParts {
+        v4: place_of(total, 0, v4),
+        v6: place_of(total, 0, v6),
+        v4_count: count_addresses(AddressFamily::Ipv4, found.v4),
+        v6_count: count_addresses(AddressFamily::Ipv6, found.v6),
+        as_id: found.as_id,
+    }
+}
+
+/// Reads a route origin attestation (RFC 9582 4), and says which AS number it is for and where its prefixes stand. If
+/// `strict`, the prefixes of IP version 4 are in front of those of IP version 6 (RFC 9582 4.3.3).
+///
+/// The status is 0. Else it is the number of the leftmost part that is wrong, and `out` is unchanged. Nothing is
+/// allocated.
+#[unsafe(no_mangle)]
+pub extern "C" fn rpki_roa(octets: &[u8], strict: bool, out: &mut RoaParts) -> u8
+    ensures { IsRoaRead strict octets.now result out.old out.new }
+{
+    match RoaView::read(octets, strict) {
+        Ok(found) => {
+            *out = roa_of(octets, strict, found);
+            0
+        }
+        Err(part) => roa_part_number(part),
+    }
+}
+
+/// A prefix, and how long the prefixes in it that are announced may be.
+#[repr(C)]
+#[derive(Clone, Copy)]
+pub struct RoaAddress {
+    /// The lowest address, the most significant octet first; behind the four octets of IP version 4 stand zeros.
+    pub address: [u8; 16],
+    /// How many octets its entry has.
+    pub size: usize,
+    /// How many bits the prefix has.
+    pub length: u8,
+    /// How many bits a prefix that is announced may have; the prefix's own length where that is left out.
+    pub max_length: u8,
+    /// Whether that isn't left out.
+    pub has_max_length: bool,
+}
+
+/// Reads the prefix at the front of the octets, as of the prefixes of a family, 4 or 6: a SEQUENCE of its bits and of a
+/// maximum length, which may be left out, and nothing else (RFC 9582 4.3.2). What follows is not looked at.
+///
+/// The status is 0; `CONTENT` for another family, before the octets are looked at; else the number of the error. `out`
+/// is unchanged where the status is not 0. Nothing is allocated.
+#[unsafe(no_mangle)]
+pub extern "C" fn rpki_roa_address(octets: &[u8], family: u8, out: &mut RoaAddress) -> u8
+    ensures { IsAddressRead family octets.now result out.old out.new }
+{
+    let Some(named) = family_of(family) else {
+        return CONTENT;
+    };
+    let mut rest = Constructed::from_slice(octets);
+    match RoaIpAddress::take_from(&mut rest, named) {
+        Ok(found) => {
+            let prefix = found.prefix;
+            *out = RoaAddress {
+                address: octets_of(named, prefix.low_end(named)),
+                size: octets.len() - rest.rest().len(),
+                length: prefix.size,
+                max_length: found.max_length.unwrap_or(prefix.size),
+                has_max_length: found.max_length.is_some(),
+            };
+            0
+        }
+        Err(e) => e.number(),
+    }
+}

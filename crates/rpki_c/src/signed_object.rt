@@ -1,0 +1,144 @@
+//! Signed objects.
+
+ghost use Rattle.std.specs.Prelude.{◌≡◌, ◌↔◌, IsTrue, IfSome};
+ghost use Rattle.jiff.specs.Words.{civil_nanos};
+ghost use Rattle.rpki_time.specs.Time.{IsFloorSecond};
+ghost use Rattle.rpki_objects.specs.SignedObject.{ObjectParts};
+ghost use Rattle.rpki_objects.specs.SignedObjectView.{IsObjectAt};
+ghost use Rattle.rpki_c.specs.SignedObject.{object_part_number, HasObject, IsObjectRead};
+
+use crate::certificate::{part_number, place_of};
+use crate::place::Place;
+use crate::times::{Moment, moment_of};
+use rpki::crypto::SignatureAlgorithm;
+use rpki_objects::{ObjectPart, SignedObjectView};
+use rpki_time::Time;
+
+/// The parts of a signed object.
+#[repr(C)]
+#[derive(Clone, Copy)]
+pub struct SignedObjectParts {
+    /// The contents octets of the object identifier that is the content's type.
+    pub content_type: Place,
+    /// The octets of the content.
+    pub content: Place,
+    /// The signer's certificate, with its header.
+    pub certificate: Place,
+    /// The signed attributes, with their header.
+    pub signed_attributes: Place,
+    /// The octets of the signature.
+    pub signature: Place,
+    /// When the attributes were signed, where that is said.
+    pub signing_time: Moment,
+    /// The same in seconds since 1970, where that is said; else 0.
+    pub binary_signing_time: u64,
+    /// The digest of the content that is signed.
+    pub message_digest: [u8; 32],
+    /// The identifier of the signer's key.
+    pub signer_identifier: [u8; 20],
+    /// Whether the content's type is the one that is signed.
+    pub is_type_signed: bool,
+    /// Whether there is a signing time.
+    pub has_signing_time: bool,
+    /// Whether there is a binary signing time.
+    pub has_binary_signing_time: bool,
+    /// Whether the algorithm of the signature has parameters, a NULL.
+    pub has_parameters: bool,
+}
+
+/// How a part that is wrong is passed.
+fn object_part_number(part: ObjectPart) -> u8
+    ensures { result ≡ object_part_number part }
+{
+    match part {
+        ObjectPart::Object => 123,
+        ObjectPart::ObjectType => 124,
+        ObjectPart::SignedData => 125,
+        ObjectPart::Version => 126,
+        ObjectPart::DigestAlgorithms => 127,
+        ObjectPart::Content => 128,
+        ObjectPart::Certificates => 129,
+        ObjectPart::Certificate(part) => part_number(part),
+        ObjectPart::Signers => 130,
+        ObjectPart::Signer => 131,
+        ObjectPart::SignerVersion => 132,
+        ObjectPart::SignerIdentifier => 133,
+        ObjectPart::SignerDigestAlgorithm => 134,
+        ObjectPart::SignedAttrs => 135,
+        ObjectPart::SignatureAlgorithm => 136,
+        ObjectPart::Signature => 137,
+    }
+}
+
+/// The moment of a time, where there is one; else one of zeros.
+fn moment_if(time: Option<Time>) -> Moment
+    ensures since { IfSome time (λ t. IsFloorSecond (civil_nanos t) result.seconds) }
+    ensures date { IfSome time (λ t. (result.year ≡ t.date.year) × (result.month ≡ t.date.month)
+        × (result.day ≡ t.date.day)) }
+    ensures clock { IfSome time (λ t. (result.hour ≡ t.time.hour) × (result.minute ≡ t.time.minute)
+        × (result.second ≡ t.time.second)) }
+{
+    match time {
+        Some(time) => moment_of(time),
+        None => Moment {
+            seconds: 0,
+            year: 0,
+            month: 0,
+            day: 0,
+            hour: 0,
+            minute: 0,
+            second: 0,
+        },
+    }
+}
+
+/// Whether these are the same octets.
+fn are_same(one: &[u8], other: &[u8]) -> bool
+    ensures { IsTrue result ↔ (one.now ≡ other.now) }
+{
+    one == other
+}
+
+/// The parts of the signed object that the octets are.
+fn object_of(octets: &[u8], strict: bool, found: &SignedObjectView<'_>) -> SignedObjectParts
+    requires { (x : ObjectParts) × IsObjectAt strict octets.now found.now x }
+    ensures { HasObject strict octets.now result }
+{
+    let total = octets.len();
+    let content = &found.content;
+    let signer = &found.signer;
+    let values = &signer.signed_attrs.values;
+    SignedObjectParts {
+        content_type: place_of(total, 0, content.content_type),
+        content: place_of(total, 0, content.content),
+        certificate: place_of(total, 0, found.cert),
+        signed_attributes: place_of(total, 0, signer.signed_attrs.octets),
+        signature: place_of(total, 0, signer.signature),
+        signing_time: moment_if(values.signing_time),
+        binary_signing_time: values.binary_signing_time.unwrap_or(0),
+        message_digest: values.message_digest.into_array(),
+        signer_identifier: <[u8; 20]>::from(signer.identifier),
+        is_type_signed: are_same(content.content_type.octets, values.content_type.0),
+        has_signing_time: values.signing_time.is_some(),
+        has_binary_signing_time: values.binary_signing_time.is_some(),
+        has_parameters: signer.algorithm.has_parameters(),
+    }
+}
+
+/// Reads a signed object (RFC 5652, in the profile of RFC 6488), and says what its parts are and where they stand. If
+/// `strict`, it has a signing time, and no binary signing time (RFC 9589 4).
+///
+/// The status is 0. Else it is the number of the part that is wrong, and `out` is unchanged: the leftmost, and of the
+/// certificate the one that [crate::certificate::rpki_certificate] names, by its number. Nothing is allocated.
+#[unsafe(no_mangle)]
+pub extern "C" fn rpki_signed_object(octets: &[u8], strict: bool, out: &mut SignedObjectParts) -> u8
+    ensures { IsObjectRead strict octets.now result out.old out.new }
+{
+    match SignedObjectView::read(octets, strict) {
+        Ok(found) => {
+            *out = object_of(octets, strict, &found);
+            0
+        }
+        Err(part) => object_part_number(part),
+    }
+}
