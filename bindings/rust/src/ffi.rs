@@ -110,6 +110,10 @@ readers! {
     distribution_point(rpki_distribution_point) -> Place;
     crl(rpki_crl) -> CrlParts;
     crl_entry(rpki_crl_entry) -> RevokedCertificate;
+    manifest(rpki_manifest) -> ManifestParts;
+    manifest_file(rpki_manifest_file) -> ManifestFileParts;
+    aspa(rpki_aspa) -> AspaParts;
+    aspa_provider(rpki_aspa_provider) -> AspaProviderParts;
     rsync_parse(rpki_rsync_parse) -> RsyncParts;
     rsync_parent(rpki_rsync_parent) -> usize;
     https_parse(rpki_https_parse) -> HttpsParts;
@@ -219,6 +223,21 @@ pub(crate) fn certificate_inspect(octets: &[u8], profile: u8, strict: bool) -> R
     compared();
     // SAFETY: pointer and size are those of one slice, which is borrowed for the call.
     done(unsafe { rpki_certificate_inspect(octets.as_ptr(), octets.len(), profile, strict) })
+}
+
+pub(crate) fn signed_object(octets: &[u8], strict: bool) -> Result<SignedObjectParts, Status> {
+    // SAFETY: pointer and size are those of one slice, which is borrowed for the call.
+    told(|out| unsafe { rpki_signed_object(octets.as_ptr(), octets.len(), strict, out) })
+}
+
+pub(crate) fn roa(octets: &[u8], strict: bool) -> Result<RoaParts, Status> {
+    // SAFETY: pointer and size are those of one slice, which is borrowed for the call.
+    told(|out| unsafe { rpki_roa(octets.as_ptr(), octets.len(), strict, out) })
+}
+
+pub(crate) fn roa_address(octets: &[u8], family: u8) -> Result<RoaAddressParts, Status> {
+    // SAFETY: pointer and size are those of one slice, which is borrowed for the call.
+    told(|out| unsafe { rpki_roa_address(octets.as_ptr(), octets.len(), family, out) })
 }
 
 /// Whether one of the entries of a revocation list has this serial number.

@@ -100,6 +100,35 @@ pub(crate) const RULE_MANIFEST_PLACE: Status = 118;
 pub(crate) const RULE_NOTIFICATIONS: Status = 119;
 pub(crate) const PART_THIS_UPDATE: Status = 120;
 pub(crate) const PART_NEXT_UPDATE: Status = 121;
+pub(crate) const PART_OBJECT: Status = 123;
+pub(crate) const PART_OBJECT_TYPE: Status = 124;
+pub(crate) const PART_SIGNED_DATA: Status = 125;
+pub(crate) const PART_OBJECT_VERSION: Status = 126;
+pub(crate) const PART_DIGEST_ALGORITHMS: Status = 127;
+pub(crate) const PART_CONTENT: Status = 128;
+pub(crate) const PART_CERTIFICATES: Status = 129;
+pub(crate) const PART_SIGNERS: Status = 130;
+pub(crate) const PART_SIGNER: Status = 131;
+pub(crate) const PART_SIGNER_VERSION: Status = 132;
+pub(crate) const PART_SIGNER_IDENTIFIER: Status = 133;
+pub(crate) const PART_SIGNER_DIGEST: Status = 134;
+pub(crate) const PART_SIGNED_ATTRIBUTES: Status = 135;
+pub(crate) const PART_SIGNATURE_ALGORITHM: Status = 136;
+pub(crate) const PART_OBJECT_SIGNATURE: Status = 137;
+pub(crate) const PART_MANIFEST: Status = 138;
+pub(crate) const PART_MANIFEST_NUMBER: Status = 139;
+pub(crate) const PART_MANIFEST_THIS_UPDATE: Status = 140;
+pub(crate) const PART_MANIFEST_NEXT_UPDATE: Status = 141;
+pub(crate) const PART_HASH_ALGORITHM: Status = 142;
+pub(crate) const PART_FILE_LIST: Status = 143;
+pub(crate) const PART_UPDATE_ORDER: Status = 144;
+pub(crate) const PART_ROA: Status = 145;
+pub(crate) const PART_AS_ID: Status = 146;
+pub(crate) const PART_ADDRESS_BLOCKS: Status = 147;
+pub(crate) const PART_ASPA: Status = 148;
+pub(crate) const PART_ASPA_VERSION: Status = 149;
+pub(crate) const PART_CUSTOMER: Status = 150;
+pub(crate) const PART_PROVIDERS: Status = 151;
 pub(crate) const SECOND: Status = 16;
 pub(crate) const MISSING_COMMON_NAME: Status = 32;
 pub(crate) const SECOND_COMMON_NAME: Status = 33;
@@ -328,6 +357,84 @@ const _: () = assert!(size_of::<RevokedCertificate>() == 64);
 
 #[repr(C)]
 #[derive(Clone, Copy, Default)]
+pub(crate) struct SignedObjectParts {
+    pub(crate) content_type: Place,
+    pub(crate) content: Place,
+    pub(crate) certificate: Place,
+    pub(crate) signed_attributes: Place,
+    pub(crate) signature: Place,
+    pub(crate) signing_time: Moment,
+    pub(crate) binary_signing_time: u64,
+    pub(crate) message_digest: [u8; 32],
+    pub(crate) signer_identifier: [u8; 20],
+    pub(crate) is_type_signed: bool,
+    pub(crate) has_signing_time: bool,
+    pub(crate) has_binary_signing_time: bool,
+    pub(crate) has_parameters: bool,
+}
+const _: () = assert!(size_of::<SignedObjectParts>() == 176);
+
+#[repr(C)]
+#[derive(Clone, Copy, Default)]
+pub(crate) struct ManifestParts {
+    pub(crate) files: Place,
+    pub(crate) count: usize,
+    pub(crate) this_update: Moment,
+    pub(crate) next_update: Moment,
+    pub(crate) manifest_number: [u8; 20],
+}
+const _: () = assert!(size_of::<ManifestParts>() == 112);
+
+#[repr(C)]
+#[derive(Clone, Copy, Default)]
+pub(crate) struct ManifestFileParts {
+    pub(crate) name: Place,
+    pub(crate) size: usize,
+    pub(crate) digest: [u8; 32],
+}
+const _: () = assert!(size_of::<ManifestFileParts>() == 56);
+
+#[repr(C)]
+#[derive(Clone, Copy, Default)]
+pub(crate) struct RoaParts {
+    pub(crate) v4: Place,
+    pub(crate) v6: Place,
+    pub(crate) v4_count: usize,
+    pub(crate) v6_count: usize,
+    pub(crate) as_id: u32,
+}
+const _: () = assert!(size_of::<RoaParts>() == 56);
+
+#[repr(C)]
+#[derive(Clone, Copy, Default)]
+pub(crate) struct RoaAddressParts {
+    pub(crate) address: [u8; 16],
+    pub(crate) size: usize,
+    pub(crate) length: u8,
+    pub(crate) max_length: u8,
+    pub(crate) has_max_length: bool,
+}
+const _: () = assert!(size_of::<RoaAddressParts>() == 32);
+
+#[repr(C)]
+#[derive(Clone, Copy, Default)]
+pub(crate) struct AspaParts {
+    pub(crate) providers: Place,
+    pub(crate) count: usize,
+    pub(crate) customer: u32,
+}
+const _: () = assert!(size_of::<AspaParts>() == 32);
+
+#[repr(C)]
+#[derive(Clone, Copy, Default)]
+pub(crate) struct AspaProviderParts {
+    pub(crate) size: usize,
+    pub(crate) number: u32,
+}
+const _: () = assert!(size_of::<AspaProviderParts>() == 16);
+
+#[repr(C)]
+#[derive(Clone, Copy, Default)]
 pub(crate) struct IpBlock {
     pub(crate) low: [u8; 16],
     pub(crate) high: [u8; 16],
@@ -399,6 +506,18 @@ extern "C" {
     pub(super) fn rpki_crl(octets: *const u8, size: usize, out: *mut CrlParts) -> Status;
     pub(super) fn rpki_crl_entry(octets: *const u8, size: usize, out: *mut RevokedCertificate) -> Status;
     pub(super) fn rpki_crl_contains(octets: *const u8, size: usize, serial: *const [u8; 20], out: *mut bool) -> Status;
+    pub(super) fn rpki_signed_object(
+        octets: *const u8,
+        size: usize,
+        strict: bool,
+        out: *mut SignedObjectParts,
+    ) -> Status;
+    pub(super) fn rpki_manifest(octets: *const u8, size: usize, out: *mut ManifestParts) -> Status;
+    pub(super) fn rpki_manifest_file(octets: *const u8, size: usize, out: *mut ManifestFileParts) -> Status;
+    pub(super) fn rpki_roa(octets: *const u8, size: usize, strict: bool, out: *mut RoaParts) -> Status;
+    pub(super) fn rpki_roa_address(octets: *const u8, size: usize, family: u8, out: *mut RoaAddressParts) -> Status;
+    pub(super) fn rpki_aspa(octets: *const u8, size: usize, out: *mut AspaParts) -> Status;
+    pub(super) fn rpki_aspa_provider(octets: *const u8, size: usize, out: *mut AspaProviderParts) -> Status;
     pub(super) fn rpki_ip_blocks(
         octets: *const u8,
         size: usize,

@@ -55,7 +55,7 @@ pub enum CertError {
 }
 
 impl CertError {
-    fn from_status(status: Status) -> CertError {
+    pub(crate) fn from_status(status: Status) -> CertError {
         match status {
             64 => CertError::Certificate,
             65 => CertError::Signed,

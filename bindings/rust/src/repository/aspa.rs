@@ -1,0 +1,145 @@
+//! Attestations of the providers of an autonomous system (draft-ietf-sidrops-aspa-profile, version 1).
+
+use crate::ffi::{self, Status};
+use crate::repository::resources::Asn;
+use bytes::Bytes;
+use std::error::Error;
+use std::fmt;
+
+/// The leftmost part of an attestation of providers that is wrong.
+#[derive(Clone, Copy, Debug, PartialEq, Eq, Hash)]
+#[non_exhaustive]
+pub enum AspaError {
+    /// The SEQUENCE around all isn't there, or something follows it.
+    Attestation,
+    /// The version is not 1.
+    Version,
+    /// The customer is no INTEGER below 2^32.
+    Customer,
+    /// There are no providers, one of them is no such INTEGER, not above the one before it, or the customer; or
+    /// something follows.
+    Providers,
+}
+
+impl AspaError {
+    fn from_status(status: Status) -> AspaError {
+        match status {
+            ffi::PART_ASPA => AspaError::Attestation,
+            ffi::PART_ASPA_VERSION => AspaError::Version,
+            ffi::PART_CUSTOMER => AspaError::Customer,
+            ffi::PART_PROVIDERS => AspaError::Providers,
+            _ => unreachable!("{status} is no status of an attestation of providers"),
+        }
+    }
+}
+
+impl fmt::Display for AspaError {
+    fn fmt(&self, f: &mut fmt::Formatter) -> fmt::Result {
+        f.write_str(match self {
+            AspaError::Attestation => "not an attestation of providers",
+            AspaError::Version => "other version of the attestation",
+            AspaError::Customer => "malformed customer",
+            AspaError::Providers => "malformed list of providers",
+        })
+    }
+}
+
+impl Error for AspaError {}
+
+/// What an attestation of providers says. The providers share the octets that it was read from.
+///
+/// ```
+/// use rpki_proved::repository::aspa::{AsProviderAttestation, AspaError};
+///
+/// let octets = b"\x30\x11\xa0\x03\x02\x01\x01\x02\x02\x10\x00\x30\x06\x02\x01\x05\x02\x01\x07";
+/// let aspa = AsProviderAttestation::decode(&octets[..]).unwrap();
+/// assert_eq!(aspa.customer_as().into_u32(), 4096);
+/// let providers: Vec<u32> = aspa.provider_as_set().iter().map(u32::from).collect();
+/// assert_eq!(providers, [5, 7]);
+/// assert_eq!(AsProviderAttestation::decode(&b"\x30\x00"[..]).unwrap_err(), AspaError::Version);
+/// ```
+#[derive(Clone, Debug)]
+pub struct AsProviderAttestation {
+    customer_as: Asn,
+    provider_as_set: ProviderAsSet,
+}
+
+impl AsProviderAttestation {
+    /// Reads an attestation that is all of the octets.
+    ///
+    /// # Errors
+    /// The part that is wrong.
+    pub fn decode(octets: impl Into<Bytes>) -> Result<Self, AspaError> {
+        let octets = octets.into();
+        let found = ffi::aspa(&octets).map_err(AspaError::from_status)?;
+        let providers = ProviderAsSet { octets: octets.slice(found.providers.range()), len: found.count };
+        Ok(AsProviderAttestation { customer_as: Asn::from_u32(found.customer), provider_as_set: providers })
+    }
+
+    /// The customer.
+    pub fn customer_as(&self) -> Asn {
+        self.customer_as
+    }
+
+    /// The providers.
+    pub fn provider_as_set(&self) -> &ProviderAsSet {
+        &self.provider_as_set
+    }
+}
+
+/// The providers of a customer: one at least, ascending, and none is the customer.
+#[derive(Clone, Debug)]
+pub struct ProviderAsSet {
+    octets: Bytes,
+    len: usize,
+}
+
+impl ProviderAsSet {
+    /// How many providers there are.
+    pub fn len(&self) -> usize {
+        self.len
+    }
+
+    /// Whether there is no provider, which never is.
+    pub fn is_empty(&self) -> bool {
+        self.len == 0
+    }
+
+    /// The octets of the providers, one after another.
+    pub fn as_slice(&self) -> &[u8] {
+        &self.octets
+    }
+
+    /// The providers, ascending.
+    pub fn iter(&self) -> Providers<'_> {
+        Providers { rest: &self.octets }
+    }
+}
+
+impl<'a> IntoIterator for &'a ProviderAsSet {
+    type Item = Asn;
+    type IntoIter = Providers<'a>;
+
+    fn into_iter(self) -> Providers<'a> {
+        self.iter()
+    }
+}
+
+/// The providers of a customer, ascending.
+#[derive(Clone, Debug)]
+pub struct Providers<'a> {
+    rest: &'a [u8],
+}
+
+impl Iterator for Providers<'_> {
+    type Item = Asn;
+
+    fn next(&mut self) -> Option<Asn> {
+        if self.rest.is_empty() {
+            return None;
+        }
+        let found = ffi::aspa_provider(self.rest).expect("a provider that was read");
+        self.rest = &self.rest[found.size..];
+        Some(Asn::from_u32(found.number))
+    }
+}

@@ -1,0 +1,213 @@
+//! Manifests (RFC 9286 4.2).
+
+use crate::ffi::{self, Status};
+use crate::repository::sigobj::MessageDigest;
+use crate::repository::x509::{Serial, Time};
+use crate::uri;
+use bytes::Bytes;
+use std::error::Error;
+use std::fmt;
+
+/// The part of a manifest that is wrong: the leftmost; then that the next update is after this update; then that no
+/// file is listed twice.
+#[derive(Clone, Copy, Debug, PartialEq, Eq, Hash)]
+#[non_exhaustive]
+pub enum ManifestError {
+    /// The SEQUENCE around all isn't there, or something follows it.
+    Manifest,
+    /// The number is no unsigned INTEGER of at most twenty octets.
+    Number,
+    /// When the manifest was issued.
+    ThisUpdate,
+    /// When the next manifest is issued at the latest.
+    NextUpdate,
+    /// The algorithm of the digests is not SHA-256.
+    HashAlgorithm,
+    /// One of the files is not a name and a digest, and nothing else, or something follows the files.
+    FileList,
+    /// The next update is not after this update.
+    Order,
+    /// Two files have the same name.
+    FileTwice,
+}
+
+impl ManifestError {
+    fn from_status(status: Status) -> ManifestError {
+        match status {
+            ffi::PART_MANIFEST => ManifestError::Manifest,
+            ffi::PART_MANIFEST_NUMBER => ManifestError::Number,
+            ffi::PART_MANIFEST_THIS_UPDATE => ManifestError::ThisUpdate,
+            ffi::PART_MANIFEST_NEXT_UPDATE => ManifestError::NextUpdate,
+            ffi::PART_HASH_ALGORITHM => ManifestError::HashAlgorithm,
+            ffi::PART_FILE_LIST => ManifestError::FileList,
+            ffi::PART_UPDATE_ORDER => ManifestError::Order,
+            _ => unreachable!("{status} is no status of a manifest"),
+        }
+    }
+}
+
+impl fmt::Display for ManifestError {
+    fn fmt(&self, f: &mut fmt::Formatter) -> fmt::Result {
+        f.write_str(match self {
+            ManifestError::Manifest => "not a manifest",
+            ManifestError::Number => "malformed number of the manifest",
+            ManifestError::ThisUpdate => "malformed time of issue of the manifest",
+            ManifestError::NextUpdate => "malformed time of the next manifest",
+            ManifestError::HashAlgorithm => "algorithm of digests is not SHA-256",
+            ManifestError::FileList => "malformed list of files",
+            ManifestError::Order => "next update not after this update",
+            ManifestError::FileTwice => "file listed twice",
+        })
+    }
+}
+
+impl Error for ManifestError {}
+
+/// The content of a manifest. Its files share the octets that it was read from.
+///
+/// ```
+/// use rpki_proved::repository::manifest::{ManifestContent, ManifestError};
+///
+/// assert_eq!(ManifestContent::decode(&b""[..]).unwrap_err(), ManifestError::Manifest);
+/// assert_eq!(ManifestContent::decode(&b"\x30\x00"[..]).unwrap_err(), ManifestError::Number);
+/// ```
+#[derive(Clone, Debug)]
+pub struct ManifestContent {
+    manifest_number: Serial,
+    this_update: Time,
+    next_update: Time,
+    files: Bytes,
+    len: usize,
+}
+
+impl ManifestContent {
+    /// Reads a manifest that is all of the octets, as [SignedObject::content](super::sigobj::SignedObject::content)
+    /// tells them.
+    ///
+    /// # Errors
+    /// The part that is wrong.
+    pub fn decode(octets: impl Into<Bytes>) -> Result<Self, ManifestError> {
+        let octets = octets.into();
+        let found = ffi::manifest(&octets).map_err(ManifestError::from_status)?;
+        let content = ManifestContent {
+            manifest_number: Serial::from_array(found.manifest_number).expect("a number that was read"),
+            this_update: Time::from(found.this_update),
+            next_update: Time::from(found.next_update),
+            files: octets.slice(found.files.range()),
+            len: found.count,
+        };
+        let mut names: Vec<Bytes> = content.iter().map(|file| file.file).collect();
+        names.sort_unstable();
+        if names.windows(2).any(|two| two[0] == two[1]) {
+            return Err(ManifestError::FileTwice);
+        }
+        Ok(content)
+    }
+
+    /// The number: a later manifest of the issuer has a higher one.
+    pub fn manifest_number(&self) -> Serial {
+        self.manifest_number
+    }
+
+    /// When the manifest was issued.
+    pub fn this_update(&self) -> Time {
+        self.this_update
+    }
+
+    /// When the next manifest is issued at the latest.
+    pub fn next_update(&self) -> Time {
+        self.next_update
+    }
+
+    /// Whether the next manifest is due by now, by the machine's clock.
+    pub fn is_stale(&self) -> bool {
+        self.next_update < Time::now()
+    }
+
+    /// How many files there are.
+    pub fn len(&self) -> usize {
+        self.len
+    }
+
+    /// Whether there is no file.
+    pub fn is_empty(&self) -> bool {
+        self.len == 0
+    }
+
+    /// The files, in order.
+    pub fn iter(&self) -> Files {
+        Files { rest: self.files.clone(), left: self.len }
+    }
+
+    /// The URI of each file below this one, and its digest, in order.
+    ///
+    /// # Errors
+    /// The URI would be too long.
+    pub fn iter_uris<'a>(
+        &'a self,
+        base: &'a uri::Rsync,
+    ) -> impl Iterator<Item = Result<(uri::Rsync, MessageDigest), uri::Error>> + 'a {
+        self.iter().map(move |file| Ok((base.join(file.file())?, file.hash)))
+    }
+}
+
+impl IntoIterator for &ManifestContent {
+    type Item = FileAndHash;
+    type IntoIter = Files;
+
+    fn into_iter(self) -> Files {
+        self.iter()
+    }
+}
+
+/// A file that a manifest lists (RFC 9286 4.2.1). Its name is ASCII: letters, digits, `-` and `_`, one at least, a dot,
+/// and three small letters.
+#[derive(Clone, Debug, PartialEq, Eq, Hash)]
+pub struct FileAndHash {
+    file: Bytes,
+    hash: MessageDigest,
+}
+
+impl FileAndHash {
+    /// The octets of the name.
+    pub fn file(&self) -> &[u8] {
+        &self.file
+    }
+
+    /// The digest of the file, by SHA-256.
+    pub fn hash(&self) -> &MessageDigest {
+        &self.hash
+    }
+
+    /// The name and the digest.
+    pub fn into_pair(self) -> (Bytes, MessageDigest) {
+        (self.file, self.hash)
+    }
+}
+
+/// The files of a manifest, in order.
+#[derive(Clone, Debug)]
+pub struct Files {
+    rest: Bytes,
+    left: usize,
+}
+
+impl Iterator for Files {
+    type Item = FileAndHash;
+
+    fn next(&mut self) -> Option<FileAndHash> {
+        if self.rest.is_empty() {
+            return None;
+        }
+        let found = ffi::manifest_file(&self.rest).expect("a file that was read");
+        let entry = self.rest.split_to(found.size);
+        self.left -= 1;
+        Some(FileAndHash { file: entry.slice(found.name.range()), hash: MessageDigest::from(found.digest) })
+    }
+
+    fn size_hint(&self) -> (usize, Option<usize>) {
+        (self.left, Some(self.left))
+    }
+}
+
+impl ExactSizeIterator for Files {}

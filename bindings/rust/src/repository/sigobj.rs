@@ -1,0 +1,308 @@
+//! Signed objects (RFC 5652, in the profile of RFC 6488).
+
+use crate::crypto::keys::KeyIdentifier;
+use crate::crypto::signature::{Provider, RpkiSignature, RpkiSignatureAlgorithm, Signature};
+use crate::ffi::{self, Status};
+use crate::oid::Oid;
+use crate::repository::cert::{Cert, CertError};
+use crate::repository::x509::Time;
+use bytes::Bytes;
+use std::error::Error;
+use std::fmt;
+
+/// The part of a signed object that is wrong: the leftmost; of the certificate the one that its reader names.
+#[derive(Clone, Copy, Debug, PartialEq, Eq, Hash)]
+#[non_exhaustive]
+pub enum SignedObjectError {
+    /// The SEQUENCE around all isn't there, or something follows it.
+    Object,
+    /// The type is not that of signed data.
+    ObjectType,
+    /// The signed data is no SEQUENCE under its tag, or something follows it.
+    SignedData,
+    /// The version is not 3.
+    Version,
+    /// The digest algorithms are not SHA-256 alone.
+    DigestAlgorithms,
+    /// The content or its type isn't there, or something follows them.
+    Content,
+    /// There is no set of certificates.
+    Certificates,
+    /// The set has something else than one certificate, or one of which this part is wrong.
+    Certificate(CertError),
+    /// There is no set of signers behind the certificate, or something follows it.
+    Signers,
+    /// The set has something else than one signer.
+    Signer,
+    /// The version of the signer is not 3.
+    SignerVersion,
+    /// The signer has no key identifier of twenty octets.
+    SignerIdentifier,
+    /// The digest algorithm of the signer is not SHA-256.
+    SignerDigestAlgorithm,
+    /// The signed attributes are not those that a signed object has (RFC 6488 2.1.6.4, RFC 9589 4).
+    SignedAttrs,
+    /// The signature is not by RSA with SHA-256.
+    SignatureAlgorithm,
+    /// The signature is no OCTET STRING, or something follows it.
+    Signature,
+}
+
+impl SignedObjectError {
+    fn from_status(status: Status) -> SignedObjectError {
+        match status {
+            ffi::PART_OBJECT => SignedObjectError::Object,
+            ffi::PART_OBJECT_TYPE => SignedObjectError::ObjectType,
+            ffi::PART_SIGNED_DATA => SignedObjectError::SignedData,
+            ffi::PART_OBJECT_VERSION => SignedObjectError::Version,
+            ffi::PART_DIGEST_ALGORITHMS => SignedObjectError::DigestAlgorithms,
+            ffi::PART_CONTENT => SignedObjectError::Content,
+            ffi::PART_CERTIFICATES => SignedObjectError::Certificates,
+            ffi::PART_SIGNERS => SignedObjectError::Signers,
+            ffi::PART_SIGNER => SignedObjectError::Signer,
+            ffi::PART_SIGNER_VERSION => SignedObjectError::SignerVersion,
+            ffi::PART_SIGNER_IDENTIFIER => SignedObjectError::SignerIdentifier,
+            ffi::PART_SIGNER_DIGEST => SignedObjectError::SignerDigestAlgorithm,
+            ffi::PART_SIGNED_ATTRIBUTES => SignedObjectError::SignedAttrs,
+            ffi::PART_SIGNATURE_ALGORITHM => SignedObjectError::SignatureAlgorithm,
+            ffi::PART_OBJECT_SIGNATURE => SignedObjectError::Signature,
+            part => SignedObjectError::Certificate(CertError::from_status(part)),
+        }
+    }
+}
+
+impl fmt::Display for SignedObjectError {
+    fn fmt(&self, f: &mut fmt::Formatter) -> fmt::Result {
+        f.write_str(match self {
+            SignedObjectError::Object => "not a signed object",
+            SignedObjectError::ObjectType => "type is not that of signed data",
+            SignedObjectError::SignedData => "malformed signed object",
+            SignedObjectError::Version => "other version of signed data",
+            SignedObjectError::DigestAlgorithms => "digest algorithms are not SHA-256 alone",
+            SignedObjectError::Content => "malformed content",
+            SignedObjectError::Certificates => "missing certificate",
+            SignedObjectError::Certificate(error) => return error.fmt(f),
+            SignedObjectError::Signers => "no signers, or more than these",
+            SignedObjectError::Signer => "not one signer",
+            SignedObjectError::SignerVersion => "other version of the signer",
+            SignedObjectError::SignerIdentifier => "malformed key identifier of the signer",
+            SignedObjectError::SignerDigestAlgorithm => "digest algorithm of the signer is not SHA-256",
+            SignedObjectError::SignedAttrs => "signed attributes that no signed object has",
+            SignedObjectError::SignatureAlgorithm => "other algorithm of the signature",
+            SignedObjectError::Signature => "malformed signature of the object",
+        })
+    }
+}
+
+impl Error for SignedObjectError {}
+
+/// A digest of a content, by SHA-256.
+#[derive(Clone, Copy, Debug, PartialEq, Eq, Hash)]
+pub struct MessageDigest([u8; 32]);
+
+impl MessageDigest {
+    /// The thirty-two octets.
+    pub fn as_slice(&self) -> &[u8] {
+        &self.0
+    }
+}
+
+impl From<[u8; 32]> for MessageDigest {
+    fn from(octets: [u8; 32]) -> Self {
+        MessageDigest(octets)
+    }
+}
+
+impl AsRef<[u8]> for MessageDigest {
+    fn as_ref(&self) -> &[u8] {
+        &self.0
+    }
+}
+
+/// The signed attributes of a signed object: what is signed, and what it says.
+#[derive(Clone, Debug)]
+pub struct SignedAttrs {
+    octets: Bytes,
+    message_digest: MessageDigest,
+    signing_time: Option<Time>,
+    binary_signing_time: Option<u64>,
+}
+
+impl SignedAttrs {
+    /// What is signed: the attributes as they came, but behind the tag of a SET (RFC 5652 5.4).
+    pub fn encode_verify(&self) -> Vec<u8> {
+        let mut message = self.octets.to_vec();
+        message[0] = 0x31;
+        message
+    }
+
+    /// The digest of the content.
+    pub fn message_digest(&self) -> &MessageDigest {
+        &self.message_digest
+    }
+
+    /// When the attributes were signed, where that is said.
+    pub fn signing_time(&self) -> Option<Time> {
+        self.signing_time
+    }
+
+    /// When the attributes were signed, in seconds since 1970, where that is said.
+    pub fn binary_signing_time(&self) -> Option<u64> {
+        self.binary_signing_time
+    }
+}
+
+/// Why a signed object is not by the key of its certificate: the first that doesn't hold.
+#[derive(Clone, Copy, Debug, PartialEq, Eq, Hash)]
+#[non_exhaustive]
+pub enum ObjectVerificationError {
+    /// The type of the content is not the one that is signed.
+    ContentType,
+    /// The digest of the content is not the one that is signed.
+    MessageDigest,
+    /// The subject key identifier of the certificate is not the signer's, or isn't there.
+    SubjectKeyIdentifier,
+    /// The signature is not by the key of the certificate.
+    Signature,
+}
+
+impl fmt::Display for ObjectVerificationError {
+    fn fmt(&self, f: &mut fmt::Formatter) -> fmt::Result {
+        f.write_str(match self {
+            ObjectVerificationError::ContentType => "content type mismatch",
+            ObjectVerificationError::MessageDigest => "message digest mismatch",
+            ObjectVerificationError::SubjectKeyIdentifier => "subject key identifier mismatch",
+            ObjectVerificationError::Signature => "signature verification failed",
+        })
+    }
+}
+
+impl Error for ObjectVerificationError {}
+
+/// A signed object. Its parts share the octets that it was read from. Nothing of it is verified:
+/// [SignedObject::verify_signature] says whether the key of its certificate has signed it.
+///
+/// ```
+/// use rpki_proved::repository::sigobj::{SignedObject, SignedObjectError};
+///
+/// assert_eq!(SignedObject::decode(&b""[..], true).unwrap_err(), SignedObjectError::Object);
+/// assert_eq!(SignedObject::decode(&b"\x30\x00"[..], true).unwrap_err(), SignedObjectError::ObjectType);
+/// ```
+#[derive(Clone, Debug)]
+pub struct SignedObject {
+    octets: Bytes,
+    content_type: Oid<Bytes>,
+    content: Bytes,
+    cert: Cert,
+    sid: KeyIdentifier,
+    signed_attrs: SignedAttrs,
+    signature: RpkiSignature,
+    is_type_signed: bool,
+}
+
+impl SignedObject {
+    /// Reads a signed object that is all of the octets. If `strict`, it has a signing time, and no binary signing time
+    /// (RFC 9589 4).
+    ///
+    /// # Errors
+    /// The part that is wrong.
+    pub fn decode(octets: impl Into<Bytes>, strict: bool) -> Result<Self, SignedObjectError> {
+        let octets = octets.into();
+        let found = ffi::signed_object(&octets, strict).map_err(SignedObjectError::from_status)?;
+        let part = |place: ffi::Place| octets.slice(place.range());
+        let algorithm = RpkiSignatureAlgorithm { has_parameters: found.has_parameters };
+        Ok(SignedObject {
+            content_type: Oid(part(found.content_type)),
+            content: part(found.content),
+            cert: Cert::decode(part(found.certificate)).map_err(SignedObjectError::Certificate)?,
+            sid: KeyIdentifier::from(found.signer_identifier),
+            signed_attrs: SignedAttrs {
+                octets: part(found.signed_attributes),
+                message_digest: MessageDigest(found.message_digest),
+                signing_time: found.has_signing_time.then(|| Time::from(found.signing_time)),
+                binary_signing_time: found.has_binary_signing_time.then_some(found.binary_signing_time),
+            },
+            signature: Signature::new(algorithm, part(found.signature)),
+            is_type_signed: found.is_type_signed,
+            octets,
+        })
+    }
+
+    /// The octets of the object.
+    pub fn to_bytes(&self) -> Bytes {
+        self.octets.clone()
+    }
+
+    /// The type of the content.
+    pub fn content_type(&self) -> &Oid<Bytes> {
+        &self.content_type
+    }
+
+    /// Whether the type of the content is the one that is signed.
+    pub fn is_type_signed(&self) -> bool {
+        self.is_type_signed
+    }
+
+    /// The octets of the content.
+    pub fn content(&self) -> &Bytes {
+        &self.content
+    }
+
+    /// The certificate of the signer.
+    pub fn cert(&self) -> &Cert {
+        &self.cert
+    }
+
+    /// The identifier of the signer's key.
+    pub fn sid(&self) -> KeyIdentifier {
+        self.sid
+    }
+
+    /// What is signed.
+    pub fn signed_attrs(&self) -> &SignedAttrs {
+        &self.signed_attrs
+    }
+
+    /// When the attributes were signed, where that is said.
+    pub fn signing_time(&self) -> Option<Time> {
+        self.signed_attrs.signing_time
+    }
+
+    /// When the attributes were signed, in seconds since 1970, where that is said.
+    pub fn binary_signing_time(&self) -> Option<u64> {
+        self.signed_attrs.binary_signing_time
+    }
+
+    /// The signature of the attributes.
+    pub fn signature(&self) -> &RpkiSignature {
+        &self.signature
+    }
+
+    /// Checks that the key of the certificate has signed the content, whose digest by SHA-256 this is: its type and its
+    /// digest are those that are signed, the signer's identifier is the certificate's subject key identifier, and the
+    /// signature of the attributes is by the certificate's key, as the provider says (RFC 6488 3, RFC 5652 5.4, 5.6).
+    /// Whose certificate it is, is not looked at.
+    ///
+    /// # Errors
+    /// The first that doesn't hold.
+    pub fn verify_signature(
+        &self,
+        provider: &impl Provider,
+        digest: &MessageDigest,
+    ) -> Result<(), ObjectVerificationError> {
+        if !self.is_type_signed {
+            return Err(ObjectVerificationError::ContentType);
+        }
+        if self.signed_attrs.message_digest != *digest {
+            return Err(ObjectVerificationError::MessageDigest);
+        }
+        let known = self.cert.known_extensions().map_err(|_| ObjectVerificationError::SubjectKeyIdentifier)?;
+        if known.subject_key != Some(self.sid) {
+            return Err(ObjectVerificationError::SubjectKeyIdentifier);
+        }
+        self.cert
+            .subject_public_key_info()
+            .verify(provider, &self.signed_attrs.encode_verify(), &self.signature)
+            .map_err(|_| ObjectVerificationError::Signature)
+    }
+}

@@ -1,0 +1,196 @@
+//! What signed objects contain, read by [ManifestContent], [RouteOriginAttestation] and [AsProviderAttestation],
+//! compared with the rows that tests/linked/contents/rows.py writes. The variable `RPKI_CONTENT_ROWS` names their file;
+//! without it nothing is compared.
+
+use rpki_proved::repository::aspa::{AsProviderAttestation, AspaError};
+use rpki_proved::repository::manifest::{ManifestContent, ManifestError};
+use rpki_proved::repository::roa::{RoaError, RoaIpAddress, RoaIpAddresses, RouteOriginAttestation};
+use rpki_proved::uri;
+use std::collections::HashSet;
+use std::str::FromStr;
+
+/// The errors by their statuses, and their texts.
+const MANIFEST_ERRORS: [(usize, ManifestError, &str); 7] = [
+    (138, ManifestError::Manifest, "not a manifest"),
+    (139, ManifestError::Number, "malformed number of the manifest"),
+    (140, ManifestError::ThisUpdate, "malformed time of issue of the manifest"),
+    (141, ManifestError::NextUpdate, "malformed time of the next manifest"),
+    (142, ManifestError::HashAlgorithm, "algorithm of digests is not SHA-256"),
+    (143, ManifestError::FileList, "malformed list of files"),
+    (144, ManifestError::Order, "next update not after this update"),
+];
+
+const ROA_ERRORS: [(usize, RoaError, &str); 3] = [
+    (145, RoaError::Attestation, "not a route origin attestation"),
+    (146, RoaError::AsId, "malformed AS number"),
+    (147, RoaError::AddressBlocks, "malformed list of prefixes"),
+];
+
+const ASPA_ERRORS: [(usize, AspaError, &str); 4] = [
+    (148, AspaError::Attestation, "not an attestation of providers"),
+    (149, AspaError::Version, "other version of the attestation"),
+    (150, AspaError::Customer, "malformed customer"),
+    (151, AspaError::Providers, "malformed list of providers"),
+];
+
+fn octets(digits: &str) -> Vec<u8> {
+    let digits = if digits == "-" { "" } else { digits };
+    (0..digits.len()).step_by(2).map(|at| u8::from_str_radix(&digits[at..at + 2], 16).unwrap()).collect()
+}
+
+fn hexadecimal(octets: &[u8]) -> String {
+    octets.iter().map(|octet| format!("{octet:02x}")).collect()
+}
+
+fn number(word: &str) -> usize {
+    word.parse().unwrap()
+}
+
+/// The octets from the place that two words tell; none where there is no place.
+fn part<'a>(all: &'a [u8], words: &[&str]) -> &'a [u8] {
+    if words[0] == "-" {
+        return &[];
+    }
+    &all[number(words[0])..][..number(words[1])]
+}
+
+fn error_of<E: Copy, const N: usize>(errors: &[(usize, E, &str); N], status: usize) -> E {
+    errors.iter().find(|(number, ..)| *number == status).expect("a status").1
+}
+
+/// The names of the files that the words of a row tell.
+fn names<'a>(all: &'a [u8], words: &[&str]) -> Vec<&'a [u8]> {
+    let mut rest = part(all, &words[0..2]);
+    let mut found = Vec::new();
+    for file in words[6..].chunks(4) {
+        let (entry, following) = rest.split_at(number(file[2]));
+        found.push(part(entry, &file[0..2]));
+        rest = following;
+    }
+    found
+}
+
+/// What the manifest says is what the words of a row say, or two of its files have the same name.
+fn compare_manifest(all: &[u8], words: &[&str]) {
+    let names = names(all, words);
+    let found = ManifestContent::decode(all.to_vec());
+    if names.iter().collect::<HashSet<_>>().len() < names.len() {
+        assert_eq!(found.unwrap_err(), ManifestError::FileTwice);
+        return;
+    }
+    let manifest = found.unwrap();
+    assert_eq!(manifest.len().to_string(), words[2]);
+    assert_eq!(manifest.is_empty(), words[2] == "0");
+    assert_eq!(manifest.this_update().timestamp().to_string(), words[3]);
+    assert_eq!(manifest.next_update().timestamp().to_string(), words[4]);
+    assert_eq!(hexadecimal(&manifest.manifest_number().into_array()), words[5]);
+    let base = uri::Rsync::from_str("rsync://example.org/module/").unwrap();
+    let uris = manifest.iter_uris(&base);
+    assert_eq!(manifest.iter().len(), names.len());
+    for (((file, name), words), uri) in manifest.iter().zip(names).zip(words[6..].chunks(4)).zip(uris) {
+        assert_eq!(file.file(), name);
+        assert_eq!(hexadecimal(file.hash().as_slice()), words[3]);
+        let (uri, hash) = uri.unwrap();
+        assert_eq!(uri.as_slice(), [b"rsync://example.org/module/", name].concat());
+        assert_eq!((file.hash(), &file.clone().into_pair().0[..]), (&hash, name));
+    }
+}
+
+/// What one prefix says, in the words of a row.
+fn told(address: RoaIpAddress, v4: bool) -> Vec<String> {
+    let bits = address.prefix().addr().to_bits().to_be_bytes();
+    let lowest = if v4 { [&address.prefix().to_v4().octets()[..], &[0; 12]].concat() } else { bits.to_vec() };
+    let length = address.prefix().addr_len();
+    let most = address.max_length();
+    let is_there = u8::from(most.is_some()).to_string();
+    vec![hexadecimal(&lowest), length.to_string(), most.unwrap_or(length).to_string(), is_there]
+}
+
+fn compare_family(all: &[u8], found: &RoaIpAddresses, v4: bool, words: &[&str], entries: &[&[&str]]) {
+    assert_eq!(found.as_slice(), part(all, &words[0..2]));
+    assert_eq!((found.len(), found.is_empty()), (entries.len(), entries.is_empty()));
+    let listed: Vec<Vec<String>> = found.into_iter().map(|address| told(address, v4)).collect();
+    let wanted: Vec<&[&str]> = entries.iter().map(|entry| &entry[..4]).collect();
+    assert_eq!(listed, wanted);
+}
+
+fn compare_roa(all: &[u8], roa: &RouteOriginAttestation, words: &[&str]) {
+    assert_eq!(roa.as_id().into_u32().to_string(), words[0]);
+    let entries: Vec<&[&str]> = words[7..].chunks(5).collect();
+    let (v4, v6) = entries.split_at(number(words[3]));
+    assert_eq!(v6.len(), number(words[6]));
+    compare_family(all, roa.v4_addrs(), true, &words[1..4], v4);
+    compare_family(all, roa.v6_addrs(), false, &words[4..7], v6);
+    let friendly: Vec<_> = roa.iter().collect();
+    assert_eq!(friendly.len(), entries.len());
+    for (place, (found, words)) in friendly.iter().zip(&entries).enumerate() {
+        assert_eq!((found.is_v4(), found.address().is_ipv4()), (place < v4.len(), place < v4.len()));
+        assert_eq!(found.address_length().to_string(), words[1]);
+        assert_eq!(found.max_length().to_string(), words[2]);
+        assert_eq!(found.to_string().contains('-'), words[3] == "1");
+    }
+}
+
+fn compare_aspa(all: &[u8], aspa: &AsProviderAttestation, words: &[&str]) {
+    let providers = aspa.provider_as_set();
+    assert_eq!(aspa.customer_as().into_u32().to_string(), words[0]);
+    assert_eq!(providers.as_slice(), part(all, &words[1..3]));
+    assert_eq!((providers.len().to_string(), providers.is_empty()), (words[3].to_string(), false));
+    let numbers: Vec<String> = providers.into_iter().map(|provider| provider.into_u32().to_string()).collect();
+    assert_eq!(numbers, words[4..].iter().step_by(2).copied().collect::<Vec<_>>());
+}
+
+/// Whether the content of a row is read, and is what the row says; or it has the error that the row says.
+fn compare(kind: &str, all: &[u8], status: usize, words: &[&str]) {
+    match (kind, status) {
+        ("manifest", 0) => compare_manifest(all, words),
+        ("manifest", _) => {
+            let error = ManifestContent::decode(all.to_vec()).unwrap_err();
+            assert_eq!(error, error_of(&MANIFEST_ERRORS, status));
+        }
+        ("aspa", 0) => compare_aspa(all, &AsProviderAttestation::decode(all.to_vec()).unwrap(), words),
+        ("aspa", _) => {
+            assert_eq!(AsProviderAttestation::decode(all.to_vec()).unwrap_err(), error_of(&ASPA_ERRORS, status));
+        }
+        (_, 0) => compare_roa(all, &RouteOriginAttestation::decode(all.to_vec(), kind == "roa1").unwrap(), words),
+        (_, _) => {
+            let error = RouteOriginAttestation::decode(all.to_vec(), kind == "roa1").unwrap_err();
+            assert_eq!(error, error_of(&ROA_ERRORS, status));
+        }
+    }
+}
+
+#[test]
+fn rows() {
+    let file = match std::env::var("RPKI_CONTENT_ROWS") {
+        Ok(file) => file,
+        Err(_) => return,
+    };
+    let rows = std::fs::read_to_string(file).unwrap();
+    let (mut read, mut refused) = (0, 0);
+    for row in rows.lines() {
+        let words: Vec<&str> = row.split(' ').collect();
+        if !["manifest", "roa0", "roa1", "aspa"].contains(&words[0]) {
+            continue;
+        }
+        let status = number(words[2]);
+        compare(words[0], &octets(words[1]), status, &words[3..]);
+        read += usize::from(status == 0);
+        refused += usize::from(status != 0);
+    }
+    assert!(read > 1000 && refused > 5000, "{read} read, {refused} refused");
+}
+
+#[test]
+fn texts() {
+    for (_, error, text) in MANIFEST_ERRORS {
+        assert_eq!(error.to_string(), text);
+    }
+    assert_eq!(ManifestError::FileTwice.to_string(), "file listed twice");
+    for (_, error, text) in ROA_ERRORS {
+        assert_eq!(error.to_string(), text);
+    }
+    for (_, error, text) in ASPA_ERRORS {
+        assert_eq!(error.to_string(), text);
+    }
+}
