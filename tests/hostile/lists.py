@@ -324,4 +324,29 @@ def lists_of_openssl(programs):
             yield f"{count} entries", (status, told[1:]), (0, told_by_openssl(folder))
 
 
-TABLES = [lists_of_openssl, issued_lists, list_variants, list_beginnings, large_lists]
+def written_lists(programs):
+    """What is signed of a list, written: the algorithm with its parameters, times as certificates have them, and the
+    authority key identifier before the number, neither with FALSE (RFC 5280 5.1.2, RFC 6487 5)."""
+    usual = fields()
+    for name_of, octets, wanted in [
+        ("as it is", listed(), usual),
+        ("the number first", of([number(), authority()]), usual),
+        ("FALSE, spelled", of([authority(critical=FALSE), number()]), usual),
+        ("no parameters", signed(fields(algorithm=NO_PARAMETERS), NO_PARAMETERS), usual),
+        ("generalized time before 2050", listed(this=time("20" + THIS)), usual),
+        ("times from 2050 on", listed(next=time("20500101000000Z")), fields(next=time("20500101000000Z"))),
+        ("no list of entries", listed(entries=b""), fields(entries=b"")),
+        ("an empty one", listed(entries=sequence()), fields(entries=sequence())),
+        ("the highest numbers", listed(entries=sequence(entry(HIGHEST)), extensions=extensions(
+            [authority(), number(unsigned(HIGHEST))])), fields(entries=sequence(entry(HIGHEST)), extensions=extensions(
+                [authority(), number(unsigned(HIGHEST))]))),
+    ]:
+        yield name_of, seen(programs, octets, "written"), (0, [f"written {wanted.hex().upper()}"])
+    for count in (0, 1, 127, 128, 5_000, 50_000):
+        entries = sequence(*(entry(serial) for serial in range(1, count + 1)))
+        wanted = fields(entries=entries)
+        yield f"{count} entries", seen(programs, listed(entries=entries), "written"), (
+            0, [f"written {wanted.hex().upper()}"])
+
+
+TABLES = [lists_of_openssl, issued_lists, list_variants, list_beginnings, large_lists, written_lists]

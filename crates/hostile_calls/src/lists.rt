@@ -7,7 +7,7 @@ use bytes::Bytes;
 use rpki::repository::x509::{Serial, Time};
 use rpki_cert::Cert;
 use rpki_der::{Constructed, DecodeError};
-use rpki_objects::Crl;
+use rpki_objects::{Crl, TbsCertList};
 use std::alloc::Global;
 use std::io;
 
@@ -68,6 +68,14 @@ fn tell_issued(
     Ok(())
 }
 
+/// What is signed of a list, as it is written.
+fn tell_written(alloc: Global, report: Report, list: &Crl) -> Result<(), Failure> {
+    let mut signed = list.signed_data().data().cursor();
+    let tbs = TbsCertList::take_from(alloc, &mut signed)?;
+    report.values("written", &tbs.encode_ref())?;
+    Ok(())
+}
+
 /// Tells of the list that the octets are.
 pub fn tell(
     alloc: Global,
@@ -83,6 +91,7 @@ pub fn tell(
             tell_parts(report, &list)?;
             tell_entries(report, &list)?;
         }
+        ("written", Ok(list)) => tell_written(alloc, report, &list)?,
         ("contains", Ok(mut list)) => {
             tell_asked(report, &list, asked)?;
             list.cache_serials(alloc)?;

@@ -9,6 +9,7 @@
 #![tactic(auto)]
 
 mod certificates;
+mod contents;
 mod cursors;
 mod encoders;
 mod lists;
@@ -64,6 +65,7 @@ fn tell_of(
         "resources" => resources::tell(alloc, report, call, octets),
         "list" => lists::tell(alloc, report, (call, path), octets),
         "object" => objects::tell(alloc, report, (call, path), octets),
+        "content" => contents::tell(alloc, report, call, octets),
         "write" => encoders::tell(alloc, report, call, octets),
         _ => Err(Failure::Usage),
     }
