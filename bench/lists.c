@@ -1,17 +1,20 @@
 /*
- * Times rpki_crl and rpki_crl_contains on a revocation list, beside libcrypto's d2i_X509_CRL: nanoseconds of processor
- * time an entry, the smallest of 31 rounds in turn. A search asks for a number that isn't there.
+ * Times rpki_crl and rpki_crl_contains on a revocation list, beside plain C with the checks of the first, and beside
+ * libcrypto's d2i_X509_CRL: nanoseconds of processor time an entry, the smallest of 31 rounds in turn. A search asks
+ * for a number that isn't there.
  *
- * usage: cc -O2 -Iinclude bench/lists.c bindings/out/librpki.a -lcrypto -o lists && ./lists LIST
+ * usage: cc -O2 -Iinclude bench/lists.c bench/plain.c bench/plain_objects.c bindings/out/librpki.a -lcrypto -o lists
+ *        ./lists LIST
  */
 #include <openssl/x509.h>
 #include <stdio.h>
 #include <stdlib.h>
 #include <time.h>
 
+#include "plain.h"
 #include "rpki.h"
 
-enum { ROUNDS = 31, MOST_OCTETS = 1 << 24, CALLS = 3 };
+enum { ROUNDS = 31, MOST_OCTETS = 1 << 24, CALLS = 4 };
 
 static uint8_t octets[MOST_OCTETS];
 static size_t size;
@@ -31,6 +34,11 @@ static bool searches(void) {
     return rpki_crl_contains(octets + parts.revoked_certs.start, parts.revoked_certs.length, serial, &found) == RPKI_OK;
 }
 
+static bool reads_plainly(void) {
+    struct rpki_crl_parts found;
+    return plain_list(octets, size, &found);
+}
+
 static bool reads_by_openssl(void) {
     const unsigned char *at = octets;
     X509_CRL *list = d2i_X509_CRL(NULL, &at, (long)size);
@@ -41,7 +49,10 @@ static bool reads_by_openssl(void) {
 static const struct {
     const char *name;
     bool (*call)(void);
-} calls[CALLS] = {{"rpki_crl", reads}, {"rpki_crl_contains", searches}, {"d2i_X509_CRL", reads_by_openssl}};
+} calls[CALLS] = {{"rpki_crl", reads},
+                  {"rpki_crl_contains", searches},
+                  {"plain C", reads_plainly},
+                  {"d2i_X509_CRL", reads_by_openssl}};
 
 static size_t entries(void) {
     struct rpki_revoked_certificate entry;
@@ -51,7 +62,7 @@ static size_t entries(void) {
 }
 
 int main(int count, char **words) {
-    double least[CALLS] = {1e18, 1e18, 1e18};
+    double least[CALLS] = {1e18, 1e18, 1e18, 1e18};
     FILE *file = count == 2 ? fopen(words[1], "rb") : NULL;
     int round, call;
     if (!file) return 2;
@@ -66,8 +77,8 @@ int main(int count, char **words) {
         }
     }
     for (call = 0; call < CALLS; call++) {
-        printf("%s: %.1f ns an entry, %.2f of d2i_X509_CRL\n", calls[call].name, least[call] / (double)entries(),
-               least[call] / least[CALLS - 1]);
+        printf("%s: %.1f ns an entry, %.2f of plain C, %.2f of d2i_X509_CRL\n", calls[call].name,
+               least[call] / (double)entries(), least[call] / least[CALLS - 2], least[call] / least[CALLS - 1]);
     }
     return 0;
 }

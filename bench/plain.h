@@ -28,6 +28,11 @@ bool plain_name(const uint8_t *octets, size_t size);
 bool plain_certificate(const uint8_t *octets, size_t size, struct rpki_certificate_parts *parts,
                        struct rpki_known_extensions *known);
 
+/* A revocation list, as rpki_crl reads it, and a signed object, as rpki_signed_object does but for its certificate
+ * (plain_objects.c). */
+bool plain_list(const uint8_t *octets, size_t size, struct rpki_crl_parts *out);
+bool plain_object(const uint8_t *octets, size_t size, struct rpki_signed_object_parts *out);
+
 /* An rsync URI: its parts, with the checks of rpki_rsync_parse and no word of which of them fails. */
 bool plain_rsync(const uint8_t *text, size_t size, struct rpki_rsync_parts *out);
 

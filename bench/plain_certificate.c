@@ -2,13 +2,7 @@
  * A certificate in one pass, by hand and unproved, with all the checks of rpki_certificate_checked for the profile of
  * certification authorities, strict: what that call's time is compared with. One word of whether all of them hold.
  */
-#include "plain.h"
-
-#include <string.h>
-
-struct part {
-    const uint8_t *at, *past;
-};
+#include "plain_parts.h"
 
 enum { KNOWN = 13 };
 
@@ -34,42 +28,6 @@ struct extensions {
     struct part found[KNOWN];
     bool is_there[KNOWN], critical[KNOWN];
 };
-
-/* ---- Values ---- */
-
-/* The contents of the value at the front, which has this identifier octet; `in` begins behind it then. */
-static inline bool take(struct part *in, uint8_t first, struct part *contents) {
-    const uint8_t *at = in->at;
-    size_t length, count;
-    if (in->past - at < 2 || *at != first) return false;
-    length = at[1];
-    at += 2;
-    if (length >= 0x80) {
-        count = length & 0x7F;
-        if (count == 0 || count > 4 || (size_t)(in->past - at) < count || *at == 0) return false;
-        for (length = 0; count > 0; count--) length = length << 8 | *at++;
-        if (length < 0x80) return false;
-    }
-    if (length > (size_t)(in->past - at)) return false;
-    contents->at = at;
-    contents->past = in->at = at + length;
-    return true;
-}
-
-/* The same of a value that is all there is. */
-static inline bool only(struct part in, uint8_t first, struct part *contents) {
-    return take(&in, first, contents) && in.at == in.past;
-}
-
-static inline bool is(struct part part, const void *octets, size_t size) {
-    return (size_t)(part.past - part.at) == size && memcmp(part.at, octets, size) == 0;
-}
-
-static inline size_t size_of(struct part part) { return (size_t)(part.past - part.at); }
-
-static inline struct rpki_place place_of(const uint8_t *octets, const uint8_t *at, const uint8_t *past) {
-    return (struct rpki_place){(size_t)(at - octets), (size_t)(past - at)};
-}
 
 /* ---- Extensions ---- */
 
