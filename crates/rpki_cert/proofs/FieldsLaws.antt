@@ -23,10 +23,11 @@ use Rattle.rpki_cert.specs.declared.section.Section.{Section}
 use Rattle.rpki_cert.specs.declared.fields.Keyed.{Keyed}
 use Rattle.rpki_cert.specs.declared.fields.Named.{Named}
 use Rattle.rpki_cert.specs.declared.fields.TbsView.{TbsView}
-use Rattle.rpki_cert.specs.Cert.{TbsParts, SpellsVersion, SpellsRpkiAlgorithm, AreFields, fields_of, SpellsTbs, version_tag, SpellsTwo}
-use Rattle.rpki_cert.specs.CertFault.{IsVersionFault, IsTwoFault}
+use Rattle.rpki_cert.specs.Cert.{TbsParts, SpellsVersion, SpellsRpkiAlgorithm, AreFields, fields_of, SpellsTbs}
+use Rattle.rpki_cert.specs.Cert.{version_tag, SpellsTwo}
 use Rattle.rpki_cert.specs.declared.cert_part.CertPart.{CertPart}
-use Rattle.rpki_cert.specs.View.{IsSection, AreExtensionsAt, IsKeyedAt, IsNamedIn, IsTbsIn, AreNamed, AreFieldsWrong, IsTbsWrong}
+use Rattle.rpki_cert.specs.View.{IsSection, AreExtensionsAt, IsKeyedAt, IsNamedIn, IsTbsIn, AreNamed, AreFieldsWrong}
+use Rattle.rpki_cert.specs.View.{IsTbsWrong}
 use Rattle.rpki_cert.specs.View.IsTbsWrong.{InTbs}
 use Rattle.rpki_der.specs.Leaves.{IsOnly}
 use Rattle.rpki_cert.specs.Cert.{two}
@@ -34,48 +35,75 @@ use Rattle.rpki_der.specs.FirstFault.{FirstFault, IsEndFault}
 use Rattle.rpki_der.proofs.FirstFaultLaws.{inside-no-memory, first-no-memory, end-no-memory}
 use Rattle.rpki_cert.proofs.NestedLaws.{front-octets}
 use Rattle.rpki_cert.proofs.ListedLaws.{refused}
+use Rattle.rpki_cert.specs.Cert.{two_value, version}
 
 -- ---- readers that take no memory
 
 pub key-refused : (s r : List ℕ) (e : DecodeError) → Refusal SpellsKey IsKeyViewFault s r e → Refuses SpellsKey s
 key-refused s r e h = refused SpellsKey IsKeyViewFault s r e (λ k. (view-outer s OutOfMemory k).other refl) h
 
-pub period-refused : (s r : List ℕ) (e : DecodeError) → Refusal SpellsPeriod IsPeriodFault s r e → Refuses SpellsPeriod s
+pub period-refused : (s r : List ℕ) (e : DecodeError) → Refusal SpellsPeriod IsPeriodFault s r e
+    → Refuses SpellsPeriod s
 period-refused s r e h = refused SpellsPeriod IsPeriodFault s r e (period-no-memory s) h
 
-pub serial-refused : (s r : List ℕ) (e : DecodeError) → Refusal SpellsSerial IsSerialFault s r e → Refuses SpellsSerial s
-serial-refused s r e h = refused SpellsSerial IsSerialFault s r e (λ k. leaf-no-memory integer false IsSerialContents s OutOfMemory k.0 refl) h
+pub serial-refused : (s r : List ℕ) (e : DecodeError) → Refusal SpellsSerial IsSerialFault s r e
+    → Refuses SpellsSerial s
+serial-refused s r e h = refused SpellsSerial IsSerialFault s r e
+    (λ k. leaf-no-memory integer false IsSerialContents s OutOfMemory k.0 refl) h
 
-pub algorithm-refused : (s r : List ℕ) (e : DecodeError) → Refusal SpellsRpkiAlgorithm (IsAlgorithmFault sha256_with_rsa_encryption) s r e → Refuses SpellsRpkiAlgorithm s
-algorithm-refused s r e h = refused SpellsRpkiAlgorithm (IsAlgorithmFault sha256_with_rsa_encryption) s r e (λ k. (algorithm-outer sha256_with_rsa_encryption s OutOfMemory k).other refl) h
+pub algorithm-refused : (s r : List ℕ) (e : DecodeError)
+    → Refusal SpellsRpkiAlgorithm (IsAlgorithmFault sha256_with_rsa_encryption) s r e → Refuses SpellsRpkiAlgorithm s
+algorithm-refused s r e h = refused SpellsRpkiAlgorithm (IsAlgorithmFault sha256_with_rsa_encryption) s r e
+    (λ k. (algorithm-outer sha256_with_rsa_encryption s OutOfMemory k).other refl) h
 
-pub version-refused : (s r : List ℕ) (e : DecodeError) → Refusal SpellsVersion IsVersionFault s r e → Refuses SpellsVersion s
+pub version-refused : (s r : List ℕ) (e : DecodeError) → Refusal SpellsVersion version.fault s r e
+    → Refuses SpellsVersion s
 version-refused s r e h =
-    refused SpellsVersion IsVersionFault s r e
-    (λ k. inside-no-memory version_tag true (FirstFault SpellsTwo IsTwoFault (λ v. IsEndFault)) s (λ d l. first-no-memory SpellsTwo IsTwoFault (λ v. IsEndFault) d (λ m. leaf-no-memory integer false (IsOnly two) d OutOfMemory m refl) (λ v q. end-no-memory q) l) k)
+    refused SpellsVersion version.fault s r e
+    (λ k. inside-no-memory version_tag true (FirstFault SpellsTwo two_value.fault (λ v. IsEndFault)) s
+    (λ d l. first-no-memory SpellsTwo two_value.fault (λ v. IsEndFault) d
+    (λ m. leaf-no-memory integer false (IsOnly two) d OutOfMemory m refl) (λ v q. end-no-memory q) l) k)
     h
 
 -- ---- sections
 
-pub section-front : (s f r o p behind : List ℕ) (q : Section) → s ≡ f ++ r → o ≡ s → p ≡ r → q.octets.now ≡ take (length o - length p) o → q.following ≡ length p → r ≡ behind → IsSection q f behind
-section-front s f r o p behind q e a b is size last = record { octets = front-octets s f r o p q.octets.now e a b is; following = size ∙ ap length (b ∙ last) }
+pub section-front : (s f r o p behind : List ℕ) (q : Section) → s ≡ f ++ r → o ≡ s → p ≡ r
+    → q.octets.now ≡ take (length o - length p) o → q.following ≡ length p → r ≡ behind → IsSection q f behind
+section-front s f r o p behind q e a b is size last =
+    record { octets = front-octets s f r o p q.octets.now e a b is; following = size ∙ ap length (b ∙ last) }
 
 -- ---- what was read
 
-pub keyed-read : (s m o p : List ℕ) (key : KeyParts) (k : Keyed) → Accepts SpellsKey s key m → AreExtensionsAt m k.extensions → k.key ≡ key → o ≡ s → p ≡ m → k.octets.octets.now ≡ take (length o - length p) o
+pub keyed-read : (s m o p : List ℕ) (key : KeyParts) (k : Keyed) → Accepts SpellsKey s key m
+    → AreExtensionsAt m k.extensions → k.key ≡ key → o ≡ s → p ≡ m → k.octets.octets.now ≡ take (length o - length p) o
     → k.octets.following ≡ length p → IsKeyedAt s k
 keyed-read s m o p key k a x same i j is size = (
   key,
   x.extensions,
   record { first = a.spells.front; second = m; parts = a.spells.parts; one = a.spells.spelled; two = x.spelled },
-  record { same = same; key_at = section-front s a.spells.front m o p m k.octets a.spells.parts i j is size refl; list_at = x.list },
+  record {
+    same = same;
+    key_at = section-front s a.spells.front m o p m k.octets a.spells.parts i j is size refl;
+    list_at = x.list;
+  },
 )
 
 -- the fields from the issuer on; the others are given no value yet
 abbrev named_of : List ℕ → Period → List ℕ → KeyParts → List ExtensionParts → TbsParts
-named_of issuer validity subject key xs = record { serial = 0; algorithm = false; issuer = issuer; validity = validity; subject = subject; key = key; extensions = xs }
+named_of issuer validity subject key xs = record {
+  serial = 0;
+  algorithm = false;
+  issuer = issuer;
+  validity =
+      validity;
+  subject = subject;
+  key = key;
+  extensions = xs;
+}
 
-pub named-read : (s r q m i u : List ℕ) (v : Period) (n : Named) → Accepts SpellsNameOctets s i r → IsSection n.issuer i r → Accepts SpellsPeriod r v q → n.validity ≡ v → Accepts SpellsNameOctets q u m → IsSection n.subject u m
+pub named-read : (s r q m i u : List ℕ) (v : Period) (n : Named) → Accepts SpellsNameOctets s i r
+    → IsSection n.issuer i r → Accepts SpellsPeriod r v q → n.validity ≡ v → Accepts SpellsNameOctets q u m
+    → IsSection n.subject u m
     → IsKeyedAt m n.keyed → (t : TbsParts) × (h : AreNamed t s) × IsNamedIn t s h n
 named-read s r q m i u v n a at b same d on k =
     let (key, xs, spelled, there) = k in (
@@ -85,17 +113,42 @@ named-read s r q m i u v n a at b same d on k =
         second = r;
         parts = a.spells.parts;
         one = a.spells.spelled;
-        two = record { first = b.spells.front; second = q; parts = b.spells.parts; one = b.spells.spelled; two = record { first = d.spells.front; second = m; parts = d.spells.parts; one = d.spells.spelled; two = spelled } };
+        two = record {
+          first = b.spells.front;
+          second = q;
+          parts = b.spells.parts;
+          one = b.spells.spelled;
+          two =
+              record {
+                first = d.spells.front;
+                second = m;
+                parts = d.spells.parts;
+                one = d.spells.spelled;
+                two =
+                    spelled;
+              };
+        };
       },
       record { issuer = at; validity = same; subject = on; keyed = there },
     )
 
 -- all fields
 abbrev tbs_with : ℕ → Bool → TbsParts → TbsParts
-tbs_with serial algorithm t = record { serial = serial; algorithm = algorithm; issuer = t.issuer; validity = t.validity; subject = t.subject; key = t.key; extensions = t.extensions }
+tbs_with serial algorithm t = record {
+  serial = serial;
+  algorithm = algorithm;
+  issuer = t.issuer;
+  validity =
+      t.validity;
+  subject = t.subject;
+  key = t.key;
+  extensions = t.extensions;
+}
 
-pub fields-read : (s r q m : List ℕ) (n : ℕ) (b : Bool) (v : TbsView) → Accepts SpellsVersion s tt r → Accepts SpellsSerial r n q → v.serial_number ≡ n → Accepts SpellsRpkiAlgorithm q b m → v.signature ≡ b
-    → ((t : TbsParts) × (h : AreNamed t m) × IsNamedIn t m h v.named) → (t : TbsParts) × (h : AreFields (fields_of t) s) × IsTbsIn t s h v
+pub fields-read : (s r q m : List ℕ) (n : ℕ) (b : Bool) (v : TbsView) → Accepts SpellsVersion s tt r
+    → Accepts SpellsSerial r n q → v.serial_number ≡ n → Accepts SpellsRpkiAlgorithm q b m → v.signature ≡ b
+    → ((t : TbsParts) × (h : AreNamed t m) × IsNamedIn t m h v.named)
+    → (t : TbsParts) × (h : AreFields (fields_of t) s) × IsTbsIn t s h v
 fields-read s r q m n b v a c number d same k =
     let (t, spelled, there) = k in (
       tbs_with n b t,
@@ -104,17 +157,39 @@ fields-read s r q m n b v a c number d same k =
         second = r;
         parts = a.spells.parts;
         one = a.spells.spelled;
-        two = record { first = c.spells.front; second = q; parts = c.spells.parts; one = c.spells.spelled; two = record { first = d.spells.front; second = m; parts = d.spells.parts; one = d.spells.spelled; two = spelled } };
+        two = record {
+          first = c.spells.front;
+          second = q;
+          parts = c.spells.parts;
+          one = c.spells.spelled;
+          two =
+              record {
+                first = d.spells.front;
+                second = m;
+                parts = d.spells.parts;
+                one = d.spells.spelled;
+                two =
+                    spelled;
+              };
+        };
       },
-      record { serial = number; algorithm = same; named = record { issuer = there.issuer; validity = there.validity; subject = there.subject; keyed = there.keyed } },
+      record {
+        serial = number;
+        algorithm = same;
+        named =
+            record { issuer = there.issuer; validity = there.validity; subject = there.subject; keyed = there.keyed };
+      },
     )
 
-pub tbs-read : (s c : List ℕ) (v : TbsView) → SpellsContents sequence true c s → ((t : TbsParts) × (h : AreFields (fields_of t) c) × IsTbsIn t c h v) → (t : TbsParts) × (h : SpellsTbs t s) × IsTbsIn t h.contents h.spelled v
+pub tbs-read : (s c : List ℕ) (v : TbsView) → SpellsContents sequence true c s
+    → ((t : TbsParts) × (h : AreFields (fields_of t) c) × IsTbsIn t c h v)
+    → (t : TbsParts) × (h : SpellsTbs t s) × IsTbsIn t h.contents h.spelled v
 tbs-read s c v h k = let (t, spelled, there) = k in (t, record { contents = c; value = h; spelled = spelled }, there)
 
 -- the reader of the fields, whose result is handed on
 pub tbs-handed : (s c : List ℕ) (x : Result TbsView CertPart) → SpellsContents sequence true c s
-    → IfOk x (λ v. (t : TbsParts) × (h : AreFields (fields_of t) c) × IsTbsIn t c h v) → IfOk x (λ v. (t : TbsParts) × (h : SpellsTbs t s) × IsTbsIn t h.contents h.spelled v)
+    → IfOk x (λ v. (t : TbsParts) × (h : AreFields (fields_of t) c) × IsTbsIn t c h v)
+    → IfOk x (λ v. (t : TbsParts) × (h : SpellsTbs t s) × IsTbsIn t h.contents h.spelled v)
 tbs-handed s c (Ok v) h k = tbs-read s c v h k
 tbs-handed s c (Err q) h k = k
 

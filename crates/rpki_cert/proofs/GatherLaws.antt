@@ -14,7 +14,8 @@ use Rattle.rpki_cert.proofs.SomeLaws.{none-some, some-there}
 
 module _ {V : Type 0} (t : TagName) (f : Bool) (C : V → List ℕ → Type 0) (s : List ℕ) where
   -- what a reader says of all of the contents it says of the value
-  pub leaf-gives : {X E : Type 0} (view : X → V) (c r : List ℕ) (x : Result X E) → Accepts (SpellsContents t f) s c r → GivesAll view C c x → Gives view (SpellsLeaf t f C) s r x
+  pub leaf-gives : {X E : Type 0} (view : X → V) (c r : List ℕ) (x : Result X E) → Accepts (SpellsContents t f) s c r
+      → GivesAll view C c x → Gives view (SpellsLeaf t f C) s r x
   leaf-gives view c r (Ok x) a h = inner-accepted t f C s c r (view x) a h
   leaf-gives view c r (Err e) a none = λ v q k.
       let l = leaf-value t f C s v q k in
@@ -22,12 +23,18 @@ module _ {V : Type 0} (t : TagName) (f : Bool) (C : V → List ℕ → Type 0) (
       none v (subst (λ (d : List ℕ). C v d) one.0 l.2)
 
   -- no contents, and so no value
-  pub leaf-nothing : (c : List ℕ) → SpellsContents t f c s × ((w : List ℕ) → SpellsContents t f w s → w ≡ c) → SpellsNothing C c → SpellsNothing (SpellsLeaf t f C) s
+  pub leaf-nothing : (c : List ℕ) → SpellsContents t f c s × ((w : List ℕ) → SpellsContents t f w s → w ≡ c)
+      → SpellsNothing C c → SpellsNothing (SpellsLeaf t f C) s
   leaf-nothing c a none v k = none v (subst (λ (d : List ℕ). C v d) (a.1 k.contents k.value) k.spelled)
 
   -- the same where the value is all there is
-  pub leaf-all : {X E : Type 0} (view : X → V) (c : List ℕ) (x : Result X E) → SpellsContents t f c s × ((w : List ℕ) → SpellsContents t f w s → w ≡ c) → GivesAll view C c x → GivesAll view (SpellsLeaf t f C) s x
-  leaf-all view c (Ok x) a h = (record { contents = c; value = a.0; spelled = h.0 }, λ w k. h.1 w (subst (λ (d : List ℕ). C w d) (a.1 k.contents k.value) k.spelled))
+  pub leaf-all : {X E : Type 0} (view : X → V) (c : List ℕ) (x : Result X E)
+      → SpellsContents t f c s × ((w : List ℕ) → SpellsContents t f w s → w ≡ c) → GivesAll view C c x
+      → GivesAll view (SpellsLeaf t f C) s x
+  leaf-all view c (Ok x) a h = (
+    record { contents = c; value = a.0; spelled = h.0 },
+    λ w k. h.1 w (subst (λ (d : List ℕ). C w d) (a.1 k.contents k.value) k.spelled),
+  )
   leaf-all view c (Err e) a none = leaf-nothing c a none
 
   pub leaf-none : SpellsNothing (SpellsContents t f) s → SpellsNothing (SpellsLeaf t f C) s
@@ -35,23 +42,29 @@ module _ {V : Type 0} (t : TagName) (f : Bool) (C : V → List ℕ → Type 0) (
 
 -- ---- values, one after another
 
-pub each-rest : {V : Type 0} (G : V → List ℕ → Type 0) (s q : List ℕ) (v : V) (ys : List V) → s ≢ [] → Accepts G s v q → SpellsEach G ys s → (zs : List V) × (ys ≡ v ∷ zs) × SpellsEach G zs q
+pub each-rest : {V : Type 0} (G : V → List ℕ → Type 0) (s q : List ℕ) (v : V) (ys : List V) → s ≢ [] → Accepts G s v q
+    → SpellsEach G ys s → (zs : List V) × (ys ≡ v ∷ zs) × SpellsEach G zs q
 each-rest G s q v [] some a h = absurd (some h)
-each-rest {V} G s q v (y ∷ zs) some a h = let e = a.only y h.0 h.1 in (zs, ap (λ (w : V). w ∷ zs) e.0, subst (SpellsEach G zs) e.1 h.2)
+each-rest {V} G s q v (y ∷ zs) some a h = let e =
+    a.only y h.0 h.1 in (zs, ap (λ (w : V). w ∷ zs) e.0, subst (SpellsEach G zs) e.1 h.2)
 
-pub each-none : {V : Type 0} (G : V → List ℕ → Type 0) (s : List ℕ) (ys : List V) → s ≢ [] → Refuses G s → SpellsEach G ys s → ⊥
+pub each-none : {V : Type 0} (G : V → List ℕ → Type 0) (s : List ℕ) (ys : List V) → s ≢ [] → Refuses G s
+    → SpellsEach G ys s → ⊥
 each-none G s [] some none h = some h
 each-none G s (y ∷ zs) some none h = none y h.0 h.1
 
-each-end : {V : Type 0} (G : V → List ℕ → Type 0) → ((v : V) → G v [] → ⊥) → (s : List ℕ) → s ≡ [] → (ys : List V) → SpellsEach G ys s → ys ≡ []
+each-end : {V : Type 0} (G : V → List ℕ → Type 0) → ((v : V) → G v [] → ⊥) → (s : List ℕ) → s ≡ [] → (ys : List V)
+    → SpellsEach G ys s → ys ≡ []
 each-end G nowhere s end [] h = refl
-each-end {V} G nowhere s end (y ∷ ys) h = absurd (none-some G nowhere s end (y ∷ ys) (record { some = λ e. nothing e; each = h }))
+each-end {V} G nowhere s end (y ∷ ys) h = absurd
+    (none-some G nowhere s end (y ∷ ys) (record { some = λ e. nothing e; each = h }))
   where
     nothing : ◌≡◌ {A = List V} (y ∷ ys) [] → ⊥
     nothing e = cc
 
 -- what f makes of the values of s is what step makes of that of the values of r
-pub record Gathers {V U : Type 0} (G : V → List ℕ → Type 0) (f : List V → U) (step : U → U) (s r : List ℕ) : Type 0 where
+pub record Gathers {V U : Type 0} (G : V → List ℕ → Type 0) (f : List V → U) (step : U → U)
+    (s r : List ℕ) : Type 0 where
   pub whole : (zs : List V) → SpellsEach G zs r → (xs : List V) × SpellsEach G xs s × (f xs ≡ step (f zs))
   pub back : (xs : List V) → SpellsEach G xs s → (zs : List V) × SpellsEach G zs r × (f xs ≡ step (f zs))
 
@@ -59,7 +72,8 @@ module _ {V U : Type 0} (G : V → List ℕ → Type 0) (f : List V → U) (s : 
   pub gathers-all : (step : U → U) → ((u : U) → u ≡ step u) → Gathers G f step s s
   gathers-all step same = record { whole = λ zs h. (zs, h, same (f zs)); back = λ xs h. (xs, h, same (f xs)) }
 
-  pub gathers-on : (step next : U → U) (r q : List ℕ) (v : V) → ((zs : List V) → step (f (v ∷ zs)) ≡ next (f zs)) → r ≢ [] → Gathers G f step s r → Accepts G r v q → Gathers G f next s q
+  pub gathers-on : (step next : U → U) (r q : List ℕ) (v : V) → ((zs : List V) → step (f (v ∷ zs)) ≡ next (f zs))
+      → r ≢ [] → Gathers G f step s r → Accepts G r v q → Gathers G f next s q
   gathers-on step next r q v law some h a = record {
     whole = λ zs k. let (xs, each, e) = h.whole (v ∷ zs) (q, a.spells, k) in (xs, each, e ∙ law zs);
     back = λ xs k.
@@ -69,13 +83,15 @@ module _ {V U : Type 0} (G : V → List ℕ → Type 0) (f : List V → U) (s : 
   }
 
   -- no value is at the front of what is left
-  pub gathers-none : (step : U → U) (r : List ℕ) → r ≢ [] → Gathers G f step s r → Refuses G r → SpellsNothing (Through f (SpellsSome G)) s
+  pub gathers-none : (step : U → U) (r : List ℕ) → r ≢ [] → Gathers G f step s r → Refuses G r
+      → SpellsNothing (Through f (SpellsSome G)) s
   gathers-none step r some h none u k =
       let (zs, each, e) = h.back k.0 k.1.each in
       each-none G r zs some none each
 
   -- nothing is left
-  pub gathers-end : ((v : V) → G v [] → ⊥) → (step : U → U) (r : List ℕ) (u : U) → s ≢ [] → r ≡ [] → Gathers G f step s r → step (f []) ≡ u
+  pub gathers-end : ((v : V) → G v [] → ⊥) → (step : U → U) (r : List ℕ) (u : U) → s ≢ [] → r ≡ []
+      → Gathers G f step s r → step (f []) ≡ u
       → Through f (SpellsSome G) u s × ((w : U) → Through f (SpellsSome G) w s → w ≡ u)
   gathers-end nowhere step r u some end h is =
       let (xs, each, e) = h.whole [] end in (

@@ -1,5 +1,6 @@
 -- General names: their forms, and how one is read.
-use Rattle.std.proofs.Common.{arith, ◌≡◌, ◌≢◌, ℕ, Bool, true, false, List, [], Option, Some, None, inl, inr, refl, sym, ap, subst}
+use Rattle.std.proofs.Common.{arith, ◌≡◌, ◌≢◌, ℕ, Bool, true, false, List, [], Option, Some, None, inl, inr, refl, sym}
+use Rattle.std.proofs.Common.{ap, subst}
 use Rattle.std.specs.Prelude.{◌⊎◌, codes}
 use Rattle.rpki_der.specs.declared.error.DecodeError.{DecodeError}
 use Rattle.rpki_der.specs.declared.error.DecodeError.TheVariants.{Content, OutOfMemory}
@@ -16,7 +17,8 @@ use Rattle.rpki_der.proofs.ComposedLaws.{all-read, spelled-whole, nothing-whole}
 use Rattle.rpki_der.proofs.InsideLaws.{unless-memory}
 use Rattle.rpki_der.proofs.ReadingLaws.{UnlessMemory-weaker}
 use Rattle.rpki.specs.Name.{IsName, SpellsNameOctets}
-use Rattle.rpki_cert.specs.GeneralName.{SpellsText, IsTextFault, IsPlainName, IsBuiltName, IsFormOf, IsOtherName, SpellsName, IsNameFault}
+use Rattle.rpki_cert.specs.GeneralName.{SpellsText, IsTextFault, IsPlainName, IsBuiltName, IsFormOf, IsOtherName}
+use Rattle.rpki_cert.specs.GeneralName.{SpellsName, IsNameFault}
 
 -- ---- which form has the number of a tag
 
@@ -63,12 +65,20 @@ Any = SpellsWanted IsAnyTag
 abbrev Whatever : Unit {0} → List ℕ → Type 0
 Whatever w c = Unit {0}
 
-any-tag : (s : List ℕ) (x : TagName × Bool × List ℕ) (r : List ℕ) → Spells Any s x r → Spells (SpellsLeaf x.0 x.1 Whatever) s tt r
-any-tag s x r h = record { front = h.front; parts = h.parts; spelled = record { contents = x.2; value = h.spelled.value; spelled = tt } }
+any-tag : (s : List ℕ) (x : TagName × Bool × List ℕ) (r : List ℕ) → Spells Any s x r
+    → Spells (SpellsLeaf x.0 x.1 Whatever) s tt r
+any-tag s x r h = record {
+  front = h.front;
+  parts = h.parts;
+  spelled =
+      record { contents = x.2; value = h.spelled.value; spelled = tt };
+}
 
-other-tag : (s : List ℕ) (x : TagName × Bool × List ℕ) (r : List ℕ) → Spells Any s x r → (x.0 ≢ context_6) → HasTag context_6 s → ⊥
+other-tag : (s : List ℕ) (x : TagName × Bool × List ℕ) (r : List ℕ) → Spells Any s x r → (x.0 ≢ context_6)
+    → HasTag context_6 s → ⊥
 other-tag s x r h other there =
-    tags-apart {B = Unit {0}} {H = λ b q. Spells Any q x r} context_6 x.0 x.1 Whatever (λ e. other (sym e)) (λ b q k. (tt, r, any-tag q x r k)) tt s h there
+    tags-apart {B = Unit {0}} {H = λ b q. Spells Any q x r} context_6 x.0 x.1 Whatever (λ e. other (sym e))
+    (λ b q k. (tt, r, any-tag q x r k)) tt s h there
 
 as-text : (s text r : List ℕ) → Spells SpellsName s (Some text) r → Spells SpellsText s text r
 as-text s text r h = record { front = h.front; parts = h.parts; spelled = h.spelled }
@@ -76,8 +86,13 @@ as-text s text r h = record { front = h.front; parts = h.parts; spelled = h.spel
 as-any : (s r : List ℕ) → Spells SpellsName s None r → (x : TagName × Bool × List ℕ) × Spells Any s x r × IsOtherName x
 as-any s r h = (h.spelled.0, record { front = h.front; parts = h.parts; spelled = h.spelled.1 }, h.spelled.2)
 
-pub name-uri : (s text r : List ℕ) → HasTag context_6 s → Accepts SpellsText s text r → Accepts SpellsName s (Some text) r
-name-uri s text r there a = record { spells = record { front = a.spells.front; parts = a.spells.parts; spelled = a.spells.spelled }; only = only }
+pub name-uri : (s text r : List ℕ) → HasTag context_6 s → Accepts SpellsText s text r
+    → Accepts SpellsName s (Some text) r
+name-uri s text r there a = record {
+  spells =
+      record { front = a.spells.front; parts = a.spells.parts; spelled = a.spells.spelled };
+  only = only;
+}
   where
     only : (w : Option (List ℕ)) (q : List ℕ) → Spells SpellsName s w q → (w ≡ Some text) × (q ≡ r)
     only (Some other) q h = let e = a.only other q (as-text s other q h) in (ap (λ (t : List ℕ). Some t) e.0, e.1)
@@ -91,8 +106,13 @@ module _ (s : List ℕ) (without : HasTag context_6 s → ⊥) where
   no-text : (text r : List ℕ) → Spells SpellsName s (Some text) r → ⊥
   no-text text r h = without (leaf-tag context_6 false IsIa5Text s text r (as-text s text r h))
 
-  pub name-other : (r : List ℕ) (x : TagName × Bool × List ℕ) → Accepts Any s x r → IsOtherName x → Accepts SpellsName s None r
-  name-other r x a is = record { spells = record { front = a.spells.front; parts = a.spells.parts; spelled = (x, a.spells.spelled, is) }; only = only }
+  pub name-other : (r : List ℕ) (x : TagName × Bool × List ℕ) → Accepts Any s x r → IsOtherName x
+      → Accepts SpellsName s None r
+  name-other r x a is =
+      record {
+        spells = record { front = a.spells.front; parts = a.spells.parts; spelled = (x, a.spells.spelled, is) };
+        only = only;
+      }
     where
       only : (w : Option (List ℕ)) (q : List ℕ) → Spells SpellsName s w q → (w ≡ None) × (q ≡ r)
       only (Some text) q h = absurd (no-text text q h)
@@ -102,19 +122,33 @@ module _ (s : List ℕ) (without : HasTag context_6 s → ⊥) where
   no-value none (Some text) r h = no-text text r h
   no-value none None r h = let k = as-any s r h in none k.0 r k.1
 
-  pub no-other : (r : List ℕ) (x : TagName × Bool × List ℕ) → Accepts Any s x r → (IsOtherName x → ⊥) → Refuses SpellsName s
+  pub no-other : (r : List ℕ) (x : TagName × Bool × List ℕ) → Accepts Any s x r → (IsOtherName x → ⊥)
+      → Refuses SpellsName s
   no-other r x a isnt (Some text) q h = no-text text q h
   no-other r x a isnt None q h = let k = as-any s q h in isnt (subst IsOtherName (a.only k.0 q k.1).0 k.2)
 
 -- ---- its errors
 
-pub text-refused : (s r q : List ℕ) (e : DecodeError) → q ≡ s → HasTag context_6 s → Refusal SpellsText IsTextFault s r e → Refusal SpellsName IsNameFault s q e
-text-refused s r q e same there h = record { unchanged = same; refuses = UnlessMemory-weaker e (no-uri s there) h.refuses; kind = inl (there, h.kind) }
+pub text-refused : (s r q : List ℕ) (e : DecodeError) → q ≡ s → HasTag context_6 s
+    → Refusal SpellsText IsTextFault s r e → Refusal SpellsName IsNameFault s q e
+text-refused s r q e same there h = record {
+  unchanged = same;
+  refuses =
+      UnlessMemory-weaker e (no-uri s there) h.refuses;
+  kind = inl (there, h.kind);
+}
 
-pub value-refused : (s r q : List ℕ) (e : DecodeError) → q ≡ s → (HasTag context_6 s → ⊥) → Refusal Any (IsWantedFault IsAnyTag) s r e → Refusal SpellsName IsNameFault s q e
-value-refused s r q e same without h = record { unchanged = same; refuses = UnlessMemory-weaker e (no-value s without) h.refuses; kind = inr (without, inl h.kind) }
+pub value-refused : (s r q : List ℕ) (e : DecodeError) → q ≡ s → (HasTag context_6 s → ⊥)
+    → Refusal Any (IsWantedFault IsAnyTag) s r e → Refusal SpellsName IsNameFault s q e
+value-refused s r q e same without h = record {
+  unchanged = same;
+  refuses =
+      UnlessMemory-weaker e (no-value s without) h.refuses;
+  kind = inr (without, inl h.kind);
+}
 
-pub other-refused : (s : List ℕ) → (HasTag context_6 s → ⊥) → (r : List ℕ) (x : TagName × Bool × List ℕ) → Accepts Any s x r → (IsOtherName x → ⊥) → (e : ContentError) → text_of e ≡ codes "malformed general name"
+pub other-refused : (s : List ℕ) → (HasTag context_6 s → ⊥) → (r : List ℕ) (x : TagName × Bool × List ℕ)
+    → Accepts Any s x r → (IsOtherName x → ⊥) → (e : ContentError) → text_of e ≡ codes "malformed general name"
     → Refusal SpellsName IsNameFault s s (Content e)
 other-refused s without r x a isnt e text = record {
   unchanged = refl;
@@ -131,4 +165,5 @@ name-no-memory s (inr (without, inl k)) = wanted-no-memory s k
 name-no-memory s (inr (without, inr k)) = let t = k.text in t
 
 pub name-refused : (s r : List ℕ) (e : DecodeError) → Refusal SpellsName IsNameFault s r e → Refuses SpellsName s
-name-refused s r e h = unless-memory e (λ z. name-no-memory s (subst (λ (d : DecodeError). IsNameFault s d) z h.kind)) h.refuses
+name-refused s r e h = unless-memory e (λ z. name-no-memory s (subst (λ (d : DecodeError). IsNameFault s d) z h.kind))
+    h.refuses

@@ -1,5 +1,6 @@
 -- Extensions by their identifiers, and what their octets say.
-use Rattle.std.proofs.Common.{◌≡◌, ◌≢◌, ℕ, Bool, false, List, Option, Some, None, Result, Ok, Err, refl, sym, ap, subst, ◌∙◌}
+use Rattle.std.proofs.Common.{◌≡◌, ◌≢◌, ℕ, Bool, false, List, Option, Some, None, Result, Ok, Err, refl, sym, ap, subst}
+use Rattle.std.proofs.Common.{◌∙◌}
 use Rattle.rpki_der.specs.declared.error.DecodeError.{DecodeError}
 use Rattle.rpki_der.specs.declared.error.DecodeError.TheVariants.{OutOfMemory}
 use Rattle.std.specs.Prelude.{IsErr, IsErrAnd, IfOk, IfErr, MatchResult}
@@ -28,37 +29,53 @@ module _ {V : Type 0} (critical : Bool) (G : V → List ℕ → Type 0) (found :
     only (Some w) (y, two, same, k) = absurd (none-of y (sym two ∙ none))
 
   -- it is as critical as it has to be, and its octets are this value
-  pub only-value : (x : ExtensionParts) (v : V) → (found ≡ Some x) × (x.critical ≡ critical) → G v x.content × ((w : V) → G w x.content → w ≡ v) → SaysOnly critical G found (Some v)
+  pub only-value : (x : ExtensionParts) (v : V) → (found ≡ Some x) × (x.critical ≡ critical)
+      → G v x.content × ((w : V) → G w x.content → w ≡ v) → SaysOnly critical G found (Some v)
   only-value x v (one, same) g = ((x, one, same, g.0), only) where
     only : (w : Option V) → Says critical G found w → w ≡ Some v
     only None h = absurd (none-of x (sym one ∙ h))
-    only (Some w) (y, two, other, k) = ap (λ (u : V). Some u) (g.1 w (subst (λ (z : ExtensionParts). G w z.content) (one-of y x (sym two ∙ one)) k))
+    only (Some w) (y, two, other, k) = ap (λ (u : V). Some u)
+        (g.1 w (subst (λ (z : ExtensionParts). G w z.content) (one-of y x (sym two ∙ one)) k))
 
   -- it is, and its octets are no value
-  pub no-value : (x : ExtensionParts) → (found ≡ Some x) × (x.critical ≡ critical) → SpellsNothing G x.content → SaysNone critical G found
+  pub no-value : (x : ExtensionParts) → (found ≡ Some x) × (x.critical ≡ critical) → SpellsNothing G x.content
+      → SaysNone critical G found
   no-value x (one, same) none None h = none-of x (sym one ∙ h)
-  no-value x (one, same) none (Some v) (y, two, other, k) = none v (subst (λ (z : ExtensionParts). G v z.content) (one-of y x (sym two ∙ one)) k)
+  no-value x (one, same) none (Some v) (y, two, other, k) =
+      none v (subst (λ (z : ExtensionParts). G v z.content) (one-of y x (sym two ∙ one)) k)
 
   -- the same, as a reader that takes no memory says it
-  pub not-read : (K : List ℕ → DecodeError → Type 0) (x : ExtensionParts) (e : DecodeError) → (found ≡ Some x) × (x.critical ≡ critical) → (K x.content OutOfMemory → ⊥)
+  pub not-read : (K : List ℕ → DecodeError → Type 0) (x : ExtensionParts) (e : DecodeError)
+      → (found ≡ Some x) × (x.critical ≡ critical) → (K x.content OutOfMemory → ⊥)
       → UnlessMemory e (SpellsNothing G x.content) × IsWholeFault G K x.content e → SaysNone critical G found
   not-read K x e is never h = no-value x is (unless-memory e (whole-no-memory G K x.content e never h.1) h.0)
 
   -- it is, and a reader that takes no memory says which error its octets have
-  pub read-wrong : (K : List ℕ → DecodeError → Type 0) (x : ExtensionParts) (e : DecodeError) → (found ≡ Some x) × (x.critical ≡ critical) → (K x.content OutOfMemory → ⊥)
-      → UnlessMemory e (SpellsNothing G x.content) × IsWholeFault G K x.content e → IsFoundWrong critical G (IsWholeFault G K) found (Decoding e)
-  read-wrong K x e is never h =
-      (not-read K x e is never h, (x, is.0, is.1, record { other = whole-no-memory G K x.content e never h.1; kind = h.1 }))
+  pub read-wrong : (K : List ℕ → DecodeError → Type 0) (x : ExtensionParts) (e : DecodeError)
+      → (found ≡ Some x) × (x.critical ≡ critical) → (K x.content OutOfMemory → ⊥)
+      → UnlessMemory e (SpellsNothing G x.content) × IsWholeFault G K x.content e
+      → IsFoundWrong critical G (IsWholeFault G K) found (Decoding e)
+  read-wrong K x e is never h = (
+    not-read K x e is never h,
+    (
+      x,
+      is.0,
+      is.1,
+      record { other = whole-no-memory G K x.content e never h.1; kind = h.1 },
+    ),
+  )
 
   -- the same of a reader in place
-  pub given-wrong : (x : ExtensionParts) (e : DecodeError) → (found ≡ Some x) × (x.critical ≡ critical) → SpellsNothing G x.content → e ≢ OutOfMemory
+  pub given-wrong : (x : ExtensionParts) (e : DecodeError) → (found ≡ Some x) × (x.critical ≡ critical)
+      → SpellsNothing G x.content → e ≢ OutOfMemory
       → IsFoundWrong critical G AnyFault found (Decoding e)
   given-wrong x e is none other = (no-value x is none, (x, is.0, is.1, record { other = other; kind = tt }))
 
   -- it is not as critical as it has to be
   pub other-critical : (x : ExtensionParts) × (found ≡ Some x) × (x.critical ≡ critical → ⊥) → SaysNone critical G found
   other-critical (x, one, other) None h = none-of x (sym one ∙ h)
-  other-critical (x, one, other) (Some v) (y, two, same, k) = other (ap (λ (z : ExtensionParts). z.critical) (one-of x y (sym one ∙ two)) ∙ same)
+  other-critical (x, one, other) (Some v) (y, two, same, k) =
+      other (ap (λ (z : ExtensionParts). z.critical) (one-of x y (sym one ∙ two)) ∙ same)
 
 -- ---- an error that isn't allocation failure, or is
 
@@ -73,13 +90,17 @@ unless-weaker (Inspection e) f h = f h
 unless-weaker (Verification e) f h = f h
 
 -- a function that ends by a `?`
-pub tried-unless : {X : Type 0} (P : X → Type 0) (Q : Type 0) (F : ValidationError → Type 0) (x : Result X ValidationError) → IsErr x × IsErrAnd x F → Q
+pub tried-unless : {X : Type 0} (P : X → Type 0) (Q : Type 0) (F : ValidationError → Type 0)
+    (x : Result X ValidationError) → IsErr x × IsErrAnd x F → Q
     → MatchResult x P (λ e. UnlessNoMemory e Q)
 tried-unless P Q F (Ok x) h q = absurd h.1
 tried-unless P Q F (Err e) h q = unless-from e q
 
 -- a URI that was found, kept: allocation may fail
-pub kept-uri : (G : Option (List ℕ) → List ℕ → Type 0) (found : Option ExtensionParts) (text : Option (List ℕ)) (r : Result (Option (List ℕ)) ValidationError) → SaysUri G found text
-    → IfOk r (λ o. o ≡ text) → IfErr r (λ e. e ≡ Decoding OutOfMemory) → MatchResult r (SaysUri G found) (λ e. UnlessNoMemory e (SaysNone {V = Option (List ℕ)} false G found))
+pub kept-uri : (G : Option (List ℕ) → List ℕ → Type 0) (found : Option ExtensionParts) (text : Option (List ℕ))
+    (r : Result (Option (List ℕ)) ValidationError) → SaysUri G found text
+    → IfOk r (λ o. o ≡ text) → IfErr r (λ e. e ≡ Decoding OutOfMemory)
+    → MatchResult r (SaysUri G found) (λ e. UnlessNoMemory e (SaysNone {V = Option (List ℕ)} false G found))
 kept-uri G found text (Ok u) h is none = subst (SaysUri G found) (sym is) h
-kept-uri G found text (Err e) h none is = subst (λ (d : ValidationError). UnlessNoMemory d (SaysNone {V = Option (List ℕ)} false G found)) (sym is) tt
+kept-uri G found text (Err e) h none is = subst
+    (λ (d : ValidationError). UnlessNoMemory d (SaysNone {V = Option (List ℕ)} false G found)) (sym is) tt

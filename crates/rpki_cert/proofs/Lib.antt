@@ -1,10 +1,10 @@
 -- Which lemma file answers which question.
 --
 -- Values, one at least; lists of extensions; each identifier once: SomeLaws, ExtensionListLaws, UniqueLaws.
--- Signed data without unused bits: WholeLaws. What is signed, and a certificate around it: CertLaws. What an extension says: KnownLaws, PolicyLaws,
---   GeneralNameLaws, AccessLaws, AccessDescriptionLaws.
--- Keys: KeyLaws. Checks of profiles: ProfileLaws. Their rules: RuleLaws. What is verified: VerifiedLaws. What is claimed
---   of resources, and what is settled: ResourceSetLaws.
+-- Signed data without unused bits: WholeLaws. What is signed, and a certificate around it: CertLaws. What an extension
+--   says: KnownLaws, PolicyLaws, GeneralNameLaws, AccessLaws, AccessDescriptionLaws.
+-- Keys: KeyLaws. Checks of profiles: ProfileLaws. Their rules: RuleLaws. What is verified: VerifiedLaws. What is
+--   claimed of resources, and what is settled: ResourceSetLaws.
 -- Read in place: values, names, access information, lists of extensions, their table, fields, certificates: NestedLaws,
 --   NameViewLaws, InformationLaws, ListedLaws, TableLaws, FieldsLaws, ViewLaws. That what is signed is one
 --   value: TbsValueLaws. That what is wrong is no certificate: WrongLaws.

@@ -1,5 +1,6 @@
 -- Extensions that are read in place, one after another.
-use Rattle.std.proofs.Common.{◌≡◌, ◌≢◌, ◌∙◌, ◌≤◌, ◌<◌, ℕ, true, false, List, [], ◌∷◌, length, Option, Some, None, IsTrue, refl, sym, ap, subst, arith}
+use Rattle.std.proofs.Common.{◌≡◌, ◌≢◌, ◌∙◌, ◌≤◌, ◌<◌, ℕ, true, false, List, [], ◌∷◌, length, Option, Some, None}
+use Rattle.std.proofs.Common.{IsTrue, refl, sym, ap, subst, arith}
 use Rattle.std.specs.Prelude.{bytes_eq}
 use Rattle.std.proofs.lemmas.Bool.{false≢true}
 use Rattle.rpki_der.specs.declared.error.DecodeError.{DecodeError}
@@ -18,16 +19,20 @@ use Rattle.rpki.proofs.ExtensionFaultLaws.{extension-outer}
 use Rattle.rpki_cert.specs.declared.cert_part.CertPart.{CertPart}
 use Rattle.rpki_cert.specs.Cert.{find, is_there, are_unique}
 use Rattle.rpki_cert.specs.ExtensionTable.{OfListed}
-use Rattle.rpki_cert.specs.View.{SpellsListed, SpellsFrame, AreExtensionsWrong, AreExtensionsAt, HasCount, most_extensions}
+use Rattle.rpki_cert.specs.View.{SpellsListed, SpellsFrame, AreExtensionsWrong, AreExtensionsAt, HasCount}
+use Rattle.rpki_cert.specs.View.{most_extensions}
 use Rattle.rpki_cert.specs.View.AreExtensionsWrong.{NotListed, TooMany, Repeated}
 use Rattle.rpki_cert.proofs.GatherLaws.{Gathers, gathers-on}
 
 -- an error of a reader that takes no memory
-pub refused : {V : Type 0} (G : V → List ℕ → Type 0) (K : List ℕ → DecodeError → Type 0) (s r : List ℕ) (e : DecodeError) → (K s OutOfMemory → ⊥) → Refusal G K s r e → Refuses G s
+pub refused : {V : Type 0} (G : V → List ℕ → Type 0) (K : List ℕ → DecodeError → Type 0) (s r : List ℕ)
+    (e : DecodeError) → (K s OutOfMemory → ⊥) → Refusal G K s r e → Refuses G s
 refused G K s r e never h = unless-memory e (λ z. never (subst (K s) z h.kind)) h.refuses
 
-pub extension-refused : (s r : List ℕ) (e : DecodeError) → Refusal SpellsExtension IsCertExtensionFault s r e → Refuses SpellsExtension s
-extension-refused s r e h = refused SpellsExtension IsCertExtensionFault s r e (λ k. (extension-outer s OutOfMemory k).other refl) h
+pub extension-refused : (s r : List ℕ) (e : DecodeError) → Refusal SpellsExtension IsCertExtensionFault s r e
+    → Refuses SpellsExtension s
+extension-refused s r e h = refused SpellsExtension IsCertExtensionFault s r e
+    (λ k. (extension-outer s OutOfMemory k).other refl) h
 
 -- ---- what is left of extensions
 
@@ -35,9 +40,11 @@ abbrev pub Each : List ExtensionParts → List ℕ → Type 0
 Each = SpellsEach SpellsExtension
 
 -- the extensions of s, without the first
-pub each-rest : (s q : List ℕ) (x : ExtensionParts) (ys : List ExtensionParts) → s ≢ [] → Accepts SpellsExtension s x q → Each ys s → (zs : List ExtensionParts) × (ys ≡ x ∷ zs) × Each zs q
+pub each-rest : (s q : List ℕ) (x : ExtensionParts) (ys : List ExtensionParts) → s ≢ [] → Accepts SpellsExtension s x q
+    → Each ys s → (zs : List ExtensionParts) × (ys ≡ x ∷ zs) × Each zs q
 each-rest s q x [] some a h = absurd (some h)
-each-rest s q x (y ∷ zs) some a h = let e = a.only y h.0 h.1 in (zs, ap (λ (w : ExtensionParts). w ∷ zs) e.0, subst (Each zs) e.1 h.2)
+each-rest s q x (y ∷ zs) some a h = let e = a.only y h.0 h.1 in
+    (zs, ap (λ (w : ExtensionParts). w ∷ zs) e.0, subst (Each zs) e.1 h.2)
 
 pub each-none : (s : List ℕ) (ys : List ExtensionParts) → s ≢ [] → Refuses SpellsExtension s → Each ys s → ⊥
 each-none s [] some none h = some h
@@ -45,7 +52,8 @@ each-none s (y ∷ zs) some none h = none y h.0 h.1
 
 pub each-end : (s : List ℕ) (ys : List ExtensionParts) → s ≡ [] → Each ys s → ys ≡ []
 each-end s [] e h = refl
-each-end s (y ∷ ys) e h = absurd (omega (arith, ap length e, leaf-shorter sequence true IsExtensionContents s y h.0 h.1))
+each-end s (y ∷ ys) e h =
+    absurd (omega (arith, ap length e, leaf-shorter sequence true IsExtensionContents s y h.0 h.1))
 
 pub find-other : (id : List ℕ) (x : ExtensionParts) (zs : List ExtensionParts) → bytes_eq x.identifier id ≡ false
     → find id (x ∷ zs) ≡ find id zs
@@ -56,7 +64,8 @@ find-other id x zs e = rw e refl
 abbrev pub Has : List ℕ → List ℕ → List ℕ → Type 0
 Has id = Gathers SpellsExtension (λ xs. is_there (find id xs)) (λ b. b)
 
-module _ (id s r q : List ℕ) (x : ExtensionParts) (some : r ≢ []) (h : Has id s r) (a : Accepts SpellsExtension r x q) where
+module _ (id s r q : List ℕ) (x : ExtensionParts) (some : r ≢ []) (h : Has id s r)
+    (a : Accepts SpellsExtension r x q) where
   pub has-on : bytes_eq x.identifier id ≡ false → Has id s q
   has-on other =
       gathers-on SpellsExtension (λ xs. is_there (find id xs)) s (λ b. b) (λ b. b) r q x
@@ -81,7 +90,8 @@ has-end id s r end h xs k =
 
 -- what is unique in r is unique in s
 pub record KeepsUnique (s r : List ℕ) : Type 0 where
-  pub same : (xs : List ExtensionParts) → Each xs s → (ys : List ExtensionParts) × Each ys r × (are_unique xs ≡ are_unique ys)
+  pub same : (xs : List ExtensionParts) → Each xs s
+      → (ys : List ExtensionParts) × Each ys r × (are_unique xs ≡ are_unique ys)
 
 pub first-once : (x : ExtensionParts) (zs : List ExtensionParts) → find x.identifier zs ≡ None
     → are_unique (x ∷ zs) ≡ are_unique zs
@@ -123,14 +133,18 @@ nothing-there s e xs k = k.some (each-end s xs e k.each)
 
 -- ---- the value that is all
 
-pub only-all : (t : TagName) (s c r : List ℕ) → Accepts (SpellsContents t true) s c r → r ≡ [] → SpellsContents t true c s × ((w : List ℕ) → SpellsContents t true w s → w ≡ c)
+pub only-all : (t : TagName) (s c r : List ℕ) → Accepts (SpellsContents t true) s c r → r ≡ []
+    → SpellsContents t true c s × ((w : List ℕ) → SpellsContents t true w s → w ≡ c)
 only-all t s c r a end = all-read (SpellsContents t true) s c r a end
 
-pub only-more : (t : TagName) (s c r : List ℕ) → Accepts (SpellsContents t true) s c r → (r ≡ [] → ⊥) → SpellsNothing (SpellsContents t true) s
+pub only-more : (t : TagName) (s c r : List ℕ) → Accepts (SpellsContents t true) s c r → (r ≡ [] → ⊥)
+    → SpellsNothing (SpellsContents t true) s
 only-more t s c r a some = nothing-after (SpellsContents t true) s r c a some
 
-pub only-none : (t : TagName) (s r : List ℕ) (e : DecodeError) → Refusal (SpellsContents t true) (IsContentsFault t true) s r e → SpellsNothing (SpellsContents t true) s
-only-none t s r e h = nothing-whole (SpellsContents t true) s (unless-memory e (λ z. contents-no-memory t true s e h.kind z) h.refuses)
+pub only-none : (t : TagName) (s r : List ℕ) (e : DecodeError)
+    → Refusal (SpellsContents t true) (IsContentsFault t true) s r e → SpellsNothing (SpellsContents t true) s
+only-none t s r e h = nothing-whole (SpellsContents t true) s
+    (unless-memory e (λ z. contents-no-memory t true s e h.kind z) h.refuses)
 
 -- ---- the list of extensions
 
@@ -140,15 +154,23 @@ IsAll {V} G v s = G v s × ((w : V) → G w s → w ≡ v)
 listed-frame : (xs : List ExtensionParts) (s : List ℕ) (g : SpellsListed xs s) → SpellsFrame g.spelled.contents s
 listed-frame xs s g = record { contents = g.contents; value = g.value; spelled = g.spelled.value }
 
-pub unframed : (s : List ℕ) (q : CertPart) → SpellsNothing SpellsFrame s → q ≡ CertPart.Extensions → AreExtensionsWrong s q
+pub unframed : (s : List ℕ) (q : CertPart) → SpellsNothing SpellsFrame s → q ≡ CertPart.Extensions
+    → AreExtensionsWrong s q
 unframed s q none is = NotListed (λ xs g. none g.spelled.contents (listed-frame xs s g)) is
 
 module _ (s l : List ℕ) (f : IsAll SpellsFrame l s) where
   listed : (xs : List ExtensionParts) → SpellsSome SpellsExtension xs l → SpellsListed xs s
-  listed xs k = record { contents = f.0.contents; value = f.0.value; spelled = record { contents = l; value = f.0.spelled; spelled = k } }
+  listed xs k = record {
+    contents = f.0.contents;
+    value = f.0.value;
+    spelled =
+        record { contents = l; value = f.0.spelled; spelled = k };
+  }
 
-  pub uncounted : (q : CertPart) → ((xs : List ExtensionParts) → SpellsSome SpellsExtension xs l → ⊥) → q ≡ CertPart.Extensions → AreExtensionsWrong s q
-  uncounted q none is = NotListed (λ xs g. none xs (subst (SpellsSome SpellsExtension xs) (f.1 g.spelled.contents (listed-frame xs s g)) g.spelled.spelled)) is
+  pub uncounted : (q : CertPart) → ((xs : List ExtensionParts) → SpellsSome SpellsExtension xs l → ⊥)
+      → q ≡ CertPart.Extensions → AreExtensionsWrong s q
+  uncounted q none is = NotListed (λ xs g. none xs
+      (subst (SpellsSome SpellsExtension xs) (f.1 g.spelled.contents (listed-frame xs s g)) g.spelled.spelled)) is
 
   pub too-many : (q : CertPart) (n : ℕ) → HasCount l n → most_extensions < n → q ≡ CertPart.ExtensionCount
       → AreExtensionsWrong s q

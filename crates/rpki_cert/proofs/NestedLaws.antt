@@ -1,5 +1,7 @@
 -- Values with everything nested in them, by headers that are visited from the left.
-use Rattle.std.proofs.Common.{◌≡◌, ◌≢◌, ◌↔◌, ◌∙◌, inl, inr, ◌⊎◌, ℕ, ◌-◌, ◌+◌, ◌<◌, ◌≤◌, Bool, true, false, List, [], ◌∷◌, ◌++◌, length, drop, take, refl, sym, ap, subst, arith, append_assoc, length-append, length-drop, take_all}
+use Rattle.std.proofs.Common.{◌≡◌, ◌≢◌, ◌↔◌, ◌∙◌, inl, inr, ◌⊎◌, ℕ, ◌-◌, ◌+◌, ◌<◌, ◌≤◌, Bool, true, false, List, []}
+use Rattle.std.proofs.Common.{◌∷◌, ◌++◌, length, drop, take, refl, sym, ap, subst, arith, append_assoc, length-append}
+use Rattle.std.proofs.Common.{length-drop, take_all}
 use Rattle.std.proofs.lemmas.Bool.{false≢true}
 use Rattle.std.proofs.lemmas.List.{append-nil, append_cancel_right, drop_at, take_at}
 use Rattle.rpki_der.specs.TagName.{TagName}
@@ -8,11 +10,13 @@ use Rattle.rpki_der.specs.Reading.{Spells, Accepts, Refuses, Refusal}
 use Rattle.rpki_der.specs.Values.{SpellsContents}
 use Rattle.rpki_der.specs.WantedValue.{SpellsWanted, IsAnyTag, IsWantedFault}
 use Rattle.rpki_der.specs.declared.error.DecodeError.{DecodeError}
-use Rattle.rpki_der.specs.declared.error.DecodeError.TheVariants.{Truncated, BadTag, BadLength, Unexpected, Content, Trailing, OutOfMemory}
+use Rattle.rpki_der.specs.declared.error.DecodeError.TheVariants.{Truncated, BadTag, BadLength, Unexpected, Content}
+use Rattle.rpki_der.specs.declared.error.DecodeError.TheVariants.{Trailing, OutOfMemory}
 use Rattle.rpki_der.proofs.EncodeLaws.{tlv-at-least}
 use Rattle.rpki_der.proofs.ComposedLaws.{spelled-whole, all-read}
 use Rattle.rpki_der.specs.Each.{SpellsEach}
-use Rattle.rpki_der.specs.Members.{Members, Empty, Primitive, Constructed, spell, HaveHeaders, count, IsValue, IsValueList, SpellsValue}
+use Rattle.rpki_der.specs.Members.{Members, Empty, Primitive, Constructed, spell, HaveHeaders, count, IsValue}
+use Rattle.rpki_der.specs.Members.{IsValueList, SpellsValue}
 use Rattle.rpki_der.specs.ValueListLaws.{values_append, no_values, primitive_value, constructed_value}
 use Rattle.rpki_der.proofs.MembersLaws.{value-accepted, two-octets}
 use Rattle.rpki_cert.specs.InPlace.{AreHeaded, AllNested, IsPastHeader}
@@ -33,7 +37,8 @@ headed-join : (vs : List Parts) (a b : List ℕ) → SpellsEach Any vs a → Are
 headed-join [] a b h k = rw h k
 headed-join (v ∷ vs) a b h k =
     let rest = headed-join vs h.0 b h.2 k in
-    subst AreHeaded (sym (append_assoc h.1.front h.0 b) ∙ ap (λ (x : List ℕ). x ++ b) (sym h.1.parts)) (headed-cons v h.1.front (h.0 ++ b) h.1.spelled rest)
+    subst AreHeaded (sym (append_assoc h.1.front h.0 b) ∙ ap (λ (x : List ℕ). x ++ b) (sym h.1.parts))
+    (headed-cons v h.1.front (h.0 ++ b) h.1.spelled rest)
 
 pub headed-append : (a b : List ℕ) → AreHeaded a → AreHeaded b → AreHeaded (a ++ b)
 headed-append a b h k = headed-join h.0 a b h.1 k
@@ -45,12 +50,15 @@ record After (s q c r : List ℕ) (front : List ℕ) : Type 0 where
   pub rest : q ≡ following ++ r
   pub headed : AreHeaded following
 
-first-of : (s q c r : List ℕ) (x : Parts) (a : Accepts Any s x q) → s ≡ c ++ r → (vs : List Parts) → SpellsEach Any vs c → (c ≡ []) ⊎ After s q c r a.spells.front
+first-of : (s q c r : List ℕ) (x : Parts) (a : Accepts Any s x q) → s ≡ c ++ r → (vs : List Parts) → SpellsEach Any vs c
+    → (c ≡ []) ⊎ After s q c r a.spells.front
 first-of s q c r x a e [] h = inl h
 first-of s q c r x a e (v ∷ vs) h =
-    let whole : s ≡ h.1.front ++ (h.0 ++ r) = e ∙ ap (λ (y : List ℕ). y ++ r) h.1.parts ∙ append_assoc h.1.front h.0 r in
+    let whole : s ≡ h.1.front ++ (h.0 ++ r) =
+    e ∙ ap (λ (y : List ℕ). y ++ r) h.1.parts ∙ append_assoc h.1.front h.0 r in
     let one = a.only v (h.0 ++ r) (record { front = h.1.front; parts = whole; spelled = h.1.spelled }) in
-    let same : h.1.front ++ q ≡ a.spells.front ++ q = ap (λ (y : List ℕ). h.1.front ++ y) (sym one.1) ∙ sym whole ∙ a.spells.parts in
+    let same : h.1.front ++ q ≡ a.spells.front ++ q =
+    ap (λ (y : List ℕ). h.1.front ++ y) (sym one.1) ∙ sym whole ∙ a.spells.parts in
     inr (record {
       following = h.0;
       parts = h.1.parts ∙ ap (λ (y : List ℕ). y ++ h.0) (append_cancel_right h.1.front a.spells.front q same);
@@ -77,16 +85,19 @@ all-nested-end s e a c r parts h k = nested-none c (omega-nil c a r (sym parts �
   where
     omega-nil : (c a r : List ℕ) → a ++ (c ++ r) ≡ [] → c ≡ []
     omega-nil [] a r e = refl
-    omega-nil (x ∷ c) a r e = absurd (omega (arith, ap length e, length-append a ((x ∷ c) ++ r), length-append (x ∷ c) r))
+    omega-nil (x ∷ c) a r e =
+        absurd (omega (arith, ap length e, length-append a ((x ∷ c) ++ r), length-append (x ∷ c) r))
 
 -- the lists that begin with the value at the front
-starts : (s q : List ℕ) (x : Parts) (a : Accepts Any s x q) → IsValue a.spells.front → ((c r : List ℕ) → q ≡ c ++ r → AreHeaded c → IsValueList c)
+starts : (s q : List ℕ) (x : Parts) (a : Accepts Any s x q) → IsValue a.spells.front
+    → ((c r : List ℕ) → q ≡ c ++ r → AreHeaded c → IsValueList c)
     → (c r : List ℕ) → s ≡ c ++ r → AreHeaded c → IsValueList c
 starts s q x a one others c r e h = go (first-of s q c r x a e h.0 h.1)
   where
     go : (c ≡ []) ⊎ After s q c r a.spells.front → IsValueList c
     go (inl z) = nested-none c z
-    go (inr f) = subst IsValueList (sym f.parts) (nested-append a.spells.front f.following (1, one) (others f.following r f.rest f.headed))
+    go (inr f) = subst IsValueList (sym f.parts)
+        (nested-append a.spells.front f.following (1, one) (others f.following r f.rest f.headed))
 
 pub past-primitive : (s q d : List ℕ) (t : TagName) → Accepts Any s (t, false, d) q → AllNested q → AllNested s
 past-primitive s q d t a all b c r e h k = go (first-of s q b (c ++ r) (t, false, d) a e h.0 h.1)
@@ -95,18 +106,22 @@ past-primitive s q d t a all b c r e h k = go (first-of s q b (c ++ r) (t, false
     one = primitive-one t d a.spells.front a.spells.spelled
 
     go : (b ≡ []) ⊎ After s q b (c ++ r) a.spells.front → IsValueList c
-    go (inl z) = starts s q (t, false, d) a one (λ c r e k. all [] c r e ([], refl) k) c r (e ∙ ap (λ (x : List ℕ). x ++ (c ++ r)) z) k
+    go (inl z) = starts s q (t, false, d) a one (λ c r e k. all [] c r e ([], refl) k) c r
+        (e ∙ ap (λ (x : List ℕ). x ++ (c ++ r)) z) k
     go (inr f) = all f.following c r f.rest f.headed k
 
-pub past-constructed : (s q d : List ℕ) (t : TagName) → Accepts Any s (t, true, d) q → AreHeaded d → AllNested (d ++ q) → AllNested s
+pub past-constructed : (s q d : List ℕ) (t : TagName) → Accepts Any s (t, true, d) q → AreHeaded d → AllNested (d ++ q)
+    → AllNested s
 past-constructed s q d t a tiled all b c r e h k = go (first-of s q b (c ++ r) (t, true, d) a e h.0 h.1)
   where
     one : IsValue a.spells.front
     one = constructed-one t d a.spells.front a.spells.spelled (all [] d q refl ([], refl) tiled)
 
     go : (b ≡ []) ⊎ After s q b (c ++ r) a.spells.front → IsValueList c
-    go (inl z) = starts s q (t, true, d) a one (λ c r e k. all d c r (ap (λ (x : List ℕ). d ++ x) e) tiled k) c r (e ∙ ap (λ (x : List ℕ). x ++ (c ++ r)) z) k
-    go (inr f) = all (d ++ f.following) c r (ap (λ (x : List ℕ). d ++ x) f.rest ∙ sym (append_assoc d f.following (c ++ r))) (headed-append d f.following tiled f.headed) k
+    go (inl z) = starts s q (t, true, d) a one (λ c r e k. all d c r (ap (λ (x : List ℕ). d ++ x) e) tiled k) c r
+        (e ∙ ap (λ (x : List ℕ). x ++ (c ++ r)) z) k
+    go (inr f) = all (d ++ f.following) c r (ap (λ (x : List ℕ). d ++ x) f.rest
+        ∙ sym (append_assoc d f.following (c ++ r))) (headed-append d f.following tiled f.headed) k
 
 pub all-of : (s : List ℕ) → AllNested s → AreHeaded s → IsValueList s
 all-of s all h = all [] s [] (sym (append-nil s)) ([], refl) h
@@ -115,9 +130,11 @@ all-of s all h = all [] s [] (sym (append-nil s)) ([], refl) h
 
 members-headed : (ms : Members) → HaveHeaders ms → AreHeaded (spell ms)
 members-headed Empty h = ([], refl)
-members-headed (Primitive t c rest) h = headed-cons (t, false, c) (tlv t false c) (spell rest) (record { wanted = tt; value = record { tag = h.0.0; fits = h.0.1; octets = refl } }) (members-headed rest h.1)
+members-headed (Primitive t c rest) h = headed-cons (t, false, c) (tlv t false c) (spell rest)
+    (record { wanted = tt; value = record { tag = h.0.0; fits = h.0.1; octets = refl } }) (members-headed rest h.1)
 members-headed (Constructed t ms rest) h =
-    headed-cons (t, true, spell ms) (tlv t true (spell ms)) (spell rest) (record { wanted = tt; value = record { tag = h.0.0; fits = h.0.1; octets = refl } }) (members-headed rest h.2)
+    headed-cons (t, true, spell ms) (tlv t true (spell ms)) (spell rest)
+    (record { wanted = tt; value = record { tag = h.0.0; fits = h.0.1; octets = refl } }) (members-headed rest h.2)
 
 pub nested-headed : (s : List ℕ) → IsValueList s → AreHeaded s
 nested-headed s h = subst AreHeaded (sym h.1.spelled) (members-headed h.1.members h.1.legal)
@@ -130,13 +147,28 @@ record Front (s : List ℕ) (x : Parts) (q : List ℕ) : Type 0 where
 front-is : (s : List ℕ) (x y : Parts) (q r : List ℕ) → Accepts Any s x q → Spells Any s y r → Front s y r → Front s x q
 front-is s x y q r a h f = let e = a.only y r h in rw (sym e.0, sym e.1) f
 
-front-members : (s : List ℕ) (x : Parts) (q : List ℕ) → Accepts Any s x q → (ms : Members) → HaveHeaders ms → s ≡ spell ms → (s ≡ []) ⊎ Front s x q
+front-members : (s : List ℕ) (x : Parts) (q : List ℕ) → Accepts Any s x q → (ms : Members) → HaveHeaders ms
+    → s ≡ spell ms → (s ≡ []) ⊎ Front s x q
 front-members s x q a Empty h e = inl e
 front-members s x q a (Primitive t c rest) h e = inr (front-is s x (t, false, c) q (spell rest) a
-    (record { front = tlv t false c; parts = e; spelled = record { wanted = tt; value = record { tag = h.0.0; fits = h.0.1; octets = refl } } })
-    (record { others = (count rest, record { members = rest; legal = h.1; spelled = refl; counted = refl }); inside = λ z. absurd (cc) }))
+    (record {
+      front = tlv t false c;
+      parts = e;
+      spelled =
+          record { wanted = tt; value = record { tag = h.0.0; fits = h.0.1; octets = refl } };
+    })
+    (record {
+      others = (count rest, record { members = rest; legal = h.1; spelled = refl; counted = refl });
+      inside =
+          λ z. absurd (cc);
+    }))
 front-members s x q a (Constructed t ms rest) h e = inr (front-is s x (t, true, spell ms) q (spell rest) a
-    (record { front = tlv t true (spell ms); parts = e; spelled = record { wanted = tt; value = record { tag = h.0.0; fits = h.0.1; octets = refl } } })
+    (record {
+      front = tlv t true (spell ms);
+      parts = e;
+      spelled =
+          record { wanted = tt; value = record { tag = h.0.0; fits = h.0.1; octets = refl } };
+    })
     (record {
       others = (count rest, record { members = rest; legal = h.2; spelled = refl; counted = refl });
       inside = λ z. (count ms, record { members = ms; legal = h.1; spelled = refl; counted = refl });
@@ -149,14 +181,18 @@ front-of s x q some a h = go (front-members s x q a h.1.members h.1.legal h.1.sp
     go (inl z) = absurd (some z)
     go (inr f) = f
 
-pub after-primitive : (s d q : List ℕ) (t : TagName) → s ≢ [] → Accepts Any s (t, false, d) q → IsValueList s → IsValueList q
+pub after-primitive : (s d q : List ℕ) (t : TagName) → s ≢ [] → Accepts Any s (t, false, d) q → IsValueList s
+    → IsValueList q
 after-primitive s d q t some a h = (front-of s (t, false, d) q some a h).others
 
-pub inside-constructed : (s d q : List ℕ) (t : TagName) → s ≢ [] → Accepts Any s (t, true, d) q → IsValueList s → IsValueList d
+pub inside-constructed : (s d q : List ℕ) (t : TagName) → s ≢ [] → Accepts Any s (t, true, d) q → IsValueList s
+    → IsValueList d
 inside-constructed s d q t some a h = (front-of s (t, true, d) q some a h).inside refl
 
-pub after-constructed : (s d q : List ℕ) (t : TagName) → s ≢ [] → Accepts Any s (t, true, d) q → IsValueList s → IsValueList (d ++ q)
-after-constructed s d q t some a h = let f = front-of s (t, true, d) q some a h in nested-append d q (f.inside refl) f.others
+pub after-constructed : (s d q : List ℕ) (t : TagName) → s ≢ [] → Accepts Any s (t, true, d) q → IsValueList s
+    → IsValueList (d ++ q)
+after-constructed s d q t some a h = let f = front-of s (t, true, d) q some a h in nested-append d q (f.inside refl)
+    f.others
 
 -- no header is there
 pub no-front : (s : List ℕ) → s ≢ [] → Refuses Any s → AreHeaded s → ⊥
@@ -188,12 +224,23 @@ any-refused s r Trailing h = h.refuses
 any-refused s r OutOfMemory h = absurd h.kind
 
 pub any-shorter : (s q : List ℕ) (x : Parts) → Accepts Any s x q → length q < length s
-any-shorter s q x a = omega (arith, ap length a.spells.parts, length-append a.spells.front q, ap length a.spells.spelled.value.octets, tlv-at-least x.0 x.1 x.2)
+any-shorter s q x a = omega (
+  arith,
+  ap length a.spells.parts,
+  length-append a.spells.front q,
+  ap length a.spells.spelled.value.octets,
+  tlv-at-least x.0 x.1 x.2,
+)
 
 -- ---- past one header
 
 pub primitive-past : (s d q : List ℕ) (t : TagName) → s ≢ [] → Accepts Any s (t, false, d) q → IsPastHeader s q
-primitive-past s d q t some a = record { shorter = any-shorter s q (t, false, d) a; nested = past-primitive s q d t a; rest = after-primitive s d q t some a }
+primitive-past s d q t some a = record {
+  shorter = any-shorter s q (t, false, d) a;
+  nested =
+      past-primitive s q d t a;
+  rest = after-primitive s d q t some a;
+}
 
 suffix : (s h r : List ℕ) (n : ℕ) → s ≡ h ++ r → n ≡ length r → drop (length s - n) s ≡ r
 suffix s h r n e is =
@@ -201,13 +248,15 @@ suffix s h r n e is =
     rw m (rw e (drop_at h r (length h) refl))
 
 -- a header is in front of the contents
-header-front : (s d q p : List ℕ) (t : TagName) (f : Bool) → s ≡ p ++ q → SpellsContents t f d p → (h : List ℕ) × (s ≡ h ++ (d ++ q)) × (0 < length h)
+header-front : (s d q p : List ℕ) (t : TagName) (f : Bool) → s ≡ p ++ q → SpellsContents t f d p
+    → (h : List ℕ) × (s ≡ h ++ (d ++ q)) × (0 < length h)
 header-front s d q p t f e k =
     let h : List ℕ = identifier_octets t f ++ length_octets (length d) in
     let whole : s ≡ (h ++ d) ++ q = e ∙ ap (λ (x : List ℕ). x ++ q) k.octets in
     (h, whole ∙ append_assoc h d q, omega (arith, two-octets t f (length d)))
 
-pub constructed-past : (s d q : List ℕ) (t : TagName) (n : ℕ) → s ≢ [] → Accepts Any s (t, true, d) q → AreHeaded d → n ≡ length d + length q → IsPastHeader s (drop (length s - n) s)
+pub constructed-past : (s d q : List ℕ) (t : TagName) (n : ℕ) → s ≢ [] → Accepts Any s (t, true, d) q → AreHeaded d
+    → n ≡ length d + length q → IsPastHeader s (drop (length s - n) s)
 constructed-past s d q t n some a tiled is =
     let (h, parts, long) = header-front s d q a.spells.front t true a.spells.parts a.spells.spelled.value in
     rw (suffix s h (d ++ q) n parts (is ∙ sym (length-append d q))) (record {
@@ -221,7 +270,8 @@ sliced-past s r m h = rw (take_all (length s - m) (drop m s) (omega (arith, leng
 
 -- ---- one value
 
-value-front : (s v r : List ℕ) (x : Parts) (q : List ℕ) → Accepts Any s x q → s ≡ v ++ r → (ms : Members) → HaveHeaders ms → v ≡ spell ms → count ms ≡ 1 → x.1 ≡ true → IsValueList x.2
+value-front : (s v r : List ℕ) (x : Parts) (q : List ℕ) → Accepts Any s x q → s ≡ v ++ r → (ms : Members)
+    → HaveHeaders ms → v ≡ spell ms → count ms ≡ 1 → x.1 ≡ true → IsValueList x.2
 value-front s v r x q a e Empty h is one z = absurd (omega (arith, one))
 value-front s v r x q a e (Primitive t c rest) h is one z =
     let same = a.only (t, false, c) (spell rest ++ r) (record {
@@ -236,13 +286,16 @@ value-front s v r x q a e (Constructed t ms rest) h is one z =
       parts = e ∙ ap (λ (y : List ℕ). y ++ r) is ∙ append_assoc (tlv t true (spell ms)) (spell rest) r;
       spelled = record { wanted = tt; value = record { tag = h.0.0; fits = h.0.1; octets = refl } };
     }) in
-    subst IsValueList (ap (λ (y : Parts). y.2) same.0) (count ms, record { members = ms; legal = h.1; spelled = refl; counted = refl })
+    subst IsValueList (ap (λ (y : Parts). y.2) same.0)
+    (count ms, record { members = ms; legal = h.1; spelled = refl; counted = refl })
 
 -- its contents are no values
-pub value-not : (s d q : List ℕ) (t : TagName) → Accepts Any s (t, true, d) q → (IsValueList d → ⊥) → Refuses SpellsValue s
+pub value-not : (s d q : List ℕ) (t : TagName) → Accepts Any s (t, true, d) q → (IsValueList d → ⊥)
+    → Refuses SpellsValue s
 value-not s d q t a none v r h =
     let k = h.spelled.value in
-    none (value-front s v r (t, true, d) q a (h.parts ∙ ap (λ (y : List ℕ). y ++ r) h.spelled.same) k.members k.legal k.spelled k.counted refl)
+    none (value-front s v r (t, true, d) q a (h.parts ∙ ap (λ (y : List ℕ). y ++ r) h.spelled.same) k.members k.legal
+    k.spelled k.counted refl)
 
 -- no header is there
 pub value-missing : (s : List ℕ) → Refuses Any s → Refuses SpellsValue s
@@ -270,31 +323,42 @@ value-missing s none v r h = go k.members k.legal k.spelled k.counted
 -- the octets in front of what is left
 pub front-octets : (s f r o p w : List ℕ) → s ≡ f ++ r → o ≡ s → p ≡ r → w ≡ take (length o - length p) o → w ≡ f
 front-octets s f r o p w parts a b is =
-    let n : length o - length p ≡ length f = omega (arith, ap length a, ap length b, ap length parts, length-append f r) in
+    let n : length o - length p ≡ length f = omega
+    (arith, ap length a, ap length b, ap length parts, length-append f r) in
     is ∙ rw n (rw a (rw parts (take_at f r (length f) refl)))
 
-value-there : (s q : List ℕ) (x : Parts) (a : Accepts Any s x q) → IsValue a.spells.front → (w : List ℕ) → w ≡ a.spells.front → Accepts SpellsValue s w q
-value-there s q x a one w is = rw is (subst (λ (y : List ℕ). Accepts SpellsValue y a.spells.front q) (sym a.spells.parts) (value-accepted a.spells.front q one))
+value-there : (s q : List ℕ) (x : Parts) (a : Accepts Any s x q) → IsValue a.spells.front → (w : List ℕ)
+    → w ≡ a.spells.front → Accepts SpellsValue s w q
+value-there s q x a one w is = rw is (subst (λ (y : List ℕ). Accepts SpellsValue y a.spells.front q)
+    (sym a.spells.parts) (value-accepted a.spells.front q one))
 
-pub primitive-there : (s q d o p w : List ℕ) (t : TagName) → Accepts Any s (t, false, d) q → o ≡ s → p ≡ q → w ≡ take (length o - length p) o → Accepts SpellsValue s w q
-primitive-there s q d o p w t a i j k = value-there s q (t, false, d) a (primitive-one t d a.spells.front a.spells.spelled) w (front-octets s a.spells.front q o p w a.spells.parts i j k)
+pub primitive-there : (s q d o p w : List ℕ) (t : TagName) → Accepts Any s (t, false, d) q → o ≡ s → p ≡ q
+    → w ≡ take (length o - length p) o → Accepts SpellsValue s w q
+primitive-there s q d o p w t a i j k = value-there s q (t, false, d) a
+    (primitive-one t d a.spells.front a.spells.spelled) w (front-octets s a.spells.front q o p w a.spells.parts i j k)
 
-pub constructed-there : (s q d o p w : List ℕ) (t : TagName) → Accepts Any s (t, true, d) q → IsValueList d → o ≡ s → p ≡ q → w ≡ take (length o - length p) o → Accepts SpellsValue s w q
-constructed-there s q d o p w t a h i j k = value-there s q (t, true, d) a (constructed-one t d a.spells.front a.spells.spelled h) w (front-octets s a.spells.front q o p w a.spells.parts i j k)
+pub constructed-there : (s q d o p w : List ℕ) (t : TagName) → Accepts Any s (t, true, d) q → IsValueList d → o ≡ s
+    → p ≡ q → w ≡ take (length o - length p) o → Accepts SpellsValue s w q
+constructed-there s q d o p w t a h i j k = value-there s q (t, true, d) a
+    (constructed-one t d a.spells.front a.spells.spelled h) w
+    (front-octets s a.spells.front q o p w a.spells.parts i j k)
 
 pub not-longer : (s q o p : List ℕ) (x : Parts) → Accepts Any s x q → o ≡ s → p ≡ q → length p ≤ length o
 not-longer s q o p x a i j = omega (arith, ap length i, ap length j, any-shorter s q x a)
 
 -- a value by its header alone
-pub headed-there : (s q o p w : List ℕ) (x : Parts) → Accepts Any s x q → o ≡ s → p ≡ q → w ≡ take (length o - length p) o → (s ≡ w ++ q) × ((IsValue w → ⊥) → Refuses SpellsValue s)
+pub headed-there : (s q o p w : List ℕ) (x : Parts) → Accepts Any s x q → o ≡ s → p ≡ q
+    → w ≡ take (length o - length p) o → (s ≡ w ++ q) × ((IsValue w → ⊥) → Refuses SpellsValue s)
 headed-there s q o p w x a i j k = (a.spells.parts ∙ ap (λ (y : List ℕ). y ++ q) (sym e), refused x a e)
   where
     e : w ≡ a.spells.front
     e = front-octets s a.spells.front q o p w a.spells.parts i j k
 
     refused : (y : Parts) (b : Accepts Any s y q) → w ≡ b.spells.front → (IsValue w → ⊥) → Refuses SpellsValue s
-    refused (t, false, d) b is none = λ v r h. none (subst IsValue (sym is) (primitive-one t d b.spells.front b.spells.spelled))
-    refused (t, true, d) b is none = value-not s d q t b (λ l. none (subst IsValue (sym is) (constructed-one t d b.spells.front b.spells.spelled l)))
+    refused (t, false, d) b is none = λ v r h. none
+        (subst IsValue (sym is) (primitive-one t d b.spells.front b.spells.spelled))
+    refused (t, true, d) b is none = value-not s d q t b
+        (λ l. none (subst IsValue (sym is) (constructed-one t d b.spells.front b.spells.spelled l)))
 
 -- ---- a value that is all of the octets
 

@@ -8,31 +8,42 @@ use Rattle.rpki_der.specs.Values.{IsLeafFault}
 use Rattle.rpki_der.specs.FirstFault.{FirstFault, IsEndFault, IsInsideFault}
 use Rattle.rpki_der.proofs.LeavesLaws.{leaf-no-memory}
 use Rattle.rpki_der.proofs.FirstFaultLaws.{inside-no-memory, first-no-memory, end-no-memory}
-use Rattle.rpki_cert.specs.ExtensionContent.{IsPolicyName, SpellsPolicyName, IsPolicyNameFault, statement_name, IsAnyIa5, SpellsStatementName, SpellsStatement, AreQualifierPartsFault, SpellsQualifier, IsQualifierFault, SpellsQualifiers, IsQualifiersFault, AreQualifiersFault, ArePolicyPartsFault, SpellsPolicy, IsPolicyFault, IsPoliciesFault}
+use Rattle.rpki_cert.specs.ExtensionContent.{IsPolicyName, SpellsPolicyName, statement_name, IsAnyIa5}
+use Rattle.rpki_cert.specs.ExtensionContent.{SpellsStatementName, SpellsStatement, SpellsQualifier, SpellsQualifiers}
+use Rattle.rpki_cert.specs.ExtensionContent.{SpellsPolicy}
+use Rattle.rpki_cert.specs.ExtensionContent.{optional_qualifiers, policies_content, policy_value, policy_name}
+use Rattle.rpki_cert.specs.ExtensionContent.{policy_parts, qualifier_value, qualifier_parts, qualifiers_value}
 
 -- one value in a SEQUENCE, and nothing after it
-pub one-inside-no-memory : {V : Type 0} (G : V → List ℕ → Type 0) (K : List ℕ → DecodeError → Type 0) → ((s : List ℕ) → K s OutOfMemory → ⊥) → (s : List ℕ)
+pub one-inside-no-memory : {V : Type 0} (G : V → List ℕ → Type 0) (K : List ℕ → DecodeError → Type 0)
+    → ((s : List ℕ) → K s OutOfMemory → ⊥) → (s : List ℕ)
     → IsInsideFault sequence true (FirstFault G K (λ v. IsEndFault)) s OutOfMemory → ⊥
-one-inside-no-memory G K none s h = inside-no-memory sequence true (FirstFault G K (λ v. IsEndFault)) s (λ d k. first-no-memory G K (λ v. IsEndFault) d (none d) (λ v r. end-no-memory r) k) h
+one-inside-no-memory G K none s h = inside-no-memory sequence true (FirstFault G K (λ v. IsEndFault)) s
+    (λ d k. first-no-memory G K (λ v. IsEndFault) d (none d) (λ v r. end-no-memory r) k) h
 
-statement : (s : List ℕ) → FirstFault SpellsStatement (IsLeafFault ia5_string false IsAnyIa5) (λ v. IsEndFault) s OutOfMemory → ⊥
+statement : (s : List ℕ) → FirstFault SpellsStatement (IsLeafFault ia5_string false IsAnyIa5) (λ v. IsEndFault) s
+    OutOfMemory → ⊥
 statement s h =
-    first-no-memory SpellsStatement (IsLeafFault ia5_string false IsAnyIa5) (λ v. IsEndFault) s (λ k. leaf-no-memory ia5_string false IsAnyIa5 s OutOfMemory k refl) (λ v r. end-no-memory r) h
+    first-no-memory SpellsStatement (IsLeafFault ia5_string false IsAnyIa5) (λ v. IsEndFault) s
+    (λ k. leaf-no-memory ia5_string false IsAnyIa5 s OutOfMemory k refl) (λ v r. end-no-memory r) h
 
-qualifier : (s : List ℕ) → IsQualifierFault s OutOfMemory → ⊥
+qualifier : (s : List ℕ) → qualifier_value.fault s OutOfMemory → ⊥
 qualifier s h =
-    inside-no-memory sequence true AreQualifierPartsFault s
-    (λ d k. first-no-memory SpellsStatementName (IsLeafFault oid false (IsOnly statement_name)) (λ v. FirstFault SpellsStatement (IsLeafFault ia5_string false IsAnyIa5) (λ w. IsEndFault)) d
+    inside-no-memory sequence true qualifier_parts.fault s
+    (λ d k. first-no-memory SpellsStatementName (IsLeafFault oid false (IsOnly statement_name))
+    (λ v. FirstFault SpellsStatement (IsLeafFault ia5_string false IsAnyIa5) (λ w. IsEndFault)) d
     (λ l. leaf-no-memory oid false (IsOnly statement_name) d OutOfMemory l refl) (λ v. statement) k) h
 
-qualifiers : (s : List ℕ) → AreQualifiersFault s OutOfMemory → ⊥
+qualifiers : (s : List ℕ) → optional_qualifiers.fault s OutOfMemory → ⊥
 qualifiers s h =
-    first-no-memory SpellsQualifiers IsQualifiersFault (λ v. IsEndFault) s (one-inside-no-memory SpellsQualifier IsQualifierFault qualifier s) (λ v r. end-no-memory r) h.1
+    first-no-memory SpellsQualifiers qualifiers_value.fault (λ v. IsEndFault) s
+    (one-inside-no-memory SpellsQualifier qualifier_value.fault qualifier s) (λ v r. end-no-memory r) h.1
 
-policy : (s : List ℕ) → IsPolicyFault s OutOfMemory → ⊥
+policy : (s : List ℕ) → policy_value.fault s OutOfMemory → ⊥
 policy s h =
-    inside-no-memory sequence true ArePolicyPartsFault s
-    (λ d k. first-no-memory SpellsPolicyName IsPolicyNameFault (λ v. AreQualifiersFault) d (λ l. leaf-no-memory oid false IsPolicyName d OutOfMemory l refl) (λ v. qualifiers) k) h
+    inside-no-memory sequence true policy_parts.fault s
+    (λ d k. first-no-memory SpellsPolicyName policy_name.fault (λ v. optional_qualifiers.fault) d
+    (λ l. leaf-no-memory oid false IsPolicyName d OutOfMemory l refl) (λ v. qualifiers) k) h
 
-pub policies-no-memory : (s : List ℕ) → IsPoliciesFault s OutOfMemory → ⊥
-policies-no-memory s h = one-inside-no-memory SpellsPolicy IsPolicyFault policy s h
+pub policies-no-memory : (s : List ℕ) → policies_content.fault s OutOfMemory → ⊥
+policies-no-memory s h = one-inside-no-memory SpellsPolicy policy_value.fault policy s h

@@ -1,5 +1,6 @@
 -- Checks of profiles: what they return at their ends.
-use Rattle.std.proofs.Common.{◌≡◌, ◌∙◌, ℕ, Bool, true, false, IsTrue, inl, inr, List, [], length, Option, Some, None, refl, sym, ap}
+use Rattle.std.proofs.Common.{◌≡◌, ◌∙◌, ℕ, Bool, true, false, IsTrue, inl, inr, List, [], length, Option, Some, None}
+use Rattle.std.proofs.Common.{refl, sym, ap}
 use Rattle.std.specs.Prelude.{◌↔◌, ◌==◌, not}
 use Rattle.std.proofs.lemmas.Bool.{false≢true}
 use Rattle.std.proofs.lemmas.Bool.Decides.{Decides-eqb}
@@ -27,43 +28,56 @@ module _ (G : Option (List ℕ) → List ℕ → Type 0) (found : Option Extensi
 
 -- ---- a check of what an extension says
 
-module _ {V : Type 0} (critical : Bool) (G : V → List ℕ → Type 0) (K : List ℕ → DecodeError → Type 0) (E : ValidationError → Type 0) (found : Option ExtensionParts) where
+module _ {V : Type 0} (critical : Bool) (G : V → List ℕ → Type 0) (K : List ℕ → DecodeError → Type 0)
+    (E : ValidationError → Type 0) (found : Option ExtensionParts) where
   -- it says something else, or isn't there
-  pub says-other : (P : Type 0) (v : Option V) (e : ValidationError) → SaysOnly critical G found v → (P → (w : Option V) × Says critical G found w × (w ≡ v → ⊥)) → E e
+  pub says-other : (P : Type 0) (v : Option V) (e : ValidationError) → SaysOnly critical G found v
+      → (P → (w : Option V) × Says critical G found w × (w ≡ v → ⊥)) → E e
       → (P → ⊥) × IsOtherwise critical G K found E e
   says-other P v e h f says = (λ p. let k = f p in k.2 (h.1 k.0 k.1), inl (λ none. none v h.0, says))
 
   -- it is wrong
-  pub says-wrong : (P : Type 0) (e : ValidationError) → IsFoundWrong critical G K found e → (P → (w : Option V) × Says critical G found w) → (P → ⊥) × IsOtherwise critical G K found E e
+  pub says-wrong : (P : Type 0) (e : ValidationError) → IsFoundWrong critical G K found e
+      → (P → (w : Option V) × Says critical G found w) → (P → ⊥) × IsOtherwise critical G K found E e
   says-wrong P e h f = (λ p. let k = f p in h.0 k.0 k.1, inr h.1)
 
 -- the same by a rule
-module _ {V : Type 0} (critical : Bool) (G : V → List ℕ → Type 0) (K : List ℕ → DecodeError → Type 0) (rule : CertRule) (found : Option ExtensionParts) where
-  pub found-other : (P : Type 0) (v : Option V) (e : ValidationError) → SaysOnly critical G found v → (P → (w : Option V) × Says critical G found w × (w ≡ v → ⊥)) → SaysRule rule e
+module _ {V : Type 0} (critical : Bool) (G : V → List ℕ → Type 0) (K : List ℕ → DecodeError → Type 0) (rule : CertRule)
+    (found : Option ExtensionParts) where
+  pub found-other : (P : Type 0) (v : Option V) (e : ValidationError) → SaysOnly critical G found v
+      → (P → (w : Option V) × Says critical G found w × (w ≡ v → ⊥)) → SaysRule rule e
       → (P → ⊥) × SaysFound critical G K rule found e
   found-other = says-other critical G K (SaysRule rule) found
 
-  pub found-wrong : (P : Type 0) (e : ValidationError) → IsFoundWrong critical G K found e → (P → (w : Option V) × Says critical G found w) → (P → ⊥) × SaysFound critical G K rule found e
+  pub found-wrong : (P : Type 0) (e : ValidationError) → IsFoundWrong critical G K found e
+      → (P → (w : Option V) × Says critical G found w) → (P → ⊥) × SaysFound critical G K rule found e
   found-wrong = says-wrong critical G K (SaysRule rule) found
 
 -- there is no URI
-pub uri-other : (G : Option (List ℕ) → List ℕ → Type 0) (K : List ℕ → DecodeError → Type 0) (rule : CertRule) (found : Option ExtensionParts) (e : ValidationError) → SaysUri G found None → SaysRule rule e
+pub uri-other : (G : Option (List ℕ) → List ℕ → Type 0) (K : List ℕ → DecodeError → Type 0) (rule : CertRule)
+    (found : Option ExtensionParts) (e : ValidationError) → SaysUri G found None → SaysRule rule e
     → (SaysSomeUri G found → ⊥) × SaysFound false G K rule found e
 uri-other G K rule found e h says =
-    found-other false G K rule found (SaysSomeUri G found) h.0 e h.1 (λ k. (k.1.0, k.1.1.0, λ same. uri-missing G found h k)) says
+    found-other false G K rule found (SaysSomeUri G found) h.0 e h.1
+    (λ k. (k.1.0, k.1.1.0, λ same. uri-missing G found h k)) says
 
 -- the extension is wrong, and has no URI
-pub uri-wrong : (G : Option (List ℕ) → List ℕ → Type 0) (K : List ℕ → DecodeError → Type 0) (rule : CertRule) (found : Option ExtensionParts) (e : ValidationError) → IsFoundWrong false G K found e
+pub uri-wrong : (G : Option (List ℕ) → List ℕ → Type 0) (K : List ℕ → DecodeError → Type 0) (rule : CertRule)
+    (found : Option ExtensionParts) (e : ValidationError) → IsFoundWrong false G K found e
     → (SaysSomeUri G found → ⊥) × SaysFound false G K rule found e
 uri-wrong G K rule found e h = found-wrong false G K rule found (SaysSomeUri G found) e h (λ k. (k.1.0, k.1.1.0))
 
 -- ---- a URI below another one
 
 pub is-empty : (b : Bool) (path : List ℕ) → b ≡ (length path == 0) → IsTrue b ↔ (path ≡ [])
-is-empty b path e = (λ z. nil_from_length path ((Decides-eqb (length path) 0).0 (sym e ∙ z)), λ h. e ∙ (Decides-eqb (length path) 0).1 (ap (λ (xs : List ℕ). length xs) h))
+is-empty b path e = (
+  λ z. nil_from_length path ((Decides-eqb (length path) 0).0 (sym e ∙ z)),
+  λ h. e ∙ (Decides-eqb (length path) 0).1 (ap (λ (xs : List ℕ). length xs) h),
+)
 
 module _ (base text path : List ℕ) where
-  pub below-there : (b : Bool) → rsync_refusal base ≡ None → rsync_refusal text ≡ None → Some path ≡ relative (uri_of text) (uri_of base) → IsTrue b ↔ (path ≡ []) → IsTrue (not b) ↔ IsBelow base text
+  pub below-there : (b : Bool) → rsync_refusal base ≡ None → rsync_refusal text ≡ None
+      → Some path ≡ relative (uri_of text) (uri_of base) → IsTrue b ↔ (path ≡ []) → IsTrue (not b) ↔ IsBelow base text
   below-there true r s leads empty = (
     λ z. absurd (false≢true z),
     λ h. absurd (h.some (one-path h.path (leads ∙ h.leads) (empty.0 refl))),

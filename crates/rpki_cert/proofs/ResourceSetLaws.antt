@@ -1,7 +1,8 @@
 -- What a certificate claims of resources, and what of it is settled.
 use Rattle.std.proofs.Common.{◌≡◌, inl, inr, true, List, [], ◌∷◌, Option, refl, Some, ap, ◌∙◌, subst}
 use Rattle.rpki_der.specs.declared.error.DecodeError.{DecodeError}
-use Rattle.rpki_der.specs.declared.error.DecodeError.TheVariants.{Truncated, BadTag, BadLength, Unexpected, Content, Trailing, OutOfMemory as OutOfRoom}
+use Rattle.rpki_der.specs.declared.error.DecodeError.TheVariants.{Truncated, BadTag, BadLength, Unexpected, Content}
+use Rattle.rpki_der.specs.declared.error.DecodeError.TheVariants.{Trailing, OutOfMemory as OutOfRoom}
 use Rattle.rpki_der.specs.Reading.{UnlessMemory}
 use Rattle.rpki.specs.ExtensionValue.{ExtensionParts}
 use Rattle.rpki.specs.declared.repository.error.ValidationError.{ValidationError}
@@ -14,7 +15,8 @@ use Rattle.rpki_resources.specs.declared.choice_view.ChoiceView.{ChoiceView}
 use Rattle.rpki_resources.specs.declared.ip_view.IpResourcesView.{IpResourcesView}
 use Rattle.rpki_resources.specs.Blocks.{IsSubset}
 use Rattle.rpki_resources.specs.declared.settled.SettleError.{SettleError}
-use Rattle.rpki_resources.specs.declared.settled.SettleError.TheVariants.{Overclaim as Overclaims, Inherits, OutOfMemory}
+use Rattle.rpki_resources.specs.declared.settled.SettleError.TheVariants.{Overclaim as Overclaims, Inherits}
+use Rattle.rpki_resources.specs.declared.settled.SettleError.TheVariants.{OutOfMemory}
 use Rattle.rpki_resources.specs.Settled.{IsWithin, IsSettled}
 use Rattle.std.specs.Prelude.{◌↔◌, Result, Ok, Err, IfErr}
 use Rattle.std.proofs.lemmas.Bool.{false≢true}
@@ -28,7 +30,8 @@ use Rattle.rpki_cert.specs.Cert.{find}
 use Rattle.rpki_cert.specs.ExtensionContent.{SpellsPolicies}
 use Rattle.rpki_cert.specs.Known.{certificate_policies, UnlessNoMemory, SaysOnly}
 use Rattle.rpki_cert.specs.ResourceExtensions.{addresses_of, numbers_of}
-use Rattle.rpki_cert.specs.ResourceSet.{AreAddressesOf, AreNumbersOf, IsClaim, IsOnlyClaim, IsKindUnsettled, IsSettledBy, AreSettledBy, HasResources, IsOut, AreWithin}
+use Rattle.rpki_cert.specs.ResourceSet.{AreAddressesOf, AreNumbersOf, IsClaim, IsOnlyClaim, IsKindUnsettled}
+use Rattle.rpki_cert.specs.ResourceSet.{IsSettledBy, AreSettledBy, HasResources, IsOut, AreWithin}
 
 -- ---- allocation failure
 
@@ -48,23 +51,27 @@ out-unless (Verification e) P h = absurd (false≢true h)
 
 -- ---- refused
 
-refused-kind : (choice : ResourcesChoice) (issuer : List Block) (e : SettleError) → (e ≡ Overclaims) ↔ (IsWithin choice issuer → ⊥) → (e ≡ Inherits → ⊥) → IsKindUnsettled (IsSettled choice issuer) e
+refused-kind : (choice : ResourcesChoice) (issuer : List Block) (e : SettleError)
+    → (e ≡ Overclaims) ↔ (IsWithin choice issuer → ⊥) → (e ≡ Inherits → ⊥) → IsKindUnsettled (IsSettled choice issuer) e
 refused-kind choice issuer Overclaims same other = λ x h. same.0 refl h.within
 refused-kind choice issuer Inherits same other = other refl
 refused-kind choice issuer OutOfMemory same other = tt
 
-pub refused-result : (choice : ResourcesChoice) (issuer : List Block) (r : Result (List Block) SettleError) → IfErr r (λ e. (e ≡ Overclaims) ↔ (IsWithin choice issuer → ⊥)) → IfErr r (λ e. e ≡ Inherits → ⊥)
+pub refused-result : (choice : ResourcesChoice) (issuer : List Block) (r : Result (List Block) SettleError)
+    → IfErr r (λ e. (e ≡ Overclaims) ↔ (IsWithin choice issuer → ⊥)) → IfErr r (λ e. e ≡ Inherits → ⊥)
     → IfErr r (λ e. IsKindUnsettled (IsSettled choice issuer) e)
 refused-result choice issuer (Ok x) same other = tt
 refused-result choice issuer (Err e) same other = refused-kind choice issuer e same other
 
 -- ---- within
 
-kind-within : (policy : Overclaim) (choice : ResourcesChoice) (issuer subject : List Block) → IsSettledBy policy choice issuer subject → IsSubset subject issuer
+kind-within : (policy : Overclaim) (choice : ResourcesChoice) (issuer subject : List Block)
+    → IsSettledBy policy choice issuer subject → IsSubset subject issuer
 kind-within Refuse choice issuer subject h = down-within issuer subject (choice ∷ []) (subject, inl h, refl)
 kind-within Trim choice issuer subject h = down-within issuer subject (choice ∷ []) (subject, inr h, refl)
 
-pub resources-within : (xs : List ExtensionParts) (issuer subject : ResourceSet) → HasResources xs issuer subject → AreWithin subject issuer
+pub resources-within : (xs : List ExtensionParts) (issuer subject : ResourceSet) → HasResources xs issuer subject
+    → AreWithin subject issuer
 resources-within xs issuer subject h = record {
   ipv4 = kind-within h.policy h.claim.addresses.v4 issuer.ipv4 subject.ipv4 h.settled.ipv4;
   ipv6 = kind-within h.policy h.claim.addresses.v6 issuer.ipv6 subject.ipv6 h.settled.ipv6;
@@ -75,27 +82,39 @@ pub within-itself : (x : ResourceSet) → AreWithin x x
 within-itself x = record { ipv4 = λ n h. h; ipv6 = λ n h. h; asn = λ n h. h }
 
 pub within-through : (x y z : ResourceSet) → AreWithin x y → AreWithin y z → AreWithin x z
-within-through x y z h k = record { ipv4 = λ n a. k.ipv4 n (h.ipv4 n a); ipv6 = λ n a. k.ipv6 n (h.ipv6 n a); asn = λ n a. k.asn n (h.asn n a) }
+within-through x y z h k = record {
+  ipv4 = λ n a. k.ipv4 n (h.ipv4 n a);
+  ipv6 = λ n a. k.ipv6 n (h.ipv6 n a);
+  asn =
+      λ n a. k.asn n (h.asn n a);
+}
 
 -- ---- what is claimed
 
 abbrev claim_of : IpResources → AsResources → Claim
 claim_of addresses numbers = record { addresses = addresses; numbers = numbers }
 
-module _ (xs : List ExtensionParts) (v : Option IpResourcesView) (w : Option ChoiceView) (a : IpResources) (n : AsResources)
-    (said : SaysOnly true SpellsIpResources (addresses_of xs) v) (kept : AreAddressesOf a v) (only : (b : IpResources) → AreAddressesOf b v → b ≡ a)
-    (told : SaysOnly true SpellsAsResources (numbers_of xs) w) (listed : AreNumbersOf n w) (alone : (m : AsResources) → AreNumbersOf m w → m ≡ n) where
+module _ (xs : List ExtensionParts) (v : Option IpResourcesView) (w : Option ChoiceView) (a : IpResources)
+    (n : AsResources)
+    (said : SaysOnly true SpellsIpResources (addresses_of xs) v) (kept : AreAddressesOf a v)
+    (only : (b : IpResources) → AreAddressesOf b v → b ≡ a)
+    (told : SaysOnly true SpellsAsResources (numbers_of xs) w) (listed : AreNumbersOf n w)
+    (alone : (m : AsResources) → AreNumbersOf m w → m ≡ n) where
   one : (d : Claim) → IsClaim xs d → d ≡ claim_of a n
   one d h =
-      let b : d.addresses ≡ a = only d.addresses (subst (AreAddressesOf d.addresses) (said.1 h.addresses.0 h.addresses.1) h.addresses.2) in
-      let m : d.numbers ≡ n = alone d.numbers (subst (AreNumbersOf d.numbers) (told.1 h.numbers.0 h.numbers.1) h.numbers.2) in
+      let b : d.addresses ≡ a = only d.addresses
+      (subst (AreAddressesOf d.addresses) (said.1 h.addresses.0 h.addresses.1) h.addresses.2) in
+      let m : d.numbers ≡ n = alone d.numbers
+      (subst (AreNumbersOf d.numbers) (told.1 h.numbers.0 h.numbers.1) h.numbers.2) in
       ap (λ (y : IpResources). claim_of y d.numbers) b ∙ ap (λ (y : AsResources). claim_of a y) m
 
   pub only-claim : IsOnlyClaim xs (claim_of a n)
   only-claim = (record { addresses = (v, said.0, kept); numbers = (w, told.0, listed) }, one)
 
 -- the policy and the claim of a certificate are one, so that what they don't settle nothing settles
-module _ (xs : List ExtensionParts) (policy : Overclaim) (c : Claim) (said : SaysOnly true SpellsPolicies (find certificate_policies xs) (Some policy)) (claimed : IsOnlyClaim xs c) (issuer : ResourceSet) where
+module _ (xs : List ExtensionParts) (policy : Overclaim) (c : Claim)
+    (said : SaysOnly true SpellsPolicies (find certificate_policies xs) (Some policy)) (claimed : IsOnlyClaim xs c)
+    (issuer : ResourceSet) where
   one-some : (p q : Overclaim) → ◌≡◌ {A = Option Overclaim} (Some p) (Some q) → p ≡ q
   one-some p q e = cc
 
@@ -103,4 +122,5 @@ module _ (xs : List ExtensionParts) (policy : Overclaim) (c : Claim) (said : Say
   settled-alone r h =
       let p : h.policy ≡ policy = one-some h.policy policy (said.1 (Some h.policy) h.says) in
       let d : h.claim ≡ c = claimed.1 h.claim h.claimed in
-      subst (λ (q : Overclaim). AreSettledBy q c issuer r) p (subst (λ (k : Claim). AreSettledBy h.policy k issuer r) d h.settled)
+      subst (λ (q : Overclaim). AreSettledBy q c issuer r) p
+      (subst (λ (k : Claim). AreSettledBy h.policy k issuer r) d h.settled)

@@ -1,5 +1,6 @@
 -- Values of one type, one at least.
-use Rattle.std.proofs.Common.{◌≡◌, ◌≢◌, ◌∙◌, ℕ, Bool, false, List, [], ◌∷◌, ◌++◌, refl, sym, subst, IsTrue, Result, Ok, Err}
+use Rattle.std.proofs.Common.{◌≡◌, ◌≢◌, ◌∙◌, ℕ, Bool, false, List, [], ◌∷◌, ◌++◌, refl, sym, subst, IsTrue, Result, Ok}
+use Rattle.std.proofs.Common.{Err}
 use Rattle.std.specs.Prelude.{IfOk}
 use Rattle.std.proofs.lemmas.Bool.{false≢true}
 use Rattle.rpki_der.specs.declared.error.DecodeError.{DecodeError}
@@ -13,7 +14,8 @@ none-of-nothing [] q e = refl
 none-of-nothing (y ∷ ys) q e = absurd (cc)
 
 -- what was read in a loop was read to its end
-pub each-end : {U X : Type 0} (items : U → List X) (reads : Constructed → Result X DecodeError → Constructed → Type 0) (s r : List ℕ) (x : Result U DecodeError)
+pub each-end : {U X : Type 0} (items : U → List X) (reads : Constructed → Result X DecodeError → Constructed → Type 0)
+    (s r : List ℕ) (x : Result U DecodeError)
     → ReadsEach items Same reads s r x → IfOk x (λ u. r ≡ [])
 each-end items reads s r (Ok u) h = h.0
 each-end items reads s r (Err e) h = tt
@@ -31,7 +33,11 @@ module _ {V : Type 0} (G : V → List ℕ → Type 0) where
 
   -- something is there, and so some value
   pub some-there : (s : List ℕ) (xs : List V) → s ≢ [] → SpellsEach G xs s → SpellsSome G xs s
-  some-there s xs some each = record { some = λ e. some (subst (λ (ys : List V). SpellsEach G ys s) e each); each = each }
+  some-there s xs some each = record {
+    some = λ e. some (subst (λ (ys : List V). SpellsEach G ys s) e each);
+    each =
+        each;
+  }
 
 pub not-true : (b : Bool) → b ≡ false → IsTrue b → ⊥
 not-true b other is = false≢true (sym other ∙ is)

@@ -1,5 +1,6 @@
 -- The table of extensions, and what is known of it while they are read.
-use Rattle.std.proofs.Common.{◌≡◌, ◌≢◌, ◌∙◌, inl, inr, ◌⊎◌, ◌+◌, ◌<◌, ◌≤◌, ℕ, Bool, true, false, List, [], ◌∷◌, length, get_or, set, replicate, Option, Some, None, IsTrue, refl, sym, ap, subst, arith}
+use Rattle.std.proofs.Common.{◌≡◌, ◌≢◌, ◌∙◌, inl, inr, ◌⊎◌, ◌+◌, ◌<◌, ◌≤◌, ℕ, Bool, true, false, List, [], ◌∷◌, length}
+use Rattle.std.proofs.Common.{get_or, set, replicate, Option, Some, None, IsTrue, refl, sym, ap, subst, arith}
 use Rattle.std.specs.Prelude.{bytes_eq, not, ◌||◌, ◌&&◌, if◌then◌else◌}
 use Rattle.std.specs.Option.{is_some}
 use Rattle.std.proofs.Math.Dec.{eqb}
@@ -17,7 +18,8 @@ use Rattle.rpki_cert.specs.declared.listed_extension.ListedExtension.{ListedExte
 use Rattle.rpki_cert.specs.declared.extension_table.Passed.{Passed}
 use Rattle.rpki_cert.specs.Cert.{find, are_unique}
 use Rattle.rpki_cert.specs.Known.{is_known, are_understood}
-use Rattle.rpki_cert.specs.ExtensionTable.{identifier_of, slot_of, ending, IsSlot, behind_first, IsListed, FindsListed, IsTable}
+use Rattle.rpki_cert.specs.ExtensionTable.{identifier_of, slot_of, ending, IsSlot, behind_first, IsListed, FindsListed}
+use Rattle.rpki_cert.specs.ExtensionTable.{IsTable}
 use Rattle.rpki_cert.specs.View.{IsPassed}
 use Rattle.rpki_cert.proofs.GatherLaws.{Gathers, gathers-all, gathers-on}
 use Rattle.rpki_cert.proofs.ListedLaws.{Each, each-rest, each-none, each-end, find-other, first-once}
@@ -44,9 +46,11 @@ kind_with n =
 -- by slots
 abbrev kind_in : ℕ → ExtensionKind
 kind_in n = get_or (
-    ExtensionKind.SubjectKeyIdentifier ∷ ExtensionKind.KeyUsage ∷ ExtensionKind.BasicConstraints ∷ ExtensionKind.CrlDistributionPoints ∷
+    ExtensionKind.SubjectKeyIdentifier ∷ ExtensionKind.KeyUsage ∷ ExtensionKind.BasicConstraints
+    ∷ ExtensionKind.CrlDistributionPoints ∷
     ExtensionKind.CertificatePolicies ∷ ExtensionKind.AuthorityKeyIdentifier ∷ ExtensionKind.ExtendedKeyUsage ∷
-    ExtensionKind.AuthorityInfoAccess ∷ ExtensionKind.IpResources ∷ ExtensionKind.AsResources ∷ ExtensionKind.SubjectInfoAccess ∷
+    ExtensionKind.AuthorityInfoAccess ∷ ExtensionKind.IpResources ∷ ExtensionKind.AsResources
+    ∷ ExtensionKind.SubjectInfoAccess ∷
     ExtensionKind.IpResourcesV2 ∷ ExtensionKind.AsResourcesV2 ∷ []) n ExtensionKind.KeyUsage
 
 -- it is known, and is found by its last octet and by its slot
@@ -124,7 +128,8 @@ pub record Seeks (id s r : List ℕ) : Type 0 where
 
 moved : (id p q : List ℕ) (zs : List ExtensionParts) (h : Each zs p) → p ≡ q
     → (k : Each zs q) × (behind_first id zs p h ≡ behind_first id zs q k)
-moved id p q zs h e = subst (λ (w : List ℕ). (k : Each zs w) × (behind_first id zs p h ≡ behind_first id zs w k)) e (h, refl)
+moved id p q zs h e = subst (λ (w : List ℕ). (k : Each zs w) × (behind_first id zs p h ≡ behind_first id zs w k)) e
+    (h, refl)
 
 behind-other : (id s : List ℕ) (x : ExtensionParts) (zs : List ExtensionParts) (h : Each (x ∷ zs) s)
     → bytes_eq x.identifier id ≡ false → behind_first id (x ∷ zs) s h ≡ behind_first id zs h.0 h.2
@@ -269,7 +274,8 @@ both-known u k v b e t is = is ∙ e ∙ sym (ap (λ (w : Bool). w && k) t)
 pub one-unknown : (u k v : Bool) → u ≡ false → v ≡ false → v ≡ (u && k)
 one-unknown u k v f is = is ∙ sym (ap (λ (w : Bool). w && k) f)
 
-pub record Passing (s r : List ℕ) (slots : List (Option ListedExtension)) (understood : Bool) (count : ℕ) (apart : Bool) : Type 0 where
+pub record Passing (s r : List ℕ) (slots : List (Option ListedExtension)) (understood : Bool) (count : ℕ)
+    (apart : Bool) : Type 0 where
   pub size : length slots ≡ 14
   pub room : count + length r ≤ length s
   pub counted : Gathers SpellsExtension (λ xs. length xs) (λ n. count + n) s r
@@ -295,13 +301,15 @@ module _ (s r q : List ℕ) (x : ExtensionParts) (slots : List (Option ListedExt
     (some : r ≢ []) (a : Accepts SpellsExtension r x q) (h : Passing s r slots u c d) (v : Bool) (n : ℕ)
     (is : v ≡ (u && (not x.critical || is_known x.identifier))) (here : IsSlot x.identifier n) where
   counted-on : Gathers SpellsExtension (λ xs. length xs) (λ n. (c + 1) + n) s q
-  counted-on = gathers-on SpellsExtension (λ xs. length xs) s (λ n. c + n) (λ n. (c + 1) + n) r q x (λ zs. omega arith) some h.counted a
+  counted-on = gathers-on SpellsExtension (λ xs. length xs) s (λ n. c + n) (λ n. (c + 1) + n) r q x (λ zs. omega arith)
+      some h.counted a
 
   known-on : Gathers SpellsExtension are_understood (λ b. v && b) s q
-  known-on = gathers-on SpellsExtension are_understood s (λ b. u && b) (λ b. v && b) r q x (λ zs. both u (not x.critical || is_known x.identifier) (are_understood zs) v is) some h.known a where
-    both : (u k b v : Bool) → v ≡ (u && k) → (u && (k && b)) ≡ (v && b)
-    both true k b v e = rw e refl
-    both false k b v e = rw e refl
+  known-on = gathers-on SpellsExtension are_understood s (λ b. u && b) (λ b. v && b) r q x
+      (λ zs. both u (not x.critical || is_known x.identifier) (are_understood zs) v is) some h.known a where
+        both : (u k b v : Bool) → v ≡ (u && k) → (u && (k && b)) ≡ (v && b)
+        both true k b v e = rw e refl
+        both false k b v e = rw e refl
 
   room-on : (c + 1) + length q ≤ length s
   room-on = omega (arith, h.room, leaf-shorter sequence true IsExtensionContents r x q a.spells)
@@ -321,18 +329,24 @@ module _ (s r q : List ℕ) (x : ExtensionParts) (slots : List (Option ListedExt
       room : n < length slots
       room = omega (arith, few, h.size)
 
-      go : (k : ExtensionKind) → ((eqb n (slot_of k) ≡ true) × (n ≡ slot_of k)) ⊎ ((eqb n (slot_of k) ≡ false) × (n ≢ slot_of k))
+      go : (k : ExtensionKind) → ((eqb n (slot_of k) ≡ true) × (n ≡ slot_of k))
+          ⊎ ((eqb n (slot_of k) ≡ false) × (n ≢ slot_of k))
           → Slot (identifier_of k) s q (get_or (set slots n (Some f)) (slot_of k) None)
       go k (inl (b, e)) =
           let id = identifier_of k in
           let named : x.identifier ≡ id = slot-kind x.identifier k (subst (IsSlot x.identifier) e here) in
-          let there : get_or (set slots n (Some f)) (slot_of k) None ≡ Some f = ap (λ (w : ℕ). get_or (set slots n (Some f)) w None) (sym e) ∙ get_or-set_same slots n (Some f) None room in
+          let there : get_or (set slots n (Some f)) (slot_of k) None ≡ Some f =
+          ap (λ (w : ℕ). get_or (set slots n (Some f)) w None) (sym e)
+          ∙ get_or-set_same slots n (Some f) None room in
           let none : IsFree slots (slot_of k) = ap (λ (w : ℕ). get_or slots w None) (sym e) ∙ free in
           subst (Slot id s q) (sym there) (slot-first id s r q x some a f named kept _ none (h.found k))
       go k (inr (b, differ)) =
           let id = identifier_of k in
           let there = get_or-set_other slots n (slot_of k) (Some f) None (λ e. differ (sym e)) in
-          let other : bytes_eq x.identifier id ≡ false = false_from_ne_true (bytes_eq x.identifier id) (λ e. differ (one-slot x.identifier n (slot_of k) here (inl (k, (bytes_eq-Decides x.identifier id).0 e, refl)))) in
+          let other : bytes_eq x.identifier id ≡ false =
+          false_from_ne_true (bytes_eq x.identifier id)
+          (λ e. differ (one-slot x.identifier n (slot_of k) here
+          (inl (k, (bytes_eq-Decides x.identifier id).0 e, refl)))) in
           subst (Slot id s q) (sym there) (slot-other id s r q x some a _ other (h.found k))
 
   -- its slot is taken
@@ -346,17 +360,23 @@ module _ (s r q : List ℕ) (x : ExtensionParts) (slots : List (Option ListedExt
     distinct = λ z. absurd (false≢true z);
   }
     where
-      go : (k : ExtensionKind) → ((eqb n (slot_of k) ≡ true) × (n ≡ slot_of k)) ⊎ ((eqb n (slot_of k) ≡ false) × (n ≢ slot_of k))
-          → Slot (identifier_of k) s r (get_or slots (slot_of k) None) → Slot (identifier_of k) s q (get_or slots (slot_of k) None)
+      go : (k : ExtensionKind) → ((eqb n (slot_of k) ≡ true) × (n ≡ slot_of k))
+          ⊎ ((eqb n (slot_of k) ≡ false) × (n ≢ slot_of k))
+          → Slot (identifier_of k) s r (get_or slots (slot_of k) None)
+          → Slot (identifier_of k) s q (get_or slots (slot_of k) None)
       go k _ (inr there) = inr there
       go k (inl (b, e)) (inl (none, seeks)) = absurd (full (ap (λ (w : ℕ). get_or slots w None) e ∙ none))
       go k (inr (b, differ)) (inl there) =
           let id = identifier_of k in
-          let other : bytes_eq x.identifier id ≡ false = false_from_ne_true (bytes_eq x.identifier id) (λ e. differ (one-slot x.identifier n (slot_of k) here (inl (k, (bytes_eq-Decides x.identifier id).0 e, refl)))) in
+          let other : bytes_eq x.identifier id ≡ false =
+          false_from_ne_true (bytes_eq x.identifier id)
+          (λ e. differ (one-slot x.identifier n (slot_of k) here
+          (inl (k, (bytes_eq-Decides x.identifier id).0 e, refl)))) in
           slot-other id s r q x some a _ other (inl there)
 
 -- no extension begins what is left
-pub passing-none : (s r : List ℕ) (slots : List (Option ListedExtension)) (u : Bool) (c : ℕ) (d : Bool) → r ≢ [] → Passing s r slots u c d
+pub passing-none : (s r : List ℕ) (slots : List (Option ListedExtension)) (u : Bool) (c : ℕ) (d : Bool) → r ≢ []
+    → Passing s r slots u c d
     → Refuses SpellsExtension r → (xs : List ExtensionParts) → SpellsSome SpellsExtension xs s → ⊥
 passing-none s r slots u c d some h none xs k =
     let (ys, each, e) = h.counted.back xs k.each in

@@ -19,7 +19,9 @@ use Rattle.rpki.specs.Name.{SpellsNameOctets}
 use Rattle.rpki.specs.ExtensionValue.{SpellsExtension}
 use Rattle.rpki.proofs.ExtensionLaws.{extension-value}
 use Rattle.rpki.proofs.NameLaws.{name-value, each-values}
-use Rattle.rpki_cert.specs.Cert.{TbsParts, version_tag, two, SpellsTwo, SpellsVersion, extensions_tag, AreExtensions, SpellsExtensionList, SpellsExtensions, SpellsRpkiAlgorithm, fields_of, AreFields, SpellsTbs}
+use Rattle.rpki_cert.specs.Cert.{TbsParts, version_tag, two, SpellsTwo, SpellsVersion, extensions_tag, AreExtensions}
+use Rattle.rpki_cert.specs.Cert.{SpellsExtensionList, SpellsExtensions, SpellsRpkiAlgorithm, fields_of, AreFields}
+use Rattle.rpki_cert.specs.Cert.{SpellsTbs}
 
 -- what is spelled in G is values, one after another
 abbrev pub SpellValues : {V : Type 0} → (V → List ℕ → Type 0) → Type 0
@@ -28,11 +30,14 @@ SpellValues {V} G = (v : V) (p : List ℕ) → G v p → IsValueList p
 pub leaf-values : {V : Type 0} (t : TagName) (C : V → List ℕ → Type 0) → SpellValues (SpellsLeaf t false C)
 leaf-values t C v p h = (1, leaf-value-alone t C v p h)
 
-pub inside-values : {V : Type 0} (t : TagName) (C : V → List ℕ → Type 0) → SpellValues C → SpellValues (SpellsLeaf t true C)
+pub inside-values : {V : Type 0} (t : TagName) (C : V → List ℕ → Type 0) → SpellValues C
+    → SpellValues (SpellsLeaf t true C)
 inside-values t C inside v p h = (1, composed-value-alone t C v p (inside v) h)
 
-pub both-values : {A B : Type 0} (G : A → List ℕ → Type 0) (H : B → List ℕ → Type 0) → SpellValues G → SpellValues H → SpellValues (Then G H)
-both-values G H one two x p h = subst IsValueList (sym h.parts) (value_lists_append h.first h.second (one x.0 h.first h.one) (two x.1 h.second h.two))
+pub both-values : {A B : Type 0} (G : A → List ℕ → Type 0) (H : B → List ℕ → Type 0) → SpellValues G → SpellValues H
+    → SpellValues (Then G H)
+both-values G H one two x p h = subst IsValueList (sym h.parts)
+    (value_lists_append h.first h.second (one x.0 h.first h.one) (two x.1 h.second h.two))
 
 -- ---- the fields
 
@@ -43,21 +48,25 @@ parameters-values false p h = subst IsValueList (sym h) no_value_list
 identified-values : (o : List ℕ) → SpellValues (IsIdentified o)
 identified-values o b c h =
     subst IsValueList (sym h.parts)
-    (value_lists_append h.first h.second (leaf-values oid (IsOnly o) tt h.first h.identifier) (parameters-values b h.second h.parameters))
+    (value_lists_append h.first h.second (leaf-values oid (IsOnly o) tt h.first h.identifier)
+    (parameters-values b h.second h.parameters))
 
 pub algorithm-values : SpellValues SpellsRpkiAlgorithm
-algorithm-values = inside-values sequence (IsIdentified sha256_with_rsa_encryption) (identified-values sha256_with_rsa_encryption)
+algorithm-values = inside-values sequence (IsIdentified sha256_with_rsa_encryption)
+    (identified-values sha256_with_rsa_encryption)
 
 pub name-values : SpellValues SpellsNameOctets
 name-values v p h = (1, subst IsValue (sym h.same) (name-value h.named.0 v h.named.1))
 
 pub time-values : SpellValues SpellsTime
-time-values t p h = leaf-values h.tag (λ (v : List ℕ) (c : List ℕ). c ≡ v) h.text p (record { contents = h.text; value = h.value; spelled = refl })
+time-values t p h = leaf-values h.tag (λ (v : List ℕ) (c : List ℕ). c ≡ v) h.text p
+    (record { contents = h.text; value = h.value; spelled = refl })
 
 period-values : SpellValues SpellsPeriod
 period-values = inside-values sequence IsPeriod (λ t c h.
     subst IsValueList (sym h.parts)
-    (value_lists_append h.start h.end (time-values t.not_before h.start h.not_before) (time-values t.not_after h.end h.not_after)))
+    (value_lists_append h.start h.end (time-values t.not_before h.start h.not_before)
+    (time-values t.not_after h.end h.not_after)))
 
 format-values : SpellValues IsFormatContents
 format-values Rsa c h = identified-values rsa_encryption h.0 c h.1
@@ -67,7 +76,8 @@ format-values EcdsaP256 c h =
 
 key-values : SpellValues SpellsKey
 key-values = inside-values sequence IsKeyContents (λ k c h.
-    both-values SpellsFormat (SpellsLeaf bit_string false IsBits) (inside-values sequence IsFormatContents format-values) (leaf-values bit_string IsBits)
+    both-values SpellsFormat (SpellsLeaf bit_string false IsBits)
+    (inside-values sequence IsFormatContents format-values) (leaf-values bit_string IsBits)
     (k.format, k.bits) c h)
 
 extensions-values : SpellValues SpellsExtensions

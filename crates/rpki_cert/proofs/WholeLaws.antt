@@ -1,5 +1,6 @@
 -- Signed data whose signature has no unused bits: the octet that counts them, in front of the signature's.
-use Rattle.std.proofs.Common.{◌≡◌, ◌∙◌, ◌+◌, ◌-◌, ◌↔◌, ℕ, Bool, true, false, inl, inr, List, ◌∷◌, ◌++◌, length, arith, refl, sym, ap, append_assoc, length-append, IsTrue}
+use Rattle.std.proofs.Common.{◌≡◌, ◌∙◌, ◌+◌, ◌-◌, ◌↔◌, ℕ, Bool, true, false, inl, inr, List, ◌∷◌, ◌++◌, length, arith}
+use Rattle.std.proofs.Common.{refl, sym, ap, append_assoc, length-append, IsTrue}
 use Rattle.std.specs.Prelude.{codes}
 use Rattle.rpki_der.specs.declared.error.DecodeError.{DecodeError}
 use Rattle.rpki_der.specs.TagName.{sequence, bit_string}
@@ -10,7 +11,8 @@ use Rattle.rpki.specs.SignedData.{SignedParts, SpellsSigned}
 use Rattle.rpki.specs.SignedFault.{IsSignedFault}
 use Rattle.rpki.specs.UnknownAlgorithm.{IsContentWith}
 use Rattle.rpki_cert.specs.Cert.{SpellsRpkiAlgorithm, SpellsWhole}
-use Rattle.rpki_cert.specs.CertFault.{IsRpkiAlgorithmFault, IsWholeSignedFault}
+use Rattle.rpki_cert.specs.CertFault.{IsWholeSignedFault}
+use Rattle.rpki_cert.specs.Cert.{rpki_algorithm}
 
 -- ---- the octet in front of the last ones
 
@@ -25,7 +27,8 @@ Signed = SpellsSigned SpellsRpkiAlgorithm
 regroup : (a b c e : List ℕ) → a ++ (b ++ (c ++ e)) ≡ (a ++ (b ++ c)) ++ e
 regroup a b c e = simp append_assoc
 
-seam : (x : SignedParts Bool) (p : List ℕ) (h : Signed x p) → (front : List ℕ) × (p ≡ front ++ h.spelled.signature.unused ∷ x.value)
+seam : (x : SignedParts Bool) (p : List ℕ) (h : Signed x p)
+    → (front : List ℕ) × (p ≡ front ++ h.spelled.signature.unused ∷ x.value)
 seam x p h =
     let k = h.spelled in
     let string = k.signature.string in
@@ -34,32 +37,48 @@ seam x p h =
     let first = x.signed ++ k.text in
     let last = k.signature.unused ∷ x.value in
     let bits : k.bits ≡ inner ++ last = string.value.octets ∙ ap (λ (c : List ℕ). inner ++ c) string.spelled.contents in
-    let all : p ≡ outer ++ (first ++ (inner ++ last)) = h.value.octets ∙ ap (λ (c : List ℕ). outer ++ c) (k.parts ∙ ap (λ (b : List ℕ). first ++ b) bits) in
+    let all : p ≡ outer ++ (first ++ (inner ++ last)) =
+    h.value.octets ∙ ap (λ (c : List ℕ). outer ++ c) (k.parts ∙ ap (λ (b : List ℕ). first ++ b) bits) in
     (outer ++ (first ++ inner), all ∙ regroup outer first inner last)
 
 -- in octets that begin with signed data
-pub seam-in : (s : List ℕ) (x : SignedParts Bool) (r : List ℕ) (h : Spells Signed s x r) → (front : List ℕ) × (s ≡ front ++ h.spelled.spelled.signature.unused ∷ (x.value ++ r))
+pub seam-in : (s : List ℕ) (x : SignedParts Bool) (r : List ℕ) (h : Spells Signed s x r)
+    → (front : List ℕ) × (s ≡ front ++ h.spelled.spelled.signature.unused ∷ (x.value ++ r))
 seam-in s x r h =
-    let (front, e) = seam x h.front h.spelled in
-    (front, h.parts ∙ ap (λ (p : List ℕ). p ++ r) e ∙ append_assoc front (h.spelled.spelled.signature.unused ∷ x.value) r)
+    let (front, e) = seam x h.front h.spelled in (
+      front,
+      h.parts ∙ ap (λ (p : List ℕ). p ++ r) e
+          ∙ append_assoc front (h.spelled.spelled.signature.unused ∷ x.value) r,
+    )
 
 -- ---- a reader of it
 
 abbrev as-signed : (s : List ℕ) (x : SignedParts Bool) (r : List ℕ) → Spells SpellsWhole s x r → Spells Signed s x r
 as-signed s x r h = record { front = h.front; parts = h.parts; spelled = h.spelled.signed }
 
-pub no-signed : (s r : List ℕ) (e : DecodeError) → Refusal Signed (IsSignedFault SpellsRpkiAlgorithm IsRpkiAlgorithmFault) s r e → Refusal SpellsWhole IsWholeSignedFault s s e
-no-signed s r e h = record { unchanged = refl; refuses = UnlessMemory-weaker e (λ none x q k. none x q (as-signed s x q k)) h.refuses; kind = inl h.kind }
+pub no-signed : (s r : List ℕ) (e : DecodeError)
+    → Refusal Signed (IsSignedFault SpellsRpkiAlgorithm rpki_algorithm.fault) s r e
+    → Refusal SpellsWhole IsWholeSignedFault s s e
+no-signed s r e h = record {
+  unchanged = refl;
+  refuses =
+      UnlessMemory-weaker e (λ none x q k. none x q (as-signed s x q k)) h.refuses;
+  kind = inl h.kind;
+}
 
 -- what is read of the octet in front of the signature's and of what follows
 abbrev pub TellsUsed : List ℕ → ℕ → Bool → Type 0
-TellsUsed s last used = (front : List ℕ) (octet : ℕ) (end : List ℕ) → s ≡ front ++ octet ∷ end → length end ≡ last → IsTrue used ↔ (octet ≡ 0)
+TellsUsed s last used = (front : List ℕ) (octet : ℕ) (end : List ℕ) → s ≡ front ++ octet ∷ end → length end ≡ last
+    → IsTrue used ↔ (octet ≡ 0)
 
-module _ (s r : List ℕ) (x : SignedParts Bool) (a : Accepts Signed s x r) (last : ℕ) (size : last ≡ length x.value + length r) (used : Bool) (tells : TellsUsed s last used) where
+module _ (s r : List ℕ) (x : SignedParts Bool) (a : Accepts Signed s x r) (last : ℕ)
+    (size : last ≡ length x.value + length r) (used : Bool) (tells : TellsUsed s last used) where
   ends : (y : SignedParts Bool) (q : List ℕ) → y ≡ x → q ≡ r → length (y.value ++ q) ≡ last
-  ends y q e f = length-append y.value q ∙ ap (λ (z : SignedParts Bool). length z.value + length q) e ∙ ap (λ (t : List ℕ). length x.value + length t) f ∙ sym size
+  ends y q e f = length-append y.value q ∙ ap (λ (z : SignedParts Bool). length z.value + length q) e
+      ∙ ap (λ (t : List ℕ). length x.value + length t) f ∙ sym size
 
-  pub signed-unused : (e : DecodeError) → (IsTrue used → ⊥) → IsContentWith (codes "signature has unused bits") e → Refusal SpellsWhole IsWholeSignedFault s s e
+  pub signed-unused : (e : DecodeError) → (IsTrue used → ⊥) → IsContentWith (codes "signature has unused bits") e
+      → Refusal SpellsWhole IsWholeSignedFault s s e
   signed-unused e other text = record {
     unchanged = refl;
     refuses = UnlessMemory-from e (λ y q k.
@@ -73,6 +92,15 @@ module _ (s r : List ℕ) (x : SignedParts Bool) (a : Accepts Signed s x r) (las
   signed-whole is =
       let (front, parts) = seam-in s x r a.spells in
       record {
-        spells = record { front = a.spells.front; parts = a.spells.parts; spelled = record { signed = a.spells.spelled; used = (tells front _ (x.value ++ r) parts (ends x r refl refl)).0 is } };
+        spells = record {
+          front = a.spells.front;
+          parts = a.spells.parts;
+          spelled =
+              record {
+                signed = a.spells.spelled;
+                used =
+                    (tells front _ (x.value ++ r) parts (ends x r refl refl)).0 is;
+              };
+        };
         only = λ w q k. a.only w q (as-signed s w q k);
       }

@@ -1,6 +1,7 @@
 -- The URIs of certificates: CRL distribution points, and authority and subject information access (RFC 6487 4.8.6 to
 -- 4.8.8, RFC 8182 3.2).
-use Rattle.std.specs.Prelude.{map, ◌≡◌, ◌||◌, not, ℕ, Bool, true, false, List, [], ◌∷◌, Option, Some, None, IsTrue, Result, MatchResult, bytes_eq, if◌then◌else◌}
+use Rattle.std.specs.Prelude.{map, ◌≡◌, ◌||◌, not, ℕ, Bool, true, false, List, [], ◌∷◌, Option, Some, None, IsTrue}
+use Rattle.std.specs.Prelude.{Result, MatchResult, bytes_eq, if◌then◌else◌}
 use Rattle.std.specs.Option.{is_some}
 use Rattle.std.specs.List.{list_all}
 use Rattle.rpki_der.specs.declared.error.DecodeError.{DecodeError}

@@ -1,20 +1,22 @@
 -- Certificates (RFC 5280 4.1, in the profile of RFC 6487 4).
-use Rattle.std.specs.Prelude.{◌≡◌, ℕ, Bool, true, false, not, ◌&&◌, List, [], ◌∷◌, Option, Some, None, IsTrue, bytes_eq, if◌then◌else◌}
+use Rattle.std.specs.Prelude.{◌≡◌, ℕ, Bool, true, List, [], ◌∷◌}
 use Rattle.rpki_der.specs.declared.tag.Class.TheVariants.{Context}
-use Rattle.rpki_der.specs.TagName.{TagName, tag_of, integer, sequence}
-use Rattle.rpki_der.specs.Values.{SpellsLeaf}
-use Rattle.rpki_der.specs.Leaves.{IsOnly}
-use Rattle.rpki_der.specs.Parts.{Then}
-use Rattle.rpki_der.specs.Each.{SpellsSome}
-use Rattle.rpki_time.specs.Serial.{SpellsSerial}
+use Rattle.rpki_der.specs.Prelude.{TagName, tag_of, integer, sequence, SpellsLeaf, IsOnly}
+use Rattle.rpki_der.specs.Prelude.{Format, leaf, around, only, then, said_by}
+use Rattle.rpki_time.specs.Serial.{serial_number}
 use Rattle.rpki_time.specs.Validity.{Period}
-use Rattle.rpki_time.specs.PeriodValue.{SpellsPeriod}
+use Rattle.rpki_time.specs.PeriodValue.{period}
 use Rattle.rpki.specs.Oids.{sha256_with_rsa_encryption}
 use Rattle.rpki.specs.Algorithm.{SpellsAlgorithm}
-use Rattle.rpki.specs.Name.{SpellsNameOctets}
-use Rattle.rpki.specs.PublicKey.{KeyParts, SpellsKey}
-use Rattle.rpki.specs.ExtensionValue.{ExtensionParts, SpellsExtension}
+use Rattle.rpki.specs.AlgorithmFault.{algorithm}
+use Rattle.rpki.specs.NameFault.{name}
+use Rattle.rpki.specs.PublicKey.{KeyParts}
+use Rattle.rpki.specs.KeyFault.{key}
+use Rattle.rpki.specs.ExtensionValue.{ExtensionParts}
 use Rattle.rpki.specs.SignedData.{SignedParts, SpellsSigned}
+pub use Rattle.rpki_cert.specs.ExtensionList.{extensions_tag, find, is_there, are_unique, AreExtensions}
+pub use Rattle.rpki_cert.specs.ExtensionList.{AreExtensionsFault}
+pub use Rattle.rpki_cert.specs.ExtensionList.{extension_list, SpellsExtensionList, extensions, SpellsExtensions}
 
 -- what is signed of a certificate; of the algorithm, whether its parameters are there
 pub record TbsParts : Type 0 where
@@ -35,41 +37,17 @@ version_tag = tag_of Context 0
 abbrev pub two : List ℕ
 two = 2 ∷ []
 
+abbrev pub two_value : Format (Unit {0})
+two_value = leaf integer (IsOnly two)
+
 abbrev pub SpellsTwo : Unit {0} → List ℕ → Type 0
-SpellsTwo = SpellsLeaf integer false (IsOnly two)
+SpellsTwo = two_value.spells
+
+abbrev pub version : Format (Unit {0})
+version = around version_tag (only two_value)
 
 abbrev pub SpellsVersion : Unit {0} → List ℕ → Type 0
-SpellsVersion = SpellsLeaf version_tag true SpellsTwo
-
--- ---- the extensions, under the explicit tag 3 (RFC 5280 4.1.2.9, 4.2)
-
-abbrev pub extensions_tag : TagName
-extensions_tag = tag_of Context 3
-
--- the first extension of this identifier
-abbrev pub find : List ℕ → List ExtensionParts → Option ExtensionParts
-find id [] = None
-find id (x ∷ xs) = if bytes_eq x.identifier id then Some x else find id xs
-
-abbrev pub is_there : Option ExtensionParts → Bool
-is_there None = false
-is_there (Some x) = true
-
--- no two extensions have the same identifier (RFC 5280 4.2)
-abbrev pub are_unique : List ExtensionParts → Bool
-are_unique [] = true
-are_unique (x ∷ xs) = not (is_there (find x.identifier xs)) && are_unique xs
-
--- one extension at least, and each identifier once
-pub record AreExtensions (xs : List ExtensionParts) (c : List ℕ) : Type 0 where
-  pub some : SpellsSome SpellsExtension xs c
-  pub unique : IsTrue (are_unique xs)
-
-abbrev pub SpellsExtensionList : List ExtensionParts → List ℕ → Type 0
-SpellsExtensionList = SpellsLeaf sequence true AreExtensions
-
-abbrev pub SpellsExtensions : List ExtensionParts → List ℕ → Type 0
-SpellsExtensions = SpellsLeaf extensions_tag true SpellsExtensionList
+SpellsVersion = version.spells
 
 -- ---- TBSCertificate (RFC 5280 4.1)
 
@@ -77,21 +55,31 @@ SpellsExtensions = SpellsLeaf extensions_tag true SpellsExtensionList
 abbrev pub SpellsRpkiAlgorithm : Bool → List ℕ → Type 0
 SpellsRpkiAlgorithm = SpellsAlgorithm sha256_with_rsa_encryption
 
+-- the algorithm, which takes no memory
+abbrev pub rpki_algorithm : Format Bool
+rpki_algorithm = algorithm sha256_with_rsa_encryption
+
 -- the fields, in order
 abbrev pub Fields : Type 0
 Fields = Unit {0} × (ℕ × (Bool × (List ℕ × (Period × (List ℕ × (KeyParts × List ExtensionParts))))))
+
+abbrev pub fields : Format Fields
+fields =
+    then version (then serial_number (then rpki_algorithm (then name (then period (then name (then key
+    (only extensions)))))))
 
 abbrev pub fields_of : TbsParts → Fields
 fields_of x = (tt, (x.serial, (x.algorithm, (x.issuer, (x.validity, (x.subject, (x.key, x.extensions)))))))
 
 abbrev pub AreFields : Fields → List ℕ → Type 0
-AreFields =
-    Then SpellsVersion (Then SpellsSerial (Then SpellsRpkiAlgorithm (Then SpellsNameOctets (Then SpellsPeriod
-    (Then SpellsNameOctets (Then SpellsKey SpellsExtensions))))))
+AreFields = fields.spells
 
 -- a SEQUENCE of the fields, and nothing after them; neither issuerUniqueID nor subjectUniqueID (RFC 6487 4)
 abbrev pub SpellsTbs : TbsParts → List ℕ → Type 0
 SpellsTbs x p = SpellsLeaf sequence true AreFields (fields_of x) p
+
+abbrev pub tbs_certificate : Format TbsParts
+tbs_certificate = said_by SpellsTbs (around sequence fields)
 
 -- ---- a certificate
 

@@ -1,16 +1,12 @@
 -- What the octets of the extensions are, each in the form of RFC 6487 4.8.
-use Rattle.rpki_der.specs.Parts.{Then}
 use Rattle.std.specs.Prelude.{◌≢◌, ◌≡◌, ◌⊎◌, ◌||◌, ℕ, Bool, true, false, List, [], ◌∷◌}
+use Rattle.std.specs.Str.{IsAscii}
 use Rattle.rpki_der.specs.declared.error.DecodeError.{DecodeError}
 use Rattle.rpki_der.specs.declared.tag.Class.TheVariants.{Context}
-use Rattle.rpki_der.specs.TagName.{TagName, tag_of, sequence, bit_string, oid, ia5_string}
-use Rattle.rpki_der.specs.Values.{SpellsLeaf, IsLeafFault}
-use Rattle.rpki_der.specs.Leaves.{IsOnly}
-use Rattle.rpki_der.specs.DefaultFalse.{SpellsTrue, IsTrueFault}
-use Rattle.rpki_der.specs.Each.{SpellsSome}
-use Rattle.rpki_der.specs.FirstFault.{FirstFault, IsEndFault, IsInsideFault}
-use Rattle.std.specs.Str.{IsAscii}
-use Rattle.rpki_der.specs.Reading.{IsWholeFault}
+use Rattle.rpki_der.specs.Prelude.{TagName, tag_of, sequence, boolean, bit_string, oid, ia5_string, SpellsLeaf}
+use Rattle.rpki_der.specs.Prelude.{SpellsSome}
+use Rattle.rpki_der.specs.Prelude.{IsOnly, boolean_contents, this_oid, IsWholeFault}
+use Rattle.rpki_der.specs.Prelude.{Format, leaf, around, only, then, said_by}
 use Rattle.rpki.specs.KeyIdentifier.{SpellsKeyIdentifier, IsKeyIdentifier, IsIdentifierFault}
 use Rattle.rpki_cert.specs.Access.{SpellsOidAs}
 use Rattle.rpki_cert.specs.declared.key_usage.KeyUsage.{KeyUsage}
@@ -20,38 +16,37 @@ use Rattle.rpki_cert.specs.declared.policy.Overclaim.TheVariants.{Refuse, Trim}
 
 -- ---- basic constraints: cA is TRUE, and there is no pathLenConstraint (RFC 5280 4.2.1.9, RFC 6487 4.8.1)
 
-abbrev pub SpellsConstraints : Unit {0} → List ℕ → Type 0
-SpellsConstraints = SpellsLeaf sequence true SpellsTrue
+abbrev pub constraints_content : Format (Unit {0})
+constraints_content = around sequence (only (leaf boolean (IsOnly (boolean_contents true))))
 
-abbrev pub IsConstraintsFault : List ℕ → DecodeError → Type 0
-IsConstraintsFault = IsInsideFault sequence true (FirstFault SpellsTrue IsTrueFault (λ authority. IsEndFault))
+abbrev pub SpellsConstraints : Unit {0} → List ℕ → Type 0
+SpellsConstraints = constraints_content.spells
 
 -- ---- the authority key identifier: keyIdentifier alone, under the tag 0 (RFC 5280 4.2.1.1, RFC 6487 4.8.3)
 
 abbrev pub identifier_tag : TagName
 identifier_tag = tag_of Context 0
 
-abbrev pub SpellsTagged : List ℕ → List ℕ → Type 0
-SpellsTagged = SpellsLeaf identifier_tag false IsKeyIdentifier
+abbrev pub tagged_identifier : Format (List ℕ)
+tagged_identifier = leaf identifier_tag IsKeyIdentifier
 
-abbrev pub IsTaggedFault : List ℕ → DecodeError → Type 0
-IsTaggedFault = IsLeafFault identifier_tag false IsKeyIdentifier
+abbrev pub SpellsTagged : List ℕ → List ℕ → Type 0
+SpellsTagged = tagged_identifier.spells
+
+abbrev pub authority_content : Format (List ℕ)
+authority_content = around sequence (only tagged_identifier)
 
 abbrev pub SpellsAuthority : List ℕ → List ℕ → Type 0
-SpellsAuthority = SpellsLeaf sequence true SpellsTagged
+SpellsAuthority = authority_content.spells
 
-abbrev pub IsAuthorityFault : List ℕ → DecodeError → Type 0
-IsAuthorityFault = IsInsideFault sequence true (FirstFault SpellsTagged IsTaggedFault (λ identifier. IsEndFault))
+-- ---- the subject key identifier (RFC 5280 4.2.1.2, RFC 6487 4.8.2)
 
--- the error of octets that are to be an authority key identifier, a subject key identifier or basic constraints
-abbrev pub IsWholeAuthorityFault : List ℕ → DecodeError → Type 0
-IsWholeAuthorityFault = IsWholeFault SpellsAuthority IsAuthorityFault
+abbrev pub subject_content : Format (List ℕ)
+subject_content = record { spells = SpellsKeyIdentifier; fault = IsIdentifierFault IsKeyIdentifier }
 
-abbrev pub IsWholeSubjectFault : List ℕ → DecodeError → Type 0
-IsWholeSubjectFault = IsWholeFault SpellsKeyIdentifier (IsIdentifierFault IsKeyIdentifier)
-
-abbrev pub IsWholeConstraintsFault : List ℕ → DecodeError → Type 0
-IsWholeConstraintsFault = IsWholeFault SpellsConstraints IsConstraintsFault
+-- the error of octets of which all are to be of a format
+abbrev pub WholeFault : {V : Type 0} → Format V → List ℕ → DecodeError → Type 0
+WholeFault F = IsWholeFault F.spells F.fault
 
 -- ---- key usage: a BIT STRING (RFC 5280 4.2.1.3, RFC 6487 4.8.4)
 
@@ -61,14 +56,11 @@ abbrev pub IsUsage : KeyUsage → List ℕ → Type 0
 IsUsage Ca c = c ≡ 1 ∷ 6 ∷ []
 IsUsage Ee c = c ≡ 7 ∷ 128 ∷ []
 
+abbrev pub usage_content : Format KeyUsage
+usage_content = leaf bit_string IsUsage
+
 abbrev pub SpellsUsage : KeyUsage → List ℕ → Type 0
-SpellsUsage = SpellsLeaf bit_string false IsUsage
-
-abbrev pub IsUsageFault : List ℕ → DecodeError → Type 0
-IsUsageFault = IsLeafFault bit_string false IsUsage
-
-abbrev pub IsWholeUsageFault : List ℕ → DecodeError → Type 0
-IsWholeUsageFault = IsWholeFault SpellsUsage IsUsageFault
+SpellsUsage = usage_content.spells
 
 -- ---- extended key usage: object identifiers of purposes, one at least (RFC 5280 4.2.1.12)
 
@@ -101,11 +93,11 @@ abbrev pub IsPolicyName : Overclaim → List ℕ → Type 0
 IsPolicyName Refuse c = c ≡ 43 ∷ 6 ∷ 1 ∷ 5 ∷ 5 ∷ 7 ∷ 14 ∷ 2 ∷ []
 IsPolicyName Trim c = c ≡ 43 ∷ 6 ∷ 1 ∷ 5 ∷ 5 ∷ 7 ∷ 14 ∷ 3 ∷ []
 
-abbrev pub SpellsPolicyName : Overclaim → List ℕ → Type 0
-SpellsPolicyName = SpellsLeaf oid false IsPolicyName
+abbrev pub policy_name : Format Overclaim
+policy_name = leaf oid IsPolicyName
 
-abbrev pub IsPolicyNameFault : List ℕ → DecodeError → Type 0
-IsPolicyNameFault = IsLeafFault oid false IsPolicyName
+abbrev pub SpellsPolicyName : Overclaim → List ℕ → Type 0
+SpellsPolicyName = policy_name.spells
 
 -- 1.3.6.1.5.5.7.2.1: the qualifier that points to a statement of practices (RFC 5280 4.2.1.4, RFC 7318 2)
 abbrev pub statement_name : List ℕ
@@ -116,57 +108,58 @@ abbrev pub IsAnyIa5 : Unit {0} → List ℕ → Type 0
 IsAnyIa5 v c = IsAscii c
 
 abbrev pub SpellsStatementName : Unit {0} → List ℕ → Type 0
-SpellsStatementName = SpellsLeaf oid false (IsOnly statement_name)
+SpellsStatementName = (this_oid statement_name).spells
+
+abbrev pub statement_value : Format (Unit {0})
+statement_value = leaf ia5_string IsAnyIa5
 
 abbrev pub SpellsStatement : Unit {0} → List ℕ → Type 0
-SpellsStatement = SpellsLeaf ia5_string false IsAnyIa5
+SpellsStatement = statement_value.spells
 
 -- exactly one qualifier: a SEQUENCE of that name and of a URI
+abbrev pub qualifier_parts : Format (Unit {0} × Unit {0})
+qualifier_parts = then (this_oid statement_name) (only statement_value)
+
 abbrev pub AreQualifierParts : Unit {0} × Unit {0} → List ℕ → Type 0
-AreQualifierParts = Then SpellsStatementName SpellsStatement
+AreQualifierParts = qualifier_parts.spells
+
+abbrev pub qualifier_value : Format (Unit {0} × Unit {0})
+qualifier_value = around sequence qualifier_parts
 
 abbrev pub SpellsQualifier : Unit {0} × Unit {0} → List ℕ → Type 0
-SpellsQualifier = SpellsLeaf sequence true AreQualifierParts
+SpellsQualifier = qualifier_value.spells
+
+abbrev pub qualifiers_value : Format (Unit {0} × Unit {0})
+qualifiers_value = around sequence (only qualifier_value)
 
 abbrev pub SpellsQualifiers : Unit {0} × Unit {0} → List ℕ → Type 0
-SpellsQualifiers = SpellsLeaf sequence true SpellsQualifier
-
-abbrev pub AreQualifierPartsFault : List ℕ → DecodeError → Type 0
-AreQualifierPartsFault =
-    FirstFault SpellsStatementName (IsLeafFault oid false (IsOnly statement_name)) (λ name.
-    FirstFault SpellsStatement (IsLeafFault ia5_string false IsAnyIa5) (λ statement. IsEndFault))
-
-abbrev pub IsQualifierFault : List ℕ → DecodeError → Type 0
-IsQualifierFault = IsInsideFault sequence true AreQualifierPartsFault
-
-abbrev pub IsQualifiersFault : List ℕ → DecodeError → Type 0
-IsQualifiersFault = IsInsideFault sequence true (FirstFault SpellsQualifier IsQualifierFault (λ qualifier. IsEndFault))
+SpellsQualifiers = qualifiers_value.spells
 
 -- the qualifiers may be left out
-abbrev pub AreQualifiers : Unit {0} → List ℕ → Type 0
-AreQualifiers v c = (c ≡ []) ⊎ SpellsQualifiers (tt, tt) c
+abbrev pub optional_qualifiers : Format (Unit {0})
+optional_qualifiers = record {
+  spells = λ v c. (c ≡ []) ⊎ SpellsQualifiers (tt, tt) c;
+  fault = λ s e. (s ≢ []) × (only qualifiers_value).fault s e;
+}
 
-abbrev pub AreQualifiersFault : List ℕ → DecodeError → Type 0
-AreQualifiersFault s e = (s ≢ []) × FirstFault SpellsQualifiers IsQualifiersFault (λ qualifiers. IsEndFault) s e
+abbrev pub AreQualifiers : Unit {0} → List ℕ → Type 0
+AreQualifiers = optional_qualifiers.spells
 
 -- a SEQUENCE of exactly one policy
+abbrev pub policy_parts : Format (Overclaim × Unit {0})
+policy_parts = then policy_name optional_qualifiers
+
 abbrev pub ArePolicyParts : Overclaim × Unit {0} → List ℕ → Type 0
-ArePolicyParts = Then SpellsPolicyName AreQualifiers
+ArePolicyParts = policy_parts.spells
+
+abbrev pub policy_value : Format (Overclaim × Unit {0})
+policy_value = around sequence policy_parts
 
 abbrev pub SpellsPolicy : Overclaim × Unit {0} → List ℕ → Type 0
-SpellsPolicy = SpellsLeaf sequence true ArePolicyParts
+SpellsPolicy = policy_value.spells
 
 abbrev pub SpellsPolicies : Overclaim → List ℕ → Type 0
-SpellsPolicies x p = SpellsLeaf sequence true SpellsPolicy (x, tt) p
+SpellsPolicies x p = (around sequence (only policy_value)).spells (x, tt) p
 
-abbrev pub ArePolicyPartsFault : List ℕ → DecodeError → Type 0
-ArePolicyPartsFault = FirstFault SpellsPolicyName IsPolicyNameFault (λ name. AreQualifiersFault)
-
-abbrev pub IsPolicyFault : List ℕ → DecodeError → Type 0
-IsPolicyFault = IsInsideFault sequence true ArePolicyPartsFault
-
-abbrev pub IsPoliciesFault : List ℕ → DecodeError → Type 0
-IsPoliciesFault = IsInsideFault sequence true (FirstFault SpellsPolicy IsPolicyFault (λ policy. IsEndFault))
-
-abbrev pub IsWholePoliciesFault : List ℕ → DecodeError → Type 0
-IsWholePoliciesFault = IsWholeFault SpellsPolicies IsPoliciesFault
+abbrev pub policies_content : Format Overclaim
+policies_content = said_by SpellsPolicies (around sequence (only policy_value))

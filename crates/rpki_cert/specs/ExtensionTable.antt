@@ -1,11 +1,15 @@
 -- The table of the extensions of a certificate (RFC 6487 4.8).
-use Rattle.std.specs.Prelude.{◌≡◌, ◌≢◌, ◌⊎◌, ◌-◌, ℕ, Bool, List, [], ◌∷◌, Option, Some, None, if◌then◌else◌, slice_index, get_or, length, bytes_eq}
+use Rattle.std.specs.Prelude.{◌≡◌, ◌≢◌, ◌⊎◌, ◌-◌, ℕ, Bool, List, [], ◌∷◌, Option, Some, None, if◌then◌else◌}
+use Rattle.std.specs.Prelude.{slice_index, get_or, length, bytes_eq}
 use Rattle.rpki_der.specs.Each.{SpellsEach}
 use Rattle.rpki.specs.ExtensionValue.{ExtensionParts, SpellsExtension}
 use Rattle.rpki_cert.specs.declared.extension_kind.ExtensionKind.{ExtensionKind}
 use Rattle.rpki_cert.specs.declared.listed_extension.ListedExtension.{ListedExtension}
 use Rattle.rpki_cert.specs.Cert.{find}
-use Rattle.rpki_cert.specs.Known.{subject_key_identifier, key_usage, basic_constraints, crl_distribution_points, certificate_policies, authority_key_identifier, extended_key_usage, authority_info_access, ip_addr_blocks, ip_addr_blocks_v2, autonomous_sys_ids, autonomous_sys_ids_v2, subject_info_access, are_understood}
+use Rattle.rpki_cert.specs.Known.{subject_key_identifier, key_usage, basic_constraints, crl_distribution_points}
+use Rattle.rpki_cert.specs.Known.{certificate_policies, authority_key_identifier, extended_key_usage}
+use Rattle.rpki_cert.specs.Known.{authority_info_access, ip_addr_blocks, ip_addr_blocks_v2, autonomous_sys_ids}
+use Rattle.rpki_cert.specs.Known.{autonomous_sys_ids_v2, subject_info_access, are_understood}
 
 -- P holds of the extensions that s is
 abbrev pub OfListed : List ℕ → (List ExtensionParts → Type 0) → Type 0

@@ -3,9 +3,12 @@ use Rattle.std.specs.Prelude.{true, false, List}
 use Rattle.rpki.specs.KeyIdentifier.{SpellsKeyIdentifier}
 use Rattle.rpki.specs.ExtensionValue.{ExtensionParts}
 use Rattle.rpki_cert.specs.declared.known_part.KnownPart.{KnownPart}
-use Rattle.rpki_cert.specs.declared.known_part.KnownPart.TheVariants.{BasicConstraints, SubjectKeyIdentifier, AuthorityKeyIdentifier, KeyUsage, CertificatePolicies}
+use Rattle.rpki_cert.specs.declared.known_part.KnownPart.TheVariants.{BasicConstraints, SubjectKeyIdentifier}
+use Rattle.rpki_cert.specs.declared.known_part.KnownPart.TheVariants.{AuthorityKeyIdentifier, KeyUsage}
+use Rattle.rpki_cert.specs.declared.known_part.KnownPart.TheVariants.{CertificatePolicies}
 use Rattle.rpki_cert.specs.declared.known_view.KnownView.{KnownView}
-use Rattle.rpki_cert.specs.Known.{subject_key_identifier, key_usage, basic_constraints, certificate_policies, authority_key_identifier, present, HasOnly, HasNone}
+use Rattle.rpki_cert.specs.Known.{subject_key_identifier, key_usage, basic_constraints, certificate_policies}
+use Rattle.rpki_cert.specs.Known.{authority_key_identifier, present, HasOnly, HasNone}
 use Rattle.rpki_cert.specs.ExtensionContent.{SpellsConstraints, SpellsAuthority, SpellsUsage, SpellsPolicies}
 
 -- what the extensions say: each is there, as critical as it has to be and in its form, or isn't there

@@ -1,4 +1,5 @@
 -- Definitions: what the contracts say. They are trusted, and read against the standards.
+pub mod ExtensionList
 pub mod Cert
 pub mod CertFault
 pub mod Known

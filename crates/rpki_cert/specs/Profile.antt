@@ -1,7 +1,8 @@
 -- The profiles of certificates: trust anchors, certification authorities and end entities (RFC 6487 4), end entities
 -- without subject information access (RFC 9323 2), and BGPsec routers (RFC 8209 3.1). A name is held to its profile
 -- where this is asked for.
-use Rattle.std.specs.Prelude.{◌≡◌, ◌≢◌, ◌<◌, ◌≤ℤ◌, ◌⊎◌, ◌||◌, ◌&&◌, not, ℕ, Bool, true, false, List, [], Option, Some, None, IsTrue}
+use Rattle.std.specs.Prelude.{◌≡◌, ◌≢◌, ◌<◌, ◌≤ℤ◌, ◌⊎◌, ◌||◌, ◌&&◌, not, ℕ, Bool, true, false, List, [], Option, Some}
+use Rattle.std.specs.Prelude.{None, IsTrue}
 use Rattle.jiff.specs.Words.{civil_nanos}
 use Rattle.rpki_time.specs.Validity.{Period}
 use Rattle.rpki.specs.KeyIdentifier.{SpellsKeyIdentifier}
@@ -15,10 +16,15 @@ use Rattle.rpki_cert.specs.declared.policy.Overclaim.{Overclaim}
 use Rattle.rpki_cert.specs.declared.policy.Overclaim.TheVariants.{Refuse, Trim}
 use Rattle.rpki_cert.specs.Cert.{TbsParts, find, is_there}
 use Rattle.rpki_cert.specs.Keys.{IsRpkiKey, IsRouterKey}
-use Rattle.rpki_cert.specs.Known.{subject_key_identifier, key_usage, basic_constraints, crl_distribution_points, certificate_policies, authority_key_identifier, extended_key_usage, authority_info_access, subject_info_access, ip_addr_blocks, ip_addr_blocks_v2, autonomous_sys_ids, autonomous_sys_ids_v2, Says, HasExtension, are_understood}
-use Rattle.rpki_cert.specs.ExtensionContent.{SpellsConstraints, SpellsAuthority, SpellsUsage, SpellsPurposes, SpellsPolicies}
+use Rattle.rpki_cert.specs.Known.{subject_key_identifier, key_usage, basic_constraints, crl_distribution_points}
+use Rattle.rpki_cert.specs.Known.{certificate_policies, authority_key_identifier, extended_key_usage}
+use Rattle.rpki_cert.specs.Known.{authority_info_access, subject_info_access, ip_addr_blocks, ip_addr_blocks_v2}
+use Rattle.rpki_cert.specs.Known.{autonomous_sys_ids, autonomous_sys_ids_v2, Says, HasExtension, are_understood}
+use Rattle.rpki_cert.specs.ExtensionContent.{SpellsConstraints, SpellsAuthority, SpellsUsage, SpellsPurposes}
+use Rattle.rpki_cert.specs.ExtensionContent.{SpellsPolicies}
 use Rattle.rpki_cert.specs.ResourceExtensions.{AreWellFormed, AreOwn}
-use Rattle.rpki_cert.specs.Access.{SpellsRsyncAccess, SpellsPoints, SpellsHeldAccess, SaysUri, ca_issuers, ca_repository, rpki_manifest, signed_object}
+use Rattle.rpki_cert.specs.Access.{SpellsRsyncAccess, SpellsPoints, SpellsHeldAccess, SaysUri, ca_issuers}
+use Rattle.rpki_cert.specs.Access.{ca_repository, rpki_manifest, signed_object}
 
 -- ---- what is there
 

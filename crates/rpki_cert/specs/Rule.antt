@@ -1,18 +1,34 @@
 -- The rules of the profiles of certificates (RFC 6487 4, RFC 8209 3.1), one by one, and which of them is broken first.
-use Rattle.std.specs.Prelude.{◌≡◌, ◌<◌, ◌&&◌, not, ℕ, Bool, true, false, List, [], ◌∷◌, ◌++◌, Some, IsTrue, All, codes, Result, MatchResult}
+use Rattle.std.specs.Prelude.{◌≡◌, ◌<◌, ◌&&◌, not, ℕ, Bool, true, false, List, [], ◌∷◌, ◌++◌, Some, IsTrue, All, codes}
+use Rattle.std.specs.Prelude.{Result, MatchResult}
 use Rattle.rpki.specs.KeyIdentifier.{SpellsKeyIdentifier}
 use Rattle.rpki.specs.StrictName.{IsRpkiName, IsRouterName}
 use Rattle.rpki_cert.specs.declared.access_rule.AccessRule.TheVariants.{EndEntity, Notification}
 use Rattle.rpki_cert.specs.declared.key_usage.KeyUsage.TheVariants.{Ca, Ee}
 use Rattle.rpki_cert.specs.declared.rule.CertRule.{CertRule}
-use Rattle.rpki_cert.specs.declared.rule.CertRule.TheVariants.{SerialNumber, CriticalExtensions, Issuer, Validity, Subject, RouterSubject, RsaKey, RouterKey, BasicConstraints, NoBasicConstraints, SubjectKeyIdentifier, AuthorityKeyIdentifier, OwnAuthority, SelfIssued, AuthorityUsage, EndUsage, NoExtendedKeyUsage, RouterPurpose, RevocationList, NoRevocationList, IssuerCertificate, NoIssuerCertificate, Repository, Manifest, ManifestPlace, SignedObject, ObjectAccess, Notifications, NoSubjectAccess, CertificatePolicies, Resources, ResourceVersion, RouterNumbers, ResourceBlocks, OwnResources}
+use Rattle.rpki_cert.specs.declared.rule.CertRule.TheVariants.{SerialNumber, CriticalExtensions, Issuer, Validity}
+use Rattle.rpki_cert.specs.declared.rule.CertRule.TheVariants.{Subject, RouterSubject, RsaKey, RouterKey}
+use Rattle.rpki_cert.specs.declared.rule.CertRule.TheVariants.{BasicConstraints, NoBasicConstraints}
+use Rattle.rpki_cert.specs.declared.rule.CertRule.TheVariants.{SubjectKeyIdentifier, AuthorityKeyIdentifier}
+use Rattle.rpki_cert.specs.declared.rule.CertRule.TheVariants.{OwnAuthority, SelfIssued, AuthorityUsage, EndUsage}
+use Rattle.rpki_cert.specs.declared.rule.CertRule.TheVariants.{NoExtendedKeyUsage, RouterPurpose, RevocationList}
+use Rattle.rpki_cert.specs.declared.rule.CertRule.TheVariants.{NoRevocationList, IssuerCertificate, NoIssuerCertificate}
+use Rattle.rpki_cert.specs.declared.rule.CertRule.TheVariants.{Repository, Manifest, ManifestPlace, SignedObject}
+use Rattle.rpki_cert.specs.declared.rule.CertRule.TheVariants.{ObjectAccess, Notifications, NoSubjectAccess}
+use Rattle.rpki_cert.specs.declared.rule.CertRule.TheVariants.{CertificatePolicies, Resources, ResourceVersion}
+use Rattle.rpki_cert.specs.declared.rule.CertRule.TheVariants.{RouterNumbers, ResourceBlocks, OwnResources}
 use Rattle.rpki_cert.specs.Cert.{TbsParts, find}
-use Rattle.rpki_cert.specs.Known.{subject_key_identifier, key_usage, basic_constraints, crl_distribution_points, certificate_policies, authority_key_identifier, extended_key_usage, authority_info_access, subject_info_access, HasExtension, are_understood}
-use Rattle.rpki_cert.specs.ExtensionContent.{SpellsConstraints, SpellsAuthority, SpellsUsage, SpellsPurposes, SpellsPolicies}
-use Rattle.rpki_cert.specs.Access.{SpellsRsyncAccess, SpellsPoints, ca_issuers, ca_repository, rpki_manifest, signed_object}
+use Rattle.rpki_cert.specs.Known.{subject_key_identifier, key_usage, basic_constraints, crl_distribution_points}
+use Rattle.rpki_cert.specs.Known.{certificate_policies, authority_key_identifier, extended_key_usage}
+use Rattle.rpki_cert.specs.Known.{authority_info_access, subject_info_access, HasExtension, are_understood}
+use Rattle.rpki_cert.specs.ExtensionContent.{SpellsConstraints, SpellsAuthority, SpellsUsage, SpellsPurposes}
+use Rattle.rpki_cert.specs.ExtensionContent.{SpellsPolicies}
+use Rattle.rpki_cert.specs.Access.{SpellsRsyncAccess, SpellsPoints, ca_issuers, ca_repository, rpki_manifest}
+use Rattle.rpki_cert.specs.Access.{signed_object}
 use Rattle.rpki_cert.specs.Keys.{IsRpkiKey, IsRouterKey}
 use Rattle.rpki_cert.specs.ResourceExtensions.{AreWellFormed, AreOwn}
-use Rattle.rpki_cert.specs.Profile.{HasSome, HasNot, HasSomeUri, HasHeldAccess, SaysManifestBelow, IsOrdered, HasOwnAuthority, has_addresses, has_numbers, has_resources, HasOneVersion}
+use Rattle.rpki_cert.specs.Profile.{HasSome, HasNot, HasSomeUri, HasHeldAccess, SaysManifestBelow, IsOrdered}
+use Rattle.rpki_cert.specs.Profile.{HasOwnAuthority, has_addresses, has_numbers, has_resources, HasOneVersion}
 
 -- what the rule says of a certificate, in the words of the profiles; a name is held to its profile where strict is true
 abbrev pub Obeys : Bool → TbsParts → CertRule → Type 0

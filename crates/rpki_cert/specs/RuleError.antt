@@ -8,13 +8,29 @@ use Rattle.rpki.specs.KeyIdentifier.{SpellsKeyIdentifier}
 use Rattle.rpki.specs.NameRule.{BreaksRpkiRule, BreaksRouterRule, rpki_text, router_text}
 use Rattle.rpki.specs.ExtensionValue.{ExtensionParts}
 use Rattle.rpki_cert.specs.declared.rule.CertRule.{CertRule}
-use Rattle.rpki_cert.specs.declared.rule.CertRule.TheVariants.{SerialNumber, CriticalExtensions, Issuer, Validity, Subject, RouterSubject, RsaKey, RouterKey, BasicConstraints, NoBasicConstraints, SubjectKeyIdentifier, AuthorityKeyIdentifier, OwnAuthority, SelfIssued, AuthorityUsage, EndUsage, NoExtendedKeyUsage, RouterPurpose, RevocationList, NoRevocationList, IssuerCertificate, NoIssuerCertificate, Repository, Manifest, ManifestPlace, SignedObject, ObjectAccess, Notifications, NoSubjectAccess, CertificatePolicies, Resources, ResourceVersion, RouterNumbers, ResourceBlocks, OwnResources}
+use Rattle.rpki_cert.specs.declared.rule.CertRule.TheVariants.{SerialNumber, CriticalExtensions, Issuer, Validity}
+use Rattle.rpki_cert.specs.declared.rule.CertRule.TheVariants.{Subject, RouterSubject, RsaKey, RouterKey}
+use Rattle.rpki_cert.specs.declared.rule.CertRule.TheVariants.{BasicConstraints, NoBasicConstraints}
+use Rattle.rpki_cert.specs.declared.rule.CertRule.TheVariants.{SubjectKeyIdentifier, AuthorityKeyIdentifier}
+use Rattle.rpki_cert.specs.declared.rule.CertRule.TheVariants.{OwnAuthority, SelfIssued, AuthorityUsage, EndUsage}
+use Rattle.rpki_cert.specs.declared.rule.CertRule.TheVariants.{NoExtendedKeyUsage, RouterPurpose, RevocationList}
+use Rattle.rpki_cert.specs.declared.rule.CertRule.TheVariants.{NoRevocationList, IssuerCertificate, NoIssuerCertificate}
+use Rattle.rpki_cert.specs.declared.rule.CertRule.TheVariants.{Repository, Manifest, ManifestPlace, SignedObject}
+use Rattle.rpki_cert.specs.declared.rule.CertRule.TheVariants.{ObjectAccess, Notifications, NoSubjectAccess}
+use Rattle.rpki_cert.specs.declared.rule.CertRule.TheVariants.{CertificatePolicies, Resources, ResourceVersion}
+use Rattle.rpki_cert.specs.declared.rule.CertRule.TheVariants.{RouterNumbers, ResourceBlocks, OwnResources}
 use Rattle.rpki_cert.specs.Cert.{TbsParts, find}
-use Rattle.rpki_cert.specs.Known.{subject_key_identifier, key_usage, basic_constraints, crl_distribution_points, certificate_policies, authority_key_identifier, extended_key_usage, authority_info_access, subject_info_access, Says, HasText, IsOtherwise}
+use Rattle.rpki_cert.specs.Known.{subject_key_identifier, key_usage, basic_constraints, crl_distribution_points}
+use Rattle.rpki_cert.specs.Known.{certificate_policies, authority_key_identifier, extended_key_usage}
+use Rattle.rpki_cert.specs.Known.{authority_info_access, subject_info_access, Says, HasText, IsOtherwise}
 use Rattle.rpki_cert.specs.Profile.{SaysSome, SaysSomeUri, SaysOwn, HasOneVersion}
-use Rattle.rpki_cert.specs.ExtensionContent.{SpellsConstraints, IsWholeConstraintsFault, IsWholeSubjectFault, SpellsAuthority, IsWholeAuthorityFault, SpellsUsage, IsWholeUsageFault, SpellsPurposes, SpellsPolicies, IsWholePoliciesFault}
-use Rattle.rpki_cert.specs.Access.{SpellsRsyncAccess, SpellsPoints, ca_issuers, ca_repository, rpki_manifest, signed_object}
+use Rattle.rpki_cert.specs.ExtensionContent.{SpellsConstraints, SpellsAuthority, SpellsUsage, SpellsPurposes}
+use Rattle.rpki_cert.specs.ExtensionContent.{SpellsPolicies}
+use Rattle.rpki_cert.specs.Access.{SpellsRsyncAccess, SpellsPoints, ca_issuers, ca_repository, rpki_manifest}
+use Rattle.rpki_cert.specs.Access.{signed_object}
 use Rattle.rpki_cert.specs.Rule.{IsFirstBroken, rule_text}
+use Rattle.rpki_cert.specs.ExtensionContent.{WholeFault, authority_content, constraints_content, policies_content}
+use Rattle.rpki_cert.specs.ExtensionContent.{subject_content, usage_content}
 
 -- a check: Ok exactly where P holds, and else such an error
 abbrev pub ChecksBy : Type 0 → (ValidationError → Type 0) → Result (Unit {0}) ValidationError → Type 0
@@ -24,8 +40,8 @@ ChecksBy P E r = MatchResult r (λ _. P) (λ e. (P → ⊥) × E e)
 abbrev pub SaysRule : CertRule → ValidationError → Type 0
 SaysRule rule = HasText (rule_text rule)
 
--- of a rule on what an extension says: the error of one that is there and malformed, or not as critical as it has to be;
--- and the text of the rule only where the extension is neither
+-- of a rule on what an extension says: the error of one that is there and malformed, or not as critical as it has to
+-- be; and the text of the rule only where the extension is neither
 abbrev pub SaysFound : {V : Type 0} → Bool → (V → List ℕ → Type 0) → (List ℕ → DecodeError → Type 0) → CertRule
     → Option ExtensionParts → ValidationError → Type 0
 SaysFound critical G K rule found = IsOtherwise critical G K found (SaysRule rule)
@@ -47,12 +63,12 @@ ChecksUri G rule found = ChecksBy (SaysSomeUri G found) (SaysFound false G AnyFa
 abbrev pub ChecksVersion : List ExtensionParts → Result (Unit {0}) ValidationError → Type 0
 ChecksVersion xs =
     ChecksBy (HasOneVersion xs)
-    (SaysFound true SpellsPolicies IsWholePoliciesFault ResourceVersion (find certificate_policies xs))
+    (SaysFound true SpellsPolicies (WholeFault policies_content) ResourceVersion (find certificate_policies xs))
 
 abbrev pub ChecksOwn : Option ExtensionParts → Option ExtensionParts → Result (Unit {0}) ValidationError → Type 0
 ChecksOwn authority subject =
     ChecksBy (SaysOwn authority subject)
-    (SaysFound false SpellsAuthority IsWholeAuthorityFault OwnAuthority authority)
+    (SaysFound false SpellsAuthority (WholeFault authority_content) OwnAuthority authority)
 
 -- of a rule on a name: the text of the rule of names that is broken first
 abbrev pub SaysName : (NameRule → List ℕ → Type 0) → (NameRule → List ℕ) → List ℕ → ValidationError → Type 0
@@ -68,21 +84,23 @@ IsRuleError t Subject = SaysName BreaksRpkiRule rpki_text t.subject
 IsRuleError t RouterSubject = SaysName BreaksRouterRule router_text t.subject
 IsRuleError t RsaKey = SaysRule RsaKey
 IsRuleError t RouterKey = SaysRule RouterKey
-IsRuleError t BasicConstraints = SaysFound true SpellsConstraints IsWholeConstraintsFault
+IsRuleError t BasicConstraints = SaysFound true SpellsConstraints (WholeFault constraints_content)
     BasicConstraints (find basic_constraints t.extensions)
 IsRuleError t NoBasicConstraints = SaysRule NoBasicConstraints
-IsRuleError t SubjectKeyIdentifier = SaysFound false SpellsKeyIdentifier IsWholeSubjectFault SubjectKeyIdentifier (find subject_key_identifier t.extensions)
-IsRuleError t AuthorityKeyIdentifier = SaysFound false SpellsAuthority IsWholeAuthorityFault
+IsRuleError t SubjectKeyIdentifier = SaysFound false SpellsKeyIdentifier (WholeFault subject_content)
+    SubjectKeyIdentifier (find subject_key_identifier t.extensions)
+IsRuleError t AuthorityKeyIdentifier = SaysFound false SpellsAuthority (WholeFault authority_content)
     AuthorityKeyIdentifier (find authority_key_identifier t.extensions)
-IsRuleError t OwnAuthority = SaysFound false SpellsAuthority IsWholeAuthorityFault
+IsRuleError t OwnAuthority = SaysFound false SpellsAuthority (WholeFault authority_content)
     OwnAuthority (find authority_key_identifier t.extensions)
 IsRuleError t SelfIssued = SaysRule SelfIssued
-IsRuleError t AuthorityUsage = SaysFound true SpellsUsage IsWholeUsageFault AuthorityUsage
+IsRuleError t AuthorityUsage = SaysFound true SpellsUsage (WholeFault usage_content) AuthorityUsage
     (find key_usage t.extensions)
-IsRuleError t EndUsage = SaysFound true SpellsUsage IsWholeUsageFault EndUsage
+IsRuleError t EndUsage = SaysFound true SpellsUsage (WholeFault usage_content) EndUsage
     (find key_usage t.extensions)
 IsRuleError t NoExtendedKeyUsage = SaysRule NoExtendedKeyUsage
-IsRuleError t RouterPurpose = SaysFound false SpellsPurposes AnyFault RouterPurpose (find extended_key_usage t.extensions)
+IsRuleError t RouterPurpose = SaysFound false SpellsPurposes AnyFault RouterPurpose
+    (find extended_key_usage t.extensions)
 IsRuleError t RevocationList = SaysFound false SpellsPoints AnyFault RevocationList
     (find crl_distribution_points t.extensions)
 IsRuleError t NoRevocationList = SaysRule NoRevocationList
@@ -99,10 +117,10 @@ IsRuleError t ManifestPlace = SaysRule ManifestPlace
 IsRuleError t ObjectAccess = SaysRule ObjectAccess
 IsRuleError t Notifications = SaysRule Notifications
 IsRuleError t NoSubjectAccess = SaysRule NoSubjectAccess
-IsRuleError t CertificatePolicies = SaysFound true SpellsPolicies IsWholePoliciesFault
+IsRuleError t CertificatePolicies = SaysFound true SpellsPolicies (WholeFault policies_content)
     CertificatePolicies (find certificate_policies t.extensions)
 IsRuleError t Resources = SaysRule Resources
-IsRuleError t ResourceVersion = SaysFound true SpellsPolicies IsWholePoliciesFault
+IsRuleError t ResourceVersion = SaysFound true SpellsPolicies (WholeFault policies_content)
     ResourceVersion (find certificate_policies t.extensions)
 IsRuleError t ResourceBlocks = SaysRule ResourceBlocks
 IsRuleError t OwnResources = SaysRule OwnResources

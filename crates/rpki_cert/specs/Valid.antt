@@ -15,9 +15,11 @@ use Rattle.rpki.specs.PublicKey.{KeyParts}
 use Rattle.rpki.specs.KeyIdentifier.{SpellsKeyIdentifier}
 use Rattle.rpki.specs.SignedData.{SignedParts}
 use Rattle.rpki_cert.specs.Cert.{TbsParts, CertParts, find}
-use Rattle.rpki_cert.specs.Known.{subject_key_identifier, authority_key_identifier, HasExtension, are_understood, IsOtherwise}
+use Rattle.rpki_cert.specs.Known.{subject_key_identifier, authority_key_identifier, HasExtension, are_understood}
+use Rattle.rpki_cert.specs.Known.{IsOtherwise}
 use Rattle.rpki_cert.specs.RuleError.{ChecksBy}
-use Rattle.rpki_cert.specs.ExtensionContent.{SpellsAuthority, IsWholeAuthorityFault, IsWholeSubjectFault}
+use Rattle.rpki_cert.specs.ExtensionContent.{SpellsAuthority}
+use Rattle.rpki_cert.specs.ExtensionContent.{WholeFault, authority_content, subject_content}
 
 -- ---- the errors of verification
 
@@ -61,7 +63,7 @@ HasSubject identifier t =
 
 abbrev pub IsOtherSubject : TbsParts → ValidationError → Type 0
 IsOtherSubject t =
-    IsOtherwise false SpellsKeyIdentifier IsWholeSubjectFault (find subject_key_identifier t.extensions)
+    IsOtherwise false SpellsKeyIdentifier (WholeFault subject_content) (find subject_key_identifier t.extensions)
     (HasReason (codes "subject key identifier mismatch"))
 
 -- the error where one of them doesn't hold: of the first, in this order
@@ -88,7 +90,7 @@ pub record IsIssued (rsa ecdsa : Check) (sha1 : List ℕ → List ℕ) (issuer :
 -- the error of an authority key identifier that is another
 abbrev pub IsOtherAuthority : TbsParts → ValidationError → Type 0
 IsOtherAuthority t =
-    IsOtherwise false SpellsAuthority IsWholeAuthorityFault (find authority_key_identifier t.extensions)
+    IsOtherwise false SpellsAuthority (WholeFault authority_content) (find authority_key_identifier t.extensions)
     (HasReason (codes "authority key identifier mismatch"))
 
 -- a check of what IsSigned says

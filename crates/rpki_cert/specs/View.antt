@@ -1,5 +1,6 @@
 -- Certificates that are read in place: what stands where, and which part is wrong (RFC 5280 4.1).
-use Rattle.std.specs.Prelude.{◌≡◌, ◌≤◌, ◌<◌, ◌++◌, ◌-◌, ℕ, Bool, true, false, List, Option, Some, None, IsTrue, length, if◌then◌else◌, [], ◌∷◌}
+use Rattle.std.specs.Prelude.{◌≡◌, ◌≤◌, ◌<◌, ◌++◌, ◌-◌, ℕ, Bool, true, false, List, Option, Some, None, IsTrue, length}
+use Rattle.std.specs.Prelude.{if◌then◌else◌, [], ◌∷◌}
 use Rattle.rpki_der.specs.TagName.{sequence, bit_string}
 use Rattle.rpki_der.specs.Reading.{Accepts, Refuses, SpellsNothing}
 use Rattle.rpki_der.specs.Values.{SpellsContents, SpellsLeaf}
@@ -14,7 +15,10 @@ use Rattle.rpki.specs.PublicKey.{KeyParts, SpellsKey}
 use Rattle.rpki.specs.SignedData.{SignedParts, IsSignedContents}
 use Rattle.rpki.specs.ExtensionValue.{ExtensionParts, SpellsExtension}
 use Rattle.rpki_cert.specs.declared.cert_part.CertPart.{CertPart}
-use Rattle.rpki_cert.specs.declared.cert_part.CertPart.TheVariants.{Certificate, Signed, Algorithm, Signature, Tbs, Version, SerialNumber, TbsAlgorithm, Issuer, Validity, Subject, PublicKey, Extensions, ExtensionCount, ExtensionIdentifiers, SameAlgorithm}
+use Rattle.rpki_cert.specs.declared.cert_part.CertPart.TheVariants.{Certificate, Signed, Algorithm, Signature, Tbs}
+use Rattle.rpki_cert.specs.declared.cert_part.CertPart.TheVariants.{Version, SerialNumber, TbsAlgorithm, Issuer}
+use Rattle.rpki_cert.specs.declared.cert_part.CertPart.TheVariants.{Validity, Subject, PublicKey, Extensions}
+use Rattle.rpki_cert.specs.declared.cert_part.CertPart.TheVariants.{ExtensionCount, ExtensionIdentifiers, SameAlgorithm}
 use Rattle.rpki_cert.specs.declared.section.Section.{Section}
 use Rattle.rpki_cert.specs.declared.extension_table.Passed.{Passed}
 pub use Rattle.rpki_cert.specs.ExtensionTable.{behind_first}
@@ -24,7 +28,8 @@ use Rattle.rpki_cert.specs.declared.fields.Named.{Named}
 use Rattle.rpki_cert.specs.declared.fields.TbsView.{TbsView}
 use Rattle.rpki_cert.specs.declared.view.Parts.{Parts}
 use Rattle.rpki_cert.specs.declared.view.CertView.{CertView}
-use Rattle.rpki_cert.specs.Cert.{TbsParts, CertParts, extensions_tag, are_unique, SpellsExtensions, SpellsVersion, SpellsRpkiAlgorithm, AreFields, fields_of, SpellsTbs, SpellsCert}
+use Rattle.rpki_cert.specs.Cert.{TbsParts, CertParts, extensions_tag, are_unique, SpellsExtensions, SpellsVersion}
+use Rattle.rpki_cert.specs.Cert.{SpellsRpkiAlgorithm, AreFields, fields_of, SpellsTbs, SpellsCert}
 
 -- ---- where octets stand
 
@@ -195,7 +200,8 @@ pub data IsCertWrong (s : List ℕ) (q : CertPart) : Type 0 where
       → (h : IsSignedContents SpellsRpkiAlgorithm x c) → h.signature.unused ≡ 0 → IsTbsWrong x.signed q
       → IsCertWrong s q
   Differ : (c : List ℕ) (x : SignedParts Bool) (t : TbsParts) → SpellsContents sequence true c s
-      → (h : IsSignedContents SpellsRpkiAlgorithm x c) → h.signature.unused ≡ 0 → SpellsTbs t x.signed → (t.algorithm ≡ x.algorithm → ⊥)
+      → (h : IsSignedContents SpellsRpkiAlgorithm x c) → h.signature.unused ≡ 0 → SpellsTbs t x.signed
+      → (t.algorithm ≡ x.algorithm → ⊥)
       → q ≡ SameAlgorithm → IsCertWrong s q
 
 -- ---- a certificate, of whose signed part the header alone was read

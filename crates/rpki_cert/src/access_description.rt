@@ -1,7 +1,8 @@
 //! Where something is, as an extension says (RFC 5280 4.2.1.13, 4.2.2), read in place without memory.
 
 ghost use Rattle.rpki_der.specs.Prelude.{left, Takes, TakesAll, TakesWholeInPlace};
-ghost use Rattle.rpki_cert.specs.AccessDescription.{description_of, description_parts, description, names, full_name, point, points};
+ghost use Rattle.rpki_cert.specs.AccessDescription.{description_of, description_parts, description, names, full_name};
+ghost use Rattle.rpki_cert.specs.AccessDescription.{point, points};
 
 use crate::general_name::take_name;
 use rpki::der::{Class, Constructed, DecodeError, Oid, Tag};

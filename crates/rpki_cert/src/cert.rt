@@ -77,8 +77,9 @@ impl Cert {
     /// An allocator copies the signed value and the signature, and [Shared](rpki::der::Shared) shares them; requires
     /// that `keep` can keep parts of what is left. The parts of the signed value share its octets.
     ///
-    /// The errors are those of signed data; then `Content` with the text `signature has unused bits`; then those of [TbsCert::take_from] for what is signed; then `Content` with
-    /// the text `signature algorithms differ`; and `OutOfMemory` if allocation fails, where the parts say so.
+    /// The errors are those of signed data; then `Content` with the text `signature has unused bits`; then those of
+    /// [TbsCert::take_from] for what is signed; then `Content` with the text `signature algorithms differ`; and
+    /// `OutOfMemory` if allocation fails, where the parts say so.
     pub fn take_from<K: Keep>(keep: K, cons: &mut Constructed<'_>) -> Result<Cert, DecodeError>
         requires { K.holds keep (left cons.old) }
         ensures { Reads (λ x. x) SpellsCert IsCertFault (left cons.old) (left cons.new) result }

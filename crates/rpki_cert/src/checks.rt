@@ -11,14 +11,19 @@ ghost use Rattle.rpki.specs.ExtensionValue.{ExtensionParts};
 ghost use Rattle.rpki_cert.specs.Cert.{TbsParts, find};
 ghost use Rattle.rpki_cert.specs.ExtensionTable.{identifier_of};
 ghost use Rattle.rpki_cert.specs.Known.{Says};
-ghost use Rattle.rpki_cert.specs.ExtensionContent.{SpellsConstraints, IsWholeConstraintsFault, IsWholeSubjectFault, SpellsAuthority, IsWholeAuthorityFault, SpellsUsage, IsWholeUsageFault, SpellsPurposes, SpellsPolicies, IsWholePoliciesFault};
+ghost use Rattle.rpki_cert.specs.ExtensionContent.{SpellsConstraints, SpellsAuthority, SpellsUsage, SpellsPurposes};
+ghost use Rattle.rpki_cert.specs.ExtensionContent.{SpellsPolicies};
 ghost use Rattle.rpki_cert.specs.Access.{SpellsPoints, SpellsHeldAccess};
 ghost use Rattle.rpki_cert.specs.AccessInformation.{SpellsUriOf, IsTold};
 ghost use Rattle.rpki_cert.specs.Keys.{IsRpkiKey, IsRouterKey};
-ghost use Rattle.rpki_cert.specs.Profile.{SaysSome, IsBelow, SaysManifestBelow, IsOrdered, has_addresses, has_numbers, is_critical, has_resources, is_of_version};
+ghost use Rattle.rpki_cert.specs.Profile.{SaysSome, IsBelow, SaysManifestBelow, IsOrdered, has_addresses, has_numbers};
+ghost use Rattle.rpki_cert.specs.Profile.{is_critical, has_resources, is_of_version};
 ghost use Rattle.rpki_cert.specs.Inspected.{AreIn, IsReadOf};
 ghost use Rattle.rpki_cert.specs.Rule.{Obeys};
-ghost use Rattle.rpki_cert.specs.RuleError.{ChecksBy, SaysRule, SaysName, ChecksSome, ChecksValue, ChecksUri, ChecksVersion, ChecksOwn, IsRuleError};
+ghost use Rattle.rpki_cert.specs.RuleError.{ChecksBy, SaysRule, SaysName, ChecksSome, ChecksValue, ChecksUri};
+ghost use Rattle.rpki_cert.specs.RuleError.{ChecksVersion, ChecksOwn, IsRuleError};
+ghost use Rattle.rpki_cert.specs.ExtensionContent.{WholeFault, authority_content, constraints_content};
+ghost use Rattle.rpki_cert.specs.ExtensionContent.{policies_content, subject_content, usage_content};
 
 use crate::access_information::AccessInformation;
 use crate::access_method::AccessMethod;
@@ -296,8 +301,8 @@ fn inspect_router_name(name: &NameView<'_>, strict: bool) -> Result<(), Validati
 
 /// Whether a subject key identifier was found.
 fn inspect_identifier(found: Option<ExtensionView<'_>>) -> Result<(), ValidationError>
-    ensures { ChecksSome false SpellsKeyIdentifier IsWholeSubjectFault CertRule.SubjectKeyIdentifier found.entry
-        result }
+    ensures { ChecksSome false SpellsKeyIdentifier (WholeFault subject_content)
+        CertRule.SubjectKeyIdentifier found.entry result }
 {
     match subject_in(found) {
         Ok(Some(_)) => Ok(()),
@@ -308,8 +313,8 @@ fn inspect_identifier(found: Option<ExtensionView<'_>>) -> Result<(), Validation
 
 /// Whether an authority key identifier was found.
 fn inspect_authority(found: Option<ExtensionView<'_>>) -> Result<(), ValidationError>
-    ensures { ChecksSome false SpellsAuthority IsWholeAuthorityFault CertRule.AuthorityKeyIdentifier found.entry
-        result }
+    ensures { ChecksSome false SpellsAuthority (WholeFault authority_content)
+        CertRule.AuthorityKeyIdentifier found.entry result }
 {
     match authority_in(found) {
         Ok(Some(_)) => Ok(()),
@@ -349,7 +354,8 @@ fn inspect_own_authority(
 
 /// Whether a policy was found.
 fn inspect_policy(found: Option<ExtensionView<'_>>) -> Result<(), ValidationError>
-    ensures { ChecksSome true SpellsPolicies IsWholePoliciesFault CertRule.CertificatePolicies found.entry result }
+    ensures { ChecksSome true SpellsPolicies (WholeFault policies_content)
+        CertRule.CertificatePolicies found.entry result }
 {
     match overclaim_in(found) {
         Ok(Some(_)) => Ok(()),
@@ -360,8 +366,8 @@ fn inspect_policy(found: Option<ExtensionView<'_>>) -> Result<(), ValidationErro
 
 /// Whether basic constraints were found.
 fn inspect_constraints(found: Option<ExtensionView<'_>>) -> Result<(), ValidationError>
-    ensures { ChecksValue true SpellsConstraints IsWholeConstraintsFault CertRule.BasicConstraints found.entry tt
-        result }
+    ensures { ChecksValue true SpellsConstraints (WholeFault constraints_content)
+        CertRule.BasicConstraints found.entry tt result }
 {
     match constraints_in(found) {
         Ok(true) => Ok(()),
@@ -376,7 +382,7 @@ fn inspect_usage(
     wanted: KeyUsage,
     rule: CertRule,
 ) -> Result<(), ValidationError>
-    ensures { ChecksValue true SpellsUsage IsWholeUsageFault rule found.entry wanted result }
+    ensures { ChecksValue true SpellsUsage (WholeFault usage_content) rule found.entry wanted result }
 {
     match usage_in(found) {
         Ok(usage) => {

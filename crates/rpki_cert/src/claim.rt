@@ -9,7 +9,9 @@ ghost use Rattle.rpki_cert.specs.Known.{certificate_policies};
 ghost use Rattle.rpki_cert.specs.ExtensionContent.{SpellsPolicies};
 ghost use Rattle.rpki_cert.specs.Profile.{HasSome};
 ghost use Rattle.rpki_cert.specs.ResourceExtensions.{AreWellFormed, AreOwn};
-ghost use Rattle.rpki_cert.specs.ResourceSet.{AreAddressesOf, AreNumbersOf, IsOnlyClaim, IsSettledBy, AreSettledBy, AreAnchored, IsUnsettled, IsKindUnsettled, IsUnanchored, IsOut, SettlesUnder, SettlesOwn};
+ghost use Rattle.rpki_cert.specs.ResourceSet.{AreAddressesOf, AreNumbersOf, IsOnlyClaim, IsSettledBy, AreSettledBy};
+ghost use Rattle.rpki_cert.specs.ResourceSet.{AreAnchored, IsUnsettled, IsKindUnsettled, IsUnanchored, IsOut};
+ghost use Rattle.rpki_cert.specs.ResourceSet.{SettlesUnder, SettlesOwn};
 
 use crate::policy::Overclaim;
 use crate::resource_set::ResourceSet;

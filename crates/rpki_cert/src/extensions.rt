@@ -8,7 +8,9 @@ ghost use Rattle.rpki_der.specs.FirstFault.{ReadsParts};
 ghost use Rattle.rpki_der.specs.Each.{SpellsEach};
 ghost use Rattle.rpki.specs.ExtensionValue.{SpellsExtension};
 ghost use Rattle.rpki_cert.specs.Cert.{find, are_unique, AreExtensions, SpellsExtensionList, SpellsExtensions};
-ghost use Rattle.rpki_cert.specs.CertFault.{IsEachExtensionFault, AreExtensionsFault, IsExtensionListFault, IsExtensionsFault};
+ghost use Rattle.rpki_der.specs.Each.{IsEachFault};
+ghost use Rattle.rpki.specs.ExtensionFault.{IsKeptExtensionFault};
+ghost use Rattle.rpki_cert.specs.Cert.{AreExtensionsFault, extension_list, extensions};
 
 use rpki::der::{Class, Constructed, DecodeError, Keep, Oid, Tag};
 use rpki::repository::x509::CertExtension;
@@ -53,8 +55,8 @@ fn take_each<K: Keep>(
     contents: &mut Constructed<'_>,
 ) -> Result<Vec<CertExtension>, DecodeError>
     requires { K.holds keep (left contents.old) }
-    ensures reads { ReadsParts (λ v. v.items) (SpellsEach SpellsExtension) IsEachExtensionFault (left contents.old)
-        (left contents.new) result }
+    ensures reads { ReadsParts (λ v. v.items) (SpellsEach SpellsExtension) (IsEachFault SpellsExtension
+        IsKeptExtensionFault) (left contents.old) (left contents.new) result }
     ensures end { IfOk result (λ _. left contents.new ≡ []) }
 {
     contents.take_each_with(
@@ -91,7 +93,7 @@ fn take_list<K: Keep>(
     cons: &mut Constructed<'_>,
 ) -> Result<Vec<CertExtension>, DecodeError>
     requires { K.holds keep (left cons.old) }
-    ensures { Reads (λ v. v.items) SpellsExtensionList IsExtensionListFault (left cons.old) (left cons.new) result }
+    ensures { Reads (λ v. v.items) SpellsExtensionList extension_list.fault (left cons.old) (left cons.new) result }
 {
     cons.in_sequence_with(
         keep,
@@ -114,7 +116,7 @@ pub fn take_extensions<K: Keep>(
     cons: &mut Constructed<'_>,
 ) -> Result<Vec<CertExtension>, DecodeError>
     requires { K.holds keep (left cons.old) }
-    ensures { Reads (λ v. v.items) SpellsExtensions IsExtensionsFault (left cons.old) (left cons.new) result }
+    ensures { Reads (λ v. v.items) SpellsExtensions extensions.fault (left cons.old) (left cons.new) result }
 {
     cons.in_constructed_with(
         Tag::new(Class::Context, 3),

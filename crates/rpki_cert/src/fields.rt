@@ -3,7 +3,8 @@
 ghost use Rattle.std.specs.Prelude.{◌≡◌, IfOk, IfErr};
 ghost use Rattle.rpki_der.specs.Cursor.{left};
 ghost use Rattle.rpki_cert.specs.Cert.{TbsParts, AreFields, fields_of, SpellsTbs};
-ghost use Rattle.rpki_cert.specs.View.{TakesName, IsKeyedAt, IsNamedIn, IsTbsIn, AreNamed, AreKeyedWrong, AreNamedWrong, AreFieldsWrong, IsTbsWrong};
+ghost use Rattle.rpki_cert.specs.View.{TakesName, IsKeyedAt, IsNamedIn, IsTbsIn, AreNamed, AreKeyedWrong};
+ghost use Rattle.rpki_cert.specs.View.{AreNamedWrong, AreFieldsWrong, IsTbsWrong};
 
 use crate::cert_part::CertPart;
 use crate::extension_table::ExtensionTable;

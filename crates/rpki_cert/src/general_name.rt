@@ -6,7 +6,8 @@ ghost use Rattle.rpki_der.specs.Cursor.{left};
 ghost use Rattle.rpki_der.specs.Reading.{Reads};
 ghost use Rattle.rpki_der.specs.ContentView.{is_constructed, octets_of};
 ghost use Rattle.rpki.specs.Name.{IsName};
-ghost use Rattle.rpki_cert.specs.GeneralName.{SpellsText, IsTextFault, IsPlainName, IsBuiltName, IsOtherName, SpellsName, IsNameFault};
+ghost use Rattle.rpki_cert.specs.GeneralName.{SpellsText, IsTextFault, IsPlainName, IsBuiltName, IsOtherName};
+ghost use Rattle.rpki_cert.specs.GeneralName.{SpellsName, IsNameFault};
 
 use crate::names;
 use crate::nested::are_values;
@@ -79,8 +80,8 @@ pub fn take_text<'a>(cons: &mut Constructed<'a>) -> Result<&'a [u8], DecodeError
 
 /// The text of a general name, if that is a URI; `None` for a name of another form.
 ///
-/// The errors are those of [take_text] under the tag 6; else those of a header, `Truncated`, and `Content` with the text
-/// `malformed general name`.
+/// The errors are those of [take_text] under the tag 6; else those of a header, `Truncated`, and `Content` with the
+/// text `malformed general name`.
 pub fn take_name<'a>(cons: &mut Constructed<'a>) -> Result<Option<&'a [u8]>, DecodeError>
     ensures { Reads option_copied SpellsName IsNameFault (left cons.old) (left cons.new) result }
 {

@@ -79,8 +79,8 @@ fn is_point(octets: &[u8]) -> bool
 }
 
 impl KeyBits<'_> {
-    /// Whether certificates of the RPKI may have the key: an RSA key with a modulus of 2,048 bits and the exponent 65537
-    /// (RFC 7935 3).
+    /// Whether certificates of the RPKI may have the key: an RSA key with a modulus of 2,048 bits and the exponent
+    /// 65537 (RFC 7935 3).
     pub fn is_rpki_key(&self) -> bool
         ensures { IsTrue result ↔ IsRpkiKey (key_of self.now.format (bits_of self.now.unused self.now.octets.now)) }
     {

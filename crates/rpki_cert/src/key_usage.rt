@@ -3,7 +3,8 @@
 ghost use Rattle.std.specs.Prelude.{IfSome, IfNone};
 ghost use Rattle.rpki_der.specs.Cursor.{left};
 ghost use Rattle.rpki_der.specs.Reading.{Reads};
-ghost use Rattle.rpki_cert.specs.ExtensionContent.{IsUsage, SpellsUsage, IsUsageFault};
+ghost use Rattle.rpki_cert.specs.ExtensionContent.{IsUsage, SpellsUsage};
+ghost use Rattle.rpki_cert.specs.ExtensionContent.{usage_content};
 
 use rpki::der::{Constructed, DecodeError, Tag};
 
@@ -34,7 +35,7 @@ impl KeyUsage {
     /// The errors are those of a header; then `Unexpected` for another tag or form; then `Truncated`; then `Content`
     /// for other bits.
     pub fn take_from(cons: &mut Constructed<'_>) -> Result<KeyUsage, DecodeError>
-        ensures { Reads (λ u. u) SpellsUsage IsUsageFault (left cons.old) (left cons.new) result }
+        ensures { Reads (λ u. u) SpellsUsage usage_content.fault (left cons.old) (left cons.new) result }
     {
         let mut after = *cons;
         let contents = after.take_primitive_if(Tag::BIT_STRING)?;

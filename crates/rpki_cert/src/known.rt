@@ -8,10 +8,15 @@ ghost use Rattle.rpki_der.specs.Reading.{AnyFault, Decodes};
 ghost use Rattle.rpki_der.specs.ErrorText.{text_of};
 ghost use Rattle.rpki.specs.ErrorContent.{content_of};
 ghost use Rattle.rpki.specs.ExtensionValue.{ExtensionParts};
-ghost use Rattle.rpki_cert.specs.Known.{subject_key_identifier, key_usage, basic_constraints, authority_key_identifier, extended_key_usage, certificate_policies, critical_text, IsOtherCritical, IsSaid, IsSaidThere, FindsOnly, FindsThere};
+ghost use Rattle.rpki_cert.specs.Known.{subject_key_identifier, key_usage, basic_constraints, authority_key_identifier};
+ghost use Rattle.rpki_cert.specs.Known.{extended_key_usage, certificate_policies, critical_text, IsOtherCritical};
+ghost use Rattle.rpki_cert.specs.Known.{IsSaid, IsSaidThere, FindsOnly, FindsThere};
 ghost use Rattle.rpki_cert.specs.Access.{SpellsPoints, IsSaidUri};
 ghost use Rattle.rpki_cert.specs.AccessInformation.{SpellsUriOf, IsTold};
-ghost use Rattle.rpki_cert.specs.ExtensionContent.{SpellsConstraints, IsWholeConstraintsFault, IsWholeSubjectFault, SpellsAuthority, IsWholeAuthorityFault, SpellsUsage, IsWholeUsageFault, SpellsPurposes, SpellsPolicies, IsWholePoliciesFault};
+ghost use Rattle.rpki_cert.specs.ExtensionContent.{SpellsConstraints, SpellsAuthority, SpellsUsage, SpellsPurposes};
+ghost use Rattle.rpki_cert.specs.ExtensionContent.{SpellsPolicies};
+ghost use Rattle.rpki_cert.specs.ExtensionContent.{WholeFault, authority_content, constraints_content};
+ghost use Rattle.rpki_cert.specs.ExtensionContent.{policies_content, subject_content, usage_content};
 
 use crate::access_information::AccessInformation;
 use crate::access_method::AccessMethod;
@@ -57,21 +62,21 @@ pub fn wanted<'a>(
 
 /// The key identifier that the octets are.
 fn identifier_of(octets: Constructed<'_>) -> Result<KeyIdentifier, DecodeError>
-    ensures { Decodes (λ k. k) SpellsKeyIdentifier IsWholeSubjectFault (left octets.entry) result }
+    ensures { Decodes (λ k. k) SpellsKeyIdentifier (WholeFault subject_content) (left octets.entry) result }
 {
     octets.whole(|cons| KeyIdentifier::take_from(cons))
 }
 
 /// The key identifier of an issuer that the octets are.
 fn authority_of(octets: Constructed<'_>) -> Result<KeyIdentifier, DecodeError>
-    ensures { Decodes (λ k. k) SpellsAuthority IsWholeAuthorityFault (left octets.entry) result }
+    ensures { Decodes (λ k. k) SpellsAuthority (WholeFault authority_content) (left octets.entry) result }
 {
     octets.whole(|cons| take_authority(cons))
 }
 
 /// Whether the octets are the basic constraints of a certification authority.
 fn constraints_of(octets: Constructed<'_>) -> Result<(), DecodeError>
-    ensures { Decodes (λ _. tt) SpellsConstraints IsWholeConstraintsFault
+    ensures { Decodes (λ _. tt) SpellsConstraints (WholeFault constraints_content)
         (left octets.entry) result }
 {
     octets.whole(|cons| skip_constraints(cons))
@@ -79,14 +84,14 @@ fn constraints_of(octets: Constructed<'_>) -> Result<(), DecodeError>
 
 /// The use that the octets name.
 fn usage_of(octets: Constructed<'_>) -> Result<KeyUsage, DecodeError>
-    ensures { Decodes (λ u. u) SpellsUsage IsWholeUsageFault (left octets.entry) result }
+    ensures { Decodes (λ u. u) SpellsUsage (WholeFault usage_content) (left octets.entry) result }
 {
     octets.whole(|cons| KeyUsage::take_from(cons))
 }
 
 /// The policy that the octets name.
 fn overclaim_of(octets: Constructed<'_>) -> Result<Overclaim, DecodeError>
-    ensures { Decodes (λ p. p) SpellsPolicies IsWholePoliciesFault (left octets.entry)
+    ensures { Decodes (λ p. p) SpellsPolicies (WholeFault policies_content) (left octets.entry)
         result }
 {
     octets.whole(|cons| Overclaim::take_from(cons))
@@ -96,7 +101,7 @@ fn overclaim_of(octets: Constructed<'_>) -> Result<Overclaim, DecodeError>
 pub fn subject_in(
     found: Option<ExtensionView<'_>>,
 ) -> Result<Option<KeyIdentifier>, ValidationError>
-    ensures { IsSaid false SpellsKeyIdentifier IsWholeSubjectFault found.entry result }
+    ensures { IsSaid false SpellsKeyIdentifier (WholeFault subject_content) found.entry result }
 {
     match wanted(found, false) {
         Ok(Some(extension)) => match identifier_of(Constructed::from_slice(extension.octets())) {
@@ -112,7 +117,7 @@ pub fn subject_in(
 pub fn authority_in(
     found: Option<ExtensionView<'_>>,
 ) -> Result<Option<KeyIdentifier>, ValidationError>
-    ensures { IsSaid false SpellsAuthority IsWholeAuthorityFault found.entry result }
+    ensures { IsSaid false SpellsAuthority (WholeFault authority_content) found.entry result }
 {
     match wanted(found, false) {
         Ok(Some(extension)) => match authority_of(Constructed::from_slice(extension.octets())) {
@@ -126,7 +131,7 @@ pub fn authority_in(
 
 /// Whether basic constraints were found (RFC 6487 4.8.1).
 pub fn constraints_in(found: Option<ExtensionView<'_>>) -> Result<bool, ValidationError>
-    ensures { IsSaidThere true SpellsConstraints IsWholeConstraintsFault found.entry result }
+    ensures { IsSaidThere true SpellsConstraints (WholeFault constraints_content) found.entry result }
 {
     match wanted(found, true) {
         Ok(Some(extension)) => match constraints_of(Constructed::from_slice(extension.octets())) {
@@ -140,7 +145,7 @@ pub fn constraints_in(found: Option<ExtensionView<'_>>) -> Result<bool, Validati
 
 /// The use of the key, as the extension that was found says it (RFC 6487 4.8.4).
 pub fn usage_in(found: Option<ExtensionView<'_>>) -> Result<Option<KeyUsage>, ValidationError>
-    ensures { IsSaid true SpellsUsage IsWholeUsageFault found.entry result }
+    ensures { IsSaid true SpellsUsage (WholeFault usage_content) found.entry result }
 {
     match wanted(found, true) {
         Ok(Some(extension)) => match usage_of(Constructed::from_slice(extension.octets())) {
@@ -154,7 +159,7 @@ pub fn usage_in(found: Option<ExtensionView<'_>>) -> Result<Option<KeyUsage>, Va
 
 /// The policy, as the extension that was found says it (RFC 6487 4.8.9).
 pub fn overclaim_in(found: Option<ExtensionView<'_>>) -> Result<Option<Overclaim>, ValidationError>
-    ensures { IsSaid true SpellsPolicies IsWholePoliciesFault found.entry result }
+    ensures { IsSaid true SpellsPolicies (WholeFault policies_content) found.entry result }
 {
     match wanted(found, true) {
         Ok(Some(extension)) => match overclaim_of(Constructed::from_slice(extension.octets())) {
@@ -233,7 +238,8 @@ impl TbsCert {
     ///
     /// Returns `Inspection` if the extension is critical; `Decoding` if its octets are another value.
     pub fn subject_key_identifier(&self) -> Result<Option<KeyIdentifier>, ValidationError>
-        ensures { FindsOnly subject_key_identifier false SpellsKeyIdentifier IsWholeSubjectFault self.now.extensions result }
+        ensures { FindsOnly subject_key_identifier false SpellsKeyIdentifier (WholeFault subject_content)
+            self.now.extensions result }
     {
         subject_in(find_kept(self.extensions(), oid::CE_SUBJECT_KEY_IDENTIFIER))
     }
@@ -243,7 +249,8 @@ impl TbsCert {
     ///
     /// Returns `Inspection` if the extension is critical; `Decoding` if its octets are another value.
     pub fn authority_key_identifier(&self) -> Result<Option<KeyIdentifier>, ValidationError>
-        ensures { FindsOnly authority_key_identifier false SpellsAuthority IsWholeAuthorityFault self.now.extensions result }
+        ensures { FindsOnly authority_key_identifier false SpellsAuthority (WholeFault authority_content)
+            self.now.extensions result }
     {
         authority_in(find_kept(self.extensions(), oid::CE_AUTHORITY_KEY_IDENTIFIER))
     }
@@ -253,7 +260,8 @@ impl TbsCert {
     ///
     /// Returns `Inspection` if the extension is not critical; `Decoding` if its octets are another value.
     pub fn basic_ca(&self) -> Result<bool, ValidationError>
-        ensures { FindsThere basic_constraints true SpellsConstraints IsWholeConstraintsFault self.now.extensions result }
+        ensures { FindsThere basic_constraints true SpellsConstraints (WholeFault constraints_content)
+            self.now.extensions result }
     {
         constraints_in(find_kept(self.extensions(), oid::CE_BASIC_CONSTRAINTS))
     }
@@ -263,7 +271,7 @@ impl TbsCert {
     ///
     /// Returns `Inspection` if the extension is not critical; `Decoding` if its octets are another value.
     pub fn key_usage(&self) -> Result<Option<KeyUsage>, ValidationError>
-        ensures { FindsOnly key_usage true SpellsUsage IsWholeUsageFault self.now.extensions result }
+        ensures { FindsOnly key_usage true SpellsUsage (WholeFault usage_content) self.now.extensions result }
     {
         usage_in(find_kept(self.extensions(), oid::CE_KEY_USAGE))
     }
@@ -283,7 +291,8 @@ impl TbsCert {
     ///
     /// Returns `Inspection` if the extension is not critical; `Decoding` if its octets are another value.
     pub fn overclaim(&self) -> Result<Option<Overclaim>, ValidationError>
-        ensures { FindsOnly certificate_policies true SpellsPolicies IsWholePoliciesFault self.now.extensions result }
+        ensures { FindsOnly certificate_policies true SpellsPolicies (WholeFault policies_content)
+            self.now.extensions result }
     {
         overclaim_in(find_kept(self.extensions(), oid::CE_CERTIFICATE_POLICIES))
     }

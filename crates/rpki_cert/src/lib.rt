@@ -1,8 +1,8 @@
 //! Resource certificates (RFC 5280 4.1, in the profiles of RFC 6487 and RFC 8209).
 //!
 //! `Cert::decode` reads one, and `tbs()` of it says what the extensions are. `inspect_ca` and its kin hold it to a
-//! profile; `verify_ta` and `verify_ca` make a [ResourceCert], which has the resources that its path gives it, and which
-//! issues what is verified.
+//! profile; `verify_ta` and `verify_ca` make a [ResourceCert], which has the resources that its path gives it, and
+//! which issues what is verified.
 #![tactic(auto)]
 
 mod access_description;

@@ -77,8 +77,8 @@ fn list_of<'a>(fields: Constructed<'a>) -> Option<Constructed<'a>>
     }
 }
 
-/// The extensions that all of this is, each identifier once (RFC 5280 4.2). The part that is wrong is the list or one of
-/// the extensions; else their count; else that each identifier stands once.
+/// The extensions that all of this is, each identifier once (RFC 5280 4.2). The part that is wrong is the list or one
+/// of the extensions; else their count; else that each identifier stands once.
 pub fn read_extensions<'a>(fields: Constructed<'a>) -> Result<ExtensionTable<'a>, CertPart>
     ensures ok { IfOk result (λ t. AreExtensionsAt (left fields.entry) t) }
     ensures err { IfErr result (λ q. AreExtensionsWrong (left fields.entry) q) }

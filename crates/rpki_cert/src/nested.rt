@@ -25,8 +25,8 @@ fn are_headed(contents: Constructed<'_>) -> bool
     true
 }
 
-/// What follows the header at the front where the value is constructed, and has contents that are values by their headers
-/// alone; what follows the value where it is primitive. None where the octets are not values.
+/// What follows the header at the front where the value is constructed, and has contents that are values by their
+/// headers alone; what follows the value where it is primitive. None where the octets are not values.
 fn past_header(octets: &[u8]) -> Option<&[u8]>
     requires { octets.now ≢ [] }
     ensures some { IfSome result (λ r. IsPastHeader octets.now r.now) }

@@ -4,9 +4,14 @@ ghost use Rattle.std.specs.Prelude.{false, IfSome, IfNone};
 ghost use Rattle.rpki_der.specs.Cursor.{left};
 ghost use Rattle.rpki_der.specs.Reading.{Reads};
 ghost use Rattle.rpki_der.specs.FirstFault.{ReadsParts};
+ghost use Rattle.rpki_der.specs.Format.{TakesAll};
 ghost use Rattle.rpki_der.specs.TagName.{ia5_string};
 ghost use Rattle.rpki_der.specs.Values.{IsLeafFault};
-ghost use Rattle.rpki_cert.specs.ExtensionContent.{IsPolicyName, SpellsPolicyName, IsPolicyNameFault, IsAnyIa5, SpellsStatement, AreQualifierParts, AreQualifierPartsFault, SpellsQualifier, IsQualifierFault, SpellsQualifiers, IsQualifiersFault, AreQualifiers, AreQualifiersFault, ArePolicyParts, ArePolicyPartsFault, SpellsPolicy, IsPolicyFault, SpellsPolicies, IsPoliciesFault};
+ghost use Rattle.rpki_cert.specs.ExtensionContent.{IsPolicyName, SpellsPolicyName, IsAnyIa5, SpellsStatement};
+ghost use Rattle.rpki_cert.specs.ExtensionContent.{AreQualifierParts, SpellsQualifier, SpellsQualifiers};
+ghost use Rattle.rpki_cert.specs.ExtensionContent.{ArePolicyParts, SpellsPolicy, SpellsPolicies};
+ghost use Rattle.rpki_cert.specs.ExtensionContent.{optional_qualifiers, policies_content, policy_value, policy_name};
+ghost use Rattle.rpki_cert.specs.ExtensionContent.{policy_parts, qualifier_value, qualifier_parts, qualifiers_value};
 
 use crate::part::skip_primitive;
 use rpki::der::{Constructed, DecodeError, Tag};
@@ -51,11 +56,11 @@ fn skip_statement(cons: &mut Constructed<'_>) -> Result<(), DecodeError>
 
 /// Moves past a qualifier: a pointer to a statement of practices (RFC 7318 2).
 fn skip_qualifier(cons: &mut Constructed<'_>) -> Result<(), DecodeError>
-    ensures { Reads (λ _. (tt, tt)) SpellsQualifier IsQualifierFault (left cons.old) (left cons.new) result }
+    ensures { Reads (λ _. (tt, tt)) SpellsQualifier qualifier_value.fault (left cons.old) (left cons.new) result }
 {
     cons.in_sequence(
         |contents|
-            ensures { ReadsParts (λ _. (tt, tt)) AreQualifierParts AreQualifierPartsFault (left contents.old)
+            ensures { ReadsParts (λ _. (tt, tt)) AreQualifierParts qualifier_parts.fault (left contents.old)
                 (left contents.new) result }
         {
             skip_primitive(contents, Tag::OID, STATEMENT_NAME)?;
@@ -67,14 +72,14 @@ fn skip_qualifier(cons: &mut Constructed<'_>) -> Result<(), DecodeError>
 
 /// Moves past a SEQUENCE of exactly one qualifier.
 fn skip_one_qualifier(cons: &mut Constructed<'_>) -> Result<(), DecodeError>
-    ensures { Reads (λ _. (tt, tt)) SpellsQualifiers IsQualifiersFault (left cons.old) (left cons.new) result }
+    ensures { Reads (λ _. (tt, tt)) SpellsQualifiers qualifiers_value.fault (left cons.old) (left cons.new) result }
 {
     cons.in_sequence(|contents| skip_qualifier(contents))
 }
 
 /// Moves past the qualifiers, which may be left out.
 fn skip_qualifiers(contents: &mut Constructed<'_>) -> Result<(), DecodeError>
-    ensures { ReadsParts (λ _. tt) AreQualifiers AreQualifiersFault (left contents.old) (left contents.new) result }
+    ensures { TakesAll (λ _. tt) optional_qualifiers (left contents.old) (left contents.new) result }
 {
     if contents.is_empty() {
         return Ok(());
@@ -85,7 +90,7 @@ fn skip_qualifiers(contents: &mut Constructed<'_>) -> Result<(), DecodeError>
 impl Overclaim {
     /// The object identifier of a policy.
     fn take_name(cons: &mut Constructed<'_>) -> Result<Overclaim, DecodeError>
-        ensures { Reads (λ p. p) SpellsPolicyName IsPolicyNameFault (left cons.old) (left cons.new) result }
+        ensures { Reads (λ p. p) SpellsPolicyName policy_name.fault (left cons.old) (left cons.new) result }
     {
         let mut after = *cons;
         let contents = after.take_primitive_if(Tag::OID)?;
@@ -100,11 +105,11 @@ impl Overclaim {
 
     /// A policy, perhaps with one qualifier.
     fn take_policy(cons: &mut Constructed<'_>) -> Result<Overclaim, DecodeError>
-        ensures { Reads (λ p. (p, tt)) SpellsPolicy IsPolicyFault (left cons.old) (left cons.new) result }
+        ensures { Reads (λ p. (p, tt)) SpellsPolicy policy_value.fault (left cons.old) (left cons.new) result }
     {
         cons.in_sequence(
             |contents|
-                ensures { ReadsParts (λ p. (p, tt)) ArePolicyParts ArePolicyPartsFault (left contents.old)
+                ensures { ReadsParts (λ p. (p, tt)) ArePolicyParts policy_parts.fault (left contents.old)
                     (left contents.new) result }
             {
                 let overclaim = Overclaim::take_name(contents)?;
@@ -120,7 +125,7 @@ impl Overclaim {
     /// The errors are those of the values from the left, `Content` for another policy or qualifier, and `Trailing` for
     /// what follows.
     pub fn take_from(cons: &mut Constructed<'_>) -> Result<Overclaim, DecodeError>
-        ensures { Reads (λ p. p) SpellsPolicies IsPoliciesFault (left cons.old) (left cons.new) result }
+        ensures { Reads (λ p. p) SpellsPolicies policies_content.fault (left cons.old) (left cons.new) result }
     {
         cons.in_sequence(|contents| Overclaim::take_policy(contents))
     }

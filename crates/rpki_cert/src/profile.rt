@@ -5,7 +5,8 @@ ghost use Rattle.rpki_cert.specs.Cert.{TbsParts, CertParts};
 ghost use Rattle.rpki_cert.specs.View.{IsCertAt};
 ghost use Rattle.rpki_cert.specs.Inspected.{IsReadOf};
 ghost use Rattle.rpki_cert.specs.Profile.{IsTaProfile, IsCaProfile, IsEeProfile, IsDetachedProfile, IsRouterProfile};
-ghost use Rattle.rpki_cert.specs.Rule.{Obeys, IsFirstBroken, TestsRules, ta_rules, ca_rules, ee_rules, detached_rules, router_rules};
+ghost use Rattle.rpki_cert.specs.Rule.{Obeys, IsFirstBroken, TestsRules, ta_rules, ca_rules, ee_rules, detached_rules};
+ghost use Rattle.rpki_cert.specs.Rule.{router_rules};
 ghost use Rattle.rpki_cert.specs.RuleError.{InspectsRules, BreaksWith};
 
 use crate::inspected::Inspected;
@@ -70,8 +71,8 @@ impl TbsCert {
     /// at if `strict`.
     ///
     /// The error is that of the first rule that is broken, in the order of [TbsCert::test_ta]: `Inspection` with the
-    /// rule's text; or, for an extension that the rule wants, `Inspection` with the text `extension is not as critical as
-    /// it has to be`, or `Decoding` if its octets are malformed. Allocates nothing.
+    /// rule's text; or, for an extension that the rule wants, `Inspection` with the text `extension is not as critical
+    /// as it has to be`, or `Decoding` if its octets are malformed. Allocates nothing.
     pub fn inspect_ta(&self, strict: bool) -> Result<(), ValidationError>
         ensures { InspectsRules (IsTaProfile strict self.now) strict self.now ta_rules result }
     {
@@ -82,8 +83,8 @@ impl TbsCert {
     /// that it breaks first, in the order: serial number, critical extensions, issuer, period, subject key identifier,
     /// policies, resources, their version, their form, subject, key, extended key usage, basic constraints, key usage,
     /// revocation list, certificate of the issuer, repository, manifest, its place, notifications, issuer that is the
-    /// subject, authority key identifier, resources of the issuer. An extension that a rule wants and that is malformed,
-    /// or not as critical as it has to be, breaks the rule. Allocates nothing.
+    /// subject, authority key identifier, resources of the issuer. An extension that a rule wants and that is
+    /// malformed, or not as critical as it has to be, breaks the rule. Allocates nothing.
     pub fn test_ta(&self, strict: bool) -> Result<(), CertRule>
         ensures { TestsRules (IsTaProfile strict self.now) strict self.now ta_rules result }
     {
@@ -101,8 +102,9 @@ impl TbsCert {
     }
 
     /// Tests that the certificate has the profile of a certification authority, as [TbsCert::inspect_ca] does;
-    /// returns the rule that it breaks first, in the order: those of a trust anchor up to the key usage; then repository,
-    /// manifest, its place, notifications, authority key identifier, revocation list, certificate of the issuer.
+    /// returns the rule that it breaks first, in the order: those of a trust anchor up to the key usage; then
+    /// repository, manifest, its place, notifications, authority key identifier, revocation list, certificate of the
+    /// issuer.
     pub fn test_ca(&self, strict: bool) -> Result<(), CertRule>
         ensures { TestsRules (IsCaProfile strict self.now) strict self.now ca_rules result }
     {
@@ -140,9 +142,9 @@ impl TbsCert {
     }
 
     /// Tests that the certificate has the profile of an end entity without subject information access, as
-    /// [TbsCert::inspect_detached_ee] does; returns the rule that it breaks first, in the order: those of a trust anchor
-    /// up to the key usage; then access to the subject, authority key identifier, revocation list, certificate of the
-    /// issuer.
+    /// [TbsCert::inspect_detached_ee] does; returns the rule that it breaks first, in the order: those of a trust
+    /// anchor up to the key usage; then access to the subject, authority key identifier, revocation list, certificate
+    /// of the issuer.
     pub fn test_detached_ee(&self, strict: bool) -> Result<(), CertRule>
         ensures { TestsRules (IsDetachedProfile strict self.now) strict self.now detached_rules result }
     {

@@ -33,8 +33,8 @@ fn purposes_in(contents: Constructed<'_>) -> Result<bool, DecodeError>
     Ok(router)
 }
 
-/// Extended key usage: a SEQUENCE of the object identifiers of purposes, one at least, and nothing else. Returns whether
-/// one is that of a BGPsec router (RFC 8209 3.1.3.2). Allocates nothing.
+/// Extended key usage: a SEQUENCE of the object identifiers of purposes, one at least, and nothing else. Returns
+/// whether one is that of a BGPsec router (RFC 8209 3.1.3.2). Allocates nothing.
 pub fn read_purposes(octets: Constructed<'_>) -> Result<bool, DecodeError>
     ensures gives { GivesAll (λ b. b) SpellsPurposes (left octets.entry) result }
     ensures kind { IfErr result (λ e. e ≢ DecodeError.OutOfMemory) }

@@ -4,11 +4,14 @@ ghost use Rattle.std.specs.Prelude.{◌≡◌, ◌↔◌, List, true, IsTrue};
 ghost use Rattle.rpki_der.specs.Cursor.{left};
 ghost use Rattle.rpki_der.specs.Reading.{Reads, Decodes};
 ghost use Rattle.rpki.specs.ExtensionValue.{ExtensionParts};
-ghost use Rattle.rpki_resources.specs.Extension.{SpellsIpResources, IsIpResourcesFault, SpellsAsResources, IsAsResourcesFault};
+ghost use Rattle.rpki_resources.specs.Extension.{SpellsIpResources, IsIpResourcesFault, SpellsAsResources};
+ghost use Rattle.rpki_resources.specs.Extension.{IsAsResourcesFault};
 ghost use Rattle.rpki_cert.specs.Known.{IsSaid};
 ghost use Rattle.rpki_cert.specs.ExtensionTable.{OfListed};
 ghost use Rattle.rpki_cert.specs.Inspected.{AreIn};
-ghost use Rattle.rpki_cert.specs.ResourceExtensions.{first_there, addresses_of, numbers_of, IsWholeIpFault, IsWholeAsFault, IsWellFormed, AreWellFormed, is_own, are_own_addresses, are_own_numbers, SaysThat, AreOwn};
+ghost use Rattle.rpki_cert.specs.ResourceExtensions.{first_there, addresses_of, numbers_of, IsWholeIpFault};
+ghost use Rattle.rpki_cert.specs.ResourceExtensions.{IsWholeAsFault, IsWellFormed, AreWellFormed, is_own};
+ghost use Rattle.rpki_cert.specs.ResourceExtensions.{are_own_addresses, are_own_numbers, SaysThat, AreOwn};
 
 use crate::extension_kind::ExtensionKind;
 use crate::extension_source::ExtensionSource;

@@ -62,7 +62,8 @@ pub enum CertRule {
     Repository,
     /// The URI of the manifest is there (RFC 6487 4.8.8.1).
     Manifest,
-    /// The URI of the manifest lies below that of the repository, whose objects it lists (RFC 6487 4.8.8.1, RFC 9286 2).
+    /// The URI of the manifest lies below that of the repository, whose objects it lists (RFC 6487 4.8.8.1, RFC 9286
+    /// 2).
     ManifestPlace,
     /// The URI of the signed object is there (RFC 6487 4.8.8.2).
     SignedObject,
@@ -78,8 +79,8 @@ pub enum CertRule {
     CertificatePolicies,
     /// Addresses or numbers of autonomous systems are there, each critical (RFC 6487 4.8.10, 4.8.11).
     Resources,
-    /// Policy and resources are of one version: with the policy of RFC 6484 only the extensions of RFC 3779, with that of
-    /// RFC 8360 only the extensions of RFC 8360 (RFC 8360 4.2).
+    /// Policy and resources are of one version: with the policy of RFC 6484 only the extensions of RFC 3779, with that
+    /// of RFC 8360 only the extensions of RFC 8360 (RFC 8360 4.2).
     ResourceVersion,
     /// Addresses and numbers, where they are there, are in canonical form, without a SAFI and without routing domain
     /// identifiers (RFC 3779 2.2.3, 3.2.3, RFC 6487 4.8.10, 4.8.11).

@@ -5,7 +5,7 @@ ghost use Rattle.rpki_der.specs.Cursor.{left};
 ghost use Rattle.rpki_der.specs.Reading.{Reads};
 ghost use Rattle.rpki_der.specs.FirstFault.{ReadsParts};
 ghost use Rattle.rpki_cert.specs.Cert.{fields_of, AreFields, SpellsTbs};
-ghost use Rattle.rpki_cert.specs.CertFault.{AreFieldsFault, IsTbsFault};
+ghost use Rattle.rpki_cert.specs.Cert.{fields, tbs_certificate};
 
 use crate::extensions::take_extensions;
 use crate::version::skip_version;
@@ -51,13 +51,13 @@ impl TbsCert {
     /// that follow them, and `OutOfMemory` if allocation fails, only in a name, the key or the extensions.
     pub fn take_from<K: Keep>(keep: K, cons: &mut Constructed<'_>) -> Result<TbsCert, DecodeError>
         requires { K.holds keep (left cons.old) }
-        ensures { Reads (λ x. x) SpellsTbs IsTbsFault (left cons.old) (left cons.new) result }
+        ensures { Reads (λ x. x) SpellsTbs tbs_certificate.fault (left cons.old) (left cons.new) result }
     {
         cons.in_sequence_with(
             keep,
             |contents, keep|
                 requires { K.holds keep (left contents.old) }
-                ensures { ReadsParts fields_of AreFields AreFieldsFault (left contents.old) (left contents.new) result }
+                ensures { ReadsParts fields_of AreFields fields.fault (left contents.old) (left contents.new) result }
             {
                 skip_version(contents)?;
                 let serial_number = match Serial::take_from(contents) {

@@ -3,7 +3,8 @@
 ghost use Rattle.std.specs.Prelude.{◌≡◌, IfOk, IfErr};
 ghost use Rattle.std.specs.Option.{option_copied};
 ghost use Rattle.rpki_cert.specs.Known.{crl_distribution_points, authority_info_access, subject_info_access};
-ghost use Rattle.rpki_cert.specs.Access.{SpellsRsyncAccess, SpellsHttpsAccess, SpellsPoints, FindsUri, ca_issuers, ca_repository, rpki_manifest, signed_object, rpki_notify};
+ghost use Rattle.rpki_cert.specs.Access.{SpellsRsyncAccess, SpellsHttpsAccess, SpellsPoints, FindsUri, ca_issuers};
+ghost use Rattle.rpki_cert.specs.Access.{ca_repository, rpki_manifest, signed_object, rpki_notify};
 ghost use Rattle.rpki_cert.specs.AccessInformation.{SpellsUriOf};
 
 use crate::access_method::AccessMethod;

@@ -9,7 +9,8 @@ ghost use Rattle.rpki_cert.specs.Profile.{HasSome, IsCaProfile, IsEeProfile, IsD
 ghost use Rattle.rpki_cert.specs.Rule.{ca_rules, ee_rules, detached_rules, router_rules};
 ghost use Rattle.rpki_cert.specs.ResourceExtensions.{AreWellFormed};
 ghost use Rattle.rpki_cert.specs.ResourceSet.{AreWithin};
-ghost use Rattle.rpki_cert.specs.Verified.{checkers_by, verified_by, holder, IsRootWith, IsVerified, IsVerifiedBy, HasPath, ChecksPath, ChecksLink, ChecksRoot, IsRefusedLink, IsRefusedRoot};
+ghost use Rattle.rpki_cert.specs.Verified.{checkers_by, verified_by, holder, IsRootWith, IsVerified, IsVerifiedBy};
+ghost use Rattle.rpki_cert.specs.Verified.{HasPath, ChecksPath, ChecksLink, ChecksRoot, IsRefusedLink, IsRefusedRoot};
 
 use crate::cert::Cert;
 use crate::resource_set::ResourceSet;
@@ -20,9 +21,9 @@ use rpki::repository::x509::{Time, Validity};
 use std::alloc::Global;
 use std::marker::Model;
 
-/// The certificate of an authority that was verified: a path of authorities leads from it to a trust anchor, which gives
-/// it its resources. Only [Cert::verify_ta] and [Cert::verify_ca] make one, and only it issues certificates that are
-/// verified.
+/// The certificate of an authority that was verified: a path of authorities leads from it to a trust anchor, which
+/// gives it its resources. Only [Cert::verify_ta] and [Cert::verify_ca] make one, and only it issues certificates that
+/// are verified.
 #[derive(Drop)]
 pub struct ResourceCert<'p, P: Provider> {
     cert: Cert,

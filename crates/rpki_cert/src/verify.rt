@@ -6,7 +6,8 @@ ghost use Rattle.rpki_time.specs.Validity.{HoldsAt};
 ghost use Rattle.rpki_cert.specs.Cert.{find};
 ghost use Rattle.rpki_cert.specs.Known.{authority_key_identifier, are_understood};
 ghost use Rattle.rpki_cert.specs.RuleError.{ChecksBy};
-ghost use Rattle.rpki_cert.specs.Valid.{HasReason, IsPeriodError, IsSignedBy, HasSubject, IsOtherSubject, ChecksSigned, HasAuthority, IsOtherAuthority, ChecksIssued, ChecksAnchor};
+ghost use Rattle.rpki_cert.specs.Valid.{HasReason, IsPeriodError, IsSignedBy, HasSubject, IsOtherSubject, ChecksSigned};
+ghost use Rattle.rpki_cert.specs.Valid.{HasAuthority, IsOtherAuthority, ChecksIssued, ChecksAnchor};
 
 use crate::cert::Cert;
 use crate::extension_source::are_understood;

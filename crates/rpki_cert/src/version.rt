@@ -3,7 +3,7 @@
 ghost use Rattle.rpki_der.specs.Cursor.{left};
 ghost use Rattle.rpki_der.specs.Reading.{Reads};
 ghost use Rattle.rpki_cert.specs.Cert.{SpellsVersion};
-ghost use Rattle.rpki_cert.specs.CertFault.{IsVersionFault};
+ghost use Rattle.rpki_cert.specs.Cert.{version};
 
 use crate::part::skip_primitive;
 use rpki::der::{Class, Constructed, DecodeError, Tag};
@@ -13,7 +13,7 @@ use rpki::der::{Class, Constructed, DecodeError, Tag};
 /// The errors are those of a constructed value of the tag; then those of an INTEGER; then `Content` for another number;
 /// then `Trailing` for octets that follow it.
 pub fn skip_version(cons: &mut Constructed<'_>) -> Result<(), DecodeError>
-    ensures { Reads (λ _. tt) SpellsVersion IsVersionFault (left cons.old) (left cons.new) result }
+    ensures { Reads (λ _. tt) SpellsVersion version.fault (left cons.old) (left cons.new) result }
 {
     cons.in_constructed(
         Tag::new(Class::Context, 0),

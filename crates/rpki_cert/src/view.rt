@@ -3,7 +3,8 @@
 ghost use Rattle.std.specs.Prelude.{◌≡◌, ◌<◌, IfOk, IfErr, length};
 ghost use Rattle.rpki_der.specs.Cursor.{left};
 ghost use Rattle.rpki_cert.specs.Cert.{CertParts, SpellsCert};
-ghost use Rattle.rpki_cert.specs.View.{most_extensions, SpellsUsed, IsWholeOf, ArePartsBehind, AreBehindWrong, IsCertBehind, IsWrongBehind, IsCertAt, IsCertWrong};
+ghost use Rattle.rpki_cert.specs.View.{most_extensions, SpellsUsed, IsWholeOf, ArePartsBehind, AreBehindWrong};
+ghost use Rattle.rpki_cert.specs.View.{IsCertBehind, IsWrongBehind, IsCertAt, IsCertWrong};
 
 use crate::cert::is_same;
 use crate::cert_part::CertPart;
@@ -88,8 +89,8 @@ pub fn read_parts<'a>(signed: &'a [u8], behind: Constructed<'a>) -> Result<Parts
     }
 }
 
-/// The certificate of what is signed and of what follows it, which is all of these contents. Whether what is signed is a
-/// value with everything nested in it is seen by its fields; where one of them is wrong, it isn't known.
+/// The certificate of what is signed and of what follows it, which is all of these contents. Whether what is signed is
+/// a value with everything nested in it is seen by its fields; where one of them is wrong, it isn't known.
 fn read_behind<'a>(signed: &'a [u8], behind: Constructed<'a>) -> Result<CertView<'a>, CertPart>
     ensures ok { IfOk result (λ v. IsCertBehind signed.now (left behind.entry) v) }
     ensures err { IfErr result (λ q. IsWrongBehind signed.now (left behind.entry) q) }

@@ -19,30 +19,49 @@ use Rattle.rpki_cert.proofs.access_information.gather.Goals as goal
 
 pub returns-then-is_empty-clause-gives : goal.returns-then-is_empty-clause-gives
 returns-then-is_empty-clause-gives c =
-    gathers-nothing SpellsDescription access_parts (left c.args.contents) (leaf-some sequence true (Then (SpellsLeaf oid false IsOidOf) SpellsName)) (c.is_empty.ensures.0 c.if-is_empty.true)
+    gathers-nothing SpellsDescription access_parts (left c.args.contents)
+    (leaf-some sequence true (Then (SpellsLeaf oid false IsOidOf) SpellsName))
+    (c.is_empty.ensures.0 c.if-is_empty.true)
 
 pub descriptions-init : goal.descriptions-init
-descriptions-init c = gathers-all SpellsDescription access_parts (left c.args.contents) (λ u. joined (parts_of c.empty-found.result) u) (none-told (parts_of c.empty-found.result) c.empty-found.ensures)
+descriptions-init c = gathers-all SpellsDescription access_parts (left c.args.contents)
+    (λ u. joined (parts_of c.empty-found.result) u) (none-told (parts_of c.empty-found.result) c.empty-found.ensures)
 
 pub descriptions-smaller : goal.descriptions-smaller
-descriptions-smaller c = leaf-shorter sequence true (Then (SpellsLeaf oid false IsOidOf) SpellsName) _ _ _ c.in_ok-description.ensures.gives.spells
+descriptions-smaller c = leaf-shorter sequence true (Then (SpellsLeaf oid false IsOidOf) SpellsName) _ _ _
+    c.in_ok-description.ensures.gives.spells
 
 pub descriptions-preserved : goal.descriptions-preserved
 descriptions-preserved c =
-    let a = (kept c.descriptions.found.0 c.descriptions.found.1.0 c.descriptions.found.1.1.0 c.descriptions.found.1.1.1.0 c.descriptions.found.1.1.1.1.0 c.descriptions.found.1.1.1.1.1.0 c.descriptions.found.1.1.1.1.1.1.0) in
+    let a = (kept c.descriptions.found.0 c.descriptions.found.1.0 c.descriptions.found.1.1.0
+    c.descriptions.found.1.1.1.0 c.descriptions.found.1.1.1.1.0 c.descriptions.found.1.1.1.1.1.0
+    c.descriptions.found.1.1.1.1.1.1.0) in
     let b = parts_of c.with-found.result in
-    let x : List ℕ × Option (List ℕ) = (c.in_ok-description.description.0.0.now, option_copied c.in_ok-description.description.1) in
-    gathers-on SpellsDescription access_parts (left c.args.contents) (λ u. joined a u) (λ u. joined b u) _ _ x (next-told a b x c.with-found.ensures) (iff_false c.is_empty-in-descriptions.ensures c.descriptions-test.true)
+    let x : List ℕ × Option (List ℕ) = (
+      c.in_ok-description.description.0.0.now,
+      option_copied c.in_ok-description.description.1,
+    ) in
+    gathers-on SpellsDescription access_parts (left c.args.contents) (λ u. joined a u) (λ u. joined b u) _ _ x
+    (next-told a b x c.with-found.ensures) (iff_false c.is_empty-in-descriptions.ensures c.descriptions-test.true)
     c.descriptions.invariant c.in_ok-description.ensures.gives
 
 pub returns-in_err-description-clause-gives : goal.returns-in_err-description-clause-gives
 returns-in_err-description-clause-gives c =
-    tried-all parts_of (Through access_parts (SpellsSome SpellsDescription)) _ (left c.args.contents) _ c.from_residual.ensures
-    (gathers-none SpellsDescription access_parts (left c.args.contents) (λ u. joined (kept c.descriptions.found.0 c.descriptions.found.1.0 c.descriptions.found.1.1.0 c.descriptions.found.1.1.1.0 c.descriptions.found.1.1.1.1.0 c.descriptions.found.1.1.1.1.1.0 c.descriptions.found.1.1.1.1.1.1.0) u) _ (iff_false c.is_empty-in-descriptions.ensures c.descriptions-test.true) c.descriptions.invariant
+    tried-all parts_of (Through access_parts (SpellsSome SpellsDescription)) _ (left c.args.contents) _
+    c.from_residual.ensures
+    (gathers-none SpellsDescription access_parts (left c.args.contents)
+    (λ u. joined (kept c.descriptions.found.0 c.descriptions.found.1.0 c.descriptions.found.1.1.0
+    c.descriptions.found.1.1.1.0 c.descriptions.found.1.1.1.1.0 c.descriptions.found.1.1.1.1.1.0
+    c.descriptions.found.1.1.1.1.1.1.0) u) _ (iff_false c.is_empty-in-descriptions.ensures c.descriptions-test.true)
+    c.descriptions.invariant
     c.in_err-description.ensures.gives)
 
 pub returns-clause-gives : goal.returns-clause-gives
 returns-clause-gives c =
-    let a = (kept c.descriptions.found.0 c.descriptions.found.1.0 c.descriptions.found.1.1.0 c.descriptions.found.1.1.1.0 c.descriptions.found.1.1.1.1.0 c.descriptions.found.1.1.1.1.1.0 c.descriptions.found.1.1.1.1.1.1.0) in
-    gathers-end SpellsDescription access_parts (left c.args.contents) (leaf-some sequence true (Then (SpellsLeaf oid false IsOidOf) SpellsName)) (λ u. joined a u) _ a (iff_false c.is_empty.ensures c.if-is_empty.false)
+    let a = (kept c.descriptions.found.0 c.descriptions.found.1.0 c.descriptions.found.1.1.0
+    c.descriptions.found.1.1.1.0 c.descriptions.found.1.1.1.1.0 c.descriptions.found.1.1.1.1.1.0
+    c.descriptions.found.1.1.1.1.1.1.0) in
+    gathers-end SpellsDescription access_parts (left c.args.contents)
+    (leaf-some sequence true (Then (SpellsLeaf oid false IsOidOf) SpellsName)) (λ u. joined a u) _ a
+    (iff_false c.is_empty.ensures c.if-is_empty.false)
     (c.is_empty-in-descriptions.ensures.0 c.descriptions-test.false) c.descriptions.invariant (all-told a)

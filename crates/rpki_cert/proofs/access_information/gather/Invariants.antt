@@ -7,7 +7,9 @@ use Rattle.rpki_cert.proofs.InformationLaws.{kept}
 use Rattle.rpki_cert.proofs.access_information.gather.Given as goal
 
 abbrev pub invariant-descriptions : goal.invariant-descriptions
-invariant-descriptions l = Gathers SpellsDescription access_parts (λ u. joined (kept l.found.0 l.found.1.0 l.found.1.1.0 l.found.1.1.1.0 l.found.1.1.1.1.0 l.found.1.1.1.1.1.0 l.found.1.1.1.1.1.1.0) u) (left l.fn.contents) (left l.rest)
+invariant-descriptions l = Gathers SpellsDescription access_parts
+    (λ u. joined (kept l.found.0 l.found.1.0 l.found.1.1.0 l.found.1.1.1.0 l.found.1.1.1.1.0 l.found.1.1.1.1.1.0
+    l.found.1.1.1.1.1.1.0) u) (left l.fn.contents) (left l.rest)
 
 abbrev pub decreases-descriptions : goal.decreases-descriptions
 decreases-descriptions l = length (left l.rest)

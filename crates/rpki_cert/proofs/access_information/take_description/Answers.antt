@@ -14,8 +14,10 @@ use Rattle.rpki_cert.proofs.access_information.take_description.Goals as goal
 pub returns-in_err-contents-clause-gives : goal.returns-in_err-contents-clause-gives
 returns-in_err-contents-clause-gives c =
     tried-gives (λ d. (d.0.0.now, option_copied d.1)) SpellsDescription _ _ _ _ c.from_residual.ensures
-    (leaf-missing sequence true (Then (SpellsLeaf oid false IsOidOf) SpellsName) _ _ c.in_err-contents.field-0.0 c.in_err-contents.ensures)
+    (leaf-missing sequence true (Then (SpellsLeaf oid false IsOidOf) SpellsName) _ _ c.in_err-contents.field-0.0
+    c.in_err-contents.ensures)
 
 pub returns-clause-gives : goal.returns-clause-gives
 returns-clause-gives c =
-    leaf-gives sequence true (Then (SpellsLeaf oid false IsOidOf) SpellsName) _ (λ d. (d.0.0.now, option_copied d.1)) _ _ c.description_in.result c.in_ok-contents.ensures c.description_in.ensures.gives
+    leaf-gives sequence true (Then (SpellsLeaf oid false IsOidOf) SpellsName) _ (λ d. (d.0.0.now, option_copied d.1)) _
+    _ c.description_in.result c.in_ok-contents.ensures c.description_in.ensures.gives

@@ -6,7 +6,8 @@ use Rattle.rpki_cert.proofs.GatherLaws.{Gathers}
 use Rattle.rpki_cert.proofs.access_view.uris_in.Given as goal
 
 abbrev pub invariant-uris : goal.invariant-uris
-invariant-uris l = Gathers SpellsUri first_rsync (λ u. option_or (option_copied l.found) u) (left l.fn.contents) (left l.rest)
+invariant-uris l = Gathers SpellsUri first_rsync (λ u. option_or (option_copied l.found) u) (left l.fn.contents)
+    (left l.rest)
 
 abbrev pub decreases-uris : goal.decreases-uris
 decreases-uris l = length (left l.rest)

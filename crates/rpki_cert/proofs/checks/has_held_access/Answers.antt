@@ -9,4 +9,7 @@ returns-in-Ok-Some c = λ found h.
     rw c.obeys.ensures (held-there c.args.rule found _ told)
 
 pub returns-in-Err : goal.returns-in-Err
-returns-in-Err c = λ found h. (λ z. absurd (false≢true z), λ k. absurd (held-wrong c.args.rule found (rw c.in-Err.is at h).0 k))
+returns-in-Err c = λ found h. (
+  λ z. absurd (false≢true z),
+  λ k. absurd (held-wrong c.args.rule found (rw c.in-Err.is at h).0 k),
+)

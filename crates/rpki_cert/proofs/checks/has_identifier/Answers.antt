@@ -6,7 +6,8 @@ use Rattle.rpki_cert.proofs.checks.has_identifier.Goals as goal
 
 pub returns-in-Ok : goal.returns-in-Ok
 returns-in-Ok c = (
-  λ z. subst (λ (o : Option (List ℕ)). Says false SpellsKeyIdentifier c.args.found o) (c.is_identifier.ensures.0 z) c.in-Ok.ensures.0,
+  λ z. subst (λ (o : Option (List ℕ)). Says false SpellsKeyIdentifier c.args.found o) (c.is_identifier.ensures.0 z)
+      c.in-Ok.ensures.0,
   λ h. c.is_identifier.ensures.1 (sym (c.in-Ok.ensures.1 (Some c.args.wanted) h)),
 )
 

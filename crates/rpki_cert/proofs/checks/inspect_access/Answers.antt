@@ -12,4 +12,5 @@ returns-in-Ok-None c = λ found h.
     uri-other (SpellsUriOf c.args.method) AnyFault c.args.rule found c.rejected.result k c.rejected.ensures
 
 pub returns-in-Err : goal.returns-in-Err
-returns-in-Err c = λ found h. uri-wrong (SpellsUriOf c.args.method) AnyFault c.args.rule found c.in-Err.e (c.in-Err.ensures found h)
+returns-in-Err c = λ found h. uri-wrong (SpellsUriOf c.args.method) AnyFault c.args.rule found c.in-Err.e
+    (c.in-Err.ensures found h)

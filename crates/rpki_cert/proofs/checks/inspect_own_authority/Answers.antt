@@ -1,20 +1,28 @@
 use Rattle.std.proofs.Common.{◌≡◌, ℕ, List, Option, Some, None, false, subst, inl, inr}
-use Rattle.rpki_cert.specs.ExtensionContent.{SpellsAuthority, IsWholeAuthorityFault}
+use Rattle.rpki_cert.specs.ExtensionContent.{SpellsAuthority}
 use Rattle.rpki_cert.specs.declared.rule.CertRule.TheVariants.{OwnAuthority}
 use Rattle.std.proofs.lemmas.Bool.{iff_false}
 use Rattle.rpki.specs.KeyIdentifier.{SpellsKeyIdentifier}
 use Rattle.rpki_cert.specs.Known.{Says}
 use Rattle.rpki_cert.proofs.ProfileLaws.{found-other, found-wrong}
 use Rattle.rpki_cert.proofs.checks.inspect_own_authority.Goals as goal
+use Rattle.rpki_cert.specs.ExtensionContent.{WholeFault, authority_content}
 
 pub returns-else-has_identifier : goal.returns-else-has_identifier
 returns-else-has_identifier c =
     let own = rw c.in-Ok-Some.field-0-is at c.in-Ok-Some.ensures in
     let other = iff_false c.has_identifier.ensures c.if-has_identifier.false in
-    found-other false SpellsAuthority IsWholeAuthorityFault OwnAuthority c.args.found _ (Some c.in-Ok-Some.identifier) c.rejected.result own
+    found-other false SpellsAuthority (WholeFault authority_content) OwnAuthority c.args.found _
+    (Some c.in-Ok-Some.identifier) c.rejected.result own
     (λ k. elim k [
       | inl none ↦ (None, none, λ same. none-some c.in-Ok-Some.identifier same)
-      | inr found ↦ (Some found.0, found.1, λ same. other (subst (λ (w : List ℕ). Says false SpellsKeyIdentifier c.args.subject (Some w)) (one-some found.0 c.in-Ok-Some.identifier same) found.2))
+      | inr found ↦ (
+        Some found.0,
+        found.1,
+        λ same. other
+            (subst (λ (w : List ℕ). Says false SpellsKeyIdentifier c.args.subject (Some w))
+            (one-some found.0 c.in-Ok-Some.identifier same) found.2),
+      )
     ]) c.rejected.ensures
   where
     none-some : (w : List ℕ) → ◌≡◌ {A = Option (List ℕ)} None (Some w) → ⊥
@@ -24,4 +32,5 @@ returns-else-has_identifier c =
     one-some v w e = cc
 
 pub returns-in-Err : goal.returns-in-Err
-returns-in-Err c = found-wrong false SpellsAuthority IsWholeAuthorityFault OwnAuthority c.args.found _ c.in-Err.e c.in-Err.ensures (λ k. elim k [ inl none ↦ (None, none) | inr own ↦ (Some own.0, own.1) ])
+returns-in-Err c = found-wrong false SpellsAuthority (WholeFault authority_content) OwnAuthority c.args.found _
+    c.in-Err.e c.in-Err.ensures (λ k. elim k [ inl none ↦ (None, none) | inr own ↦ (Some own.0, own.1) ])

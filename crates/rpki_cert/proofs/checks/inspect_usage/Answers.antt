@@ -1,13 +1,21 @@
 use Rattle.std.proofs.Common.{Some, true, sym}
-use Rattle.rpki_cert.specs.ExtensionContent.{SpellsUsage, IsWholeUsageFault}
+use Rattle.rpki_cert.specs.ExtensionContent.{SpellsUsage}
 use Rattle.rpki_cert.proofs.SomeLaws.{not-true}
 use Rattle.rpki_cert.proofs.ProfileLaws.{found-other, found-wrong}
 use Rattle.rpki_cert.proofs.checks.inspect_usage.Goals as goal
+use Rattle.rpki_cert.specs.ExtensionContent.{WholeFault, usage_content}
 
 pub returns-else-is_there : goal.returns-else-is_there
 returns-else-is_there c =
-    found-other true SpellsUsage IsWholeUsageFault c.args.rule c.args.found _ c.in-Ok.usage c.rejected.result c.in-Ok.ensures
-    (λ k. (Some c.args.wanted, k, λ same. not-true c.is_there.result c.if-is_there.false (c.is_there.ensures.1 (sym same)))) c.rejected.ensures
+    found-other true SpellsUsage (WholeFault usage_content) c.args.rule c.args.found _ c.in-Ok.usage c.rejected.result
+    c.in-Ok.ensures
+    (λ k. (
+      Some c.args.wanted,
+      k,
+      λ same. not-true c.is_there.result c.if-is_there.false
+          (c.is_there.ensures.1 (sym same)),
+    )) c.rejected.ensures
 
 pub returns-in-Err : goal.returns-in-Err
-returns-in-Err c = found-wrong true SpellsUsage IsWholeUsageFault c.args.rule c.args.found _ c.in-Err.e c.in-Err.ensures (λ k. (Some c.args.wanted, k))
+returns-in-Err c = found-wrong true SpellsUsage (WholeFault usage_content) c.args.rule c.args.found _ c.in-Err.e
+    c.in-Err.ensures (λ k. (Some c.args.wanted, k))

@@ -3,18 +3,26 @@ use Rattle.rpki_cert.specs.declared.policy.Overclaim.{Overclaim}
 use Rattle.rpki_cert.specs.declared.rule.CertRule.TheVariants.{ResourceVersion}
 use Rattle.rpki_cert.specs.Cert.{find}
 use Rattle.rpki_cert.specs.Known.{certificate_policies}
-use Rattle.rpki_cert.specs.ExtensionContent.{SpellsPolicies, IsWholePoliciesFault}
+use Rattle.rpki_cert.specs.ExtensionContent.{SpellsPolicies}
 use Rattle.rpki_cert.specs.Profile.{is_of_version, HasOneVersion}
 use Rattle.rpki_cert.proofs.SomeLaws.{not-true}
 use Rattle.rpki_cert.proofs.ProfileLaws.{found-other, found-wrong}
 use Rattle.rpki_cert.proofs.checks.inspect_version.Goals as goal
+use Rattle.rpki_cert.specs.ExtensionContent.{WholeFault, policies_content}
 
 pub returns-else-is_of_version : goal.returns-else-is_of_version
 returns-else-is_of_version c = λ xs h.
     let policy = c.in-Ok-Some.policy in
     let said = rw (c.find.ensures xs h, c.in-Ok-Some.field-0-is) at c.in-Ok-Some.ensures in
-    found-other true SpellsPolicies IsWholePoliciesFault ResourceVersion (find certificate_policies xs) (HasOneVersion xs) (Some policy) c.rejected.result said
-    (λ p. (Some p.0, p.1, λ same. not-true c.is_of_version.result c.if-is_of_version.false (rw (c.is_of_version.ensures xs h) (subst (λ (q : Overclaim). IsTrue (is_of_version q xs)) (one-some p.0 policy same) p.2)))) c.rejected.ensures
+    found-other true SpellsPolicies (WholeFault policies_content) ResourceVersion (find certificate_policies xs)
+    (HasOneVersion xs) (Some policy) c.rejected.result said
+    (λ p. (
+      Some p.0,
+      p.1,
+      λ same. not-true c.is_of_version.result c.if-is_of_version.false
+          (rw (c.is_of_version.ensures xs h) (subst (λ (q : Overclaim). IsTrue (is_of_version q xs))
+          (one-some p.0 policy same) p.2)),
+    )) c.rejected.ensures
   where
     one-some : (v w : Overclaim) → ◌≡◌ {A = Option Overclaim} (Some v) (Some w) → v ≡ w
     one-some v w e = cc
@@ -22,7 +30,8 @@ returns-else-is_of_version c = λ xs h.
 pub returns-in-Ok-None : goal.returns-in-Ok-None
 returns-in-Ok-None c = λ xs h.
     let said = rw (c.find.ensures xs h, c.in-Ok-None.field-0-is) at c.in-Ok-None.ensures in
-    found-other true SpellsPolicies IsWholePoliciesFault ResourceVersion (find certificate_policies xs) (HasOneVersion xs) None c.rejected-in-Ok-None.result said
+    found-other true SpellsPolicies (WholeFault policies_content) ResourceVersion (find certificate_policies xs)
+    (HasOneVersion xs) None c.rejected-in-Ok-None.result said
     (λ p. (Some p.0, p.1, λ same. some-none p.0 same)) c.rejected-in-Ok-None.ensures
   where
     some-none : (v : Overclaim) → ◌≡◌ {A = Option Overclaim} (Some v) None → ⊥
@@ -30,4 +39,5 @@ returns-in-Ok-None c = λ xs h.
 
 pub returns-in-Err : goal.returns-in-Err
 returns-in-Err c = λ xs h.
-    found-wrong true SpellsPolicies IsWholePoliciesFault ResourceVersion (find certificate_policies xs) (HasOneVersion xs) c.in-Err.e (rw (c.find.ensures xs h) at c.in-Err.ensures) (λ p. (Some p.0, p.1))
+    found-wrong true SpellsPolicies (WholeFault policies_content) ResourceVersion (find certificate_policies xs)
+    (HasOneVersion xs) c.in-Err.e (rw (c.find.ensures xs h) at c.in-Err.ensures) (λ p. (Some p.0, p.1))

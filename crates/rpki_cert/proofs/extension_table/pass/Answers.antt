@@ -7,7 +7,8 @@ use Rattle.rpki_der.proofs.LeafValueLaws.{leaf-shorter}
 use Rattle.rpki.specs.ExtensionValue.{IsExtensionContents}
 use Rattle.rpki_cert.specs.Known.{is_known}
 use Rattle.rpki_cert.proofs.ListedLaws.{extension-refused, nothing-there}
-use Rattle.rpki_cert.proofs.TableLaws.{passing-all, passing-first, passing-again, passing-none, passing-table, passing-end, both-known, one-unknown, free-slot, full-slot}
+use Rattle.rpki_cert.proofs.TableLaws.{passing-all, passing-first, passing-again, passing-none, passing-table}
+use Rattle.rpki_cert.proofs.TableLaws.{passing-end, both-known, one-unknown, free-slot, full-slot}
 use Rattle.rpki_cert.proofs.extension_table.pass.Goals as goal
 use Rattle.rpki_cert.proofs.extension_table.pass.Goals.{then-understood, else-understood}
 
@@ -52,7 +53,8 @@ extensions-preserved c =
     ] in
     let here = rw c.id-in-Ok.ensures at c.slot_of-slot.ensures.slot in
     let free = free-slot _ (sym c.is_some.ensures ∙ c.if-is_some.false) in
-    passing-first _ _ _ x _ _ _ _ some c.in-Ok.ensures c.extensions.invariant _ _ is here _ c.slot_of-slot.ensures.few free c.listed_of.ensures
+    passing-first _ _ _ x _ _ _ _ some c.in-Ok.ensures c.extensions.invariant _ _ is here _ c.slot_of-slot.ensures.few
+    free c.listed_of.ensures
 
 pub returns-in-Err-clause-none : goal.returns-in-Err-clause-none
 returns-in-Err-clause-none c =

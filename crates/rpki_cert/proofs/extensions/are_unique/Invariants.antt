@@ -8,7 +8,8 @@ use Rattle.rpki_cert.proofs.extensions.are_unique.Given as goal
 abbrev pub invariant-extensions : goal.invariant-extensions
 invariant-extensions l =
     (l.number ≤ length l.all)
-    × ((q : Bor (List ℕ)) → tree.contains (λ (x y : Bor (List ℕ)). slice_cmp nat_cmp x.now y.now) l.seen q ≡ is_there (find q.now (drop l.number l.all)))
+    × ((q : Bor (List ℕ)) → tree.contains (λ (x y : Bor (List ℕ)). slice_cmp nat_cmp x.now y.now) l.seen q
+    ≡ is_there (find q.now (drop l.number l.all)))
     × (are_unique (drop l.number l.all) ≡ true)
 
 abbrev pub decreases-extensions : goal.decreases-extensions

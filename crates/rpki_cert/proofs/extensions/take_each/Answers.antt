@@ -9,6 +9,7 @@ use Rattle.rpki_cert.proofs.extensions.take_each.Goals as goal
 pub returns : goal.returns
 returns g c = record {
   reads =
-      read-each-itself SpellsExtension IsKeptExtensionFault _ (λ b a x h. search rules) (leaf-some sequence true IsExtensionContents) (λ v. v.items) _ _ _ c.take_each_with.ensures;
+      read-each-itself SpellsExtension IsKeptExtensionFault _ (λ b a x h. search rules)
+      (leaf-some sequence true IsExtensionContents) (λ v. v.items) _ _ _ c.take_each_with.ensures;
   end = each-end (λ v. v.items) _ _ _ _ c.take_each_with.ensures;
 }

@@ -4,8 +4,8 @@ use Rattle.rpki_der.specs.Cursor.{left}
 use Rattle.rpki_der.proofs.ReadingLaws.{UnlessMemory-weaker}
 use Rattle.rpki_der.proofs.FirstFaultLaws.{tried-parts}
 use Rattle.rpki_cert.specs.Cert.{AreExtensions}
-use Rattle.rpki_cert.specs.CertFault.{AreExtensionsFault}
-use Rattle.rpki_cert.specs.CertFault.AreExtensionsFault.{NoExtension, NotExtensions, Repeated}
+use Rattle.rpki_cert.specs.Cert.{AreExtensionsFault}
+use Rattle.rpki_cert.specs.ExtensionList.AreExtensionsFault.{NoExtension, NotExtensions, Repeated}
 use Rattle.rpki_cert.proofs.ExtensionListLaws.{none-there, repeated, no-room}
 use Rattle.rpki_cert.proofs.SomeLaws.{not-true}
 use Rattle.rpki_cert.proofs.extensions.take_some.Goals as goal
@@ -28,7 +28,8 @@ returns-in_err-unique g c =
     let some = iff_false c.is_empty.ensures c.if-is_empty.false in
     let one = c.in_ok-all.ensures.reads.0 c.in_ok-all.ensures.end in
     let e = c.in_err-unique.field-0.0 in
-    tried-parts (λ v. v.items) AreExtensions AreExtensionsFault (left c.args.contents.now) _ e _ c.from_residual-in_err-unique.ensures
+    tried-parts (λ v. v.items) AreExtensions AreExtensionsFault (left c.args.contents.now) _ e _
+    c.from_residual-in_err-unique.ensures
     (no-room (left c.args.contents.now) c.in_ok-all.all.items e some one.0 c.in_err-unique.ensures.refused)
 
 pub returns-then-not-unique : goal.returns-then-not-unique
@@ -36,4 +37,7 @@ returns-then-not-unique g c =
     let one = c.in_ok-all.ensures.reads.0 c.in_ok-all.ensures.end in
     let is = rw c.as_slice.ensures.value at c.in_ok-unique.ensures.answer in
     let twice = not-true _ (sym is ∙ c.if-not-unique.true) in
-    rw c.content-then-not-unique.ensures (repeated (left c.args.contents.now) c.in_ok-all.all.items one twice, Repeated c.in_ok-all.all.items one.0 twice refl)
+    rw c.content-then-not-unique.ensures (
+      repeated (left c.args.contents.now) c.in_ok-all.all.items one twice,
+      Repeated c.in_ok-all.all.items one.0 twice refl,
+    )

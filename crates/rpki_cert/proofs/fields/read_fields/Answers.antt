@@ -8,17 +8,21 @@ pub returns-in-Err-clause-err : goal.returns-in-Err-clause-err
 returns-in-Err-clause-err c = AtPart (version-refused _ _ c.in-Err.field-0 c.in-Err.ensures) refl
 
 pub returns-in-Err-take_from-clause-err : goal.returns-in-Err-take_from-clause-err
-returns-in-Err-take_from-clause-err c = Later _ _ c.in-Ok.ensures (AtPart (serial-refused _ _ c.in-Err-take_from.field-0 c.in-Err-take_from.ensures) refl)
+returns-in-Err-take_from-clause-err c = Later _ _ c.in-Ok.ensures
+    (AtPart (serial-refused _ _ c.in-Err-take_from.field-0 c.in-Err-take_from.ensures) refl)
 
 pub returns-in-Err-x509_take_from-clause-err : goal.returns-in-Err-x509_take_from-clause-err
 returns-in-Err-x509_take_from-clause-err c =
-    Later _ _ c.in-Ok.ensures (Later _ _ c.in-Ok-take_from.ensures (AtPart (algorithm-refused _ _ c.in-Err-x509_take_from.field-0 c.in-Err-x509_take_from.ensures) refl))
+    Later _ _ c.in-Ok.ensures (Later _ _ c.in-Ok-take_from.ensures
+    (AtPart (algorithm-refused _ _ c.in-Err-x509_take_from.field-0 c.in-Err-x509_take_from.ensures) refl))
 
 pub returns-clause-ok : goal.returns-clause-ok
 returns-clause-ok c =
-    fields-read _ _ _ _ _ _ _ c.in-Ok.ensures c.in-Ok-take_from.ensures refl c.in-Ok-x509_take_from.ensures refl c.in_ok-named.ensures.ok
+    fields-read _ _ _ _ _ _ _ c.in-Ok.ensures c.in-Ok-take_from.ensures refl c.in-Ok-x509_take_from.ensures refl
+    c.in_ok-named.ensures.ok
 
 pub returns-in_err-named-clause-err : goal.returns-in_err-named-clause-err
 returns-in_err-named-clause-err c =
     tried-error _ _ _ c.from_residual.ensures
-    (Later _ _ c.in-Ok.ensures (Later _ _ c.in-Ok-take_from.ensures (Later _ _ c.in-Ok-x509_take_from.ensures c.in_err-named.ensures.err)))
+    (Later _ _ c.in-Ok.ensures (Later _ _ c.in-Ok-take_from.ensures
+    (Later _ _ c.in-Ok-x509_take_from.ensures c.in_err-named.ensures.err)))

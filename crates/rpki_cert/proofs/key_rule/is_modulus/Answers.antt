@@ -5,14 +5,20 @@ use Rattle.rpki_cert.proofs.key_rule.is_modulus.Goals as goal
 
 pub returns-then-octets-ne256 : goal.returns-then-octets-ne256
 returns-then-octets-ne256 c =
-    let other = rw c.as_slice-octets.ensures.octets at c.if-octets-ne256.true in
-    (λ z. absurd (false≢true z), λ h. absurd (other (modulus-size c.args.number.now c.as_slice-octets.ensures.magnitude h)))
+    let other = rw c.as_slice-octets.ensures.octets at c.if-octets-ne256.true in (
+      λ z. absurd (false≢true z),
+      λ h. absurd (other
+          (modulus-size c.args.number.now c.as_slice-octets.ensures.magnitude h)),
+    )
 
 pub returns-then-octets-lt128 : goal.returns-then-octets-lt128
 returns-then-octets-lt128 c =
     let size = rw c.as_slice-octets.ensures.octets at c.if-octets-ne256.false in
-    let low = rw c.as_slice-octets.ensures.octets at c.if-octets-lt128.true in
-    (λ z. absurd (false≢true z), λ h. absurd (modulus-first c.args.number.now c.as_slice-octets.ensures.magnitude size low h))
+    let low = rw c.as_slice-octets.ensures.octets at c.if-octets-lt128.true in (
+      λ z. absurd (false≢true z),
+      λ h. absurd (modulus-first c.args.number.now c.as_slice-octets.ensures.magnitude size
+          low h),
+    )
 
 pub returns : goal.returns
 returns c =

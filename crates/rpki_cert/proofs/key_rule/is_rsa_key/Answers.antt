@@ -8,4 +8,5 @@ returns-in-Some c =
     (λ z. key-there _ _ h.0 (c.are_rsa_parts.ensures.0 z), λ k. c.are_rsa_parts.ensures.1 (key-in _ _ h.1 k))
 
 pub returns-in-None : goal.returns-in-None
-returns-in-None c = let h = rw c.from_slice.ensures at c.in-None.ensures in (λ z. absurd (false≢true z), λ k. absurd (key-none _ h k))
+returns-in-None c = let h = rw c.from_slice.ensures
+    at c.in-None.ensures in (λ z. absurd (false≢true z), λ k. absurd (key-none _ h k))

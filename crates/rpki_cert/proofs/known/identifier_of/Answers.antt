@@ -4,4 +4,5 @@ use Rattle.rpki.specs.KeyIdentifier.{SpellsKeyIdentifier, IsKeyIdentifier, IsIde
 use Rattle.rpki_cert.proofs.known.identifier_of.Goals as goal
 
 pub returns : goal.returns
-returns c = read-whole (λ k. k) SpellsKeyIdentifier (IsIdentifierFault IsKeyIdentifier) _ (λ b a x h. search rules) _ _ c.whole.ensures
+returns c = read-whole (λ k. k) SpellsKeyIdentifier (IsIdentifierFault IsKeyIdentifier) _ (λ b a x h. search rules) _ _
+    c.whole.ensures

@@ -1,7 +1,8 @@
 use Rattle.std.proofs.Common.{rules}
 use Rattle.rpki_der.proofs.InsideLaws.{read-whole}
-use Rattle.rpki_cert.specs.ExtensionContent.{SpellsPolicies, IsPoliciesFault}
+use Rattle.rpki_cert.specs.ExtensionContent.{SpellsPolicies}
 use Rattle.rpki_cert.proofs.known.overclaim_of.Goals as goal
+use Rattle.rpki_cert.specs.ExtensionContent.{policies_content}
 
 pub returns : goal.returns
-returns c = read-whole (λ p. p) SpellsPolicies IsPoliciesFault _ (λ b a x h. search rules) _ _ c.whole.ensures
+returns c = read-whole (λ p. p) SpellsPolicies policies_content.fault _ (λ b a x h. search rules) _ _ c.whole.ensures

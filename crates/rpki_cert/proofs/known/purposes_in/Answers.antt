@@ -5,8 +5,13 @@ use Rattle.rpki_cert.proofs.known.purposes_in.Goals as goal
 
 pub returns-in-Ok : goal.returns-in-Ok
 returns-in-Ok c =
-    only-value false SpellsPurposes c.args.found c.in-Ok-Some.extension c.in-Ok.found (rw c.in-Ok-Some.field-0-is at c.in-Ok-Some.ensures.some) (rw (c.from_slice.ensures, c.octets.ensures) at c.in-Ok.ensures.gives)
+    only-value false SpellsPurposes c.args.found c.in-Ok-Some.extension c.in-Ok.found
+    (rw c.in-Ok-Some.field-0-is at c.in-Ok-Some.ensures.some)
+    (rw (c.from_slice.ensures, c.octets.ensures) at c.in-Ok.ensures.gives)
 
 pub returns-in-Err-read_purposes : goal.returns-in-Err-read_purposes
 returns-in-Err-read_purposes c =
-    given-wrong false SpellsPurposes c.args.found c.in-Ok-Some.extension c.in-Err-read_purposes.e (rw c.in-Ok-Some.field-0-is at c.in-Ok-Some.ensures.some) (rw (c.from_slice.ensures, c.octets.ensures) at c.in-Err-read_purposes.ensures.gives) c.in-Err-read_purposes.ensures.kind
+    given-wrong false SpellsPurposes c.args.found c.in-Ok-Some.extension c.in-Err-read_purposes.e
+    (rw c.in-Ok-Some.field-0-is at c.in-Ok-Some.ensures.some)
+    (rw (c.from_slice.ensures, c.octets.ensures) at c.in-Err-read_purposes.ensures.gives)
+    c.in-Err-read_purposes.ensures.kind

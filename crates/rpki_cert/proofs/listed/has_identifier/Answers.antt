@@ -11,7 +11,8 @@ use Rattle.rpki_cert.proofs.ListedLaws.{extension-refused, has-on, has-found, ha
 use Rattle.rpki_cert.proofs.listed.has_identifier.Goals as goal
 
 pub extensions-init : goal.extensions-init
-extensions-init c = gathers-all SpellsExtension (λ xs. is_there (find c.args.id.0.now xs)) (left c.args.list) (λ b. b) (λ b. refl)
+extensions-init c = gathers-all SpellsExtension (λ xs. is_there (find c.args.id.0.now xs)) (left c.args.list) (λ b. b)
+    (λ b. refl)
 
 pub extensions-smaller : goal.extensions-smaller
 extensions-smaller c = leaf-shorter sequence true IsExtensionContents _ _ _ c.in-Ok.ensures.spells

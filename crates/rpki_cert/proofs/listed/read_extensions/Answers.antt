@@ -4,7 +4,8 @@ use Rattle.rpki_cert.specs.Cert.{are_unique}
 use Rattle.rpki_cert.specs.ExtensionTable.{OfListed}
 use Rattle.rpki_cert.proofs.ListedLaws.{unframed, uncounted, too-many, twice, extensions-at}
 use Rattle.rpki_cert.proofs.listed.read_extensions.Goals as goal
-use Rattle.rpki_cert.proofs.listed.read_extensions.Goals.{else-not-passed-via-then-not-passed+else-not-are_unique, else-not-passed-via-else-not-passed}
+use Rattle.rpki_cert.proofs.listed.read_extensions.Goals.{else-not-passed-via-then-not-passed+else-not-are_unique}
+use Rattle.rpki_cert.proofs.listed.read_extensions.Goals.{else-not-passed-via-else-not-passed}
 
 pub returns-in-None-clause-err : goal.returns-in-None-clause-err
 returns-in-None-clause-err c = unframed _ _ c.in-None.ensures refl

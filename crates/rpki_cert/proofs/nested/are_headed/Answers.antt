@@ -7,10 +7,15 @@ values-smaller c = any-shorter _ _ _ c.in-Ok.ensures
 
 pub values-preserved : goal.values-preserved
 values-preserved c =
-    let some = iff_false c.is_empty.ensures c.values-test.true in
-    (λ h. c.values.invariant.0 (headed-before _ _ _ c.in-Ok.ensures h), λ h. headed-after _ _ _ some c.in-Ok.ensures (c.values.invariant.1 h))
+    let some = iff_false c.is_empty.ensures c.values-test.true in (
+      λ h. c.values.invariant.0 (headed-before _ _ _ c.in-Ok.ensures h),
+      λ h. headed-after _ _ _ some c.in-Ok.ensures (c.values.invariant.1 h),
+    )
 
 pub returns-in-Err : goal.returns-in-Err
 returns-in-Err c =
-    let some = iff_false c.is_empty.ensures c.values-test.true in
-    (λ z. absurd (false≢true z), λ h. absurd (no-front _ some (any-refused _ _ c.in-Err.field-0 c.in-Err.ensures) (c.values.invariant.1 h)))
+    let some = iff_false c.is_empty.ensures c.values-test.true in (
+      λ z. absurd (false≢true z),
+      λ h. absurd (no-front _ some (any-refused _ _ c.in-Err.field-0 c.in-Err.ensures)
+          (c.values.invariant.1 h)),
+    )

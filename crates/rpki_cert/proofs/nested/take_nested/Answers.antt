@@ -18,4 +18,5 @@ returns-in-Ok-default-Primitive c =
 pub returns-else-not-are_values : goal.returns-else-not-are_values
 returns-else-not-are_values c =
     let a = rw c.in-Ok-default-Constructed.field-0-1-is at c.in-Ok-default-Constructed.ensures in
-    constructed-there _ _ _ _ _ _ _ a (c.are_values.ensures.0 c.if-not-are_values.false) c.rest-octets.ensures c.rest-in-Ok-default-Constructed.ensures c.front_of-in-Ok-default-Constructed.ensures
+    constructed-there _ _ _ _ _ _ _ a (c.are_values.ensures.0 c.if-not-are_values.false) c.rest-octets.ensures
+    c.rest-in-Ok-default-Constructed.ensures c.front_of-in-Ok-default-Constructed.ensures

@@ -7,11 +7,14 @@ use Rattle.rpki_cert.proofs.policy.skip_statement.Goals as goal
 
 pub returns-in_err-contents : goal.returns-in_err-contents
 returns-in_err-contents c =
-    tried-refused _ _ _ _ _ _ _ c.from_residual.ensures (leaf-refused ia5_string false IsAnyIa5 _ _ _ c.in_err-contents.field-0.0 refl c.in_err-contents.ensures)
+    tried-refused _ _ _ _ _ _ _ c.from_residual.ensures
+    (leaf-refused ia5_string false IsAnyIa5 _ _ _ c.in_err-contents.field-0.0 refl c.in_err-contents.ensures)
 
 pub returns-then-not-is_ascii : goal.returns-then-not-is_ascii
 returns-then-not-is_ascii c =
-    leaf-malformed ia5_string false IsAnyIa5 _ c.in_ok-contents.contents.now _ _ _ _ c.content.ensures refl c.in_ok-contents.ensures (λ v h. let bad = c.if-not-is_ascii.ensures.cases in omega (arith, h bad.0, bad.1))
+    leaf-malformed ia5_string false IsAnyIa5 _ c.in_ok-contents.contents.now _ _ _ _ c.content.ensures refl
+    c.in_ok-contents.ensures (λ v h. let bad = c.if-not-is_ascii.ensures.cases in omega (arith, h bad.0, bad.1))
 
 pub returns : goal.returns
-returns c = leaf-accepted ia5_string false IsAnyIa5 _ c.in_ok-contents.contents.now _ tt c.in_ok-contents.ensures c.if-not-is_ascii.ensures.cases (λ w is. refl)
+returns c = leaf-accepted ia5_string false IsAnyIa5 _ c.in_ok-contents.contents.now _ tt c.in_ok-contents.ensures
+    c.if-not-is_ascii.ensures.cases (λ w is. refl)

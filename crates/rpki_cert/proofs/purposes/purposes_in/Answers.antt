@@ -14,7 +14,8 @@ use Rattle.rpki_cert.proofs.purposes.purposes_in.Goals as goal
 
 pub returns-then-is_empty-clause-gives : goal.returns-then-is_empty-clause-gives
 returns-then-is_empty-clause-gives c =
-    no-purposes (left c.args.contents) (gathers-nothing SpellsPurpose has_router (left c.args.contents) (leaf-some oid false (IsOidAs router_purpose)) (c.is_empty.ensures.0 c.if-is_empty.true))
+    no-purposes (left c.args.contents) (gathers-nothing SpellsPurpose has_router (left c.args.contents)
+    (leaf-some oid false (IsOidAs router_purpose)) (c.is_empty.ensures.0 c.if-is_empty.true))
 
 pub purposes-init : goal.purposes-init
 purposes-init c = gathers-all SpellsPurpose has_router (left c.args.contents) (λ b. false || b) (λ b. refl)
@@ -25,17 +26,25 @@ purposes-smaller c = leaf-shorter oid false (IsOidAs router_purpose) _ _ _ c.in_
 pub purposes-preserved : goal.purposes-preserved
 purposes-preserved c =
     let some = iff_false c.is_empty-in-purposes.ensures c.purposes-test.true in
-    gathers-on SpellsPurpose has_router (left c.args.contents) (λ b. c.purposes.router || b) (λ b. c.is_either-router.result || b) _ _ c.in_ok-found.found (λ zs. or-joined c.purposes.router c.in_ok-found.found c.is_either-router.result (has_router zs) c.is_either-router.ensures) some c.purposes.invariant c.in_ok-found.ensures
+    gathers-on SpellsPurpose has_router (left c.args.contents) (λ b. c.purposes.router || b)
+    (λ b. c.is_either-router.result || b) _ _ c.in_ok-found.found
+    (λ zs. or-joined c.purposes.router c.in_ok-found.found c.is_either-router.result (has_router zs)
+    c.is_either-router.ensures) some c.purposes.invariant c.in_ok-found.ensures
 
 pub returns-in_err-found-clause-gives : goal.returns-in_err-found-clause-gives
 returns-in_err-found-clause-gives c =
     let some = iff_false c.is_empty-in-purposes.ensures c.purposes-test.true in
-    tried-all (λ b. b) ArePurposes _ (left c.args.contents) _ c.from_residual.ensures (no-purposes (left c.args.contents) (gathers-none SpellsPurpose has_router (left c.args.contents) (λ b. c.purposes.router || b) _ some c.purposes.invariant (oid-refused router_purpose _ _ c.in_err-found.field-0.0 c.in_err-found.ensures)))
+    tried-all (λ b. b) ArePurposes _ (left c.args.contents) _ c.from_residual.ensures
+    (no-purposes (left c.args.contents) (gathers-none SpellsPurpose has_router (left c.args.contents)
+    (λ b. c.purposes.router || b) _ some c.purposes.invariant
+    (oid-refused router_purpose _ _ c.in_err-found.field-0.0 c.in_err-found.ensures)))
 
 pub returns-clause-gives : goal.returns-clause-gives
 returns-clause-gives c =
     as-purposes (left c.args.contents) c.purposes.router
-    (gathers-end SpellsPurpose has_router (left c.args.contents) (leaf-some oid false (IsOidAs router_purpose)) (λ b. c.purposes.router || b) _ c.purposes.router (iff_false c.is_empty.ensures c.if-is_empty.false) (c.is_empty-in-purposes.ensures.0 c.purposes-test.false) c.purposes.invariant (or-false c.purposes.router))
+    (gathers-end SpellsPurpose has_router (left c.args.contents) (leaf-some oid false (IsOidAs router_purpose))
+    (λ b. c.purposes.router || b) _ c.purposes.router (iff_false c.is_empty.ensures c.if-is_empty.false)
+    (c.is_empty-in-purposes.ensures.0 c.purposes-test.false) c.purposes.invariant (or-false c.purposes.router))
   where
     or-false : (b : Bool) → (b || false) ≡ b
     or-false true = refl

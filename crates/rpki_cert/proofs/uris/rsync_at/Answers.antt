@@ -12,5 +12,6 @@ returns-in_err-found c =
 pub returns : goal.returns
 returns c =
     let told = rw c.find_kept.ensures at c.information_in-told.ensures in
-    kept-uri (SpellsUriOf c.args.method) (find c.args.id.0.now c.args.all.now) (option_copied c.in_ok-found.found) c.keep_rsync.result (c.in_ok-found.ensures (find c.args.id.0.now c.args.all.now) told)
+    kept-uri (SpellsUriOf c.args.method) (find c.args.id.0.now c.args.all.now) (option_copied c.in_ok-found.found)
+    c.keep_rsync.result (c.in_ok-found.ensures (find c.args.id.0.now c.args.all.now) told)
     c.keep_rsync.ensures.ok c.keep_rsync.ensures.err

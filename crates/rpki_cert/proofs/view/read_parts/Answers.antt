@@ -14,4 +14,5 @@ returns-in-None-clause-err c = Later _ _ c.in-Ok.ensures (NoSignature c.in-None.
 
 pub returns-in-Some-clause-ok : goal.returns-in-Some-clause-ok
 returns-in-Some-clause-ok c = λ one.
-    parts-read _ _ _ _ _ _ _ _ _ (value-accepted c.args.signed.now _ one) refl c.rest-octets.ensures refl c.in-Ok.ensures refl c.rest-last.ensures c.front_of.ensures refl c.in-Some.ensures.0 refl refl
+    parts-read _ _ _ _ _ _ _ _ _ (value-accepted c.args.signed.now _ one) refl c.rest-octets.ensures refl
+    c.in-Ok.ensures refl c.rest-last.ensures c.front_of.ensures refl c.in-Some.ensures.0 refl refl

@@ -4,7 +4,8 @@ use Rattle.rpki_cert.proofs.ViewLaws.{signature-all, signature-unused, signature
 use Rattle.rpki_cert.proofs.view.read_signature.Goals as goal
 
 pub returns-then-unused-gt0 : goal.returns-then-unused-gt0
-returns-then-unused-gt0 c = signature-unused _ _ _ c.in-Ok.ensures (λ e. omega (arith, c.if-unused-gt0.true, c.unused.ensures.value, e))
+returns-then-unused-gt0 c = signature-unused _ _ _ c.in-Ok.ensures
+    (λ e. omega (arith, c.if-unused-gt0.true, c.unused.ensures.value, e))
 
 pub returns-then-is_empty : goal.returns-then-is_empty
 returns-then-is_empty c =

@@ -9,7 +9,10 @@ use Rattle.rpki_cert.proofs.access_information.AccessInformation.read.Goals as g
 
 pub returns-in_err-contents-clause-gives : goal.returns-in_err-contents-clause-gives
 returns-in_err-contents-clause-gives c =
-    tried-all parts_of (SpellsAccess access_parts) _ _ _ c.from_residual.ensures (leaf-none sequence true (Through access_parts (SpellsSome SpellsDescription)) _ c.in_err-contents.ensures.gives)
+    tried-all parts_of (SpellsAccess access_parts) _ _ _ c.from_residual.ensures
+    (leaf-none sequence true (Through access_parts (SpellsSome SpellsDescription)) _
+    c.in_err-contents.ensures.gives)
 
 pub returns-clause-gives : goal.returns-clause-gives
-returns-clause-gives c = leaf-all sequence true (Through access_parts (SpellsSome SpellsDescription)) _ parts_of _ c.gather.result c.in_ok-contents.ensures.gives c.gather.ensures.gives
+returns-clause-gives c = leaf-all sequence true (Through access_parts (SpellsSome SpellsDescription)) _ parts_of _
+    c.gather.result c.in_ok-contents.ensures.gives c.gather.ensures.gives

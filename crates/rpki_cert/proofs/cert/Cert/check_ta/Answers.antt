@@ -12,16 +12,21 @@ pub returns-in_err-inspect_ta : goal.returns-in_err-inspect_ta
 returns-in_err-inspect_ta g c =
     let p = c.args.provider.now in
     let by = checkers_of (g.P.Provider.rsa_of p) (g.P.Provider.ecdsa_of p) (g.P.Provider.sha1_of p) in
-    tried-fault _ _ _ _ c.from_residual.ensures (root-else c.args.strict by c.args.at c.args.self.now _ (rw c.tbs.ensures at c.in_err-inspect_ta.ensures))
+    tried-fault _ _ _ _ c.from_residual.ensures
+    (root-else c.args.strict by c.args.at c.args.self.now _ (rw c.tbs.ensures at c.in_err-inspect_ta.ensures))
 
 pub returns-in_err-verify_anchor : goal.returns-in_err-verify_anchor
 returns-in_err-verify_anchor g c =
     let p = c.args.provider.now in
     let by = checkers_of (g.P.Provider.rsa_of p) (g.P.Provider.ecdsa_of p) (g.P.Provider.sha1_of p) in
-    tried-fault _ _ _ _ c.from_residual-in_err-verify_anchor.ensures (root-off c.args.strict by c.args.at c.args.self.now _ (rw c.tbs.ensures at c.in_ok-inspect_ta.ensures) c.in_err-verify_anchor.ensures)
+    tried-fault _ _ _ _ c.from_residual-in_err-verify_anchor.ensures
+    (root-off c.args.strict by c.args.at c.args.self.now _ (rw c.tbs.ensures at c.in_ok-inspect_ta.ensures)
+    c.in_err-verify_anchor.ensures)
 
 pub returns : goal.returns
 returns g c =
     let p = c.args.provider.now in
     let by = checkers_of (g.P.Provider.rsa_of p) (g.P.Provider.ecdsa_of p) (g.P.Provider.sha1_of p) in
-    root-settles c.args.strict by c.args.at c.args.self.now c.settle_anchor.result (rw c.tbs.ensures at c.in_ok-inspect_ta.ensures) c.in_ok-verify_anchor.ensures (rw c.tbs-2.ensures at c.settle_anchor.ensures)
+    root-settles c.args.strict by c.args.at c.args.self.now c.settle_anchor.result
+    (rw c.tbs.ensures at c.in_ok-inspect_ta.ensures) c.in_ok-verify_anchor.ensures
+    (rw c.tbs-2.ensures at c.settle_anchor.ensures)

@@ -5,4 +5,5 @@ use Rattle.rpki_cert.specs.CertFault.{IsCertFault}
 use Rattle.rpki_cert.proofs.cert.Cert.decode.Goals as goal
 
 pub returns : goal.returns
-returns c = read-whole (λ x. x) SpellsCert IsCertFault _ (λ b a x h. search rules) _ _ (rw c.new.ensures at c.whole_with.ensures)
+returns c = read-whole (λ x. x) SpellsCert IsCertFault _ (λ b a x h. search rules) _ _
+    (rw c.new.ensures at c.whole_with.ensures)

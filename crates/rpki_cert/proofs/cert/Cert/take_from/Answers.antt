@@ -12,7 +12,8 @@ use Rattle.rpki_cert.proofs.cert.Cert.take_from.Goals as goal
 
 pub returns-in_err-signed_data : goal.returns-in_err-signed_data
 returns-in_err-signed_data g c =
-    tried-refused _ _ _ _ _ _ _ c.from_residual.ensures (unsigned _ _ c.in_err-signed_data.field-0.0 c.in_err-signed_data.ensures)
+    tried-refused _ _ _ _ _ _ _ c.from_residual.ensures
+    (unsigned _ _ c.in_err-signed_data.field-0.0 c.in_err-signed_data.ensures)
 
 pub returns-in_err-tbs : goal.returns-in_err-tbs
 returns-in_err-tbs g c =
@@ -27,14 +28,16 @@ returns-in_err-finish g c =
     let s = left c.args.cons.now in
     tried-refused _ _ _ _ _ e _ c.from_residual-in_err-finish.ensures
     (subst (λ (d : DecodeError). Refusal SpellsCert IsCertFault s s d) (sym c.in_err-finish.ensures.0)
-    (more-signed _ _ c.in_ok-signed_data.signed_data c.in_ok-signed_data.ensures c.in_ok-tbs.tbs _ b c.in_err-finish.ensures.1))
+    (more-signed _ _ c.in_ok-signed_data.signed_data c.in_ok-signed_data.ensures c.in_ok-tbs.tbs _ b
+    c.in_err-finish.ensures.1))
 
 pub returns-then-not-is_same : goal.returns-then-not-is_same
 returns-then-not-is_same g c =
     let b = rw (c.cursor-signed.ensures, c.data-data.ensures.slice) at c.in_ok-tbs.ensures in
     let outer = c.algorithm.ensures ∙ ap (λ (s : SignatureParts Bool). s.algorithm) c.signature-2.ensures in
     differ _ _ c.in_ok-signed_data.signed_data c.in_ok-signed_data.ensures c.in_ok-tbs.tbs _ b c.in_ok-finish.ensures _
-    (λ e. iff_false c.is_same.ensures c.if-not-is_same.true (c.signature.ensures ∙ e ∙ sym outer)) (rw c.content.ensures refl)
+    (λ e. iff_false c.is_same.ensures c.if-not-is_same.true (c.signature.ensures ∙ e ∙ sym outer))
+    (rw c.content.ensures refl)
 
 pub returns : goal.returns
 returns g c =

@@ -13,15 +13,19 @@ pub invariant_of-result : goal.invariant_of-result
 invariant_of-result g c = λ m h.
     let v = verified_by g.P.Provider.rsa_of g.P.Provider.ecdsa_of g.P.Provider.sha1_of c.args.issuer.now in
     let holds = rw (c.period.ensures, c.validity.ensures, c.tbs.ensures) at c.trim-period.ensures.holds m in
-    rw c.provider.ensures (issued-at c.args.strict v c.args.at m c.args.self c.in_ok-resources.resources c.in_ok-resources.ensures.verified c.in_ok-resources.ensures.exactly (holds.0 h))
+    rw c.provider.ensures (issued-at c.args.strict v c.args.at m c.args.self c.in_ok-resources.resources
+    c.in_ok-resources.ensures.verified c.in_ok-resources.ensures.exactly (holds.0 h))
 
 pub returns-clause-path : goal.returns-clause-path
 returns-clause-path g c =
     let v = verified_by g.P.Provider.rsa_of g.P.Provider.ecdsa_of g.P.Provider.sha1_of c.args.issuer.now in
-    has-path (IsCaProfile c.args.strict) c.args.strict ca_rules v c.args.at c.args.self c.in_ok-resources.resources c.in_ok-resources.ensures.verified c.in_ok-resources.ensures.exactly
+    has-path (IsCaProfile c.args.strict) c.args.strict ca_rules v c.args.at c.args.self c.in_ok-resources.resources
+    c.in_ok-resources.ensures.verified c.in_ok-resources.ensures.exactly
 
 pub returns-clause-period : goal.returns-clause-period
-returns-clause-period g c = λ m. rw (c.period.ensures, c.validity.ensures, c.tbs.ensures) at c.trim-period.ensures.holds m
+returns-clause-period g c = λ m. rw (c.period.ensures, c.validity.ensures, c.tbs.ensures)
+    at c.trim-period.ensures.holds m
 
 pub returns-clause-within : goal.returns-clause-within
-returns-clause-within g c = resources-within c.args.self.tbs.extensions c.args.issuer.now.resources c.in_ok-resources.resources c.in_ok-resources.ensures.exactly.path.resources
+returns-clause-within g c = resources-within c.args.self.tbs.extensions c.args.issuer.now.resources
+    c.in_ok-resources.resources c.in_ok-resources.ensures.exactly.path.resources

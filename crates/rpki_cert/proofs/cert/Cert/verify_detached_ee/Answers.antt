@@ -13,19 +13,25 @@ verify_path-requires g c =
 pub returns-clause-exactly : goal.returns-clause-exactly
 returns-clause-exactly g c =
     let v = verified_by g.P.Provider.rsa_of g.P.Provider.ecdsa_of g.P.Provider.sha1_of c.args.issuer.now in
-    profile-then (IsDetachedProfile c.args.strict) c.args.strict detached_rules v c.args.at c.args.self.now c.verify_path.result (rw c.tbs.ensures at c.in_ok-inspect_detached_ee.ensures) c.verify_path.ensures.exactly
+    profile-then (IsDetachedProfile c.args.strict) c.args.strict detached_rules v c.args.at c.args.self.now
+    c.verify_path.result (rw c.tbs.ensures at c.in_ok-inspect_detached_ee.ensures) c.verify_path.ensures.exactly
 
 pub returns-clause-path : goal.returns-clause-path
 returns-clause-path g c =
     let v = verified_by g.P.Provider.rsa_of g.P.Provider.ecdsa_of g.P.Provider.sha1_of c.args.issuer.now in
-    path-then (IsDetachedProfile c.args.strict) c.args.strict detached_rules v c.args.at c.args.self.now c.verify_path.result c.verify_path.ensures.verified (rw c.tbs.ensures at c.in_ok-inspect_detached_ee.ensures) c.verify_path.ensures.exactly
+    path-then (IsDetachedProfile c.args.strict) c.args.strict detached_rules v c.args.at c.args.self.now
+    c.verify_path.result c.verify_path.ensures.verified (rw c.tbs.ensures at c.in_ok-inspect_detached_ee.ensures)
+    c.verify_path.ensures.exactly
 
 pub returns-clause-within : goal.returns-clause-within
 returns-clause-within g c =
     let v = verified_by g.P.Provider.rsa_of g.P.Provider.ecdsa_of g.P.Provider.sha1_of c.args.issuer.now in
-    within-then (IsDetachedProfile c.args.strict) c.args.strict detached_rules v c.args.at c.args.self.now c.verify_path.result c.verify_path.ensures.exactly
+    within-then (IsDetachedProfile c.args.strict) c.args.strict detached_rules v c.args.at c.args.self.now
+    c.verify_path.result c.verify_path.ensures.exactly
 
 pub returns-in_err-inspect_detached_ee-clause-exactly : goal.returns-in_err-inspect_detached_ee-clause-exactly
 returns-in_err-inspect_detached_ee-clause-exactly g c =
     let v = verified_by g.P.Provider.rsa_of g.P.Provider.ecdsa_of g.P.Provider.sha1_of c.args.issuer.now in
-    tried-fault _ _ _ _ c.from_residual.ensures (profile-else (IsDetachedProfile c.args.strict) c.args.strict detached_rules v c.args.at c.args.self.now _ (rw c.tbs.ensures at c.in_err-inspect_detached_ee.ensures))
+    tried-fault _ _ _ _ c.from_residual.ensures
+    (profile-else (IsDetachedProfile c.args.strict) c.args.strict detached_rules v c.args.at c.args.self.now _
+    (rw c.tbs.ensures at c.in_err-inspect_detached_ee.ensures))

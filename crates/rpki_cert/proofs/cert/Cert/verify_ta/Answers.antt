@@ -10,4 +10,5 @@ pub invariant_of-result : goal.invariant_of-result
 invariant_of-result g c = λ m h.
     let p = c.args.provider.now in
     let by = checkers_of (g.P.Provider.rsa_of p) (g.P.Provider.ecdsa_of p) (g.P.Provider.sha1_of p) in
-    root-at c.args.strict by c.args.at m (holder c.args.self c.in_ok-resources.resources) c.in_ok-resources.ensures (rw (c.validity-period.ensures, c.tbs.ensures) at h)
+    root-at c.args.strict by c.args.at m (holder c.args.self c.in_ok-resources.resources) c.in_ok-resources.ensures
+    (rw (c.validity-period.ensures, c.tbs.ensures) at h)

@@ -27,13 +27,22 @@ pub returns-in-Err-usage_in-clause-err : goal.returns-in-Err-usage_in-clause-err
 returns-in-Err-usage_in-clause-err c = λ xs k.
     let h0 = rw (c.find.ensures xs k) at c.in-Ok.ensures in
     let h1 = rw (c.find-2.ensures xs k) at c.in-Ok-subject_in.ensures in
-    let h2 = rw (c.find-3.ensures xs k) at c.in-Ok-authority_in.ensures in
-    (λ none. none _ h0.0, λ none. none _ h1.0, λ none. none _ h2.0, (rw (c.find-4.ensures xs k) at c.in-Err-usage_in.ensures).0)
+    let h2 = rw (c.find-3.ensures xs k) at c.in-Ok-authority_in.ensures in (
+      λ none. none _ h0.0,
+      λ none. none _ h1.0,
+      λ none. none _ h2.0,
+      (rw (c.find-4.ensures xs k) at c.in-Err-usage_in.ensures).0,
+    )
 
 pub returns-in-Err-overclaim_in-clause-err : goal.returns-in-Err-overclaim_in-clause-err
 returns-in-Err-overclaim_in-clause-err c = λ xs k.
     let h0 = rw (c.find.ensures xs k) at c.in-Ok.ensures in
     let h1 = rw (c.find-2.ensures xs k) at c.in-Ok-subject_in.ensures in
     let h2 = rw (c.find-3.ensures xs k) at c.in-Ok-authority_in.ensures in
-    let h3 = rw (c.find-4.ensures xs k) at c.in-Ok-usage_in.ensures in
-    (λ none. none _ h0.0, λ none. none _ h1.0, λ none. none _ h2.0, λ none. none _ h3.0, (rw (c.find-5.ensures xs k) at c.in-Err-overclaim_in.ensures).0)
+    let h3 = rw (c.find-4.ensures xs k) at c.in-Ok-usage_in.ensures in (
+      λ none. none _ h0.0,
+      λ none. none _ h1.0,
+      λ none. none _ h2.0,
+      λ none. none _ h3.0,
+      (rw (c.find-5.ensures xs k) at c.in-Err-overclaim_in.ensures).0,
+    )

@@ -16,13 +16,16 @@ one-usage Ee Ee c h k = refl
 
 pub returns-in_err-contents : goal.returns-in_err-contents
 returns-in_err-contents c =
-    tried-refused _ _ _ _ _ _ _ c.from_residual.ensures (leaf-refused bit_string false IsUsage _ _ _ c.in_err-contents.field-0.0 refl c.in_err-contents.ensures)
+    tried-refused _ _ _ _ _ _ _ c.from_residual.ensures
+    (leaf-refused bit_string false IsUsage _ _ _ c.in_err-contents.field-0.0 refl c.in_err-contents.ensures)
 
 pub returns-in-Some : goal.returns-in-Some
 returns-in-Some c =
     let is = c.in-Some.ensures.some in
-    leaf-accepted bit_string false IsUsage _ c.in_ok-contents.contents.now _ c.in-Some.usage c.in_ok-contents.ensures is (λ w h. one-usage c.in-Some.usage w _ is h)
+    leaf-accepted bit_string false IsUsage _ c.in_ok-contents.contents.now _ c.in-Some.usage c.in_ok-contents.ensures is
+    (λ w h. one-usage c.in-Some.usage w _ is h)
 
 pub returns-in-None : goal.returns-in-None
 returns-in-None c =
-    leaf-malformed bit_string false IsUsage _ c.in_ok-contents.contents.now _ _ _ _ c.content.ensures refl c.in_ok-contents.ensures c.in-None.ensures.none
+    leaf-malformed bit_string false IsUsage _ c.in_ok-contents.contents.now _ _ _ _ c.content.ensures refl
+    c.in_ok-contents.ensures c.in-None.ensures.none

@@ -19,13 +19,16 @@ one-policy Trim Trim c h k = refl
 
 pub returns-in_err-contents : goal.returns-in_err-contents
 returns-in_err-contents c =
-    tried-refused _ _ _ _ _ _ _ c.from_residual.ensures (leaf-refused oid false IsPolicyName _ _ _ c.in_err-contents.field-0.0 refl c.in_err-contents.ensures)
+    tried-refused _ _ _ _ _ _ _ c.from_residual.ensures
+    (leaf-refused oid false IsPolicyName _ _ _ c.in_err-contents.field-0.0 refl c.in_err-contents.ensures)
 
 pub returns-in-Some : goal.returns-in-Some
 returns-in-Some c =
     let is = c.in-Some.ensures.some in
-    leaf-accepted oid false IsPolicyName _ c.in_ok-contents.contents.now _ c.in-Some.overclaim c.in_ok-contents.ensures is (λ w h. one-policy c.in-Some.overclaim w _ is h)
+    leaf-accepted oid false IsPolicyName _ c.in_ok-contents.contents.now _ c.in-Some.overclaim c.in_ok-contents.ensures
+    is (λ w h. one-policy c.in-Some.overclaim w _ is h)
 
 pub returns-in-None : goal.returns-in-None
 returns-in-None c =
-    leaf-malformed oid false IsPolicyName _ c.in_ok-contents.contents.now _ _ _ _ c.content.ensures refl c.in_ok-contents.ensures c.in-None.ensures.none
+    leaf-malformed oid false IsPolicyName _ c.in_ok-contents.contents.now _ _ _ _ c.content.ensures refl
+    c.in_ok-contents.ensures c.in-None.ensures.none

@@ -8,4 +8,5 @@ pub returns : goal.returns
 returns c =
     let strict = c.args.strict in
     let t = c.args.self.now in
-    inspects-of strict t (IsCaProfile strict t) (All (Obeys strict t) ca_rules) (ca-obeyed strict t) ca_rules c.inspect_all.result (rw c.ca_rules.ensures at c.inspect_all.ensures t c.inspected.ensures)
+    inspects-of strict t (IsCaProfile strict t) (All (Obeys strict t) ca_rules) (ca-obeyed strict t) ca_rules
+    c.inspect_all.result (rw c.ca_rules.ensures at c.inspect_all.ensures t c.inspected.ensures)

@@ -8,4 +8,5 @@ pub returns : goal.returns
 returns c =
     let strict = c.args.strict in
     let t = c.args.self.now in
-    inspects-of strict t (IsDetachedProfile strict t) (All (Obeys strict t) detached_rules) (detached-obeyed strict t) detached_rules c.inspect_all.result (rw c.detached_rules.ensures at c.inspect_all.ensures t c.inspected.ensures)
+    inspects-of strict t (IsDetachedProfile strict t) (All (Obeys strict t) detached_rules) (detached-obeyed strict t)
+    detached_rules c.inspect_all.result (rw c.detached_rules.ensures at c.inspect_all.ensures t c.inspected.ensures)

@@ -8,4 +8,5 @@ pub returns : goal.returns
 returns c =
     let strict = c.args.strict in
     let t = c.args.self.now in
-    inspects-of strict t (IsTaProfile strict t) (All (Obeys strict t) ta_rules) (ta-obeyed strict t) ta_rules c.inspect_all.result (rw c.ta_rules.ensures at c.inspect_all.ensures t c.inspected.ensures)
+    inspects-of strict t (IsTaProfile strict t) (All (Obeys strict t) ta_rules) (ta-obeyed strict t) ta_rules
+    c.inspect_all.result (rw c.ta_rules.ensures at c.inspect_all.ensures t c.inspected.ensures)

@@ -13,6 +13,7 @@ returns-in-Err-Overclaim c =
     let none = rw c.in-Err-Overclaim.field-0-is at c.in-Err-Overclaim.ensures.refused in
     inr (
       λ (x : ResourceSet) (h : HasResources c.args.self.now.extensions c.args.issuer.now x).
-          none x (settled-alone c.args.self.now.extensions c.in-Ok-Some.policy c.in-Ok.claim said c.in-Ok.ensures.claimed c.args.issuer.now x h),
+          none x (settled-alone c.args.self.now.extensions c.in-Ok-Some.policy c.in-Ok.claim said
+          c.in-Ok.ensures.claimed c.args.issuer.now x h),
       c.unverified-in-Err-Overclaim.ensures,
     )

@@ -8,4 +8,5 @@ pub returns : goal.returns
 returns c =
     let strict = c.args.strict in
     let t = c.args.self.now in
-    tests-of strict t (IsDetachedProfile strict t) (All (Obeys strict t) detached_rules) (detached-obeyed strict t) detached_rules c.test_all.result (rw c.detached_rules.ensures at c.test_all.ensures t c.inspected.ensures)
+    tests-of strict t (IsDetachedProfile strict t) (All (Obeys strict t) detached_rules) (detached-obeyed strict t)
+    detached_rules c.test_all.result (rw c.detached_rules.ensures at c.test_all.ensures t c.inspected.ensures)

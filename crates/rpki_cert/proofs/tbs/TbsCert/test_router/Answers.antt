@@ -8,4 +8,5 @@ pub returns : goal.returns
 returns c =
     let strict = c.args.strict in
     let t = c.args.self.now in
-    tests-of strict t (IsRouterProfile strict t) (All (Obeys strict t) router_rules) (router-obeyed strict t) router_rules c.test_all.result (rw c.router_rules.ensures at c.test_all.ensures t c.inspected.ensures)
+    tests-of strict t (IsRouterProfile strict t) (All (Obeys strict t) router_rules) (router-obeyed strict t)
+    router_rules c.test_all.result (rw c.router_rules.ensures at c.test_all.ensures t c.inspected.ensures)

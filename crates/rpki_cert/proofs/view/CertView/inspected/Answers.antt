@@ -18,7 +18,8 @@ pub returns : goal.returns
 returns c = λ s x h.
     let n = h.tbs.named in
     let f = h.spelled.tbs.spelled.two.two.two in
-    let each = subst (SpellsEach SpellsExtension x.tbs.extensions) (sym n.keyed.list_at) f.two.two.two.two.spelled.spelled.some.each in
+    let each = subst (SpellsEach SpellsExtension x.tbs.extensions) (sym n.keyed.list_at)
+    f.two.two.two.two.spelled.spelled.some.each in
     record {
       serial = h.tbs.serial;
       issuer = c.new.ensures ∙ n.issuer.octets;

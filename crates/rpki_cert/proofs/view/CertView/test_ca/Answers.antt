@@ -8,4 +8,5 @@ pub returns : goal.returns
 returns c = λ s x h.
     let strict = c.args.strict in
     let t = x.tbs in
-    tests-of strict t (IsCaProfile strict t) (All (Obeys strict t) ca_rules) (ca-obeyed strict t) ca_rules c.test_all.result (rw c.ca_rules.ensures at c.test_all.ensures t (c.inspected.ensures s x h))
+    tests-of strict t (IsCaProfile strict t) (All (Obeys strict t) ca_rules) (ca-obeyed strict t) ca_rules
+    c.test_all.result (rw c.ca_rules.ensures at c.test_all.ensures t (c.inspected.ensures s x h))

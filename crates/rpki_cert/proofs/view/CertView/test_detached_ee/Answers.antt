@@ -8,4 +8,6 @@ pub returns : goal.returns
 returns c = λ s x h.
     let strict = c.args.strict in
     let t = x.tbs in
-    tests-of strict t (IsDetachedProfile strict t) (All (Obeys strict t) detached_rules) (detached-obeyed strict t) detached_rules c.test_all.result (rw c.detached_rules.ensures at c.test_all.ensures t (c.inspected.ensures s x h))
+    tests-of strict t (IsDetachedProfile strict t) (All (Obeys strict t) detached_rules) (detached-obeyed strict t)
+    detached_rules c.test_all.result (rw c.detached_rules.ensures
+    at c.test_all.ensures t (c.inspected.ensures s x h))

@@ -8,4 +8,5 @@ pub returns : goal.returns
 returns c = λ s x h.
     let strict = c.args.strict in
     let t = x.tbs in
-    tests-of strict t (IsEeProfile strict t) (All (Obeys strict t) ee_rules) (ee-obeyed strict t) ee_rules c.test_all.result (rw c.ee_rules.ensures at c.test_all.ensures t (c.inspected.ensures s x h))
+    tests-of strict t (IsEeProfile strict t) (All (Obeys strict t) ee_rules) (ee-obeyed strict t) ee_rules
+    c.test_all.result (rw c.ee_rules.ensures at c.test_all.ensures t (c.inspected.ensures s x h))
