@@ -152,7 +152,8 @@ fn tested(found: Result<ResourceSet, ValidationError>) -> Result<(), ValidationE
     }
 }
 
-/// Whether the authority has issued the certificate, of a router where the key is one of a router's, else of an end entity.
+/// Whether the authority has issued the certificate, of a router where the key is one of a router's, else of an end
+/// entity.
 fn tell_end(
     alloc: Global,
     report: Report,
@@ -174,8 +175,8 @@ fn tell_end(
     )
 }
 
-/// Whether each of the certificates that are left is issued by the authority before it, which is verified at this moment:
-/// as an authority, until one is not, as a router or as an end entity.
+/// Whether each of the certificates that are left is issued by the authority before it, which is verified at this
+/// moment: as an authority, until one is not, as a router or as an end entity.
 fn tell_path(
     alloc: Global,
     report: Report,

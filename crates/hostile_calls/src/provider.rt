@@ -8,8 +8,8 @@ use rpki::crypto::Provider;
 use rpki_digests::Digests;
 use sha2::{Digest, Sha256};
 
-/// Finds a signature good where it is the digest by SHA-256 of what is signed and of the key's bits after it: tests make
-/// them so.
+/// Finds a signature good where it is the digest by SHA-256 of what is signed and of the key's bits after it: tests
+/// make them so.
 #[derive(Clone, Copy)]
 pub struct Stamps;
 

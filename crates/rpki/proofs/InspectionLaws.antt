@@ -64,7 +64,8 @@ module _ {V : Type 0} (G : V → List ℕ → Type 0) (P : V → Type 0) (s r : 
   pub whole-sized : (b : Bool) → P v → IsTrue b ↔ (r ≡ []) → IsTrue b ↔ ((w : V) × G w s × P w)
   whole-sized b p h = (λ e. (v, (all-read G s v r a (h.0 e)).0, p), λ g. (whole-read G s r v b a h).1 (g.0, g.1))
 
-pub whole-unsized : {V : Type 0} (G : V → List ℕ → Type 0) (P : V → Type 0) (s : List ℕ) → IsTrue false ↔ ((w : V) × G w s) → IsTrue false ↔ ((w : V) × G w s × P w)
+pub whole-unsized : {V : Type 0} (G : V → List ℕ → Type 0) (P : V → Type 0) (s : List ℕ)
+    → IsTrue false ↔ ((w : V) × G w s) → IsTrue false ↔ ((w : V) × G w s × P w)
 whole-unsized G P s h = (λ z. absurd (let w = z in cc), λ g. h.1 (g.0, g.1))
 
 -- ---- how many attributes have an identifier

@@ -11,7 +11,8 @@ use Rattle.rpki.specs.Oids.{common_name}
 use Rattle.rpki.specs.Name.{Attribute, attribute_of, IsAttribute, SpellsAttribute, SpellsSome, SpellsRelative}
 use Rattle.rpki.specs.Name.{SpellsName}
 use Rattle.rpki.specs.NameTable.{Row, row_at, name_table}
-use Rattle.rpki.specs.StrictName.{has_identifier, count_of, IsNameSize, IsPrintable, IsString, IsPermitted, IsStrict, attributes, rpki_strings, router_strings, IsRpkiName, IsRouterName}
+use Rattle.rpki.specs.StrictName.{has_identifier, count_of, IsNameSize, IsPrintable, IsString, IsPermitted, IsStrict}
+use Rattle.rpki.specs.StrictName.{attributes, rpki_strings, router_strings, IsRpkiName, IsRouterName}
 use Rattle.rpki.specs.declared.repository.x509.name.table.Strings.{Strings}
 use Rattle.rpki.proofs.InspectionLaws.{first-is-common}
 use Rattle.rpki.specs.SubjectName.{attribute_contents, subject_octets}
@@ -92,7 +93,12 @@ subject-size : (k : List ℕ) → length k ≡ 20 → IsNameSize (length (hex_te
 subject-size k size = (omega (arith, length-hex_text k), omega (arith, length-hex_text k))
 
 digits-printable : (k : List ℕ) → length k ≡ 20 → are_printable (hex_text k) ≡ true → IsPrintable (digits_value k)
-digits-printable k size digits = (hex_text k, leaf-legal printable_string false IsPrintableText (hex_text k) (hex_text k) printable-legal (digits-short k size) (refl, digits), subject-size k size)
+digits-printable k size digits = (
+  hex_text k,
+  leaf-legal printable_string false IsPrintableText (hex_text k) (hex_text k) printable-legal (digits-short k size)
+      (refl, digits),
+  subject-size k size,
+)
 
 -- of one attribute there are not two
 one-at-most : (o : List ℕ) (a : Attribute) → count_of o (a ∷ []) ≤ 1

@@ -18,8 +18,8 @@ has_identifier identifier a = pointwise nat_eq a.identifier identifier
 abbrev pub count_of : List ℕ → List Attribute → ℕ
 count_of identifier xs = count_by (has_identifier identifier) xs
 
--- how many characters the attributes' values have: 1 to 64, as ub-common-name, ub-serial-number and ub-organization-name
--- say (RFC 5280 A.1)
+-- how many characters the attributes' values have: 1 to 64, as ub-common-name, ub-serial-number and
+-- ub-organization-name say (RFC 5280 A.1)
 abbrev pub IsNameSize : ℕ → Type 0
 IsNameSize n = (1 ≤ n) × (n ≤ 64)
 

@@ -58,7 +58,8 @@ pub record Level (s : List ℕ) (place end n : ℕ) (Then : ℕ → Type 0) : Ty
   pub broken : (e : DecodeError) → IsBroken (between place end s) e → IsNestedFault s e
   pub whole : (vs : Members) → AreMembers (between place end s) vs → Then (n + header_count vs)
 
--- The octets of s up to a place, with n header_count, are the front of one value: the ends of the values that are still open, innermost first.
+-- The octets of s up to a place, with n header_count, are the front of one value: the ends of the values that are
+-- still open, innermost first.
 abbrev pub Open : List ℕ → List ℕ → ℕ → ℕ → Type 0
 Open s [] place n = IsValueOf n (take place s)
 Open s (end ∷ ends) place n = Level s place end n (λ m. Open s ends end m)

@@ -2,8 +2,8 @@
 use Rattle.std.specs.Prelude.{◌≡◌, ◌≢◌, ℕ, ◌<◌, ◌≤◌, List, Option, Some, slice_get}
 use Rattle.rpki_der.specs.Index.{Entry}
 
--- The entry f follows the entry e of this number: it begins behind where e begins. Where it begins in the value of e, it
--- is no member of what e is a member of; and the members of e begin in the value of e.
+-- The entry f follows the entry e of this number: it begins behind where e begins. Where it begins in the value of e,
+-- it is no member of what e is a member of; and the members of e begin in the value of e.
 abbrev pub Follows : ℕ → Entry → Entry → Type 0
 Follows number e f = (e.place < f.place) × (f.place < e.past → f.parent ≢ e.parent)
     × (f.parent ≡ Some number → f.place < e.past)

@@ -29,7 +29,8 @@ pub fn take_oid_contents<C: Cursor>(cursor: &mut C) -> Result<C, DecodeError>
 /// The contents of a PrintableString (X.690 8.23), with the errors of
 /// [Constructed::take_printable](crate::Constructed::take_printable).
 pub fn take_printable_contents<C: Cursor>(cursor: &mut C) -> Result<C, DecodeError>
-    ensures { ReadsLeaf C.octets_left printable_string IsPrintableText (C.octets_left cursor.old) (C.octets_left cursor.new) result }
+    ensures { ReadsLeaf C.octets_left printable_string IsPrintableText (C.octets_left cursor.old)
+        (C.octets_left cursor.new) result }
 {
     let mut after = *cursor;
     let contents = after.take_value_contents(Tag::PRINTABLE_STRING, false)?;
@@ -45,7 +46,8 @@ pub fn take_printable_contents<C: Cursor>(cursor: &mut C) -> Result<C, DecodeErr
 /// The contents of a UTF8String (X.690 8.23), with the errors of
 /// [Constructed::take_utf8](crate::Constructed::take_utf8).
 pub fn take_utf8_contents<C: Cursor>(cursor: &mut C) -> Result<C, DecodeError>
-    ensures { ReadsLeaf C.octets_left utf8_string IsUtf8Text (C.octets_left cursor.old) (C.octets_left cursor.new) result }
+    ensures { ReadsLeaf C.octets_left utf8_string IsUtf8Text (C.octets_left cursor.old)
+        (C.octets_left cursor.new) result }
 {
     let mut after = *cursor;
     let contents = after.take_value_contents(Tag::UTF8_STRING, false)?;
@@ -60,7 +62,8 @@ pub fn take_utf8_contents<C: Cursor>(cursor: &mut C) -> Result<C, DecodeError>
 
 /// The contents of an IA5String (X.690 8.23), with the errors of [Constructed::take_ia5](crate::Constructed::take_ia5).
 pub fn take_ia5_contents<C: Cursor>(cursor: &mut C) -> Result<C, DecodeError>
-    ensures { ReadsLeaf C.octets_left ia5_string IsIa5Text (C.octets_left cursor.old) (C.octets_left cursor.new) result }
+    ensures { ReadsLeaf C.octets_left ia5_string IsIa5Text (C.octets_left cursor.old)
+        (C.octets_left cursor.new) result }
 {
     let mut after = *cursor;
     let contents = after.take_value_contents(Tag::IA5_STRING, false)?;

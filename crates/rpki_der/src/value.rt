@@ -151,7 +151,8 @@ impl<'a> Constructed<'a> {
     /// The errors are those of a header, and `Truncated` if the contents are not all there.
     #[inline(always)]
     pub fn take_value(&mut self) -> Result<(Tag, Content<'a>), DecodeError>
-        ensures { ReadsWanted (λ x. (x.0, is_constructed x.1, octets_of x.1)) IsAnyTag (left self.old) (left self.new) result }
+        ensures { ReadsWanted (λ x. (x.0, is_constructed x.1, octets_of x.1)) IsAnyTag (left self.old)
+            (left self.new) result }
     {
         match self.short_value(Wanted::Any) {
             Some((tag, constructed, contents, after)) => {
@@ -169,7 +170,8 @@ impl<'a> Constructed<'a> {
     /// The same, with a header of any size.
     #[inline(never)]
     fn take_any_value(&mut self) -> Result<(Tag, Content<'a>), DecodeError>
-        ensures { ReadsWanted (λ x. (x.0, is_constructed x.1, octets_of x.1)) IsAnyTag (left self.old) (left self.new) result }
+        ensures { ReadsWanted (λ x. (x.0, is_constructed x.1, octets_of x.1)) IsAnyTag (left self.old)
+            (left self.new) result }
     {
         let found = self.take_wanted(Wanted::Any)?;
         if found.constructed {

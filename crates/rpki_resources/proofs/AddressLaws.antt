@@ -1,6 +1,8 @@
 -- Addresses as bit strings.
-use Rattle.std.proofs.Common.{◌≡◌, ◌≤◌, ◌<◌, ◌+◌, ◌-◌, ◌*◌, ◌/◌, ◌%◌, ◌^◌, ℕ, zero, suc, List, [], ◌∷◌, length, refl, sym, ap, ◌∙◌, arith}
-use Rattle.std.proofs.Math.Nat.{lt_of_mul-lt-mul_right, mul-lt-mul_of_pos_right, mul-mod_left, div-add-mod, pow-le-pow_right, mul-le-mul_right}
+use Rattle.std.proofs.Common.{◌≡◌, ◌≤◌, ◌<◌, ◌+◌, ◌-◌, ◌*◌, ◌/◌, ◌%◌, ◌^◌, ℕ, zero, suc, List, [], ◌∷◌, length, refl}
+use Rattle.std.proofs.Common.{sym, ap, ◌∙◌, arith}
+use Rattle.std.proofs.Math.Nat.{lt_of_mul-lt-mul_right, mul-lt-mul_of_pos_right, mul-mod_left, div-add-mod}
+use Rattle.std.proofs.Math.Nat.{pow-le-pow_right, mul-le-mul_right}
 use Rattle.std.proofs.lemmas.Nat.{pow-add, pow_pos, pow_below}
 use Rattle.rpki_der.specs.Number.{number_of, AreOctets}
 use Rattle.rpki_der.specs.NumberLaws.{number-lt, power}
@@ -20,7 +22,8 @@ eights (suc k) =
     rw e (omega (arith, a, b, eights k))
 
 -- as many bits as there are make a small number
-pub few-bits : (xs : List ℕ) (u size n : ℕ) → AreOctets xs → 8 * length xs ≡ size + u → number_of xs ≡ n * 2 ^ u → n < 2 ^ size
+pub few-bits : (xs : List ℕ) (u size n : ℕ) → AreOctets xs → 8 * length xs ≡ size + u → number_of xs ≡ n * 2 ^ u
+    → n < 2 ^ size
 few-bits xs u size n o s e =
     let lt : number_of xs < 256 ^ length xs = number-lt xs o in
     let p : 2 ^ (size + u) ≡ 2 ^ size * 2 ^ u = pow-add 2 size u in
@@ -62,7 +65,8 @@ pub no-bits : (n q u m : ℕ) → m ≡ 2 ^ u → n ≡ q * 2 ^ u → n % m ≡ 
 no-bits n q u m is e = rw (is, e) (mul-mod_left q (2 ^ u))
 
 -- a number of so many bits, followed by as many as are missing of w
-pub ends-fit : (n size w : ℕ) → n < 2 ^ size → size ≤ w → w ≤ 128 → n * 2 ^ (w - size) + 2 ^ (w - size) ≤ 340282366920938463463374607431768211456
+pub ends-fit : (n size w : ℕ) → n < 2 ^ size → size ≤ w → w ≤ 128
+    → n * 2 ^ (w - size) + 2 ^ (w - size) ≤ 340282366920938463463374607431768211456
 ends-fit n size w lt le few =
     let p : 2 ^ (size + (w - size)) ≡ 2 ^ size * 2 ^ (w - size) = pow-add 2 size (w - size) in
     let e : size + (w - size) ≡ w = omega arith in
@@ -82,11 +86,13 @@ low-shifted x w lt le few =
     let some : 0 < 2 ^ (w - x.size) = pow_pos (w - x.size) in
     omega (arith, fit, some)
 
-one-shifted : (x : Address) (w : ℕ) → (w - x.size ≡ 128 → ⊥) → w ≤ 128 → 1 * 2 ^ (w - x.size) % 340282366920938463463374607431768211456 ≡ 2 ^ (w - x.size)
+one-shifted : (x : Address) (w : ℕ) → (w - x.size ≡ 128 → ⊥) → w ≤ 128
+    → 1 * 2 ^ (w - x.size) % 340282366920938463463374607431768211456 ≡ 2 ^ (w - x.size)
 one-shifted x w short few = small-shift (w - x.size) (omega (arith, short))
 
 pub high-shifted : (x : Address) (w : ℕ) → x.number < 2 ^ x.size → x.size ≤ w → w ≤ 128 → (w - x.size ≡ 128 → ⊥)
-    → x.number * 2 ^ (w - x.size) % 340282366920938463463374607431768211456 + (1 * 2 ^ (w - x.size) % 340282366920938463463374607431768211456 - 1) ≡ high_end w x
+    → x.number * 2 ^ (w - x.size) % 340282366920938463463374607431768211456
+    + (1 * 2 ^ (w - x.size) % 340282366920938463463374607431768211456 - 1) ≡ high_end w x
 high-shifted x w lt le few short =
     let low = low-shifted x w lt le few in
     let one = one-shifted x w short few in
@@ -94,7 +100,8 @@ high-shifted x w lt le few short =
     omega (arith, low, one, some)
 
 pub high-below : (x : Address) (w : ℕ) → x.number < 2 ^ x.size → x.size ≤ w → w ≤ 128 → (w - x.size ≡ 128 → ⊥)
-    → x.number * 2 ^ (w - x.size) % 340282366920938463463374607431768211456 + (1 * 2 ^ (w - x.size) % 340282366920938463463374607431768211456 - 1) < 2 ^ 128
+    → x.number * 2 ^ (w - x.size) % 340282366920938463463374607431768211456
+    + (1 * 2 ^ (w - x.size) % 340282366920938463463374607431768211456 - 1) < 2 ^ 128
 high-below x w lt le few short =
     let fit = ends-fit x.number x.size w lt le few in
     let low = low-shifted x w lt le few in
@@ -110,7 +117,8 @@ room (x ∷ xs) u few none = omega arith
 whole-part : (n m : ℕ) → 0 < m → n % m ≡ 0 → n ≡ n / m * m
 whole-part n m some e = let d : m * (n / m) + n % m ≡ n = div-add-mod n m in omega (arith, d, e)
 
-pub bits-found : (xs : List ℕ) (u n m : ℕ) → AreOctets xs → u < 8 → (xs ≡ [] → u ≡ 0) → m ≡ 2 ^ u → n ≡ number_of xs → n % m ≡ 0
+pub bits-found : (xs : List ℕ) (u n m : ℕ) → AreOctets xs → u < 8 → (xs ≡ [] → u ≡ 0) → m ≡ 2 ^ u → n ≡ number_of xs
+    → n % m ≡ 0
     → HasBits (address (n / m) (length xs * 8 - u)) (bits_of u xs)
 bits-found xs u n m o few none is e even =
     let fits : u ≤ length xs * 8 = room xs u few none in

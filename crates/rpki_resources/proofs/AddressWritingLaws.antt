@@ -1,5 +1,6 @@
 -- Addresses that are written: their contents are those of a bit string, and no others are.
-use Rattle.std.proofs.Common.{◌≡◌, ◌≤◌, ◌<◌, ◌+◌, ◌-◌, ◌*◌, ◌%◌, ◌^◌, ℕ, zero, suc, List, ◌∷◌, length, slice_index, refl, sym, ap, ◌∙◌, subst, arith}
+use Rattle.std.proofs.Common.{◌≡◌, ◌≤◌, ◌<◌, ◌+◌, ◌-◌, ◌*◌, ◌%◌, ◌^◌, ℕ, zero, suc, List, ◌∷◌, length, slice_index}
+use Rattle.std.proofs.Common.{refl, sym, ap, ◌∙◌, subst, arith}
 use Rattle.std.proofs.Math.Nat.{mul-mod_left, mul-lt-mul_of_pos_right, pow-le-pow_right, mod-eq_of_lt}
 use Rattle.std.proofs.Math.Pow.{mod-mod-pow}
 use Rattle.std.proofs.lemmas.Nat.{pow-add, pow_pos}

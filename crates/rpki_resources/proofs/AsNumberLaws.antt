@@ -2,7 +2,8 @@
 use Rattle.std.proofs.Common.{◌≡◌, ◌≤◌, ◌<◌, ◌^◌, ℕ, List, false, arith}
 use Rattle.rpki_der.specs.declared.error.DecodeError.{DecodeError}
 use Rattle.rpki_der.specs.declared.error.ContentError.{ContentError}
-use Rattle.rpki_der.specs.declared.error.DecodeError.TheVariants.{Truncated, BadTag, BadLength, Unexpected, Content, Trailing, OutOfMemory}
+use Rattle.rpki_der.specs.declared.error.DecodeError.TheVariants.{Truncated, BadTag, BadLength, Unexpected, Content}
+use Rattle.rpki_der.specs.declared.error.DecodeError.TheVariants.{Trailing, OutOfMemory}
 use Rattle.rpki_der.specs.TagName.{integer}
 use Rattle.rpki_der.specs.Reading.{Spells, Accepts, Refusal}
 use Rattle.rpki_der.specs.Values.{SpellsLeaf, IsLeafFault}
@@ -20,7 +21,12 @@ as-large : (s : List ℕ) (n : ℕ) (r : List ℕ) → Spells SpellsAsNumber s n
 as-large s n r h = record {
   front = h.front;
   parts = h.parts;
-  spelled = record { contents = h.spelled.contents; value = h.spelled.value; spelled = larger n h.spelled.contents h.spelled.spelled };
+  spelled = record {
+    contents = h.spelled.contents;
+    value = h.spelled.value;
+    spelled =
+        larger n h.spelled.contents h.spelled.spelled;
+  };
 }
 
 pub number-accepted : (s r : List ℕ) (n : ℕ) → n < 2 ^ 32 → Accepts Large s n r → Accepts SpellsAsNumber s n r
@@ -28,7 +34,12 @@ number-accepted s r n small a = record {
   spells = record {
     front = a.spells.front;
     parts = a.spells.parts;
-    spelled = record { contents = a.spells.spelled.contents; value = a.spells.spelled.value; spelled = record { below = small; contents = a.spells.spelled.spelled.contents } };
+    spelled = record {
+      contents = a.spells.spelled.contents;
+      value = a.spells.spelled.value;
+      spelled =
+          record { below = small; contents = a.spells.spelled.spelled.contents };
+    };
   };
   only = λ m q h. a.only m q (as-large s m q h);
 }
@@ -42,7 +53,8 @@ kind s (Content x) h = (h.0, h.1, h.2, λ n k. h.3 n (larger n h.0 k))
 kind s Trailing h = h
 kind s OutOfMemory h = h
 
-pub number-refused : (s q r : List ℕ) (e : DecodeError) → r ≡ s → Refusal Large (IsLeafFault integer false (IsUnsignedBelow (2 ^ 64))) s q e
+pub number-refused : (s q r : List ℕ) (e : DecodeError) → r ≡ s
+    → Refusal Large (IsLeafFault integer false (IsUnsignedBelow (2 ^ 64))) s q e
     → Refusal SpellsAsNumber IsAsNumberFault s r e
 number-refused s q r e same h = record {
   unchanged = same;
@@ -50,14 +62,35 @@ number-refused s q r e same h = record {
   kind = kind s e h.kind;
 }
 
-pub number-too-large : (s q r : List ℕ) (n : ℕ) (x : ContentError) → 2 ^ 32 ≤ n → r ≡ s → Accepts Large s n q → Refusal SpellsAsNumber IsAsNumberFault s r (Content x)
+pub number-too-large : (s q r : List ℕ) (n : ℕ) (x : ContentError) → 2 ^ 32 ≤ n → r ≡ s → Accepts Large s n q
+    → Refusal SpellsAsNumber IsAsNumberFault s r (Content x)
 number-too-large s q r n x large same a = record {
   unchanged = same;
   refuses = λ m p k. let e = a.only m p (as-large s m p k) in omega (arith, e.0, k.spelled.spelled.below);
-  kind = (a.spells.spelled.contents, q, record { front = a.spells.front; parts = a.spells.parts; spelled = a.spells.spelled.value }, λ m k. no m k);
+  kind = (
+    a.spells.spelled.contents,
+    q,
+    record {
+      front = a.spells.front;
+      parts = a.spells.parts;
+      spelled =
+          a.spells.spelled.value;
+    },
+    λ m k. no m k,
+  );
 } where
   there : (m : ℕ) → IsUnsignedBelow (2 ^ 32) m a.spells.spelled.contents → Spells Large s m q
-  there m k = record { front = a.spells.front; parts = a.spells.parts; spelled = record { contents = a.spells.spelled.contents; value = a.spells.spelled.value; spelled = larger m a.spells.spelled.contents k } }
+  there m k = record {
+    front = a.spells.front;
+    parts = a.spells.parts;
+    spelled =
+        record {
+          contents = a.spells.spelled.contents;
+          value = a.spells.spelled.value;
+          spelled =
+              larger m a.spells.spelled.contents k;
+        };
+  }
 
   no : (m : ℕ) → IsUnsignedBelow (2 ^ 32) m a.spells.spelled.contents → ⊥
   no m k = let e = a.only m q (there m k) in omega (arith, e.0, k.below)

@@ -1,5 +1,6 @@
 -- Texts of AS numbers and of blocks of them, as they are read.
-use Rattle.std.proofs.Common.{◌≡◌, ◌≢◌, ◌≤◌, ◌<◌, ◌⊎◌, inl, inr, ℕ, zero, suc, List, [], ◌∷◌, ◌++◌, length, get_or, refl, sym, ap, ◌∙◌, subst, arith}
+use Rattle.std.proofs.Common.{◌≡◌, ◌≢◌, ◌≤◌, ◌<◌, ◌⊎◌, inl, inr, ℕ, zero, suc, List, [], ◌∷◌, ◌++◌, length, get_or}
+use Rattle.std.proofs.Common.{refl, sym, ap, ◌∙◌, subst, arith}
 use Rattle.std.specs.Option.{option_map}
 use denote.Ref.{Bor}
 use Rattle.rpki_resources.proofs.BlocksLaws.{split}
@@ -15,7 +16,8 @@ use Rattle.rpki_resources.specs.declared.block.Block.{Block}
 use Rattle.rpki_resources.specs.declared.as_read.ParseAsBlockError.{ParseAsBlockError}
 use Rattle.rpki_resources.specs.declared.as_read.ParseAsBlockError.TheVariants.{BadAsn, BadRange}
 use Rattle.rpki_resources.specs.Text.{as_number_text, as_block_text, IsAsBlockOf}
-use Rattle.rpki_resources.specs.AsRead.{after_letter, or_else, after_s, without_as, IsAsnText, IsAsRangeText, IsAsRangeError, IsAsBlockText, IsAsBlockError}
+use Rattle.rpki_resources.specs.AsRead.{after_letter, or_else, after_s, without_as, IsAsnText, IsAsRangeText}
+use Rattle.rpki_resources.specs.AsRead.{IsAsRangeError, IsAsBlockText, IsAsBlockError}
 
 -- ---- letters
 
@@ -32,7 +34,8 @@ letter-tells u l c rest = elim (eqb_tells c u) [
 pub after-lower : (u l : ℕ) (text rest : List ℕ) → text ≡ l ∷ rest → after_letter u l text ≡ Some rest
 after-lower u l text rest e = rw e (elim (letter-tells u l l rest) [ inl h ↦ h.0 | inr h ↦ absurd (h.2 refl) ])
 
-pub after-none : (u l : ℕ) (text : List ℕ) → ((rest : List ℕ) → text ≢ u ∷ rest) → ((rest : List ℕ) → text ≢ l ∷ rest) → after_letter u l text ≡ None
+pub after-none : (u l : ℕ) (text : List ℕ) → ((rest : List ℕ) → text ≢ u ∷ rest) → ((rest : List ℕ) → text ≢ l ∷ rest)
+    → after_letter u l text ≡ None
 after-none u l [] g h = refl
 after-none u l (c ∷ rest) g h = elim (letter-tells u l c rest) [
   | inl k ↦ (elim k.1 [
@@ -44,7 +47,8 @@ after-none u l (c ∷ rest) g h = elim (letter-tells u l c rest) [
 
 -- what `strip_prefix` says of the other letter
 pub last-letter : (u l : ℕ) (text : List ℕ) (r : Option (Bor (List ℕ))) → ((rest : List ℕ) → text ≢ u ∷ rest)
-    → MatchOption r ((rest : List ℕ) → text ≢ l ∷ rest) (λ x. text ≡ l ∷ x.now) → option_map (λ t. t.now) r ≡ after_letter u l text
+    → MatchOption r ((rest : List ℕ) → text ≢ l ∷ rest) (λ x. text ≡ l ∷ x.now)
+    → option_map (λ t. t.now) r ≡ after_letter u l text
 last-letter u l text None g h = sym (after-none u l text g h)
 last-letter u l text (Some x) g h = sym (after-lower u l text x.now h)
 
@@ -77,7 +81,8 @@ as-plain (a ∷ rest) h = elim (letter-tells 65 97 a rest) [
   | inl k ↦ second rest k.1 (rw k.0 at h)
   | inr k ↦ plus-plain (a ∷ rest) (rw k.0 at h)
 ] where
-  second : (rest : List ℕ) → ((a ≡ 65) ⊎ (a ≡ 97)) → AllDigits 10 (without_leading_plus (or_else (after_s (Some rest)) (a ∷ rest))) → IsPlain (a ∷ rest)
+  second : (rest : List ℕ) → ((a ≡ 65) ⊎ (a ≡ 97))
+      → AllDigits 10 (without_leading_plus (or_else (after_s (Some rest)) (a ∷ rest))) → IsPlain (a ∷ rest)
   second [] e h = plus-plain (a ∷ []) h
   second (s ∷ more) e h = elim (letter-tells 83 115 s more) [
     | inl k ↦ cons-plain a (s ∷ more) (letter-plain a 65 97 (omega arith) (omega arith) e)
@@ -108,7 +113,8 @@ one-split (x ∷ xs) ys (u ∷ us) vs e p q =
     (ap (λ (n : ℕ). n ∷ xs) first ∙ ap (λ (t : List ℕ). u ∷ t) k.0, k.1)
 
 pub joined : (text low high : List ℕ) (r : Result AsBlock ParseAsBlockError) → text ≡ low ++ 45 ∷ high → IsPlain low
-    → MatchResult r (IsAsRangeText low high) (IsAsRangeError low high) → MatchResult r (IsAsBlockText text) (IsAsBlockError text)
+    → MatchResult r (IsAsRangeText low high) (IsAsRangeError low high)
+    → MatchResult r (IsAsBlockText text) (IsAsBlockError text)
 joined text low high (Ok b) e p h = inr (low, high, e, h)
 joined text low high (Err BadRange) e p h = (low, high, e, h)
 joined text low high (Err BadAsn) e p h = (
@@ -119,9 +125,11 @@ joined text low high (Err BadAsn) e p h = (
 )
 
 -- numbers that make no block are in the wrong order
-pub no-block : (min max : Asn) (low high : ℕ) → low ≡ min.0 → high ≡ max.0 → max.0 < 2 ^ 32 → ((b : AsBlock) → IsAsBlockOf b (record { low = low; high = high }) → ⊥) → max.0 < min.0
+pub no-block : (min max : Asn) (low high : ℕ) → low ≡ min.0 → high ≡ max.0 → max.0 < 2 ^ 32
+    → ((b : AsBlock) → IsAsBlockOf b (record { low = low; high = high }) → ⊥) → max.0 < min.0
 no-block min max low high e g below none = elim (split min.0 max.0) [
-  | inl h ↦ absurd (none (Range (record { min = min; max = max })) (e, g, omega (arith, h, e, g), omega (arith, g, below)))
+  | inl h ↦ absurd (none (Range (record { min = min; max = max }))
+      (e, g, omega (arith, h, e, g), omega (arith, g, below)))
   | inr h ↦ (elim (split max.0 min.0) [
     | inl k ↦ k
     | inr k ↦ absurd (none (Id min) (e, omega (arith, h, k, g), omega (arith, g, below)))
@@ -140,7 +148,8 @@ pub number-read-back : (a : Asn) → a.0 < 2 ^ 32 → IsAsnText (as_number_text 
 number-read-back a small =
     let wide : a.0 < 2 ^ 64 = omega arith in
     let d = decimal_is_IsNumeral a.0 wide in
-    let e : without_leading_plus (without_as (as_number_text a.0)) ≡ decimal a.0 = without_leading_plus_none (decimal a.0) (number-first a.0 wide) in
+    let e : without_leading_plus (without_as (as_number_text a.0)) ≡ decimal a.0 =
+    without_leading_plus_none (decimal a.0) (number-first a.0 wide) in
     record { digits = rw e d.0; value = rw e d.1; below = small }
 
 pub block-read-back : (a : AsBlock) (b : Block) → IsAsBlockOf a b → IsAsBlockText (as_block_text a) a
@@ -149,4 +158,9 @@ block-read-back (Range r) b h =
     let low : r.min.0 < r.max.0 = omega (arith, h.0, h.1, h.2) in
     let high : r.max.0 < 2 ^ 32 = omega (arith, h.1, h.3) in
     let below : r.min.0 < 2 ^ 32 = omega (arith, low, high) in
-    inr (as_number_text r.min.0, as_number_text r.max.0, refl, (r.min, r.max, number-read-back r.min below, number-read-back r.max high, (refl, refl, low, high)))
+    inr (
+      as_number_text r.min.0,
+      as_number_text r.max.0,
+      refl,
+      (r.min, r.max, number-read-back r.min below, number-read-back r.max high, (refl, refl, low, high)),
+    )

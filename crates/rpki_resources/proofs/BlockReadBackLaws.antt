@@ -1,5 +1,6 @@
 -- Blocks that are written are read as themselves.
-use Rattle.std.proofs.Common.{◌≡◌, ◌≢◌, ◌≤◌, ◌<◌, ◌^◌, inl, inr, ℕ, Bool, true, false, cond, eqb, Option, Some, None, List, [], ◌∷◌, ◌++◌, refl, sym, arith}
+use Rattle.std.proofs.Common.{◌≡◌, ◌≢◌, ◌≤◌, ◌<◌, ◌^◌, inl, inr, ℕ, Bool, true, false, cond, eqb, Option, Some, None}
+use Rattle.std.proofs.Common.{List, [], ◌∷◌, ◌++◌, refl, sym, arith}
 use Rattle.std.proofs.lemmas.Bool.{eqb-true, eqb-false}
 use Rattle.rpki_der.specs.TagName.{bit_string, integer, sequence}
 use Rattle.rpki_der.specs.Integer.{IsUnsignedBelow}
@@ -10,11 +11,14 @@ use Rattle.rpki_resources.specs.declared.address.Address.{Address}
 use Rattle.rpki_resources.specs.declared.block.Block.{Block}
 use Rattle.rpki_resources.specs.declared.kind.ResourceKind.{ResourceKind}
 use Rattle.rpki_resources.specs.declared.kind.ResourceKind.TheVariants.{Addresses, AsNumbers}
-use Rattle.rpki_resources.specs.Address.{width, IsAddress, IsAddressOf, SpellsAddress, SpellsRangeEnds, SpellsBlock, prefix_block}
+use Rattle.rpki_resources.specs.Address.{width, IsAddress, IsAddressOf, SpellsAddress, SpellsRangeEnds, SpellsBlock}
+use Rattle.rpki_resources.specs.Address.{prefix_block}
 use Rattle.rpki_resources.specs.AsNumber.{SpellsAsNumber, SpellsAsEnds, SpellsAsBlock}
 use Rattle.rpki_resources.specs.Blocks.{AreCanonical}
 use Rattle.rpki_resources.specs.Listed.{SpellsBlockOf, AreBlocks}
-use Rattle.rpki_resources.specs.Encoded.{address_contents, address_octets, as_contents, as_number_octets, shared_bits, without_zeros, without_ones, prefix_or_range, pair_octets, block_octets, blocks_octets, IsBlockOf, AreBlocksOf}
+use Rattle.rpki_resources.specs.Encoded.{address_contents, address_octets, as_contents, as_number_octets, shared_bits}
+use Rattle.rpki_resources.specs.Encoded.{without_zeros, without_ones, prefix_or_range, pair_octets, block_octets}
+use Rattle.rpki_resources.specs.Encoded.{blocks_octets, IsBlockOf, AreBlocksOf}
 use Rattle.rpki_resources.proofs.BlocksLaws.{same-block}
 use Rattle.rpki_resources.proofs.AddressLaws.{width-most}
 use Rattle.rpki_resources.proofs.AddressWritingLaws.{address-spelled, address-few}

@@ -1,9 +1,12 @@
 -- Blocks that are written: they are short, and are read as themselves.
-use Rattle.std.proofs.Common.{◌≡◌, ◌≤◌, ◌<◌, ◌+◌, ◌^◌, ◌↔◌, IsTrue, ℕ, suc, Bool, true, false, nat_lt, cond, eqb, subst, Option, Some, None, List, [], ◌∷◌, ◌++◌, length, length-append, refl, sym, ap, ◌∙◌, arith, lit<}
+use Rattle.std.proofs.Common.{◌≡◌, ◌≤◌, ◌<◌, ◌+◌, ◌^◌, ◌↔◌, IsTrue, ℕ, suc, Bool, true, false, nat_lt, cond, eqb, subst}
+use Rattle.std.proofs.Common.{Option, Some, None, List, [], ◌∷◌, ◌++◌, length, length-append, refl, sym, ap, ◌∙◌, arith}
+use Rattle.std.proofs.Common.{lit<}
 use Rattle.rpki_der.specs.TagName.{TagName, IsTag, bit_string, integer, sequence}
 use Rattle.rpki_der.specs.Header.{tlv}
 use Rattle.rpki_der.specs.Members.{AreValues, IsValueList}
-use Rattle.rpki_der.specs.ValueListLaws.{values_append, no_values, primitive_value, primitive_value_list, constructed_value, value_lists_append, sequence_legal}
+use Rattle.rpki_der.specs.ValueListLaws.{values_append, no_values, primitive_value, primitive_value_list}
+use Rattle.rpki_der.specs.ValueListLaws.{constructed_value, value_lists_append, sequence_legal}
 use Rattle.rpki_der.specs.Written.{AppendsAllBut, AppendsBeginning}
 use Rattle.rpki_der.proofs.WritingLaws.{beginning_then, beginning_more}
 use Rattle.rpki_der.proofs.EncodeLaws.{tlv_at_most}
@@ -12,7 +15,9 @@ use Rattle.rpki_resources.specs.Address.{width}
 use Rattle.rpki_resources.specs.declared.block.Block.{Block}
 use Rattle.rpki_resources.specs.declared.kind.ResourceKind.{ResourceKind}
 use Rattle.rpki_resources.specs.declared.kind.ResourceKind.TheVariants.{Addresses, AsNumbers}
-use Rattle.rpki_resources.specs.Encoded.{address_contents, integer_size, as_contents, pair_octets, address_octets, as_number_octets, shared_bits, without_zeros, without_ones, prefix_or_range, block_octets, blocks_octets, IsBlockOf, AreBlocksOf}
+use Rattle.rpki_resources.specs.Encoded.{address_contents, integer_size, as_contents, pair_octets, address_octets}
+use Rattle.rpki_resources.specs.Encoded.{as_number_octets, shared_bits, without_zeros, without_ones, prefix_or_range}
+use Rattle.rpki_resources.specs.Encoded.{block_octets, blocks_octets, IsBlockOf, AreBlocksOf}
 use Rattle.rpki_resources.proofs.AddressWritingLaws.{address-few}
 use Rattle.rpki_resources.proofs.AddressLaws.{width-most}
 use Rattle.rpki_resources.proofs.StrippedLaws.{are-shared, stripped-low, stripped-high}

@@ -1,5 +1,6 @@
 -- Blocks that are written alike are the same.
-use Rattle.std.proofs.Common.{◌≡◌, ◌≤◌, ◌<◌, ◌^◌, ℕ, Bool, true, false, cond, eqb, Option, Some, None, List, [], ◌∷◌, ◌++◌, length, length-append, refl, sym, ap, subst, ◌∙◌, arith}
+use Rattle.std.proofs.Common.{◌≡◌, ◌≤◌, ◌<◌, ◌^◌, ℕ, Bool, true, false, cond, eqb, Option, Some, None, List, [], ◌∷◌}
+use Rattle.std.proofs.Common.{◌++◌, length, length-append, refl, sym, ap, subst, ◌∙◌, arith}
 use Rattle.std.proofs.lemmas.Bool.{eqb-true}
 use Rattle.rpki_der.specs.TagName.{TagName, bit_string, integer, sequence}
 use Rattle.rpki_der.specs.ValueListLaws.{sequence_legal}
@@ -10,13 +11,16 @@ use Rattle.rpki_resources.specs.declared.block.Block.{Block}
 use Rattle.rpki_resources.specs.declared.kind.ResourceKind.{ResourceKind}
 use Rattle.rpki_resources.specs.declared.kind.ResourceKind.TheVariants.{Addresses, AsNumbers}
 use Rattle.rpki_resources.specs.Address.{width, IsAddress, IsAddressOf, low_end, high_end}
-use Rattle.rpki_resources.specs.Encoded.{address_contents, address_octets, as_contents, as_number_octets, shared_bits, without_zeros, without_ones, prefix_or_range, pair_octets, block_octets, blocks_octets, IsBlockOf, AreBlocksOf}
+use Rattle.rpki_resources.specs.Encoded.{address_contents, address_octets, as_contents, as_number_octets, shared_bits}
+use Rattle.rpki_resources.specs.Encoded.{without_zeros, without_ones, prefix_or_range, pair_octets, block_octets}
+use Rattle.rpki_resources.specs.Encoded.{blocks_octets, IsBlockOf, AreBlocksOf}
 use Rattle.rpki_resources.proofs.AddressLaws.{width-most, one-address}
 use Rattle.rpki_resources.proofs.BlocksLaws.{same-block}
 use Rattle.rpki_resources.proofs.AddressWritingLaws.{address-spelled, address-few}
 use Rattle.rpki_resources.proofs.NumberOctetsLaws.{as-unsigned}
 use Rattle.rpki_resources.proofs.StrippedLaws.{are-shared, stripped-low, stripped-high}
-use Rattle.rpki_resources.proofs.BlockWritingLaws.{as-few, bits-legal, integer-legal, as-pair-short, bits-pair-short, block-short}
+use Rattle.rpki_resources.proofs.BlockWritingLaws.{as-few, bits-legal, integer-legal, as-pair-short, bits-pair-short}
+use Rattle.rpki_resources.proofs.BlockWritingLaws.{block-short}
 
 pub alone : (p q : List ℕ) → p ≡ q → p ++ [] ≡ q ++ []
 alone p q e = ap (λ (w : List ℕ). w ++ []) e

@@ -1,5 +1,6 @@
 -- Sets of numbers, as lists of blocks.
-use Rattle.std.proofs.Common.{◌≡◌, ◌≤◌, ◌<◌, ◌⊎◌, ◌↔◌, ℕ, zero, suc, List, [], ◌∷◌, inl, inr, refl, sym, ap, ◌∙◌, subst, length, arith}
+use Rattle.std.proofs.Common.{◌≡◌, ◌≤◌, ◌<◌, ◌⊎◌, ◌↔◌, ℕ, zero, suc, List, [], ◌∷◌, inl, inr, refl, sym, ap, ◌∙◌, subst}
+use Rattle.std.proofs.Common.{length, arith}
 use Rattle.rpki_resources.specs.declared.block.Block.{Block}
 use Rattle.rpki_resources.specs.Blocks.{IsAmong, IsSubset, IsPast, AreCanonical}
 
@@ -94,7 +95,8 @@ one-list (x ∷ xs) (y ∷ ys) cx cy f g =
     let over : x.high < y.high → ⊥ = first-high y x ys xs cy cx g up down in
     let high : x.high ≡ y.high = omega (arith, under, over) in
     let first : x ≡ y = same-block x y low high in
-    let rest : xs ≡ ys = one-list xs ys cx.2 cy.2 (rest-within x y xs ys cx high f) (rest-within y x ys xs cy (sym high) g) in
+    let rest : xs ≡ ys = one-list xs ys cx.2 cy.2 (rest-within x y xs ys cx high f)
+    (rest-within y x ys xs cy (sym high) g) in
     cc
 
 pub empty : {X : Type 0} (xs : List X) → length xs ≡ 0 → xs ≡ []
@@ -113,7 +115,8 @@ opened p w xs ys ws bs a b ex ey same =
     subst (λ (zs : List Block). IsSubset p w ↔ IsSubset zs (a ∷ ws)) ex
     (subst (λ (zs : List Block). IsSubset p w ↔ IsSubset xs zs) ey same)
 
-pub outer-passed : (p w xs ys ws bs : List Block) (a b : Block) → xs ≡ b ∷ bs → ys ≡ a ∷ ws → IsSubset p w ↔ IsSubset xs ys
+pub outer-passed : (p w xs ys ws bs : List Block) (a b : Block) → xs ≡ b ∷ bs → ys ≡ a ∷ ws
+    → IsSubset p w ↔ IsSubset xs ys
     → AreCanonical xs → AreCanonical ys → a.high < b.low → AreCanonical ws × (IsSubset p w ↔ IsSubset xs ws)
 outer-passed p w xs ys ws bs a b ex ey same cx cy h =
     let cb : AreCanonical (b ∷ bs) = subst AreCanonical ex cx in
@@ -122,7 +125,8 @@ outer-passed p w xs ys ws bs a b ex ey same cx cy h =
     through (opened p w xs ys ws bs a b ex ey same) (drop-outer a b ws bs h cb) in
     (ca.2, subst (λ (zs : List Block). IsSubset p w ↔ IsSubset zs ws) (sym ex) is)
 
-pub inner-passed : (p w xs ys ws bs : List Block) (a b : Block) → xs ≡ b ∷ bs → ys ≡ a ∷ ws → IsSubset p w ↔ IsSubset xs ys
+pub inner-passed : (p w xs ys ws bs : List Block) (a b : Block) → xs ≡ b ∷ bs → ys ≡ a ∷ ws
+    → IsSubset p w ↔ IsSubset xs ys
     → AreCanonical xs → a.low ≤ b.low → b.high ≤ a.high → AreCanonical bs × (IsSubset p w ↔ IsSubset bs ys)
 inner-passed p w xs ys ws bs a b ex ey same cx low high =
     let cb : AreCanonical (b ∷ bs) = subst AreCanonical ex cx in
@@ -130,12 +134,15 @@ inner-passed p w xs ys ws bs a b ex ey same cx low high =
     through (opened p w xs ys ws bs a b ex ey same) (drop-inner a b ws bs low high) in
     (cb.2, subst (λ (zs : List Block). IsSubset p w ↔ IsSubset bs zs) (sym ey) is)
 
-pub found-before : (p w xs ys ws bs : List Block) (a b : Block) → xs ≡ b ∷ bs → ys ≡ a ∷ ws → IsSubset p w ↔ IsSubset xs ys
+pub found-before : (p w xs ys ws bs : List Block) (a b : Block) → xs ≡ b ∷ bs → ys ≡ a ∷ ws
+    → IsSubset p w ↔ IsSubset xs ys
     → AreCanonical xs → AreCanonical ys → b.low < a.low → IsSubset p w → ⊥
 found-before p w xs ys ws bs a b ex ey same cx cy h f =
-    begins-before a b ws bs h (subst AreCanonical ey cy) (subst AreCanonical ex cx) ((opened p w xs ys ws bs a b ex ey same).0 f)
+    begins-before a b ws bs h (subst AreCanonical ey cy) (subst AreCanonical ex cx)
+    ((opened p w xs ys ws bs a b ex ey same).0 f)
 
-pub found-behind : (p w xs ys ws bs : List Block) (a b : Block) → xs ≡ b ∷ bs → ys ≡ a ∷ ws → IsSubset p w ↔ IsSubset xs ys
+pub found-behind : (p w xs ys ws bs : List Block) (a b : Block) → xs ≡ b ∷ bs → ys ≡ a ∷ ws
+    → IsSubset p w ↔ IsSubset xs ys
     → AreCanonical ys → b.low ≤ a.high → a.high < b.high → IsSubset p w → ⊥
 found-behind p w xs ys ws bs a b ex ey same cy low high f =
     ends-behind a b ws bs low high (subst AreCanonical ey cy) ((opened p w xs ys ws bs a b ex ey same).0 f)
@@ -143,7 +150,8 @@ found-behind p w xs ys ws bs a b ex ey same cy low high f =
 pub found-none : (p w xs ys bs : List Block) (b : Block) → xs ≡ b ∷ bs → ys ≡ [] → IsSubset p w ↔ IsSubset xs ys
     → AreCanonical xs → IsSubset p w → ⊥
 found-none p w xs ys bs b ex ey same cx f =
-    let g : IsSubset (b ∷ bs) [] = subst (λ (zs : List Block). IsSubset zs []) ex (subst (λ (zs : List Block). IsSubset xs zs) ey (same.0 f)) in
+    let g : IsSubset (b ∷ bs) [] = subst (λ (zs : List Block). IsSubset zs []) ex
+    (subst (λ (zs : List Block). IsSubset xs zs) ey (same.0 f)) in
     none-outer b bs (subst AreCanonical ex cx) g
 
 pub all-found : (p w xs ys : List Block) → xs ≡ [] → IsSubset p w ↔ IsSubset xs ys → IsSubset p w

@@ -1,5 +1,6 @@
 -- Octets that spell resources are those that are written.
-use Rattle.std.proofs.Common.{◌≡◌, ◌≤◌, ◌<◌, ◌-◌, ◌*◌, ◌/◌, ◌%◌, ◌^◌, inl, inr, ℕ, zero, suc, Bool, true, false, cond, eqb, Some, List, [], ◌∷◌, ◌++◌, length, refl, sym, ap, subst, ◌∙◌, arith}
+use Rattle.std.proofs.Common.{◌≡◌, ◌≤◌, ◌<◌, ◌-◌, ◌*◌, ◌/◌, ◌%◌, ◌^◌, inl, inr, ℕ, zero, suc, Bool, true, false, cond}
+use Rattle.std.proofs.Common.{eqb, Some, List, [], ◌∷◌, ◌++◌, length, refl, sym, ap, subst, ◌∙◌, arith}
 use Rattle.std.proofs.lemmas.Nat.{pow_pos}
 use Rattle.std.proofs.lemmas.Bool.{cases_lt, eq-eqb, ne_eqb}
 use Rattle.rpki_der.specs.TagName.{TagName, bit_string, integer, sequence}
@@ -15,7 +16,9 @@ use Rattle.rpki_resources.specs.declared.kind.ResourceKind.TheVariants.{Addresse
 use Rattle.rpki_resources.specs.Address.{width, SpellsAddress, SpellsBlock, HasNoZeros, HasNoOnes, low_end, high_end}
 use Rattle.rpki_resources.specs.AsNumber.{SpellsAsNumber, SpellsAsBlock}
 use Rattle.rpki_resources.specs.Listed.{SpellsBlockOf}
-use Rattle.rpki_resources.specs.Encoded.{bits_at, without_zeros, without_ones, shared_bits, prefix_or_range, pair_octets, address_octets, as_contents, as_number_octets, ip_block_octets, as_block_octets, block_octets, blocks_octets}
+use Rattle.rpki_resources.specs.Encoded.{bits_at, without_zeros, without_ones, shared_bits, prefix_or_range}
+use Rattle.rpki_resources.specs.Encoded.{pair_octets, address_octets, as_contents, as_number_octets, ip_block_octets}
+use Rattle.rpki_resources.specs.Encoded.{as_block_octets, block_octets, blocks_octets}
 use Rattle.rpki_resources.proofs.AddressWritingLaws.{address-only}
 use Rattle.rpki_resources.proofs.NumberOctetsLaws.{as-unsigned}
 use Rattle.rpki_resources.proofs.StrippedLaws.{end-step, end-there, end-none, shared-some, shared-none}

@@ -1,5 +1,6 @@
 -- What one list of blocks has and another lacks, step by step.
-use Rattle.std.proofs.Common.{◌≡◌, ◌≢◌, ◌≤◌, ◌<◌, ◌⊎◌, ◌↔◌, inl, inr, ℕ, suc, List, [], ◌∷◌, ◌++◌, ◌+◌, Option, Some, None, sym, subst, append_assoc, arith}
+use Rattle.std.proofs.Common.{◌≡◌, ◌≢◌, ◌≤◌, ◌<◌, ◌⊎◌, ◌↔◌, inl, inr, ℕ, suc, List, [], ◌∷◌, ◌++◌, ◌+◌, Option, Some}
+use Rattle.std.proofs.Common.{None, sym, subst, append_assoc, arith}
 use Rattle.std.proofs.lemmas.List.{append-nil}
 use Rattle.rpki_resources.specs.declared.block.Block.{Block}
 use Rattle.rpki_resources.specs.Blocks.{IsIn, IsAmong, IsBelow, AreCanonical, blocks_of, IsGap, AreLacking}
@@ -16,7 +17,8 @@ pub record Lacking (one other found xs ys : List Block) (from : ℕ) : Type 0 wh
   pub ys_are : AreCanonical ys
   pub above : (n : ℕ) → IsAmong n ys → from ≤ n
   pub same : (n : ℕ) → (IsAmong n one × (IsAmong n other → ⊥)) ↔ (IsAmong n found ⊎ Lacks from xs ys n)
-  pub room : (ms : List Block) → AreCanonical ms → ((n : ℕ) → IsAmong n ms → Lacks from xs ys n) → AreCanonical (found ++ ms)
+  pub room : (ms : List Block) → AreCanonical ms → ((n : ℕ) → IsAmong n ms → Lacks from xs ys n)
+      → AreCanonical (found ++ ms)
 
 pub at-start : (one other : List Block) → AreCanonical one → AreCanonical other → Lacking one other [] one other 0
 at-start one other h k = record {
@@ -31,7 +33,8 @@ at-start one other h k = record {
 below-lacks : (n : ℕ) (ys : List Block) → AreCanonical ys → IsBelow n ys → IsAmong n ys → ⊥
 below-lacks n [] c b a = a
 below-lacks n (y ∷ ys) c b (inl i) = omega (arith, b, i.0)
-below-lacks n (y ∷ ys) c b (inr r) = let far : suc y.high < n = among-past y.high n ys c.1 c.2 r in omega (arith, far, b, c.0)
+below-lacks n (y ∷ ys) c b (inr r) = let far : suc y.high < n =
+    among-past y.high n ys c.1 c.2 r in omega (arith, far, b, c.0)
 
 module _ (one other found xs ys : List Block) (from : ℕ) (m : Lacking one other found xs ys from) where
   -- the gap that was found, and what is left from another number on, is what was left
@@ -46,9 +49,13 @@ module _ (one other found xs ys : List Block) (from : ℕ) (m : Lacking one othe
         let some = lowest-of o gap.canonical not in
         some-among some.0 v ((are.numbers some.0).1 ((m.same some.0).1 (inr (of-gap some.0 some.1))))
 
-    module _ (vs ws : List Block) (start : ℕ) (forth : (n : ℕ) → Lacks from xs ys n → IsAmong n (blocks_of o) ⊎ Lacks start vs ws n) (back : (n : ℕ) → Lacks start vs ws n → Lacks from xs ys n)
-        (before : (ms : List Block) → AreCanonical ms → ((n : ℕ) → IsAmong n ms → Lacks start vs ws n) → AreCanonical (blocks_of o ++ ms)) where
-      same-then : (n : ℕ) → (IsAmong n one × (IsAmong n other → ⊥)) ↔ (IsAmong n (found ++ blocks_of o) ⊎ Lacks start vs ws n)
+    module _ (vs ws : List Block) (start : ℕ)
+        (forth : (n : ℕ) → Lacks from xs ys n → IsAmong n (blocks_of o) ⊎ Lacks start vs ws n)
+        (back : (n : ℕ) → Lacks start vs ws n → Lacks from xs ys n)
+        (before : (ms : List Block) → AreCanonical ms → ((n : ℕ) → IsAmong n ms → Lacks start vs ws n)
+        → AreCanonical (blocks_of o ++ ms)) where
+      same-then : (n : ℕ) → (IsAmong n one × (IsAmong n other → ⊥))
+          ↔ (IsAmong n (found ++ blocks_of o) ⊎ Lacks start vs ws n)
       same-then n = (
         λ a. elim ((m.same n).0 a) [
           | inl b ↦ inl ((among-append n found (blocks_of o)).1 (inl b))
@@ -66,13 +73,16 @@ module _ (one other found xs ys : List Block) (from : ℕ) (m : Lacking one othe
         ],
       )
 
-      room-then : (ms : List Block) → AreCanonical ms → ((n : ℕ) → IsAmong n ms → Lacks start vs ws n) → AreCanonical ((found ++ blocks_of o) ++ ms)
+      room-then : (ms : List Block) → AreCanonical ms → ((n : ℕ) → IsAmong n ms → Lacks start vs ws n)
+          → AreCanonical ((found ++ blocks_of o) ++ ms)
       room-then ms c a =
-          let all : (n : ℕ) → IsAmong n (blocks_of o ++ ms) → Lacks from xs ys n = λ n h. elim ((among-append n (blocks_of o) ms).0 h) [
+          let all : (n : ℕ) → IsAmong n (blocks_of o ++ ms)
+          → Lacks from xs ys n = λ n h. elim ((among-append n (blocks_of o) ms).0 h) [
             | inl k ↦ of-gap n k
             | inr k ↦ back n (a n k)
           ] in
-          subst AreCanonical (sym (append_assoc found (blocks_of o) ms)) (m.room (blocks_of o ++ ms) (before ms c a) all)
+          subst AreCanonical (sym (append_assoc found (blocks_of o) ms))
+          (m.room (blocks_of o ++ ms) (before ms c a) all)
 
     -- the block of the one is done with: the other has none, or one that ends behind it
     module _ (done : (n : ℕ) → IsIn n x → (IsAmong n ys → ⊥) → IsBelow n ys) where
@@ -85,8 +95,10 @@ module _ (one other found xs ys : List Block) (from : ℕ) (m : Lacking one othe
       block-back : (n : ℕ) → Lacks from later ys n → Lacks from xs ys n
       block-back n h = (subst (IsAmong n) (sym ex) (inr h.0), h.1, h.2)
 
-      block-before : (ms : List Block) → AreCanonical ms → ((n : ℕ) → IsAmong n ms → Lacks from later ys n) → AreCanonical (blocks_of o ++ ms)
-      block-before ms c a = put-before x later ms o (subst AreCanonical ex m.xs_are) (λ n k. ((gap.numbers n).0 k).0) gap.canonical c (λ n k. (a n k).0)
+      block-before : (ms : List Block) → AreCanonical ms → ((n : ℕ) → IsAmong n ms → Lacks from later ys n)
+          → AreCanonical (blocks_of o ++ ms)
+      block-before ms c a = put-before x later ms o (subst AreCanonical ex m.xs_are) (λ n k. ((gap.numbers n).0 k).0)
+          gap.canonical c (λ n k. (a n k).0)
 
       pub block-done : Lacking one other (found ++ blocks_of o) later ys from
       block-done =
@@ -112,7 +124,8 @@ module _ (one other found xs ys : List Block) (from : ℕ) (m : Lacking one othe
         outside : IsAmong n (y ∷ others) → ⊥
         outside k = h.2 (subst (IsAmong n) (sym ey) k)
 
-        step : IsAmong n (x ∷ later) → (n < y.low) ⊎ (y.low ≤ n) → (n < y.high + 1) ⊎ (y.high + 1 ≤ n) → IsAmong n (blocks_of o) ⊎ Lacks (y.high + 1) xs others n
+        step : IsAmong n (x ∷ later) → (n < y.low) ⊎ (y.low ≤ n) → (n < y.high + 1) ⊎ (y.high + 1 ≤ n)
+            → IsAmong n (blocks_of o) ⊎ Lacks (y.high + 1) xs others n
         step k p (inr high) = inr (h.0, high, λ l. outside (inr l))
         step k (inr low) (inl high) = absurd (outside (inl (low, omega (arith, high))))
         step (inl i) (inl low) (inl high) = inl ((gap.numbers n).1 (i, h.1, subst (IsBelow n) (sym ey) low))
@@ -128,9 +141,11 @@ module _ (one other found xs ys : List Block) (from : ℕ) (m : Lacking one othe
         behind (inl i) = omega (arith, i.1, h.1)
         behind (inr r) = h.2 r
 
-      other-before : (ms : List Block) → AreCanonical ms → ((n : ℕ) → IsAmong n ms → Lacks (y.high + 1) xs others n) → AreCanonical (blocks_of o ++ ms)
+      other-before : (ms : List Block) → AreCanonical ms → ((n : ℕ) → IsAmong n ms → Lacks (y.high + 1) xs others n)
+          → AreCanonical (blocks_of o ++ ms)
       other-before ms c a = past o (λ n k. (subst (IsBelow n) ey ((gap.numbers n).0 k).2)) gap.canonical ms c a where
-        past : (p : Option Block) → ((n : ℕ) → IsAmong n (blocks_of p) → n < y.low) → AreCanonical (blocks_of p) → (ns : List Block) → AreCanonical ns
+        past : (p : Option Block) → ((n : ℕ) → IsAmong n (blocks_of p) → n < y.low) → AreCanonical (blocks_of p)
+            → (ns : List Block) → AreCanonical ns
             → ((n : ℕ) → IsAmong n ns → Lacks (y.high + 1) xs others n) → AreCanonical (blocks_of p ++ ns)
         past None low d ns e b = e
         past (Some g) low d [] e b = d
@@ -162,7 +177,8 @@ module _ (one other found xs ys : List Block) (from : ℕ) (m : Lacking one othe
   }
 
 -- where the block of the other ends behind that of the one, or there is none
-pub done-behind : (x y : Block) (ys others : List Block) → ys ≡ y ∷ others → x.high ≤ y.high → (n : ℕ) → IsIn n x → (IsAmong n ys → ⊥) → IsBelow n ys
+pub done-behind : (x y : Block) (ys others : List Block) → ys ≡ y ∷ others → x.high ≤ y.high → (n : ℕ) → IsIn n x
+    → (IsAmong n ys → ⊥) → IsBelow n ys
 done-behind x y ys others e le n i not = subst (IsBelow n) (sym e) (step (split n y.low)) where
   step : (n < y.low) ⊎ (y.low ≤ n) → n < y.low
   step (inl lt) = lt
@@ -172,5 +188,6 @@ pub done-none : (x : Block) (ys : List Block) → ys ≡ [] → (n : ℕ) → Is
 done-none x ys e n i not = subst (IsBelow n) (sym e) tt
 
 -- the same of lists that were extended
-pub extended : (one other found next xs ys : List Block) (from : ℕ) (o : Option Block) → next ≡ found ++ blocks_of o → Lacking one other (found ++ blocks_of o) xs ys from → Lacking one other next xs ys from
+pub extended : (one other found next xs ys : List Block) (from : ℕ) (o : Option Block) → next ≡ found ++ blocks_of o
+    → Lacking one other (found ++ blocks_of o) xs ys from → Lacking one other next xs ys from
 extended one other found next xs ys from o e h = subst (λ (zs : List Block). Lacking one other zs xs ys from) (sym e) h

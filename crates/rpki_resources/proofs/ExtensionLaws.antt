@@ -17,9 +17,12 @@ not-null : null ≡ sequence → ⊥
 not-null e = let n = ap (λ (t : TagName). t.number) e in omega (arith, n)
 
 pub inherit-tag : (s : List ℕ) (v : ChoiceView) (r : List ℕ) → Spells SpellsInherit s v r → HasTag null s
-inherit-tag s v r h = leaf-tag null false IsNull s h.spelled.value r (value-of (SpellsLeaf null false IsNull) (λ (v : ChoiceView) (u : Unit {0}). v ≡ Inherit) s v r h)
+inherit-tag s v r h = leaf-tag null false IsNull s h.spelled.value r
+    (value-of (SpellsLeaf null false IsNull) (λ (v : ChoiceView) (u : Unit {0}). v ≡ Inherit) s v r h)
 
-pub listed-tag : (kind : ResourceKind) (s : List ℕ) (v : ChoiceView) (r : List ℕ) → Spells (SpellsListed kind) s v r → HasTag null s → ⊥
+pub listed-tag : (kind : ResourceKind) (s : List ℕ) (v : ChoiceView) (r : List ℕ) → Spells (SpellsListed kind) s v r
+    → HasTag null s → ⊥
 listed-tag kind s v r h there =
-    let k = value-of (SpellsLeaf sequence true (IsListed kind)) (λ (v : ChoiceView) (x : Octets). v ≡ Blocks x) s v r h in
+    let k = value-of (SpellsLeaf sequence true (IsListed kind)) (λ (v : ChoiceView) (x : Octets). v ≡ Blocks x) s v r
+    h in
     not-null (one-tag s null sequence there (leaf-tag sequence true (IsListed kind) s h.spelled.value r k))

@@ -1,5 +1,7 @@
 -- Blocks in canonical form, block by block.
-use Rattle.std.proofs.Common.{◌≡◌, ◌≢◌, ◌≤◌, ◌<◌, inl, inr, ℕ, List, [], ◌∷◌, ◌++◌, length, Option, Some, None, true, false, refl, sym, ap, ◌∙◌, subst, ◌^◌, arith, append_assoc, length-append, Result, Ok, Err}
+use Rattle.std.proofs.Common.{◌≡◌, ◌≢◌, ◌≤◌, ◌<◌, inl, inr, ℕ, List, [], ◌∷◌, ◌++◌, length, Option, Some, None, true}
+use Rattle.std.proofs.Common.{false, refl, sym, ap, ◌∙◌, subst, ◌^◌, arith, append_assoc, length-append, Result, Ok}
+use Rattle.std.proofs.Common.{Err}
 use Rattle.std.specs.Prelude.{IsErr, IsErrAnd}
 use Rattle.std.proofs.lemmas.List.{append-nil}
 use Rattle.rpki_resources.specs.InPlace.{Counts}
@@ -21,9 +23,11 @@ use Rattle.rpki_resources.specs.declared.kind.ResourceKind.{ResourceKind}
 use Rattle.rpki_resources.specs.declared.kind.ResourceKind.TheVariants.{Addresses, AsNumbers}
 use Rattle.rpki_resources.specs.Blocks.{AreCanonical, IsPast}
 use Rattle.rpki_resources.specs.Composing.{SpellsEnds, IsContentError, IsAfterEndsFault, IsEndsFault}
-use Rattle.rpki_resources.specs.Address.{width, IsAddress, SpellsAddress, IsAddressFault, IsRange, SpellsBlock, IsBlockFault}
+use Rattle.rpki_resources.specs.Address.{width, IsAddress, SpellsAddress, IsAddressFault, IsRange, SpellsBlock}
+use Rattle.rpki_resources.specs.Address.{IsBlockFault}
 use Rattle.rpki_resources.specs.AsNumber.{SpellsAsNumber, IsAsNumberFault, IsAsRange, SpellsAsBlock, IsAsBlockFault}
-use Rattle.rpki_resources.specs.Listed.{SpellsBlockOf, IsBlockFaultOf, AreBlocks, Follows, SpellsNext, SpellsFollowing, IsNextFault, AreBlocksFault}
+use Rattle.rpki_resources.specs.Listed.{SpellsBlockOf, IsBlockFaultOf, AreBlocks, Follows, SpellsNext, SpellsFollowing}
+use Rattle.rpki_resources.specs.Listed.{IsNextFault, AreBlocksFault}
 use Rattle.rpki_resources.specs.Listed.IsNextFault.{InBlock, OutOfOrder}
 use Rattle.rpki_resources.specs.Listed.AreBlocksFault.{NoBlock, AtBlock, AfterBlock}
 use Rattle.rpki_resources.proofs.AddressLaws.{prefix-ascends}
@@ -61,37 +65,49 @@ after-ends : {A V : Type 0} (R : V → A × A → Type 0) (x : A × A) (r : List
 after-ends R x r (inl h) = h.1
 after-ends R x r (inr h) = let e = h.1.1 in cc
 
-ends-no-memory : {A V : Type 0} (G : A → List ℕ → Type 0) (K : List ℕ → DecodeError → Type 0) (R : V → A × A → Type 0) → ((s : List ℕ) → K s OutOfMemory → ⊥) → (c : List ℕ)
+ends-no-memory : {A V : Type 0} (G : A → List ℕ → Type 0) (K : List ℕ → DecodeError → Type 0) (R : V → A × A → Type 0)
+    → ((s : List ℕ) → K s OutOfMemory → ⊥) → (c : List ℕ)
     → IsEndsFault G K R c OutOfMemory → ⊥
 ends-no-memory G K R none c h =
     first-no-memory G K (λ low. λ r e. FirstFault G K (λ high. IsAfterEndsFault R (low, high)) r e) c (none c)
-    (λ low m k. first-no-memory G K (λ high. IsAfterEndsFault R (low, high)) m (none m) (λ high r l. after-ends R (low, high) r l) k) h
+    (λ low m k. first-no-memory G K (λ high. IsAfterEndsFault R (low, high)) m (none m)
+    (λ high r l. after-ends R (low, high) r l) k) h
 
 address-no-memory : (w : ℕ) (s : List ℕ) → IsBlockFault w s OutOfMemory → ⊥
 address-no-memory w s (inl h) =
     inside-no-memory sequence true (IsEndsFault (SpellsAddress w) (IsAddressFault w) (IsRange w)) s
-    (ends-no-memory (SpellsAddress w) (IsAddressFault w) (IsRange w) (λ r k. leaf-no-memory bit_string false (IsAddress w) r OutOfMemory k refl)) h.1
+    (ends-no-memory (SpellsAddress w) (IsAddressFault w) (IsRange w)
+    (λ r k. leaf-no-memory bit_string false (IsAddress w) r OutOfMemory k refl)) h.1
 address-no-memory w s (inr h) = leaf-no-memory bit_string false (IsAddress w) s OutOfMemory h.1 refl
 
 number-no-memory : (s : List ℕ) → IsAsBlockFault s OutOfMemory → ⊥
 number-no-memory s (inl h) =
     inside-no-memory sequence true (IsEndsFault SpellsAsNumber IsAsNumberFault IsAsRange) s
-    (ends-no-memory SpellsAsNumber IsAsNumberFault IsAsRange (λ r k. leaf-no-memory integer false (IsUnsignedBelow (2 ^ 32)) r OutOfMemory k refl)) h.1
+    (ends-no-memory SpellsAsNumber IsAsNumberFault IsAsRange
+    (λ r k. leaf-no-memory integer false (IsUnsignedBelow (2 ^ 32)) r OutOfMemory k refl)) h.1
 number-no-memory s (inr h) = leaf-no-memory integer false (IsUnsignedBelow (2 ^ 32)) s OutOfMemory h.1 refl
 
 pub block-no-memory : (kind : ResourceKind) (s : List ℕ) (e : DecodeError) → IsBlockFaultOf kind s e → e ≢ OutOfMemory
-block-no-memory (Addresses family) s e h z = address-no-memory (width family) s (subst (IsBlockFault (width family) s) z h)
+block-no-memory (Addresses family) s e h z = address-no-memory (width family) s
+    (subst (IsBlockFault (width family) s) z h)
 block-no-memory AsNumbers s e h z = number-no-memory s (subst (IsAsBlockFault s) z h)
 
 -- ---- a block that may stand behind a number
 
-as-block : (kind : ResourceKind) (last : Option ℕ) (s : List ℕ) (b : Block) (r : List ℕ) → Spells (SpellsNext kind last) s b r → Spells (SpellsBlockOf kind) s b r
+as-block : (kind : ResourceKind) (last : Option ℕ) (s : List ℕ) (b : Block) (r : List ℕ)
+    → Spells (SpellsNext kind last) s b r → Spells (SpellsBlockOf kind) s b r
 as-block kind last s b r h = record { front = h.front; parts = h.parts; spelled = h.spelled.block }
 
 module _ (kind : ResourceKind) (last : Option ℕ) (s : List ℕ) where
-  pub next-accepted : (b : Block) (r : List ℕ) → Accepts (SpellsBlockOf kind) s b r → Follows last b → Accepts (SpellsNext kind last) s b r
+  pub next-accepted : (b : Block) (r : List ℕ) → Accepts (SpellsBlockOf kind) s b r → Follows last b
+      → Accepts (SpellsNext kind last) s b r
   next-accepted b r a f = record {
-    spells = record { front = a.spells.front; parts = a.spells.parts; spelled = record { block = a.spells.spelled; follows = f } };
+    spells = record {
+      front = a.spells.front;
+      parts = a.spells.parts;
+      spelled =
+          record { block = a.spells.spelled; follows = f };
+    };
     only = λ d q h. a.only d q (as-block kind last s d q h);
   }
 
@@ -105,23 +121,28 @@ module _ (kind : ResourceKind) (last : Option ℕ) (s : List ℕ) where
         kind = InBlock none k.kind;
       }
 
-  pub next-out : (b : Block) (q r : List ℕ) (x : ContentError) → r ≡ s → Accepts (SpellsBlockOf kind) s b q → (Follows last b → ⊥)
+  pub next-out : (b : Block) (q r : List ℕ) (x : ContentError) → r ≡ s → Accepts (SpellsBlockOf kind) s b q
+      → (Follows last b → ⊥)
       → Refusal (SpellsNext kind last) (IsNextFault kind last) s r (Content x)
   next-out b q r x same a not = record {
     unchanged = same;
-    refuses = λ d p h. let e = a.only d p (as-block kind last s d p h) in not (subst (λ (y : Block). Follows last y) e.0 h.spelled.follows);
+    refuses = λ d p h. let e = a.only d p (as-block kind last s d p h) in not
+        (subst (λ (y : Block). Follows last y) e.0 h.spelled.follows);
     kind = OutOfOrder b q a not tt;
   }
 
-pub next-no-memory : (kind : ResourceKind) (last : Option ℕ) (s : List ℕ) (e : DecodeError) → IsNextFault kind last s e → e ≢ OutOfMemory
+pub next-no-memory : (kind : ResourceKind) (last : Option ℕ) (s : List ℕ) (e : DecodeError) → IsNextFault kind last s e
+    → e ≢ OutOfMemory
 next-no-memory kind last s e (InBlock none k) = block-no-memory kind s e k
 next-no-memory kind last s e (OutOfOrder b r a not k) = λ z. subst IsContentError z k
 
-pub next-some : (kind : ResourceKind) (last : Option ℕ) (b : Block) (r : List ℕ) → Spells (SpellsNext kind last) [] b r → ⊥
-next-some kind last b r h = block-some kind b (subst (SpellsBlockOf kind b) (none h.front r h.parts) h.spelled.block) where
-  none : (p q : List ℕ) → [] ≡ p ++ q → p ≡ []
-  none [] q e = refl
-  none (y ∷ ys) q e = absurd (cc)
+pub next-some : (kind : ResourceKind) (last : Option ℕ) (b : Block) (r : List ℕ) → Spells (SpellsNext kind last) [] b r
+    → ⊥
+next-some kind last b r h = block-some kind b (subst (SpellsBlockOf kind b) (none h.front r h.parts) h.spelled.block)
+  where
+    none : (p q : List ℕ) → [] ≡ p ++ q → p ≡ []
+    none [] q e = refl
+    none (y ∷ ys) q e = absurd (cc)
 
 -- ---- blocks, each behind the one before, are blocks in canonical form
 
@@ -137,16 +158,24 @@ first-past : (high : ℕ) (bs : List Block) → IsPast high bs → FollowsFirst 
 first-past high [] h = tt
 first-past high (b ∷ bs) h = h
 
-taken-apart : (kind : ResourceKind) (last : Option ℕ) (bs : List Block) (c : List ℕ) → SpellsFollowing kind last bs c → SpellsEach (SpellsBlockOf kind) bs c × AreCanonical bs × FollowsFirst last bs
+taken-apart : (kind : ResourceKind) (last : Option ℕ) (bs : List Block) (c : List ℕ) → SpellsFollowing kind last bs c
+    → SpellsEach (SpellsBlockOf kind) bs c × AreCanonical bs × FollowsFirst last bs
 taken-apart kind last [] c h = (h, tt, tt)
 taken-apart kind last (b ∷ bs) c h =
-    let k = taken-apart kind (Some b.high) bs h.0 h.2 in
-    ((h.0, as-block kind last c b h.0 h.1, k.0), (block-ascends kind b h.1.front h.1.spelled.block, past-first b.high bs k.2, k.1), h.1.spelled.follows)
+    let k = taken-apart kind (Some b.high) bs h.0 h.2 in (
+      (h.0, as-block kind last c b h.0 h.1, k.0),
+      (block-ascends kind b h.1.front h.1.spelled.block, past-first b.high bs k.2, k.1),
+      h.1.spelled.follows,
+    )
 
-put-together : (kind : ResourceKind) (last : Option ℕ) (bs : List Block) (c : List ℕ) → SpellsEach (SpellsBlockOf kind) bs c → AreCanonical bs → FollowsFirst last bs → SpellsFollowing kind last bs c
+put-together : (kind : ResourceKind) (last : Option ℕ) (bs : List Block) (c : List ℕ)
+    → SpellsEach (SpellsBlockOf kind) bs c → AreCanonical bs → FollowsFirst last bs → SpellsFollowing kind last bs c
 put-together kind last [] c h d f = h
-put-together kind last (b ∷ bs) c h d f =
-    (h.0, record { front = h.1.front; parts = h.1.parts; spelled = record { block = h.1.spelled; follows = f } }, put-together kind (Some b.high) bs h.0 h.2 d.2 (first-past b.high bs d.1))
+put-together kind last (b ∷ bs) c h d f = (
+  h.0,
+  record { front = h.1.front; parts = h.1.parts; spelled = record { block = h.1.spelled; follows = f } },
+  put-together kind (Some b.high) bs h.0 h.2 d.2 (first-past b.high bs d.1),
+)
 
 first-anywhere : (bs : List Block) → FollowsFirst None bs
 first-anywhere [] = tt
@@ -158,17 +187,23 @@ no-blocks kind (b ∷ bs) c h some z = cc
 
 some-octets : (kind : ResourceKind) (bs : List Block) (c : List ℕ) → SpellsFollowing kind None bs c → bs ≢ [] → c ≢ []
 some-octets kind [] c h some z = some refl
-some-octets kind (b ∷ bs) c h some z = next-some kind None b h.0 (subst (λ (s : List ℕ). Spells (SpellsNext kind None) s b h.0) z h.1)
+some-octets kind (b ∷ bs) c h some z = next-some kind None b h.0
+    (subst (λ (s : List ℕ). Spells (SpellsNext kind None) s b h.0) z h.1)
 
-pub following-blocks : (kind : ResourceKind) (bs : List Block) (c : List ℕ) → SpellsFollowing kind None bs c → c ≢ [] → AreBlocks kind bs c
-following-blocks kind bs c h some = let k = taken-apart kind None bs c h in record { each = k.0; canonical = k.1; some = no-blocks kind bs c h some }
+pub following-blocks : (kind : ResourceKind) (bs : List Block) (c : List ℕ) → SpellsFollowing kind None bs c → c ≢ []
+    → AreBlocks kind bs c
+following-blocks kind bs c h some = let k = taken-apart kind None bs c h in
+    record { each = k.0; canonical = k.1; some = no-blocks kind bs c h some }
 
-pub blocks-following : (kind : ResourceKind) (bs : List Block) (c : List ℕ) → AreBlocks kind bs c → SpellsFollowing kind None bs c
+pub blocks-following : (kind : ResourceKind) (bs : List Block) (c : List ℕ) → AreBlocks kind bs c
+    → SpellsFollowing kind None bs c
 blocks-following kind bs c h = put-together kind None bs c h.each h.canonical (first-anywhere bs)
 
 -- a block, and blocks that stand behind it
-pub following-canonical : (kind : ResourceKind) (b : Block) (bs : List Block) (c : List ℕ) → b.low ≤ b.high → SpellsFollowing kind (Some b.high) bs c → AreCanonical (b ∷ bs)
-following-canonical kind b bs c up h = let k = taken-apart kind (Some b.high) bs c h in (up, past-first b.high bs k.2, k.1)
+pub following-canonical : (kind : ResourceKind) (b : Block) (bs : List Block) (c : List ℕ) → b.low ≤ b.high
+    → SpellsFollowing kind (Some b.high) bs c → AreCanonical (b ∷ bs)
+following-canonical kind b bs c up h = let k =
+    taken-apart kind (Some b.high) bs c h in (up, past-first b.high bs k.2, k.1)
 
 pub blocks-some : (kind : ResourceKind) (bs : List Block) (c : List ℕ) → AreBlocks kind bs c → c ≢ []
 blocks-some kind bs c h = some-octets kind bs c (blocks-following kind bs c h) h.some
@@ -178,16 +213,20 @@ blocks-some kind bs c h = some-octets kind bs c (blocks-following kind bs c h) h
 -- the blocks xs of s were read, the last of which ends with this number, and r is left
 pub record SoFar (kind : ResourceKind) (s : List ℕ) (last : Option ℕ) (r : List ℕ) (xs : List Block) : Type 0 where
   pub forth : (ds : List Block) → SpellsFollowing kind last ds r → SpellsFollowing kind None (xs ++ ds) s
-  pub back : (es : List Block) → SpellsFollowing kind None es s → (ds : List Block) × SpellsFollowing kind last ds r × (es ≡ xs ++ ds)
+  pub back : (es : List Block) → SpellsFollowing kind None es s
+      → (ds : List Block) × SpellsFollowing kind last ds r × (es ≡ xs ++ ds)
   pub fault : (e : DecodeError) → r ≢ [] → AreBlocksFault kind last r e → AreBlocksFault kind None s e
 
 pub at-start : (kind : ResourceKind) (s : List ℕ) → SoFar kind s None s []
 at-start kind s = record { forth = λ ds h. h; back = λ es h. (es, h, refl); fault = λ e some h. h }
 
-module _ (kind : ResourceKind) (s : List ℕ) (last : Option ℕ) (r : List ℕ) (xs : List Block) (so : SoFar kind s last r xs) where
-  pub next-read : (b : Block) (q : List ℕ) → r ≢ [] → Accepts (SpellsNext kind last) r b q → SoFar kind s (Some b.high) q (xs ++ (b ∷ []))
+module _ (kind : ResourceKind) (s : List ℕ) (last : Option ℕ) (r : List ℕ) (xs : List Block)
+    (so : SoFar kind s last r xs) where
+  pub next-read : (b : Block) (q : List ℕ) → r ≢ [] → Accepts (SpellsNext kind last) r b q
+      → SoFar kind s (Some b.high) q (xs ++ (b ∷ []))
   next-read b q some a = record {
-    forth = λ ds h. subst (λ (ys : List Block). SpellsFollowing kind None ys s) (sym (append_assoc xs (b ∷ []) ds)) (so.forth (b ∷ ds) (q, a.spells, h));
+    forth = λ ds h. subst (λ (ys : List Block). SpellsFollowing kind None ys s) (sym (append_assoc xs (b ∷ []) ds))
+        (so.forth (b ∷ ds) (q, a.spells, h));
     back = λ es h. let k = so.back es h in backwards es k.0 k.1 k.2;
     fault = λ e more h. so.fault e some (AfterBlock b q a h);
   } where
@@ -196,7 +235,9 @@ module _ (kind : ResourceKind) (s : List ℕ) (last : Option ℕ) (r : List ℕ)
     backwards es [] h e = absurd (some h)
     backwards es (d ∷ ds) h e =
         let is = a.only d h.0 h.1 in
-        let first : SpellsFollowing kind (Some b.high) ds q = subst (λ (m : List ℕ). SpellsFollowing kind (Some b.high) ds m) is.1 (subst (λ (y : Block). SpellsFollowing kind (Some y.high) ds h.0) is.0 h.2) in
+        let first : SpellsFollowing kind (Some b.high) ds q =
+        subst (λ (m : List ℕ). SpellsFollowing kind (Some b.high) ds m) is.1
+        (subst (λ (y : Block). SpellsFollowing kind (Some y.high) ds h.0) is.0 h.2) in
         (ds, first, e ∙ ap (λ (y : Block). xs ++ (y ∷ ds)) is.0 ∙ sym (append_assoc xs (b ∷ []) ds))
 
   pub nothing-next : r ≢ [] → Refuses (SpellsNext kind last) r → SpellsNothing (AreBlocks kind) s
@@ -205,20 +246,28 @@ module _ (kind : ResourceKind) (s : List ℕ) (last : Option ℕ) (r : List ℕ)
     no [] k = some k
     no (d ∷ ds) k = none d k.0 k.1
 
-  pub next-wrong : (e : DecodeError) (q : List ℕ) → r ≢ [] → Refusal (SpellsNext kind last) (IsNextFault kind last) r q e → SpellsNothing (AreBlocks kind) s × AreBlocksFault kind None s e
-  next-wrong e q some h = (nothing-next some (unless-memory e (next-no-memory kind last r e h.kind) h.refuses), so.fault e some (AtBlock some h.kind))
+  pub next-wrong : (e : DecodeError) (q : List ℕ) → r ≢ []
+      → Refusal (SpellsNext kind last) (IsNextFault kind last) r q e
+      → SpellsNothing (AreBlocks kind) s × AreBlocksFault kind None s e
+  next-wrong e q some h = (
+    nothing-next some (unless-memory e (next-no-memory kind last r e h.kind) h.refuses),
+    so.fault e some (AtBlock some h.kind),
+  )
 
   pub all-read : s ≢ [] → r ≡ [] → AreBlocks kind xs s × ((ds : List Block) → AreBlocks kind ds s → ds ≡ xs)
   all-read some end = (
-    following-blocks kind xs s (subst (λ (ys : List Block). SpellsFollowing kind None ys s) (append-nil xs) (so.forth [] end)) some,
+    following-blocks kind xs s (subst (λ (ys : List Block). SpellsFollowing kind None ys s) (append-nil xs)
+        (so.forth [] end)) some,
     λ ds h. let k = so.back ds (blocks-following kind ds s h) in is ds k.0 k.1 k.2,
   ) where
     is : (es ds : List Block) → SpellsFollowing kind last ds r → es ≡ xs ++ ds → es ≡ xs
     is es [] h e = e ∙ append-nil xs
-    is es (d ∷ ds) h e = absurd (next-some kind last d h.0 (subst (λ (m : List ℕ). Spells (SpellsNext kind last) m d h.0) end h.1))
+    is es (d ∷ ds) h e = absurd (next-some kind last d h.0
+        (subst (λ (m : List ℕ). Spells (SpellsNext kind last) m d h.0) end h.1))
 
 -- a block that was read left fewer octets
-pub next-shorter : (kind : ResourceKind) (last : Option ℕ) (r : List ℕ) (b : Block) (q : List ℕ) → Accepts (SpellsNext kind last) r b q → length q < length r
+pub next-shorter : (kind : ResourceKind) (last : Option ℕ) (r : List ℕ) (b : Block) (q : List ℕ)
+    → Accepts (SpellsNext kind last) r b q → length q < length r
 next-shorter kind last r b q a = shorter a.spells.front a.spells.parts a.spells.spelled where
   shorter : (p : List ℕ) → r ≡ p ++ q → SpellsNext kind last b p → length q < length r
   shorter [] e h = absurd (block-some kind b h.block)
@@ -228,10 +277,15 @@ pub some-left : (r : List ℕ) → r ≢ [] → 1 ≤ length r
 some-left [] h = absurd (h refl)
 some-left (y ∷ ys) h = omega arith
 
-pub no-octets : (kind : ResourceKind) (s : List ℕ) (x : ContentError) → s ≡ [] → SpellsNothing (AreBlocks kind) s × AreBlocksFault kind None s (Content x)
-no-octets kind s x e = (λ bs h. blocks-some kind bs s h e, subst (λ (m : List ℕ). AreBlocksFault kind None m (Content x)) (sym e) (NoBlock tt))
+pub no-octets : (kind : ResourceKind) (s : List ℕ) (x : ContentError) → s ≡ []
+    → SpellsNothing (AreBlocks kind) s × AreBlocksFault kind None s (Content x)
+no-octets kind s x e = (
+  λ bs h. blocks-some kind bs s h e,
+  subst (λ (m : List ℕ). AreBlocksFault kind None m (Content x)) (sym e) (NoBlock tt),
+)
 
-pub tried-counts : (kind : ResourceKind) (s : List ℕ) (d : DecodeError) (x : Result ℕ DecodeError) → IsErr x × IsErrAnd x (λ e. e ≡ d) → SpellsNothing (AreBlocks kind) s × AreBlocksFault kind None s d
+pub tried-counts : (kind : ResourceKind) (s : List ℕ) (d : DecodeError) (x : Result ℕ DecodeError)
+    → IsErr x × IsErrAnd x (λ e. e ≡ d) → SpellsNothing (AreBlocks kind) s × AreBlocksFault kind None s d
     → Counts kind s x
 tried-counts kind s d (Ok n) h k = absurd h.1
 tried-counts kind s d (Err e) h k = (k.0, subst (AreBlocksFault kind None s) (sym h.1) k.1)

@@ -25,7 +25,8 @@ module _ (x : Octets) (xs : List Block) (before : Rest) (kept : Kept x xs before
     (given : (bs : List Block) → IsLeft before bs → Gives bs found after) where
   pub one-kept : (b : Block) → found ≡ Some b → Kept x (xs ++ (b ∷ [])) after
   one-kept b is bs h = let k = kept bs h in step k.0 k.2 (given k.0 k.1) where
-    step : (ds : List Block) → bs ≡ xs ++ ds → Gives ds found after → (es : List Block) × IsLeft after es × (bs ≡ (xs ++ (b ∷ [])) ++ es)
+    step : (ds : List Block) → bs ≡ xs ++ ds → Gives ds found after
+        → (es : List Block) × IsLeft after es × (bs ≡ (xs ++ (b ∷ [])) ++ es)
     step [] e g = let no : Some b ≡ None = sym is ∙ g.0 in absurd (cc)
     step (d ∷ ds) e g =
         let same : Some b ≡ Some d = sym is ∙ g.0 in
@@ -38,7 +39,8 @@ module _ (x : Octets) (xs : List Block) (before : Rest) (kept : Kept x xs before
     step [] e g = e ∙ append-nil xs
     step (d ∷ ds) e g = let no : Some d ≡ None = sym g.0 ∙ is in absurd (cc)
 
-pub held-only : (x : Octets) (xs : List Block) → ((bs : List Block) × Holds x bs) → ((bs : List Block) → Holds x bs → bs ≡ xs) → HoldsOnly x xs
+pub held-only : (x : Octets) (xs : List Block) → ((bs : List Block) × Holds x bs)
+    → ((bs : List Block) → Holds x bs → bs ≡ xs) → HoldsOnly x xs
 held-only x xs some all = (subst (Holds x) (all some.0 some.1) some.1, all)
 
 pub kept-canonical : (x : Octets) (xs : List Block) → HoldsOnly x xs → AreCanonical xs
@@ -52,16 +54,21 @@ ip_of v4 v6 = record { v4 = v4; v6 = v6 }
 abbrev pub as_of : ResourcesChoice → AsResources
 as_of numbers = record { numbers = numbers }
 
-pub ip-only : (x : IpResourcesView) (v4 v6 : ResourcesChoice) → IsOnlyChoiceOf v4 x.v4 → IsOnlyChoiceOf v6 x.v6 → (w : IpResources) → AreIpResourcesOf w x → w ≡ ip_of v4 v6
-ip-only x v4 v6 h k w both = ap (λ (y : ResourcesChoice). ip_of y w.v6) (h.1 w.v4 both.0) ∙ ap (λ (y : ResourcesChoice). ip_of v4 y) (k.1 w.v6 both.1)
+pub ip-only : (x : IpResourcesView) (v4 v6 : ResourcesChoice) → IsOnlyChoiceOf v4 x.v4 → IsOnlyChoiceOf v6 x.v6
+    → (w : IpResources) → AreIpResourcesOf w x → w ≡ ip_of v4 v6
+ip-only x v4 v6 h k w both = ap (λ (y : ResourcesChoice). ip_of y w.v6) (h.1 w.v4 both.0)
+    ∙ ap (λ (y : ResourcesChoice). ip_of v4 y) (k.1 w.v6 both.1)
 
-pub as-only : (x : ChoiceView) (v : ResourcesChoice) → IsOnlyChoiceOf v x → (w : AsResources) → AreAsResourcesOf w x → w ≡ as_of v
+pub as-only : (x : ChoiceView) (v : ResourcesChoice) → IsOnlyChoiceOf v x → (w : AsResources) → AreAsResourcesOf w x
+    → w ≡ as_of v
 as-only x v h w k = ap (λ (y : ResourcesChoice). as_of y) (h.1 w.numbers k)
 
 -- ---- readers that keep what was read
 
-module _ {V O : Type 0} (G : O → List ℕ → Type 0) (R : V → O → Type 0) (K : List ℕ → DecodeError → Type 0) (s r : List ℕ) where
-  pub not-read : (q : List ℕ) (e : DecodeError) → r ≡ s → (K s OutOfMemory → ⊥) → Refusal G K s q e → Refusal (SpellsFor G R) (OrMemoryWhere (Finds G) K) s r e
+module _ {V O : Type 0} (G : O → List ℕ → Type 0) (R : V → O → Type 0) (K : List ℕ → DecodeError → Type 0)
+    (s r : List ℕ) where
+  pub not-read : (q : List ℕ) (e : DecodeError) → r ≡ s → (K s OutOfMemory → ⊥) → Refusal G K s q e
+      → Refusal (SpellsFor G R) (OrMemoryWhere (Finds G) K) s r e
   not-read q e same never h = record {
     unchanged = same;
     refuses = UnlessMemory-weaker e (λ none v p k. none k.spelled.value p (value-of G R s v p k)) h.refuses;

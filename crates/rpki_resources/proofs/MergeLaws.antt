@@ -1,5 +1,6 @@
 -- What two lists of blocks share, step by step.
-use Rattle.std.proofs.Common.{◌≡◌, ◌≢◌, refl, ◌≤◌, ◌<◌, ◌⊎◌, ◌↔◌, inl, inr, ℕ, suc, List, [], ◌∷◌, ◌++◌, Option, Some, None, Result, Ok, Err, sym, subst, append_assoc, arith}
+use Rattle.std.proofs.Common.{◌≡◌, ◌≢◌, refl, ◌≤◌, ◌<◌, ◌⊎◌, ◌↔◌, inl, inr, ℕ, suc, List, [], ◌∷◌, ◌++◌, Option, Some}
+use Rattle.std.proofs.Common.{None, Result, Ok, Err, sym, subst, append_assoc, arith}
 use Rattle.std.proofs.lemmas.List.{append-nil}
 use Rattle.std.specs.Prelude.{IfErr}
 use Rattle.rpki_resources.specs.declared.block.Block.{Block}
@@ -41,7 +42,11 @@ swapped one other found xs ys h = record {
   ys_are = h.xs_are;
   same = λ n. (
     λ a. elim ((h.same n).0 (a.1, a.0)) [ inl b ↦ inl b | inr b ↦ inr (b.1, b.0) ],
-    λ a. elim a [ inl b ↦ (let k = (h.same n).1 (inl b) in (k.1, k.0)) | inr b ↦ (let k = (h.same n).1 (inr (b.1, b.0)) in (k.1, k.0)) ],
+    λ a. elim a [
+      | inl b ↦ (let k = (h.same n).1 (inl b) in (k.1, k.0))
+      | inr b ↦
+          (let k = (h.same n).1 (inr (b.1, b.0)) in (k.1, k.0))
+    ],
   );
   room = λ ms c a b. h.room ms c b a;
 }
@@ -53,7 +58,8 @@ overlap-swapped x y o h = record {
 }
 
 -- what is found in one block and goes before what is found behind it
-pub put-before : (x : Block) (later ms : List Block) (o : Option Block) → AreCanonical (x ∷ later) → ((n : ℕ) → IsAmong n (blocks_of o) → IsIn n x) → AreCanonical (blocks_of o) → AreCanonical ms
+pub put-before : (x : Block) (later ms : List Block) (o : Option Block) → AreCanonical (x ∷ later)
+    → ((n : ℕ) → IsAmong n (blocks_of o) → IsIn n x) → AreCanonical (blocks_of o) → AreCanonical ms
     → IsSubset ms later → AreCanonical (blocks_of o ++ ms)
 put-before x later ms None c within h d sub = d
 put-before x later ms (Some b) c within h d sub = (h.0, past ms d sub, d) where
@@ -65,13 +71,16 @@ put-before x later ms (Some b) c within h d sub = (h.0, past ms d sub, d) where
       omega (arith, there, top.1)
 
 -- the first block of the one ends first: it is done with
-module _ (one other found later others : List Block) (x y : Block) (o : Option Block) (m : Merging one other found (x ∷ later) (y ∷ others)) (overlap : IsOverlap x y o) (first : x.high ≤ y.high) where
-  forth : (n : ℕ) → IsAmong n one × IsAmong n other → IsAmong n (found ++ blocks_of o) ⊎ (IsAmong n later × IsAmong n (y ∷ others))
+module _ (one other found later others : List Block) (x y : Block) (o : Option Block)
+    (m : Merging one other found (x ∷ later) (y ∷ others)) (overlap : IsOverlap x y o) (first : x.high ≤ y.high) where
+  forth : (n : ℕ) → IsAmong n one × IsAmong n other
+      → IsAmong n (found ++ blocks_of o) ⊎ (IsAmong n later × IsAmong n (y ∷ others))
   forth n a = elim ((m.same n).0 a) [
     | inl b ↦ inl ((among-append n found (blocks_of o)).1 (inl b))
     | inr b ↦ both b.0 b.1
   ] where
-    both : IsAmong n (x ∷ later) → IsAmong n (y ∷ others) → IsAmong n (found ++ blocks_of o) ⊎ (IsAmong n later × IsAmong n (y ∷ others))
+    both : IsAmong n (x ∷ later) → IsAmong n (y ∷ others)
+        → IsAmong n (found ++ blocks_of o) ⊎ (IsAmong n later × IsAmong n (y ∷ others))
     both (inl p) (inl q) = inl ((among-append n found (blocks_of o)).1 (inr ((overlap.numbers n).1 (p, q))))
     both (inl p) (inr q) =
         let far : suc y.high < n = among-past y.high n others m.ys_are.1 m.ys_are.2 q in
@@ -79,14 +88,16 @@ module _ (one other found later others : List Block) (x y : Block) (o : Option B
         absurd no
     both (inr p) q = inr (p, q)
 
-  back : (n : ℕ) → IsAmong n (found ++ blocks_of o) ⊎ (IsAmong n later × IsAmong n (y ∷ others)) → IsAmong n one × IsAmong n other
+  back : (n : ℕ) → IsAmong n (found ++ blocks_of o) ⊎ (IsAmong n later × IsAmong n (y ∷ others))
+      → IsAmong n one × IsAmong n other
   back n (inl a) = elim ((among-append n found (blocks_of o)).0 a) [
     | inl b ↦ (m.same n).1 (inl b)
     | inr b ↦ (let k = (overlap.numbers n).0 b in (m.same n).1 (inr (inl k.0, inl k.1)))
   ]
   back n (inr a) = (m.same n).1 (inr (inr a.0, a.1))
 
-  fits : (ms : List Block) → AreCanonical ms → IsSubset ms later → IsSubset ms (y ∷ others) → AreCanonical ((found ++ blocks_of o) ++ ms)
+  fits : (ms : List Block) → AreCanonical ms → IsSubset ms later → IsSubset ms (y ∷ others)
+      → AreCanonical ((found ++ blocks_of o) ++ ms)
   fits ms c a b =
       let both = put-before x later ms o m.xs_are (λ n k. ((overlap.numbers n).0 k).0) overlap.canonical c a in
       let in_xs : IsSubset (blocks_of o ++ ms) (x ∷ later) = λ n k. elim ((among-append n (blocks_of o) ms).0 k) [
@@ -102,14 +113,17 @@ module _ (one other found later others : List Block) (x y : Block) (o : Option B
   pub one-done : Merging one other (found ++ blocks_of o) later (y ∷ others)
   one-done = record { xs_are = m.xs_are.2; ys_are = m.ys_are; same = λ n. (forth n, back n); room = fits }
 
-pub other-done : (one other found later others : List Block) (x y : Block) (o : Option Block) → Merging one other found (x ∷ later) (y ∷ others) → IsOverlap x y o → y.high ≤ x.high
+pub other-done : (one other found later others : List Block) (x y : Block) (o : Option Block)
+    → Merging one other found (x ∷ later) (y ∷ others) → IsOverlap x y o → y.high ≤ x.high
     → Merging one other (found ++ blocks_of o) (x ∷ later) others
 other-done one other found later others x y o m overlap first =
     swapped other one (found ++ blocks_of o) others (x ∷ later)
-    (one-done other one found others later y x o (swapped one other found (x ∷ later) (y ∷ others) m) (overlap-swapped x y o overlap) first)
+    (one-done other one found others later y x o (swapped one other found (x ∷ later) (y ∷ others) m)
+    (overlap-swapped x y o overlap) first)
 
 -- a list is gone
-pub all-shared : (one other found xs ys : List Block) → Merging one other found xs ys → xs ≡ [] → AreShared one other found
+pub all-shared : (one other found xs ys : List Block) → Merging one other found xs ys → xs ≡ []
+    → AreShared one other found
 all-shared one other found xs ys m end = record {
   numbers = λ n. (
     λ a. (m.same n).1 (inl a),
@@ -121,10 +135,14 @@ all-shared one other found xs ys m end = record {
   canonical = subst AreCanonical (append-nil found) (m.room [] tt (λ n a. absurd a) (λ n a. absurd a));
 }
 
-pub all-shared-other : (one other found xs ys : List Block) → Merging one other found xs ys → ys ≡ [] → AreShared one other found
+pub all-shared-other : (one other found xs ys : List Block) → Merging one other found xs ys → ys ≡ []
+    → AreShared one other found
 all-shared-other one other found xs ys m end =
     let k = all-shared other one found ys xs (swapped one other found xs ys m) end in
-    record { numbers = λ n. (λ a. (let b = (k.numbers n).0 a in (b.1, b.0)), λ a. (k.numbers n).1 (a.1, a.0)); canonical = k.canonical }
+    record {
+      numbers = λ n. (λ a. (let b = (k.numbers n).0 a in (b.1, b.0)), λ a. (k.numbers n).1 (a.1, a.0));
+      canonical = k.canonical;
+    }
 
 -- ---- where something is found
 
@@ -152,17 +170,21 @@ some-shared one other found xs ys later others x y o ex ey m overlap not v are =
 
 -- ---- the same of lists that begin so
 
-module _ (one other found next xs ys later others : List Block) (x y : Block) (o : Option Block) (ex : xs ≡ x ∷ later) (ey : ys ≡ y ∷ others) (ef : next ≡ found ++ blocks_of o)
+module _ (one other found next xs ys later others : List Block) (x y : Block) (o : Option Block) (ex : xs ≡ x ∷ later)
+    (ey : ys ≡ y ∷ others) (ef : next ≡ found ++ blocks_of o)
     (m : Merging one other found xs ys) (overlap : IsOverlap x y o) where
   both-begin : Merging one other found (x ∷ later) (y ∷ others)
-  both-begin = subst (λ (zs : List Block). Merging one other found (x ∷ later) zs) ey (subst (λ (zs : List Block). Merging one other found zs ys) ex m)
+  both-begin = subst (λ (zs : List Block). Merging one other found (x ∷ later) zs) ey
+      (subst (λ (zs : List Block). Merging one other found zs ys) ex m)
 
   pub first-done : x.high ≤ y.high → Merging one other next later ys
   first-done le =
       let k = one-done one other found later others x y o both-begin overlap le in
-      subst (λ (zs : List Block). Merging one other zs later ys) (sym ef) (subst (λ (zs : List Block). Merging one other (found ++ blocks_of o) later zs) (sym ey) k)
+      subst (λ (zs : List Block). Merging one other zs later ys) (sym ef)
+      (subst (λ (zs : List Block). Merging one other (found ++ blocks_of o) later zs) (sym ey) k)
 
   pub second-done : y.high ≤ x.high → Merging one other next xs others
   second-done le =
       let k = other-done one other found later others x y o both-begin overlap le in
-      subst (λ (zs : List Block). Merging one other zs xs others) (sym ef) (subst (λ (zs : List Block). Merging one other (found ++ blocks_of o) zs others) (sym ex) k)
+      subst (λ (zs : List Block). Merging one other zs xs others) (sym ef)
+      (subst (λ (zs : List Block). Merging one other (found ++ blocks_of o) zs others) (sym ex) k)

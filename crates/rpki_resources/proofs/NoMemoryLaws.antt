@@ -14,7 +14,10 @@ use Rattle.rpki_resources.specs.declared.family.AddressFamily.TheVariants.{Ipv4,
 use Rattle.rpki_resources.specs.declared.choice_view.ChoiceView.{ChoiceView}
 use Rattle.rpki_resources.specs.Listed.{AreBlocksFault}
 use Rattle.rpki_resources.specs.Listed.AreBlocksFault.{NoBlock, AtBlock, AfterBlock}
-use Rattle.rpki_resources.specs.Extension.{SpellsChoice, IsChoiceFault, as_numbers, SpellsAsNumbers, IsAsNumbersFault, IsAsResourcesFault, IsFamily, SpellsFamily, IsFamilyFault, AreNamedFault, SpellsNamed, IsNamedFault, IsAfterSecondFault, IsAfterFirstFault, AreFamiliesFault, IsIpResourcesFault}
+use Rattle.rpki_resources.specs.Extension.{SpellsChoice, IsChoiceFault, as_numbers, SpellsAsNumbers, IsAsNumbersFault}
+use Rattle.rpki_resources.specs.Extension.{IsAsResourcesFault, IsFamily, SpellsFamily, IsFamilyFault, AreNamedFault}
+use Rattle.rpki_resources.specs.Extension.{SpellsNamed, IsNamedFault, IsAfterSecondFault, IsAfterFirstFault}
+use Rattle.rpki_resources.specs.Extension.{AreFamiliesFault, IsIpResourcesFault}
 use Rattle.rpki_resources.proofs.FollowLaws.{next-no-memory}
 
 blocks : (kind : ResourceKind) (last : Option ℕ) (s : List ℕ) → AreBlocksFault kind last s OutOfMemory → ⊥
@@ -29,20 +32,25 @@ choice kind s (inr h) = inside-no-memory sequence true (AreBlocksFault kind None
 numbers : (s : List ℕ) → IsAsNumbersFault s OutOfMemory → ⊥
 numbers s h =
     inside-no-memory as_numbers true (FirstFault (SpellsChoice AsNumbers) (IsChoiceFault AsNumbers) (λ v. IsEndFault)) s
-    (λ c k. first-no-memory (SpellsChoice AsNumbers) (IsChoiceFault AsNumbers) (λ v. IsEndFault) c (choice AsNumbers c) (λ v r. end-no-memory r) k) h
+    (λ c k. first-no-memory (SpellsChoice AsNumbers) (IsChoiceFault AsNumbers) (λ v. IsEndFault) c (choice AsNumbers c)
+    (λ v r. end-no-memory r) k) h
 
 pub as-no-memory : (s : List ℕ) → IsAsResourcesFault s OutOfMemory → ⊥
 as-no-memory s h =
     inside-no-memory sequence true (FirstFault SpellsAsNumbers IsAsNumbersFault (λ v. IsEndFault)) s
-    (λ c k. first-no-memory SpellsAsNumbers IsAsNumbersFault (λ v. IsEndFault) c (numbers c) (λ v r. end-no-memory r) k) h
+    (λ c k. first-no-memory SpellsAsNumbers IsAsNumbersFault (λ v. IsEndFault) c (numbers c) (λ v r. end-no-memory r) k)
+    h
 
 abbrev IsChoicePartFault : AddressFamily → List ℕ → DecodeError → Type 0
-IsChoicePartFault family = FirstFault (SpellsChoice (Addresses family)) (IsChoiceFault (Addresses family)) (λ v. IsEndFault)
+IsChoicePartFault family = FirstFault (SpellsChoice (Addresses family)) (IsChoiceFault (Addresses family))
+    (λ v. IsEndFault)
 
 parts : (c : List ℕ) → AreNamedFault c OutOfMemory → ⊥
 parts c h =
-    first-no-memory SpellsFamily IsFamilyFault IsChoicePartFault c (λ k. leaf-no-memory octet_string false IsFamily c OutOfMemory k refl)
-    (λ family r k. first-no-memory (SpellsChoice (Addresses family)) (IsChoiceFault (Addresses family)) (λ v. IsEndFault) r (choice (Addresses family) r) (λ v q. end-no-memory q) k) h
+    first-no-memory SpellsFamily IsFamilyFault IsChoicePartFault c
+    (λ k. leaf-no-memory octet_string false IsFamily c OutOfMemory k refl)
+    (λ family r k. first-no-memory (SpellsChoice (Addresses family)) (IsChoiceFault (Addresses family))
+    (λ v. IsEndFault) r (choice (Addresses family) r) (λ v q. end-no-memory q) k) h
 
 named : (s : List ℕ) → IsNamedFault s OutOfMemory → ⊥
 named s h = inside-no-memory sequence true AreNamedFault s parts h
@@ -56,4 +64,5 @@ after-first (Ipv4, v) r h = first-no-memory SpellsNamed IsNamedFault IsAfterSeco
 after-first (Ipv6, v) r h = end-no-memory r h
 
 pub ip-no-memory : (s : List ℕ) → IsIpResourcesFault s OutOfMemory → ⊥
-ip-no-memory s h = inside-no-memory sequence true AreFamiliesFault s (λ c k. first-no-memory SpellsNamed IsNamedFault IsAfterFirstFault c (named c) after-first k) h
+ip-no-memory s h = inside-no-memory sequence true AreFamiliesFault s
+    (λ c k. first-no-memory SpellsNamed IsNamedFault IsAfterFirstFault c (named c) after-first k) h

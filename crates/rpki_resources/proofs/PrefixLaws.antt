@@ -65,9 +65,11 @@ counting-start low high (q, k, l, h) = record {
   high_is = subst (λ (m : ℕ). suc high ≡ suc q * 2 ^ m) (plain k) h;
 }
 
-counted : (low high first last count q k : ℕ) → first < last → first ≡ q * 2 ^ k → suc last ≡ suc q * 2 ^ k → low ≡ q * 2 ^ (k + count) → suc high ≡ suc q * 2 ^ (k + count)
+counted : (low high first last count q k : ℕ) → first < last → first ≡ q * 2 ^ k → suc last ≡ suc q * 2 ^ k
+    → low ≡ q * 2 ^ (k + count) → suc high ≡ suc q * 2 ^ (k + count)
     → Counting low high (first / 2) (last / 2) (count + 1)
-counted low high first last count q zero lt f l a b = let same : first ≡ last = single first last q f l in absurd (omega arith)
+counted low high first last count q zero lt f l a b = let same : first ≡ last =
+    single first last q f l in absurd (omega arith)
 counted low high first last count q (suc k) lt f l a b =
     let e : suc k + count ≡ k + (count + 1) = omega arith in
     record {
@@ -79,8 +81,10 @@ counted low high first last count q (suc k) lt f l a b =
       high_is = subst (λ (m : ℕ). suc high ≡ suc q * 2 ^ m) e b;
     }
 
-pub one-counted : (low high first last count : ℕ) → first < last → Counting low high first last count → Counting low high (first / 2) (last / 2) (count + 1)
-one-counted low high first last count lt c = counted low high first last count c.shared c.missing lt c.first_is c.last_is c.low_is c.high_is
+pub one-counted : (low high first last count : ℕ) → first < last → Counting low high first last count
+    → Counting low high (first / 2) (last / 2) (count + 1)
+one-counted low high first last count lt c = counted low high first last count c.shared c.missing lt c.first_is
+    c.last_is c.low_is c.high_is
 
 -- so many bits are at most as many as there are
 pub few-missing : (w m q high : ℕ) → high < 2 ^ w → suc high ≡ suc q * 2 ^ m → m ≤ w
@@ -99,13 +103,15 @@ some-missing : (first last q k : ℕ) → first < last → first ≡ q * 2 ^ k �
 some-missing first last q zero lt f l = let same : first ≡ last = single first last q f l in absurd (omega arith)
 some-missing first last q (suc k) lt f l = omega arith
 
-pub count-few : (low high first last count : ℕ) → high < 2 ^ 128 → first < last → Counting low high first last count → count < 128
+pub count-few : (low high first last count : ℕ) → high < 2 ^ 128 → first < last → Counting low high first last count
+    → count < 128
 count-few low high first last count lt some c =
     let few : c.missing + count ≤ 128 = few-missing 128 (c.missing + count) c.shared high lt c.high_is in
     let one : 1 ≤ c.missing = some-missing first last c.shared c.missing some c.first_is c.last_is in
     omega (arith, few, one)
 
-none-missing : (low high first last count q k : ℕ) → last ≤ first → first ≡ q * 2 ^ k → suc last ≡ suc q * 2 ^ k → low ≡ q * 2 ^ (k + count) → suc high ≡ suc q * 2 ^ (k + count)
+none-missing : (low high first last count q k : ℕ) → last ≤ first → first ≡ q * 2 ^ k → suc last ≡ suc q * 2 ^ k
+    → low ≡ q * 2 ^ (k + count) → suc high ≡ suc q * 2 ^ (k + count)
     → (q : ℕ) × (low ≡ q * 2 ^ count) × (suc high ≡ suc q * 2 ^ count)
 none-missing low high first last count q zero le f l a b =
     let e : 0 + count ≡ count = omega arith in
@@ -116,8 +122,10 @@ none-missing low high first last count q (suc k) le f l a b =
     let no : ⊥ = omega (arith, double, some) in
     absurd no
 
-pub counting-end : (low high first last count : ℕ) → last ≤ first → Counting low high first last count → (q : ℕ) × (low ≡ q * 2 ^ count) × (suc high ≡ suc q * 2 ^ count)
-counting-end low high first last count le c = none-missing low high first last count c.shared c.missing le c.first_is c.last_is c.low_is c.high_is
+pub counting-end : (low high first last count : ℕ) → last ≤ first → Counting low high first last count
+    → (q : ℕ) × (low ≡ q * 2 ^ count) × (suc high ≡ suc q * 2 ^ count)
+counting-end low high first last count le c =
+    none-missing low high first last count c.shared c.missing le c.first_is c.last_is c.low_is c.high_is
 
 -- the length of a prefix
 pub shared-bits : (w m low high : ℕ) → m ≤ w → ((q : ℕ) × (low ≡ q * 2 ^ m) × (suc high ≡ suc q * 2 ^ m))
@@ -145,7 +153,8 @@ pub prefix-order : (low high : ℕ) → IsPrefix low high → low ≤ high
 prefix-order low high (q, k, l, h) = let some : 0 < 2 ^ k = pow_pos k in omega (arith, some, l, h)
 
 -- its numbers are as many as a power of 2, at a multiple of that
-pub prefix-count : (low high count m : ℕ) → count + low ≡ suc high → 2 ^ m ≤ count → count < 2 * 2 ^ m → IsPrefix low high
+pub prefix-count : (low high count m : ℕ) → count + low ≡ suc high → 2 ^ m ≤ count → count < 2 * 2 ^ m
+    → IsPrefix low high
     → (count ≡ 2 ^ m) × (low % 2 ^ m ≡ 0)
 prefix-count low high count m e least most (q, k, l, h) =
     let all : count ≡ 2 ^ k = omega (arith, e, l, h) in

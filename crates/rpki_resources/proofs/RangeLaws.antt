@@ -43,4 +43,5 @@ as-range-tag s b r h = leaf-tag sequence true (SpellsEnds SpellsAsNumber IsAsRan
 pub as-id-tag : (s : List ℕ) (b : Block) (r : List ℕ) → Spells SpellsAsId s b r → HasTag sequence s → ⊥
 as-id-tag s b r h there =
     let k = value-of SpellsAsNumber IsOneNumber s b r h in
-    not-integer (one-tag s sequence integer there (leaf-tag integer false (IsUnsignedBelow (2 ^ 32)) s h.spelled.value r k))
+    not-integer (one-tag s sequence integer there
+    (leaf-tag integer false (IsUnsignedBelow (2 ^ 32)) s h.spelled.value r k))

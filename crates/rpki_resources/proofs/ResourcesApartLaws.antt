@@ -1,5 +1,6 @@
 -- Resources that are written alike are the same.
-use Rattle.std.proofs.Common.{◌≡◌, ◌<◌, ◌^◌, ℕ, true, false, List, [], ◌++◌, length, length-append, refl, sym, ap, ◌∙◌, arith, lit<}
+use Rattle.std.proofs.Common.{◌≡◌, ◌<◌, ◌^◌, ℕ, true, false, List, [], ◌++◌, length, length-append, refl, sym, ap, ◌∙◌}
+use Rattle.std.proofs.Common.{arith, lit<}
 use Rattle.std.proofs.lemmas.List.{append-nil}
 use Rattle.rpki_der.specs.TagName.{TagName, IsTag, null, sequence, octet_string}
 use Rattle.rpki_der.specs.Header.{tlv}
@@ -18,7 +19,9 @@ use Rattle.rpki_resources.specs.declared.resources.AsResources.{AsResources}
 use Rattle.rpki_resources.specs.Address.{family_octets}
 use Rattle.rpki_resources.specs.Extension.{as_numbers}
 use Rattle.rpki_resources.specs.Encoded.{blocks_octets}
-use Rattle.rpki_resources.specs.EncodedResources.{IsOfKind, choice_octets, IsShortChoice, named_contents, named_octets, IsShortNamed, ip_contents, ip_octets, IsShortIp, as_identifiers_octets, IsIpApart, IsAsApart}
+use Rattle.rpki_resources.specs.EncodedResources.{IsOfKind, choice_octets, IsShortChoice, named_contents, named_octets}
+use Rattle.rpki_resources.specs.EncodedResources.{IsShortNamed, ip_contents, ip_octets, IsShortIp}
+use Rattle.rpki_resources.specs.EncodedResources.{as_identifiers_octets, IsIpApart, IsAsApart}
 use Rattle.rpki_resources.proofs.KeptLaws.{ip_of, as_of}
 use Rattle.rpki_resources.proofs.BlocksApartLaws.{alone, blocks-apart}
 use Rattle.rpki_resources.proofs.ResourcesWritingLaws.{short-named, choice-short, numbers-short}

@@ -11,7 +11,9 @@ use Rattle.rpki_resources.specs.declared.family.AddressFamily.TheVariants.{Ipv4,
 use Rattle.rpki_resources.specs.declared.choice.ResourcesChoice.{ResourcesChoice}
 use Rattle.rpki_resources.specs.declared.choice.ResourcesChoice.TheVariants.{Missing, Inherit, Blocks}
 use Rattle.rpki_resources.specs.declared.choice_view.ChoiceView.{ChoiceView}
-use Rattle.rpki_resources.specs.declared.choice_view.ChoiceView.TheVariants.{Missing as NoneThere, Inherit as InheritThere, Blocks as BlocksThere}
+use Rattle.rpki_resources.specs.declared.choice_view.ChoiceView.TheVariants.{Missing as NoneThere}
+use Rattle.rpki_resources.specs.declared.choice_view.ChoiceView.TheVariants.{Inherit as InheritThere}
+use Rattle.rpki_resources.specs.declared.choice_view.ChoiceView.TheVariants.{Blocks as BlocksThere}
 use Rattle.rpki_resources.specs.declared.ip_view.IpResourcesView.{IpResourcesView}
 use Rattle.rpki_resources.specs.declared.resources.IpResources.{IpResources}
 use Rattle.rpki_resources.specs.declared.resources.AsResources.{AsResources}
@@ -21,7 +23,8 @@ use Rattle.rpki_resources.specs.Extension.{SpellsChoice, SpellsNamed, AreFamilie
 use Rattle.rpki_resources.specs.Extension.AreFamilies.{OnlyV4, OnlyV6, BothFamilies}
 use Rattle.rpki_resources.specs.Kept.{IsChoiceOf, SpellsIp, SpellsAs}
 use Rattle.rpki_resources.specs.Encoded.{blocks_octets}
-use Rattle.rpki_resources.specs.EncodedResources.{choice_octets, named_contents, named_octets, ip_contents, ip_octets, as_identifiers_octets}
+use Rattle.rpki_resources.specs.EncodedResources.{choice_octets, named_contents, named_octets, ip_contents, ip_octets}
+use Rattle.rpki_resources.specs.EncodedResources.{as_identifiers_octets}
 use Rattle.rpki_resources.proofs.WritableLaws.{there, some-there}
 use Rattle.rpki_resources.proofs.BlocksOnlyLaws.{octets-behind, octets-before, octets-inside, blocks-written}
 

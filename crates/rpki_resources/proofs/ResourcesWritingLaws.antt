@@ -1,5 +1,6 @@
 -- Resources that are written: how short they are, and that they are read as themselves.
-use Rattle.std.proofs.Common.{◌≢◌, ◌≤◌, ◌<◌, ◌↔◌, ◌^◌, ◌⊎◌, inl, inr, ℕ, true, false, List, ◌++◌, length, length-append, refl, sym, subst, arith, lit<}
+use Rattle.std.proofs.Common.{◌≢◌, ◌≤◌, ◌<◌, ◌↔◌, ◌^◌, ◌⊎◌, inl, inr, ℕ, true, false, List, ◌++◌, length, length-append}
+use Rattle.std.proofs.Common.{refl, sym, subst, arith, lit<}
 use Rattle.std.proofs.lemmas.List.{append-nil}
 use Rattle.rpki_der.specs.TagName.{sequence, octet_string}
 use Rattle.rpki_der.specs.Header.{tlv}
@@ -14,17 +15,22 @@ use Rattle.rpki_resources.specs.declared.family.AddressFamily.TheVariants.{Ipv4,
 use Rattle.rpki_resources.specs.declared.choice.ResourcesChoice.{ResourcesChoice}
 use Rattle.rpki_resources.specs.declared.choice.ResourcesChoice.TheVariants.{Missing, Inherit, Blocks}
 use Rattle.rpki_resources.specs.declared.choice_view.ChoiceView.{ChoiceView}
-use Rattle.rpki_resources.specs.declared.choice_view.ChoiceView.TheVariants.{Missing as NoneThere, Inherit as InheritThere, Blocks as BlocksThere}
+use Rattle.rpki_resources.specs.declared.choice_view.ChoiceView.TheVariants.{Missing as NoneThere}
+use Rattle.rpki_resources.specs.declared.choice_view.ChoiceView.TheVariants.{Inherit as InheritThere}
+use Rattle.rpki_resources.specs.declared.choice_view.ChoiceView.TheVariants.{Blocks as BlocksThere}
 use Rattle.rpki_resources.specs.declared.ip_view.IpResourcesView.{IpResourcesView}
 use Rattle.rpki_resources.specs.declared.resources.IpResources.{IpResources}
 use Rattle.rpki_resources.specs.declared.resources.AsResources.{AsResources}
 use Rattle.rpki_resources.specs.Address.{family_octets}
 use Rattle.rpki_resources.specs.InPlace.{octets_of, Holds, IsListed}
-use Rattle.rpki_resources.specs.Extension.{SpellsChoice, as_numbers, SpellsAsNumbers, IsFamily, AreNamed, SpellsNamed, families, AreFamilies}
+use Rattle.rpki_resources.specs.Extension.{SpellsChoice, as_numbers, SpellsAsNumbers, IsFamily, AreNamed, SpellsNamed}
+use Rattle.rpki_resources.specs.Extension.{families, AreFamilies}
 use Rattle.rpki_resources.specs.Extension.AreFamilies.{OnlyV4, OnlyV6, BothFamilies}
 use Rattle.rpki_resources.specs.Kept.{IsChoiceOf, SpellsIp, SpellsAs}
 use Rattle.rpki_resources.specs.Encoded.{blocks_octets}
-use Rattle.rpki_resources.specs.EncodedResources.{AreListed, IsOfKind, choice_octets, IsShortChoice, named_contents, named_octets, IsShortNamed, ip_contents, ip_octets, CanWriteIp, IsShortIp, as_identifiers_octets, CanWriteAs, IsShortAs}
+use Rattle.rpki_resources.specs.EncodedResources.{AreListed, IsOfKind, choice_octets, IsShortChoice, named_contents}
+use Rattle.rpki_resources.specs.EncodedResources.{named_octets, IsShortNamed, ip_contents, ip_octets, CanWriteIp}
+use Rattle.rpki_resources.specs.EncodedResources.{IsShortIp, as_identifiers_octets, CanWriteAs, IsShortAs}
 use Rattle.rpki_resources.specs.EncodedResourcesLaws.{as_numbers_legal}
 use Rattle.rpki_resources.proofs.BlockReadBackLaws.{blocks-back}
 

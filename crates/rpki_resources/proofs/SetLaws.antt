@@ -6,7 +6,8 @@ use Rattle.rpki_resources.specs.Blocks.{IsAmong, AreUnited, AreNumbersOf}
 use Rattle.rpki_resources.proofs.MergeLaws.{among-append}
 
 -- the numbers of two parts of a list together are those of the list
-pub together : (blocks xs ys one other found : List Block) → xs ++ ys ≡ blocks → AreNumbersOf xs one → AreNumbersOf ys other → AreUnited one other found
+pub together : (blocks xs ys one other found : List Block) → xs ++ ys ≡ blocks → AreNumbersOf xs one
+    → AreNumbersOf ys other → AreUnited one other found
     → AreNumbersOf blocks found
 together blocks xs ys one other found e h k u = record {
   numbers = λ n. (

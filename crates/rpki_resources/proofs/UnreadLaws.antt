@@ -1,5 +1,6 @@
 -- Resources in place whose blocks were not read yet: what the values around their lists are.
-use Rattle.std.proofs.Common.{◌≡◌, ◌≢◌, ◌⊎◌, ◌↔◌, inl, inr, ℕ, List, [], ◌∷◌, length, Bool, Option, Some, None, true, false, refl, sym, ◌∙◌, subst}
+use Rattle.std.proofs.Common.{◌≡◌, ◌≢◌, ◌⊎◌, ◌↔◌, inl, inr, ℕ, List, [], ◌∷◌, length, Bool, Option, Some, None, true}
+use Rattle.std.proofs.Common.{false, refl, sym, ◌∙◌, subst}
 use Rattle.std.specs.Prelude.{IsTrue, IfSome, IfNone}
 use Rattle.rpki_der.specs.declared.error.DecodeError.{DecodeError}
 use Rattle.rpki_der.specs.declared.cursor.Constructed.{Constructed}
@@ -19,24 +20,29 @@ use Rattle.rpki_resources.specs.declared.kind.ResourceKind.TheVariants.{Addresse
 use Rattle.rpki_resources.specs.declared.family.AddressFamily.{AddressFamily}
 use Rattle.rpki_resources.specs.declared.family.AddressFamily.TheVariants.{Ipv4, Ipv6}
 use Rattle.rpki_resources.specs.declared.choice.ResourcesChoice.{ResourcesChoice}
-use Rattle.rpki_resources.specs.declared.choice.ResourcesChoice.TheVariants.{Missing as NoneKept, Inherit as InheritKept, Blocks as BlocksKept}
+use Rattle.rpki_resources.specs.declared.choice.ResourcesChoice.TheVariants.{Missing as NoneKept}
+use Rattle.rpki_resources.specs.declared.choice.ResourcesChoice.TheVariants.{Inherit as InheritKept}
+use Rattle.rpki_resources.specs.declared.choice.ResourcesChoice.TheVariants.{Blocks as BlocksKept}
 use Rattle.rpki_resources.specs.declared.choice_view.ChoiceView.{ChoiceView}
 use Rattle.rpki_resources.specs.declared.choice_view.ChoiceView.TheVariants.{Missing, Inherit, Blocks}
 use Rattle.rpki_resources.specs.declared.ip_view.IpResourcesView.{IpResourcesView}
 use Rattle.rpki_resources.specs.declared.resources.IpResources.{IpResources}
 use Rattle.rpki_resources.specs.declared.resources.AsResources.{AsResources}
 use Rattle.rpki_resources.specs.declared.unread.Unread.{Unread}
-use Rattle.rpki_resources.specs.declared.unread.Unread.TheVariants.{Missing as NothingFound, Inherit as InheritFound, Listed}
+use Rattle.rpki_resources.specs.declared.unread.Unread.TheVariants.{Missing as NothingFound, Inherit as InheritFound}
+use Rattle.rpki_resources.specs.declared.unread.Unread.TheVariants.{Listed}
 use Rattle.rpki_resources.specs.declared.unread.UnreadIp.{UnreadIp}
 use Rattle.rpki_resources.specs.Composing.{SpellsFor}
 use Rattle.rpki_resources.specs.Listed.{AreBlocks}
 use Rattle.rpki_resources.specs.InPlace.{Octets, octets_of, Holds, IsListed}
-use Rattle.rpki_resources.specs.Extension.{SpellsInherit, SpellsListed, SpellsChoice, IsFamily, SpellsFamily, IsFamilyFault, AreNamed, SpellsNamed, families, AreFamilies}
+use Rattle.rpki_resources.specs.Extension.{SpellsInherit, SpellsListed, SpellsChoice, IsFamily, SpellsFamily}
+use Rattle.rpki_resources.specs.Extension.{IsFamilyFault, AreNamed, SpellsNamed, families, AreFamilies}
 use Rattle.rpki_resources.specs.Extension.AreFamilies.{OnlyV4, OnlyV6, BothFamilies}
 use Rattle.rpki_resources.specs.Blocks.{IsSubset, AreCanonical}
 use Rattle.rpki_resources.specs.Kept.{IsChoiceOf, AreIpResourcesOf, SpellsIp, SpellsAs}
 use Rattle.rpki_resources.specs.Compared.{ArePart, AreIpWithin, AreAsWithin}
-use Rattle.rpki_resources.specs.Unread.{IsUnread, AreUnreadIp, IsAround, SpellsKept, AreNamedKept, SpellsNamedKept, AreFamiliesKept, AreWithin}
+use Rattle.rpki_resources.specs.Unread.{IsUnread, AreUnreadIp, IsAround, SpellsKept, AreNamedKept, SpellsNamedKept}
+use Rattle.rpki_resources.specs.Unread.{AreFamiliesKept, AreWithin}
 use Rattle.rpki_resources.proofs.BlocksLaws.{none-outer}
 use Rattle.rpki_resources.proofs.KeptLaws.{ip_of, as_of}
 use Rattle.rpki_resources.proofs.ExtensionLaws.{inherit-tag, listed-tag}
@@ -47,10 +53,12 @@ module _ (t : TagName) (s : List ℕ) where
   pub around : (c r : List ℕ) → Accepts (SpellsContents t true) s c r → r ≡ [] → IsAround t s c
   around c r a end = all-read (SpellsContents t true) s c r a end
 
-  pub more-behind : (c r : List ℕ) → Accepts (SpellsContents t true) s c r → r ≢ [] → SpellsNothing (SpellsContents t true) s
+  pub more-behind : (c r : List ℕ) → Accepts (SpellsContents t true) s c r → r ≢ []
+      → SpellsNothing (SpellsContents t true) s
   more-behind c r a some = nothing-after (SpellsContents t true) s r c a some
 
-  pub not-around : (r : List ℕ) (e : DecodeError) → Refusal (SpellsContents t true) (IsContentsFault t true) s r e → Refuses (SpellsContents t true) s
+  pub not-around : (r : List ℕ) (e : DecodeError) → Refusal (SpellsContents t true) (IsContentsFault t true) s r e
+      → Refuses (SpellsContents t true) s
   not-around r e h = unless-memory e (contents-no-memory t true s e h.kind) h.refuses
 
   module _ {V : Type 0} (C : V → List ℕ → Type 0) where
@@ -97,46 +105,56 @@ missing-kept kind InheritKept h = absurd h
 missing-kept kind (BlocksKept bs) h = absurd h
 
 module _ (kind : ResourceKind) (s : List ℕ) where
-  null-only : HasTag null s → (v : ResourcesChoice) → SpellsKept kind v s → IsChoiceOf v Inherit × SpellsInherit Inherit s
+  null-only : HasTag null s → (v : ResourcesChoice) → SpellsKept kind v s
+      → IsChoiceOf v Inherit × SpellsInherit Inherit s
   null-only tag v k = elim k.spelled [
     | inl g ↦ (subst (IsChoiceOf v) g.stands k.stands, record { value = g.value; spelled = g.spelled; stands = refl })
     | inr g ↦ absurd (listed-tag kind s k.value [] (spelled-whole (SpellsListed kind) s k.value g) tag)
   ]
 
-  pub is-inherit : HasTag null s → (r : List ℕ) → Accepts (SpellsLeaf null false IsNull) s tt r → r ≡ [] → (v : ResourcesChoice) → SpellsKept kind v s ↔ IsUnread kind InheritFound v
+  pub is-inherit : HasTag null s → (r : List ℕ) → Accepts (SpellsLeaf null false IsNull) s tt r → r ≡ []
+      → (v : ResourcesChoice) → SpellsKept kind v s ↔ IsUnread kind InheritFound v
   is-inherit tag r a end v = (
     λ k. kept-inherit kind v (null-only tag v k).0,
     λ u. record {
       value = Inherit;
-      spelled = inl (record { value = tt; spelled = (all-read (SpellsLeaf null false IsNull) s tt r a end).0; stands = refl });
+      spelled = inl
+          (record { value = tt; spelled = (all-read (SpellsLeaf null false IsNull) s tt r a end).0; stands = refl });
       stands = inherit-kept kind v u;
     },
   )
 
-  pub behind-null : HasTag null s → (r : List ℕ) → Accepts (SpellsLeaf null false IsNull) s tt r → r ≢ [] → SpellsNothing (SpellsKept kind) s
-  behind-null tag r a some v k = let g = (null-only tag v k).1 in nothing-after (SpellsLeaf null false IsNull) s r tt a some g.value g.spelled
+  pub behind-null : HasTag null s → (r : List ℕ) → Accepts (SpellsLeaf null false IsNull) s tt r → r ≢ []
+      → SpellsNothing (SpellsKept kind) s
+  behind-null tag r a some v k = let g = (null-only tag v k).1 in nothing-after (SpellsLeaf null false IsNull) s r tt a
+      some g.value g.spelled
 
-  pub not-null : HasTag null s → (r : List ℕ) (e : DecodeError) → Refusal (SpellsLeaf null false IsNull) (IsLeafFault null false IsNull) s r e → SpellsNothing (SpellsKept kind) s
+  pub not-null : HasTag null s → (r : List ℕ) (e : DecodeError)
+      → Refusal (SpellsLeaf null false IsNull) (IsLeafFault null false IsNull) s r e → SpellsNothing (SpellsKept kind) s
   not-null tag r e h v k =
       let g = (null-only tag v k).1 in
       let none = unless-memory e (leaf-no-memory null false IsNull s e h.kind) h.refuses in
       nothing-whole (SpellsLeaf null false IsNull) s none g.value g.spelled
 
-  list-only : (HasTag null s → ⊥) → (v : ResourcesChoice) → SpellsKept kind v s → (o : Octets) × SpellsLeaf sequence true (IsListed kind) o s × IsChoiceOf v (Blocks o)
+  list-only : (HasTag null s → ⊥) → (v : ResourcesChoice) → SpellsKept kind v s
+      → (o : Octets) × SpellsLeaf sequence true (IsListed kind) o s × IsChoiceOf v (Blocks o)
   list-only untagged v k = elim k.spelled [
     | inl g ↦ absurd (untagged (inherit-tag s k.value [] (spelled-whole SpellsInherit s k.value g)))
     | inr g ↦ (g.value, g.spelled, subst (IsChoiceOf v) g.stands k.stands)
   ]
 
-  pub not-list : (HasTag null s → ⊥) → SpellsNothing (SpellsContents sequence true) s → SpellsNothing (SpellsKept kind) s
+  pub not-list : (HasTag null s → ⊥) → SpellsNothing (SpellsContents sequence true) s
+      → SpellsNothing (SpellsKept kind) s
   not-list untagged none v k = let l = list-only untagged v k in leaf-none sequence s (IsListed kind) none l.0 l.1
 
   module _ (untagged : HasTag null s → ⊥) (c : Constructed) (h : IsAround sequence s (left c)) where
     held-blocks : (o : Octets) (bs : List Block) → IsListed kind o (left c) → Holds o bs → AreBlocks kind bs (left c)
     held-blocks o bs l k =
-        subst (λ (m : List ℕ). AreBlocks kind bs m) l.octets (subst (λ (j : ResourceKind). AreBlocks j bs o.octets) l.kind_is k.blocks)
+        subst (λ (m : List ℕ). AreBlocks kind bs m) l.octets
+        (subst (λ (j : ResourceKind). AreBlocks j bs o.octets) l.kind_is k.blocks)
 
-    kept-list : (v : ResourcesChoice) (o : Octets) → IsListed kind o (left c) → IsChoiceOf v (Blocks o) → IsUnread kind (Listed c) v
+    kept-list : (v : ResourcesChoice) (o : Octets) → IsListed kind o (left c) → IsChoiceOf v (Blocks o)
+        → IsUnread kind (Listed c) v
     kept-list NoneKept o l k = absurd k
     kept-list InheritKept o l k = absurd k
     kept-list (BlocksKept bs) o l k = held-blocks o bs l k
@@ -148,21 +166,30 @@ module _ (kind : ResourceKind) (s : List ℕ) where
         let o : Octets = octets_of kind (left c) (length bs) in
         let k : Holds o bs = record { blocks = u; count = refl } in
         let l : IsListed kind o (left c) = record { kind_is = refl; octets = refl; held = (bs, k) } in
-        record { value = Blocks o; spelled = inr (record { value = o; spelled = leaf-in sequence s (IsListed kind) (left c) h o l; stands = refl }); stands = k }
+        record {
+          value = Blocks o;
+          spelled = inr
+              (record { value = o; spelled = leaf-in sequence s (IsListed kind) (left c) h o l; stands = refl });
+          stands =
+              k;
+        }
 
     pub is-list : (v : ResourcesChoice) → SpellsKept kind v s ↔ IsUnread kind (Listed c) v
     is-list v = (
-      λ k. let l = list-only untagged v k in kept-list v l.0 (leaf-out sequence s (IsListed kind) (left c) h l.0 l.1) l.2,
+      λ k. let l = list-only untagged v k in kept-list v l.0 (leaf-out sequence s (IsListed kind) (left c) h l.0 l.1)
+          l.2,
       λ u. list-kept v u,
     )
 
 -- a list that was found
-unlist : (kind : ResourceKind) (c : Constructed) (v : ResourcesChoice) → IsUnread kind (Listed c) v → (bs : List Block) × AreBlocks kind bs (left c)
+unlist : (kind : ResourceKind) (c : Constructed) (v : ResourcesChoice) → IsUnread kind (Listed c) v
+    → (bs : List Block) × AreBlocks kind bs (left c)
 unlist kind c NoneKept u = absurd u
 unlist kind c InheritKept u = absurd u
 unlist kind c (BlocksKept bs) u = (bs, u)
 
-pub listed-there : (kind : ResourceKind) (u : Unread) (c : Constructed) → u ≡ Listed c → (b : Bool) → IsTrue b ↔ ((bs : List Block) × AreBlocks kind bs (left c))
+pub listed-there : (kind : ResourceKind) (u : Unread) (c : Constructed) → u ≡ Listed c → (b : Bool)
+    → IsTrue b ↔ ((bs : List Block) × AreBlocks kind bs (left c))
     → IsTrue b ↔ ((v : ResourcesChoice) × IsUnread kind u v)
 listed-there kind u c e b is = (
   λ z. let k = is.0 z in (BlocksKept k.0, subst (λ (x : Unread). IsUnread kind x (BlocksKept k.0)) (sym e) k.1),
@@ -172,24 +199,42 @@ listed-there kind u c e b is = (
 -- ---- a family
 
 module _ (s : List ℕ) where
-  pub no-name : (r : List ℕ) (e : DecodeError) → Refusal SpellsFamily IsFamilyFault s r e → (f : AddressFamily) → SpellsNothing (AreNamedKept f) s
-  no-name r e h f v k = unless-memory e (leaf-no-memory octet_string false IsFamily s e h.kind) h.refuses f k.1.second (first-of k.1)
+  pub no-name : (r : List ℕ) (e : DecodeError) → Refusal SpellsFamily IsFamilyFault s r e → (f : AddressFamily)
+      → SpellsNothing (AreNamedKept f) s
+  no-name r e h f v k = unless-memory e (leaf-no-memory octet_string false IsFamily s e h.kind) h.refuses f k.1.second
+      (first-of k.1)
 
   module _ (f : AddressFamily) (m : List ℕ) (one : Accepts SpellsFamily s f m) where
     named-out : (g : AddressFamily) (v : ResourcesChoice) → AreNamedKept g v s → (f ≡ g) × SpellsKept (Addresses f) v m
     named-out g v k =
         let is = one.only g k.1.second (first-of k.1) in
-        let two : SpellsChoice (Addresses f) k.0 k.1.second = subst (λ (h : AddressFamily). SpellsChoice (Addresses h) k.0 k.1.second) is.0 k.1.two in
-        (sym is.0, record { value = k.0; spelled = subst (λ (q : List ℕ). SpellsChoice (Addresses f) k.0 q) is.1 two; stands = k.2 })
+        let two : SpellsChoice (Addresses f) k.0 k.1.second =
+        subst (λ (h : AddressFamily). SpellsChoice (Addresses h) k.0 k.1.second) is.0 k.1.two in (
+          sym is.0,
+          record {
+            value = k.0;
+            spelled =
+                subst (λ (q : List ℕ). SpellsChoice (Addresses f) k.0 q) is.1 two;
+            stands = k.2;
+          },
+        )
 
     named-in : (v : ResourcesChoice) → SpellsKept (Addresses f) v m → AreNamedKept f v s
     named-in v k = (
       k.value,
-      record { first = one.spells.front; second = m; parts = one.spells.parts; one = one.spells.spelled; two = k.spelled },
+      record {
+        first = one.spells.front;
+        second = m;
+        parts = one.spells.parts;
+        one = one.spells.spelled;
+        two =
+            k.spelled;
+      },
       k.stands,
     )
 
-    pub is-named : (u : Unread) → ((v : ResourcesChoice) → SpellsKept (Addresses f) v m ↔ IsUnread (Addresses f) u v) → (g : AddressFamily) (v : ResourcesChoice)
+    pub is-named : (u : Unread) → ((v : ResourcesChoice) → SpellsKept (Addresses f) v m ↔ IsUnread (Addresses f) u v)
+        → (g : AddressFamily) (v : ResourcesChoice)
         → AreNamedKept g v s ↔ ((f ≡ g) × IsUnread (Addresses f) u v)
     is-named u is g v = (
       λ k. let n = named-out g v k in (n.0, (is v).0 n.1),
@@ -209,14 +254,16 @@ v4-v6 e = cc
 -- ---- the second family
 
 module _ (s : List ℕ) where
-  pub no-second-value : SpellsNothing (SpellsContents sequence true) s → (f : AddressFamily) → SpellsNothing (SpellsNamedKept f) s
+  pub no-second-value : SpellsNothing (SpellsContents sequence true) s → (f : AddressFamily)
+      → SpellsNothing (SpellsNamedKept f) s
   no-second-value none f v k = leaf-none sequence s AreNamed none (f, k.0) k.1
 
   module _ (c : List ℕ) (h : IsAround sequence s c) where
     second-out : (f : AddressFamily) (v : ResourcesChoice) → SpellsNamedKept f v s → AreNamedKept f v c
     second-out f v k = (k.0, leaf-out sequence s AreNamed c h (f, k.0) k.1, k.2)
 
-    pub no-second-named : ((f : AddressFamily) → SpellsNothing (AreNamedKept f) c) → (f : AddressFamily) → SpellsNothing (SpellsNamedKept f) s
+    pub no-second-named : ((f : AddressFamily) → SpellsNothing (AreNamedKept f) c) → (f : AddressFamily)
+        → SpellsNothing (SpellsNamedKept f) s
     no-second-named none f v k = none f v (second-out f v k)
 
     module _ (f : AddressFamily) (u : Unread) (is : IsFound c f u) where
@@ -237,9 +284,12 @@ module _ (s n m : List ℕ) where
   pub no-first-value : Refuses (SpellsContents sequence true) s → SpellsNothing AreFamiliesKept s
   no-first-value none v k = step k.value k.spelled where
     step : (x : IpResourcesView) → AreFamilies x s → ⊥
-    step x (OnlyV4 w is l) = leaf-none sequence s AreNamed (nothing-whole (SpellsContents sequence true) s none) (Ipv4, w) l
-    step x (OnlyV6 w is l) = leaf-none sequence s AreNamed (nothing-whole (SpellsContents sequence true) s none) (Ipv6, w) l
-    step x (BothFamilies w y is l) = none l.one.contents l.second (record { front = l.first; parts = l.parts; spelled = l.one.value })
+    step x (OnlyV4 w is l) = leaf-none sequence s AreNamed (nothing-whole (SpellsContents sequence true) s none)
+        (Ipv4, w) l
+    step x (OnlyV6 w is l) = leaf-none sequence s AreNamed (nothing-whole (SpellsContents sequence true) s none)
+        (Ipv6, w) l
+    step x (BothFamilies w y is l) = none l.one.contents l.second
+        (record { front = l.first; parts = l.parts; spelled = l.one.value })
 
   module _ (a : Accepts (SpellsContents sequence true) s n m) where
     -- what stands in front, and what follows it
@@ -300,7 +350,15 @@ module _ (s n m : List ℕ) where
     from-both : (v : IpResources) → Both v → AreFamiliesKept v s
     from-both v h = record {
       value = families h.0.0 h.1.0;
-      spelled = BothFamilies h.0.0 h.1.0 refl (record { first = a.spells.front; second = m; parts = a.spells.parts; one = to-front (Ipv4, h.0.0) h.0.1; two = h.1.1 });
+      spelled = BothFamilies h.0.0 h.1.0 refl
+          (record {
+            first = a.spells.front;
+            second = m;
+            parts = a.spells.parts;
+            one =
+                to-front (Ipv4, h.0.0) h.0.1;
+            two = h.1.1;
+          });
       stands = (h.0.2, h.1.2);
     }
 
@@ -323,7 +381,8 @@ module _ (s n m : List ℕ) where
       found-in : (g : AddressFamily) (v : ResourcesChoice) → f ≡ g → IsUnread (Addresses g) u v → AreNamedKept g v n
       found-in g v same k = (is g v).1 (same, subst (λ (h : AddressFamily). IsUnread (Addresses h) u v) (sym same) k)
 
-      pub only-v6 : f ≡ Ipv6 → m ≡ [] → (v : IpResources) → AreFamiliesKept v s ↔ (IsUnread (Addresses Ipv4) NothingFound v.v4 × IsUnread (Addresses Ipv6) u v.v6)
+      pub only-v6 : f ≡ Ipv6 → m ≡ [] → (v : IpResources)
+          → AreFamiliesKept v s ↔ (IsUnread (Addresses Ipv4) NothingFound v.v4 × IsUnread (Addresses Ipv6) u v.v6)
       only-v6 six end v = (
         λ k. elim (apart v k) [
           | inl h ↦ absurd (not-four six v.v4 h.1)
@@ -341,7 +400,8 @@ module _ (s n m : List ℕ) where
         | inr h ↦ elim h [ inl i ↦ some i.0 | inr i ↦ not-four six v.v4 i.0 ]
       ]
 
-      pub only-v4 : f ≡ Ipv4 → m ≡ [] → (v : IpResources) → AreFamiliesKept v s ↔ (IsUnread (Addresses Ipv4) u v.v4 × IsUnread (Addresses Ipv6) NothingFound v.v6)
+      pub only-v4 : f ≡ Ipv4 → m ≡ [] → (v : IpResources)
+          → AreFamiliesKept v s ↔ (IsUnread (Addresses Ipv4) u v.v4 × IsUnread (Addresses Ipv6) NothingFound v.v6)
       only-v4 four end v = (
         λ k. elim (apart v k) [
           | inl h ↦ (found-out Ipv4 v.v4 h.1, kept-missing (Addresses Ipv6) v.v6 h.2)
@@ -355,7 +415,8 @@ module _ (s n m : List ℕ) where
         empty-second : (w : ResourcesChoice) → SpellsNamedKept Ipv6 w [] → ⊥
         empty-second w k = leaf-some sequence true AreNamed (Ipv6, k.0) k.1
 
-      pub both-families : f ≡ Ipv4 → m ≢ [] → (y : Unread) → ((v : ResourcesChoice) → SpellsNamedKept Ipv6 v m ↔ IsUnread (Addresses Ipv6) y v) → (v : IpResources)
+      pub both-families : f ≡ Ipv4 → m ≢ [] → (y : Unread)
+          → ((v : ResourcesChoice) → SpellsNamedKept Ipv6 v m ↔ IsUnread (Addresses Ipv6) y v) → (v : IpResources)
           → AreFamiliesKept v s ↔ (IsUnread (Addresses Ipv4) u v.v4 × IsUnread (Addresses Ipv6) y v.v6)
       both-families four some y two v = (
         λ k. elim (apart v k) [
@@ -389,7 +450,8 @@ some-within-none [] some c f = some refl
 some-within-none (b ∷ bs) some c f = none-outer b bs c f
 
 module _ (kind : ResourceKind) (inner outer : Unread) (part : Constructed) (is : inner ≡ Listed part) where
-  pub within-none : outer ≡ NothingFound → ((bs : List Block) × AreBlocks kind bs (left part)) → AreWithin kind inner outer false
+  pub within-none : outer ≡ NothingFound → ((bs : List Block) × AreBlocks kind bs (left part))
+      → AreWithin kind inner outer false
   within-none none h = (
     BlocksKept h.0,
     NoneKept,
@@ -399,7 +461,8 @@ module _ (kind : ResourceKind) (inner outer : Unread) (part : Constructed) (is :
     (λ z. let wrong : ⊥ = cc in absurd wrong, λ f. absurd (some-within-none h.0 h.1.some h.1.canonical f)),
   )
 
-  pub within-list : (whole : Constructed) → outer ≡ Listed whole → (b : Bool) → ArePart kind (left part) (left whole) b → AreWithin kind inner outer b
+  pub within-list : (whole : Constructed) → outer ≡ Listed whole → (b : Bool) → ArePart kind (left part) (left whole) b
+      → AreWithin kind inner outer b
   within-list whole e b h = (
     BlocksKept h.0,
     BlocksKept h.1,
@@ -410,11 +473,14 @@ module _ (kind : ResourceKind) (inner outer : Unread) (part : Constructed) (is :
   )
 
 pub as-within : (s t : List ℕ) (x y : Unread) → ((v : AsResources) → SpellsAs v s ↔ IsUnread AsNumbers x v.numbers)
-    → ((v : AsResources) → SpellsAs v t ↔ IsUnread AsNumbers y v.numbers) → (b : Bool) → AreWithin AsNumbers y x b → AreAsWithin s t b
+    → ((v : AsResources) → SpellsAs v t ↔ IsUnread AsNumbers y v.numbers) → (b : Bool) → AreWithin AsNumbers y x b
+    → AreAsWithin s t b
 as-within s t x y one two b h = (as_of h.1, as_of h.0, (one (as_of h.1)).1 h.3, (two (as_of h.0)).1 h.2, h.4, h.5)
 
-pub ip-within : (s t : List ℕ) (x y : UnreadIp) → ((v : IpResources) → SpellsIp v s ↔ AreUnreadIp x v) → ((v : IpResources) → SpellsIp v t ↔ AreUnreadIp y v)
-    → (a b answer : Bool) → IsTrue answer ↔ (IsTrue a × IsTrue b) → AreWithin (Addresses Ipv4) y.v4 x.v4 a → AreWithin (Addresses Ipv6) y.v6 x.v6 b → AreIpWithin s t answer
+pub ip-within : (s t : List ℕ) (x y : UnreadIp) → ((v : IpResources) → SpellsIp v s ↔ AreUnreadIp x v)
+    → ((v : IpResources) → SpellsIp v t ↔ AreUnreadIp y v)
+    → (a b answer : Bool) → IsTrue answer ↔ (IsTrue a × IsTrue b) → AreWithin (Addresses Ipv4) y.v4 x.v4 a
+    → AreWithin (Addresses Ipv6) y.v6 x.v6 b → AreIpWithin s t answer
 ip-within s t x y one two a b answer both h k = (
   ip_of h.1 k.1,
   ip_of h.0 k.0,

@@ -1,5 +1,6 @@
 -- Texts of AS numbers and of blocks of them, as they are read: `AS64496`, `64496`, `AS1-AS5`.
-use Rattle.std.specs.Prelude.{◌≡◌, ◌⊎◌, ◌<◌, ◌^◌, ◌==◌, ◌||◌, if◌then◌else◌, ℕ, List, [], ◌∷◌, ◌++◌, codes, Option, Some, None}
+use Rattle.std.specs.Prelude.{◌≡◌, ◌⊎◌, ◌<◌, ◌^◌, ◌==◌, ◌||◌, if◌then◌else◌, ℕ, List, [], ◌∷◌, ◌++◌, codes, Option}
+use Rattle.std.specs.Prelude.{Some, None}
 use Rattle.std.specs.Str.Parse.{IsNumeral, digits_value, without_leading_plus}
 use Rattle.rpki_resources.specs.declared.as_text.Asn.{Asn}
 use Rattle.rpki_resources.specs.declared.as_text.AsBlock.{AsBlock}
@@ -25,8 +26,8 @@ after_s (Some rest) = after_letter 83 115 rest
 abbrev pub without_as : List ℕ → List ℕ
 without_as text = or_else (after_s (after_letter 65 97 text)) text
 
--- Decimal digits of a number below 2^32, behind `AS` or not. As the language reads numbers, a plus may stand in front of
--- the digits, and zeros.
+-- Decimal digits of a number below 2^32, behind `AS` or not. As the language reads numbers, a plus may stand in front
+-- of the digits, and zeros.
 pub record IsAsnText (text : List ℕ) (a : Asn) : Type 0 where
   pub digits : IsNumeral 10 (without_leading_plus (without_as text))
   pub value : digits_value 10 (without_leading_plus (without_as text)) ≡ a.0

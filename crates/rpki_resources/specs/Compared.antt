@@ -1,4 +1,5 @@
--- Whether the resources of a certificate are within those of its issuer, as the octets of both list them (RFC 6487 7.2).
+-- Whether the resources of a certificate are within those of its issuer, as the octets of both list them (RFC 6487
+-- 7.2).
 use Rattle.std.specs.Prelude.{◌⊎◌, ◌↔◌, ℕ, Bool, List, [], Some, IsTrue}
 use Rattle.rpki_resources.specs.declared.block.Block.{Block}
 use Rattle.rpki_resources.specs.declared.choice.ResourcesChoice.{ResourcesChoice}

@@ -1,7 +1,8 @@
 -- How grammars are put together: a choice by its first tag, a value that stands for what is spelled, and two ends.
 use Rattle.std.specs.Prelude.{◌⊎◌, ℕ, List}
 use Rattle.rpki_der.specs.declared.error.DecodeError.{DecodeError}
-use Rattle.rpki_der.specs.declared.error.DecodeError.TheVariants.{Truncated, BadTag, BadLength, Unexpected, Content, Trailing, OutOfMemory}
+use Rattle.rpki_der.specs.declared.error.DecodeError.TheVariants.{Truncated, BadTag, BadLength, Unexpected, Content}
+use Rattle.rpki_der.specs.declared.error.DecodeError.TheVariants.{Trailing, OutOfMemory}
 use Rattle.rpki_der.specs.TagName.{TagName}
 use Rattle.rpki_der.specs.Values.{HasTag}
 use Rattle.rpki_der.specs.Parts.{Then}

@@ -1,5 +1,6 @@
 -- What is written of resources (RFC 3779 2.2.3, 3.2.3): laws say that it is read as them, and is their only spelling.
-use Rattle.std.specs.Prelude.{◌≤◌, ◌<◌, ◌+◌, ◌-◌, ◌*◌, ◌/◌, ◌%◌, ◌^◌, ◌==◌, nat_lt, if◌then◌else◌, ℕ, zero, suc, true, false, List, [], ◌∷◌, ◌++◌, Option, Some, None}
+use Rattle.std.specs.Prelude.{◌≤◌, ◌<◌, ◌+◌, ◌-◌, ◌*◌, ◌/◌, ◌%◌, ◌^◌, ◌==◌, nat_lt, if◌then◌else◌, ℕ, zero, suc, true}
+use Rattle.std.specs.Prelude.{false, List, [], ◌∷◌, ◌++◌, Option, Some, None}
 use Rattle.rpki_der.specs.Number.{low_octets}
 use Rattle.rpki_der.specs.TagName.{bit_string, integer, sequence}
 use Rattle.rpki_der.specs.Header.{tlv}

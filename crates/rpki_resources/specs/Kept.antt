@@ -3,7 +3,9 @@ use Rattle.std.specs.Prelude.{◌≡◌, ℕ, List}
 use Rattle.rpki_der.specs.declared.error.DecodeError.{DecodeError}
 use Rattle.rpki_der.specs.Reading.{Finds, OrMemoryWhere}
 use Rattle.rpki_resources.specs.declared.choice.ResourcesChoice.{ResourcesChoice}
-use Rattle.rpki_resources.specs.declared.choice.ResourcesChoice.TheVariants.{Missing as NoneKept, Inherit as InheritKept, Blocks as BlocksKept}
+use Rattle.rpki_resources.specs.declared.choice.ResourcesChoice.TheVariants.{Missing as NoneKept}
+use Rattle.rpki_resources.specs.declared.choice.ResourcesChoice.TheVariants.{Inherit as InheritKept}
+use Rattle.rpki_resources.specs.declared.choice.ResourcesChoice.TheVariants.{Blocks as BlocksKept}
 use Rattle.rpki_resources.specs.declared.choice_view.ChoiceView.{ChoiceView}
 use Rattle.rpki_resources.specs.declared.choice_view.ChoiceView.TheVariants.{Missing, Inherit, Blocks}
 use Rattle.rpki_resources.specs.declared.resources.IpResources.{IpResources}

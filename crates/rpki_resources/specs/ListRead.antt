@@ -16,7 +16,8 @@ use Rattle.rpki_resources.specs.declared.list_read.ParseBlocksError.TheVariants.
 use Rattle.rpki_resources.specs.Blocks.{AreNumbersOf}
 use Rattle.rpki_resources.specs.Text.{ip_block_text}
 use Rattle.rpki_resources.specs.AsRead.{IsAsBlockText, IsAsBlockError, as_block_error_text}
-use Rattle.rpki_resources.specs.IpRead.{address_width, address_number, family_of, block_between, IsIpBlockText, IsWholePrefix, IsWholeRange}
+use Rattle.rpki_resources.specs.IpRead.{address_width, address_number, family_of, block_between, IsIpBlockText}
+use Rattle.rpki_resources.specs.IpRead.{IsWholePrefix, IsWholeRange}
 
 -- ---- one block
 

@@ -12,7 +12,8 @@ use Rattle.rpki_resources.specs.declared.choice.ResourcesChoice.TheVariants.{Mis
 use Rattle.rpki_resources.specs.declared.choice_view.ChoiceView.{ChoiceView}
 use Rattle.rpki_resources.specs.declared.resources.IpResources.{IpResources}
 use Rattle.rpki_resources.specs.declared.unread.Unread.{Unread}
-use Rattle.rpki_resources.specs.declared.unread.Unread.TheVariants.{Missing as NothingFound, Inherit as InheritFound, Listed}
+use Rattle.rpki_resources.specs.declared.unread.Unread.TheVariants.{Missing as NothingFound, Inherit as InheritFound}
+use Rattle.rpki_resources.specs.declared.unread.Unread.TheVariants.{Listed}
 use Rattle.rpki_resources.specs.declared.unread.UnreadIp.{UnreadIp}
 use Rattle.rpki_resources.specs.Composing.{SpellsFor}
 use Rattle.rpki_resources.specs.Listed.{AreBlocks}

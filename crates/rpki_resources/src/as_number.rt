@@ -5,7 +5,9 @@ ghost use Rattle.rpki_der.specs.Cursor.{left};
 ghost use Rattle.rpki_der.specs.Reading.{Reads};
 ghost use Rattle.rpki_der.specs.FirstFault.{ReadsParts};
 ghost use Rattle.rpki_resources.specs.declared.block.Block.{Block};
-ghost use Rattle.rpki_resources.specs.AsNumber.{SpellsAsNumber, IsAsNumberFault, IsAsRange, SpellsAsEnds, IsAsEndsFault, SpellsAsRange, IsAsRangeFault, SpellsAsBlock, IsAsBlockFault};
+ghost use Rattle.rpki_resources.specs.AsNumber.{SpellsAsNumber, IsAsNumberFault, IsAsRange, SpellsAsEnds};
+ghost use Rattle.rpki_resources.specs.AsNumber.{IsAsEndsFault, SpellsAsRange, IsAsRangeFault, SpellsAsBlock};
+ghost use Rattle.rpki_resources.specs.AsNumber.{IsAsBlockFault};
 
 use crate::block::Block;
 use rpki_der::{Constructed, DecodeError, Tag};

@@ -2,7 +2,8 @@
 
 ghost use Rattle.std.specs.Prelude.{◌≡◌, ◌≢◌, ◌≤◌, ◌↔◌, List, [], ◌∷◌, IsTrue, IfSome, IfNone, IfOk, IfErr};
 ghost use Rattle.rpki_resources.specs.declared.block.Block.{Block};
-ghost use Rattle.rpki_resources.specs.Blocks.{IsAmong, IsSubset, AreCanonical, AreNumbersOf, AreShared, AreUnited, AreLacking};
+ghost use Rattle.rpki_resources.specs.Blocks.{IsAmong, IsSubset, AreCanonical, AreNumbersOf, AreShared, AreUnited};
+ghost use Rattle.rpki_resources.specs.Blocks.{AreLacking};
 ghost use Rattle.rpki_resources.specs.InPlace.{HoldsOnly};
 
 use crate::block::Block;

@@ -13,7 +13,8 @@ ghost use Rattle.rpki_der.specs.Reading.{Reads};
 ghost use Rattle.rpki_der.specs.FirstFault.{ReadsParts};
 ghost use Rattle.rpki_resources.specs.Listed.{AreBlocksFault};
 ghost use Rattle.rpki_resources.specs.InPlace.{IsListed};
-ghost use Rattle.rpki_resources.specs.Extension.{SpellsList, IsListFault, SpellsChoice, IsChoiceFault, SpellsAsNumbers, IsAsNumbersFault, SpellsAsResources, IsAsResourcesFault};
+ghost use Rattle.rpki_resources.specs.Extension.{SpellsList, IsListFault, SpellsChoice, IsChoiceFault, SpellsAsNumbers};
+ghost use Rattle.rpki_resources.specs.Extension.{IsAsNumbersFault, SpellsAsResources, IsAsResourcesFault};
 
 use crate::choice_view::ChoiceView;
 use crate::kind::ResourceKind;

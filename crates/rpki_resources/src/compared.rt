@@ -6,7 +6,8 @@ ghost use Rattle.rpki_resources.specs.declared.block.Block.{Block};
 ghost use Rattle.rpki_resources.specs.declared.choice.ResourcesChoice.{ResourcesChoice};
 ghost use Rattle.rpki_resources.specs.Listed.{AreBlocks, SpellsFollowing};
 ghost use Rattle.rpki_resources.specs.Unread.{IsUnread, AreWithin, HasNoAnswer};
-ghost use Rattle.rpki_resources.specs.Compared.{BothFollow, NotBothFollow, ArePart, AreNotBoth, AreIpWithin, HasNoIpAnswer, AreAsWithin, HasNoAsAnswer};
+ghost use Rattle.rpki_resources.specs.Compared.{BothFollow, NotBothFollow, ArePart, AreNotBoth, AreIpWithin};
+ghost use Rattle.rpki_resources.specs.Compared.{HasNoIpAnswer, AreAsWithin, HasNoAsAnswer};
 
 use crate::block::Block;
 use crate::family::AddressFamily;

@@ -5,7 +5,8 @@ ghost use Rattle.std.specs.Net.Grammar.{IsIpText};
 ghost use Rattle.std.specs.declared.net.ip_addr.IpAddr.{IpAddr};
 ghost use Rattle.rpki_resources.specs.declared.ip_text.Prefix.{Prefix};
 ghost use Rattle.rpki_resources.specs.declared.ip_text.IpBlock.{IpBlock};
-ghost use Rattle.rpki_resources.specs.IpRead.{address_width, address_number, IsPrefixOfTexts, IsPrefixText, family_of, IsIpRangeOfTexts, whole_prefix};
+ghost use Rattle.rpki_resources.specs.IpRead.{address_width, address_number, IsPrefixOfTexts, IsPrefixText, family_of};
+ghost use Rattle.rpki_resources.specs.IpRead.{IsIpRangeOfTexts, whole_prefix};
 
 use crate::block::Block;
 use crate::family::AddressFamily;
@@ -69,8 +70,8 @@ fn prefix_of(address: &str, size: &str) -> Option<Prefix>
     Some(Prefix { addr, len })
 }
 
-/// Reads a prefix as an address, a slash, and how many of its first bits are shared: `10.0.0.0/8`. The other bits of the
-/// address are 0.
+/// Reads a prefix as an address, a slash, and how many of its first bits are shared: `10.0.0.0/8`. The other bits of
+/// the address are 0.
 impl FromStr for Prefix {
     type Err = ParsePrefixError;
 

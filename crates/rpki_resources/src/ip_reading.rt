@@ -14,7 +14,9 @@ ghost use Rattle.rpki_der.specs.Cursor.{left};
 ghost use Rattle.rpki_der.specs.Reading.{Reads};
 ghost use Rattle.rpki_der.specs.FirstFault.{FirstFault, ReadsParts};
 ghost use Rattle.rpki_resources.specs.declared.family.AddressFamily.{AddressFamily};
-ghost use Rattle.rpki_resources.specs.Extension.{IsFamily, SpellsFamily, IsFamilyFault, AreNamed, AreNamedFault, SpellsNamed, IsNamedFault, SpellsV6, IsAfterSecondFault, AreFamilies, AreFamiliesFault, SpellsIpResources, IsIpResourcesFault};
+ghost use Rattle.rpki_resources.specs.Extension.{IsFamily, SpellsFamily, IsFamilyFault, AreNamed, AreNamedFault};
+ghost use Rattle.rpki_resources.specs.Extension.{SpellsNamed, IsNamedFault, SpellsV6, IsAfterSecondFault, AreFamilies};
+ghost use Rattle.rpki_resources.specs.Extension.{AreFamiliesFault, SpellsIpResources, IsIpResourcesFault};
 
 use crate::choice_reading::take_choice;
 use crate::choice_view::ChoiceView;

@@ -3,7 +3,9 @@
 ghost use Rattle.std.specs.Prelude.{◌≡◌, ◌-◌, ◌≤◌, ◌^◌, ◌∷◌, MatchResult};
 ghost use Rattle.std.specs.Option.{option_map};
 ghost use Rattle.rpki_resources.specs.declared.kind.ResourceKind.TheVariants.{Addresses};
-ghost use Rattle.rpki_resources.specs.ListRead.{family_of_block, ip_numbers, as_numbers, parts_at_commas, parts_of_rest, IsBlockText, IsBlockTextError, AreBlockTexts, AreBlockTextsError, IsBlocksText, IsBlocksTextError};
+ghost use Rattle.rpki_resources.specs.ListRead.{family_of_block, ip_numbers, as_numbers, parts_at_commas};
+ghost use Rattle.rpki_resources.specs.ListRead.{parts_of_rest, IsBlockText, IsBlockTextError, AreBlockTexts};
+ghost use Rattle.rpki_resources.specs.ListRead.{AreBlockTextsError, IsBlocksText, IsBlocksTextError};
 
 use crate::as_read::ParseAsBlockError;
 use crate::as_text::AsBlock;
@@ -77,7 +79,8 @@ fn family_of_block(block: IpBlock) -> AddressFamily
 
 /// The block of addresses of the family that a text writes.
 fn ip_block_of_text(family: AddressFamily, text: &str) -> Result<Block, ParseBlocksError>
-    ensures { MatchResult result (IsBlockText (Addresses family) text.now) (IsBlockTextError (Addresses family) text.now) }
+    ensures { MatchResult result (IsBlockText (Addresses family) text.now)
+        (IsBlockTextError (Addresses family) text.now) }
 {
     let Ok(block) = text.parse::<IpBlock>() else {
         return Err(ParseBlocksError::BadIpBlock);
@@ -134,8 +137,8 @@ fn listed_blocks(
 
 impl Blocks {
     /// Reads a set of numbers of the kind as its blocks, in any order, with commas between them and white space around
-    /// each, where there is any: what [Blocks::text] writes is read back. A text of white space is the empty set. Blocks
-    /// of addresses are those of the family alone.
+    /// each, where there is any: what [Blocks::text] writes is read back. A text of white space is the empty set.
+    /// Blocks of addresses are those of the family alone.
     ///
     /// The error is that of the first part that is no block of the kind; `OutOfMemory` if allocation fails, only after
     /// a part that is one.

@@ -67,8 +67,8 @@ fn write_blocks<W: fmt::Write>(
     Ok(())
 }
 
-/// A set as numbers of a kind, made by [Blocks::text]. Its text is that of the blocks in order, with a comma and a space
-/// between two of them: `AS1, AS3-AS5`.
+/// A set as numbers of a kind, made by [Blocks::text]. Its text is that of the blocks in order, with a comma and a
+/// space between two of them: `AS1, AS3-AS5`.
 #[derive(Drop)]
 pub struct BlocksText<'a> {
     kind: ResourceKind,
@@ -94,7 +94,8 @@ impl Display for BlocksText<'_> {
     }
 }
 
-/// What is said of resources of one kind, as a text, made by [ResourcesChoice::text]: nothing, `inherit`, or the blocks.
+/// What is said of resources of one kind, as a text, made by [ResourcesChoice::text]: nothing, `inherit`, or the
+/// blocks.
 #[derive(Drop)]
 pub struct ChoiceText<'a> {
     kind: ResourceKind,
@@ -158,8 +159,8 @@ fn is_of_kind(kind: ResourceKind, choice: &ResourcesChoice) -> bool
 }
 
 impl ResourcesChoice {
-    /// The resources as a text, which `Display` writes: `inherit` for those of the issuer, blocks as [Blocks::text], and
-    /// an empty text where the kind isn't named. Allocates nothing.
+    /// The resources as a text, which `Display` writes: `inherit` for those of the issuer, blocks as [Blocks::text],
+    /// and an empty text where the kind isn't named. Allocates nothing.
     ///
     /// Returns None where blocks are listed of which a number is none of the kind.
     pub fn text(&self, kind: ResourceKind) -> Option<ChoiceText<'_>>

@@ -5,7 +5,9 @@ ghost use Rattle.rpki_der.specs.Cursor.{left};
 ghost use Rattle.rpki_der.specs.Reading.{Reads};
 ghost use Rattle.rpki_der.specs.FirstFault.{ReadsParts};
 ghost use Rattle.rpki_resources.specs.declared.block.Block.{Block};
-ghost use Rattle.rpki_resources.specs.Address.{width, IsPrefix, HasNoZeros, HasNoOnes, IsAddressOf, IsRange, SpellsRangeEnds, SpellsRange, SpellsBlock, IsRangeContentsFault, IsRangeFault, IsBlockFault};
+ghost use Rattle.rpki_resources.specs.Address.{width, IsPrefix, HasNoZeros, HasNoOnes, IsAddressOf, IsRange};
+ghost use Rattle.rpki_resources.specs.Address.{SpellsRangeEnds, SpellsRange, SpellsBlock, IsRangeContentsFault};
+ghost use Rattle.rpki_resources.specs.Address.{IsRangeFault, IsBlockFault};
 
 use crate::address::Address;
 use crate::block::Block;

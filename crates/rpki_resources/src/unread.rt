@@ -10,7 +10,8 @@ ghost use Rattle.rpki_resources.specs.declared.choice.ResourcesChoice.{Resources
 ghost use Rattle.rpki_resources.specs.declared.resources.IpResources.{IpResources};
 ghost use Rattle.rpki_resources.specs.declared.resources.AsResources.{AsResources};
 ghost use Rattle.rpki_resources.specs.Kept.{SpellsIp, SpellsAs};
-ghost use Rattle.rpki_resources.specs.Unread.{IsUnread, IsUnreadOf, IsNamedUnread, AreUnreadIp, IsAround, SpellsKept, AreNamedKept, SpellsNamedKept, AreFamiliesKept};
+ghost use Rattle.rpki_resources.specs.Unread.{IsUnread, IsUnreadOf, IsNamedUnread, AreUnreadIp, IsAround, SpellsKept};
+ghost use Rattle.rpki_resources.specs.Unread.{AreNamedKept, SpellsNamedKept, AreFamiliesKept};
 
 use crate::family::AddressFamily;
 use crate::ip_reading::take_family;
@@ -55,8 +56,8 @@ fn contents_of<'a>(octets: Constructed<'a>, tag: Tag) -> Option<Constructed<'a>>
 
 /// The choice that all of the octets are: NULL, or a SEQUENCE.
 fn find_choice<'a>(octets: Constructed<'a>) -> Option<Unread<'a>>
-    ensures some { IfSome result (λ u. (kind : ResourceKind) (v : ResourcesChoice) → SpellsKept kind v (left octets.entry)
-        ↔ IsUnread kind u v) }
+    ensures some { IfSome result (λ u. (kind : ResourceKind) (v : ResourcesChoice)
+        → SpellsKept kind v (left octets.entry) ↔ IsUnread kind u v) }
     ensures none { IfNone result ((kind : ResourceKind) → SpellsNothing (SpellsKept kind) (left octets.entry)) }
 {
     if octets.has_tag(Tag::NULL) {

@@ -1,5 +1,5 @@
-//! The worked cases of times, over the public calls of `rpki_time`. Expected values come from the standards, from worked
-//! examples and from other programs.
+//! The worked cases of times, over the public calls of `rpki_time`. Expected values come from the standards, from
+//! worked examples and from other programs.
 #![tactic(auto)]
 
 #[cfg(test)]

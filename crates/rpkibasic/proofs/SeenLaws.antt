@@ -1,5 +1,6 @@
 -- What is seen of a run, by its words.
-use Rattle.std.proofs.Common.{◌≡◌, ℕ, true, List, [], ◌∷◌, get_or, length, map, refl, sym, ap, ◌∙◌, subst, arith, if◌then◌else◌}
+use Rattle.std.proofs.Common.{◌≡◌, ℕ, true, List, [], ◌∷◌, get_or, length, map, refl, sym, ap, ◌∙◌, subst, arith}
+use Rattle.std.proofs.Common.{if◌then◌else◌}
 use Rattle.std.specs.Prelude.{Option, Some, None, IfSome, nat_eq, ◌==◌}
 use Rattle.std.proofs.lemmas.Bool.{eqb-true}
 use Rattle.rpkibasic.specs.declared.command.Command.{Command}
@@ -29,8 +30,10 @@ one-command words c d e f =
     sym (first-octet c) ∙ ap (λ (w : List ℕ). command-of (get_or w 0 0)) word ∙ first-octet d
 
 -- an answer is given, and is seen
-pub answer-seen : (words : List (List ℕ)) (asked command : Command) (input : Option (List ℕ)) (a : Answer) (IsSeen : Answer → Type 0)
-    → words ≡ word_of asked ∷ [] → IfSome input (λ octets. Replies asked octets a) → IsSeen a → words ≡ word_of command ∷ []
+pub answer-seen : (words : List (List ℕ)) (asked command : Command) (input : Option (List ℕ)) (a : Answer)
+    (IsSeen : Answer → Type 0)
+    → words ≡ word_of asked ∷ [] → IfSome input (λ octets. Replies asked octets a) → IsSeen a
+    → words ≡ word_of command ∷ []
     → IfSome input (λ octets. (b : Answer) × Replies command octets b × IsSeen b)
 answer-seen words asked command None a IsSeen is h seen named = tt
 answer-seen words asked command (Some octets) a IsSeen is h seen named =

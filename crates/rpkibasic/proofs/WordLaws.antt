@@ -7,5 +7,6 @@ single (y ∷ []) x l h e = ap (λ w. w ∷ []) (sym e)
 single (y ∷ z ∷ ys) x l h e = absurd (omega arith)
 
 -- the words are the one word with this text
-pub one-word : {A : Type 0} (text : A → List ℕ) (words : List A) (word : A) (t : List ℕ) → 1 ≤ length words → length words < 2 → word ≡ get_or words 0 word → text word ≡ t → map text words ≡ t ∷ []
+pub one-word : {A : Type 0} (text : A → List ℕ) (words : List A) (word : A) (t : List ℕ) → 1 ≤ length words
+    → length words < 2 → word ≡ get_or words 0 word → text word ≡ t → map text words ≡ t ∷ []
 one-word text words word t some one is same = ap (map text) (single words word some one is) ∙ ap (λ w. w ∷ []) same

@@ -1,7 +1,8 @@
 -- What is reported of a fault.
 use Rattle.std.specs.Prelude.{ℕ, ◌+◌, List, [], ◌∷◌, ◌++◌, codes}
 use Rattle.rpki_der.specs.declared.error.DecodeError.{DecodeError}
-use Rattle.rpki_der.specs.declared.error.DecodeError.TheVariants.{Truncated, BadTag, BadLength, Unexpected, Content, Trailing}
+use Rattle.rpki_der.specs.declared.error.DecodeError.TheVariants.{Truncated, BadTag, BadLength, Unexpected, Content}
+use Rattle.rpki_der.specs.declared.error.DecodeError.TheVariants.{Trailing}
 use Rattle.rpki_der.specs.declared.error.DecodeError.TheVariants as der
 use Rattle.rpki_der.specs.Error.{error_number}
 use Rattle.rpki_text.specs.declared.uri.error.Error.{Error}
@@ -10,7 +11,8 @@ use Rattle.rpki_text.specs.ErrorText.{error_number as uri_error_number}
 use Rattle.rpkibasic.specs.declared.input.Unread.{Unread}
 use Rattle.rpkibasic.specs.declared.input.Unread.TheVariants as unread
 use Rattle.rpkibasic.specs.declared.fault.Fault.{Fault}
-use Rattle.rpkibasic.specs.declared.fault.Fault.TheVariants.{Usage, Refused, RefusedUri, TooLong, OutOfMemory, Input, Output}
+use Rattle.rpkibasic.specs.declared.fault.Fault.TheVariants.{Usage, Refused, RefusedUri, TooLong, OutOfMemory, Input}
+use Rattle.rpkibasic.specs.declared.fault.Fault.TheVariants.{Output}
 
 abbrev pub usage_text : List ℕ
 usage_text = codes "usage: rpkibasic again|data|key|uri|ext|name\n"

@@ -1,5 +1,6 @@
 -- What a run returns, and what is seen of it.
-use Rattle.std.specs.Prelude.{◌≡◌, ◌≢◌, ◌⊎◌, ℕ, Bool, true, ◌<◌, ◌≤◌, ◌^◌, List, [], ◌∷◌, ◌++◌, length, Option, Some, None, Result, Ok, Err, IfSome}
+use Rattle.std.specs.Prelude.{◌≡◌, ◌≢◌, ◌⊎◌, ℕ, Bool, true, ◌<◌, ◌≤◌, ◌^◌, List, [], ◌∷◌, ◌++◌, length, Option, Some}
+use Rattle.std.specs.Prelude.{None, Result, Ok, Err, IfSome}
 use Rattle.std.specs.Io.KnownBytes.{Appends}
 use Rattle.std.specs.List.{flat_map}
 use Rattle.rpki_der.specs.declared.error.DecodeError.{DecodeError}
@@ -27,7 +28,8 @@ use Rattle.rpkibasic.specs.Input.{most_calls, most_octets}
 use Rattle.rpkibasic.specs.Command.{word_of}
 use Rattle.rpkibasic.specs.Fault.{usage_text, line, status_of}
 use Rattle.rpkibasic.specs.declared.fault.Fault.{Fault}
-use Rattle.rpkibasic.specs.declared.fault.Fault.TheVariants.{Usage, Refused, RefusedUri, TooLong, OutOfMemory, Input, Output}
+use Rattle.rpkibasic.specs.declared.fault.Fault.TheVariants.{Usage, Refused, RefusedUri, TooLong, OutOfMemory, Input}
+use Rattle.rpkibasic.specs.declared.fault.Fault.TheVariants.{Output}
 use Rattle.rpkibasic.specs.declared.command.Command.{Command}
 use Rattle.rpkibasic.specs.declared.command.Command.TheVariants.{Again, Data, Key, Uri, Ext, Name}
 

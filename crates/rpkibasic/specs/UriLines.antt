@@ -1,5 +1,6 @@
 -- What is written of a URI.
-use Rattle.std.specs.Prelude.{ℕ, ◌-◌, Bool, List, [], ◌∷◌, ◌++◌, length, take, drop, codes, bytes_eq, if◌then◌else◌, Option}
+use Rattle.std.specs.Prelude.{ℕ, ◌-◌, Bool, List, [], ◌∷◌, ◌++◌, length, take, drop, codes, bytes_eq, if◌then◌else◌}
+use Rattle.std.specs.Prelude.{Option}
 use Rattle.rpki_text.specs.declared.uri.error.Error.{Error}
 use Rattle.rpki_text.specs.UriText.{lowercase}
 use Rattle.rpki_text.specs.HttpsText.{https_refusal, https_authority, https_path}

@@ -1,7 +1,8 @@
 //! What each command returns.
 
 ghost use Rattle.std.specs.Prelude.{◌≡◌, ◌≢◌, ◌<◌, ◌≤◌, ◌^◌, ◌⊎◌, length, true, MatchResult, IfSome};
-ghost use Rattle.rpkibasic.specs.Run.{SpellsOnly, SpellsRpki, IsRpkiFault, IsFaultOf, UnlessMemory, Answers, IsWritten, IsUnwritten};
+ghost use Rattle.rpkibasic.specs.Run.{SpellsOnly, SpellsRpki, IsRpkiFault, IsFaultOf, UnlessMemory, Answers, IsWritten};
+ghost use Rattle.rpkibasic.specs.Run.{IsUnwritten};
 ghost use Rattle.rpkibasic.specs.View.{answer_of};
 ghost use Rattle.rpkibasic.specs.declared.command.Command.TheVariants.{Again, Data};
 

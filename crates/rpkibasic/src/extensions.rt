@@ -1,7 +1,8 @@
 //! Extensions, one after another.
 
 ghost use Rattle.std.specs.Prelude.{◌≡◌, MatchResult, IfOk};
-ghost use Rattle.rpkibasic.specs.Run.{Answers, SpellsOnly, SpellsExtensions, written_extensions, UnlessMemory, IsExtensionFault};
+ghost use Rattle.rpkibasic.specs.Run.{Answers, SpellsOnly, SpellsExtensions, written_extensions, UnlessMemory};
+ghost use Rattle.rpkibasic.specs.Run.{IsExtensionFault};
 ghost use Rattle.rpkibasic.specs.View.{answer_of};
 ghost use Rattle.rpkibasic.specs.declared.command.Command.TheVariants.{Ext};
 

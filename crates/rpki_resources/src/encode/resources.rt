@@ -5,7 +5,9 @@ ghost use Rattle.rpki_der.specs.Number.{AreOctets};
 ghost use Rattle.rpki_resources.specs.Address.{family_octets};
 ghost use Rattle.rpki_resources.specs.Kept.{SpellsIp, SpellsAs};
 ghost use Rattle.rpki_resources.specs.Encoded.{IsBlockOf, AreBlocksOf};
-ghost use Rattle.rpki_resources.specs.EncodedResources.{IsOfKind, IsShortChoice, IsShortNamed, choice_octets, named_octets, CanWriteIp, ip_octets, IsShortIp, CanWriteAs, as_identifiers_octets, IsShortAs, IsIpApart, IsAsApart};
+ghost use Rattle.rpki_resources.specs.EncodedResources.{IsOfKind, IsShortChoice, IsShortNamed, choice_octets};
+ghost use Rattle.rpki_resources.specs.EncodedResources.{named_octets, CanWriteIp, ip_octets, IsShortIp, CanWriteAs};
+ghost use Rattle.rpki_resources.specs.EncodedResources.{as_identifiers_octets, IsShortAs, IsIpApart, IsAsApart};
 
 use super::blocks::BlocksEncoder;
 use super::either::Either;

@@ -111,8 +111,8 @@ impl Name {
     }
 
     /// Tests that the name is one of a certificate of the RPKI, unless `strict` is false: one common name, at most one
-    /// serial number and at most one organization name, each a PrintableString of 1 to 64 characters (RFC 5280 A.1), and
-    /// no other attribute (RFC 6487 4.4, which names no organization).
+    /// serial number and at most one organization name, each a PrintableString of 1 to 64 characters (RFC 5280 A.1),
+    /// and no other attribute (RFC 6487 4.4, which names no organization).
     ///
     /// The texts of the errors are `missing common name`, `multiple common names`, `multiple serial numbers` and
     /// `multiple organization names`, and `invalid name` for another attribute and for another string or size.
@@ -134,8 +134,8 @@ impl Name {
         }
     }
 
-    /// Tests that the name is one of a router's certificate, unless `strict` is false: the same, and the common name and
-    /// the organization name may be UTF8Strings (RFC 8209 3.1.1).
+    /// Tests that the name is one of a router's certificate, unless `strict` is false: the same, and the common name
+    /// and the organization name may be UTF8Strings (RFC 8209 3.1.1).
     ///
     /// The texts of the errors are those of [Name::inspect_rpki], but `unpermitted string variant in common name` for
     /// another string or size.

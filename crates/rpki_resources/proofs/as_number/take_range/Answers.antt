@@ -7,4 +7,5 @@ use Rattle.rpki_resources.proofs.as_number.take_range.Goals as goal
 
 pub returns : goal.returns
 returns c =
-    read-parts-inside (λ b. b) sequence true (SpellsEnds SpellsAsNumber IsAsRange) (IsEndsFault SpellsAsNumber IsAsNumberFault IsAsRange) _ (λ b a x h. search rules) _ _ _ c.in_sequence.ensures
+    read-parts-inside (λ b. b) sequence true (SpellsEnds SpellsAsNumber IsAsRange)
+    (IsEndsFault SpellsAsNumber IsAsNumberFault IsAsRange) _ (λ b a x h. search rules) _ _ _ c.in_sequence.ensures

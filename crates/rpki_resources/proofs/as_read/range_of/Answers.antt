@@ -10,5 +10,6 @@ returns-in-None c = (
   c.in-Ok-parse.max,
   c.in-Ok.ensures.value,
   c.in-Ok-parse.ensures.value,
-  no-block c.in-Ok.min c.in-Ok-parse.max c.from.result c.from-2.result c.from.ensures c.from-2.ensures c.in-Ok-parse.ensures.value.below c.in-None.ensures.none,
+  no-block c.in-Ok.min c.in-Ok-parse.max c.from.result c.from-2.result c.from.ensures c.from-2.ensures
+      c.in-Ok-parse.ensures.value.below c.in-None.ensures.none,
 )

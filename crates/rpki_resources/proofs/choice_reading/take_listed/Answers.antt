@@ -8,4 +8,5 @@ use Rattle.rpki_resources.proofs.choice_reading.take_listed.Goals as goal
 pub returns : goal.returns
 returns c =
     let kind = c.args.kind in
-    read-parts-inside (λ x. x) sequence true (IsListed kind) (AreBlocksFault kind None) _ (λ b a x h. search rules) _ _ _ c.in_sequence.ensures
+    read-parts-inside (λ x. x) sequence true (IsListed kind) (AreBlocksFault kind None) _ (λ b a x h. search rules) _ _
+    _ c.in_sequence.ensures

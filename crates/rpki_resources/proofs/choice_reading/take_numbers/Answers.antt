@@ -7,5 +7,7 @@ use Rattle.rpki_resources.proofs.choice_reading.take_numbers.Goals as goal
 
 pub returns : goal.returns
 returns c =
-    read-parts-inside (λ v. v) as_numbers true (SpellsChoice AsNumbers) (FirstFault (SpellsChoice AsNumbers) (IsChoiceFault AsNumbers) (λ v. IsEndFault)) _
-    (λ b a x h. reads-one-part (λ v. v) (SpellsChoice AsNumbers) (IsChoiceFault AsNumbers) _ _ x (search rules)) _ _ _ (rw c.new.ensures at c.in_constructed.ensures)
+    read-parts-inside (λ v. v) as_numbers true (SpellsChoice AsNumbers)
+    (FirstFault (SpellsChoice AsNumbers) (IsChoiceFault AsNumbers) (λ v. IsEndFault)) _
+    (λ b a x h. reads-one-part (λ v. v) (SpellsChoice AsNumbers) (IsChoiceFault AsNumbers) _ _ x (search rules)) _ _ _
+    (rw c.new.ensures at c.in_constructed.ensures)

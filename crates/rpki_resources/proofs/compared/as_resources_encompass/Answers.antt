@@ -10,5 +10,6 @@ returns-in_default-find_as-clause-none c = λ o i a b. absurd (c.in_default-find
 pub returns-clause-some : goal.returns-clause-some
 returns-clause-some c =
     if-some c.is_within.result
-    (as-within c.args.outer.now c.args.inner.now c.in-Some.issuer c.in-Some-find_as.subject c.in-Some.ensures.some c.in-Some-find_as.ensures.some)
+    (as-within c.args.outer.now c.args.inner.now c.in-Some.issuer c.in-Some-find_as.subject c.in-Some.ensures.some
+    c.in-Some-find_as.ensures.some)
     c.is_within.ensures.some

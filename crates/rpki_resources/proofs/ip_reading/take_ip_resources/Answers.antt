@@ -5,4 +5,5 @@ use Rattle.rpki_resources.specs.Extension.{AreFamilies, AreFamiliesFault}
 use Rattle.rpki_resources.proofs.ip_reading.take_ip_resources.Goals as goal
 
 pub returns : goal.returns
-returns c = read-parts-inside (λ x. x) sequence true AreFamilies AreFamiliesFault _ (λ b a x h. search rules) _ _ _ c.in_sequence.ensures
+returns c = read-parts-inside (λ x. x) sequence true AreFamilies AreFamiliesFault _ (λ b a x h. search rules) _ _ _
+    c.in_sequence.ensures

@@ -11,7 +11,8 @@ returns-in_err-family c =
 pub returns-in_err-choice : goal.returns-in_err-choice
 returns-in_err-choice c =
     let e = c.in_err-choice.field-0.0 in
-    tried-parts (λ x. x) AreNamed AreNamedFault _ _ e _ c.from_residual-in_err-choice.ensures (no-choice _ c.in_ok-family.family _ c.in_ok-family.ensures _ e c.in_err-choice.ensures)
+    tried-parts (λ x. x) AreNamed AreNamedFault _ _ e _ c.from_residual-in_err-choice.ensures
+    (no-choice _ c.in_ok-family.family _ c.in_ok-family.ensures _ e c.in_err-choice.ensures)
 
 pub returns : goal.returns
 returns c = named _ c.in_ok-family.family _ c.in_ok-family.ensures _ c.in_ok-choice.choice c.in_ok-choice.ensures

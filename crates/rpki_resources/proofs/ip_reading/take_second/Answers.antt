@@ -7,10 +7,13 @@ use Rattle.rpki_resources.proofs.ip_reading.take_second.Goals as goal
 pub returns-in_err-family : goal.returns-in_err-family
 returns-in_err-family c =
     let e = c.in_err-family.field-0.0 in
-    tried-parts (λ v. v) SpellsV6 IsSecondFault _ _ e _ c.from_residual.ensures (no-second _ _ e c.in_err-family.ensures)
+    tried-parts (λ v. v) SpellsV6 IsSecondFault _ _ e _ c.from_residual.ensures
+    (no-second _ _ e c.in_err-family.ensures)
 
 pub returns-in-Ipv6 : goal.returns-in-Ipv6
-returns-in-Ipv6 c = second-v6 _ _ c.in_ok-family.choice (as-family _ _ _ _ c.in_ok-family.choice c.in-Ipv6.is c.in_ok-family.ensures)
+returns-in-Ipv6 c = second-v6 _ _ c.in_ok-family.choice
+    (as-family _ _ _ _ c.in_ok-family.choice c.in-Ipv6.is c.in_ok-family.ensures)
 
 pub returns-in-Ipv4 : goal.returns-in-Ipv4
-returns-in-Ipv4 c = rw c.content.ensures (second-v4 (left c.args.contents.now) _ c.in_ok-family.choice _ (as-family _ _ _ _ c.in_ok-family.choice c.in-Ipv4.is c.in_ok-family.ensures))
+returns-in-Ipv4 c = rw c.content.ensures (second-v4 (left c.args.contents.now) _ c.in_ok-family.choice _
+    (as-family _ _ _ _ c.in_ok-family.choice c.in-Ipv4.is c.in_ok-family.ensures))

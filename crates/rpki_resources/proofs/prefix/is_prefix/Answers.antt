@@ -19,7 +19,8 @@ returns-then-count-power c =
     let e : (c.args.high - c.args.low + 1) + c.args.low ≡ suc c.args.high = omega (arith, c.if-high-low.false) in (
       λ z. let no : ⊥ = cc in absurd no,
       λ p.
-          let k = prefix-count c.args.low c.args.high (c.args.high - c.args.low + 1) c.ilog2.result e c.ilog2.ensures.power_le c.ilog2.ensures.next_power_gt p in
+          let k = prefix-count c.args.low c.args.high (c.args.high - c.args.low + 1) c.ilog2.result e
+          c.ilog2.ensures.power_le c.ilog2.ensures.next_power_gt p in
           absurd (c.if-count-power.true (k.0 ∙ sym c.power_of_two-power.ensures)),
     )
 
@@ -28,7 +29,8 @@ returns-then-low-power-ne0 c =
     let e : (c.args.high - c.args.low + 1) + c.args.low ≡ suc c.args.high = omega (arith, c.if-high-low.false) in (
       λ z. let no : ⊥ = cc in absurd no,
       λ p.
-          let k = prefix-count c.args.low c.args.high (c.args.high - c.args.low + 1) c.ilog2.result e c.ilog2.ensures.power_le c.ilog2.ensures.next_power_gt p in
+          let k = prefix-count c.args.low c.args.high (c.args.high - c.args.low + 1) c.ilog2.result e
+          c.ilog2.ensures.power_le c.ilog2.ensures.next_power_gt p in
           absurd (c.if-low-power-ne0.true (rw c.power_of_two-power.ensures k.1)),
     )
 

@@ -10,23 +10,29 @@ pub returns-in_err-lowest : goal.returns-in_err-lowest
 returns-in_err-lowest c =
     let w = width c.args.family in
     let e = c.in_err-lowest.field-0.0 in
-    tried-parts (λ b. b) (SpellsEnds (SpellsAddress w) (IsRange w)) (IsRangeContentsFault w) _ _ e _ c.from_residual.ensures
+    tried-parts (λ b. b) (SpellsEnds (SpellsAddress w) (IsRange w)) (IsRangeContentsFault w) _ _ e _
+    c.from_residual.ensures
     (low-refused (SpellsAddress w) (IsAddressFault w) (IsRange w) _ _ e c.in_err-lowest.ensures)
 
 pub returns-in_err-highest : goal.returns-in_err-highest
 returns-in_err-highest c =
     let w = width c.args.family in
     let e = c.in_err-highest.field-0.0 in
-    tried-parts (λ b. b) (SpellsEnds (SpellsAddress w) (IsRange w)) (IsRangeContentsFault w) _ _ e _ c.from_residual-in_err-highest.ensures
-    (high-refused (SpellsAddress w) (IsAddressFault w) (IsRange w) _ _ _ c.in_ok-lowest.lowest e c.in_ok-lowest.ensures c.in_err-highest.ensures)
+    tried-parts (λ b. b) (SpellsEnds (SpellsAddress w) (IsRange w)) (IsRangeContentsFault w) _ _ e _
+    c.from_residual-in_err-highest.ensures
+    (high-refused (SpellsAddress w) (IsAddressFault w) (IsRange w) _ _ _ c.in_ok-lowest.lowest e c.in_ok-lowest.ensures
+    c.in_err-highest.ensures)
 
 pub returns-in-Some : goal.returns-in-Some
 returns-in-Some c =
     let w = width c.args.family in
-    ends-read (SpellsAddress w) (IsAddressFault w) (IsRange w) _ _ _ c.in_ok-lowest.lowest c.in_ok-highest.highest c.in-Some.block c.in_ok-lowest.ensures c.in_ok-highest.ensures c.in-Some.ensures.some
+    ends-read (SpellsAddress w) (IsAddressFault w) (IsRange w) _ _ _ c.in_ok-lowest.lowest c.in_ok-highest.highest
+    c.in-Some.block c.in_ok-lowest.ensures c.in_ok-highest.ensures c.in-Some.ensures.some
     (λ d k. one-range w c.in-Some.block d _ c.in-Some.ensures.some k)
 
 pub returns-in-None : goal.returns-in-None
 returns-in-None c =
     let w = width c.args.family in
-    rw c.content.ensures (ends-of-nothing (SpellsAddress w) (IsAddressFault w) (IsRange w) (left c.args.contents.now) _ _ c.in_ok-lowest.lowest c.in_ok-highest.highest _ c.in_ok-lowest.ensures c.in_ok-highest.ensures c.in-None.ensures.none)
+    rw c.content.ensures (ends-of-nothing (SpellsAddress w) (IsAddressFault w) (IsRange w) (left c.args.contents.now) _
+    _ c.in_ok-lowest.lowest c.in_ok-highest.highest _ c.in_ok-lowest.ensures c.in_ok-highest.ensures
+    c.in-None.ensures.none)

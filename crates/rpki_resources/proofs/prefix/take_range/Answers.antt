@@ -8,4 +8,5 @@ use Rattle.rpki_resources.proofs.prefix.take_range.Goals as goal
 pub returns : goal.returns
 returns c =
     let w = width c.args.family in
-    read-parts-inside (λ b. b) sequence true (SpellsEnds (SpellsAddress w) (IsRange w)) (IsRangeContentsFault w) _ (λ b a x h. search rules) _ _ _ c.in_sequence.ensures
+    read-parts-inside (λ b. b) sequence true (SpellsEnds (SpellsAddress w) (IsRange w)) (IsRangeContentsFault w) _
+    (λ b a x h. search rules) _ _ _ c.in_sequence.ensures

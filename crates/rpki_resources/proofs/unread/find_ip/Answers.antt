@@ -9,14 +9,18 @@ use Rattle.rpki_resources.proofs.unread.find_ip.Goals as goal
 
 pub returns-clause-some : goal.returns-clause-some
 returns-clause-some c =
-    let around : IsAround sequence c.args.octets.now (left c.in-Some.contents) = rw c.from_slice.ensures at c.in-Some.ensures.some in
+    let around : IsAround sequence c.args.octets.now (left c.in-Some.contents) =
+    rw c.from_slice.ensures at c.in-Some.ensures.some in
     if-some c.find_families.result
-    (λ x k v. through (for-around sequence c.args.octets.now AreFamilies AreIpResourcesOf (left c.in-Some.contents) around v) (k v))
+    (λ x k v. through (for-around sequence c.args.octets.now AreFamilies AreIpResourcesOf (left c.in-Some.contents)
+    around v) (k v))
     c.find_families.ensures.some
 
 pub returns-clause-none : goal.returns-clause-none
 returns-clause-none c =
-    let around : IsAround sequence c.args.octets.now (left c.in-Some.contents) = rw c.from_slice.ensures at c.in-Some.ensures.some in
+    let around : IsAround sequence c.args.octets.now (left c.in-Some.contents) =
+    rw c.from_slice.ensures at c.in-Some.ensures.some in
     if-none c.find_families.result
-    (λ none v k. none v ((for-around sequence c.args.octets.now AreFamilies AreIpResourcesOf (left c.in-Some.contents) around v).0 k))
+    (λ none v k. none v
+    ((for-around sequence c.args.octets.now AreFamilies AreIpResourcesOf (left c.in-Some.contents) around v).0 k))
     c.find_families.ensures.none

@@ -10,4 +10,8 @@ pub returns-then-not-fits : goal.returns-then-not-fits
 returns-then-not-fits c =
     let contents = written_contents written_algorithm c.args.signed.now in
     let fits = rw c.encode_ref-encoder.ensures.octets at c.fits.ensures in
-    inl (refl, too-long (length contents) (length (written_signed written_algorithm c.args.signed.now)) c.fits.result fits c.if-not-fits.true c.encode_ref-encoder.ensures.short (tlv_at_most sequence true contents))
+    inl (
+      refl,
+      too-long (length contents) (length (written_signed written_algorithm c.args.signed.now)) c.fits.result
+          fits c.if-not-fits.true c.encode_ref-encoder.ensures.short (tlv_at_most sequence true contents),
+    )

@@ -24,4 +24,5 @@ returns-in_err-finish c =
     let p = err_from_is_err_and c.from_residual-in_err-finish.result c.from_residual-in_err-finish.ensures.1 in
     rw (p.1, p.2)
     (fault-of SpellsNameOctets IsNameFault ⊥ c.args.input.items c.in_err-finish.field-0.0
-    (rw c.in_err-finish.ensures.0 (more-left SpellsNameOctets IsNameFault c.args.input.items c.in_ok-name.name _ h c.in_err-finish.ensures.1)))
+    (rw c.in_err-finish.ensures.0 (more-left SpellsNameOctets IsNameFault c.args.input.items c.in_ok-name.name _ h
+    c.in_err-finish.ensures.1)))

@@ -8,14 +8,18 @@ each-init c = λ bs h. (bs, c.blocks-rest.ensures.blocks bs h, rw c.in_ok-items.
 pub each-preserved : goal.each-preserved
 each-preserved c =
     rw c.in_ok-push.ensures.items
-    (one-kept c.args.view.now c.each.items.items c.each.rest c.each.invariant (Some c.in-Some.block) c.next_block.new.self c.in-Some.ensures.given c.in-Some.block refl)
+    (one-kept c.args.view.now c.each.items.items c.each.rest c.each.invariant (Some c.in-Some.block)
+    c.next_block.new.self c.in-Some.ensures.given c.in-Some.block refl)
 
 pub invariant_of-result : goal.invariant_of-result
 invariant_of-result c =
-    let all = all-kept c.args.view.now c.each.items.items c.each.rest c.each.invariant None c.next_block.new.self c.in_default.ensures.given refl in
-    kept-canonical c.args.view.now c.each.items.items (held-only c.args.view.now c.each.items.items c.blocks-rest.ensures.held all)
+    let all = all-kept c.args.view.now c.each.items.items c.each.rest c.each.invariant None c.next_block.new.self
+    c.in_default.ensures.given refl in
+    kept-canonical c.args.view.now c.each.items.items
+    (held-only c.args.view.now c.each.items.items c.blocks-rest.ensures.held all)
 
 pub returns : goal.returns
 returns c =
-    let all = all-kept c.args.view.now c.each.items.items c.each.rest c.each.invariant None c.next_block.new.self c.in_default.ensures.given refl in
+    let all = all-kept c.args.view.now c.each.items.items c.each.rest c.each.invariant None c.next_block.new.self
+    c.in_default.ensures.given refl in
     held-only c.args.view.now c.each.items.items c.blocks-rest.ensures.held all

@@ -5,7 +5,8 @@ use Rattle.rpki_resources.proofs.blocks.Blocks.from_view.Given as goal
 
 -- what was kept is the beginning of the blocks, and the others are left
 abbrev pub invariant-each : goal.invariant-each
-invariant-each l = (bs : List Block) → Holds l.view bs → (ds : List Block) × IsLeft l.rest ds × (bs ≡ l.items.items ++ ds)
+invariant-each l = (bs : List Block) → Holds l.view bs
+    → (ds : List Block) × IsLeft l.rest ds × (bs ≡ l.items.items ++ ds)
 
 abbrev pub decreases-each : goal.decreases-each
 decreases-each l = length l.rest.octets

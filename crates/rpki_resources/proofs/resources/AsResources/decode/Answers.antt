@@ -4,4 +4,5 @@ use Rattle.rpki_resources.specs.Kept.{SpellsAs, IsAsFault}
 use Rattle.rpki_resources.proofs.resources.AsResources.decode.Goals as goal
 
 pub returns : goal.returns
-returns c = rw c.from_slice.ensures at (read-whole (λ v. v) SpellsAs IsAsFault _ (λ b a x h. search rules) _ _ c.whole.ensures)
+returns c = rw c.from_slice.ensures at (read-whole (λ v. v) SpellsAs IsAsFault _ (λ b a x h. search rules) _ _
+    c.whole.ensures)

@@ -16,4 +16,5 @@ returns-in_err-view c =
 pub returns : goal.returns
 returns c =
     let v = c.in_ok-numbers.ensures in
-    for-accepted SpellsAsResources AreAsResourcesOf _ _ (as_of c.in_ok-numbers.numbers) c.in_ok-view.view c.in_ok-view.ensures v.0 (as-only c.in_ok-view.view c.in_ok-numbers.numbers v)
+    for-accepted SpellsAsResources AreAsResourcesOf _ _ (as_of c.in_ok-numbers.numbers) c.in_ok-view.view
+    c.in_ok-view.ensures v.0 (as-only c.in_ok-view.view c.in_ok-numbers.numbers v)

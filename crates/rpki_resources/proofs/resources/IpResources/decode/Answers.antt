@@ -4,4 +4,5 @@ use Rattle.rpki_resources.specs.Kept.{SpellsIp, IsIpFault}
 use Rattle.rpki_resources.proofs.resources.IpResources.decode.Goals as goal
 
 pub returns : goal.returns
-returns c = rw c.from_slice.ensures at (read-whole (λ v. v) SpellsIp IsIpFault _ (λ b a x h. search rules) _ _ c.whole.ensures)
+returns c = rw c.from_slice.ensures at (read-whole (λ v. v) SpellsIp IsIpFault _ (λ b a x h. search rules) _ _
+    c.whole.ensures)

@@ -3,7 +3,8 @@ use Rattle.rpki_resources.proofs.FollowLaws.{blocks-following}
 use Rattle.rpki_resources.proofs.view.BlocksView.blocks.Goals as goal
 
 pub invariant_of-result : goal.invariant_of-result
-invariant_of-result c = let k = c.self.invariant in (k.0, rw c.from_slice.ensures (blocks-following c.self.inside.kind k.0 _ k.1.blocks))
+invariant_of-result c = let k = c.self.invariant in
+    (k.0, rw c.from_slice.ensures (blocks-following c.self.inside.kind k.0 _ k.1.blocks))
 
 pub returns-clause-blocks : goal.returns-clause-blocks
 returns-clause-blocks c = λ bs h.

@@ -125,7 +125,8 @@ encode_spec 𝓤 𝓛 𝓜 𝓡 wired =
     (flft κs.1.0 qs.1.0)))
     (sl_Share 𝓛 u8 r.ref_ptr.0 r.ref_ptr.1 r.ghost_name r.now (uint_row_laws w8) κs.1.0 qs.1.0
     ((uint_Copied 𝓛 w8).shares full_share κs.1.0)) $ await ! tt $ split ! $
-    -- [the octets, shared; what becomes of dest and the token of its lifetime; nothing; the token of src's lifetime; src]
+    -- [the octets, shared; what becomes of dest and the token of its lifetime; nothing; the token of src's lifetime;
+    -- src]
     fsplit ! $ feq_i ! (List Val) (shr_slice_vals octets) (shr_slice_vals octets) refl $ fjoin ! $ fjoin ! $ nothing ! $
     move ! (1 ∷ 0 ∷ []) $ join ! $ move ! (4 ∷ 0 ∷ []) $ join ! $
     move ! (1 ∷ []) $ split ! $ move ! (1 ∷ 3 ∷ []) $ join ! $ move ! (3 ∷ 0 ∷ []) $ join ! $ move ! (0 ∷ 2 ∷ []) $ join

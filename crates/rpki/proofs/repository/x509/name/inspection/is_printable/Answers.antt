@@ -10,14 +10,20 @@ use Rattle.rpki.proofs.repository.x509.name.inspection.is_printable.Goals as goa
 pub returns-then-is_name_size : goal.returns-then-is_name_size
 returns-then-is_name_size gen c =
     let size = rw c.octets.ensures at c.is_name_size.ensures in
-    whole-sized (SpellsLeaf printable_string false IsPrintableText) (λ (text : List ℕ). IsNameSize (length text)) (gen.C.Cursor.octets_left c.args.value) _ _ c.in-Ok.ensures _ (size.0 c.if-is_name_size.true) c.is_at_end.ensures
+    whole-sized (SpellsLeaf printable_string false IsPrintableText) (λ (text : List ℕ). IsNameSize (length text))
+    (gen.C.Cursor.octets_left c.args.value) _ _ c.in-Ok.ensures _ (size.0 c.if-is_name_size.true)
+    c.is_at_end.ensures
 
 pub returns-else-is_name_size : goal.returns-else-is_name_size
 returns-else-is_name_size gen c =
     let size = rw c.octets.ensures at c.is_name_size.ensures in (
       λ z. absurd (false≢true (rw c.if-is_name_size.false at z)),
-      λ g. absurd (iff_false size c.if-is_name_size.false (whole-holds (SpellsLeaf printable_string false IsPrintableText) (λ (text : List ℕ). IsNameSize (length text)) (gen.C.Cursor.octets_left c.args.value) _ _ c.in-Ok.ensures g)),
+      λ g. absurd (iff_false size c.if-is_name_size.false
+          (whole-holds (SpellsLeaf printable_string false IsPrintableText) (λ (text : List ℕ). IsNameSize (length text))
+          (gen.C.Cursor.octets_left c.args.value) _ _ c.in-Ok.ensures g)),
     )
 
 pub returns-in-Err : goal.returns-in-Err
-returns-in-Err gen c = whole-unsized (SpellsLeaf printable_string false IsPrintableText) (λ (text : List ℕ). IsNameSize (length text)) (gen.C.Cursor.octets_left c.args.value) (whole-unread printable_string false IsPrintableText (gen.C.Cursor.octets_left c.args.value) _ _ c.in-Err.ensures)
+returns-in-Err gen c = whole-unsized (SpellsLeaf printable_string false IsPrintableText)
+    (λ (text : List ℕ). IsNameSize (length text)) (gen.C.Cursor.octets_left c.args.value)
+    (whole-unread printable_string false IsPrintableText (gen.C.Cursor.octets_left c.args.value) _ _ c.in-Err.ensures)

@@ -13,7 +13,8 @@ returns-in_err-algorithm g c =
 
 pub returns-in_err-bits : goal.returns-in_err-bits
 returns-in_err-bits g c =
-    key-said shared_bits _ _ _ (tried key_pair (then key_format (only shared_bits)) _ _ c.from_residual-in_err-bits.ensures
+    key-said shared_bits _ _ _ (tried key_pair (then key_format (only shared_bits)) _ _
+    c.from_residual-in_err-bits.ensures
     (after c.in_ok-algorithm.ensures.reads (last c.in_err-bits.ensures)))
 
 pub returns : goal.returns

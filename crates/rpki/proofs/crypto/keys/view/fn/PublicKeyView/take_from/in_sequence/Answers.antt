@@ -13,7 +13,8 @@ returns-in_err-algorithm c =
 
 pub returns-in_err-bits : goal.returns-in_err-bits
 returns-in_err-bits c =
-    key-said bits_value _ _ _ (tried key_pair (then key_format (only bits_value)) _ _ c.from_residual-in_err-bits.ensures
+    key-said bits_value _ _ _ (tried key_pair (then key_format (only bits_value)) _ _
+    c.from_residual-in_err-bits.ensures
     (after c.in_ok-algorithm.ensures.reads (last c.in_err-bits.ensures)))
 
 pub returns : goal.returns

@@ -27,7 +27,8 @@ returns-in_err-skip_one c =
     let e = c.in_err-skip_one.field-0.0 in
     let a = c.in_ok-take_oid.ensures in
     let h = c.in_err-skip_one.ensures.reads.1 in
-    tried-parts (λ u. tt) (SpellsAny IsAttribute) attribute_parts.fault s _ e _ c.from_residual-in_err-skip_one.ensures (
+    let f = c.from_residual-in_err-skip_one.ensures in
+    tried-parts (λ u. tt) (SpellsAny IsAttribute) attribute_parts.fault s _ e _ f (
       UnlessMemory-weaker e (λ none x k. nothing-whole SpellsAnyValue m none tt (identified-value s m _ a k.0 k.1))
           h.refuses,
       Later _ m a (inr (AtPart h.refuses h.kind)),
