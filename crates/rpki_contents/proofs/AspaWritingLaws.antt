@@ -52,7 +52,7 @@ first-octets rest ns n is = ap numbers_octets is
 
 -- ---- they are read back
 
-number-back : (n : ℕ) → n < 2 ^ 32 → as_number.spells n (as_number_octets n)
+pub number-back : (n : ℕ) → n < 2 ^ 32 → as_number.spells n (as_number_octets n)
 number-back n small =
     leaf-legal integer false (IsUnsignedBelow (2 ^ 32)) n (as_contents n) integer-legal (contents-few n)
     (record { below = small; contents = as-unsigned n small })

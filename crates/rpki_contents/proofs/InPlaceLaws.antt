@@ -26,7 +26,8 @@ leaf-missing t C s r e h =
 
 module _ (s r : List ℕ) where
   pub contents-missing : (e : DecodeError)
-      → Refusal (SpellsContents sequence true) (IsContentsFault sequence true) s r e → Refuses (SpellsContents sequence true) s
+      → Refusal (SpellsContents sequence true) (IsContentsFault sequence true) s r e
+      → Refuses (SpellsContents sequence true) s
   contents-missing e h =
       refused (SpellsContents sequence true) (IsContentsFault sequence true) s r e
       (λ k. contents-no-memory sequence true s OutOfMemory k refl) h

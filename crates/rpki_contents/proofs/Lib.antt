@@ -2,10 +2,12 @@
 --
 -- A value of which something has to hold: SuchLaws. Whether names differ: NamesLaws. The files of a manifest in place,
 -- and room for their names: FilesLaws, RoomLaws. A manifest over its fields: ManifestLaws. A manifest read in place:
--- ManifestViewLaws. Files that are written: WritingLaws.
+-- ManifestViewLaws. Files that are written: WritingLaws; the manifest around them: ManifestWritingLaws.
+-- What is decoded of it: InPlaceManifestLaws, by OneReadingLaws.
 -- A part, and others that its value says: ThenByLaws.
 -- The prefixes of an attestation, and its families: RoaAddressLaws, RoaLaws.
 -- What it authorizes, and whether that is within resources: OriginLaws, WithinLaws.
+-- Route origin attestations that are written: RoaWritingLaws.
 -- The providers of a customer: AspaLaws. Attestations of providers that are written: AspaWritingLaws.
 -- Both in place: InPlaceLaws, AspaViewLaws, AddressViewLaws, FamilyViewLaws; where prefixes stand: StandsLaws.
 -- Lists that are written: ListedLaws.
@@ -17,13 +19,17 @@ pub mod AspaWritingLaws
 pub mod FamilyViewLaws
 pub mod FilesLaws
 pub mod InPlaceLaws
+pub mod InPlaceManifestLaws
 pub mod ListedLaws
 pub mod ManifestLaws
 pub mod ManifestViewLaws
+pub mod ManifestWritingLaws
 pub mod NamesLaws
+pub mod OneReadingLaws
 pub mod OriginLaws
 pub mod RoaAddressLaws
 pub mod RoaLaws
+pub mod RoaWritingLaws
 pub mod RoomLaws
 pub mod StandsLaws
 pub mod SuchLaws

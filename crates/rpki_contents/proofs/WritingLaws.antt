@@ -15,10 +15,10 @@ use Rattle.rpki_contents.specs.ListedFile.{ListedFile}
 use Rattle.rpki_contents.specs.Encoded.{hash_contents, file_contents, file_octets, files_octets, CanWriteFile}
 use Rattle.rpki_contents.specs.Encoded.{CanWriteFiles}
 
-ia5-legal : IsTag ia5_string
+pub ia5-legal : IsTag ia5_string
 ia5-legal = record { below = lit< tt; named = λ _. lit< tt }
 
-bits-legal : IsTag bit_string
+pub bits-legal : IsTag bit_string
 bits-legal = record { below = lit< tt; named = λ _. lit< tt }
 
 module _ (x : ListedFile) (h : CanWriteFile x) where

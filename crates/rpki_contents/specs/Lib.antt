@@ -3,6 +3,7 @@ pub mod Aspa
 pub mod AspaView
 pub mod Encoded
 pub mod EncodedAspa
+pub mod EncodedRoa
 pub mod FileName
 pub mod FilesInPlace
 pub mod InPlace

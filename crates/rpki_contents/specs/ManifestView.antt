@@ -1,5 +1,7 @@
 -- Manifests that are read in place: what stands where, and which part is wrong (RFC 9286 4.2).
-use Rattle.std.specs.Prelude.{◌≡◌, ℕ, true, List, [], ◌∷◌, length, Option, Some, None}
+use Rattle.std.specs.Prelude.{◌≡◌, ℕ, true, List, [], ◌∷◌, length, Option, Some, None, Result, Ok, Err}
+use Rattle.rpki_der.specs.declared.error.DecodeError.{DecodeError}
+use Rattle.rpki_der.specs.declared.error.DecodeError.TheVariants.{OutOfMemory}
 use Rattle.rpki_der.specs.Prelude.{sequence, Refuses, Spells, SpellsNothing, SpellsContents, Format}
 use Rattle.rpki_der.specs.Prelude.{this_oid, optional_of}
 use Rattle.rpki_time.specs.Serial.{serial_number}
@@ -100,3 +102,15 @@ pub data IsManifestWrong (s : List ℕ) (q : ManifestPart) : Type 0 where
   InFields : (c : List ℕ) → SpellsContents sequence true c s → AreFieldsWrong c q → IsManifestWrong s q
   OutOfOrder : (x : ManifestParts) → view_manifest.spells (fields_of x) s
       → (AreInOrder x.this_update x.next_update → ⊥) → q ≡ P.Order → IsManifestWrong s q
+
+-- ---- what is decoded of octets that were read in place
+
+-- this manifest, unless allocation fails
+abbrev pub IsDecodedAs : ManifestParts → Result ManifestParts DecodeError → Type 0
+IsDecodedAs x (Ok y) = y ≡ x
+IsDecodedAs x (Err e) = e ≡ OutOfMemory
+
+-- no manifest
+abbrev pub IsNotDecoded : Result ManifestParts DecodeError → Type 0
+IsNotDecoded (Ok y) = ⊥
+IsNotDecoded (Err e) = Unit {0}

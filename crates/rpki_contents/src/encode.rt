@@ -1,10 +1,15 @@
 //! Manifests as they are written (RFC 9286 4.2).
 
-ghost use Rattle.std.specs.Prelude.{◌≡◌, ◌≤◌, ◌<◌, ◌^◌, ◌↔◌, false, IsTrue, IsSome, IfSome, IfNone, length};
+ghost use Rattle.std.specs.Prelude.{◌≡◌, ◌≤◌, ◌<◌, ◌<ℤ◌, ◌^◌, ◌↔◌, false, IsTrue, IsSome, IfSome, IfNone, length};
 ghost use Rattle.rpki_der.specs.Prelude.{ia5_string, bit_string, tlv};
 ghost use Rattle.rpki_der.specs.Written.{Writes};
 ghost use Rattle.rpki_contents.specs.Encoded.{file_octets, files_octets, CanWriteFile, CanWriteFiles, manifest_octets};
-ghost use Rattle.rpki_contents.specs.Encoded.{hash_contents, front_octets, listing_octets};
+ghost use Rattle.rpki_contents.specs.Encoded.{hash_contents, front_octets, listing_octets, AreNamed, CanWriteManifest};
+ghost use Rattle.rpki_contents.specs.Encoded.{IsManifestReadBack, IsShortManifest};
+ghost use Rattle.rpki_contents.specs.FileName.{is_file_name};
+ghost use Rattle.rpki_contents.specs.Manifest.{AreInOrder};
+ghost use Rattle.rpki.specs.Digest.{SpellsDigestName, digest_name_octets};
+ghost use Rattle.rpki_time.specs.Time.{cut, IsTimeYear};
 
 use crate::file_and_hash::FileAndHash;
 use crate::manifest::ManifestContent;
@@ -147,7 +152,8 @@ fn encode_file(file: &FileAndHash) -> Sequence<FileParts<'_>>
 
 /// Whether a length announces each part of the file: whether its name has fewer than 2^31 octets.
 fn can_write_file(file: &FileAndHash) -> bool
-    ensures { IsTrue result ↔ CanWriteFile file.now }
+    ensures written { IsTrue result ↔ CanWriteFile file.now }
+    ensures named { IsTrue result → IsTrue (is_file_name file.now.0) }
 {
     let hash = file.hash();
     hash.as_slice().len() == 32 && file.file().len() < 1 << 31
@@ -155,7 +161,8 @@ fn can_write_file(file: &FileAndHash) -> bool
 
 /// Whether each of the files can be written.
 fn can_write_files(files: &[FileAndHash]) -> bool
-    ensures { IsTrue result ↔ CanWriteFiles files.now }
+    ensures written { IsTrue result ↔ CanWriteFiles files.now }
+    ensures named { IsTrue result → AreNamed files.now }
 {
     let mut rest = files;
     'each: while let Some((first, following)) = rest.split_first() {
@@ -230,6 +237,7 @@ impl<'a> FilesEncoder<'a> {
         ensures some { IsSome result ↔ CanWriteFiles files.now }
         ensures value { IfSome result (λ x. x ≡ files.now) }
         ensures short { IfSome result (λ x. ⟦<FilesEncoder<'static> as Values>⟧.is_short x) }
+        ensures named { IfSome result (λ _. AreNamed files.now) }
     {
         if can_write_files(files) {
             Some(FilesEncoder { files })
@@ -298,32 +306,71 @@ pub type ManifestEncoder<'a> = Sequence<(Front, Listing<'a>)>;
 /// An encoder for the rest of the manifest that lists these files.
 #[tactic(auto, unfolding(crate::specs::Encoded::listing_octets))]
 fn encode_listing(files: FilesEncoder<'_>) -> Listing<'_>
-    ensures { ⟦<Listing<'static> as Values>⟧.encoded result ≡ listing_octets files.entry }
+    requires { ⟦<FilesEncoder<'static> as Values>⟧.is_short files }
+    ensures octets { ⟦<Listing<'static> as Values>⟧.encoded result ≡ listing_octets files.entry }
+    ensures short { length (files_octets files.entry) < 2 ^ 32 → ⟦<Listing<'static> as Values>⟧.is_short result }
+    ensures algorithm { SpellsDigestName tt digest_name_octets }
 {
     let algorithm = DigestAlgorithm::sha256().encode_oid();
     (algorithm, Sequence::new(files))
 }
 
+/// Whether the first number is less.
+fn is_less(first: i64, second: i64) -> bool
+    ensures { IsTrue result ↔ (first <ℤ second) }
+{
+    first < second
+}
+
 impl ManifestContent {
-    /// An encoder for the manifest, whose version is left out; None where a name of a file has 2^31 octets or more.
-    /// Times are written without parts of a second (X.690 11.7). It borrows the files, and allocates nothing.
+    /// An encoder for the manifest, whose version is left out. Times are written without parts of a second (X.690
+    /// 11.7). It borrows the files, and allocates nothing.
+    ///
+    /// Returns None where a name of a file has 2^31 octets or more, and where both times are in one second: the next
+    /// update wouldn't be after this one as they are written. The encoder fits exactly where the contents of the
+    /// manifest have fewer than 2^32 octets.
     pub fn encode(&self) -> Option<ManifestEncoder<'_>>
-        ensures some { IsSome result ↔ CanWriteFiles self.now.files }
+        ensures some { IsSome result ↔ CanWriteManifest self.now }
         ensures octets { IfSome result (λ x. ⟦<ManifestEncoder<'static> as Values>⟧.encoded x
             ≡ manifest_octets self.now) }
+        ensures short { IfSome result (λ x. ⟦<ManifestEncoder<'static> as Values>⟧.is_short x
+            ↔ IsShortManifest self.now) }
+        // What is written is read as this manifest, whose times have no parts of a second.
+        ensures read_back { CanWriteManifest self.now → IsShortManifest self.now → IsManifestReadBack self.now }
     {
+        if !self.is_written_in_order() {
+            return None;
+        }
         match FilesEncoder::new(self.file_list()) {
             Some(files) => Some(Sequence::new((self.encode_front(), encode_listing(files)))),
             None => None,
         }
     }
 
+    /// Whether the next update is after this one as they are written, without parts of a second.
+    fn is_written_in_order(&self) -> bool
+        ensures { IsTrue result ↔ AreInOrder (cut self.now.this_update) (cut self.now.next_update) }
+    {
+        is_less(
+            self.this_update().to_binary_time(),
+            self.next_update().to_binary_time(),
+        )
+    }
+
     /// An encoder for the number and the times.
     #[tactic(auto, unfolding(crate::specs::Encoded::front_octets))]
     fn encode_front(&self) -> Front
-        ensures { ⟦<Front as Values>⟧.encoded result
+        ensures octets { ⟦<Front as Values>⟧.encoded result
             ≡ front_octets self.now.number self.now.this_update self.now.next_update }
+        ensures short { ⟦<Front as Values>⟧.is_short result }
+        ensures number { self.now.number < 2 ^ 159 }
+        ensures this_year { IsTimeYear self.now.this_update.date.year }
+        ensures next_year { IsTimeYear self.now.next_update.date.year }
     {
+        // their clauses say which numbers and years there are
+        let _ = self.manifest_number().into_array();
+        let _ = self.this_update().year();
+        let _ = self.next_update().year();
         (
             self.manifest_number().encode(),
             self.this_update().encode_generalized_time(),

@@ -5,8 +5,9 @@
 //!
 //! [ManifestContent::decode] reads a manifest, and [ManifestContent::find] finds a file in it.
 //! [RouteOriginAttestation::decode] reads a route origin attestation, [RouteOriginAttestation::origins] says what it
-//! authorizes, and [RouteOriginAttestation::is_within] whether that is within resources. [AsProviderAttestation::decode]
-//! reads an attestation of providers. [ManifestView], [RoaView] and [AspaView] read them in place, without memory.
+//! authorizes, and [RouteOriginAttestation::is_within] whether that is within resources.
+//! [AsProviderAttestation::decode] reads an attestation of providers. [ManifestView], [RoaView] and [AspaView] read
+//! them in place, without memory.
 #![tactic(auto)]
 
 mod aspa;
@@ -20,6 +21,7 @@ mod file_name;
 mod file_view;
 mod files_view;
 mod inside;
+pub mod laws;
 mod manifest;
 mod manifest_fields;
 mod manifest_part;
@@ -28,6 +30,7 @@ mod message_digest;
 mod names;
 mod roa;
 mod roa_address;
+mod roa_encoder;
 mod roa_family;
 mod roa_view;
 mod route_origin;
@@ -48,5 +51,8 @@ pub use manifest_view::ManifestView;
 pub use message_digest::MessageDigest;
 pub use roa::RouteOriginAttestation;
 pub use roa_address::RoaIpAddress;
+pub use roa_encoder::{
+    PrefixesEncoder, RoaAddressEncoder, RoaEncoder, RoaFamiliesEncoder, RoaFamilyEncoder,
+};
 pub use roa_view::{AddressCursor, RoaPart, RoaView};
 pub use route_origin::{FriendlyRoaIpAddress, RouteOrigin, RouteOrigins};

@@ -1,6 +1,6 @@
 //! Digests of files and of contents.
 
-ghost use Rattle.std.specs.Prelude.{◌≡◌, false, length};
+ghost use Rattle.std.specs.Prelude.{◌≡◌, ◌≢◌, false, length, IfSome, IfNone};
 ghost use Rattle.rpki_der.specs.Prelude.{left, Takes, bit_string, octets_sized, tlv};
 ghost use Rattle.rpki_contents.specs.ListedFile.{file_hash};
 ghost use Rattle.rpki_contents.specs.Encoded.{hash_contents};
@@ -15,6 +15,17 @@ use std::marker::Model;
 #[derive(Clone, Copy, PartialEq, Eq)]
 pub struct MessageDigest {
     octets: [u8; 32],
+}
+
+/// The octets as an array; None where they aren't thirty-two.
+fn array_of(octets: &[u8]) -> Option<[u8; 32]>
+    ensures octets { IfSome result (λ array. (array ≡ octets.now) × (length octets.now ≡ 32)) }
+    ensures none { IfNone result (length octets.now ≢ 32) }
+{
+    match <[u8; 32]>::try_from(octets) {
+        Ok(array) => Some(array),
+        Err(_) => None,
+    }
 }
 
 impl Model for MessageDigest {
@@ -97,12 +108,12 @@ impl MessageDigest {
         if bits.unused() != 0 {
             return Err(DecodeError::content("digest with unused bits"));
         }
-        match <[u8; 32]>::try_from(bits.octet_slice()) {
-            Ok(octets) => {
+        match array_of(bits.octet_slice()) {
+            Some(octets) => {
                 *cons = after;
                 Ok(MessageDigest { octets })
             }
-            Err(_) => Err(DecodeError::content("digest of another size")),
+            None => Err(DecodeError::content("digest of another size")),
         }
     }
 }

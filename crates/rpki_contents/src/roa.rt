@@ -7,15 +7,15 @@
 //!     ipAddrBlocks  SEQUENCE (SIZE (1..2)) OF ROAIPAddressFamily }
 //! ```
 
-ghost use Rattle.std.specs.Prelude.{◌≡◌};
+ghost use Rattle.std.specs.Prelude.{◌≡◌, ◌<◌, ◌^◌, ◌↔◌, IsSome, IfSome};
 ghost use Rattle.rpki_der.specs.Prelude.{left, Takes, TakesAll, TakesWhole};
 ghost use Rattle.rpki_contents.specs.RoaAddress.{AreAddressesIn};
-ghost use Rattle.rpki_contents.specs.Roa.{fields, fields_of, roa};
+ghost use Rattle.rpki_contents.specs.Roa.{IsAttestation, attestation, fields, fields_of, roa};
 
-use crate::roa_address::RoaIpAddress;
+use crate::roa_address::{RoaIpAddress, are_addresses_in};
 use crate::roa_family::take_families;
 use rpki_der::{Constructed, DecodeError};
-use rpki_resources::take_as_number;
+use rpki_resources::{AddressFamily, take_as_number};
 use std::alloc::Global;
 use std::marker::Model;
 
@@ -38,6 +38,34 @@ impl Model for RouteOriginAttestation {
 }
 
 impl RouteOriginAttestation {
+    /// The attestation that an AS may announce these prefixes, of IP version 4 and of IP version 6. It allocates
+    /// nothing.
+    ///
+    /// Returns None where there is no prefix, or one isn't of its family, as [RoaIpAddress::is_in] tests.
+    pub fn new(
+        as_id: u32,
+        v4_addrs: Vec<RoaIpAddress>,
+        v6_addrs: Vec<RoaIpAddress>,
+    ) -> Option<RouteOriginAttestation>
+        ensures some { IsSome result ↔ IsAttestation (attestation as_id v4_addrs.items v6_addrs.items) }
+        ensures value { IfSome result (λ x. x ≡ attestation as_id v4_addrs.items v6_addrs.items) }
+    {
+        if v4_addrs.is_empty() && v6_addrs.is_empty() {
+            return None;
+        }
+        if !are_addresses_in(AddressFamily::Ipv4, v4_addrs.as_slice()) {
+            return None;
+        }
+        if !are_addresses_in(AddressFamily::Ipv6, v6_addrs.as_slice()) {
+            return None;
+        }
+        Some(RouteOriginAttestation {
+            as_id,
+            v4_addrs,
+            v6_addrs,
+        })
+    }
+
     /// Reads an attestation, in DER: a SEQUENCE of an AS number and of one family of addresses or of two, each once,
     /// each of one prefix at least, as [RoaIpAddress::take_from] reads it; and nothing else. The version, which is 0,
     /// is left out, since it is the default. Where it is `strict`, IP version 4 stands before IP version 6, as in the
@@ -85,7 +113,9 @@ impl RouteOriginAttestation {
 
     /// The AS number that may announce the prefixes.
     pub fn as_id(&self) -> u32
-        ensures { result ≡ self.now.as_id }
+        ensures number { result ≡ self.now.as_id }
+        ensures bound { self.now.as_id < 2 ^ 32 }
+        ensures legal { IsAttestation self.now }
     {
         self.as_id
     }

@@ -8,8 +8,9 @@
 
 ghost use Rattle.std.specs.Prelude.{◌↔◌, ◌≤◌, IsTrue};
 ghost use Rattle.rpki_der.specs.Prelude.{left, integer, sequence, around, Takes, TakesAll, TakesWhere};
-ghost use Rattle.rpki_resources.specs.Address.{width};
-ghost use Rattle.rpki_contents.specs.RoaAddress.{IsMaxLength, address_parts, max_length, parts_of, roa_address};
+ghost use Rattle.rpki_resources.specs.Address.{width, IsAddressOf};
+ghost use Rattle.rpki_contents.specs.RoaAddress.{AreAddressesIn, IsAddressIn, IsMaxLength, address_parts, max_length};
+ghost use Rattle.rpki_contents.specs.RoaAddress.{parts_of, roa_address};
 
 use rpki_der::{Constructed, DecodeError, Tag};
 use rpki_resources::{Address, AddressFamily};
@@ -52,6 +53,19 @@ fn take_parts(
     )
 }
 
+/// Whether the bits are of an address of the family: no more than it has, and no more than these make the number.
+fn is_address_of(family: AddressFamily, address: Address) -> bool
+    ensures { IsTrue result ↔ IsAddressOf (width family) address }
+{
+    if address.size > family.width() {
+        return false;
+    }
+    if address.size == 128 {
+        return true;
+    }
+    address.number < 1u128 << address.size
+}
+
 /// Whether a maximum length, where there is one, is from this length to that of an address of the family.
 fn is_max_length(family: AddressFamily, length: u8, max_length: Option<u8>) -> bool
     ensures { IsTrue result ↔ IsMaxLength (width family) length max_length }
@@ -62,7 +76,30 @@ fn is_max_length(family: AddressFamily, length: u8, max_length: Option<u8>) -> b
     }
 }
 
+/// Whether each is a prefix of the family, as [RoaIpAddress::is_in] tests.
+pub(crate) fn are_addresses_in(family: AddressFamily, addresses: &[RoaIpAddress]) -> bool
+    ensures { IsTrue result ↔ AreAddressesIn (width family) addresses.now }
+{
+    let mut rest = addresses;
+    'each: while let Some((first, following)) = rest.split_first() {
+        if !first.is_in(family) {
+            return false;
+        }
+        rest = following;
+    }
+    true
+}
+
 impl RoaIpAddress {
+    /// Whether this is a prefix of the family: its bits are of an address of it, and its maximum length, where there is
+    /// one, is from the prefix's length to that of an address (RFC 9582 4.3.2).
+    pub fn is_in(self, family: AddressFamily) -> bool
+        ensures { IsTrue result ↔ IsAddressIn (width family) self }
+    {
+        is_address_of(family, self.prefix)
+            && is_max_length(family, self.prefix.size, self.max_length)
+    }
+
     /// Reads a prefix: a SEQUENCE of a BIT STRING of at most as many bits as an address of the family has, and of a
     /// maximum length from the prefix's length to that of an address, which may be left out; and nothing else. A
     /// maximum length that is the prefix's is taken, although it should be left out (RFC 9582 4.3.2.2). Allocates

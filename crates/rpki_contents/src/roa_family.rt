@@ -65,7 +65,7 @@ fn take_listed(
 }
 
 /// Whether there is no prefix.
-fn are_none(addresses: &[RoaIpAddress]) -> bool
+pub(crate) fn are_none(addresses: &[RoaIpAddress]) -> bool
     ensures { IsTrue result ↔ (addresses.now ≡ []) }
 {
     addresses.is_empty()

@@ -78,8 +78,9 @@ fn or_length(length: u8, max_length: Option<u8>) -> u8
 }
 
 impl RoaIpAddress {
-    /// The prefix of the family, and its maximum length. Requires that the bits are of an address of the family, as
-    /// those of [RouteOriginAttestation::v4_addrs] and [RouteOriginAttestation::v6_addrs] are.
+    /// The prefix of the family, and its maximum length. Requires that it is a prefix of the family, as
+    /// [RoaIpAddress::is_in] tests; those of [RouteOriginAttestation::v4_addrs] and [RouteOriginAttestation::v6_addrs]
+    /// are.
     pub fn friendly(self, family: AddressFamily) -> FriendlyRoaIpAddress
         requires { IsAddressIn (width family) self }
         ensures { result ≡ friendly family self }

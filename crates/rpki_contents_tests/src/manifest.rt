@@ -4,3 +4,4 @@ mod changed;
 mod reading;
 mod refused;
 mod sizes;
+mod written;

@@ -4,6 +4,7 @@ mod accepted;
 mod hostile;
 mod sizes;
 mod within;
+mod written;
 
 use crate::hexadecimal::octets_of;
 use rpki_contents::{AddressCursor, RoaIpAddress, RoaPart, RoaView, RouteOriginAttestation};

@@ -2,6 +2,7 @@
 
 use bytes::Bytes;
 use rpki_contents::{ManifestContent, ManifestView};
+use rpki_der::{Captured, Values};
 use std::alloc::{AllocError, Global};
 use std::test::Fail;
 
@@ -133,5 +134,38 @@ fn a_hundred_thousand_files_are_kept(rt: HostRuntime) -> Result<(), Fail> {
 fn a_hundred_thousand_files_are_seen(rt: HostRuntime) -> Result<(), Fail> {
     let octets = manifest_of(rt.alloc(), MANY, false)?;
     assert!(rt; is_seen(rt.alloc(), &octets, MANY, false)?);
+    Ok(())
+}
+
+/// How many files are written: the most are a million octets.
+const WRITTEN: [usize; 7] = [0, 1, 127, 128, 255, 256, 19_608];
+
+fn written_sizes() -> &'static [usize] {
+    &WRITTEN
+}
+
+/// Whether a manifest of so many files is written as the octets that it was read from.
+fn is_written(alloc: Global, octets: &[u8]) -> Result<bool, Fail> {
+    let bytes = Bytes::copy_from_slice(alloc, octets)?;
+    let content = ManifestContent::decode(alloc, bytes)?;
+    match content.encode() {
+        Some(values) => {
+            if !values.fits() {
+                return Ok(false);
+            }
+            let length = values.encoded_len();
+            let written = Captured::from_values(alloc, &values)?;
+            Ok(length == octets.len() as u64 && written.as_slice() == octets)
+        }
+        None => Ok(false),
+    }
+}
+
+#[test]
+fn manifests_of_many_files_are_written(rt: HostRuntime) -> Result<(), Fail> {
+    for files in written_sizes() {
+        let octets = manifest_of(rt.alloc(), *files, false)?;
+        assert!(rt; is_written(rt.alloc(), &octets)?, "{files}");
+    }
     Ok(())
 }

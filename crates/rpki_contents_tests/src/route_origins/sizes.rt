@@ -1,5 +1,6 @@
-//! Real sizes: attestations of up to 100,000 prefixes.
+//! Real sizes: attestations of up to 111,112 prefixes, which are a million octets.
 
+use super::written::is_written_as;
 use super::*;
 
 /// How many prefixes an attestation has.
@@ -110,6 +111,40 @@ fn is_read(alloc: Global, count: u32) -> Result<bool, AllocError> {
 fn large_attestations(rt: HostRuntime) -> Result<(), Fail> {
     for count in counts() {
         assert!(rt; is_read(rt.alloc(), *count)?, "{count}");
+    }
+    Ok(())
+}
+
+/// How many prefixes are written, of nine octets each: from below 128 octets to a million.
+const WRITTEN: [u32; 9] = [1, 14, 15, 127, 128, 256, 7_281, 7_282, 111_112];
+
+fn written_counts() -> &'static [u32] {
+    &WRITTEN
+}
+
+/// Whether an attestation of this many addresses is made, and is written as it has to be.
+fn is_written(alloc: Global, count: u32) -> Result<bool, AllocError> {
+    let octets = prefixes(alloc, count)?;
+    let mut addresses = Vec::new(alloc);
+    for index in 0..count {
+        addresses.push(RoaIpAddress {
+            prefix: Address {
+                number: u128::from(index),
+                size: 32,
+            },
+            max_length: None,
+        })?;
+    }
+    match RouteOriginAttestation::new(5, addresses, Vec::new(alloc)) {
+        Some(found) => is_written_as(alloc, &found, octets.as_slice()),
+        None => Ok(false),
+    }
+}
+
+#[test]
+fn large_attestations_are_written(rt: HostRuntime) -> Result<(), Fail> {
+    for count in written_counts() {
+        assert!(rt; is_written(rt.alloc(), *count)?, "{count}");
     }
     Ok(())
 }

@@ -13,16 +13,14 @@ returns-then-unused-ne0 c =
     malformed IsFileHash bits_value _ c.content.ensures c.in-Ok.ensures
     (λ v h. c.if-unused-ne0.true (c.unused.ensures.value ∙ h.used))
 
-pub returns-in-Ok-try_from : goal.returns-in-Ok-try_from
-returns-in-Ok-try_from c =
-    let chunk = c.in-Ok-try_from.ensures.1 in
-    let same = rw c.octet_slice.ensures at chunk.same in
-    let long = rw c.octet_slice.ensures at chunk.long in
-    such-read IsFileHash bits_value c.in-Ok-try_from.octets c.in-Ok.ensures
-    (record { octets = same; used = sym c.unused.ensures.value ∙ c.if-unused-ne0.false; size = long })
-    (λ w h. h.octets ∙ sym same)
+pub returns-in-Some : goal.returns-in-Some
+returns-in-Some c =
+    let found = rw c.octet_slice.ensures at c.in-Some.ensures.octets in
+    such-read IsFileHash bits_value c.in-Some.octets c.in-Ok.ensures
+    (record { octets = found.0; used = sym c.unused.ensures.value ∙ c.if-unused-ne0.false; size = found.1 })
+    (λ w h. h.octets ∙ sym found.0)
 
-pub returns-in-Err-try_from : goal.returns-in-Err-try_from
-returns-in-Err-try_from c =
-    let other = rw c.octet_slice.ensures at c.in-Err-try_from.ensures.1 in
-    malformed IsFileHash bits_value _ c.content-in-Err-try_from.ensures c.in-Ok.ensures (λ v h. other h.size)
+pub returns-in-None : goal.returns-in-None
+returns-in-None c =
+    let other = rw c.octet_slice.ensures at c.in-None.ensures.none in
+    malformed IsFileHash bits_value _ c.content-in-None.ensures c.in-Ok.ensures (λ v h. other h.size)
