@@ -8,7 +8,8 @@ use Rattle.rpki_der.specs.Format.{Format}
 use Rattle.rpki_der.specs.Reading.{Spells, Accepts, Refusal}
 use Rattle.rpki_der.proofs.ReadingLaws.{UnlessMemory-weaker, UnlessMemory-from}
 use Rattle.rpki.specs.UnknownAlgorithm.{IsContentWith}
-use Rattle.rpki_objects.specs.SignedAttributes.{Attribute, AttributeValues, AttributesParts, AreSigned, SayAll, AreOthers}
+use Rattle.rpki_objects.specs.SignedAttributes.{Attribute, AttributeValues, AttributesParts, AreSigned, SayAll}
+use Rattle.rpki_objects.specs.SignedAttributes.{AreOthers}
 use Rattle.rpki_objects.specs.SignedAttributes.{message_of, with_octets, attribute_list, signed_attributes}
 use Rattle.rpki_objects.proofs.StandingForLaws.{none-there, none-stands, one-stands}
 
@@ -51,7 +52,8 @@ module _ (strict : Bool) (s : List ℕ) where
   -- there are no attributes
   pub no-list : (r : List ℕ) (e : DecodeError) → Refusal attribute_list.spells attribute_list.fault s r e → Unread e
   no-list r e h =
-      none-there (SayAll strict) (with_octets attribute_list).spells (with_octets attribute_list).fault (AreOthers strict)
+      none-there (SayAll strict) (with_octets attribute_list).spells (with_octets attribute_list).fault
+      (AreOthers strict)
       (octets-refused attribute_list s r e h)
 
   module _ (r : List ℕ) (xs : List Attribute) (a : Accepts attribute_list.spells s xs r) where
@@ -60,7 +62,8 @@ module _ (strict : Bool) (s : List ℕ) where
         → IsContentWith (codes "signed attributes that no signed object has") e → Unread e
     others none e text =
         let not : (v : AttributesParts) → SayAll strict v (a.spells.front, xs) → ⊥ = λ v h. none v.values h.values in
-        none-stands (SayAll strict) (with_octets attribute_list).spells (with_octets attribute_list).fault (AreOthers strict)
+        none-stands (SayAll strict) (with_octets attribute_list).spells (with_octets attribute_list).fault
+        (AreOthers strict)
         (octets-too attribute_list s r xs a) (UnlessMemory-from e not) (inl (not, text))
 
     module _ (v : AttributeValues) (say : AreSigned strict xs v) where

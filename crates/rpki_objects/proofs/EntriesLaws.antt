@@ -1,5 +1,6 @@
 -- The entries of a revocation list, read in place.
-use Rattle.std.proofs.Common.{◌≡◌, ◌≢◌, ◌∙◌, ◌++◌, ℕ, Bool, true, false, List, [], ◌∷◌, refl, sym, ap, subst, Result, Ok, Err}
+use Rattle.std.proofs.Common.{◌≡◌, ◌≢◌, ◌∙◌, ◌++◌, ℕ, Bool, true, false, List, [], ◌∷◌, refl, sym, ap, subst, Result}
+use Rattle.std.proofs.Common.{Ok, Err}
 use Rattle.std.proofs.Common.{IsTrue}
 use Rattle.std.proofs.lemmas.Bool.{false≢true}
 use Rattle.std.specs.Prelude.{◌||◌, ◌↔◌, nat_eq}
@@ -60,7 +61,8 @@ entries-nothing : (s : List ℕ) (e : DecodeError) → RepeatedFault entry.spell
 entries-nothing s e (AtMember some none k) [] h = some h
 entries-nothing s e (AtMember some none k) (x ∷ xs) h =
     unless-memory e (λ z. entry-no-memory s (subst (entry.fault s) z k)) none x h.0 h.1
-entries-nothing s e (AfterMember v r a k) [] h = nothing-first a.spells.front r v (sym h ∙ a.spells.parts) a.spells.spelled
+entries-nothing s e (AfterMember v r a k) [] h =
+    nothing-first a.spells.front r v (sym h ∙ a.spells.parts) a.spells.spelled
 entries-nothing s e (AfterMember v r a k) (x ∷ xs) h =
     entries-nothing r e k xs (subst (each_entry.spells xs) (a.only x h.0 h.1).1 h.2)
 
@@ -131,5 +133,6 @@ module _ (s c r : List ℕ) (a : Accepts (SpellsContents sequence true) s c r) w
 pub no-sequence : (s r : List ℕ) (e : DecodeError)
     → Refusal (SpellsContents sequence true) (IsContentsFault sequence true) s r e → Refuses entries.spells s
 no-sequence s r e h xs q k =
-    unless-memory e (λ z. contents-no-memory sequence true s OutOfMemory (subst (IsContentsFault sequence true s) z h.kind) refl)
+    unless-memory e (λ z. contents-no-memory sequence true s OutOfMemory
+    (subst (IsContentsFault sequence true s) z h.kind) refl)
     h.refuses k.spelled.contents q (record { front = k.front; parts = k.parts; spelled = k.spelled.value })

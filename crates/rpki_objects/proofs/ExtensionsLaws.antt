@@ -9,9 +9,10 @@ use Rattle.rpki_der.proofs.LeavesLaws.{leaf-no-memory}
 use Rattle.rpki_der.proofs.FirstFaultLaws.{inside-no-memory, first-no-memory, end-no-memory}
 use Rattle.rpki.specs.ExtensionValue.{ExtensionParts}
 use Rattle.rpki.specs.KeyIdentifier.{IsKeyIdentifier}
-use Rattle.rpki_cert.specs.ExtensionContent.{identifier_tag, SpellsTagged, IsTaggedFault, IsAuthorityFault}
+use Rattle.rpki_cert.specs.ExtensionContent.{identifier_tag, SpellsTagged}
 use Rattle.rpki_cert.specs.Known.{authority_key_identifier}
 use Rattle.rpki_objects.specs.Crl.{ListExtensions, IsAuthority, IsCrlNumber, AreExtensions, crl_number}
+use Rattle.rpki_cert.specs.ExtensionContent.{authority_content, tagged_identifier}
 
 pub some-weaker : {A : Type 0} {P Q : A → Type 0} (r : Option A) → ((a : A) → P a → Q a) → IfSome r P → IfSome r Q
 some-weaker None f h = h
@@ -26,10 +27,10 @@ none-as None p = p
 none-as (Some a) p = tt
 
 -- an authority key identifier takes no memory
-pub authority-no-memory : (s : List ℕ) → IsAuthorityFault s OutOfMemory → ⊥
+pub authority-no-memory : (s : List ℕ) → authority_content.fault s OutOfMemory → ⊥
 authority-no-memory s h =
-    inside-no-memory sequence true (FirstFault SpellsTagged IsTaggedFault (λ v. IsEndFault)) s
-    (λ d k. first-no-memory SpellsTagged IsTaggedFault (λ v. IsEndFault) d
+    inside-no-memory sequence true (FirstFault SpellsTagged tagged_identifier.fault (λ v. IsEndFault)) s
+    (λ d k. first-no-memory SpellsTagged tagged_identifier.fault (λ v. IsEndFault) d
     (λ l. leaf-no-memory identifier_tag false IsKeyIdentifier d OutOfMemory l refl) (λ v r l. end-no-memory r l) k) h
 
 -- what they say, from the parts

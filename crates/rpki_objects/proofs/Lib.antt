@@ -9,8 +9,13 @@
 -- TogetherLaws. Signed objects that are read in place, and what is wrong with others: ObjectViewLaws, ObjectWrongLaws.
 -- Signed objects of one type: TypedObjectLaws. Rules, one after another: RulesLaws.
 -- What is written: WrittenLaws. A revocation list that is written, and that it is read: ListWritingLaws, ListReadLaws.
+-- Signed attributes that are written: their order, that they are values, and that they are read: AttributesOrderLaws,
+-- AttributesWritingLaws, AttributesReadLaws. Signed objects: ObjectWritingLaws, ObjectReadLaws.
 
 pub mod AttributesLaws
+pub mod AttributesOrderLaws
+pub mod AttributesReadLaws
+pub mod AttributesWritingLaws
 pub mod CrlLaws
 pub mod CrlViewLaws
 pub mod EntriesLaws
@@ -22,8 +27,10 @@ pub mod ListReadLaws
 pub mod ListValueLaws
 pub mod ListViewLaws
 pub mod ListWritingLaws
+pub mod ObjectReadLaws
 pub mod ObjectVerifiedLaws
 pub mod ObjectViewLaws
+pub mod ObjectWritingLaws
 pub mod ObjectWrongLaws
 pub mod RulesLaws
 pub mod SoughtLaws

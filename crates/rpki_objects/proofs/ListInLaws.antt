@@ -53,7 +53,8 @@ module _ (s r : List ℕ) (d : SignedParts Bool) (a : Accepts SpellsWhole s d r)
 
     module _ (end : q ≡ []) where
       one : (y : CrlParts) → IsListIn y d → y.list ≡ x
-      one y h = ap list_from ((all-read tbs_cert_list.spells d.signed (fields_of x) q b end).1 (fields_of y.list) h.list)
+      one y h = ap list_from ((all-read tbs_cert_list.spells d.signed (fields_of x) q b end).1 (fields_of y.list)
+          h.list)
 
       -- the algorithms differ
       pub differ : (e : DecodeError) → (x.algorithm ≡ d.algorithm → ⊥)

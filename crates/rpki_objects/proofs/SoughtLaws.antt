@@ -49,10 +49,11 @@ module _ {V : Type 0} (F : Format V) where
   module _ (vs : List (List ℕ)) (c : List ℕ) (one : vs ≡ c ∷ []) where
     pub once-one : {X : Type 0} (view : X → V) (o : Option X) → FindsOne view (λ v. F.spells v c) o
         → FindsOne view (IsOnce F vs) o
-    once-one {X = X} view o h = subst (λ (cs : List (List ℕ)). FindsOne view (IsOnce F cs) o) (sym one) (finds o h) where
-      finds : (o : Option X) → FindsOne view (λ v. F.spells v c) o → FindsOne view (IsOnce F (c ∷ [])) o
-      finds None h = h
-      finds (Some x) h = h
+    once-one {X = X} view o h = subst (λ (cs : List (List ℕ)). FindsOne view (IsOnce F cs) o) (sym one) (finds o h)
+      where
+        finds : (o : Option X) → FindsOne view (λ v. F.spells v c) o → FindsOne view (IsOnce F (c ∷ [])) o
+        finds None h = h
+        finds (Some x) h = h
 
     there : (v : V) → F.spells v c → IsOnce F vs v
     there v h = subst (λ (cs : List (List ℕ)). IsOnce F cs v) (sym one) h

@@ -1,5 +1,6 @@
 -- Certificate revocation lists (RFC 5280 5.1, in the profile of RFC 6487 5).
-use Rattle.std.specs.Prelude.{◌≡◌, ◌⊎◌, ℕ, Bool, false, List, [], ◌∷◌, map, Option, None, Some, Vec, codes, nat_eq, ◌||◌}
+use Rattle.std.specs.Prelude.{◌≡◌, ◌⊎◌, ℕ, Bool, false, List, [], ◌∷◌, map, Option, None, Some, Vec, codes, nat_eq}
+use Rattle.std.specs.Prelude.{◌||◌}
 use Rattle.jiff.specs.Types.{DateTime}
 use Rattle.rpki_der.specs.declared.error.DecodeError.{DecodeError}
 use Rattle.rpki_der.specs.declared.tag.Class.TheVariants.{Context}

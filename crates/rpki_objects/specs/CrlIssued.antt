@@ -18,8 +18,8 @@ IsValidAt v at = IsAuthorityAt v.by at (holder v.cert v.resources)
 abbrev pub IsOutAt : DateTime → CrlParts → Type 0
 IsOutAt at x = civil_nanos x.list.this_update ≤ℤ civil_nanos at
 
--- the verified authority has signed the list, under its name and by the key that the list names, by the moment, at which
--- all certificates of its path hold
+-- the verified authority has signed the list, under its name and by the key that the list names, by the moment, at
+-- which all certificates of its path hold
 pub record IsIssuedBy (issuer : Verified) (at : DateTime) (x : CrlParts) : Type 0 where
   pub period : HoldsAt issuer.period at
   pub signature : IsSignedBy issuer.by.rsa issuer.by.ecdsa issuer.cert.tbs.key x.signed

@@ -1,5 +1,6 @@
 -- Revocation lists that are read in place: what stands where, and which part is wrong (RFC 5280 5.1).
-use Rattle.std.specs.Prelude.{◌≡◌, ◌⊎◌, ◌++◌, ◌||◌, ℕ, Bool, true, List, [], Option, None, Some, Result, Ok, Err, nat_eq}
+use Rattle.std.specs.Prelude.{◌≡◌, ◌⊎◌, ◌++◌, ◌||◌, ℕ, Bool, true, List, [], Option, None, Some, Result, Ok, Err}
+use Rattle.std.specs.Prelude.{nat_eq}
 use Rattle.rpki_der.specs.declared.error.DecodeError.{DecodeError}
 use Rattle.rpki_der.specs.Prelude.{sequence, Accepts, Refuses, Spells, SpellsNothing, SpellsContents, SpellsEach}
 use Rattle.rpki_der.specs.Prelude.{HasTag, IsValue, TakesNoMemory, this_number, only}

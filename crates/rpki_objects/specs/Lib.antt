@@ -2,7 +2,9 @@
 pub mod Crl
 pub mod CrlIssued
 pub mod CrlView
+pub mod EncodedAttributes
 pub mod EncodedCrl
+pub mod EncodedObject
 pub mod ObjectResources
 pub mod ObjectVerified
 pub mod Processed

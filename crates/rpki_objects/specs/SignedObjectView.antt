@@ -17,7 +17,8 @@ use Rattle.rpki_objects.specs.declared.signed_object_view.SignedObjectView.{Sign
 use Rattle.rpki_objects.specs.SignedAttributes.{Attribute, AttributeValues, AttributesParts, AreSigned, each_attribute}
 use Rattle.rpki_objects.specs.SignedAttributes.{message_of, signed_attributes, values_known}
 use Rattle.rpki_objects.specs.SignedObject.{zero_tag, kept_octets, ContentParts, content_fields_of, encapsulated}
-use Rattle.rpki_objects.specs.SignedObject.{SignerParts, signer_fields_of, signer_identifier, signer_fields, signer_infos}
+use Rattle.rpki_objects.specs.SignedObject.{SignerParts, signer_fields_of, signer_identifier, signer_fields}
+use Rattle.rpki_objects.specs.SignedObject.{signer_infos}
 use Rattle.rpki_objects.specs.SignedObject.{ObjectParts, data_fields_of, data_fields, signed_data_type}
 use Rattle.rpki_objects.specs.SignedObject.{object_fields_of, signed_object}
 

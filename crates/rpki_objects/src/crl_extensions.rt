@@ -2,11 +2,12 @@
 
 ghost use Rattle.std.specs.Prelude.{◌≡◌, ◌↔◌, ℕ, List, [], ◌∷◌, false, IsTrue, IfSome, IfNone};
 ghost use Rattle.rpki_der.specs.Prelude.{left, Decodes, Takes, TakesAll};
-ghost use Rattle.rpki_cert.specs.ExtensionContent.{SpellsAuthority, IsWholeAuthorityFault};
+ghost use Rattle.rpki_cert.specs.ExtensionContent.{SpellsAuthority};
 ghost use Rattle.rpki_objects.specs.Crl.{AreExtensions, IsAuthority, IsCrlNumber, ListExtensions, extensions_of};
 ghost use Rattle.rpki_objects.specs.Crl.{each_extension, extension_list, known_extensions, extensions};
 ghost use Rattle.rpki_objects.specs.CrlView.{AreTwo};
 ghost use Rattle.rpki_cert.specs.View.{IsWholeOf};
+ghost use Rattle.rpki_cert.specs.ExtensionContent.{WholeFault, authority_content};
 
 use rpki::crypto::KeyIdentifier;
 use rpki::der::{Class, Constructed, DecodeError, Keep, Oid, Tag};
@@ -35,7 +36,7 @@ fn is_plain(extension: &ExtensionView<'_>, id: Oid<&[u8]>) -> bool
 
 /// The identifier of an issuer's key that the octets are.
 fn identifier_of(octets: Constructed<'_>) -> Result<KeyIdentifier, DecodeError>
-    ensures { Decodes (λ k. k) SpellsAuthority IsWholeAuthorityFault (left octets.entry) result }
+    ensures { Decodes (λ k. k) SpellsAuthority (WholeFault authority_content) (left octets.entry) result }
 {
     octets.whole(|cons| take_authority(cons))
 }

@@ -57,8 +57,8 @@ pub(crate) fn take_revoked<'a>(cons: &mut Constructed<'a>) -> Option<Section<'a>
 }
 
 /// Whether one of these entries, which stand one after another, has this serial number: the contents octets of the list
-/// of revoked certificates, as [CrlView](crate::CrlView) has them. All of them are read. Allocates nothing; takes a step
-/// an entry.
+/// of revoked certificates, as [CrlView](crate::CrlView) has them. All of them are read. Allocates nothing; takes a
+/// step an entry.
 ///
 /// The errors are those of the first that is no entry: of [CrlEntry::take_from].
 pub fn entries_contain(entries: &[u8], serial: Serial) -> Result<bool, DecodeError>

@@ -45,7 +45,11 @@ pub use crl_extensions::CrlExtensions;
 pub use crl_part::CrlPart;
 pub use crl_view::CrlView;
 pub use encapsulated::EncapsulatedContent;
-pub use encode::{ContextZeroFrame, CrlExtensionsEncoder, TbsCertListEncoder};
+pub use encode::{
+    AttributesBuilder, ContextZeroFrame, CrlExtensionsEncoder, DataContents, MessageEncoder,
+    SignedAttrsEncoder, SignedObjectBuilder, SignedObjectEncoder, SignedObjectParts,
+    SignerContents, TbsCertListEncoder,
+};
 pub use entries::entries_contain;
 pub use known_attributes::KnownAttributes;
 pub use list_view::TbsListView;

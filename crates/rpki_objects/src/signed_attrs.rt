@@ -76,10 +76,10 @@ fn message_before(alloc: Global, octets: &[u8], following: &[u8]) -> Result<Byte
 }
 
 impl SignedAttrs {
-    /// Reads signed attributes, under the implicit tag 0: a content type and a message digest, once each, a signing time
-    /// and a binary signing time, at most once each, and no others; each has one value (RFC 6488 2.1.6.4). If `strict`,
-    /// the signing time has to be there, and the binary signing time is rejected (RFC 9589 4). The attributes may stand
-    /// in any order. What is signed and the content type are copied.
+    /// Reads signed attributes, under the implicit tag 0: a content type and a message digest, once each, a signing
+    /// time and a binary signing time, at most once each, and no others; each has one value (RFC 6488 2.1.6.4). If
+    /// `strict`, the signing time has to be there, and the binary signing time is rejected (RFC 9589 4). The attributes
+    /// may stand in any order. What is signed and the content type are copied.
     ///
     /// The errors are those of the tag; then those of [AttributeView::take_from] for the first that is none; then
     /// `Content` with the text `signed attributes that no signed object has`; and `OutOfMemory` if allocation fails. An

@@ -59,12 +59,13 @@ fn take_data<K: Keep>(
 impl SignedObject {
     /// Reads a signed object (RFC 6488 2), in DER: one digest algorithm, which is SHA-256; one certificate; no
     /// revocation lists; one signer, whose key is named by its identifier, with signed attributes as
-    /// [SignedAttrs::take_from](crate::SignedAttrs::take_from) reads them, and without unsigned attributes. An allocator
-    /// copies the octets, and [Shared](rpki::der::Shared) shares them; requires that `keep` can keep parts of what is
-    /// left.
+    /// [SignedAttrs::take_from](crate::SignedAttrs::take_from) reads them, and without unsigned attributes. An
+    /// allocator copies the octets, and [Shared](rpki::der::Shared) shares them; requires that `keep` can keep parts of
+    /// what is left.
     ///
-    /// The errors are those of a SEQUENCE; then that of the leftmost part that could not be read, of the parts in it, in
-    /// turn, or `Trailing` if more follows; `OutOfMemory` if allocation fails. An error leaves the cursor where it was.
+    /// The errors are those of a SEQUENCE; then that of the leftmost part that could not be read, of the parts in it,
+    /// in turn, or `Trailing` if more follows; `OutOfMemory` if allocation fails. An error leaves the cursor where it
+    /// was.
     pub fn take_from<K: Keep>(
         keep: K,
         strict: bool,

@@ -10,3 +10,5 @@ mod objects;
 mod process;
 #[cfg(test)]
 mod provider;
+#[cfg(test)]
+mod written;

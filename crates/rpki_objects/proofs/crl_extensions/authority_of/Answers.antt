@@ -1,11 +1,13 @@
 use Rattle.rpki_der.proofs.FirstFaultLaws.{whole-no-memory}
 use Rattle.rpki_der.proofs.InsideLaws.{unless-memory}
-use Rattle.rpki_cert.specs.ExtensionContent.{SpellsAuthority, IsAuthorityFault}
+use Rattle.rpki_cert.specs.ExtensionContent.{SpellsAuthority}
 use Rattle.rpki_objects.proofs.ExtensionsLaws.{authority-no-memory}
 use Rattle.rpki_objects.proofs.crl_extensions.authority_of.Goals as goal
+use Rattle.rpki_cert.specs.ExtensionContent.{authority_content}
 
 pub returns-in-Ok-clause-only : goal.returns-in-Ok-clause-only
-returns-in-Ok-clause-only c j h = let d = rw (c.from_slice.ensures, c.octets.ensures) at c.in-Ok.ensures in d.1 j h.content
+returns-in-Ok-clause-only c j h = let d = rw (c.from_slice.ensures, c.octets.ensures)
+    at c.in-Ok.ensures in d.1 j h.content
 
 pub returns-in-Err-clause-none : goal.returns-in-Err-clause-none
 returns-in-Err-clause-none c k h =
@@ -13,4 +15,4 @@ returns-in-Err-clause-none c k h =
     let octets = c.args.extension.now.content in
     let never = authority-no-memory octets in
     unless-memory c.in-Err.field-0
-    (whole-no-memory SpellsAuthority IsAuthorityFault octets c.in-Err.field-0 never d.1) d.0 k h.content
+    (whole-no-memory SpellsAuthority authority_content.fault octets c.in-Err.field-0 never d.1) d.0 k h.content

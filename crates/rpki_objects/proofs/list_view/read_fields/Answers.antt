@@ -19,24 +19,28 @@ returns-in-None-clause-err c =
 
 pub returns-in-Err-take_from-clause-err : goal.returns-in-Err-take_from-clause-err
 returns-in-Err-take_from-clause-err c =
-    Later _ _ c.in-Ok.ensures.spells (Later _ _ c.in-Ok-x509_take_from.ensures.spells (Later _ _ c.in-Some.ensures.1.spells
+    Later _ _ c.in-Ok.ensures.spells (Later _ _ c.in-Ok-x509_take_from.ensures.spells
+    (Later _ _ c.in-Some.ensures.1.spells
     (AtPart (time-refused _ _ c.in-Err-take_from.field-0 c.in-Err-take_from.ensures) refl)))
 
 pub returns-in-Err-take_from-2-clause-err : goal.returns-in-Err-take_from-2-clause-err
 returns-in-Err-take_from-2-clause-err c =
-    Later _ _ c.in-Ok.ensures.spells (Later _ _ c.in-Ok-x509_take_from.ensures.spells (Later _ _ c.in-Some.ensures.1.spells
+    Later _ _ c.in-Ok.ensures.spells (Later _ _ c.in-Ok-x509_take_from.ensures.spells
+    (Later _ _ c.in-Some.ensures.1.spells
     (Later _ _ c.in-Ok-take_from.ensures.spells
     (AtPart (time-refused _ _ c.in-Err-take_from-2.field-0 c.in-Err-take_from-2.ensures) refl))))
 
 pub returns-in-None-take_revoked-clause-err : goal.returns-in-None-take_revoked-clause-err
 returns-in-None-take_revoked-clause-err c =
-    Later _ _ c.in-Ok.ensures.spells (Later _ _ c.in-Ok-x509_take_from.ensures.spells (Later _ _ c.in-Some.ensures.1.spells
+    Later _ _ c.in-Ok.ensures.spells (Later _ _ c.in-Ok-x509_take_from.ensures.spells
+    (Later _ _ c.in-Some.ensures.1.spells
     (Later _ _ c.in-Ok-take_from.ensures.spells (Later _ _ c.in-Ok-take_from-2.ensures.spells
     (revoked-wrong _ c.in-None-take_revoked.ensures)))))
 
 pub returns-in-None-read_extensions-clause-err : goal.returns-in-None-read_extensions-clause-err
 returns-in-None-read_extensions-clause-err c =
-    Later _ _ c.in-Ok.ensures.spells (Later _ _ c.in-Ok-x509_take_from.ensures.spells (Later _ _ c.in-Some.ensures.1.spells
+    Later _ _ c.in-Ok.ensures.spells (Later _ _ c.in-Ok-x509_take_from.ensures.spells
+    (Later _ _ c.in-Some.ensures.1.spells
     (Later _ _ c.in-Ok-take_from.ensures.spells (Later _ _ c.in-Ok-take_from-2.ensures.spells
     (extensions-wrong _ _ _ c.in-Some-take_revoked.ensures c.in-None-read_extensions.ensures)))))
 

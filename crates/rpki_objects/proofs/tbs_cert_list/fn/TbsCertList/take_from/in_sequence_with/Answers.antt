@@ -30,7 +30,8 @@ pub returns-in_err-revoked_certs : goal.returns-in_err-revoked_certs
 returns-in_err-revoked_certs g c =
     tried fields_in fields _ _ c.from_residual-in_err-revoked_certs.ensures
     (after c.in_ok-skip_u8_if.ensures (after c.in-Ok.ensures (after c.in_ok-issuer.ensures
-    (after c.in-Ok-take_from.ensures (after c.in-Ok-take_from-2.ensures (perhaps apart c.in_err-revoked_certs.ensures))))))
+    (after c.in-Ok-take_from.ensures (after c.in-Ok-take_from-2.ensures
+    (perhaps apart c.in_err-revoked_certs.ensures))))))
 
 pub returns-in-Err-take_from-3 : goal.returns-in-Err-take_from-3
 returns-in-Err-take_from-3 g c =
@@ -56,5 +57,6 @@ take_from-requires-4 g c =
     let issuer = held-after holds law keep c.in_ok-issuer.ensures signature in
     let this = held-after holds law keep c.in-Ok-take_from.ensures issuer in
     let next = held-after holds law keep c.in-Ok-take_from-2.ensures this in
-    held-where holds law (HasTag sequence) entries_of entries.spells entries.fault c.in_ok-revoked_certs.revoked_certs keep
+    held-where holds law (HasTag sequence) entries_of entries.spells entries.fault c.in_ok-revoked_certs.revoked_certs
+    keep
     c.in_ok-revoked_certs.ensures next
