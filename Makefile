@@ -2,7 +2,8 @@
 #
 #   make              the archive, and the shared library made of it, in LIB
 #   make check        links the example and the worked rows by CC, and runs them
-#   make install      header, archive, shared library, rpki.pc [PREFIX=/usr/local] [LIBDIR=PREFIX/lib] [DESTDIR=]
+#   make install      header, archive, shared library, rpki.pc, the page rpki(3)
+#                     [PREFIX=/usr/local] [LIBDIR=PREFIX/lib] [MANDIR=PREFIX/share/man] [DESTDIR=]
 #   make uninstall    removes these, by the same variables
 #   make dist         in a clone: the package, in bindings/out/dist [ARCHIVES=FOLDER of archives that were made]
 #
@@ -15,6 +16,7 @@ TARGET ?= $(firstword $(subst -, ,$(shell $(CC) -dumpmachine)))
 PREFIX ?= /usr/local
 INCLUDEDIR ?= $(PREFIX)/include
 LIBDIR ?= $(PREFIX)/lib
+MANDIR ?= $(PREFIX)/share/man
 RUN ?=
 
 VERSION := $(shell sed -n 's/^.define RPKI_VERSION_[A-Z]* \([0-9]*\)$$/\1/p' include/rpki.h | paste -s -d .)
@@ -29,17 +31,24 @@ endif
 ARCHIVE := $(LIB)/librpki.a
 SHARED := $(LIB)/librpki.so.$(VERSION)
 INSTALLED := $(DESTDIR)$(LIBDIR)
+PAGE := $(if $(wildcard bindings/page),$(BUILD)/rpki.3,man/rpki.3)
 COMPILE := $(CC) -std=c99 -Wall -Wextra -O1 -Iinclude
 WRAPS := -Wl,--wrap=malloc,--wrap=realloc,--wrap=free
 
 .PHONY: all check install uninstall dist clean
 .DELETE_ON_ERROR:
 
-all: $(ARCHIVE) $(SHARED)
+all: $(ARCHIVE) $(SHARED) $(PAGE)
 
 ifneq ($(wildcard bindings/archive),)
 $(ARCHIVE): bindings/archive bindings/heap.c $(shell find crates -name out -prune -o -name '*.rt' -print)
 	bindings/archive $(if $(filter %-v2,$(TARGET)),--cpu x86-64-v2,--target $(TARGET)) --out $(LIB)
+endif
+
+ifneq ($(wildcard bindings/page),)
+$(PAGE): include/rpki.h bindings/page
+	mkdir -p $(BUILD)
+	bindings/page > $@
 endif
 
 # Its names are those that the header declares, and no others.
@@ -65,7 +74,8 @@ check: all
 	$(RUN) $(BUILD)/calls bindings/rust/tests/rows.txt
 
 install: all
-	install -d $(DESTDIR)$(INCLUDEDIR) $(INSTALLED)/pkgconfig
+	install -d $(DESTDIR)$(INCLUDEDIR) $(INSTALLED)/pkgconfig $(DESTDIR)$(MANDIR)/man3
+	install -m 644 $(PAGE) $(DESTDIR)$(MANDIR)/man3/rpki.3
 	install -m 644 include/rpki.h $(DESTDIR)$(INCLUDEDIR)/rpki.h
 	install -m 644 $(ARCHIVE) $(INSTALLED)/librpki.a
 	install -m 755 $(SHARED) $(INSTALLED)/librpki.so.$(VERSION)
@@ -77,6 +87,7 @@ install: all
 uninstall:
 	rm -f $(DESTDIR)$(INCLUDEDIR)/rpki.h $(INSTALLED)/pkgconfig/rpki.pc $(INSTALLED)/librpki.a
 	rm -f $(INSTALLED)/librpki.so $(INSTALLED)/librpki.so.$(MAJOR) $(INSTALLED)/librpki.so.$(VERSION)
+	rm -f $(DESTDIR)$(MANDIR)/man3/rpki.3
 
 dist:
 	bindings/package $(ARCHIVES)

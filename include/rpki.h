@@ -22,9 +22,8 @@
  *  - A pointer and the size after it are octets that may be read, fewer than 2^63, and that nobody writes to during the
  *    call. Only read-only data is needed: they may be in constant memory or in a mapped file. A pointer and the
  *    capacity after it are so many entries or octets that may be written, fewer than 2^63 octets in all, of one object.
- *  - No pointer may be NULL, even where its size is 0: where there are no octets pass any other pointer, as that of an
- *    empty string. (The proofs rest on this. The compiled calls look at no octet where the size is 0, and the tests
- *    pass NULL with size 0 too; but no contract covers that.)
+ *  - A pointer may be NULL only where the size or the capacity after it is 0. (The proofs speak of pointers that are
+ *    not NULL. With NULL and 0 each compiled call does what it does with another pointer and 0, which is tested.)
  *  - `out`, and each other parameter that is written, is aligned for its type and is inside neither the octets that are
  *    read nor another parameter. It need not be initialised.
  *  - malloc, realloc and free are of one allocator, and align a block to each power of two up to 16 that divides its
@@ -44,7 +43,7 @@
  * the target will do.
  *
  * Versions. A program that was compiled with this header runs with the library of this major number and of this minor
- * number or a later one. Within a major number, 0 too,
+ * number or a later one. Within a major number, 0 too from 0.2 on,
  *  - nothing changes of what is here: no call, type or constant goes away or gets another meaning, no call gets another
  *    parameter or a status that is not said of it here, no number of a status or another constant changes, and no
  *    struct gets another size, member, offset or order;
@@ -79,9 +78,6 @@ uint32_t rpki_version(void);
 
 /* ---- Statuses ---- */
 
-/* What a call returns: RPKI_OK, or the number of what is wrong. */
-typedef uint8_t rpki_status;
-
 /* Compilers that know the attribute warn where a status is not looked at. */
 #if defined(__GNUC__)
 #define RPKI_CHECKED __attribute__((warn_unused_result))
@@ -89,7 +85,18 @@ typedef uint8_t rpki_status;
 #define RPKI_CHECKED
 #endif
 
+/*
+ * What a call returns: RPKI_OK, or the number of what is wrong. It has one octet. Where a compiler has such
+ * enumerations it is one, so that another number in its place is an error in C++ and may be told in C; else it is a
+ * uint8_t.
+ */
+#if defined(__cplusplus) && __cplusplus >= 201103L
+enum rpki_status : uint8_t {
+#elif defined(__GNUC__)
+typedef enum __attribute__((packed)) {
+#else
 enum {
+#endif
     RPKI_OK = 0,
 
     /* Of calls that read DER (X.690). */
@@ -103,31 +110,16 @@ enum {
     RPKI_TRAILING = 6,      /* octets follow the value */
     RPKI_OUT_OF_MEMORY = 7, /* malloc or realloc returned NULL */
 
-    /* Of calls that read URIs: the first of these that is wrong, in the order 1, 4, 3, then 5 to 7 from the left, then
-       2. Of a path that is joined to a URI: 1, 3 of the path alone, then 5 to 7 from the left, and last 3 of the text
-       that joining gives. No call on URIs takes memory, so none returns 8. */
-    RPKI_URI_INVALID_CHARACTERS = 1, /* a character that a URI may not have */
-    RPKI_URI_BAD_URI = 2,            /* no authority, no module, or no slash after the module, in an rsync URI; an
-                                        authority of 256 octets or more in an https URI */
-    RPKI_URI_LONG_URI = 3,           /* 3,072 octets or more after the scheme and the slashes of an rsync URI; as many
-                                        in a path that is joined, or in all of the text that joining gives */
-    RPKI_URI_BAD_SCHEME = 4,         /* the text does not begin with the scheme that is read, a colon and two slashes */
-    RPKI_URI_DOT_SEGMENTS = 5,       /* a segment is `.` or `..` (here and below, the authority and the module of an
-                                        rsync URI count as segments) */
-    RPKI_URI_EMPTY_SEGMENTS = 6,     /* a segment that is not the last is empty */
-    RPKI_URI_LONG_SEGMENTS = 7,      /* a segment has 256 octets or more */
-    RPKI_URI_OUT_OF_MEMORY = 8,      /* the layer's number, which no call here returns */
-
     /* Of single calls, which name them. */
     RPKI_TOO_SMALL = 9,        /* the caller's array or buffer has no room */
     RPKI_NO_ANSWER = 10,       /* there is nothing to answer: no path leads there, no parent, no fault, no such time,
                                   resources that are not told */
-    RPKI_NOT_OF_PROFILE = 11,  /* no call returns it: one of the statuses 32 to 37 says which rule is broken */
     RPKI_NO_PROFILE = 12,      /* no profile has this number */
     RPKI_OTHER_ALGORITHM = 13, /* an algorithm identifier, but of none of the algorithms that the call reads */
     RPKI_OTHER_PARTS = 14,     /* the places are not laid out as those of the parts of a text of this size: the first
                                   part begins right after the scheme and the slashes, each other one an octet after the
-                                  one before, or in an https URI right after it, and the last ends with the text */
+                                  one before, or in an https URI right after it, and the last ends with the text; of
+                                  rpki_take: the part is not inside the octets */
     RPKI_TOO_LONG = 15,        /* what is written would have contents of 2^32 octets or more, or numbers have more
                                   octets than a key may have, or an arc more than rpki_oid_text writes */
 
@@ -248,7 +240,27 @@ enum {
     RPKI_PART_PROVIDERS = 151,    /* the providers: none, one is no such INTEGER, not above the one before it, or the
                                      customer; or something follows them */
 
-    /* Calls on two texts, or on two contents, add this to the number of what is wrong with the second. */
+    /* Of rpki_certificate_issued_by: why the certificate was not issued by the other. */
+    RPKI_NO_ISSUER = 152,       /* the other is no certificate: rpki_certificate says why */
+    RPKI_OTHER_ISSUER = 153,    /* its issuer has another name than the other's subject */
+    RPKI_OTHER_AUTHORITY = 154, /* it has no authority key identifier, or not that of the other's key */
+
+    /* Of calls that read URIs: the first of these that is wrong, in the order 160, 163, 162, then 164 to 166 from the
+       left, then 161. Of a path that is joined to a URI: 160, 162 of the path alone, then 164 to 166 from the left, and
+       last 162 of the text that joining gives. */
+    RPKI_URI_INVALID_CHARACTERS = 160, /* a character that a URI may not have */
+    RPKI_URI_BAD_URI = 161,            /* no authority, no module, or no slash after the module, in an rsync URI; an
+                                          authority of 256 octets or more in an https URI */
+    RPKI_URI_LONG_URI = 162,           /* 3,072 octets or more after the scheme and the slashes of an rsync URI; as many
+                                          in a path that is joined, or in all of the text that joining gives */
+    RPKI_URI_BAD_SCHEME = 163,     /* the text does not begin with the scheme that is read, a colon and two slashes */
+    RPKI_URI_DOT_SEGMENTS = 164,   /* a segment is `.` or `..` (here and below, the authority and the module of an
+                                      rsync URI count as segments) */
+    RPKI_URI_EMPTY_SEGMENTS = 165, /* a segment that is not the last is empty */
+    RPKI_URI_LONG_SEGMENTS = 166,  /* a segment has 256 octets or more */
+
+    /* Calls on two texts, or on two contents, add this to the number of what is wrong with the second: 17 to 22 and
+       176 to 182 are such sums. */
     RPKI_SECOND = 16,
 
     /* Of rpki_name_inspect: the rule of the profile that the name breaks first, from the left. */
@@ -258,7 +270,14 @@ enum {
     RPKI_SECOND_ORGANIZATION_NAME = 35, /* a second organization name */
     RPKI_STRING_NOT_PERMITTED = 36,     /* a value that is no string of the profile, or one of another type */
     RPKI_ATTRIBUTE_NOT_PERMITTED = 37   /* an attribute that is none of these three */
+#if defined(__cplusplus) && __cplusplus >= 201103L
 };
+#elif defined(__GNUC__)
+} rpki_status;
+#else
+};
+typedef uint8_t rpki_status;
+#endif
 
 /* ---- Structs ---- */
 
@@ -270,6 +289,26 @@ struct rpki_place {
 
 /* Classes of tags (X.690 8.1.2.2). */
 enum { RPKI_UNIVERSAL = 0, RPKI_APPLICATION = 1, RPKI_CONTEXT = 2, RPKI_PRIVATE = 3 };
+
+/* Identifier octets, as rpki_take wants them (X.690 8.1.2, 8.2 and on); the number of a context-specific tag is added.
+ */
+enum {
+    RPKI_BOOLEAN = 0x01,
+    RPKI_INTEGER = 0x02,
+    RPKI_BIT_STRING = 0x03,
+    RPKI_OCTET_STRING = 0x04,
+    RPKI_NULL = 0x05,
+    RPKI_OBJECT_IDENTIFIER = 0x06,
+    RPKI_UTF8_STRING = 0x0C,
+    RPKI_PRINTABLE_STRING = 0x13,
+    RPKI_IA5_STRING = 0x16,
+    RPKI_UTC_TIME = 0x17,
+    RPKI_GENERALIZED_TIME = 0x18,
+    RPKI_SEQUENCE = 0x30,
+    RPKI_SET = 0x31,
+    RPKI_CONTEXT_PRIMITIVE = 0x80,  /* a context-specific tag, around octets */
+    RPKI_CONTEXT_CONSTRUCTED = 0xA0 /* the same, around values */
+};
 
 /* The header of a value (X.690 8.1.2, 8.1.3). */
 struct rpki_header_parts {
@@ -378,6 +417,23 @@ struct rpki_certificate_parts {
     uint8_t key_format;           /* RPKI_RSA or RPKI_ECDSA_P256 */
     uint8_t key_unused;           /* how many bits of the key's last octet are unused: 0 to 7 */
     bool has_parameters;          /* whether the algorithm identifiers have parameters, a NULL */
+};
+
+/* The extensions of certificates of the RPKI (RFC 6487 4.8, RFC 8360 4.2), in the order of rpki_known_extensions. */
+enum {
+    RPKI_EXTENSION_BASIC_CONSTRAINTS = 0,
+    RPKI_EXTENSION_SUBJECT_KEY_IDENTIFIER = 1,
+    RPKI_EXTENSION_AUTHORITY_KEY_IDENTIFIER = 2,
+    RPKI_EXTENSION_KEY_USAGE = 3,
+    RPKI_EXTENSION_EXTENDED_KEY_USAGE = 4,
+    RPKI_EXTENSION_CRL_DISTRIBUTION_POINTS = 5,
+    RPKI_EXTENSION_AUTHORITY_INFO_ACCESS = 6,
+    RPKI_EXTENSION_SUBJECT_INFO_ACCESS = 7,
+    RPKI_EXTENSION_CERTIFICATE_POLICIES = 8,
+    RPKI_EXTENSION_IP_RESOURCES = 9,
+    RPKI_EXTENSION_IP_RESOURCES_V2 = 10,
+    RPKI_EXTENSION_AS_RESOURCES = 11,
+    RPKI_EXTENSION_AS_RESOURCES_V2 = 12
 };
 
 /* An extension of a certificate, or that there is none. */
@@ -578,6 +634,21 @@ struct rpki_https_parts {
 rpki_status rpki_header(const uint8_t *octets, size_t size, struct rpki_header_parts *out) RPKI_CHECKED;
 
 /*
+ * Takes the value at the front of a part of the octets: a line for each part of a format. `rest` is the place of the
+ * part; it becomes the place of what follows the value, and `contents` that of the contents, off which values are taken
+ * likewise. To skip a value take it; whether an optional one is there the octet at `rest` tells. All of a part was
+ * taken where rest->length is 0. Begin with the place {0, size}. `identifier` is one octet (X.690 8.1.2): the class of
+ * the tag in the two highest bits, the form in the next, and the number of the tag, from 0 to 31, in the others. Takes
+ * no memory.
+ *
+ * In this order: RPKI_BAD_TAG: `identifier` is 0x00 or 0x20, of the tag universal 0, which no value has.
+ * RPKI_OTHER_PARTS: `rest` is not inside the octets. RPKI_TRUNCATED, RPKI_BAD_TAG, RPKI_BAD_LENGTH: as rpki_header of
+ * the part. RPKI_UNEXPECTED: a header of another tag or form begins it. RPKI_TRUNCATED: its contents pass the end.
+ */
+rpki_status rpki_take(const uint8_t *octets, size_t size, uint8_t identifier, struct rpki_place *rest,
+                      struct rpki_place *contents) RPKI_CHECKED;
+
+/*
  * Walks the value at the front of the octets, with all that is nested in it, to any depth. Structure alone counts: the
  * contents of a primitive value are not looked at.
  *
@@ -690,8 +761,9 @@ rpki_status rpki_extension(const uint8_t *octets, size_t size, struct rpki_exten
  * signature is that of a key, is not looked at. Takes no memory.
  *
  * Where a status is not 0, it is an RPKI_PART_ number: from 64 to 67 the part of the signed data that is wrong, the
- * leftmost; else from 68 to 78 the part of what is signed, the leftmost; else 79. RPKI_PART_EXTENSION_COUNT says
- * nothing else of the octets: the certificate may be well-formed. No certificate of the RPKI has so many.
+ * leftmost (of RPKI_PART_ALGORITHM rpki_signed_data says whether that is another algorithm); else from 68 to 78 the
+ * part of what is signed, the leftmost; else 79. RPKI_PART_EXTENSION_COUNT says nothing else of the octets: the
+ * certificate may be well-formed. No certificate of the RPKI has so many.
  */
 rpki_status rpki_certificate(const uint8_t *octets, size_t size, struct rpki_certificate_parts *out) RPKI_CHECKED;
 
@@ -705,6 +777,16 @@ rpki_status rpki_certificate(const uint8_t *octets, size_t size, struct rpki_cer
  */
 rpki_status rpki_certificate_extensions(const uint8_t *octets, size_t size,
                                         struct rpki_known_extensions *out) RPKI_CHECKED;
+
+/*
+ * Reads a resource certificate, as rpki_certificate does, and says where one extension stands, and whether it is
+ * critical: that of this number, an RPKI_EXTENSION_ constant. `is_there` is false where it has none. Neither its octets
+ * nor other extensions are looked at, so one that is wrong hides no other. Takes no memory.
+ *
+ * RPKI_NO_ANSWER: no extension has the number; then the octets are not looked at. Else as rpki_certificate.
+ */
+rpki_status rpki_certificate_extension(const uint8_t *octets, size_t size, uint8_t number,
+                                       struct rpki_known_extension *out) RPKI_CHECKED;
 
 /*
  * Reads a resource certificate, as rpki_certificate does, and holds it to the profile of this number, an
@@ -735,6 +817,22 @@ rpki_status rpki_certificate_inspect(const uint8_t *octets, size_t size, uint8_t
 rpki_status rpki_certificate_checked(const uint8_t *octets, size_t size, uint8_t profile, bool strict,
                                      struct rpki_certificate_parts *parts,
                                      struct rpki_known_extensions *extensions) RPKI_CHECKED;
+
+/*
+ * Whether a resource certificate may have been issued by another (RFC 5280 6.1.3, RFC 6487 4.8.3): the name of its
+ * issuer is that of the other's subject, octet for octet, and its authority key identifier is the SHA-1 digest of the
+ * other's key. Takes no memory.
+ *
+ * What is left to ask: whether the other is an authority (rpki_certificate_inspect), whether the moment is in both
+ * periods (rpki_validity_at), whether the resources are within the other's (rpki_ip_blocks_encompass,
+ * rpki_as_blocks_encompass), whether it is revoked (rpki_crl_contains), and, of an RSA library, whether the other's key
+ * has signed it: the octets of `data` of its parts, with those of `signature`.
+ *
+ * The statuses, in this order: those of rpki_certificate_extensions, of the first; RPKI_NO_ISSUER; RPKI_OTHER_ISSUER;
+ * RPKI_OTHER_AUTHORITY.
+ */
+rpki_status rpki_certificate_issued_by(const uint8_t *octets, size_t size, const uint8_t *issuer,
+                                       size_t issuer_size) RPKI_CHECKED;
 
 /* ---- Where something is, as extensions of a certificate say ---- */
 
@@ -826,7 +924,7 @@ rpki_status rpki_signed_object(const uint8_t *octets, size_t size, bool strict,
  * a number; two times; SHA-256; and files, each of a name of letters, digits, `-` and `_`, one at least, a dot and
  * three small letters, and of a digest. Whether a later manifest is due is not looked at. Takes no memory.
  *
- * Whether two files have the same name, which RFC 9286 4.2.1 forbids, is not looked at either: compare the names.
+ * Whether two files have the same name, which RFC 9286 4.2.1 forbids, is not looked at either: ask rpki_manifest_names.
  *
  * Where a status is not 0, it is an RPKI_PART_ number: from 138 to 143 the leftmost part that is wrong; else 144.
  */
@@ -839,6 +937,17 @@ rpki_status rpki_manifest(const uint8_t *octets, size_t size, struct rpki_manife
  * another size or with bits that are not used.
  */
 rpki_status rpki_manifest_file(const uint8_t *octets, size_t size, struct rpki_manifest_file_parts *out) RPKI_CHECKED;
+
+/*
+ * Whether no two files have the same name, as RFC 9286 4.2.1 asks of a manifest: of the octets of its files, all that
+ * rpki_manifest tells the place of. `room` has a place for each file, `count` of rpki_manifest_parts, and is written
+ * over; it may be null where `capacity` is 0. Takes no memory; n files take n log n steps.
+ *
+ * RPKI_TOO_SMALL if there are more files than `capacity`. RPKI_PART_FILE_LIST if the octets are not files. `out` is
+ * written at status 0 alone.
+ */
+rpki_status rpki_manifest_names(const uint8_t *octets, size_t size, struct rpki_place *room, size_t capacity,
+                                bool *out) RPKI_CHECKED;
 
 /*
  * Reads a route origin attestation (RFC 9582 4), and says which AS number it is for and where its prefixes stand:
@@ -944,7 +1053,8 @@ rpki_status rpki_as_block_text(const struct rpki_as_block *block, uint8_t *out, 
  * `%2e%2e` is a segment like another, as nothing is decoded. Who decodes `%` and two digits, to make the name of a file
  * for example, has to look for `..` and for slashes after that.
  *
- * Where a status is not 0, it is an RPKI_URI_ number: 1, 4, 3, 5 to 7 or 2, the first that is wrong in this order.
+ * Where a status is not 0, it is an RPKI_URI_ number: 160, 163, 162, 164 to 166 or 161, the first that is wrong in this
+ * order.
  */
 rpki_status rpki_rsync_parse(const uint8_t *text, size_t size, struct rpki_rsync_parts *out) RPKI_CHECKED;
 
@@ -1434,152 +1544,143 @@ RPKI_ASSERT_AT(https_parts, path, 16);
 
 /* ---- In this header alone: nothing below is in the library, and nothing below is proved ---- */
 
-/* What kind of call a status is of. */
-enum {
-    RPKI_OF_DER = 0, /* each call but those on URIs */
-    RPKI_OF_URI = 1  /* a call on URIs */
-};
-
 /*
- * What a status says, in a few words of English: static text, of one line. `kind` is RPKI_OF_DER or RPKI_OF_URI. A
- * status with RPKI_SECOND added has the text of that without it. "unknown status": no call of that kind returns it.
+ * What a status says, in a few words of English: static text, of one line. A status with RPKI_SECOND added has the text
+ * of that without it. "unknown status": no call returns it.
  */
-static inline const char *rpki_status_text(int kind, rpki_status status) {
-    rpki_status last = (rpki_status)(kind == RPKI_OF_URI ? RPKI_URI_OUT_OF_MEMORY : RPKI_TRAILING);
-    if (status > RPKI_SECOND && status <= RPKI_SECOND + last) status = (rpki_status)(status - RPKI_SECOND);
-    if (kind == RPKI_OF_URI) {
-        switch (status) {
-            case RPKI_URI_INVALID_CHARACTERS: return "invalid characters";
-            case RPKI_URI_BAD_URI: return "bad URI";
-            case RPKI_URI_LONG_URI: return "URI exceeds 3072 characters";
-            case RPKI_URI_BAD_SCHEME: return "bad URI scheme";
-            case RPKI_URI_DOT_SEGMENTS: return "URI with dot path segments";
-            case RPKI_URI_EMPTY_SEGMENTS: return "URI with empty path segments";
-            case RPKI_URI_LONG_SEGMENTS: return "one or more segments are longer than 255 characters";
-            case RPKI_URI_OUT_OF_MEMORY: return "out of memory";
-            case RPKI_NO_ANSWER: return "no such path";
-            case RPKI_OTHER_PARTS: return "other parts";
-            default: break;
-        }
-    } else {
-        switch (status) {
-            case RPKI_TRUNCATED: return "truncated value";
-            case RPKI_BAD_TAG: return "malformed tag";
-            case RPKI_BAD_LENGTH: return "malformed length";
-            case RPKI_UNEXPECTED: return "unexpected value";
-            case RPKI_CONTENT: return "malformed contents";
-            case RPKI_TRAILING: return "octets after the value";
-            case RPKI_OUT_OF_MEMORY: return "out of memory";
-            case RPKI_NO_ANSWER: return "no answer";
-            case RPKI_NOT_OF_PROFILE: return "name not of the profile";
-            case RPKI_NO_PROFILE: return "no such profile";
-            case RPKI_OTHER_ALGORITHM: return "another algorithm";
-            case RPKI_TOO_LONG: return "too long to be written";
-            case RPKI_INVALID_SYMBOL: return "no symbol of base 64";
-            case RPKI_INVALID_LENGTH: return "no length of base 64";
-            case RPKI_INVALID_LAST_SYMBOL: return "no last symbol of base 64";
-            case RPKI_INVALID_PADDING: return "missing padding of base 64";
-            case RPKI_TOO_NEW: return "object is not yet valid";
-            case RPKI_TOO_OLD: return "object has expired";
-            case RPKI_PART_CERTIFICATE: return "not a certificate";
-            case RPKI_PART_SIGNED: return "malformed signed data";
-            case RPKI_PART_ALGORITHM: return "malformed signature algorithm";
-            case RPKI_PART_SIGNATURE: return "malformed signature";
-            case RPKI_PART_TBS: return "malformed certificate";
-            case RPKI_PART_VERSION: return "other version";
-            case RPKI_PART_SERIAL_NUMBER: return "malformed serial number";
-            case RPKI_PART_TBS_ALGORITHM: return "malformed algorithm";
-            case RPKI_PART_ISSUER: return "malformed issuer";
-            case RPKI_PART_VALIDITY: return "malformed validity";
-            case RPKI_PART_SUBJECT: return "malformed subject";
-            case RPKI_PART_PUBLIC_KEY: return "malformed public key";
-            case RPKI_PART_EXTENSIONS: return "malformed extensions";
-            case RPKI_PART_EXTENSION_COUNT: return "too many extensions";
-            case RPKI_PART_EXTENSION_IDENTIFIERS: return "duplicate extension";
-            case RPKI_PART_SAME_ALGORITHM: return "signature algorithms differ";
-            case RPKI_PART_THIS_UPDATE: return "no time of issue";
-            case RPKI_PART_NEXT_UPDATE: return "no time of the next list";
-            case RPKI_PART_REVOKED_CERTS: return "malformed entry of a revoked certificate";
-            case RPKI_PART_OBJECT: return "not a signed object";
-            case RPKI_PART_OBJECT_TYPE: return "type is not that of signed data";
-            case RPKI_PART_SIGNED_DATA: return "malformed signed object";
-            case RPKI_PART_OBJECT_VERSION: return "other version of signed data";
-            case RPKI_PART_DIGEST_ALGORITHMS: return "digest algorithms are not SHA-256 alone";
-            case RPKI_PART_CONTENT: return "malformed content";
-            case RPKI_PART_CERTIFICATES: return "missing certificate";
-            case RPKI_PART_SIGNERS: return "no signers, or more than these";
-            case RPKI_PART_SIGNER: return "not one signer";
-            case RPKI_PART_SIGNER_VERSION: return "other version of the signer";
-            case RPKI_PART_SIGNER_IDENTIFIER: return "malformed key identifier of the signer";
-            case RPKI_PART_SIGNER_DIGEST: return "digest algorithm of the signer is not SHA-256";
-            case RPKI_PART_SIGNED_ATTRIBUTES: return "signed attributes that no signed object has";
-            case RPKI_PART_SIGNATURE_ALGORITHM: return "other algorithm of the signature";
-            case RPKI_PART_OBJECT_SIGNATURE: return "malformed signature of the object";
-            case RPKI_PART_MANIFEST: return "not a manifest";
-            case RPKI_PART_MANIFEST_NUMBER: return "malformed number of the manifest";
-            case RPKI_PART_MANIFEST_THIS_UPDATE: return "malformed time of issue of the manifest";
-            case RPKI_PART_MANIFEST_NEXT_UPDATE: return "malformed time of the next manifest";
-            case RPKI_PART_HASH_ALGORITHM: return "algorithm of digests is not SHA-256";
-            case RPKI_PART_FILE_LIST: return "malformed list of files";
-            case RPKI_PART_UPDATE_ORDER: return "next update not after this update";
-            case RPKI_PART_ROA: return "not a route origin attestation";
-            case RPKI_PART_AS_ID: return "malformed AS number";
-            case RPKI_PART_ADDRESS_BLOCKS: return "malformed list of prefixes";
-            case RPKI_PART_ASPA: return "not an attestation of providers";
-            case RPKI_PART_ASPA_VERSION: return "other version of the attestation";
-            case RPKI_PART_CUSTOMER: return "malformed customer";
-            case RPKI_PART_PROVIDERS: return "malformed list of providers";
-            case RPKI_WRONG_BASIC_CONSTRAINTS: return "wrong basic constraints";
-            case RPKI_WRONG_SUBJECT_KEY_IDENTIFIER: return "wrong subject key identifier";
-            case RPKI_WRONG_AUTHORITY_KEY_IDENTIFIER: return "wrong authority key identifier";
-            case RPKI_WRONG_KEY_USAGE: return "wrong key usage";
-            case RPKI_WRONG_CERTIFICATE_POLICIES: return "wrong certificate policies";
-            case RPKI_RULE_SERIAL_NUMBER: return "serial number is 0";
-            case RPKI_RULE_CRITICAL_EXTENSIONS: return "unknown critical extension";
-            case RPKI_RULE_ISSUER: return "issuer has no name of the RPKI";
-            case RPKI_RULE_SUBJECT: return "subject has no name of the RPKI";
-            case RPKI_RULE_ROUTER_SUBJECT: return "subject has no name of a router";
-            case RPKI_RULE_RSA_KEY: return "key is no RSA key of 2048 bits and the exponent 65537";
-            case RPKI_RULE_ROUTER_KEY: return "key is no uncompressed point on P-256";
-            case RPKI_RULE_BASIC_CONSTRAINTS: return "missing basic constraints";
-            case RPKI_RULE_NO_BASIC_CONSTRAINTS: return "basic constraints are there";
-            case RPKI_RULE_SUBJECT_KEY_IDENTIFIER: return "missing subject key identifier";
-            case RPKI_RULE_AUTHORITY_KEY_IDENTIFIER: return "missing authority key identifier";
-            case RPKI_RULE_AUTHORITY_USAGE: return "key usage is not that of an authority";
-            case RPKI_RULE_END_USAGE: return "key usage is not that of an end entity";
-            case RPKI_RULE_NO_EXTENDED_KEY_USAGE: return "extended key usage is there";
-            case RPKI_RULE_ROUTER_PURPOSE: return "missing purpose of a router";
-            case RPKI_RULE_REVOCATION_LIST: return "missing URI of the revocation list";
-            case RPKI_RULE_NO_REVOCATION_LIST: return "CRL distribution points are there";
-            case RPKI_RULE_ISSUER_CERTIFICATE: return "missing URI of the issuer's certificate";
-            case RPKI_RULE_NO_ISSUER_CERTIFICATE: return "authority information access is there";
-            case RPKI_RULE_REPOSITORY: return "missing URI of the repository";
-            case RPKI_RULE_MANIFEST: return "missing URI of the manifest";
-            case RPKI_RULE_SIGNED_OBJECT: return "missing URI of the signed object";
-            case RPKI_RULE_NO_SUBJECT_ACCESS: return "subject information access is there";
-            case RPKI_RULE_CERTIFICATE_POLICIES: return "missing certificate policies";
-            case RPKI_RULE_RESOURCES: return "missing resources, or ones that are not critical";
-            case RPKI_RULE_ROUTER_NUMBERS: return "missing AS numbers, or addresses are there";
-            case RPKI_RULE_OBJECT_ACCESS: return "other access method of an end entity";
-            case RPKI_RULE_VALIDITY: return "period ends before it begins";
-            case RPKI_RULE_OWN_AUTHORITY: return "authority key identifier of a trust anchor is not its own";
-            case RPKI_RULE_SELF_ISSUED: return "issuer of a trust anchor is not its subject";
-            case RPKI_RULE_RESOURCE_VERSION: return "policy and resources of two versions";
-            case RPKI_RULE_RESOURCE_BLOCKS: return "resources that are not in canonical form";
-            case RPKI_RULE_OWN_RESOURCES: return "resources of the issuer";
-            case RPKI_RULE_MANIFEST_PLACE: return "manifest is not in the repository";
-            case RPKI_RULE_NOTIFICATIONS: return "notifications without an https URI";
-            case RPKI_MISSING_COMMON_NAME: return "missing common name";
-            case RPKI_SECOND_COMMON_NAME: return "multiple common names";
-            case RPKI_SECOND_SERIAL_NUMBER: return "multiple serial numbers";
-            case RPKI_SECOND_ORGANIZATION_NAME: return "multiple organization names";
-            case RPKI_STRING_NOT_PERMITTED: return "unpermitted string in name";
-            case RPKI_ATTRIBUTE_NOT_PERMITTED: return "unpermitted attribute in name";
-            default: break;
-        }
+static inline const char *rpki_status_text(rpki_status status) {
+    unsigned number = (unsigned)status;
+    if ((number > RPKI_SECOND && number <= RPKI_SECOND + RPKI_TRAILING) ||
+        (number >= RPKI_SECOND + RPKI_URI_INVALID_CHARACTERS && number <= RPKI_SECOND + RPKI_URI_LONG_SEGMENTS)) {
+        number -= RPKI_SECOND;
     }
-    if (status == RPKI_OK) return "no error";
-    return status == RPKI_TOO_SMALL ? "buffer too small" : "unknown status";
+    switch (number) {
+        case RPKI_OK: return "no error";
+        case RPKI_TOO_SMALL: return "buffer too small";
+        case RPKI_NO_ANSWER: return "no answer";
+        case RPKI_TRUNCATED: return "truncated value";
+        case RPKI_BAD_TAG: return "malformed tag";
+        case RPKI_BAD_LENGTH: return "malformed length";
+        case RPKI_UNEXPECTED: return "unexpected value";
+        case RPKI_CONTENT: return "malformed contents";
+        case RPKI_TRAILING: return "octets after the value";
+        case RPKI_OUT_OF_MEMORY: return "out of memory";
+        case RPKI_NO_PROFILE: return "no such profile";
+        case RPKI_OTHER_ALGORITHM: return "another algorithm";
+        case RPKI_OTHER_PARTS: return "other parts";
+        case RPKI_TOO_LONG: return "too long to be written";
+        case RPKI_INVALID_SYMBOL: return "no symbol of base 64";
+        case RPKI_INVALID_LENGTH: return "no length of base 64";
+        case RPKI_INVALID_LAST_SYMBOL: return "no last symbol of base 64";
+        case RPKI_INVALID_PADDING: return "missing padding of base 64";
+        case RPKI_TOO_NEW: return "object is not yet valid";
+        case RPKI_TOO_OLD: return "object has expired";
+        case RPKI_PART_CERTIFICATE: return "not a certificate";
+        case RPKI_PART_SIGNED: return "malformed signed data";
+        case RPKI_PART_ALGORITHM: return "malformed signature algorithm";
+        case RPKI_PART_SIGNATURE: return "malformed signature";
+        case RPKI_PART_TBS: return "malformed certificate";
+        case RPKI_PART_VERSION: return "other version";
+        case RPKI_PART_SERIAL_NUMBER: return "malformed serial number";
+        case RPKI_PART_TBS_ALGORITHM: return "malformed algorithm";
+        case RPKI_PART_ISSUER: return "malformed issuer";
+        case RPKI_PART_VALIDITY: return "malformed validity";
+        case RPKI_PART_SUBJECT: return "malformed subject";
+        case RPKI_PART_PUBLIC_KEY: return "malformed public key";
+        case RPKI_PART_EXTENSIONS: return "malformed extensions";
+        case RPKI_PART_EXTENSION_COUNT: return "too many extensions";
+        case RPKI_PART_EXTENSION_IDENTIFIERS: return "duplicate extension";
+        case RPKI_PART_SAME_ALGORITHM: return "signature algorithms differ";
+        case RPKI_PART_THIS_UPDATE: return "no time of issue";
+        case RPKI_PART_NEXT_UPDATE: return "no time of the next list";
+        case RPKI_PART_REVOKED_CERTS: return "malformed entry of a revoked certificate";
+        case RPKI_PART_OBJECT: return "not a signed object";
+        case RPKI_PART_OBJECT_TYPE: return "type is not that of signed data";
+        case RPKI_PART_SIGNED_DATA: return "malformed signed object";
+        case RPKI_PART_OBJECT_VERSION: return "other version of signed data";
+        case RPKI_PART_DIGEST_ALGORITHMS: return "digest algorithms are not SHA-256 alone";
+        case RPKI_PART_CONTENT: return "malformed content";
+        case RPKI_PART_CERTIFICATES: return "missing certificate";
+        case RPKI_PART_SIGNERS: return "no signers, or more than these";
+        case RPKI_PART_SIGNER: return "not one signer";
+        case RPKI_PART_SIGNER_VERSION: return "other version of the signer";
+        case RPKI_PART_SIGNER_IDENTIFIER: return "malformed key identifier of the signer";
+        case RPKI_PART_SIGNER_DIGEST: return "digest algorithm of the signer is not SHA-256";
+        case RPKI_PART_SIGNED_ATTRIBUTES: return "signed attributes that no signed object has";
+        case RPKI_PART_SIGNATURE_ALGORITHM: return "other algorithm of the signature";
+        case RPKI_PART_OBJECT_SIGNATURE: return "malformed signature of the object";
+        case RPKI_PART_MANIFEST: return "not a manifest";
+        case RPKI_PART_MANIFEST_NUMBER: return "malformed number of the manifest";
+        case RPKI_PART_MANIFEST_THIS_UPDATE: return "malformed time of issue of the manifest";
+        case RPKI_PART_MANIFEST_NEXT_UPDATE: return "malformed time of the next manifest";
+        case RPKI_PART_HASH_ALGORITHM: return "algorithm of digests is not SHA-256";
+        case RPKI_PART_FILE_LIST: return "malformed list of files";
+        case RPKI_PART_UPDATE_ORDER: return "next update not after this update";
+        case RPKI_PART_ROA: return "not a route origin attestation";
+        case RPKI_PART_AS_ID: return "malformed AS number";
+        case RPKI_PART_ADDRESS_BLOCKS: return "malformed list of prefixes";
+        case RPKI_PART_ASPA: return "not an attestation of providers";
+        case RPKI_PART_ASPA_VERSION: return "other version of the attestation";
+        case RPKI_PART_CUSTOMER: return "malformed customer";
+        case RPKI_PART_PROVIDERS: return "malformed list of providers";
+        case RPKI_NO_ISSUER: return "issuer is no certificate";
+        case RPKI_OTHER_ISSUER: return "issuer has another name";
+        case RPKI_OTHER_AUTHORITY: return "key of the issuer is another one";
+        case RPKI_WRONG_BASIC_CONSTRAINTS: return "wrong basic constraints";
+        case RPKI_WRONG_SUBJECT_KEY_IDENTIFIER: return "wrong subject key identifier";
+        case RPKI_WRONG_AUTHORITY_KEY_IDENTIFIER: return "wrong authority key identifier";
+        case RPKI_WRONG_KEY_USAGE: return "wrong key usage";
+        case RPKI_WRONG_CERTIFICATE_POLICIES: return "wrong certificate policies";
+        case RPKI_RULE_SERIAL_NUMBER: return "serial number is 0";
+        case RPKI_RULE_CRITICAL_EXTENSIONS: return "unknown critical extension";
+        case RPKI_RULE_ISSUER: return "issuer has no name of the RPKI";
+        case RPKI_RULE_SUBJECT: return "subject has no name of the RPKI";
+        case RPKI_RULE_ROUTER_SUBJECT: return "subject has no name of a router";
+        case RPKI_RULE_RSA_KEY: return "key is no RSA key of 2048 bits and the exponent 65537";
+        case RPKI_RULE_ROUTER_KEY: return "key is no uncompressed point on P-256";
+        case RPKI_RULE_BASIC_CONSTRAINTS: return "missing basic constraints";
+        case RPKI_RULE_NO_BASIC_CONSTRAINTS: return "basic constraints are there";
+        case RPKI_RULE_SUBJECT_KEY_IDENTIFIER: return "missing subject key identifier";
+        case RPKI_RULE_AUTHORITY_KEY_IDENTIFIER: return "missing authority key identifier";
+        case RPKI_RULE_AUTHORITY_USAGE: return "key usage is not that of an authority";
+        case RPKI_RULE_END_USAGE: return "key usage is not that of an end entity";
+        case RPKI_RULE_NO_EXTENDED_KEY_USAGE: return "extended key usage is there";
+        case RPKI_RULE_ROUTER_PURPOSE: return "missing purpose of a router";
+        case RPKI_RULE_REVOCATION_LIST: return "missing URI of the revocation list";
+        case RPKI_RULE_NO_REVOCATION_LIST: return "CRL distribution points are there";
+        case RPKI_RULE_ISSUER_CERTIFICATE: return "missing URI of the issuer's certificate";
+        case RPKI_RULE_NO_ISSUER_CERTIFICATE: return "authority information access is there";
+        case RPKI_RULE_REPOSITORY: return "missing URI of the repository";
+        case RPKI_RULE_MANIFEST: return "missing URI of the manifest";
+        case RPKI_RULE_SIGNED_OBJECT: return "missing URI of the signed object";
+        case RPKI_RULE_NO_SUBJECT_ACCESS: return "subject information access is there";
+        case RPKI_RULE_CERTIFICATE_POLICIES: return "missing certificate policies";
+        case RPKI_RULE_RESOURCES: return "missing resources, or ones that are not critical";
+        case RPKI_RULE_ROUTER_NUMBERS: return "missing AS numbers, or addresses are there";
+        case RPKI_RULE_OBJECT_ACCESS: return "other access method of an end entity";
+        case RPKI_RULE_VALIDITY: return "period ends before it begins";
+        case RPKI_RULE_OWN_AUTHORITY: return "authority key identifier of a trust anchor is not its own";
+        case RPKI_RULE_SELF_ISSUED: return "issuer of a trust anchor is not its subject";
+        case RPKI_RULE_RESOURCE_VERSION: return "policy and resources of two versions";
+        case RPKI_RULE_RESOURCE_BLOCKS: return "resources that are not in canonical form";
+        case RPKI_RULE_OWN_RESOURCES: return "resources of the issuer";
+        case RPKI_RULE_MANIFEST_PLACE: return "manifest is not in the repository";
+        case RPKI_RULE_NOTIFICATIONS: return "notifications without an https URI";
+        case RPKI_MISSING_COMMON_NAME: return "missing common name";
+        case RPKI_SECOND_COMMON_NAME: return "multiple common names";
+        case RPKI_SECOND_SERIAL_NUMBER: return "multiple serial numbers";
+        case RPKI_SECOND_ORGANIZATION_NAME: return "multiple organization names";
+        case RPKI_STRING_NOT_PERMITTED: return "unpermitted string in name";
+        case RPKI_ATTRIBUTE_NOT_PERMITTED: return "unpermitted attribute in name";
+        case RPKI_URI_INVALID_CHARACTERS: return "invalid characters";
+        case RPKI_URI_BAD_URI: return "bad URI";
+        case RPKI_URI_LONG_URI: return "URI exceeds 3072 characters";
+        case RPKI_URI_BAD_SCHEME: return "bad URI scheme";
+        case RPKI_URI_DOT_SEGMENTS: return "URI with dot path segments";
+        case RPKI_URI_EMPTY_SEGMENTS: return "URI with empty path segments";
+        case RPKI_URI_LONG_SEGMENTS: return "one or more segments are longer than 255 characters";
+        default: return "unknown status";
+    }
 }
 
 /* No entry: what the calls below return where there is none. */

@@ -19,7 +19,7 @@ static void stop(const char *what, const char *why) {
 }
 
 static void check(const char *what, rpki_status status) {
-    if (status != RPKI_OK) stop(what, rpki_status_text(RPKI_OF_DER, status));
+    if (status != RPKI_OK) stop(what, rpki_status_text(status));
 }
 
 static void print_octets(const char *name, const uint8_t *octets, size_t size) {

@@ -399,13 +399,8 @@ static rpki_status oid_text(const struct octets *given, void *out) {
     return rpki_oid_text(given->at, given->size, out, ROOM);
 }
 
-static rpki_status text_of_der(const struct octets *given, void *out) {
-    strcpy(out, rpki_status_text(RPKI_OF_DER, given->at[0]));
-    return RPKI_OK;
-}
-
-static rpki_status text_of_uri(const struct octets *given, void *out) {
-    strcpy(out, rpki_status_text(RPKI_OF_URI, given->at[0]));
+static rpki_status text_of(const struct octets *given, void *out) {
+    strcpy(out, rpki_status_text((rpki_status)given->at[0]));
     return RPKI_OK;
 }
 
@@ -450,9 +445,8 @@ static const struct call calls[] = {
     {"rsync_parent", TEXTS, 1, sizeof(size_t), false, parent, tell_parent, NULL},
     {"https_parse", TEXTS, 1, sizeof(struct rpki_https_parts), false, https_parse, tell_https, NULL},
     {"oid_text", OTHER, 1, ROOM, false, oid_text, tell_text, oid_capacities},
-    {"status_text der", OTHER, 1, ROOM, false, text_of_der, tell_text, NULL},
+    {"status_text", OTHER, 1, ROOM, false, text_of, tell_text, NULL},
     {"fault", OTHER, 1, sizeof(size_t), true, fault, tell_fault, fault_is_walked},
-    {"status_text uri", OTHER, 1, ROOM, false, text_of_uri, tell_text, NULL},
 };
 
 enum { CALLS = sizeof calls / sizeof calls[0] };
@@ -824,15 +818,16 @@ static bool identifiers(void) {
 }
 
 /* Each status has a text of its own, and no other number has one. */
-static bool texts_differ(int kind) {
+static bool texts_differ(void) {
     unsigned one, other;
     bool well = true;
     for (one = 0; one < 256; one++) {
-        const char *text = rpki_status_text(kind, (rpki_status)one);
-        unsigned last = kind == RPKI_OF_URI ? RPKI_URI_OUT_OF_MEMORY : RPKI_TRAILING;
-        bool is_second = one > RPKI_SECOND && one <= RPKI_SECOND + last;
+        const char *text = rpki_status_text((rpki_status)one);
+        bool is_second =
+            (one > RPKI_SECOND && one <= RPKI_SECOND + RPKI_TRAILING) ||
+            (one >= RPKI_SECOND + RPKI_URI_INVALID_CHARACTERS && one <= RPKI_SECOND + RPKI_URI_LONG_SEGMENTS);
         for (other = 0; other < one && !is_second && strcmp(text, "unknown status"); other++) {
-            well = well && strcmp(text, rpki_status_text(kind, (rpki_status)other));
+            well = well && strcmp(text, rpki_status_text((rpki_status)other));
         }
     }
     return well;
@@ -863,7 +858,7 @@ int main(int count, char **words) {
     judge_alone("100,001 levels", deep());
     judge_alone("what calls allocate", takes_little());
     judge_alone("object identifiers", identifiers());
-    judge_alone("texts of statuses", texts_differ(RPKI_OF_DER) && texts_differ(RPKI_OF_URI));
+    judge_alone("texts of statuses", texts_differ());
     judge_alone("refused allocations", refusals > 0);
     judge_alone("parsed rsync URIs", parsed_rsync_uris());
     judge_alone("parsed https URIs", parsed_https_uris());

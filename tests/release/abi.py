@@ -16,7 +16,7 @@ def asked(text):
     for result, name, parameters in re.findall(r"^(\w+) (rpki_\w+)\(([^)]*)\)(?:\s+RPKI_CHECKED)?;", text, re.M):
         yield f"call {name}: {result} of {' '.join(parameters.split())}", []
     yield "type rpki_status: %llu", ["sizeof(rpki_status)"]
-    for body in re.findall(r"enum \{(.*?)\}", text, re.S):
+    for body in re.findall(r"enum [^{]*\{(.*?)\}", text, re.S):
         for name in re.findall(r"RPKI_\w+", body):
             yield f"constant {name}: %llu", [name]
     for name in re.findall(r"^#define (RPKI_\w+) ", text, re.M):

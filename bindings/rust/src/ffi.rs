@@ -240,6 +240,16 @@ pub(crate) fn roa_address(octets: &[u8], family: u8) -> Result<RoaAddressParts, 
     told(|out| unsafe { rpki_roa_address(octets.as_ptr(), octets.len(), family, out) })
 }
 
+/// Whether no two of the files of a manifest have the same name: octets of so many files.
+pub(crate) fn manifest_names_differ(files: &[u8], count: usize) -> bool {
+    let mut room: Vec<Place> = Vec::with_capacity(count);
+    let (start, capacity) = (room.as_mut_ptr(), room.capacity());
+    // SAFETY: the first pointer and size are those of a slice, which is borrowed for the call; the second those of a
+    // vector of this function's own, which the call writes to before it reads.
+    let found = told(|out| unsafe { rpki_manifest_names(files.as_ptr(), files.len(), start, capacity, out) });
+    found.expect("files that were read, and a place for each")
+}
+
 /// Whether one of the entries of a revocation list has this serial number.
 pub(crate) fn crl_contains(entries: &[u8], serial: &[u8; 20]) -> Result<bool, Status> {
     // SAFETY: pointer and size are those of one slice, which is borrowed for the call, as is the serial number.

@@ -317,31 +317,31 @@ fn oid_text(contents: &[u8]) -> Given {
 }
 
 /// The text of the error that stands for a status; a second text's has the same.
-fn status_text(number: u8, words: &str) -> Given {
-    let text = match (words, number) {
-        ("der", 1) => DecodeError::Truncated.to_string(),
-        ("der", 2) => DecodeError::BadTag.to_string(),
-        ("der", 3) => DecodeError::BadLength.to_string(),
-        ("der", 4) => DecodeError::Unexpected.to_string(),
-        ("der", 5 | 21) => DecodeError::Content.to_string(),
-        ("der", 6) => DecodeError::Trailing.to_string(),
-        ("der", 7) => DecodeError::OutOfMemory.to_string(),
-        ("der", 13) => DecodeError::OtherAlgorithm.to_string(),
-        ("der", 32) => InspectError::MissingCommonName.to_string(),
-        ("der", 33) => InspectError::SecondCommonName.to_string(),
-        ("der", 34) => InspectError::SecondSerialNumber.to_string(),
-        ("der", 35) => InspectError::SecondOrganizationName.to_string(),
-        ("der", 36) => InspectError::StringNotPermitted.to_string(),
-        ("der", 37) => InspectError::AttributeNotPermitted.to_string(),
-        ("uri", 1) => UriError::InvalidCharacters.to_string(),
-        ("uri", 2) => UriError::BadUri.to_string(),
-        ("uri", 3 | 19) => UriError::LongUri.to_string(),
-        ("uri", 4) => UriError::BadScheme.to_string(),
-        ("uri", 5) => UriError::DotSegments.to_string(),
-        ("uri", 6) => UriError::EmptySegments.to_string(),
-        ("uri", 7) => UriError::LongSegments.to_string(),
-        ("uri", 9) => JoinError::TooSmall.to_string(),
-        _ => panic!("{words} {number} is no status"),
+fn status_text(number: u8) -> Given {
+    let text = match number {
+        1 => DecodeError::Truncated.to_string(),
+        2 => DecodeError::BadTag.to_string(),
+        3 => DecodeError::BadLength.to_string(),
+        4 => DecodeError::Unexpected.to_string(),
+        5 | 21 => DecodeError::Content.to_string(),
+        6 => DecodeError::Trailing.to_string(),
+        7 => DecodeError::OutOfMemory.to_string(),
+        13 => DecodeError::OtherAlgorithm.to_string(),
+        32 => InspectError::MissingCommonName.to_string(),
+        33 => InspectError::SecondCommonName.to_string(),
+        34 => InspectError::SecondSerialNumber.to_string(),
+        35 => InspectError::SecondOrganizationName.to_string(),
+        36 => InspectError::StringNotPermitted.to_string(),
+        37 => InspectError::AttributeNotPermitted.to_string(),
+        160 => UriError::InvalidCharacters.to_string(),
+        161 => UriError::BadUri.to_string(),
+        162 | 178 => UriError::LongUri.to_string(),
+        163 => UriError::BadScheme.to_string(),
+        164 => UriError::DotSegments.to_string(),
+        165 => UriError::EmptySegments.to_string(),
+        166 => UriError::LongSegments.to_string(),
+        9 => JoinError::TooSmall.to_string(),
+        _ => panic!("{number} is no status"),
     };
     Ok(vec![format!("text = {}", hex(text.as_bytes()))])
 }
@@ -368,7 +368,7 @@ fn make(call: &str, octets: &[u8], second: &[u8]) -> (Given, bool) {
         "rsync_parent" => (parent(octets), false),
         "https_parse" => (https_parse(octets), false),
         "oid_text" => (oid_text(octets), false),
-        "status_text" => (status_text(octets[0], words), false),
+        "status_text" => (status_text(octets[0]), false),
         _ => panic!("there is no call {call}"),
     }
 }

@@ -1,5 +1,7 @@
 -- Blocks that a cursor gives, and entries that are written of them one after another.
-use Rattle.std.proofs.Common.{◌≡◌, ◌≤◌, ◌<◌, ◌+◌, ℕ, suc, List, [], ◌∷◌, ◌++◌, length, take, drop, Some, None, refl, sym, ap, ◌∙◌, subst, arith, append_assoc, append-nil, length-set, take-append-drop, take-suc-set, drop-set-lt, drop-drop}
+use Rattle.std.proofs.Common.{◌≡◌, ◌≤◌, ◌<◌, ◌+◌, ℕ, suc, List, [], ◌∷◌, ◌++◌, length, take, drop, Some, None, refl}
+use Rattle.std.proofs.Common.{sym, ap, ◌∙◌, subst, arith, append_assoc, append-nil, length-set, take-append-drop}
+use Rattle.std.proofs.Common.{take-suc-set, drop-set-lt, drop-drop}
 use Rattle.std.specs.Prelude.{set, map}
 use Rattle.std.proofs.lemmas.List.{length-map}
 use Rattle.rpki_resources.specs.declared.block.Block.{Block}
@@ -8,7 +10,8 @@ use Rattle.rpki_c.specs.ViewCount.{IsFilledAt}
 
 -- ---- what a cursor gave
 
-pub gives-some : (ds : List Block) (b : Block) (after : Rest) → Gives ds (Some b) after → (es : List Block) × (ds ≡ b ∷ es) × IsLeft after es
+pub gives-some : (ds : List Block) (b : Block) (after : Rest) → Gives ds (Some b) after
+    → (es : List Block) × (ds ≡ b ∷ es) × IsLeft after es
 gives-some [] b after g = let no : Some b ≡ None = g.0 in absurd (cc)
 gives-some (d ∷ ds) b after g =
     let same : Some b ≡ Some d = g.0 in
@@ -22,7 +25,8 @@ gives-none (d ∷ ds) after g = let no : None ≡ Some d = g.0 in absurd (cc)
 -- ---- entries that are written from a place on
 
 -- What was written so far of the entries of bs: those of ds are still to come, from this number on.
-pub record IsFilling {E : Type 0} (p : Block → E) (from : ℕ) (bs : List Block) (old new : List E) (number : ℕ) (ds : List Block) : Type 0 where
+pub record IsFilling {E : Type 0} (p : Block → E) (from : ℕ) (bs : List Block) (old new : List E) (number : ℕ)
+    (ds : List Block) : Type 0 where
   pub front : take number new ++ map p ds ≡ take from old ++ map p bs
   pub behind : drop number new ≡ drop number old
   pub count : number + length ds ≡ from + length bs
@@ -34,11 +38,13 @@ module _ {E : Type 0} (p : Block → E) (from : ℕ) (bs : List Block) (old : Li
   filling-none room = record { front = refl; behind = refl; count = refl; size = refl; room = room }
 
   module _ (new : List E) (number : ℕ) where
-    pub filling-within : (b : Block) (ds : List Block) → IsFilling p from bs old new number (b ∷ ds) → number < length new
+    pub filling-within : (b : Block) (ds : List Block) → IsFilling p from bs old new number (b ∷ ds)
+        → number < length new
     filling-within b ds h = omega (arith, h.count, h.size, h.room)
 
     -- one entry more
-    pub filling-next : (b : Block) (ds : List Block) (n : ℕ) → n ≡ number + 1 → IsFilling p from bs old new number (b ∷ ds) → IsFilling p from bs old (set new number (p b)) n ds
+    pub filling-next : (b : Block) (ds : List Block) (n : ℕ) → n ≡ number + 1
+        → IsFilling p from bs old new number (b ∷ ds) → IsFilling p from bs old (set new number (p b)) n ds
     filling-next b ds n is h =
         let within = filling-within b ds h in
         let next : suc number ≡ n = omega (arith, is) in

@@ -1,5 +1,6 @@
 -- Where the parts of manifests and of attestations stand.
-use Rattle.std.proofs.Common.{◌≡◌, ◌∙◌, ◌++◌, ◌-◌, ◌^◌, ℕ, true, false, List, [], inr, length, refl, sym, ap, subst, arith}
+use Rattle.std.proofs.Common.{◌≡◌, ◌∙◌, ◌++◌, ◌-◌, ◌^◌, ℕ, true, false, List, [], inr, length, refl, sym, ap, subst}
+use Rattle.std.proofs.Common.{arith}
 use Rattle.std.proofs.Common.{append-nil, append_assoc, length-append}
 use Rattle.jiff.specs.Types.{DateTime}
 use Rattle.rpki_der.specs.declared.error.DecodeError.TheVariants.{OutOfMemory}
@@ -72,6 +73,23 @@ module _ (s r : List ℕ) (x : ListedFile) (h : Spells file.spells s x r) where
       let name = ends-contents ia5_string false d.one.value d.first d.one.spelled in
       ends-inside s h.front (d.one.value ++ d.second) r (record { front = []; parts = h.parts })
       (ends-inside h.front d.first d.one.value d.second fields name)
+
+  -- where the file isn't at the front of the octets
+  pub name-stands-in : (whole front w : List ℕ) (p : Place) → whole ≡ front ++ s → w ≡ x.0
+      → p.start ≡ length whole - 35 - length r - length w → p.length ≡ length w
+      → StandsBefore whole p x.0 (h.spelled.spelled.second ++ r)
+  name-stands-in whole front w p parts same start size =
+      let d = h.spelled.spelled in
+      let name = d.one.value in
+      let behind = (name ++ d.second) ++ r in
+      let ends : EndsWith whole behind = record {
+        front = front ++ name-ends.front;
+        parts = parts ∙ ap (λ (v : List ℕ). front ++ v) name-ends.parts
+            ∙ sym (append_assoc front name-ends.front behind);
+      } in
+      stands whole behind x.0 (d.second ++ r) w 35 (length r) p ends
+      (append_assoc name d.second r ∙ ap (λ (v : List ℕ). v ++ (d.second ++ r)) (sym d.one.stands.0)) same
+      (omega (arith, digest-long, length-append d.second r)) start size
 
   pub name-stands : (w : List ℕ) (p : Place) → w ≡ x.0 → p.start ≡ length s - 35 - length r - length w
       → p.length ≡ length w → StandsBefore s p x.0 (h.spelled.spelled.second ++ r)

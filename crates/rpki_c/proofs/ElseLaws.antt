@@ -13,10 +13,13 @@ use Rattle.rpki_c.specs.Whole.{DecodesElse}
 use Rattle.rpki_c.specs.Signed.{AreOtherParts}
 
 -- what a reader returns where a `?` ends it
-pub tried-else : {X V : Type 0} (O : List ℕ → Type 0) (view : X → V) (G : V → List ℕ → Type 0) (K : List ℕ → DecodeError → Type 0) (s : List ℕ) (d : DecodeError) (x : Result (Option X) DecodeError)
-    → IsErr x × IsErrAnd x (λ e. e ≡ d) → UnlessMemory d (O s → ⊥) × (UnlessMemory d (SpellsNothing G s) × K s d) → DecodesElse O view G K s x
+pub tried-else : {X V : Type 0} (O : List ℕ → Type 0) (view : X → V) (G : V → List ℕ → Type 0)
+    (K : List ℕ → DecodeError → Type 0) (s : List ℕ) (d : DecodeError) (x : Result (Option X) DecodeError)
+    → IsErr x × IsErrAnd x (λ e. e ≡ d) → UnlessMemory d (O s → ⊥) × (UnlessMemory d (SpellsNothing G s) × K s d)
+    → DecodesElse O view G K s x
 tried-else O view G K s d (Ok x) h k = absurd h.1
-tried-else O view G K s d (Err e) h k = subst (λ q. UnlessMemory q (O s → ⊥) × (UnlessMemory q (SpellsNothing G s) × K s q)) (sym h.1) k
+tried-else O view G K s d (Err e) h k = subst
+    (λ q. UnlessMemory q (O s → ⊥) × (UnlessMemory q (SpellsNothing G s) × K s q)) (sym h.1) k
 
 -- ---- behind a value
 
@@ -29,7 +32,8 @@ pub follows : (P : List ℕ → Type 0) (s d m : List ℕ) → Accepts SpellsVal
 follows P s d m a f = subst P (a.only f.value f.rest f.begins).1 f.follows
 
 -- the algorithm is there
-pub not-other : (s d m r : List ℕ) (b : Bool) → Accepts SpellsValue s d m → Accepts (SpellsAlgorithm sha256_with_rsa_encryption) m b r → AreOtherParts s → ⊥
+pub not-other : (s d m r : List ℕ) (b : Bool) → Accepts SpellsValue s d m
+    → Accepts (SpellsAlgorithm sha256_with_rsa_encryption) m b r → AreOtherParts s → ⊥
 not-other s d m r b a g f = (follows (IsOther (SpellsAlgorithm sha256_with_rsa_encryption)) s d m a f).none b r g.spells
 
 -- ---- inside a SEQUENCE
@@ -37,5 +41,6 @@ not-other s d m r b a g f = (follows (IsOther (SpellsAlgorithm sha256_with_rsa_e
 pub no-first : (P : List ℕ → Type 0) (s : List ℕ) → Refuses (SpellsContents sequence true) s → HoldsFirst P s → ⊥
 no-first P s none f = none f.contents f.rest f.begins
 
-pub inside : (P : List ℕ → Type 0) (s c r : List ℕ) → Accepts (SpellsContents sequence true) s c r → (P c → ⊥) → HoldsFirst P s → ⊥
+pub inside : (P : List ℕ → Type 0) (s c r : List ℕ) → Accepts (SpellsContents sequence true) s c r → (P c → ⊥)
+    → HoldsFirst P s → ⊥
 inside P s c r a none f = none (subst P (a.only f.contents f.rest f.begins).0 f.inner)

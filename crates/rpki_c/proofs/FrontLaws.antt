@@ -1,5 +1,6 @@
 -- The value at the front of octets, by its header.
-use Rattle.std.proofs.Common.{◌≡◌, ◌≤◌, ℕ, Bool, List, ◌++◌, length, drop, refl, sym, ap, ◌∙◌, arith, length-append, length-drop, append_assoc}
+use Rattle.std.proofs.Common.{◌≡◌, ◌≤◌, ℕ, Bool, List, ◌++◌, length, drop, refl, sym, ap, ◌∙◌, arith, length-append}
+use Rattle.std.proofs.Common.{length-drop, append_assoc}
 use Rattle.rpki_der.specs.declared.tag.Header.{Header}
 use Rattle.rpki_der.specs.TagName.{TagName}
 use Rattle.rpki_der.specs.Header.{identifier_octets, length_octets}
@@ -12,7 +13,8 @@ use Rattle.rpki_c.specs.Place.{ContentsStand}
 abbrev pub front_header : TagName → Bool → List ℕ → Header
 front_header t f c = record { tag = t; constructed = f; length = length c }
 
-pub header_of : (s : List ℕ) (t : TagName) (f : Bool) (c r : List ℕ) → Spells (SpellsContents t f) s c r → Spells SpellsHeader s (front_header t f c) (c ++ r)
+pub header_of : (s : List ℕ) (t : TagName) (f : Bool) (c r : List ℕ) → Spells (SpellsContents t f) s c r
+    → Spells SpellsHeader s (front_header t f c) (c ++ r)
 header_of s t f c r h =
     let a = identifier_octets t f in
     let b = length_octets (length c) in
@@ -23,7 +25,8 @@ header_of s t f c r h =
       spelled = record { legal = record { tag = h.spelled.tag; length = h.spelled.fits }; octets = refl };
     }
 
-pub stand : (s : List ℕ) (header : Header) (p : Place) (t : TagName) (f : Bool) (c r : List ℕ) → p.start ≤ length s → p.length ≡ header.length
+pub stand : (s : List ℕ) (header : Header) (p : Place) (t : TagName) (f : Bool) (c r : List ℕ) → p.start ≤ length s
+    → p.length ≡ header.length
     → Accepts SpellsHeader s header (drop p.start s) → Spells (SpellsContents t f) s c r → ContentsStand s p c r
 stand s header p t f c r low size a h =
     let g = a.only (front_header t f c) (c ++ r) (header_of s t f c r h) in

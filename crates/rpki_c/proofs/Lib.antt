@@ -10,8 +10,8 @@
 -- Where octets go wrong: FaultLaws. The index, in the middle of its writing: FillingLaws.
 -- Parts of parsed URIs, by their places: RsyncPlacesLaws, HttpsPlacesLaws. Parts of certificates: CertificateLaws; that
 --   one is held to a profile: InspectionLaws. Parts of revocation lists: CrlLaws; of signed
---   objects: SignedObjectLaws; of manifests and attestations: ContentLaws, RoaPlaceLaws; how many: CountLaws. Where
---   something is: AccessLaws.
+--   objects: SignedObjectLaws; of manifests and attestations: ContentLaws, RoaPlaceLaws; names by their places:
+--   PlacedNamesLaws; how many: CountLaws. Where something is: AccessLaws. Values that are taken off a part: TakingLaws.
 -- Entries of blocks, one after another, and how many there are: BlockListLaws, ViewCountLaws. Statuses of
 --   contents of resources: ResourceStatusLaws.
 
@@ -31,6 +31,7 @@ mod RsyncPlacesLaws
 mod HttpsPlacesLaws
 mod MadeLaws
 mod AccessLaws
+mod TakingLaws
 pub mod CertificateLaws
 pub mod InspectionLaws
 mod HexTextLaws
@@ -43,3 +44,4 @@ pub mod SignedObjectLaws
 mod ContentLaws
 mod CountLaws
 mod RoaPlaceLaws
+mod PlacedNamesLaws

@@ -1,5 +1,7 @@
 -- Where the parts of signed data and of an extension stand.
-use Rattle.std.proofs.Common.{◌≡◌, ◌≤◌, ◌+◌, ◌-◌, ℕ, Bool, true, false, List, [], ◌∷◌, ◌++◌, length, take, drop, get_or, refl, sym, ap, ◌∙◌, arith, append_assoc, append-nil, length-append, length-drop, take_all, le_refl}
+use Rattle.std.proofs.Common.{◌≡◌, ◌≤◌, ◌+◌, ◌-◌, ℕ, Bool, true, false, List, [], ◌∷◌, ◌++◌, length, take, drop, get_or}
+use Rattle.std.proofs.Common.{refl, sym, ap, ◌∙◌, arith, append_assoc, append-nil, length-append, length-drop, take_all}
+use Rattle.std.proofs.Common.{le_refl}
 use Rattle.std.proofs.lemmas.List.{drop-drop, drop_at}
 use Rattle.std.proofs.Math.Seq.{take-append_seam, get_or-append_seam}
 use Rattle.rpki_der.specs.TagName.{TagName, sequence, bit_string, octet_string, oid}
@@ -17,7 +19,8 @@ use Rattle.rpki_c.proofs.SuffixLaws.{suffix}
 -- ---- any parts
 
 -- what a place has, where the octets from it on are known
-pub place-at : (s : List ℕ) (start size : ℕ) (part rest : List ℕ) → start ≤ length s → size ≡ length part → drop start s ≡ part ++ rest
+pub place-at : (s : List ℕ) (start size : ℕ) (part rest : List ℕ) → start ≤ length s → size ≡ length part
+    → drop start s ≡ part ++ rest
     → IsPlace s (record { start = start; length = size }) part
 place-at s start size part rest low is e = rw is (record {
   within = omega (arith, low, ap length e, length-append part rest, length-drop start s);
@@ -25,15 +28,18 @@ place-at s start size part rest low is e = rw is (record {
 })
 
 -- what follows the first part
-pub drop-part : (s : List ℕ) (start : ℕ) (part rest : List ℕ) → drop start s ≡ part ++ rest → drop (start + length part) s ≡ rest
-drop-part s start part rest e = sym (drop-drop (length part) start s) ∙ ap (λ (x : List ℕ). drop (length part) x) e ∙ drop_at part rest (length part) refl
+pub drop-part : (s : List ℕ) (start : ℕ) (part rest : List ℕ) → drop start s ≡ part ++ rest
+    → drop (start + length part) s ≡ rest
+drop-part s start part rest e = sym (drop-drop (length part) start s) ∙ ap (λ (x : List ℕ). drop (length part) x) e
+    ∙ drop_at part rest (length part) refl
 
 -- the octets from a place on
 pub slice-from : (s : List ℕ) (n : ℕ) → take (length s - n) (drop n s) ≡ drop n s
 slice-from s n = take_all (length s - n) (drop n s) (omega (arith, length-drop n s))
 
 -- contents that stand within what follows a place
-pub stand-in : (s r : List ℕ) (start : ℕ) (p : Place) (contents rest : List ℕ) → start ≤ length s → r ≡ drop start s → ContentsStand r p contents rest
+pub stand-in : (s r : List ℕ) (start : ℕ) (p : Place) (contents rest : List ℕ) → start ≤ length s → r ≡ drop start s
+    → ContentsStand r p contents rest
     → ContentsStand s (record { start = start + p.start; length = p.length }) contents rest
 stand-in s r start p contents rest low e h = record {
   within = omega (arith, low, h.within, ap length e, length-drop start s);
@@ -41,13 +47,15 @@ stand-in s r start p contents rest low e h = record {
   octets = sym (drop-drop p.start start s) ∙ ap (λ (x : List ℕ). drop p.start x) (sym e) ∙ h.octets;
 }
 
-pub stand-place : (s : List ℕ) (p : Place) (contents rest : List ℕ) → ContentsStand s p contents rest → IsPlace s p contents
+pub stand-place : (s : List ℕ) (p : Place) (contents rest : List ℕ) → ContentsStand s p contents rest
+    → IsPlace s p contents
 stand-place s p contents rest h = record {
   within = h.within;
   octets = rw (h.size, h.octets) (take-append_seam contents rest);
 }
 
-pub stand-behind : (s : List ℕ) (p : Place) (contents rest : List ℕ) → ContentsStand s p contents rest → drop (p.start + p.length) s ≡ rest
+pub stand-behind : (s : List ℕ) (p : Place) (contents rest : List ℕ) → ContentsStand s p contents rest
+    → drop (p.start + p.length) s ≡ rest
 stand-behind s p contents rest h = rw h.size (drop-part s p.start contents rest h.octets)
 
 -- the last part
@@ -80,18 +88,24 @@ ends-contents t f c s h = record { front = identifier_octets t f ++ length_octet
 
 -- ---- signed data
 
-pub all-signed : (s : List ℕ) (v : SignedParts Bool) (h : SpellsRpki v s) → Spells (SpellsContents sequence true) s h.contents []
+pub all-signed : (s : List ℕ) (v : SignedParts Bool) (h : SpellsRpki v s)
+    → Spells (SpellsContents sequence true) s h.contents []
 all-signed s v h = spelled-whole (SpellsContents sequence true) s h.contents h.value
 
 -- what stands from the data on, and from the algorithm on
-pub from-data : (s : List ℕ) (v : SignedParts Bool) (h : SpellsRpki v s) (p : Place) → ContentsStand s p h.contents [] → drop p.start s ≡ v.signed ++ (h.spelled.text ++ h.spelled.bits)
-from-data s v h p st = st.octets ∙ append-nil h.contents ∙ h.spelled.parts ∙ append_assoc v.signed h.spelled.text h.spelled.bits
+pub from-data : (s : List ℕ) (v : SignedParts Bool) (h : SpellsRpki v s) (p : Place) → ContentsStand s p h.contents []
+    → drop p.start s ≡ v.signed ++ (h.spelled.text ++ h.spelled.bits)
+from-data s v h p st = st.octets ∙ append-nil h.contents ∙ h.spelled.parts
+    ∙ append_assoc v.signed h.spelled.text h.spelled.bits
 
-pub from-algorithm : (s : List ℕ) (v : SignedParts Bool) (h : SpellsRpki v s) (p : Place) (n : ℕ) → n ≡ length v.signed → ContentsStand s p h.contents []
+pub from-algorithm : (s : List ℕ) (v : SignedParts Bool) (h : SpellsRpki v s) (p : Place) (n : ℕ) → n ≡ length v.signed
+    → ContentsStand s p h.contents []
     → drop (p.start + n) s ≡ h.spelled.text ++ h.spelled.bits
-from-algorithm s v h p n is st = rw is (drop-part s p.start v.signed (h.spelled.text ++ h.spelled.bits) (from-data s v h p st))
+from-algorithm s v h p n is st = rw is (drop-part s p.start v.signed (h.spelled.text ++ h.spelled.bits)
+    (from-data s v h p st))
 
-pub algorithm-spelled : (s r : List ℕ) (v : SignedParts Bool) (h : SpellsRpki v s) → r ≡ h.spelled.text ++ h.spelled.bits
+pub algorithm-spelled : (s r : List ℕ) (v : SignedParts Bool) (h : SpellsRpki v s)
+    → r ≡ h.spelled.text ++ h.spelled.bits
     → Spells (SpellsContents sequence true) r h.spelled.named.contents h.spelled.bits
 algorithm-spelled s r v h e = record { front = h.spelled.text; parts = e; spelled = h.spelled.named.value }
 
@@ -100,7 +114,8 @@ pub record SignatureEnd (s : List ℕ) (unused : ℕ) (value : List ℕ) : Type 
   pub front : List ℕ
   pub parts : s ≡ front ++ unused ∷ value
 
-pub signature-end : (s : List ℕ) (v : SignedParts Bool) (h : SpellsRpki v s) → SignatureEnd s h.spelled.signature.unused v.value
+pub signature-end : (s : List ℕ) (v : SignedParts Bool) (h : SpellsRpki v s)
+    → SignatureEnd s h.spelled.signature.unused v.value
 signature-end s v h =
     let k = h.spelled in
     let b = k.signature.string in
@@ -113,21 +128,26 @@ signature-end s v h =
     let four = ends-more s outer.front h.contents (u ∷ v.value) outer.parts three in
     record { front = four.front; parts = four.parts }
 
-pub unused-at : (s : List ℕ) (u : ℕ) (value : List ℕ) (n : ℕ) → SignatureEnd s u value → n ≡ length value → get_or s (length s - n - 1) 0 ≡ u
+pub unused-at : (s : List ℕ) (u : ℕ) (value : List ℕ) (n : ℕ) → SignatureEnd s u value → n ≡ length value
+    → get_or s (length s - n - 1) 0 ≡ u
 unused-at s u value n h is =
-    let at : length s - n - 1 ≡ length h.front = omega (arith, is, ap length h.parts, length-append h.front (u ∷ value)) in
+    let at : length s - n - 1 ≡ length h.front =
+    omega (arith, is, ap length h.parts, length-append h.front (u ∷ value)) in
     rw at (rw h.parts (get_or-append_seam h.front u value 0))
 
 pub value-last : (s : List ℕ) (u : ℕ) (value : List ℕ) (n : ℕ) → SignatureEnd s u value → n ≡ length value
     → IsPlace s (record { start = length s - n; length = n }) value × (length s - n + n ≡ length s)
-value-last s u value n h is = place-last s (h.front ++ u ∷ []) value n (h.parts ∙ sym (append_assoc h.front (u ∷ []) value)) is
+value-last s u value n h is = place-last s (h.front ++ u ∷ []) value n
+    (h.parts ∙ sym (append_assoc h.front (u ∷ []) value)) is
 
 -- ---- extensions
 
-pub all-extension : (s : List ℕ) (x : ExtensionParts) (h : SpellsExtension x s) → Spells (SpellsContents sequence true) s h.contents []
+pub all-extension : (s : List ℕ) (x : ExtensionParts) (h : SpellsExtension x s)
+    → Spells (SpellsContents sequence true) s h.contents []
 all-extension s x h = spelled-whole (SpellsContents sequence true) s h.contents h.value
 
-pub identifier-spelled : (s r : List ℕ) (x : ExtensionParts) (h : SpellsExtension x s) (p : Place) → ContentsStand s p h.contents [] → r ≡ drop p.start s
+pub identifier-spelled : (s r : List ℕ) (x : ExtensionParts) (h : SpellsExtension x s) (p : Place)
+    → ContentsStand s p h.contents [] → r ≡ drop p.start s
     → Spells (SpellsContents oid false) r h.spelled.identifier.contents (h.spelled.second ++ h.spelled.third)
 identifier-spelled s r x h p st e = record {
   front = h.spelled.first;
@@ -139,6 +159,7 @@ pub content-end : (s : List ℕ) (x : ExtensionParts) (h : SpellsExtension x s) 
 content-end s x h =
     let k = h.spelled in
     let one = ends-contents octet_string false x.content k.third k.content in
-    let two = ends-more h.contents (k.first ++ k.second) k.third x.content (k.parts ∙ sym (append_assoc k.first k.second k.third)) one in
+    let two = ends-more h.contents (k.first ++ k.second) k.third x.content
+    (k.parts ∙ sym (append_assoc k.first k.second k.third)) one in
     let outer = ends-contents sequence true h.contents s h.value in
     ends-more s outer.front h.contents x.content outer.parts two

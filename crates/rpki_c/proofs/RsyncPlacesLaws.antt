@@ -1,5 +1,6 @@
 -- Parts that are known by their places.
-use Rattle.std.proofs.Common.{◌≡◌, ◌≤◌, ℕ, ◌-◌, ◌+◌, ◌&&◌, ◌<◌, ◌++◌, not, codes, List, length, take, drop, bytes_eq, sym, ap, refl, ◌∙◌, subst, arith}
+use Rattle.std.proofs.Common.{◌≡◌, ◌≤◌, ℕ, ◌-◌, ◌+◌, ◌&&◌, ◌<◌, ◌++◌, not, codes, List, length, take, drop, bytes_eq}
+use Rattle.std.proofs.Common.{sym, ap, refl, ◌∙◌, subst, arith}
 use Rattle.std.proofs.lemmas.List.{length-drop, length-take-le, append_assoc, drop-drop}
 use Rattle.std.specs.List.{position_or_len}
 use Rattle.rpki_text.specs.Segments.{is_slash, is_dir}
@@ -49,7 +50,8 @@ cut-own t p u h a =
     }
 
 -- a text that is cut at the same places has parts at the same places
-pub end-parts : (t : List ℕ) (p : RsyncParts) (size : ℕ) → AreLaidOut size p → IsCut t p.module_name.start p.path.start → AreParts t (with_end p (length t))
+pub end-parts : (t : List ℕ) (p : RsyncParts) (size : ℕ) → AreLaidOut size p → IsCut t p.module_name.start p.path.start
+    → AreParts t (with_end p (length t))
 end-parts t p size h c =
     let authority = authority-at t _ _ c in
     let module_name = module_name-at t _ _ c in
@@ -60,7 +62,8 @@ end-parts t p size h c =
       parts = record {
         authority = record {
           within = omega (arith, authority.within, authority.ordered, h.authority, h.module_name);
-          octets = ap (λ n. take p.authority.length (drop n t)) h.authority ∙ ap (λ k. take k (drop 8 t)) (omega (arith, h.module_name)) ∙ authority.octets;
+          octets = ap (λ n. take p.authority.length (drop n t)) h.authority
+              ∙ ap (λ k. take k (drop 8 t)) (omega (arith, h.module_name)) ∙ authority.octets;
         };
         module_name = record {
           within = omega (arith, module_name.within, h.path);
@@ -77,17 +80,22 @@ end-parts t p size h c =
     }
 
 -- the test of the module, by the texts
-pub own-module : (u v : Parsed) → IsOwn u → IsOwn v → (bytes_eq (lowercase u.authority.now) (lowercase v.authority.now) && bytes_eq u.module_name.now v.module_name.now)
-    ≡ (bytes_eq (lowercase (authority_of u.text.now)) (lowercase (authority_of v.text.now)) && bytes_eq (module_name_of u.text.now) (module_name_of v.text.now))
+pub own-module : (u v : Parsed) → IsOwn u → IsOwn v
+    → (bytes_eq (lowercase u.authority.now) (lowercase v.authority.now) && bytes_eq u.module_name.now v.module_name.now)
+    ≡ (bytes_eq (lowercase (authority_of u.text.now)) (lowercase (authority_of v.text.now))
+    && bytes_eq (module_name_of u.text.now) (module_name_of v.text.now))
 own-module u v a b = rw (a.authority, a.module_name, b.authority, b.module_name) refl
 
 -- the test of equality, by the texts
-pub own-same : (u v : Parsed) → IsOwn u → IsOwn v → ((bytes_eq (lowercase u.authority.now) (lowercase v.authority.now) && bytes_eq u.module_name.now v.module_name.now) && bytes_eq u.path.now v.path.now)
+pub own-same : (u v : Parsed) → IsOwn u → IsOwn v
+    → ((bytes_eq (lowercase u.authority.now) (lowercase v.authority.now)
+    && bytes_eq u.module_name.now v.module_name.now) && bytes_eq u.path.now v.path.now)
     ≡ same_uri (uri_of u.text.now) (uri_of v.text.now)
 own-same u v a b = rw (own-module u v a b, a.path, b.path) (same_uri-texts u.text.now v.text.now)
 
 -- a text with a path joined to it, by its own path
-pub own-joined : (u : Parsed) (p : List ℕ) → IsOwn u → 0 < length p → with_mark (not (is_dir u.path.now)) u.text.now p ≡ joined u.text.now p
+pub own-joined : (u : Parsed) (p : List ℕ) → IsOwn u → 0 < length p
+    → with_mark (not (is_dir u.path.now)) u.text.now p ≡ joined u.text.now p
 own-joined u p a some = rw a.path (marked-filled u.text.now _ _ (cut-of u.text.now a.form) p some)
 
 regroup : (l m s p : List ℕ) → l ++ ((m ++ s) ++ p) ≡ ((l ++ m) ++ s) ++ p
@@ -97,11 +105,13 @@ regroup l m s p = simp append_assoc
 pub lower-canonical : (t : List ℕ) (m p : ℕ) → IsCut t m p → lowercase (take m t) ++ drop m t ≡ canonical_of t
 lower-canonical t m p c =
     let h = halves t m p c in
-    ap (λ r. lowercase (take m t) ++ r) h.back ∙ regroup (lowercase (take m t)) (module_name_of t) (codes "/") (path_of t)
+    ap (λ r. lowercase (take m t) ++ r) h.back
+    ∙ regroup (lowercase (take m t)) (module_name_of t) (codes "/") (path_of t)
     ∙ ap (λ x. x ++ path_of t) (canonical-by t (lowercase (take m t)) h.front)
 
 -- what ends a text stands at its end
-pub tail-place : (t p : List ℕ) (n : ℕ) → p ≡ drop n t → IsPlace t (record { start = length t - length p; length = length p }) p
+pub tail-place : (t p : List ℕ) (n : ℕ) → p ≡ drop n t
+    → IsPlace t (record { start = length t - length p; length = length p }) p
 tail-place t p n e =
     let at = end-at t p n e in
     let l = ap length e ∙ length-drop n t in
@@ -111,5 +121,6 @@ tail-place t p n e =
     }
 
 -- a part that ends the path ends the text
-pub own-tail : (t : List ℕ) (p : RsyncParts) (u : Parsed) → IsCutAt t p u → (r : List ℕ) (n : ℕ) → r ≡ drop n u.path.now → r ≡ drop (p.path.start + n) t
+pub own-tail : (t : List ℕ) (p : RsyncParts) (u : Parsed) → IsCutAt t p u → (r : List ℕ) (n : ℕ) → r ≡ drop n u.path.now
+    → r ≡ drop (p.path.start + n) t
 own-tail t p u h r n e = e ∙ ap (drop n) h.path ∙ drop-drop n p.path.start t

@@ -1,7 +1,8 @@
 -- Reading the parts of signed data in place.
 use Rattle.std.proofs.Common.{◌≡◌, ℕ, Bool, true, false, List, refl, subst}
 use Rattle.rpki_der.specs.declared.error.DecodeError.{DecodeError}
-use Rattle.rpki_der.specs.declared.error.DecodeError.TheVariants.{Truncated, BadTag, BadLength, Unexpected, Content, Trailing, OutOfMemory}
+use Rattle.rpki_der.specs.declared.error.DecodeError.TheVariants.{Truncated, BadTag, BadLength, Unexpected, Content}
+use Rattle.rpki_der.specs.declared.error.DecodeError.TheVariants.{Trailing, OutOfMemory}
 use Rattle.rpki_der.specs.declared.tag.Header.{Header}
 use Rattle.rpki_der.specs.TagName.{sequence, bit_string}
 use Rattle.rpki_der.specs.Reading.{Spells, Accepts, Refuses, Refusal, UnlessMemory, SpellsNothing, OrMemoryWhere}
@@ -22,7 +23,8 @@ use Rattle.rpki_c.specs.Signed.{SpellsRpki, IsWalkedFault, IsAllPartsFault, IsSi
 
 -- ---- errors that are not allocation failure
 
-pub value-no-memory : (W : Header → Type 0) (Cut : List ℕ → Type 0) (s : List ℕ) (e : DecodeError) → IsValueFault W Cut s e → e ≡ OutOfMemory → ⊥
+pub value-no-memory : (W : Header → Type 0) (Cut : List ℕ → Type 0) (s : List ℕ) (e : DecodeError)
+    → IsValueFault W Cut s e → e ≡ OutOfMemory → ⊥
 value-no-memory W Cut s Truncated h z = cc
 value-no-memory W Cut s BadTag h z = cc
 value-no-memory W Cut s BadLength h z = cc
@@ -33,14 +35,16 @@ value-no-memory W Cut s OutOfMemory h z = h
 
 -- ---- a signature, of the contents of a bit string
 
-contents-of : (s v r : List ℕ) → (h : Spells SpellsSignature s v r) → Spells (SpellsContents bit_string false) s h.spelled.string.contents r
+contents-of : (s v r : List ℕ) → (h : Spells SpellsSignature s v r)
+    → Spells (SpellsContents bit_string false) s h.spelled.string.contents r
 contents-of s v r h = record { front = h.front; parts = h.parts; spelled = h.spelled.string.value }
 
 pub no-bits : (s : List ℕ) → Refuses (SpellsContents bit_string false) s → Refuses SpellsSignature s
 no-bits s none v r h = none h.spelled.string.contents r (contents-of s v r h)
 
 -- the contents are none of a bit string
-pub bad-bits : (s c q : List ℕ) → Accepts (SpellsContents bit_string false) s c q → ((b : Bits) → IsBits b c → ⊥) → Refuses SpellsSignature s
+pub bad-bits : (s c q : List ℕ) → Accepts (SpellsContents bit_string false) s c q → ((b : Bits) → IsBits b c → ⊥)
+    → Refuses SpellsSignature s
 bad-bits s c q a none v r h =
     let e = a.only h.spelled.string.contents r (contents-of s v r h) in
     let b = bits_of h.spelled.unused v in
@@ -53,7 +57,9 @@ abbrev pub AreParts : SignedParts Bool → List ℕ → Type 0
 AreParts = IsSignedContents (SpellsAlgorithm sha256_with_rsa_encryption)
 
 -- there is no SEQUENCE
-pub sequence-refused : (s q : List ℕ) (e : DecodeError) → Refusal (SpellsContents sequence true) (IsContentsFault sequence true) s q e → Refusal SpellsRpki IsSignedFault s s e
+pub sequence-refused : (s q : List ℕ) (e : DecodeError)
+    → Refusal (SpellsContents sequence true) (IsContentsFault sequence true) s q e
+    → Refusal SpellsRpki IsSignedFault s s e
 sequence-refused s q e h =
     let k = outer-refused sequence true AreParts s q s e refl h in
     record { unchanged = refl; refuses = k.refuses; kind = AtPart h.refuses h.kind }
@@ -70,7 +76,10 @@ parts-refused s c q e a h =
 constructed-memory : (s : List ℕ) → IsWalkedFault s OutOfMemory → HasConstructed s
 constructed-memory s k = k
 
-pub signed-outer : (s : List ℕ) (e : DecodeError) → IsSignedFault s e → OrMemoryWhere (HasInside sequence HasConstructed) (GivesOuterFault sequence true) s e
+pub signed-outer : (s : List ℕ) (e : DecodeError) → IsSignedFault s e
+    → OrMemoryWhere (HasInside sequence HasConstructed) (GivesOuterFault sequence true) s e
 signed-outer =
-    three-outer (SpellsAlgorithm sha256_with_rsa_encryption) IsWalkedFault (IsAlgorithmFault sha256_with_rsa_encryption) (IsLeafFault bit_string false IsBits) HasConstructed
-    constructed-memory (λ s k. (algorithm-outer sha256_with_rsa_encryption s OutOfMemory k).other refl) (λ s v m q a k. absurd (leaf-no-memory bit_string false IsBits q OutOfMemory k refl))
+    three-outer (SpellsAlgorithm sha256_with_rsa_encryption) IsWalkedFault (IsAlgorithmFault sha256_with_rsa_encryption)
+    (IsLeafFault bit_string false IsBits) HasConstructed
+    constructed-memory (λ s k. (algorithm-outer sha256_with_rsa_encryption s OutOfMemory k).other refl)
+    (λ s v m q a k. absurd (leaf-no-memory bit_string false IsBits q OutOfMemory k refl))

@@ -1,5 +1,6 @@
 -- How many entries resources in place have, and that there are resources that say the same.
-use Rattle.std.proofs.Common.{◌≡◌, ◌≤◌, ◌<◌, ◌+◌, inl, inr, ℕ, suc, List, [], ◌∷◌, ◌++◌, Option, None, Some, length, refl, sym, ap, ◌∙◌, subst, arith, length-append, true, false}
+use Rattle.std.proofs.Common.{◌≡◌, ◌≤◌, ◌<◌, ◌+◌, inl, inr, ℕ, suc, List, [], ◌∷◌, ◌++◌, Option, None, Some, length}
+use Rattle.std.proofs.Common.{refl, sym, ap, ◌∙◌, subst, arith, length-append, true, false}
 use Rattle.std.specs.Prelude.{set, take, drop}
 use Rattle.std.proofs.lemmas.List.{length-map, set_split}
 use Rattle.rpki_der.specs.TagName.{null, sequence}
@@ -15,7 +16,9 @@ use Rattle.rpki_resources.specs.declared.kind.ResourceKind.TheVariants.{Addresse
 use Rattle.rpki_resources.specs.declared.choice.ResourcesChoice.{ResourcesChoice}
 use Rattle.rpki_resources.specs.declared.choice.ResourcesChoice.TheVariants.{Missing, Inherit, Blocks}
 use Rattle.rpki_resources.specs.declared.choice_view.ChoiceView.{ChoiceView}
-use Rattle.rpki_resources.specs.declared.choice_view.ChoiceView.TheVariants.{Missing as NoneThere, Inherit as InheritThere, Blocks as BlocksThere}
+use Rattle.rpki_resources.specs.declared.choice_view.ChoiceView.TheVariants.{Missing as NoneThere}
+use Rattle.rpki_resources.specs.declared.choice_view.ChoiceView.TheVariants.{Inherit as InheritThere}
+use Rattle.rpki_resources.specs.declared.choice_view.ChoiceView.TheVariants.{Blocks as BlocksThere}
 use Rattle.rpki_resources.specs.declared.ip_view.IpResourcesView.{IpResourcesView}
 use Rattle.rpki_resources.specs.declared.resources.IpResources.{IpResources}
 use Rattle.rpki_resources.specs.Listed.{SpellsNext, SpellsFollowing}
@@ -32,7 +35,8 @@ use Rattle.rpki_c.specs.ViewCount.{view_count, IsFilledAt}
 
 -- ---- as many entries as are counted
 
-pub family-count : (family : AddressFamily) (v : ResourcesChoice) (x : ChoiceView) → IsChoiceOf v x → length (family_entries family v) ≡ view_count x
+pub family-count : (family : AddressFamily) (v : ResourcesChoice) (x : ChoiceView) → IsChoiceOf v x
+    → length (family_entries family v) ≡ view_count x
 family-count family Missing NoneThere h = refl
 family-count family Missing InheritThere h = absurd h
 family-count family Missing (BlocksThere x) h = absurd h
@@ -56,7 +60,8 @@ as-count (Blocks bs) (BlocksThere x) h = length-map bs as_entry ∙ h.count
 
 -- ---- resources that say the same
 
-choice-kept : (kind : ResourceKind) (x : ChoiceView) (p : List ℕ) → SpellsChoice kind x p → (v : ResourcesChoice) × IsChoiceOf v x
+choice-kept : (kind : ResourceKind) (x : ChoiceView) (p : List ℕ) → SpellsChoice kind x p
+    → (v : ResourcesChoice) × IsChoiceOf v x
 choice-kept kind x p (inl h) = (Inherit, subst (IsChoiceOf Inherit) (sym h.stands) tt)
 choice-kept kind x p (inr h) =
     let held = h.spelled.spelled.held in (Blocks held.0, subst (IsChoiceOf (Blocks held.0)) (sym h.stands) held.1)
@@ -83,19 +88,23 @@ pub as-kept : (x : ChoiceView) (s : List ℕ) → SpellsAsResources x s → (v :
 as-kept x s h = choice-kept AsNumbers x h.spelled.contents h.spelled.spelled
 
 -- the octets are those resources
-pub ip-spelled : (x : IpResourcesView) (v : IpResources) (s : List ℕ) → SpellsIpResources x s → AreIpResourcesOf v x → SpellsIp v s
+pub ip-spelled : (x : IpResourcesView) (v : IpResources) (s : List ℕ) → SpellsIpResources x s → AreIpResourcesOf v x
+    → SpellsIp v s
 ip-spelled x v s h k = record { value = x; spelled = h; stands = k }
 
-pub as-spelled : (x : ChoiceView) (v : ResourcesChoice) (s : List ℕ) → SpellsAsResources x s → IsChoiceOf v x → SpellsAs (as_of v) s
+pub as-spelled : (x : ChoiceView) (v : ResourcesChoice) (s : List ℕ) → SpellsAsResources x s → IsChoiceOf v x
+    → SpellsAs (as_of v) s
 as-spelled x v s h k = record { value = x; spelled = h; stands = k }
 
 -- blocks of AS numbers are AS numbers
-pub as-fit : (x : Octets) (s : List ℕ) → SpellsAsResources (BlocksThere x) s → (bs : List Block) → Holds x bs → AreBlocksOf AsNumbers bs
+pub as-fit : (x : Octets) (s : List ℕ) → SpellsAsResources (BlocksThere x) s → (bs : List Block) → Holds x bs
+    → AreBlocksOf AsNumbers bs
 as-fit x s h bs k = (as-writable (as_of (Blocks bs)) s (as-spelled (BlocksThere x) (Blocks bs) s h k)).numbers.fit
 
 -- ---- there are no more entries than octets
 
-few-blocks : (kind : ResourceKind) (last : Option ℕ) (bs : List Block) (c : List ℕ) → SpellsFollowing kind last bs c → length bs ≤ length c
+few-blocks : (kind : ResourceKind) (last : Option ℕ) (bs : List Block) (c : List ℕ) → SpellsFollowing kind last bs c
+    → length bs ≤ length c
 few-blocks kind last [] c h = omega arith
 few-blocks kind last (b ∷ bs) c h =
     let rest = few-blocks kind (Some b.high) bs h.0 h.2 in
@@ -118,13 +127,29 @@ choice-few kind x p (inr h) =
     let is : view_count x ≡ h.value.count = ap view_count h.stands in
     let listed = h.spelled.spelled in
     let held = listed.held in
-    let few = few-blocks h.value.kind None held.0 h.value.octets (blocks-following h.value.kind held.0 h.value.octets held.1.blocks) in
-    omega (arith, is, held.1.count, few, ap length listed.octets, ap length h.spelled.value.octets, tlv-at-least sequence true h.spelled.contents)
+    let few = few-blocks h.value.kind None held.0 h.value.octets
+    (blocks-following h.value.kind held.0 h.value.octets held.1.blocks) in
+    omega (
+      arith,
+      is,
+      held.1.count,
+      few,
+      ap length listed.octets,
+      ap length h.spelled.value.octets,
+      tlv-at-least sequence true h.spelled.contents,
+    )
 
 named-few : (family : AddressFamily) (x : ChoiceView) (p : List ℕ) → SpellsNamed (family, x) p → view_count x ≤ length p
 named-few family x p h =
     let few = choice-few (Addresses family) x h.spelled.second h.spelled.two in
-    omega (arith, few, ap length h.spelled.parts, length-append h.spelled.first h.spelled.second, ap length h.value.octets, tlv-at-least sequence true h.contents)
+    omega (
+      arith,
+      few,
+      ap length h.spelled.parts,
+      length-append h.spelled.first h.spelled.second,
+      ap length h.value.octets,
+      tlv-at-least sequence true h.contents,
+    )
 
 families-few : (x : IpResourcesView) (c : List ℕ) → AreFamilies x c → view_count x.v4 + view_count x.v6 ≤ length c
 families-few x c (OnlyV4 v4 e s) =
@@ -151,7 +176,8 @@ ip-few x s h =
 
 -- ---- one entry that says whose resources are
 
-pub inherited-entries : (family : AddressFamily) (v : ResourcesChoice) → IsChoiceOf v InheritThere → family_entries family v ≡ inherited_ip family ∷ []
+pub inherited-entries : (family : AddressFamily) (v : ResourcesChoice) → IsChoiceOf v InheritThere
+    → family_entries family v ≡ inherited_ip family ∷ []
 inherited-entries family Missing h = absurd h
 inherited-entries family Inherit h = refl
 inherited-entries family (Blocks bs) h = absurd h
@@ -161,7 +187,8 @@ inherited-as Missing h = absurd h
 inherited-as Inherit h = refl
 inherited-as (Blocks bs) h = absurd h
 
-pub one-filled : {E : Type 0} (from : ℕ) (e : E) (old : List E) → from + 1 ≤ length old → IsFilledAt from (e ∷ []) old (set old from e)
+pub one-filled : {E : Type 0} (from : ℕ) (e : E) (old : List E) → from + 1 ≤ length old
+    → IsFilledAt from (e ∷ []) old (set old from e)
 one-filled {E} from e old room =
     let within : from < length old = omega (arith, room) in
     let next : suc from ≡ from + 1 = omega arith in

@@ -4,7 +4,8 @@ use Rattle.std.specs.Str.{is_utf8}
 use Rattle.std.specs.declared.result.Result.{Result}
 use Rattle.std.specs.declared.result.Result.TheVariants.{Ok, Err}
 use Rattle.base64.specs.declared.decode.DecodeError.{DecodeError}
-use Rattle.base64.specs.declared.decode.DecodeError.TheVariants.{InvalidByte, InvalidLength, InvalidLastSymbol, InvalidPadding}
+use Rattle.base64.specs.declared.decode.DecodeError.TheVariants.{InvalidByte, InvalidLength, InvalidLastSymbol}
+use Rattle.base64.specs.declared.decode.DecodeError.TheVariants.{InvalidPadding}
 use Rattle.base64.specs.Engines.{standard, url_safe_no_pad_indifferent}
 use Rattle.base64.specs.GeneralPurpose.{encode_of, decode_of}
 use Rattle.rpki_text.specs.Base64Text.{xml_bytes_decode_of}

@@ -2,7 +2,10 @@
 use Rattle.std.specs.Prelude.{◌≡◌, ◌⊎◌, ◌++◌, ℕ, List, []}
 use Rattle.rpki_der.specs.Number.{number_of}
 use Rattle.rpki_cert.specs.declared.cert_part.CertPart.{CertPart}
-use Rattle.rpki_cert.specs.declared.cert_part.CertPart.TheVariants.{Certificate, Signed, Algorithm, Signature, Tbs, Version, SerialNumber, TbsAlgorithm, Issuer, Validity, Subject, PublicKey, Extensions, ExtensionCount, ExtensionIdentifiers, SameAlgorithm}
+use Rattle.rpki_cert.specs.declared.cert_part.CertPart.TheVariants.{Certificate, Signed, Algorithm, Signature, Tbs}
+use Rattle.rpki_cert.specs.declared.cert_part.CertPart.TheVariants.{Version, SerialNumber, TbsAlgorithm, Issuer}
+use Rattle.rpki_cert.specs.declared.cert_part.CertPart.TheVariants.{Validity, Subject, PublicKey, Extensions}
+use Rattle.rpki_cert.specs.declared.cert_part.CertPart.TheVariants.{ExtensionCount, ExtensionIdentifiers, SameAlgorithm}
 use Rattle.rpki_cert.specs.Cert.{TbsParts, CertParts, SpellsCert}
 use Rattle.rpki_cert.specs.View.{AreNamed, IsCertWrong}
 use Rattle.rpki_c.specs.declared.certificate.CertificateParts.{CertificateParts as Parts}

@@ -4,14 +4,19 @@ use Rattle.rpki_der.specs.Each.{SpellsEach}
 use Rattle.rpki.specs.ExtensionValue.{ExtensionParts, SpellsExtension}
 use Rattle.rpki_cert.specs.declared.cert_part.CertPart.{CertPart}
 use Rattle.rpki_cert.specs.declared.known_part.KnownPart.{KnownPart}
-use Rattle.rpki_cert.specs.declared.known_part.KnownPart.TheVariants.{BasicConstraints, SubjectKeyIdentifier, AuthorityKeyIdentifier, KeyUsage, CertificatePolicies}
+use Rattle.rpki_cert.specs.declared.known_part.KnownPart.TheVariants.{BasicConstraints, SubjectKeyIdentifier}
+use Rattle.rpki_cert.specs.declared.known_part.KnownPart.TheVariants.{AuthorityKeyIdentifier, KeyUsage}
+use Rattle.rpki_cert.specs.declared.known_part.KnownPart.TheVariants.{CertificatePolicies}
 use Rattle.rpki_cert.specs.declared.known_view.KnownView.{KnownView}
 use Rattle.rpki_cert.specs.declared.key_usage.KeyUsage.{KeyUsage as Usage}
 use Rattle.rpki_cert.specs.declared.key_usage.KeyUsage.TheVariants.{Ca, Ee}
 use Rattle.rpki_cert.specs.declared.policy.Overclaim.{Overclaim}
 use Rattle.rpki_cert.specs.declared.policy.Overclaim.TheVariants.{Refuse, Trim}
 use Rattle.rpki_cert.specs.Cert.{CertParts, SpellsCert, find}
-use Rattle.rpki_cert.specs.Known.{subject_key_identifier, key_usage, basic_constraints, crl_distribution_points, certificate_policies, authority_key_identifier, extended_key_usage, authority_info_access, subject_info_access, ip_addr_blocks, ip_addr_blocks_v2, autonomous_sys_ids, autonomous_sys_ids_v2}
+use Rattle.rpki_cert.specs.Known.{subject_key_identifier, key_usage, basic_constraints, crl_distribution_points}
+use Rattle.rpki_cert.specs.Known.{certificate_policies, authority_key_identifier, extended_key_usage}
+use Rattle.rpki_cert.specs.Known.{authority_info_access, subject_info_access, ip_addr_blocks, ip_addr_blocks_v2}
+use Rattle.rpki_cert.specs.Known.{autonomous_sys_ids, autonomous_sys_ids_v2}
 use Rattle.rpki_cert.specs.KnownView.{AreKnown, IsFirstWrong}
 use Rattle.rpki_cert.specs.View.{behind_first, IsCertWrong}
 use Rattle.rpki_c.specs.declared.certificate_extensions.KnownExtension.{KnownExtension}

@@ -2,7 +2,17 @@
 use Rattle.std.specs.Prelude.{◌≡◌, ◌⊎◌, ◌<◌, ℕ, Bool, List}
 use Rattle.rpki_cert.specs.declared.cert_part.CertPart.{CertPart}
 use Rattle.rpki_cert.specs.declared.rule.CertRule.{CertRule}
-use Rattle.rpki_cert.specs.declared.rule.CertRule.TheVariants.{SerialNumber, CriticalExtensions, Issuer, Validity, Subject, RouterSubject, RsaKey, RouterKey, BasicConstraints, NoBasicConstraints, SubjectKeyIdentifier, AuthorityKeyIdentifier, OwnAuthority, SelfIssued, AuthorityUsage, EndUsage, NoExtendedKeyUsage, RouterPurpose, RevocationList, NoRevocationList, IssuerCertificate, NoIssuerCertificate, Repository, Manifest, ManifestPlace, Notifications, SignedObject, NoSubjectAccess, CertificatePolicies, Resources, ResourceVersion, RouterNumbers, ObjectAccess, ResourceBlocks, OwnResources}
+use Rattle.rpki_cert.specs.declared.rule.CertRule.TheVariants.{SerialNumber, CriticalExtensions, Issuer, Validity}
+use Rattle.rpki_cert.specs.declared.rule.CertRule.TheVariants.{Subject, RouterSubject, RsaKey, RouterKey}
+use Rattle.rpki_cert.specs.declared.rule.CertRule.TheVariants.{BasicConstraints, NoBasicConstraints}
+use Rattle.rpki_cert.specs.declared.rule.CertRule.TheVariants.{SubjectKeyIdentifier, AuthorityKeyIdentifier}
+use Rattle.rpki_cert.specs.declared.rule.CertRule.TheVariants.{OwnAuthority, SelfIssued, AuthorityUsage, EndUsage}
+use Rattle.rpki_cert.specs.declared.rule.CertRule.TheVariants.{NoExtendedKeyUsage, RouterPurpose, RevocationList}
+use Rattle.rpki_cert.specs.declared.rule.CertRule.TheVariants.{NoRevocationList, IssuerCertificate, NoIssuerCertificate}
+use Rattle.rpki_cert.specs.declared.rule.CertRule.TheVariants.{Repository, Manifest, ManifestPlace, Notifications}
+use Rattle.rpki_cert.specs.declared.rule.CertRule.TheVariants.{SignedObject, NoSubjectAccess, CertificatePolicies}
+use Rattle.rpki_cert.specs.declared.rule.CertRule.TheVariants.{Resources, ResourceVersion, RouterNumbers, ObjectAccess}
+use Rattle.rpki_cert.specs.declared.rule.CertRule.TheVariants.{ResourceBlocks, OwnResources}
 use Rattle.rpki_c.specs.declared.certificate_inspection.CertificateProfile.{CertificateProfile}
 use Rattle.rpki_c.specs.declared.certificate_inspection.CertificateProfile.TheVariants.{Ta, Ca, Ee, Router, Detached}
 use Rattle.rpki_cert.specs.Cert.{TbsParts, CertParts, SpellsCert}

@@ -1,7 +1,8 @@
 -- What a status says of the text of an https URI and of the places of its parts, which an earlier call gave.
 use Rattle.std.specs.Prelude.{◌≡◌, ◌⊎◌, ◌≤◌, ◌+◌, ◌-◌, ◌++◌, ℕ, List, Bool, take, length, codes, Some, None}
 use Rattle.rpki_text.specs.UriText.{lowercase}
-use Rattle.rpki_text.specs.HttpsText.{https_refusal, https_authority, https_path, https_parent_of, https_joined, https_join_refusal, https_into_dir}
+use Rattle.rpki_text.specs.HttpsText.{https_refusal, https_authority, https_path, https_parent_of, https_joined}
+use Rattle.rpki_text.specs.HttpsText.{https_join_refusal, https_into_dir}
 use Rattle.rpki_c.specs.declared.https.HttpsParts.{HttpsParts}
 use Rattle.rpki_c.specs.Status.{no_answer, other_parts}
 use Rattle.rpki_c.specs.Stored.{IsStored}

@@ -1,5 +1,6 @@
 -- What a status says of the index of the value at the front of octets.
-use Rattle.std.specs.Prelude.{◌≡◌, ◌≤◌, ◌<◌, ◌⊎◌, ◌++◌, ◌-◌, ◌+◌, ◌^◌, ℕ, List, map, take, drop, length, Option, Some, None}
+use Rattle.std.specs.Prelude.{◌≡◌, ◌≤◌, ◌<◌, ◌⊎◌, ◌++◌, ◌-◌, ◌+◌, ◌^◌, ℕ, List, map, take, drop, length, Option, Some}
+use Rattle.std.specs.Prelude.{None}
 use Rattle.rpki_der.specs.declared.tag.Header.{Header}
 use Rattle.rpki_der.specs.Header.{class_number}
 use Rattle.rpki_der.specs.Reading.{Accepts, OrMemoryWhere}

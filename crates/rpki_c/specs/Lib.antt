@@ -30,8 +30,10 @@ pub mod MadeSigned
 pub mod Extension
 pub mod Certificate
 pub mod CertificateExtensions
+pub mod CertificateExtension
 pub mod CertificateInspection
 pub mod CertificateChecked
+pub mod Issued
 pub mod MadeExtension
 pub mod Filled
 pub mod ViewCount
@@ -41,6 +43,8 @@ pub mod BlockText
 pub mod Crl
 pub mod SignedObject
 pub mod Manifest
+pub mod ManifestNames
 pub mod Roa
 pub mod Aspa
 pub mod Access
+pub mod Taking

@@ -34,7 +34,8 @@ pub record HasManifest (s : List ℕ) (p : Parts) : Type 0 where
   pub files : StandsBefore s p.files spelled.spelled.two.two.two.two.contents []
   pub count : p.count ≡ length manifest.files
 
--- Status 0: the octets are a manifest of these parts. Else the number of the part that is wrong, and nothing is written.
+-- Status 0: the octets are a manifest of these parts. Else the number of the part that is wrong, and nothing is
+-- written.
 abbrev pub IsManifestRead : List ℕ → ℕ → Parts → Parts → Type 0
 IsManifestRead s status old new =
     ((status ≡ 0) × HasManifest s new)

@@ -1,7 +1,8 @@
 -- What a status says of the text of an rsync URI and of the places of its parts, which an earlier call gave.
 use Rattle.std.specs.Prelude.{◌≡◌, ◌⊎◌, ◌≤◌, ◌+◌, ◌-◌, ◌++◌, ℕ, List, Bool, take, length, Some, None}
 use Rattle.rpki_text.specs.Segments.{with_slash}
-use Rattle.rpki_text.specs.RsyncText.{IsRsync, path_of, canonical_module_of, uri_of, relative, parent_of, joined, join_refusal}
+use Rattle.rpki_text.specs.RsyncText.{IsRsync, path_of, canonical_module_of, uri_of, relative, parent_of, joined}
+use Rattle.rpki_text.specs.RsyncText.{join_refusal}
 use Rattle.rpki_c.specs.declared.rsync.RsyncParts.{RsyncParts}
 use Rattle.rpki_c.specs.declared.place.Place.{Place}
 use Rattle.rpki_c.specs.Status.{no_answer, other_parts}

@@ -1,7 +1,14 @@
 -- The statuses of the library itself, beside 0 and the numbers of the layer's errors.
 use Rattle.std.specs.Prelude.{ℕ}
 use Rattle.rpki.specs.declared.repository.x509.name.rule.NameRule.{NameRule}
-use Rattle.rpki.specs.declared.repository.x509.name.rule.NameRule.TheVariants.{MissingCommonName, SecondCommonName, SecondSerialNumber, SecondOrganizationName, OtherString, OtherAttribute}
+use Rattle.rpki.specs.declared.repository.x509.name.rule.NameRule.TheVariants.{MissingCommonName, SecondCommonName}
+use Rattle.rpki.specs.declared.repository.x509.name.rule.NameRule.TheVariants.{SecondSerialNumber}
+use Rattle.rpki.specs.declared.repository.x509.name.rule.NameRule.TheVariants.{SecondOrganizationName, OtherString}
+use Rattle.rpki.specs.declared.repository.x509.name.rule.NameRule.TheVariants.{OtherAttribute}
+
+-- no identifier octets
+abbrev pub bad_tag : ℕ
+bad_tag = 2
 
 -- the contents are not those of the type
 abbrev pub content : ℕ
@@ -47,6 +54,22 @@ rule_number OtherAttribute = 37
 -- what is added to the number of an error of the second of two texts
 abbrev pub second : ℕ
 second = 16
+
+-- what is handed in as an issuer is no certificate
+abbrev pub no_issuer : ℕ
+no_issuer = 152
+
+-- the issuer of a certificate has another name than the subject of what is handed in as its issuer
+abbrev pub other_issuer : ℕ
+other_issuer = 153
+
+-- the authority key identifier isn't there, or isn't that of the issuer's key
+abbrev pub other_authority : ℕ
+other_authority = 154
+
+-- what is added to the number of an error of a URI, so that no status says two things
+abbrev pub uri : ℕ
+uri = 159
 
 -- a period of validity begins after the moment
 abbrev pub too_new : ℕ

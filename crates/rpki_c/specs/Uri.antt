@@ -2,26 +2,27 @@
 use Rattle.std.specs.Prelude.{◌≡◌, ◌≢◌, ◌⊎◌, ◌≤◌, ◌<◌, ◌+◌, ℕ, List, take, length, Option, Some, None}
 use Rattle.rpki_text.specs.ErrorText.{error_number}
 use Rattle.rpki_text.specs.Buffer.{IsWritten}
-use Rattle.rpki_text.specs.RsyncText.{rsync_refusal, join_refusal, joined, relative, uri_of, parent_of, authority_of, module_name_of, path_of}
+use Rattle.rpki_text.specs.RsyncText.{rsync_refusal, join_refusal, joined, relative, uri_of, parent_of, authority_of}
+use Rattle.rpki_text.specs.RsyncText.{module_name_of, path_of}
 use Rattle.rpki_text.specs.declared.uri.error.Error.{Error}
 use Rattle.rpki_text.specs.declared.uri.error.Error.TheVariants.{OutOfMemory}
 use Rattle.rpki_c.specs.declared.rsync.RsyncParts.{RsyncParts}
 use Rattle.rpki_c.specs.declared.place.Place.{Place}
 use Rattle.rpki_c.specs.Place.{IsPlace}
-use Rattle.rpki_c.specs.Status.{too_small, no_answer, second}
+use Rattle.rpki_c.specs.Status.{too_small, no_answer, second, uri}
 
--- there is an error, none of an allocation, and the status is its number
+-- there is an error, none of an allocation, and the status is its number as a status of URIs
 pub record IsTextFault (refusal : Option Error) (status : ℕ) : Type 0 where
   pub error : Error
   pub is : refusal ≡ Some error
-  pub number : status ≡ error_number error
+  pub number : status ≡ error_number error + uri
   pub memory : error ≢ OutOfMemory
 
 -- the same of the second of two texts: the status is that much more
 pub record IsSecondFault (refusal : Option Error) (status : ℕ) : Type 0 where
   pub error : Error
   pub is : refusal ≡ Some error
-  pub number : status ≡ error_number error + second
+  pub number : status ≡ error_number error + uri + second
   pub memory : error ≢ OutOfMemory
 
 -- of two texts the first has an error, or else the second

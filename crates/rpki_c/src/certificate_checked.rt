@@ -40,8 +40,8 @@ fn check(
 /// [crate::certificate_extensions::rpki_certificate_extensions] say, and tests it by the profile of this number, as
 /// [crate::certificate_inspection::rpki_certificate_inspect].
 ///
-/// The status is 0. Else it is the first that these three calls have, in this order, but that 12, for another number of a
-/// profile, comes before the octets are looked at; and `parts` and `extensions` are unchanged. Nothing is allocated.
+/// The status is 0. Else it is the first that these three calls have, in this order, but that 12, for another number of
+/// a profile, comes before the octets are looked at; and `parts` and `extensions` are unchanged. Nothing is allocated.
 #[unsafe(no_mangle)]
 pub extern "C" fn rpki_certificate_checked(
     octets: &[u8],

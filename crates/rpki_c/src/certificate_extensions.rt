@@ -5,7 +5,8 @@ ghost use Rattle.rpki_cert.specs.ExtensionTable.{identifier_of};
 ghost use Rattle.rpki_cert.specs.Cert.{CertParts};
 ghost use Rattle.rpki_cert.specs.View.{IsCertAt};
 ghost use Rattle.rpki_cert.specs.KnownView.{AreKnown};
-ghost use Rattle.rpki_c.specs.CertificateExtensions.{known_number, usage_number, policy_number, IsIdentifierOf, IsFoundAt, HasExtensions, AreExtensionsRead};
+ghost use Rattle.rpki_c.specs.CertificateExtensions.{known_number, usage_number, policy_number, IsIdentifierOf};
+ghost use Rattle.rpki_c.specs.CertificateExtensions.{IsFoundAt, HasExtensions, AreExtensionsRead};
 
 use crate::certificate::{part_number, place_of};
 use crate::place::Place;
@@ -114,7 +115,11 @@ fn octets_of(identifier: Option<KeyIdentifier>) -> [u8; 20]
 }
 
 /// The extension of this kind in the certificate that the octets are.
-fn extension_at(octets: &[u8], found: &CertView<'_>, kind: ExtensionKind) -> KnownExtension
+pub(crate) fn extension_at(
+    octets: &[u8],
+    found: &CertView<'_>,
+    kind: ExtensionKind,
+) -> KnownExtension
     ensures { (x : CertParts) (h : IsCertAt octets.now found.now x)
         → IsFoundAt x octets.now h.spelled (identifier_of kind) result }
 {
@@ -175,8 +180,8 @@ pub(crate) fn extensions_of(
 /// what the basic constraints, both key identifiers, the key usage and the certificate policies say.
 ///
 /// The status is 0. It is 80 to 84 where one of these five is there, but malformed, or not as critical as it has to be:
-/// the first of them. Else it is the number of the part that is wrong, as that of `rpki_certificate`. `out` is unchanged
-/// where the status is not 0. Nothing is allocated.
+/// the first of them. Else it is the number of the part that is wrong, as that of `rpki_certificate`. `out` is
+/// unchanged where the status is not 0. Nothing is allocated.
 #[unsafe(no_mangle)]
 pub extern "C" fn rpki_certificate_extensions(octets: &[u8], out: &mut KnownExtensions) -> u8
     ensures { AreExtensionsRead octets.now result out.old out.new }

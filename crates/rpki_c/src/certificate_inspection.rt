@@ -4,7 +4,8 @@ ghost use Rattle.std.specs.Prelude.{◌≡◌, ◌<◌, List, ℕ, IfSome, IfNon
 ghost use Rattle.rpki_cert.specs.Cert.{CertParts};
 ghost use Rattle.rpki_cert.specs.View.{IsCertAt};
 ghost use Rattle.rpki_cert.specs.Rule.{TestsRules};
-ghost use Rattle.rpki_c.specs.CertificateInspection.{cert_rule_number, profile_number, HasProfile, rules_of, IsInspectedAs, IsCertificateInspected};
+ghost use Rattle.rpki_c.specs.CertificateInspection.{cert_rule_number, profile_number, HasProfile, rules_of};
+ghost use Rattle.rpki_c.specs.CertificateInspection.{IsInspectedAs, IsCertificateInspected};
 
 use crate::certificate::part_number;
 use crate::status::NO_PROFILE;

@@ -135,8 +135,8 @@ pub struct RevokedCertificate {
     pub size: usize,
 }
 
-/// Reads the entry of a revocation list at the front of the octets, a SEQUENCE of a serial number and a time and nothing
-/// else (RFC 5280 5.1.2.6, RFC 6487 5). What follows is not looked at.
+/// Reads the entry of a revocation list at the front of the octets, a SEQUENCE of a serial number and a time and
+/// nothing else (RFC 5280 5.1.2.6, RFC 6487 5). What follows is not looked at.
 ///
 /// The status is 0, or the number of the error; then `out` is unchanged. Nothing is allocated.
 #[unsafe(no_mangle)]

@@ -5,6 +5,7 @@ ghost use Rattle.rpki_c.specs.HttpsUri.{HasHttpsParts, IsHttpsParsed};
 
 use crate::place::Place;
 use crate::ranges::place_of;
+use crate::rsync::uri_fault;
 use rpki_text::uri::HttpsView;
 
 /// Where the parts of an https URI stand.
@@ -38,6 +39,6 @@ pub extern "C" fn rpki_https_parse(text: &[u8], out: &mut HttpsParts) -> u8
             *out = parts_of(&uri);
             0
         }
-        Err(e) => e.number(),
+        Err(e) => uri_fault(e),
     }
 }

@@ -5,9 +5,11 @@ ghost use Rattle.rpki_text.specs.Segments.{is_dir};
 ghost use Rattle.rpki_text.specs.UriText.{lowercase};
 ghost use Rattle.rpki_text.specs.HttpsText.{https_uri_of, same_https, ends_in_slash};
 ghost use Rattle.rpki_c.specs.HttpsCut.{IsHttpsCutAt, IsOwnHttps};
-ghost use Rattle.rpki_c.specs.HttpsPlaces.{AreHttpsLaidOut, IsToldByHttpsParts, IsHttpsCanonicalByParts, IsHttpsParentByParts, IsHttpsJoinedByParts, IsHttpsDirByParts};
+ghost use Rattle.rpki_c.specs.HttpsPlaces.{AreHttpsLaidOut, IsToldByHttpsParts, IsHttpsCanonicalByParts};
+ghost use Rattle.rpki_c.specs.HttpsPlaces.{IsHttpsParentByParts, IsHttpsJoinedByParts, IsHttpsDirByParts};
 
 use crate::https::HttpsParts;
+use crate::rsync::uri_fault;
 use crate::status::{NO_ANSWER, OTHER_PARTS};
 use crate::stored::{store_joined, store_lower};
 use rpki_text::uri::path::len_above;
@@ -173,7 +175,7 @@ pub extern "C" fn rpki_https_parts_join(
     };
     match check_uri_ascii(path) {
         Ok(()) => store_joined(base, !has_slash_last(uri.path), path, out, written),
-        Err(e) => e.number(),
+        Err(e) => uri_fault(e),
     }
 }
 

@@ -5,7 +5,8 @@ ghost use Rattle.rpki_der.specs.Reading.{Decodes};
 ghost use Rattle.rpki.specs.PublicKey.{SpellsKey};
 ghost use Rattle.rpki.specs.KeyFormat.{SpellsFormat};
 ghost use Rattle.rpki_c.specs.Identifier.{IsOther};
-ghost use Rattle.rpki_c.specs.Key.{IsWholeKeyFault, IsOtherKey, IsKeyStatus, format_number, HasKey, IsKeyRead, HasIdentifier, IsIdentified};
+ghost use Rattle.rpki_c.specs.Key.{IsWholeKeyFault, IsOtherKey, IsKeyStatus, format_number, HasKey, IsKeyRead};
+ghost use Rattle.rpki_c.specs.Key.{HasIdentifier, IsIdentified};
 
 use crate::identifiers::begins_with_identifier;
 use crate::place::Place;

@@ -29,7 +29,7 @@ pub struct ManifestParts {
 }
 
 /// How a part that is wrong is passed.
-fn manifest_part_number(part: ManifestPart) -> u8
+pub(crate) fn manifest_part_number(part: ManifestPart) -> u8
     ensures { result ≡ manifest_part_number part }
 {
     match part {
@@ -64,8 +64,8 @@ fn manifest_of(octets: &[u8], found: &ManifestView<'_>) -> ManifestParts
 /// Reads a manifest (RFC 9286 4.2), and says what its parts are and where its files stand. Some may have the same name,
 /// which a manifest doesn't allow.
 ///
-/// The status is 0. Else it is the number of the part that is wrong, and `out` is unchanged: the leftmost; then that the
-/// next update is after this update. Nothing is allocated.
+/// The status is 0. Else it is the number of the part that is wrong, and `out` is unchanged: the leftmost; then that
+/// the next update is after this update. Nothing is allocated.
 #[unsafe(no_mangle)]
 pub extern "C" fn rpki_manifest(octets: &[u8], out: &mut ManifestParts) -> u8
     ensures { IsManifestRead octets.now result out.old out.new }
@@ -92,7 +92,7 @@ pub struct ManifestFile {
 }
 
 /// How many octets the digest of a file has, a BIT STRING: its header, the count of unused bits, and thirty-two.
-const DIGEST_SIZE: usize = 35;
+pub(crate) const DIGEST_SIZE: usize = 35;
 
 /// Reads the file at the front of the octets, as of the files of a manifest: a SEQUENCE of its name and its digest and
 /// nothing else (RFC 9286 4.2.1). What follows is not looked at.

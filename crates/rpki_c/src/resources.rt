@@ -3,7 +3,8 @@
 ghost use Rattle.std.specs.Prelude.{◌≡◌};
 ghost use Rattle.rpki_der.specs.Cursor.{left};
 ghost use Rattle.rpki_der.specs.Reading.{Reads, Decodes};
-ghost use Rattle.rpki_resources.specs.Extension.{SpellsIpResources, IsIpResourcesFault, SpellsAsResources, IsAsResourcesFault};
+ghost use Rattle.rpki_resources.specs.Extension.{SpellsIpResources, IsIpResourcesFault, SpellsAsResources};
+ghost use Rattle.rpki_resources.specs.Extension.{IsAsResourcesFault};
 ghost use Rattle.rpki_c.specs.Resources.{IsWholeIpFault, IsWholeAsFault};
 ghost use Rattle.rpki_c.specs.ViewCount.{view_count};
 

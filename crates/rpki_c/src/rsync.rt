@@ -3,11 +3,12 @@
 ghost use Rattle.std.specs.Prelude.{◌≡◌, ◌+◌};
 ghost use Rattle.rpki_text.specs.ErrorText.{error_number};
 ghost use Rattle.rpki_text.specs.Views.{rsync_text};
+ghost use Rattle.rpki_c.specs.Status.{second, uri};
 ghost use Rattle.rpki_c.specs.Uri.{HasRsyncParts, IsRsyncParsed, IsJoined, IsRelative, IsParent};
 
 use crate::place::Place;
 use crate::ranges::place_of;
-use crate::status::{NO_ANSWER, SECOND, TOO_SMALL};
+use crate::status::{NO_ANSWER, SECOND, TOO_SMALL, URI};
 use rpki_text::uri::{Error, RsyncView};
 
 /// Where the parts of an rsync URI stand.
@@ -44,7 +45,7 @@ pub extern "C" fn rpki_rsync_parse(text: &[u8], out: &mut RsyncParts) -> u8
             *out = parts_of(&uri);
             0
         }
-        Err(e) => e.number(),
+        Err(e) => uri_fault(e),
     }
 }
 
@@ -58,11 +59,11 @@ pub extern "C" fn rpki_rsync_relative_to(uri: &[u8], base: &[u8], out: &mut Plac
 {
     let target = match RsyncView::from_slice(uri) {
         Ok(view) => view,
-        Err(e) => return e.number(),
+        Err(e) => return uri_fault(e),
     };
     let origin = match RsyncView::from_slice(base) {
         Ok(view) => view,
-        Err(e) => return second(e),
+        Err(e) => return second_uri_fault(e),
     };
     match target.relative_range(&origin) {
         Some(range) => {
@@ -89,7 +90,7 @@ pub extern "C" fn rpki_rsync_join(
 {
     let uri = match RsyncView::from_slice(base) {
         Ok(view) => view,
-        Err(e) => return e.number(),
+        Err(e) => return uri_fault(e),
     };
     match uri.join_into(path, out) {
         Ok(Some(len)) => {
@@ -97,7 +98,7 @@ pub extern "C" fn rpki_rsync_join(
             0
         }
         Ok(None) => TOO_SMALL,
-        Err(e) => second(e),
+        Err(e) => second_uri_fault(e),
     }
 }
 
@@ -111,7 +112,7 @@ pub extern "C" fn rpki_rsync_parent(text: &[u8], out: &mut usize) -> u8
 {
     let uri = match RsyncView::from_slice(text) {
         Ok(view) => view,
-        Err(e) => return e.number(),
+        Err(e) => return uri_fault(e),
     };
     match uri.parent_len() {
         Some(len) => {
@@ -122,9 +123,16 @@ pub extern "C" fn rpki_rsync_parent(text: &[u8], out: &mut usize) -> u8
     }
 }
 
-/// The status for an error of the second text.
-fn second(e: Error) -> u8
-    ensures { result ≡ error_number e + 16 }
+/// The status for an error of a text.
+pub(crate) fn uri_fault(e: Error) -> u8
+    ensures { result ≡ error_number e + uri }
 {
-    e.number() + SECOND
+    e.number() + URI
+}
+
+/// The status for an error of the second text.
+fn second_uri_fault(e: Error) -> u8
+    ensures { result ≡ error_number e + uri + second }
+{
+    uri_fault(e) + SECOND
 }

@@ -1,16 +1,18 @@
 //! Rsync URIs that were read before: a text, and where its parts stand. No text is read again.
 
-ghost use Rattle.std.specs.Prelude.{◌≡◌, ◌≢◌, ◌↔◌, ℕ, ◌&&◌, ◌++◌, ◌∷◌, [], IsTrue, length, drop, bytes_eq, Some, None, IfSome, IfNone, IfOk, OnOk, IfErr, if◌then◌else◌};
+ghost use Rattle.std.specs.Prelude.{◌≡◌, ◌≢◌, ◌↔◌, ℕ, ◌&&◌, ◌++◌, ◌∷◌, [], IsTrue, length, drop, bytes_eq, Some, None};
+ghost use Rattle.std.specs.Prelude.{IfSome, IfNone, IfOk, OnOk, IfErr, if◌then◌else◌};
 ghost use Rattle.std.specs.Option.{option_copied};
 ghost use Rattle.rpki_text.specs.Segments.{is_dir, IsParentLen, with_slash};
 ghost use Rattle.rpki_text.specs.UriText.{lowercase};
 ghost use Rattle.rpki_text.specs.ErrorText.{error_number};
 ghost use Rattle.rpki_text.specs.RsyncText.{uri_of, relative, same_uri, is_parent, is_identical, join_refusal, joined};
 ghost use Rattle.rpki_c.specs.RsyncCut.{IsCutAt, IsOwn};
-ghost use Rattle.rpki_c.specs.RsyncPlaces.{AreLaidOut, IsRelativeByParts, IsToldByParts, IsCanonicalByParts, IsParentByParts, IsJoinedByParts, IsDirByParts};
+ghost use Rattle.rpki_c.specs.RsyncPlaces.{AreLaidOut, IsRelativeByParts, IsToldByParts, IsCanonicalByParts};
+ghost use Rattle.rpki_c.specs.RsyncPlaces.{IsParentByParts, IsJoinedByParts, IsDirByParts};
 
 use crate::place::Place;
-use crate::rsync::RsyncParts;
+use crate::rsync::{RsyncParts, uri_fault};
 use crate::status::{NO_ANSWER, OTHER_PARTS};
 use crate::stored::{store_joined, store_lower};
 use rpki_text::uri::path::{check_path, parent_len, path_below};
@@ -304,7 +306,7 @@ pub extern "C" fn rpki_rsync_parts_join(
     };
     match joining(&uri, path) {
         Ok(slash) => store_joined(base, slash, path, out, written),
-        Err(e) => e.number(),
+        Err(e) => uri_fault(e),
     }
 }
 

@@ -8,7 +8,8 @@ ghost use Rattle.rpki_der.specs.Values.{IsLeafFault};
 ghost use Rattle.rpki_der.specs.Leaves.{IsBits};
 ghost use Rattle.rpki.specs.SignedData.{parts_of, SpellsSignature};
 ghost use Rattle.rpki_c.specs.Whole.{DecodesElse};
-ghost use Rattle.rpki_c.specs.Signed.{SpellsRpki, AreOtherParts, IsOtherSigned, IsAllPartsFault, IsWholeSignedFault, HasSigned, IsSignedRead, AreRpkiParts};
+ghost use Rattle.rpki_c.specs.Signed.{SpellsRpki, AreOtherParts, IsOtherSigned, IsAllPartsFault, IsWholeSignedFault};
+ghost use Rattle.rpki_c.specs.Signed.{HasSigned, IsSignedRead, AreRpkiParts};
 
 use crate::identifiers::begins_with_identifier;
 use crate::place::{Place, contents_of};

@@ -1,5 +1,8 @@
 //! The statuses of the library itself, beside 0 and the numbers of the layer's errors.
 
+/// No identifier octets: the number of `DecodeError::BadTag`.
+pub(crate) const BAD_TAG: u8 = 2;
+
 /// The contents are not those of the type: the number of `DecodeError::Content`.
 pub(crate) const CONTENT: u8 = 5;
 
@@ -56,6 +59,18 @@ pub(crate) const INVALID_PADDING: u8 = 43;
 
 /// What is added to the number of an error of the second of two texts.
 pub(crate) const SECOND: u8 = 16;
+
+/// What is handed in as an issuer is no certificate.
+pub(crate) const NO_ISSUER: u8 = 152;
+
+/// The issuer of a certificate has another name than the subject of what is handed in as its issuer.
+pub(crate) const OTHER_ISSUER: u8 = 153;
+
+/// The authority key identifier of a certificate isn't there, or isn't that of the issuer's key.
+pub(crate) const OTHER_AUTHORITY: u8 = 154;
+
+/// What is added to the number of an error of a URI, so that no status says two things.
+pub(crate) const URI: u8 = 159;
 
 /// A period of validity begins after the moment.
 pub(crate) const TOO_NEW: u8 = 50;

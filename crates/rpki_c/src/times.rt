@@ -6,7 +6,8 @@ ghost use Rattle.rpki_der.specs.Reading.{SpellsNothing, UnlessMemory};
 ghost use Rattle.rpki_time.specs.Time.{IsFloorSecond};
 ghost use Rattle.rpki_time.specs.TimeValue.{SpellsTime};
 ghost use Rattle.rpki_time.specs.PeriodValue.{SpellsPeriod};
-ghost use Rattle.rpki_c.specs.Time.{HasMoment, HasMoments, IsWholeTimeFault, IsWholePeriodFault, IsTimeRead, IsValidityRead};
+ghost use Rattle.rpki_c.specs.Time.{HasMoment, HasMoments, IsWholeTimeFault, IsWholePeriodFault, IsTimeRead};
+ghost use Rattle.rpki_c.specs.Time.{IsValidityRead};
 
 use rpki_der::DecodeError;
 use rpki_time::{Time, Validity};

@@ -116,6 +116,35 @@ static void beginnings(unsigned line, bool extensions, uint8_t *octets, size_t s
 }
 
 /* Makes one of the calls, of which the words are a status and what is found. */
+/*
+ * One extension at a time: each where rpki_certificate_extensions has it, and where one of those is wrong, a status of
+ * rpki_certificate all the same. Beyond the last there is none.
+ */
+static void alone(unsigned line, const uint8_t *octets, size_t size) {
+    struct rpki_known_extensions all;
+    struct rpki_known_extension known[13], one;
+    rpki_status of_all = rpki_certificate_extensions(octets, size, &all), wanted;
+    unsigned number;
+    bool clean, well = true;
+    wanted = of_all >= RPKI_WRONG_BASIC_CONSTRAINTS && of_all <= RPKI_WRONG_CERTIFICATE_POLICIES ? RPKI_OK : of_all;
+    memcpy(known, &all, sizeof known);
+    count_allocations(0);
+    for (number = 0; number < 256; number++) {
+        rpki_status status;
+        memset(&one, FILL, sizeof one);
+        status = rpki_certificate_extension(octets, size, (uint8_t)number, &one);
+        well = well && status == (number < 13 ? wanted : RPKI_NO_ANSWER);
+        well = well && (status == RPKI_OK || untouched(&one, sizeof one));
+        if (well && number < 13 && of_all == RPKI_OK) {
+            well = one.is_there == known[number].is_there && one.critical == known[number].critical &&
+                   one.octets.start == known[number].octets.start && one.octets.length == known[number].octets.length;
+        }
+    }
+    judge(line, "one extension allocates", allocations(&clean) == 0);
+    count_allocations(NONE_REFUSED);
+    judge(line, "one extension at a time", well);
+}
+
 static void compare(unsigned line, bool extensions, uint8_t *octets, size_t size, const char *words) {
     static char told[1024];
     union found out;
@@ -125,6 +154,7 @@ static void compare(unsigned line, bool extensions, uint8_t *octets, size_t size
     judge(line, "allocates, or writes what it refuses", clean);
     if (status != wanted) printf("status %u, not %u\n", status, wanted);
     judge(line, "the status", status == wanted);
+    if (extensions) alone(line, octets, size);
     if (wanted != RPKI_OK || status != RPKI_OK) return;
     if (extensions) {
         tell_extensions(&out.extensions, told);

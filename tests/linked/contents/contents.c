@@ -1,7 +1,8 @@
 /*
  * Reads manifests, route origin attestations and attestations of providers with rpki_manifest, rpki_roa and rpki_aspa,
- * and their entries with rpki_manifest_file, rpki_roa_address and rpki_aspa_provider, and compares statuses and what is
- * found with those of rows that rows.py writes. What a call refuses leaves `out` as it was. No call allocates.
+ * and their entries with rpki_manifest_file, rpki_roa_address and rpki_aspa_provider, asks rpki_manifest_names whether
+ * names differ, and compares statuses and what is found with those of rows that rows.py writes. What a call refuses
+ * leaves `out` as it was. No call allocates.
  *
  * usage: contents ROWS
  */
@@ -204,6 +205,36 @@ static bool aspa(const struct input *input, rpki_status *status, struct told *to
     return entries(input, out.providers, out.count, take_provider, told);
 }
 
+/* ---- Names ---- */
+
+/* The call with room for so many places, in memory of exactly that size; whatever `out` is before. */
+static rpki_status compare_names(const struct input *input, size_t capacity, bool *differ) {
+    struct rpki_place *room = capacity ? malloc(capacity * sizeof *room) : NULL;
+    rpki_status status, again;
+    bool none, one = false, other = true;
+    if (capacity && !room) exit(2);
+    count_allocations(0);
+    status = rpki_manifest_names(input->octets, input->size, room, capacity, &one);
+    again = rpki_manifest_names(input->octets, input->size, room, capacity, &other);
+    clean = clean && allocations(&none) == 0;
+    count_allocations(NONE_REFUSED);
+    clean = clean && status == again && (status == RPKI_OK ? one == other : !one && other);
+    free(room);
+    *differ = one;
+    return status;
+}
+
+/* The count is the least capacity that is enough; a greater one is enough too. */
+static bool names(const struct input *input, rpki_status *status, struct told *told) {
+    size_t count = 0;
+    bool differ, greater;
+    while ((*status = compare_names(input, count, &differ)) == RPKI_TOO_SMALL) count++;
+    if (*status != RPKI_OK) return compare_names(input, input->size, &greater) == *status;
+    tell(told, count);
+    tell(told, differ);
+    return compare_names(input, count + 7, &greater) == RPKI_OK && greater == differ;
+}
+
 /* Other numbers name no family, whatever the octets are. */
 static void other_families(unsigned line, const struct input *input) {
     struct rpki_roa_address_parts out;
@@ -225,6 +256,7 @@ static bool call(const char *word, const struct input *input, rpki_status *statu
     if (!strcmp(word, "roa0")) return roa(input, false, status, told);
     if (!strcmp(word, "roa1")) return roa(input, true, status, told);
     if (!strcmp(word, "aspa")) return aspa(input, status, told);
+    if (!strcmp(word, "names")) return names(input, status, told);
     if (!strcmp(word, "file")) *status = take_file(input->octets, input->size, told, &size);
     if (!strcmp(word, "address4")) *status = take_address_4(input->octets, input->size, told, &size);
     if (!strcmp(word, "address6")) *status = take_address_6(input->octets, input->size, told, &size);

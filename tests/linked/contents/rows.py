@@ -11,7 +11,8 @@ A row begins with one of these words, the octets in hexadecimal digits or `-`, a
   roa0 roa1  not strictly, and strictly: the AS number; for each family its place and count; then for each prefix the
              address of sixteen octets, its length, the maximum length, whether that is there, and the entry's size
   aspa       the customer, the place of the providers and their count; then each number and the size of its entry
-  file, address4, address6, provider     one entry at the front of the octets, in the same words"""
+  file, address4, address6, provider     one entry at the front of the octets, in the same words
+  names      files, one after another: how many they are, and 1 where no two have the same name, else 0"""
 import datetime
 import os
 import random
@@ -119,6 +120,18 @@ def file(parts):
     leftmost.need(len(digest) == 33 and digest[0] == 0, leftmost.CONTENT)
     inside.end()
     return [name.start - parts.start - first, len(name.octets), parts.place - first, digest[1:].hex()]
+
+
+def file_name(parts):
+    """The name alone."""
+    first = parts.place
+    start, length, *_ = file(parts)
+    return parts.octets[first + start:first + start + length]
+
+
+def names(octets):
+    found = part_of(FILE_LIST, each, whole(octets), file_name)
+    return [len(found), int(len(set(found)) == len(found))]
 
 
 def files(parts):
@@ -260,6 +273,23 @@ MANIFESTS = [
         entry(b"a/b.cer"), entry(b"\xe9.cer"), entry(octets=bytes(31)), entry(octets=bytes(33)), entry(octets=b""),
         entry(unused=1), entry(more=b"\5\0"), sequence(name()), sequence(bits(bytes(32)), name()),
         sequence(tlv(0x0c, b"a.cer"), bits(bytes(32))), sequence(name(), tlv(4, bytes(32))), tlv(0x31, entry()[2:]))),
+]
+
+
+def named_files(*texts):
+    return b"".join(entry(text, bytes([number % 256]) * 32) for number, text in enumerate(texts))
+
+
+MANY = [b"f%06d.roa" % (number * 7919 % 997) for number in range(300)]
+NAMED = [
+    named_files(b"c.roa", b"a.cer", b"b.crl"), b"", named_files(b"a.cer"), named_files(b"a.cer", b"a.cer"),
+    named_files(b"a.cer", b"b.cer"), named_files(b"a.cer", b"A.cer"), named_files(b"a.cer", b"a.crl"),
+    named_files(b"a.cer", b"aa.cer"), named_files(b"aa.cer", b"a.cer"), named_files(b"b.roa", b"a.roa", b"b.roa"),
+    named_files(b"a.roa", b"b.roa", b"b.roa"), named_files(b"b.roa", b"b.roa", b"a.roa"),
+    named_files(*[b"x.mft"] * 5), named_files(b"x" * 200 + b"a.mft", b"x" * 200 + b"b.mft"),
+    named_files(b"x" * 200 + b"a.mft", b"x" * 200 + b"a.mft"), named_files(*MANY), named_files(*MANY, MANY[0]),
+    named_files(*MANY, MANY[150]), named_files(*MANY, MANY[299]), entry() + b"\0", sequence(entry()), entry(b"a.CER"),
+    named_files(b"a.cer", b"b.cer") + entry(unused=1), named_files(*sorted(MANY)), named_files(*sorted(MANY)[::-1]),
 ]
 
 
@@ -437,6 +467,7 @@ READERS = {
     "address": [("address4", lambda octets: address(whole(octets), 32)),
                 ("address6", lambda octets: address(whole(octets), 128))],
     "provider": [("provider", lambda octets: provider(whole(octets)))],
+    "names": [("names", names)],
 }
 
 
@@ -448,6 +479,8 @@ def main():
         for octets in [*made, *variants(made[0], source, 800), *variants(made[1], source, 400)]:
             for word, reader in READERS[kind]:
                 row(word, octets, reader, octets)
+    for octets in [*NAMED, *variants(NAMED[0], source, 400), *variants(NAMED[3], source, 400)]:
+        row("names", octets, names, octets)
     entries = {"file": [entry(), LONG], "address": [FOUR[0], FOUR[1], SIX[0], SIX[1]],
                "provider": [unsigned(64496), unsigned(2 ** 32 - 1)]}
     for kind, made in entries.items():
@@ -457,4 +490,5 @@ def main():
                     row(word, each_one, reader, each_one)
 
 
-main()
+if __name__ == "__main__":
+    main()

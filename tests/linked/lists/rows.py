@@ -229,4 +229,5 @@ def main():
         print("entries", octets.hex() or "-", status)
 
 
-main()
+if __name__ == "__main__":
+    main()

@@ -258,4 +258,5 @@ def main():
             print(row(octets, strict))
 
 
-main()
+if __name__ == "__main__":
+    main()

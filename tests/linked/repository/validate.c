@@ -109,11 +109,10 @@ static const char *check_issued(const struct holder *subject, const struct holde
     if (rpki_validity_at(&subject->parts.validity, moment) != RPKI_OK) {
         return "not valid at the moment";
     }
-    if (!are_same(part(subject->all, subject->parts.issuer), part(issuer->all, issuer->parts.subject))) {
-        return "another issuer";
-    }
-    if (subject != issuer && memcmp(subject->known.authority_key, issuer->known.subject_key, 20) != 0) {
-        return "another key of the issuer";
+    if (subject != issuer) {
+        rpki_status status =
+            rpki_certificate_issued_by(subject->all.at, subject->all.size, issuer->all.at, issuer->all.size);
+        if (status != RPKI_OK) return status == RPKI_OTHER_ISSUER ? "another issuer" : "another key of the issuer";
     }
     if (!has_signed(issuer->key, part(subject->all, subject->parts.data), none,
                     part(subject->all, subject->parts.signature))) {
@@ -145,6 +144,15 @@ static const char *check_list(struct octets list, const struct holder *authority
     return has_signed(authority->key, part(list, out->data), none, part(list, out->signature))
                ? NULL
                : "not signed by the authority";
+}
+
+/* Whether no two files of a manifest have the same name (RFC 9286 4.2.1). */
+static bool have_own_names(struct octets files, size_t count) {
+    struct rpki_place *room = calloc(count + 1, sizeof *room);
+    bool differ = false;
+    rpki_status status = rpki_manifest_names(files.at, files.size, room, count, &differ);
+    free(room);
+    return status == RPKI_OK && differ;
 }
 
 /* What is wrong with an object of the authority, or NULL (RFC 6488 3). */
@@ -203,6 +211,10 @@ static void print_files(struct octets content) {
     struct rpki_manifest_file_parts file;
     struct octets rest;
     if (rpki_manifest(content.at, content.size, &parts) != RPKI_OK) {
+        return;
+    }
+    if (!have_own_names(part(content, parts.files), parts.count)) {
+        printf("  a name stands twice\n");
         return;
     }
     for (rest = part(content, parts.files); rest.size > 0; rest.at += file.size, rest.size -= file.size) {

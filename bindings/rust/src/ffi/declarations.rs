@@ -21,17 +21,8 @@ pub(crate) const UNEXPECTED: Status = 4;
 pub(crate) const CONTENT: Status = 5;
 pub(crate) const TRAILING: Status = 6;
 pub(crate) const OUT_OF_MEMORY: Status = 7;
-pub(crate) const URI_INVALID_CHARACTERS: Status = 1;
-pub(crate) const URI_BAD_URI: Status = 2;
-pub(crate) const URI_LONG_URI: Status = 3;
-pub(crate) const URI_BAD_SCHEME: Status = 4;
-pub(crate) const URI_DOT_SEGMENTS: Status = 5;
-pub(crate) const URI_EMPTY_SEGMENTS: Status = 6;
-pub(crate) const URI_LONG_SEGMENTS: Status = 7;
-pub(crate) const URI_OUT_OF_MEMORY: Status = 8;
 pub(crate) const TOO_SMALL: Status = 9;
 pub(crate) const NO_ANSWER: Status = 10;
-pub(crate) const NOT_OF_PROFILE: Status = 11;
 pub(crate) const NO_PROFILE: Status = 12;
 pub(crate) const OTHER_ALGORITHM: Status = 13;
 pub(crate) const OTHER_PARTS: Status = 14;
@@ -129,6 +120,16 @@ pub(crate) const PART_ASPA: Status = 148;
 pub(crate) const PART_ASPA_VERSION: Status = 149;
 pub(crate) const PART_CUSTOMER: Status = 150;
 pub(crate) const PART_PROVIDERS: Status = 151;
+pub(crate) const NO_ISSUER: Status = 152;
+pub(crate) const OTHER_ISSUER: Status = 153;
+pub(crate) const OTHER_AUTHORITY: Status = 154;
+pub(crate) const URI_INVALID_CHARACTERS: Status = 160;
+pub(crate) const URI_BAD_URI: Status = 161;
+pub(crate) const URI_LONG_URI: Status = 162;
+pub(crate) const URI_BAD_SCHEME: Status = 163;
+pub(crate) const URI_DOT_SEGMENTS: Status = 164;
+pub(crate) const URI_EMPTY_SEGMENTS: Status = 165;
+pub(crate) const URI_LONG_SEGMENTS: Status = 166;
 pub(crate) const SECOND: Status = 16;
 pub(crate) const MISSING_COMMON_NAME: Status = 32;
 pub(crate) const SECOND_COMMON_NAME: Status = 33;
@@ -140,6 +141,21 @@ pub(crate) const UNIVERSAL: u8 = 0;
 pub(crate) const APPLICATION: u8 = 1;
 pub(crate) const CONTEXT: u8 = 2;
 pub(crate) const PRIVATE: u8 = 3;
+pub(crate) const BOOLEAN: u8 = 0x01;
+pub(crate) const INTEGER: u8 = 0x02;
+pub(crate) const BIT_STRING: u8 = 0x03;
+pub(crate) const OCTET_STRING: u8 = 0x04;
+pub(crate) const NULL: u8 = 0x05;
+pub(crate) const OBJECT_IDENTIFIER: u8 = 0x06;
+pub(crate) const UTF8_STRING: u8 = 0x0C;
+pub(crate) const PRINTABLE_STRING: u8 = 0x13;
+pub(crate) const IA5_STRING: u8 = 0x16;
+pub(crate) const UTC_TIME: u8 = 0x17;
+pub(crate) const GENERALIZED_TIME: u8 = 0x18;
+pub(crate) const SEQUENCE: u8 = 0x30;
+pub(crate) const SET: u8 = 0x31;
+pub(crate) const CONTEXT_PRIMITIVE: u8 = 0x80;
+pub(crate) const CONTEXT_CONSTRUCTED: u8 = 0xA0;
 pub(crate) const RSA: u8 = 0;
 pub(crate) const ECDSA_P256: u8 = 1;
 pub(crate) const PROFILE_RPKI: u8 = 0;
@@ -149,6 +165,19 @@ pub(crate) const CERTIFICATE_CA: u8 = 1;
 pub(crate) const CERTIFICATE_EE: u8 = 2;
 pub(crate) const CERTIFICATE_ROUTER: u8 = 3;
 pub(crate) const CERTIFICATE_DETACHED_EE: u8 = 4;
+pub(crate) const EXTENSION_BASIC_CONSTRAINTS: u8 = 0;
+pub(crate) const EXTENSION_SUBJECT_KEY_IDENTIFIER: u8 = 1;
+pub(crate) const EXTENSION_AUTHORITY_KEY_IDENTIFIER: u8 = 2;
+pub(crate) const EXTENSION_KEY_USAGE: u8 = 3;
+pub(crate) const EXTENSION_EXTENDED_KEY_USAGE: u8 = 4;
+pub(crate) const EXTENSION_CRL_DISTRIBUTION_POINTS: u8 = 5;
+pub(crate) const EXTENSION_AUTHORITY_INFO_ACCESS: u8 = 6;
+pub(crate) const EXTENSION_SUBJECT_INFO_ACCESS: u8 = 7;
+pub(crate) const EXTENSION_CERTIFICATE_POLICIES: u8 = 8;
+pub(crate) const EXTENSION_IP_RESOURCES: u8 = 9;
+pub(crate) const EXTENSION_IP_RESOURCES_V2: u8 = 10;
+pub(crate) const EXTENSION_AS_RESOURCES: u8 = 11;
+pub(crate) const EXTENSION_AS_RESOURCES_V2: u8 = 12;
 pub(crate) const USAGE_NONE: u8 = 0;
 pub(crate) const USAGE_CA: u8 = 1;
 pub(crate) const USAGE_EE: u8 = 2;
@@ -472,6 +501,13 @@ const _: () = assert!(size_of::<HttpsParts>() == 32);
 extern "C" {
     pub(super) fn rpki_version() -> u32;
     pub(super) fn rpki_header(octets: *const u8, size: usize, out: *mut HeaderParts) -> Status;
+    pub(super) fn rpki_take(
+        octets: *const u8,
+        size: usize,
+        identifier: u8,
+        rest: *mut Place,
+        contents: *mut Place,
+    ) -> Status;
     pub(super) fn rpki_walk(octets: *const u8, size: usize, out: *mut Walked) -> Status;
     pub(super) fn rpki_index(
         octets: *const u8,
@@ -491,6 +527,12 @@ extern "C" {
     pub(super) fn rpki_extension(octets: *const u8, size: usize, out: *mut ExtensionParts) -> Status;
     pub(super) fn rpki_certificate(octets: *const u8, size: usize, out: *mut CertificateParts) -> Status;
     pub(super) fn rpki_certificate_extensions(octets: *const u8, size: usize, out: *mut KnownExtensions) -> Status;
+    pub(super) fn rpki_certificate_extension(
+        octets: *const u8,
+        size: usize,
+        number: u8,
+        out: *mut KnownExtension,
+    ) -> Status;
     pub(super) fn rpki_certificate_inspect(octets: *const u8, size: usize, profile: u8, strict: bool) -> Status;
     pub(super) fn rpki_certificate_checked(
         octets: *const u8,
@@ -499,6 +541,12 @@ extern "C" {
         strict: bool,
         parts: *mut CertificateParts,
         extensions: *mut KnownExtensions,
+    ) -> Status;
+    pub(super) fn rpki_certificate_issued_by(
+        octets: *const u8,
+        size: usize,
+        issuer: *const u8,
+        issuer_size: usize,
     ) -> Status;
     pub(super) fn rpki_access_description(octets: *const u8, size: usize, out: *mut AccessParts) -> Status;
     pub(super) fn rpki_general_name(octets: *const u8, size: usize, out: *mut GeneralNameParts) -> Status;
@@ -514,6 +562,13 @@ extern "C" {
     ) -> Status;
     pub(super) fn rpki_manifest(octets: *const u8, size: usize, out: *mut ManifestParts) -> Status;
     pub(super) fn rpki_manifest_file(octets: *const u8, size: usize, out: *mut ManifestFileParts) -> Status;
+    pub(super) fn rpki_manifest_names(
+        octets: *const u8,
+        size: usize,
+        room: *mut Place,
+        capacity: usize,
+        out: *mut bool,
+    ) -> Status;
     pub(super) fn rpki_roa(octets: *const u8, size: usize, strict: bool, out: *mut RoaParts) -> Status;
     pub(super) fn rpki_roa_address(octets: *const u8, size: usize, family: u8, out: *mut RoaAddressParts) -> Status;
     pub(super) fn rpki_aspa(octets: *const u8, size: usize, out: *mut AspaParts) -> Status;

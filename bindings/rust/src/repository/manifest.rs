@@ -96,9 +96,7 @@ impl ManifestContent {
             files: octets.slice(found.files.range()),
             len: found.count,
         };
-        let mut names: Vec<Bytes> = content.iter().map(|file| file.file).collect();
-        names.sort_unstable();
-        if names.windows(2).any(|two| two[0] == two[1]) {
+        if !ffi::manifest_names_differ(&content.files, content.len) {
             return Err(ManifestError::FileTwice);
         }
         Ok(content)

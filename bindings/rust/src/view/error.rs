@@ -90,13 +90,13 @@ pub enum UriError {
 impl UriError {
     pub(crate) fn from_status(status: Status) -> UriError {
         match status {
-            1 => UriError::InvalidCharacters,
-            2 => UriError::BadUri,
-            3 => UriError::LongUri,
-            4 => UriError::BadScheme,
-            5 => UriError::DotSegments,
-            6 => UriError::EmptySegments,
-            7 => UriError::LongSegments,
+            160 => UriError::InvalidCharacters,
+            161 => UriError::BadUri,
+            162 => UriError::LongUri,
+            163 => UriError::BadScheme,
+            164 => UriError::DotSegments,
+            165 => UriError::EmptySegments,
+            166 => UriError::LongSegments,
             _ => unreachable!("{status} is the status of no call that reads a URI"),
         }
     }
@@ -249,13 +249,13 @@ mod tests {
             assert_eq!(InspectError::from_status(status), error, "{status}");
         }
         let uris = [
-            (1, UriError::InvalidCharacters),
-            (2, UriError::BadUri),
-            (3, UriError::LongUri),
-            (4, UriError::BadScheme),
-            (5, UriError::DotSegments),
-            (6, UriError::EmptySegments),
-            (7, UriError::LongSegments),
+            (160, UriError::InvalidCharacters),
+            (161, UriError::BadUri),
+            (162, UriError::LongUri),
+            (163, UriError::BadScheme),
+            (164, UriError::DotSegments),
+            (165, UriError::EmptySegments),
+            (166, UriError::LongSegments),
         ];
         for (status, error) in uris {
             assert_eq!(UriError::from_status(status), error, "{status}");

@@ -31,7 +31,8 @@ overflow_add-result c =
     let a = q.1 in
     let b = a.spells.spelled.spelled in
     let o = c.contents_of-outer.ensures sequence true _ _ (description-front _ _ _ a) in
-    let sp = method-front _ _ _ a (take (length s - outer.start) (drop outer.start s)) outer o (slice-from s outer.start) in
+    let sp = method-front _ _ _ a (take (length s - outer.start) (drop outer.start s)) outer o
+    (slice-from s outer.start) in
     let i = c.contents_of-inner.ensures oid false b.one.contents (b.second ++ q.0) sp in
     omega (arith, o.within, i.within, ap length (slice-from s outer.start), length-drop outer.start s)
 
@@ -54,7 +55,8 @@ returns c =
       found = description_of c.args.found.now;
       rest = r;
       accepted = a;
-      id = subst (λ x. ContentsStand s (record { start = outer.start + inner.start; length = inner.length }) x (b.second ++ r)) b.one.spelled.0 st;
+      id = subst (λ x. ContentsStand s (record { start = outer.start + inner.start; length = inner.length }) x
+          (b.second ++ r)) b.one.spelled.0 st;
       uri =
           uri-at s b.second r _ c.uri_to.result _ c.is_uri.result b.two (name-ends _ _ _ a) c.uri_to.ensures.some
           c.uri_to.ensures.none c.is_uri.ensures (omega (arith, q.2, description-size _ _ _ a));

@@ -14,5 +14,9 @@ pub returns-in-None-clause-text : goal.returns-in-None-clause-text
 unfolding ipv6_text
 returns-in-None-clause-text c =
     let other : bytes_eq (take 6 c.args.address.segments) (0 ∷ 0 ∷ 0 ∷ 0 ∷ 0 ∷ 0xffff ∷ []) ≡ false =
-    grind (arith, bytes_eq-Decides (take 6 c.args.address.segments) (0 ∷ 0 ∷ 0 ∷ 0 ∷ 0 ∷ 0xffff ∷ []), c.in-None.ensures.found) in
+    grind (
+      arith,
+      bytes_eq-Decides (take 6 c.args.address.segments) (0 ∷ 0 ∷ 0 ∷ 0 ∷ 0 ∷ 0xffff ∷ []),
+      c.in-None.ensures.found,
+    ) in
     rw other (first_of (search rules, grind (arith, common_steps)))

@@ -10,22 +10,27 @@ use Rattle.rpki_c.proofs.as_blocks.rpki_as_blocks.Goals as goal
 
 pub returns-then-entries-all : goal.returns-then-entries-all
 returns-then-entries-all c =
-    as-too-many c.args.octets.now c.in-Ok.found c.in-Ok.ensures.0 c.args.entries.now c.args.count.now c.count_of-all.result c.count_of-all.ensures c.if-entries-all.true
+    as-too-many c.args.octets.now c.in-Ok.found c.in-Ok.ensures.0 c.args.entries.now c.args.count.now
+    c.count_of-all.result c.count_of-all.ensures c.if-entries-all.true
 
 pub write_listed-requires-clause-fit : goal.write_listed-requires-clause-fit
 write_listed-requires-clause-fit c =
-    as-fit c.in-Blocks.listed c.args.octets.now (subst (λ x. SpellsAsResources x c.args.octets.now) c.in-Blocks.is c.in-Ok.ensures.0)
+    as-fit c.in-Blocks.listed c.args.octets.now
+    (subst (λ x. SpellsAsResources x c.args.octets.now) c.in-Blocks.is c.in-Ok.ensures.0)
 
 pub returns-in-Inherit : goal.returns-in-Inherit
 returns-in-Inherit c =
     let k = as-kept c.in-Ok.found c.args.octets.now c.in-Ok.ensures.0 in
     let is = inherited-as k.0 (subst (IsChoiceOf k.0) c.in-Inherit.is k.1) in
-    as-filled c.args.octets.now c.in-Ok.found c.in-Ok.ensures.0 c.args.entries.now c.args.count.now c.count_of-all.result c.count_of-all.ensures k.0 _ k.1
-    (rw is (one-filled 0 inherited_as c.args.entries.now (omega (arith, c.if-entries-all.false, c.count_of-all.ensures, ap view_count c.in-Inherit.is))))
+    as-filled c.args.octets.now c.in-Ok.found c.in-Ok.ensures.0 c.args.entries.now c.args.count.now
+    c.count_of-all.result c.count_of-all.ensures k.0 _ k.1
+    (rw is (one-filled 0 inherited_as c.args.entries.now
+    (omega (arith, c.if-entries-all.false, c.count_of-all.ensures, ap view_count c.in-Inherit.is))))
 
 pub returns-in-Blocks : goal.returns-in-Blocks
 returns-in-Blocks c =
     let k = as-kept c.in-Ok.found c.args.octets.now c.in-Ok.ensures.0 in
     let held = blocks-kept c.in-Blocks.listed k.0 (subst (IsChoiceOf k.0) c.in-Blocks.is k.1) in
-    as-filled c.args.octets.now c.in-Ok.found c.in-Ok.ensures.0 c.args.entries.now c.args.count.now c.count_of-all.result c.count_of-all.ensures (Blocks held.0) c.write_listed.new.entries
+    as-filled c.args.octets.now c.in-Ok.found c.in-Ok.ensures.0 c.args.entries.now c.args.count.now
+    c.count_of-all.result c.count_of-all.ensures (Blocks held.0) c.write_listed.new.entries
     (subst (IsChoiceOf (Blocks held.0)) (sym c.in-Blocks.is) held.1) (c.write_listed.ensures held.0 held.1)

@@ -2,7 +2,8 @@ use Rattle.std.proofs.Common.{refl, subst, arith}
 use Rattle.rpki_resources.specs.declared.kind.ResourceKind.TheVariants.{AsNumbers}
 use Rattle.rpki_resources.specs.Encoded.{AreBlocksOf}
 use Rattle.rpki_c.specs.Resources.{as_entry}
-use Rattle.rpki_c.proofs.BlockListLaws.{gives-some, gives-none, IsFilling, filling-none, filling-within, filling-next, filling-all}
+use Rattle.rpki_c.proofs.BlockListLaws.{gives-some, gives-none, IsFilling, filling-none, filling-within, filling-next}
+use Rattle.rpki_c.proofs.BlockListLaws.{filling-all}
 use Rattle.rpki_c.proofs.as_blocks.write_listed.Goals as goal
 
 pub each-init : goal.each-init

@@ -8,12 +8,21 @@ test-requires c = let (x, h) = c.in-Ok.ensures.ok in (c.args.octets.now, x, h)
 pub returns-in-Ok-test : goal.returns-in-Ok-test
 returns-in-Ok-test c =
     let (x, h) = c.in-Ok.ensures.ok in
-    inl (refl, of-octets c.args.octets.now c.args.profile c.args.strict x h.spelled (Ok c.in-Ok-test.field-0) (c.in-Ok-test.ensures c.args.octets.now x h))
+    inl (
+      refl,
+      of-octets c.args.octets.now c.args.profile c.args.strict x h.spelled (Ok c.in-Ok-test.field-0)
+          (c.in-Ok-test.ensures c.args.octets.now x h),
+    )
 
 pub returns-in-Err-test : goal.returns-in-Err-test
 returns-in-Err-test c =
     let (x, h) = c.in-Ok.ensures.ok in
-    inr (inl (c.in-Err-test.rule, c.cert_rule_number.ensures, of-octets c.args.octets.now c.args.profile c.args.strict x h.spelled (Err c.in-Err-test.rule) (c.in-Err-test.ensures c.args.octets.now x h)))
+    inr (inl (
+      c.in-Err-test.rule,
+      c.cert_rule_number.ensures,
+      of-octets c.args.octets.now c.args.profile c.args.strict x h.spelled (Err c.in-Err-test.rule)
+          (c.in-Err-test.ensures c.args.octets.now x h),
+    ))
 
 pub returns-in-Err : goal.returns-in-Err
 returns-in-Err c = inr (inr (c.in-Err.part, c.part_number.ensures, c.in-Err.ensures.err))

@@ -14,4 +14,5 @@ pub returns-in-Router : goal.returns-in-Router
 returns-in-Router c = λ s x h. test-by _ _ _ _ c.test_router.result c.in-Router.is (c.test_router.ensures s x h)
 
 pub returns-in-Detached : goal.returns-in-Detached
-returns-in-Detached c = λ s x h. test-by _ _ _ _ c.test_detached_ee.result c.in-Detached.is (c.test_detached_ee.ensures s x h)
+returns-in-Detached c = λ s x h. test-by _ _ _ _ c.test_detached_ee.result c.in-Detached.is
+    (c.test_detached_ee.ensures s x h)

@@ -10,7 +10,8 @@ pub returns-in_err-found : goal.returns-in_err-found
 returns-in_err-found c =
     let h = rw c.from_slice-cons.ensures at c.in_err-found.ensures in
     let p = err_from_is_err_and c.from_residual.result c.from_residual.ensures.1 in
-    rw (p.1, p.2) (exactly SpellsExtension IsCertExtensionFault c.args.octets.now c.in_err-found.field-0.0 (extension-outer _ _ h.kind).other
+    rw (p.1, p.2) (exactly SpellsExtension IsCertExtensionFault c.args.octets.now c.in_err-found.field-0.0
+    (extension-outer _ _ h.kind).other
     (not-read SpellsExtension IsCertExtensionFault c.args.octets.now _ c.in_err-found.field-0.0 h))
 
 pub returns-in_err-finish : goal.returns-in_err-finish
@@ -18,7 +19,8 @@ returns-in_err-finish c =
     let h = rw c.from_slice-cons.ensures at c.in_ok-found.ensures in
     let p = err_from_is_err_and c.from_residual-in_err-finish.result c.from_residual-in_err-finish.ensures.1 in
     rw (p.1, p.2) (rw c.in_err-finish.ensures.0 (trailing-exactly SpellsExtension IsCertExtensionFault c.args.octets.now
-    (more-left SpellsExtension IsCertExtensionFault c.args.octets.now c.in_ok-found.found _ h c.in_err-finish.ensures.1)))
+    (more-left SpellsExtension IsCertExtensionFault c.args.octets.now c.in_ok-found.found _ h
+    c.in_err-finish.ensures.1)))
 
 pub returns : goal.returns
 returns c =

@@ -3,7 +3,8 @@ use Rattle.std.specs.Prelude.{slice_get}
 use Rattle.std.proofs.lemmas.Result.{err_from_is_err_and}
 use Rattle.std.proofs.lemmas.Slice.{pushed}
 use Rattle.rpki_der.proofs.WalkingLaws.{begins-with, has-constructed}
-use Rattle.rpki_c.proofs.FaultLaws.{IsLast, start-primitive, start-constructed, step-end, step-fits, step-primitive, step-constructed, step-fault}
+use Rattle.rpki_c.proofs.FaultLaws.{IsLast, start-primitive, start-constructed, step-end, step-fits, step-primitive}
+use Rattle.rpki_c.proofs.FaultLaws.{step-constructed, step-fault}
 use Rattle.rpki_c.proofs.faults.fault_of.Goals as goal
 
 pub returns-then-not-first-clause-none : goal.returns-then-not-first-clause-none
@@ -25,10 +26,12 @@ pub values-preserved-then-place-end : goal.values-preserved-then-place-end
 values-preserved-then-place-end c =
     let is : slice_get c.values.open.items (length c.values.open.items - 1) ≡ Some c.in-Some-copied.end = cc in
     let last : IsLast c.values.open.items c.in-Some-copied.end = record { last = is } in
-    let size : length c.values.open.items ≡ c.values.open.len = sym (ap length c.deref.ensures.value) ∙ c.deref.ensures.len in
+    let size : length c.values.open.items ≡ c.values.open.len =
+    sym (ap length c.deref.ensures.value) ∙ c.deref.ensures.len in
     record {
       low = c.values.invariant.low;
-      opened = step-end _ last c.values.invariant.opened c.if-place-end.true (c.pop.ensures.rest ∙ ap (λ (x : ℕ). take (x - 1) c.values.open.items) (sym size));
+      opened = step-end _ last c.values.invariant.opened c.if-place-end.true
+          (c.pop.ensures.rest ∙ ap (λ (x : ℕ). take (x - 1) c.values.open.items) (sym size));
     }
 
 pub returns-in-None-header_within-clause-found : goal.returns-in-None-header_within-clause-found
@@ -65,7 +68,8 @@ values-smaller c =
     let x = c.in-Some-header_within.found in
     let front = begins-with x.1 h.found h.within in
     let fits = step-fits last c.values.invariant.opened front h.within in
-    let more = pushed ((c.values.place + x.1 + x.0.length) ∷ []) refl c.in_ok-push-2.was c.push-in-Some-copied.ensures.items in
+    let more = pushed ((c.values.place + x.1 + x.0.length) ∷ []) refl c.in_ok-push-2.was
+    c.push-in-Some-copied.ensures.items in
     omega (arith, fits.0, fits.1, ap length more, length-append {A = ℕ})
 
 pub values-preserved : goal.values-preserved
@@ -76,8 +80,13 @@ values-preserved c =
     let x = c.in-Some-header_within.found in
     let front = begins-with x.1 h.found h.within in
     let fits = step-fits last c.values.invariant.opened front h.within in
-    let more = pushed ((c.values.place + x.1 + x.0.length) ∷ []) refl c.in_ok-push-2.was c.push-in-Some-copied.ensures.items in
-    record { low = omega (arith, fits.0); opened = step-constructed _ last c.values.invariant.opened c.if-not-found.false front h.within more }
+    let more = pushed ((c.values.place + x.1 + x.0.length) ∷ []) refl c.in_ok-push-2.was
+    c.push-in-Some-copied.ensures.items in
+    record {
+      low = omega (arith, fits.0);
+      opened =
+          step-constructed _ last c.values.invariant.opened c.if-not-found.false front h.within more;
+    }
 
 pub returns-in_err-push-clause-refused : goal.returns-in_err-push-clause-refused
 returns-in_err-push-clause-refused c =

@@ -10,5 +10,8 @@ returns-in-Err-clause-none c =
 
 pub returns-then-octets-size-clause-none : goal.returns-then-octets-size-clause-none
 returns-then-octets-size-clause-none c =
-    let h = c.in-Ok.ensures.ok in
-    (Truncated, AtContents c.in-Ok.found.0 _ h.spells (omega (arith, c.if-octets-size.true, length-drop c.in-Ok.found.1 c.args.octets.now)))
+    let h = c.in-Ok.ensures.ok in (
+      Truncated,
+      AtContents c.in-Ok.found.0 _ h.spells
+          (omega (arith, c.if-octets-size.true, length-drop c.in-Ok.found.1 c.args.octets.now)),
+    )

@@ -9,6 +9,8 @@ returns c =
     inr (
       laid,
       λ a.
-          subst (λ (s : List ℕ). IsStored s c.store_lower.result c.args.out.now c.store_lower.new.out c.store_lower.new.written)
-          (https-lower-canonical c.args.text.now _ (https-cut c.args.text.now c.args.parts.now laid a)) c.store_lower.ensures,
+          subst (λ (s : List ℕ). IsStored s c.store_lower.result c.args.out.now c.store_lower.new.out
+          c.store_lower.new.written)
+          (https-lower-canonical c.args.text.now _ (https-cut c.args.text.now c.args.parts.now laid a))
+          c.store_lower.ensures,
     )

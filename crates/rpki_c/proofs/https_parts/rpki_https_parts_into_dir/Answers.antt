@@ -13,7 +13,8 @@ marked t true h = append-nil t ∙ sym (https_into_dir-dir t h)
 marked t false h = append-nil (t ++ 47 ∷ []) ∙ sym (https_into_dir-open t h)
 
 -- it is cut at the same place
-dir-cut : (t : List ℕ) (n : ℕ) → IsHttpsCut t n → (b : Bool) → is_dir (https_path t) ≡ b → IsHttpsCut (https_into_dir t) n
+dir-cut : (t : List ℕ) (n : ℕ) → IsHttpsCut t n → (b : Bool) → is_dir (https_path t) ≡ b
+    → IsHttpsCut (https_into_dir t) n
 dir-cut t n c true h = subst (λ (x : List ℕ). IsHttpsCut x n) (sym (https_into_dir-dir t h)) c
 dir-cut t n c false h = subst (λ (x : List ℕ). IsHttpsCut x n) (sym (https_into_dir-open t h)) (into_dir-cut t n c)
 
@@ -28,8 +29,10 @@ returns c =
       λ a.
           let cut = https-cut t p laid a in
           let own = https-own t p c.in-Some.uri laid at a in
-          let dir : is_dir (https_path t) ≡ c.is_closed.result = sym (c.is_closed.ensures ∙ ap is_dir own.path ∙ ap (λ x. is_dir (https_path x)) at.whole) in (
-            subst (λ (s : List ℕ). IsStored s c.store_joined.result c.args.out.now c.store_joined.new.out c.store_joined.new.written)
+          let dir : is_dir (https_path t) ≡ c.is_closed.result =
+          sym (c.is_closed.ensures ∙ ap is_dir own.path ∙ ap (λ x. is_dir (https_path x)) at.whole) in (
+            subst (λ (s : List ℕ). IsStored s c.store_joined.result c.args.out.now c.store_joined.new.out
+                c.store_joined.new.written)
                 (marked t c.is_closed.result dir) c.store_joined.ensures,
             https-end-parts (https_into_dir t) p _ laid (dir-cut t _ cut _ refl),
           ),

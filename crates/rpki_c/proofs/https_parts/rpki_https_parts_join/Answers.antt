@@ -22,8 +22,10 @@ returns-in-Ok c =
           rw (c.has_slash_last.ensures, own.path, at.whole) (https_joined-flag t path) in
           inl (
             https-join-ok path c.in-Ok.ensures,
-            subst (λ (s : List ℕ). IsStored s c.store_joined.result c.args.out.now c.store_joined.new.out c.store_joined.new.written) text c.store_joined.ensures,
-            https-end-parts (https_joined t path) p _ laid (https_joined-cut t _ (https-cut t p laid a) path c.in-Ok.ensures),
+            subst (λ (s : List ℕ). IsStored s c.store_joined.result c.args.out.now c.store_joined.new.out
+                c.store_joined.new.written) text c.store_joined.ensures,
+            https-end-parts (https_joined t path) p _ laid
+                (https_joined-cut t _ (https-cut t p laid a) path c.in-Ok.ensures),
           ),
     )
 
@@ -39,7 +41,7 @@ returns-in-Err c =
             record {
               error = c.in-Err.e;
               is = https-join-refuses c.args.path.now c.in-Err.ensures.1 ∙ ap Some (sym c.in-Err.ensures.0);
-              number = c.number.ensures;
+              number = c.uri_fault.ensures;
               memory = other c.in-Err.e c.in-Err.ensures.0;
             },
             record { buffer = refl; size = refl },

@@ -7,5 +7,6 @@ use Rattle.rpki_c.proofs.identifier_texts.read_identifier.Goals as goal
 
 pub returns : goal.returns
 returns c =
-    read-whole-exactly (λ k. k) SpellsKeyIdentifier (IsIdentifierFault IsKeyIdentifier) (λ s e k. leaf-no-memory octet_string false IsKeyIdentifier s e k.fault) _ (λ b a x h. search rules) _ _
+    read-whole-exactly (λ k. k) SpellsKeyIdentifier (IsIdentifierFault IsKeyIdentifier)
+    (λ s e k. leaf-no-memory octet_string false IsKeyIdentifier s e k.fault) _ (λ b a x h. search rules) _ _
     (rw c.from_slice.ensures at c.whole.ensures)

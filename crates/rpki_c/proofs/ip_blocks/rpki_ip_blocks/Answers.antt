@@ -10,8 +10,13 @@ overflow_add-all c =
 
 pub returns-then-entries-all : goal.returns-then-entries-all
 returns-then-entries-all c =
-    ip-too-many c.args.octets.now c.in-Ok.found c.in-Ok.ensures.0 c.args.entries.now c.args.count.now (c.count_of-first.result + c.count_of.result) c.count_of-first.result c.count_of-first.ensures (omega (arith, c.count_of.ensures)) c.if-entries-all.true
+    ip-too-many c.args.octets.now c.in-Ok.found c.in-Ok.ensures.0 c.args.entries.now c.args.count.now
+    (c.count_of-first.result + c.count_of.result) c.count_of-first.result c.count_of-first.ensures
+    (omega (arith, c.count_of.ensures)) c.if-entries-all.true
 
 pub returns : goal.returns
 returns c =
-    ip-filled c.args.octets.now c.in-Ok.found c.in-Ok.ensures.0 c.args.entries.now c.args.count.now (c.count_of-first.result + c.count_of.result) c.count_of-first.result c.count_of-first.ensures (omega (arith, c.count_of.ensures)) c.write_family.new.entries c.write_family-2.new.entries c.if-entries-all.false c.write_family.ensures c.write_family-2.ensures
+    ip-filled c.args.octets.now c.in-Ok.found c.in-Ok.ensures.0 c.args.entries.now c.args.count.now
+    (c.count_of-first.result + c.count_of.result) c.count_of-first.result c.count_of-first.ensures
+    (omega (arith, c.count_of.ensures)) c.write_family.new.entries c.write_family-2.new.entries
+    c.if-entries-all.false c.write_family.ensures c.write_family-2.ensures

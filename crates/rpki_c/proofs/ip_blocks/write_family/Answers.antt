@@ -8,4 +8,5 @@ use Rattle.rpki_c.proofs.ip_blocks.write_family.Goals as goal
 pub returns-in-Inherit : goal.returns-in-Inherit
 returns-in-Inherit c = λ v h.
     rw (inherited-entries c.args.family v (subst (IsChoiceOf v) c.in-Inherit.is h), c.inherited.ensures)
-    (one-filled c.args.from (inherited_ip c.args.family) c.args.entries.now (omega (arith, c.requires, ap view_count c.in-Inherit.is)))
+    (one-filled c.args.from (inherited_ip c.args.family) c.args.entries.now
+    (omega (arith, c.requires, ap view_count c.in-Inherit.is)))

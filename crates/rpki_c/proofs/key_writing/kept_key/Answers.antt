@@ -5,4 +5,5 @@ use Rattle.rpki.specs.KeyFault.{IsKeyFault}
 use Rattle.rpki_c.proofs.key_writing.kept_key.Goals as goal
 
 pub returns : goal.returns
-returns c = read-whole (λ k. k) SpellsKey IsKeyFault _ (λ b a x h. search rules) _ _ (rw c.from_slice.ensures at c.whole.ensures)
+returns c = read-whole (λ k. k) SpellsKey IsKeyFault _ (λ b a x h. search rules) _ _
+    (rw c.from_slice.ensures at c.whole.ensures)

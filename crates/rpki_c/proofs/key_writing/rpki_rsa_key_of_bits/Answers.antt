@@ -16,4 +16,5 @@ returns-in-Ok-rsa_from_bits_bytes c =
     )
 
 pub returns-in-Err : goal.returns-in-Err
-returns-in-Err c = bits-unwritten c.args.bits.now c.in-Ok.bytes c.in-Err.e _ _ _ c.in-Ok.ensures c.in-Err.ensures c.number.ensures
+returns-in-Err c = bits-unwritten c.args.bits.now c.in-Ok.bytes c.in-Err.e _ _ _ c.in-Ok.ensures c.in-Err.ensures
+    c.number.ensures

@@ -10,7 +10,8 @@ pub returns-in_err-key : goal.returns-in_err-key
 returns-in_err-key c =
     let h = rw c.from_slice-cons.ensures at c.in_err-key.ensures in
     let p = err_from_is_err_and c.from_residual.result c.from_residual.ensures.1 in
-    rw (p.1, p.2) (exactly SpellsKey IsKeyViewFault c.args.octets.now c.in_err-key.field-0.0 (view-outer _ _ h.kind).other
+    rw (p.1, p.2) (exactly SpellsKey IsKeyViewFault c.args.octets.now c.in_err-key.field-0.0
+    (view-outer _ _ h.kind).other
     (not-read SpellsKey IsKeyViewFault c.args.octets.now _ c.in_err-key.field-0.0 h))
 
 pub returns-in_err-finish : goal.returns-in_err-finish

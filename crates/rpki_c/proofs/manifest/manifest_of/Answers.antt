@@ -15,7 +15,8 @@ returns c =
     let g = f.two.two in
     let x = parts_in v c.requires.0 in
     let files = g.two.two.contents in
-    let spelled : view_manifest.spells (fields_of x) s = record { contents = at.contents; value = at.value; spelled = f } in
+    let spelled : view_manifest.spells (fields_of x) s =
+    record { contents = at.contents; value = at.value; spelled = f } in
     record {
       manifest = x;
       spelled = spelled;

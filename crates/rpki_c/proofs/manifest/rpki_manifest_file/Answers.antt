@@ -22,7 +22,12 @@ returns-in-Ok c =
             name-stands s r x h.spells c.in-Ok.file.name.now c.place_of.result refl
             (rw c.rest-following.ensures at c.place_of.ensures.start) c.place_of.ensures.size;
         digest = c.into_array.ensures;
-        size = omega (arith, ap length h.spells.parts, length-append h.spells.front r, ap length c.rest-following.ensures);
+        size = omega (
+          arith,
+          ap length h.spells.parts,
+          length-append h.spells.front r,
+          ap length c.rest-following.ensures,
+        );
       },
     )
 

@@ -14,7 +14,8 @@ returns-in-Some-checked_add c =
     let on : civil_nanos later ≡ civil_nanos time +ℤ seconds c.args.seconds =
     c.in-Some-checked_add.ensures.value ∙ ap (λ (z : ℤ). civil_nanos time +ℤ z) nanos in
     let whole = later-whole time later c.args.seconds c.in-Some.ensures.value.subsec on in
-    let moment = is-moment later c.moment_of.result whole c.moment_of.ensures.since c.moment_of.ensures.date c.moment_of.ensures.clock in
+    let moment = is-moment later c.moment_of.result whole c.moment_of.ensures.since c.moment_of.ensures.date
+    c.moment_of.ensures.clock in
     inl (time, c.in-Some.ensures.value, inl (refl, (later, on, moment)))
 
 pub returns-in-None : goal.returns-in-None
@@ -24,6 +25,7 @@ returns-in-None c =
     let nanos : signed_nanos c.from_secs.result ≡ seconds c.args.seconds = simp to_z-of_z at c.from_secs.ensures in
     let none : IsTimeNanos (civil_nanos time +ℤ seconds c.args.seconds) → ⊥ =
     λ found.
-    let both : false ≡ true = c.in-None.ensures.succeeds.1 (subst (λ (z : ℤ). IsTimeNanos (civil_nanos time +ℤ z)) (sym nanos) found) in
+    let both : false ≡ true = c.in-None.ensures.succeeds.1
+    (subst (λ (z : ℤ). IsTimeNanos (civil_nanos time +ℤ z)) (sym nanos) found) in
     cc in
     inl (time, c.in-Some.ensures.value, inr (refl, none, refl))

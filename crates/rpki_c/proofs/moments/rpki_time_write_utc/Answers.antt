@@ -7,6 +7,7 @@ returns-in-Some c =
     inl (
       c.in-Some.time,
       c.in-Some.ensures.value,
-      subst (λ (s : List ℕ). IsMade s c.store_values.result c.args.out.now c.store_values.new.out c.args.written.now c.store_values.new.written)
+      subst (λ (s : List ℕ). IsMade s c.store_values.result c.args.out.now c.store_values.new.out c.args.written.now
+          c.store_values.new.written)
           c.encode_utc_time.ensures.encoded c.store_values.ensures,
     )

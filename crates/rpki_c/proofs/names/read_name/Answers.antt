@@ -15,7 +15,9 @@ pub returns-in_err-finish-clause-refused : goal.returns-in_err-finish-clause-ref
 returns-in_err-finish-clause-refused c =
     let h = rw c.from_slice-cons.ensures at c.in_ok-name.ensures in
     let p = err_from_is_err_and c.from_residual-in_err-finish.result c.from_residual-in_err-finish.ensures.1 in
-    rw (p.1, p.2) (rw c.in_err-finish.ensures.0 (more-left SpellsNameOctets IsWalkedNameFault c.args.octets.now c.in_ok-name.name _ h c.in_err-finish.ensures.1))
+    rw (p.1, p.2) (rw c.in_err-finish.ensures.0
+    (more-left SpellsNameOctets IsWalkedNameFault c.args.octets.now c.in_ok-name.name _ h
+    c.in_err-finish.ensures.1))
 
 pub returns-clause-name : goal.returns-clause-name
 returns-clause-name c =

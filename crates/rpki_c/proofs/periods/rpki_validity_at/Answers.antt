@@ -5,11 +5,23 @@ use Rattle.rpki_c.proofs.periods.rpki_validity_at.Goals as goal
 
 pub returns-in-Ok : goal.returns-in-Ok
 returns-in-Ok c =
-    inl (c.in-Some.validity, c.in-Some-time_of.time, c.in-Some.ensures.value, c.in-Some-time_of.ensures.value, inl (refl, c.in-Ok.ensures.ok.0 refl))
+    inl (
+      c.in-Some.validity,
+      c.in-Some-time_of.time,
+      c.in-Some.ensures.value,
+      c.in-Some-time_of.ensures.value,
+      inl (refl, c.in-Ok.ensures.ok.0 refl),
+    )
 
 pub returns-in-Err-TooNew : goal.returns-in-Err-TooNew
 returns-in-Err-TooNew c =
-    inl (c.in-Some.validity, c.in-Some-time_of.time, c.in-Some.ensures.value, c.in-Some-time_of.ensures.value, inr (inl (refl, c.in-Err-TooNew.ensures.too_new.0 (ap Err c.in-Err-TooNew.field-0-is))))
+    inl (
+      c.in-Some.validity,
+      c.in-Some-time_of.time,
+      c.in-Some.ensures.value,
+      c.in-Some-time_of.ensures.value,
+      inr (inl (refl, c.in-Err-TooNew.ensures.too_new.0 (ap Err c.in-Err-TooNew.field-0-is))),
+    )
 
 pub returns-in-Err-TooOld : goal.returns-in-Err-TooOld
 returns-in-Err-TooOld c =
@@ -25,4 +37,10 @@ returns-in-Err-TooOld c =
       | inl h ↦ h
       | inr h ↦ let both : false ≡ true = c.in-Err-TooOld.ensures.ok.1 (not_before, h) in absurd (cc)
     ] in
-    inl (c.in-Some.validity, c.in-Some-time_of.time, c.in-Some.ensures.value, c.in-Some-time_of.ensures.value, inr (inr (refl, not_before, not_after)))
+    inl (
+      c.in-Some.validity,
+      c.in-Some-time_of.time,
+      c.in-Some.ensures.value,
+      c.in-Some-time_of.ensures.value,
+      inr (inr (refl, not_before, not_after)),
+    )

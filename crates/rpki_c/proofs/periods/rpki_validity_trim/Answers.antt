@@ -8,8 +8,12 @@ pub returns : goal.returns
 returns c =
     let p = c.in-Some.ensures.value in
     let r = c.in-Some-validity_of.ensures.value in
-    let start = is-whole _ c.trim-both.result.not_before (later-of-two _ _ (whole-at _ p.not_before.subsec) (whole-at _ r.not_before.subsec)) c.trim-both.ensures.ends.0 in
-    let end = is-whole _ c.trim-both.result.not_after (earlier-of-two _ _ (whole-at _ p.not_after.subsec) (whole-at _ r.not_after.subsec)) c.trim-both.ensures.ends.1 in
+    let start = is-whole _ c.trim-both.result.not_before
+    (later-of-two _ _ (whole-at _ p.not_before.subsec) (whole-at _ r.not_before.subsec))
+    c.trim-both.ensures.ends.0 in
+    let end = is-whole _ c.trim-both.result.not_after
+    (earlier-of-two _ _ (whole-at _ p.not_after.subsec) (whole-at _ r.not_after.subsec))
+    c.trim-both.ensures.ends.1 in
     let both = c.trim-both.result in
     inl (
       c.in-Some.one,
@@ -21,8 +25,10 @@ returns c =
       c.trim-both.ensures.ends,
       record {
         not_before = subst (λ (t : DateTime). IsMoment t c.moment_of.result) c.not_before.ensures
-            (is-moment c.not_before.result c.moment_of.result (rw c.not_before.ensures start) c.moment_of.ensures.since c.moment_of.ensures.date c.moment_of.ensures.clock);
+            (is-moment c.not_before.result c.moment_of.result (rw c.not_before.ensures start) c.moment_of.ensures.since
+            c.moment_of.ensures.date c.moment_of.ensures.clock);
         not_after = subst (λ (t : DateTime). IsMoment t c.moment_of-2.result) c.not_after.ensures
-            (is-moment c.not_after.result c.moment_of-2.result (rw c.not_after.ensures end) c.moment_of-2.ensures.since c.moment_of-2.ensures.date c.moment_of-2.ensures.clock);
+            (is-moment c.not_after.result c.moment_of-2.result (rw c.not_after.ensures end) c.moment_of-2.ensures.since
+            c.moment_of-2.ensures.date c.moment_of-2.ensures.clock);
       },
     )

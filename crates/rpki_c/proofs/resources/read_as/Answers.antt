@@ -6,5 +6,6 @@ use Rattle.rpki_c.proofs.resources.read_as.Goals as goal
 
 pub returns : goal.returns
 returns c =
-    read-whole-exactly (λ x. x) SpellsAsResources IsAsResourcesFault (λ s e k z. as-no-memory s (subst (IsAsResourcesFault s) z k)) _ (λ b a x h. search rules) _ _
+    read-whole-exactly (λ x. x) SpellsAsResources IsAsResourcesFault
+    (λ s e k z. as-no-memory s (subst (IsAsResourcesFault s) z k)) _ (λ b a x h. search rules) _ _
     (rw c.from_slice.ensures at c.whole.ensures)

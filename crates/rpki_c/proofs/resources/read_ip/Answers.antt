@@ -6,5 +6,6 @@ use Rattle.rpki_c.proofs.resources.read_ip.Goals as goal
 
 pub returns : goal.returns
 returns c =
-    read-whole-exactly (λ x. x) SpellsIpResources IsIpResourcesFault (λ s e k z. ip-no-memory s (subst (IsIpResourcesFault s) z k)) _ (λ b a x h. search rules) _ _
+    read-whole-exactly (λ x. x) SpellsIpResources IsIpResourcesFault
+    (λ s e k z. ip-no-memory s (subst (IsIpResourcesFault s) z k)) _ (λ b a x h. search rules) _ _
     (rw c.from_slice.ensures at c.whole.ensures)

@@ -2,7 +2,8 @@ use Rattle.std.proofs.Common.{rules, ◌≡◌, ◌+◌, ◌<◌, [], length, no
 use Rattle.std.proofs.lemmas.Grind.{common_steps}
 use Rattle.std.proofs.lemmas.Result.{err_from_is_err_and}
 use Rattle.rpki_text.specs.RsyncText.{joined}
-use Rattle.rpki_text.proofs.JoinLaws.{join-refuses-characters, join-refuses-path, join-refuses-length, join-refuses-nothing, join-refuses-nothing-empty}
+use Rattle.rpki_text.proofs.JoinLaws.{join-refuses-characters, join-refuses-path, join-refuses-length}
+use Rattle.rpki_text.proofs.JoinLaws.{join-refuses-nothing, join-refuses-nothing-empty}
 use Rattle.rpki_text.proofs.MemoryLaws.{path-memory}
 use Rattle.rpki_text.proofs.JoinedLaws.{with_mark, length-marked, bool-byte-cond, marked-empty}
 use Rattle.rpki_c.proofs.RsyncPlacesLaws.{own-joined}
@@ -21,13 +22,15 @@ pub returns-in_err-check_uri_ascii-clause-err : goal.returns-in_err-check_uri_as
 returns-in_err-check_uri_ascii-clause-err c =
     let some : 0 < length c.args.path.now = grind (arith, common_steps) in
     let p = err_from_is_err_and c.from_residual.result c.from_residual.ensures.1 in
-    rw (p.1, p.2, c.in_err-check_uri_ascii.ensures.0) (λ a. join-refuses-characters c.args.u.now.text.now c.args.path.now some c.in_err-check_uri_ascii.ensures.1)
+    rw (p.1, p.2, c.in_err-check_uri_ascii.ensures.0)
+    (λ a. join-refuses-characters c.args.u.now.text.now c.args.path.now some c.in_err-check_uri_ascii.ensures.1)
 
 pub returns-in_err-check_path-clause-err : goal.returns-in_err-check_path-clause-err
 returns-in_err-check_path-clause-err c =
     let some : 0 < length c.args.path.now = grind (arith, common_steps) in
     let p = err_from_is_err_and c.from_residual-in_err-check_path.result c.from_residual-in_err-check_path.ensures.1 in
-    rw (p.1, p.2) (λ a. join-refuses-path c.args.u.now.text.now c.args.path.now _ some c.in_ok-check_uri_ascii.ensures c.in_err-check_path.ensures)
+    rw (p.1, p.2) (λ a. join-refuses-path c.args.u.now.text.now c.args.path.now _ some c.in_ok-check_uri_ascii.ensures
+    c.in_err-check_path.ensures)
 
 pub returns-in_err-check_path-clause-memory : goal.returns-in_err-check_path-clause-memory
 returns-in_err-check_path-clause-memory c =
@@ -37,11 +40,15 @@ returns-in_err-check_path-clause-memory c =
 pub returns-then-u-from-ge-LEN_LIMIT-clause-err : goal.returns-then-u-from-ge-LEN_LIMIT-clause-err
 returns-then-u-from-ge-LEN_LIMIT-clause-err c a =
     let some : 0 < length c.args.path.now = grind (arith, common_steps) in
-    let text : with_mark (not c.is_closed-slash.result) c.args.u.now.text.now c.args.path.now ≡ joined c.args.u.now.text.now c.args.path.now =
+    let text : with_mark (not c.is_closed-slash.result) c.args.u.now.text.now c.args.path.now
+    ≡ joined c.args.u.now.text.now c.args.path.now =
     rw c.is_closed-slash.ensures (own-joined c.args.u.now c.args.path.now a some) in
-    let size : length (joined c.args.u.now.text.now c.args.path.now) ≡ length c.args.u.now.text.now + c.from.result + length c.args.path.now =
-    rw (c.from.ensures, bool-byte-cond) (length-marked (not c.is_closed-slash.result) c.args.u.now.text.now c.args.path.now _ text) in
-    join-refuses-length c.args.u.now.text.now c.args.path.now some c.in_ok-check_uri_ascii.ensures c.in_ok-check_path.ensures (omega arith)
+    let size : length (joined c.args.u.now.text.now c.args.path.now)
+    ≡ length c.args.u.now.text.now + c.from.result + length c.args.path.now =
+    rw (c.from.ensures, bool-byte-cond) (length-marked (not c.is_closed-slash.result) c.args.u.now.text.now
+    c.args.path.now _ text) in
+    join-refuses-length c.args.u.now.text.now c.args.path.now some c.in_ok-check_uri_ascii.ensures
+    c.in_ok-check_path.ensures (omega arith)
 
 pub returns-clause-text : goal.returns-clause-text
 returns-clause-text c a =
@@ -51,8 +58,12 @@ returns-clause-text c a =
 pub returns-clause-ok : goal.returns-clause-ok
 returns-clause-ok c a =
     let some : 0 < length c.args.path.now = grind (arith, common_steps) in
-    let text : with_mark (not c.is_closed-slash.result) c.args.u.now.text.now c.args.path.now ≡ joined c.args.u.now.text.now c.args.path.now =
+    let text : with_mark (not c.is_closed-slash.result) c.args.u.now.text.now c.args.path.now
+    ≡ joined c.args.u.now.text.now c.args.path.now =
     rw c.is_closed-slash.ensures (own-joined c.args.u.now c.args.path.now a some) in
-    let size : length (joined c.args.u.now.text.now c.args.path.now) ≡ length c.args.u.now.text.now + c.from.result + length c.args.path.now =
-    rw (c.from.ensures, bool-byte-cond) (length-marked (not c.is_closed-slash.result) c.args.u.now.text.now c.args.path.now _ text) in
-    join-refuses-nothing c.args.u.now.text.now c.args.path.now some c.in_ok-check_uri_ascii.ensures c.in_ok-check_path.ensures (omega arith)
+    let size : length (joined c.args.u.now.text.now c.args.path.now)
+    ≡ length c.args.u.now.text.now + c.from.result + length c.args.path.now =
+    rw (c.from.ensures, bool-byte-cond) (length-marked (not c.is_closed-slash.result) c.args.u.now.text.now
+    c.args.path.now _ text) in
+    join-refuses-nothing c.args.u.now.text.now c.args.path.now some c.in_ok-check_uri_ascii.ensures
+    c.in_ok-check_path.ensures (omega arith)

@@ -12,13 +12,15 @@ pub returns-then-not-are_of_one_module-clause-path : goal.returns-then-not-are_o
 returns-then-not-are_of_one_module-clause-path c a b =
     let u = c.args.u.now in
     let v = c.args.v.now in
-    sym (relative-other-module u.text.now v.text.now (sym (own-module u v a b) ∙ sym c.are_of_one_module.ensures ∙ c.if-not-are_of_one_module.true))
+    sym (relative-other-module u.text.now v.text.now
+    (sym (own-module u v a b) ∙ sym c.are_of_one_module.ensures ∙ c.if-not-are_of_one_module.true))
 
 pub returns-clause-path : goal.returns-clause-path
 returns-clause-path c a b =
     let u = c.args.u.now in
     let v = c.args.v.now in
-    let same = relative-path_left u.text.now v.text.now (sym (own-module u v a b) ∙ sym c.are_of_one_module.ensures ∙ c.if-not-are_of_one_module.false) in
+    let same = relative-path_left u.text.now v.text.now
+    (sym (own-module u v a b) ∙ sym c.are_of_one_module.ensures ∙ c.if-not-are_of_one_module.false) in
     let cut = cut-of v.text.now b.form in
     let names : names_refusal (segments v.path.now) ≡ None = rw b.path (path-names _ _ _ cut (head-of _ _ _ cut)) in
     rw (same, ← a.path, ← b.path) (c.path_below.ensures.below names)

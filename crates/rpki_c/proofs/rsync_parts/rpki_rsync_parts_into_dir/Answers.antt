@@ -19,7 +19,8 @@ returns c =
           let own = cut-own t p c.in-Some.uri at a in
           let text : cond (not c.is_closed.result) (t ++ 47 ∷ []) t ++ [] ≡ with_slash t =
           rw (c.is_closed.ensures, own.path, at.whole) (append-nil _ ∙ with_slash-flag t _ _ cut) in (
-            subst (λ (s : List ℕ). IsStored s c.store_joined.result c.args.out.now c.store_joined.new.out c.store_joined.new.written) text c.store_joined.ensures,
+            subst (λ (s : List ℕ). IsStored s c.store_joined.result c.args.out.now c.store_joined.new.out
+                c.store_joined.new.written) text c.store_joined.ensures,
             end-parts (with_slash t) p _ laid (cut-dir t _ _ cut),
           ),
     )

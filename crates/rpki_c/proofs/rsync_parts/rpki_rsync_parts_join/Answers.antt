@@ -16,12 +16,15 @@ returns-in-Ok c =
       laid,
       λ a.
           let own = cut-own t p c.in-Some.uri at a in
-          let ok : join_refusal t path ≡ None = subst (λ (x : List ℕ). join_refusal x path ≡ None) at.whole (c.in-Ok.ensures.ok own) in
+          let ok : join_refusal t path ≡ None =
+          subst (λ (x : List ℕ). join_refusal x path ≡ None) at.whole (c.in-Ok.ensures.ok own) in
           let text : cond c.in-Ok.slash (t ++ 47 ∷ []) t ++ path ≡ joined t path =
-          subst (λ (x : List ℕ). cond c.in-Ok.slash (x ++ 47 ∷ []) x ++ path ≡ joined x path) at.whole (c.in-Ok.ensures.text own) in
+          subst (λ (x : List ℕ). cond c.in-Ok.slash (x ++ 47 ∷ []) x ++ path ≡ joined x path) at.whole
+          (c.in-Ok.ensures.text own) in
           inl (
             ok,
-            subst (λ (s : List ℕ). IsStored s c.store_joined.result c.args.out.now c.store_joined.new.out c.store_joined.new.written) text c.store_joined.ensures,
+            subst (λ (s : List ℕ). IsStored s c.store_joined.result c.args.out.now c.store_joined.new.out
+                c.store_joined.new.written) text c.store_joined.ensures,
             end-parts (joined t path) p _ laid (cut-joined-any t _ _ (parts-cut t p a) path ok),
           ),
     )

@@ -16,7 +16,11 @@ returns-in_default-parent_len c =
       c.in-Some.ensures.some.0,
       λ a.
           let own = cut-own t c.args.parts.now c.in-Some.uri at a in
-          inr (refl, parent-none t (ap path_of (sym at.whole) ∙ sym own.path ∙ c.in_default-parent_len.ensures.none), refl),
+          inr (
+            refl,
+            parent-none t (ap path_of (sym at.whole) ∙ sym own.path ∙ c.in_default-parent_len.ensures.none),
+            refl,
+          ),
     )
 
 pub returns : goal.returns
@@ -32,7 +36,9 @@ returns c =
           let cut = parts-cut t p a in
           let own = cut-own t p c.in-Some.uri at a in
           let facts = cut-facts t _ _ cut in
-          let is : IsParentLen (path_of t) n = subst (λ (s : List ℕ). IsParentLen s n) (own.path ∙ ap path_of at.whole) c.in-Some-parent_len.ensures.some in
+          let is : IsParentLen (path_of t) n =
+          subst (λ (s : List ℕ). IsParentLen s n) (own.path ∙ ap path_of at.whole)
+          c.in-Some-parent_len.ensures.some in
           let size = ap length facts.path_is ∙ length-drop p.path.start t in
           let fits : p.path.start + n ≤ length t = omega (arith, facts.fits, size, is.within) in
           let parts = end-parts (take (p.path.start + n) t) p _ laid (parent-cut t _ _ cut n is) in
@@ -40,6 +46,7 @@ returns c =
             refl,
             fits,
             parent-is t _ _ cut n is,
-            subst (λ (k : ℕ). AreParts (take (p.path.start + n) t) (with_end p k)) (length-take-le (p.path.start + n) t fits) parts,
+            subst (λ (k : ℕ). AreParts (take (p.path.start + n) t) (with_end p k))
+                (length-take-le (p.path.start + n) t fits) parts,
           ),
     )

@@ -17,14 +17,17 @@ returns c =
       c.in-Some.ensures.some.0,
       c.in-Some-cut.ensures.some.0,
       λ a b.
-          let leads = sym (c.in-Some-path_from.ensures.path (cut-own u p c.in-Some.target mine a) (cut-own v q c.in-Some-cut.origin theirs b)) in
-          let place = tail-place u path (p.path.start + tail.0) (own-tail u p c.in-Some.target mine path tail.0 tail.1) in
+          let leads = sym (c.in-Some-path_from.ensures.path (cut-own u p c.in-Some.target mine a)
+          (cut-own v q c.in-Some-cut.origin theirs b)) in
+          let place = tail-place u path (p.path.start + tail.0)
+          (own-tail u p c.in-Some.target mine path tail.0 tail.1) in
           inl (
             refl,
             record {
               path = path;
               leads = subst (λ (x : List ℕ). relative (uri_of x) (uri_of v) ≡ Some path) mine.whole
-                  (subst (λ (y : List ℕ). relative (uri_of c.in-Some.target.text.now) (uri_of y) ≡ Some path) theirs.whole leads);
+                  (subst (λ (y : List ℕ). relative (uri_of c.in-Some.target.text.now) (uri_of y) ≡ Some path)
+                  theirs.whole leads);
               place = place;
               last = omega (arith, place.within);
             },

@@ -1,7 +1,9 @@
-use Rattle.std.proofs.Common.{◌≡◌, ◌≤◌, ◌+◌, ◌-◌, ◌++◌, [], true, length, take, drop, ap, ◌∙◌, arith, refl, append-nil, length-drop, length-append}
+use Rattle.std.proofs.Common.{◌≡◌, ◌≤◌, ◌+◌, ◌-◌, ◌++◌, [], true, length, take, drop, ap, ◌∙◌, arith, refl, append-nil}
+use Rattle.std.proofs.Common.{length-drop, length-append}
 use Rattle.rpki_der.specs.TagName.{sequence}
 use Rattle.rpki.specs.SignedData.{parts_of}
-use Rattle.rpki_c.proofs.PartLaws.{all-signed, from-data, from-algorithm, algorithm-spelled, slice-from, place-at, signature-end, unused-at, value-last}
+use Rattle.rpki_c.proofs.PartLaws.{all-signed, from-data, from-algorithm, algorithm-spelled, slice-from, place-at}
+use Rattle.rpki_c.proofs.PartLaws.{signature-end, unused-at, value-last}
 use Rattle.rpki_c.proofs.signed.places_of.Goals as goal
 
 pub overflow_add-next : goal.overflow_add-next
@@ -11,7 +13,13 @@ overflow_add-next c =
     let h = c.requires in
     let outer = c.contents_of-outer.result in
     let o = c.contents_of-outer.ensures sequence true h.contents [] (all-signed s v h) in
-    omega (arith, o.within, ap length (from-data s v h outer o), length-append v.signed (h.spelled.text ++ h.spelled.bits), length-drop outer.start s)
+    omega (
+      arith,
+      o.within,
+      ap length (from-data s v h outer o),
+      length-append v.signed (h.spelled.text ++ h.spelled.bits),
+      length-drop outer.start s,
+    )
 
 pub slice_bounds-contents_of-count : goal.slice_bounds-contents_of-count
 slice_bounds-contents_of-count c =
@@ -20,7 +28,13 @@ slice_bounds-contents_of-count c =
     let h = c.requires in
     let outer = c.contents_of-outer.result in
     let o = c.contents_of-outer.ensures sequence true h.contents [] (all-signed s v h) in
-    omega (arith, o.within, ap length (from-data s v h outer o), length-append v.signed (h.spelled.text ++ h.spelled.bits), length-drop outer.start s)
+    omega (
+      arith,
+      o.within,
+      ap length (from-data s v h outer o),
+      length-append v.signed (h.spelled.text ++ h.spelled.bits),
+      length-drop outer.start s,
+    )
 
 pub slice_bounds-contents_of-start : goal.slice_bounds-contents_of-start
 slice_bounds-contents_of-start c =
@@ -29,7 +43,13 @@ slice_bounds-contents_of-start c =
     let h = c.requires in
     let outer = c.contents_of-outer.result in
     let o = c.contents_of-outer.ensures sequence true h.contents [] (all-signed s v h) in
-    omega (arith, o.within, ap length (from-data s v h outer o), length-append v.signed (h.spelled.text ++ h.spelled.bits), length-drop outer.start s)
+    omega (
+      arith,
+      o.within,
+      ap length (from-data s v h outer o),
+      length-append v.signed (h.spelled.text ++ h.spelled.bits),
+      length-drop outer.start s,
+    )
 
 pub overflow_add-result : goal.overflow_add-result
 overflow_add-result c =
@@ -57,14 +77,30 @@ returns c =
     let sp = algorithm-spelled s (take (length s - next) (drop next s)) v h (slice-from s next ∙ rest) in
     let i = c.contents_of-inner.ensures sequence true h.spelled.named.contents h.spelled.bits sp in
     let text_size : inner.start + inner.length ≡ length h.spelled.text =
-    omega (arith, i.within, i.size, ap length i.octets, length-append h.spelled.named.contents h.spelled.bits, length-drop inner.start (take (length s - next) (drop next s)), ap length (slice-from s next ∙ rest), length-append h.spelled.text h.spelled.bits) in
-    let low : next ≤ length s = omega (arith, o.within, ap length (from-data s v h outer o), length-append v.signed (h.spelled.text ++ h.spelled.bits), length-drop outer.start s) in
+    omega (
+      arith,
+      i.within,
+      i.size,
+      ap length i.octets,
+      length-append h.spelled.named.contents h.spelled.bits,
+      length-drop inner.start (take (length s - next) (drop next s)),
+      ap length (slice-from s next ∙ rest),
+      length-append h.spelled.text h.spelled.bits,
+    ) in
+    let low : next ≤ length s = omega (
+      arith,
+      o.within,
+      ap length (from-data s v h outer o),
+      length-append v.signed (h.spelled.text ++ h.spelled.bits),
+      length-drop outer.start s,
+    ) in
     let end = signature-end s v h in
     let last = value-last s h.spelled.signature.unused v.value (length v.value) end refl in
     record {
       parts = v;
       spelled = h;
-      signed = place-at s outer.start _ v.signed (h.spelled.text ++ h.spelled.bits) (omega (arith, o.within)) refl (from-data s v h outer o);
+      signed = place-at s outer.start _ v.signed (h.spelled.text ++ h.spelled.bits) (omega (arith, o.within)) refl
+          (from-data s v h outer o);
       algorithm = place-at s next _ h.spelled.text h.spelled.bits low text_size rest;
       signature = last.0;
       first = o.octets ∙ append-nil h.contents;

@@ -18,7 +18,8 @@ use Rattle.rpki_c.proofs.ElseLaws.{tried-else, no-front, follows, not-other}
 use Rattle.rpki_c.proofs.signed.read_parts.Goals as goal
 
 -- the value at the front, as the slice is split
-split-value : (s d m : List ℕ) (n : ℕ) → d ≡ take n s → m ≡ drop n s → Accepts SpellsValue s (take n s) (drop n s) → Accepts SpellsValue s d m
+split-value : (s d m : List ℕ) (n : ℕ) → d ≡ take n s → m ≡ drop n s → Accepts SpellsValue s (take n s) (drop n s)
+    → Accepts SpellsValue s d m
 split-value s d m n p q a = rw (p, q) a
 
 pub returns-in_err-size : goal.returns-in_err-size
@@ -26,9 +27,12 @@ returns-in_err-size c =
     let s = c.args.contents.now in
     let e = c.in_err-size.field-0.0 in
     let h = c.in_err-size.ensures.refused in
-    let none : UnlessMemory e (Refuses AreParts s) = UnlessMemory-weaker e (no-value (SpellsAlgorithm sha256_with_rsa_encryption) s) h.refuses in
-    tried-else AreOtherParts _ AreParts IsAllPartsFault s e _ c.from_residual.ensures
-    (UnlessMemory-weaker e (no-front (IsOther (SpellsAlgorithm sha256_with_rsa_encryption)) s) h.refuses, (UnlessMemory-weaker e (nothing-whole AreParts s) none, AtPart none (AtPart h.refuses h.kind)))
+    let none : UnlessMemory e (Refuses AreParts s) =
+    UnlessMemory-weaker e (no-value (SpellsAlgorithm sha256_with_rsa_encryption) s) h.refuses in
+    tried-else AreOtherParts _ AreParts IsAllPartsFault s e _ c.from_residual.ensures (
+      UnlessMemory-weaker e (no-front (IsOther (SpellsAlgorithm sha256_with_rsa_encryption)) s) h.refuses,
+      (UnlessMemory-weaker e (nothing-whole AreParts s) none, AtPart none (AtPart h.refuses h.kind)),
+    )
 
 pub returns-in-Err : goal.returns-in-Err
 returns-in-Err c =
@@ -37,10 +41,19 @@ returns-in-Err c =
     let h = c.in-Err.ensures in
     let d = c.split_at.result.0.now in
     let m = left c.from_slice-rest.result in
-    let one : Accepts SpellsValue s d m = split-value s d m c.in_ok-size.size c.split_at.ensures.front (c.from_slice-rest.ensures ∙ c.split_at.ensures.back) c.in_ok-size.ensures.accepted in
-    let none : UnlessMemory e (Refuses AreParts s) = UnlessMemory-weaker e (no-algorithm (SpellsAlgorithm sha256_with_rsa_encryption) s m d one) h.refuses in
-    let other : AreOtherParts s → ⊥ = λ f. (iff_false c.begins_with_identifier.ensures c.if-begins_with_identifier.false) (subst (λ (l : List ℕ). Finds SpellsIdentifier l) c.from_slice-rest.ensures (follows (IsOther (SpellsAlgorithm sha256_with_rsa_encryption)) s d m one f).some) in
-    (UnlessMemory-from e other, (UnlessMemory-weaker e (nothing-whole AreParts s) none, AtPart none (Later d m one (AtPart h.refuses h.kind))))
+    let one : Accepts SpellsValue s d m = split-value s d m c.in_ok-size.size c.split_at.ensures.front
+    (c.from_slice-rest.ensures ∙ c.split_at.ensures.back) c.in_ok-size.ensures.accepted in
+    let none : UnlessMemory e (Refuses AreParts s) =
+    UnlessMemory-weaker e (no-algorithm (SpellsAlgorithm sha256_with_rsa_encryption) s m d one) h.refuses in
+    let other : AreOtherParts s → ⊥ = λ f. (iff_false c.begins_with_identifier.ensures
+    c.if-begins_with_identifier.false) (subst (λ (l : List ℕ). Finds SpellsIdentifier l) c.from_slice-rest.ensures
+    (follows (IsOther (SpellsAlgorithm sha256_with_rsa_encryption)) s d m one f).some) in (
+      UnlessMemory-from e other,
+      (
+        UnlessMemory-weaker e (nothing-whole AreParts s) none,
+        AtPart none (Later d m one (AtPart h.refuses h.kind)),
+      ),
+    )
 
 pub returns-then-begins_with_identifier : goal.returns-then-begins_with_identifier
 returns-then-begins_with_identifier c =
@@ -49,9 +62,12 @@ returns-then-begins_with_identifier c =
     let h = c.in-Err.ensures in
     let d = c.split_at.result.0.now in
     let m = left c.from_slice-rest.result in
-    let one : Accepts SpellsValue s d m = split-value s d m c.in_ok-size.size c.split_at.ensures.front (c.from_slice-rest.ensures ∙ c.split_at.ensures.back) c.in_ok-size.ensures.accepted in
-    let some : Finds SpellsIdentifier m = subst (λ (l : List ℕ). Finds SpellsIdentifier l) (sym c.from_slice-rest.ensures) (c.begins_with_identifier.ensures.0 c.if-begins_with_identifier.true) in
-    let none : Refuses (SpellsAlgorithm sha256_with_rsa_encryption) m = unless-memory e (algorithm-outer sha256_with_rsa_encryption m e h.kind).other h.refuses in
+    let one : Accepts SpellsValue s d m = split-value s d m c.in_ok-size.size c.split_at.ensures.front
+    (c.from_slice-rest.ensures ∙ c.split_at.ensures.back) c.in_ok-size.ensures.accepted in
+    let some : Finds SpellsIdentifier m = subst (λ (l : List ℕ). Finds SpellsIdentifier l)
+    (sym c.from_slice-rest.ensures) (c.begins_with_identifier.ensures.0 c.if-begins_with_identifier.true) in
+    let none : Refuses (SpellsAlgorithm sha256_with_rsa_encryption) m =
+    unless-memory e (algorithm-outer sha256_with_rsa_encryption m e h.kind).other h.refuses in
     record { value = d; rest = m; begins = one.spells; follows = record { some = some; none = none } }
 
 pub returns-in_err-value : goal.returns-in_err-value
@@ -61,10 +77,18 @@ returns-in_err-value c =
     let h = c.in_err-value.ensures in
     let d = c.split_at.result.0.now in
     let m = left c.from_slice-rest.result in
-    let one : Accepts SpellsValue s d m = split-value s d m c.in_ok-size.size c.split_at.ensures.front (c.from_slice-rest.ensures ∙ c.split_at.ensures.back) c.in_ok-size.ensures.accepted in
-    let none : UnlessMemory e (Refuses AreParts s) = UnlessMemory-weaker e (no-signature (SpellsAlgorithm sha256_with_rsa_encryption) s m _ d _ one c.in-Ok.ensures) h.refuses in
-    tried-else AreOtherParts _ AreParts IsAllPartsFault s e _ c.from_residual-in_err-value.ensures
-    (UnlessMemory-from e (not-other s d m _ _ one c.in-Ok.ensures), (UnlessMemory-weaker e (nothing-whole AreParts s) none, AtPart none (Later d m one (Later _ _ c.in-Ok.ensures h.kind))))
+    let one : Accepts SpellsValue s d m = split-value s d m c.in_ok-size.size c.split_at.ensures.front
+    (c.from_slice-rest.ensures ∙ c.split_at.ensures.back) c.in_ok-size.ensures.accepted in
+    let none : UnlessMemory e (Refuses AreParts s) =
+    UnlessMemory-weaker e (no-signature (SpellsAlgorithm sha256_with_rsa_encryption) s m _ d _ one c.in-Ok.ensures)
+    h.refuses in
+    tried-else AreOtherParts _ AreParts IsAllPartsFault s e _ c.from_residual-in_err-value.ensures (
+      UnlessMemory-from e (not-other s d m _ _ one c.in-Ok.ensures),
+      (
+        UnlessMemory-weaker e (nothing-whole AreParts s) none,
+        AtPart none (Later d m one (Later _ _ c.in-Ok.ensures h.kind)),
+      ),
+    )
 
 pub returns-in_err-finish : goal.returns-in_err-finish
 returns-in_err-finish c =
@@ -73,16 +97,24 @@ returns-in_err-finish c =
     let h = c.in_err-finish.ensures in
     let d = c.split_at.result.0.now in
     let m = left c.from_slice-rest.result in
-    let one : Accepts SpellsValue s d m = split-value s d m c.in_ok-size.size c.split_at.ensures.front (c.from_slice-rest.ensures ∙ c.split_at.ensures.back) c.in_ok-size.ensures.accepted in
-    let all = contents-accepted (SpellsAlgorithm sha256_with_rsa_encryption) s m _ _ d _ _ one c.in-Ok.ensures c.in_ok-value.ensures in
-    tried-else AreOtherParts _ AreParts IsAllPartsFault s e _ c.from_residual-in_err-finish.ensures
-    (UnlessMemory-from e (not-other s d m _ _ one c.in-Ok.ensures), (UnlessMemory-from e (nothing-after AreParts s _ _ all h.1), Later _ _ all (h.1, h.0)))
+    let one : Accepts SpellsValue s d m = split-value s d m c.in_ok-size.size c.split_at.ensures.front
+    (c.from_slice-rest.ensures ∙ c.split_at.ensures.back) c.in_ok-size.ensures.accepted in
+    let all = contents-accepted (SpellsAlgorithm sha256_with_rsa_encryption) s m _ _ d _ _ one c.in-Ok.ensures
+    c.in_ok-value.ensures in
+    tried-else AreOtherParts _ AreParts IsAllPartsFault s e _ c.from_residual-in_err-finish.ensures (
+      UnlessMemory-from e (not-other s d m _ _ one c.in-Ok.ensures),
+      (UnlessMemory-from e (nothing-after AreParts s _ _ all h.1), Later _ _ all (h.1, h.0)),
+    )
 
 pub returns : goal.returns
 returns c =
     let s = c.args.contents.now in
     let d = c.split_at.result.0.now in
     let m = left c.from_slice-rest.result in
-    let one : Accepts SpellsValue s d m = split-value s d m c.in_ok-size.size c.split_at.ensures.front (c.from_slice-rest.ensures ∙ c.split_at.ensures.back) c.in_ok-size.ensures.accepted in
-    let all = contents-accepted (SpellsAlgorithm sha256_with_rsa_encryption) s m _ _ d _ _ one c.in-Ok.ensures c.in_ok-value.ensures in
-    (not-other s d m _ _ one c.in-Ok.ensures, rw c.has_parameters.ensures (all-read AreParts s _ _ all c.in_ok-finish.ensures))
+    let one : Accepts SpellsValue s d m = split-value s d m c.in_ok-size.size c.split_at.ensures.front
+    (c.from_slice-rest.ensures ∙ c.split_at.ensures.back) c.in_ok-size.ensures.accepted in
+    let all = contents-accepted (SpellsAlgorithm sha256_with_rsa_encryption) s m _ _ d _ _ one c.in-Ok.ensures
+    c.in_ok-value.ensures in (
+      not-other s d m _ _ one c.in-Ok.ensures,
+      rw c.has_parameters.ensures (all-read AreParts s _ _ all c.in_ok-finish.ensures),
+    )

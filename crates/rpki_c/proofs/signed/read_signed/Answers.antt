@@ -14,8 +14,10 @@ returns-in_err-contents c =
     let s = c.args.octets.now in
     let e = c.in_err-contents.field-0.0 in
     let h = rw c.from_slice-cons.ensures at c.in_err-contents.ensures in
-    tried-else IsOtherSigned _ SpellsRpki IsWholeSignedFault s e _ c.from_residual.ensures
-    (UnlessMemory-weaker e (no-first AreOtherParts s) h.refuses, not-read SpellsRpki IsSignedFault s s e (sequence-refused s _ e h))
+    tried-else IsOtherSigned _ SpellsRpki IsWholeSignedFault s e _ c.from_residual.ensures (
+      UnlessMemory-weaker e (no-first AreOtherParts s) h.refuses,
+      not-read SpellsRpki IsSignedFault s s e (sequence-refused s _ e h),
+    )
 
 pub returns-in_err-found : goal.returns-in_err-found
 returns-in_err-found c =
@@ -23,8 +25,10 @@ returns-in_err-found c =
     let e = c.in_err-found.field-0.0 in
     let a = rw c.from_slice-cons.ensures at c.in_ok-contents.ensures in
     let h = rw c.rest.ensures at c.in_err-found.ensures in
-    tried-else IsOtherSigned _ SpellsRpki IsWholeSignedFault s e _ c.from_residual-in_err-found.ensures
-    (UnlessMemory-weaker e (inside AreOtherParts s (left c.in_ok-contents.contents) _ a) h.0, not-read SpellsRpki IsSignedFault s s e (parts-refused s (left c.in_ok-contents.contents) _ e a h.1))
+    tried-else IsOtherSigned _ SpellsRpki IsWholeSignedFault s e _ c.from_residual-in_err-found.ensures (
+      UnlessMemory-weaker e (inside AreOtherParts s (left c.in_ok-contents.contents) _ a) h.0,
+      not-read SpellsRpki IsSignedFault s s e (parts-refused s (left c.in_ok-contents.contents) _ e a h.1),
+    )
 
 pub returns-in_err-finish : goal.returns-in_err-finish
 returns-in_err-finish c =
@@ -32,8 +36,10 @@ returns-in_err-finish c =
     let f = c.in-Some.found in
     let a = rw c.from_slice-cons.ensures at c.in_ok-contents.ensures in
     let h = rw c.in-Some.is at c.in_ok-found.ensures in
-    let other : IsOtherSigned s → ⊥ = inside AreOtherParts s (left c.in_ok-contents.contents) _ a (rw c.rest.ensures at h.0) in
-    let all = inner-accepted sequence true AreParts s (left c.in_ok-contents.contents) _ (parts_of f.0.now f.1 f.2.now) a (rw c.rest.ensures at h.1) in
+    let other : IsOtherSigned s → ⊥ = inside AreOtherParts s (left c.in_ok-contents.contents) _ a
+    (rw c.rest.ensures at h.0) in
+    let all = inner-accepted sequence true AreParts s (left c.in_ok-contents.contents) _ (parts_of f.0.now f.1 f.2.now)
+    a (rw c.rest.ensures at h.1) in
     tried-else IsOtherSigned _ SpellsRpki IsWholeSignedFault s _ _ c.from_residual-in_err-finish.ensures
     (rw c.in_err-finish.ensures.0 (other, more-left SpellsRpki IsSignedFault s _ _ all c.in_err-finish.ensures.1))
 
@@ -43,6 +49,8 @@ returns c =
     let f = c.in-Some.found in
     let a = rw c.from_slice-cons.ensures at c.in_ok-contents.ensures in
     let h = rw c.in-Some.is at c.in_ok-found.ensures in
-    let other : IsOtherSigned s → ⊥ = inside AreOtherParts s (left c.in_ok-contents.contents) _ a (rw c.rest.ensures at h.0) in
-    let all = inner-accepted sequence true AreParts s (left c.in_ok-contents.contents) _ (parts_of f.0.now f.1 f.2.now) a (rw c.rest.ensures at h.1) in
+    let other : IsOtherSigned s → ⊥ = inside AreOtherParts s (left c.in_ok-contents.contents) _ a
+    (rw c.rest.ensures at h.0) in
+    let all = inner-accepted sequence true AreParts s (left c.in_ok-contents.contents) _ (parts_of f.0.now f.1 f.2.now)
+    a (rw c.rest.ensures at h.1) in
     (other, all-read SpellsRpki s _ _ all c.in_ok-finish.ensures)

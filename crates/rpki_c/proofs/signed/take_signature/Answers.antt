@@ -15,21 +15,34 @@ pub returns-in_err-contents : goal.returns-in_err-contents
 returns-in_err-contents c =
     let h = c.in_err-contents.ensures in
     tried-refused _ _ _ _ _ _ _ c.from_residual.ensures
-    (record { unchanged = refl; refuses = UnlessMemory-weaker c.in_err-contents.field-0.0 (no-bits (left c.args.cons.now)) h.refuses; kind = leaf-kind bit_string false IsBits _ _ h.kind })
+    (record {
+      unchanged = refl;
+      refuses = UnlessMemory-weaker c.in_err-contents.field-0.0
+          (no-bits (left c.args.cons.now)) h.refuses;
+      kind = leaf-kind bit_string false IsBits _ _ h.kind;
+    })
 
 pub returns-in_default : goal.returns-in_default
 returns-in_default c =
     let o = c.in_ok-contents.contents.now in
     let a = c.in_ok-contents.ensures in
     let none : (b : Bits) → IsBits b o → ⊥ = bits-empty o c.in_default.len_below in
-    rw c.content.ensures (record { unchanged = refl; refuses = bad-bits (left c.args.cons.now) o _ a none; kind = (o, _, a.spells, none) })
+    rw c.content.ensures
+    (record {
+      unchanged = refl;
+      refuses = bad-bits (left c.args.cons.now) o _ a none;
+      kind =
+          (o, _, a.spells, none);
+    })
 
 pub returns-then-not-is_legal : goal.returns-then-not-is_legal
 returns-then-not-is_legal c =
     let o = c.in_ok-contents.contents.now in
     let a = c.in_ok-contents.ensures in
-    let none : (b : Bits) → IsBits b o → ⊥ = bits-unread o o refl c.in-len1-up.len_at_least (iff_false c.is_legal.ensures c.if-not-is_legal.true) in
-    rw c.content-then-not-is_legal.ensures (record { unchanged = refl; refuses = bad-bits (left c.args.cons.now) o _ a none; kind = (o, _, a.spells, none) })
+    let none : (b : Bits) → IsBits b o → ⊥ = bits-unread o o refl c.in-len1-up.len_at_least
+    (iff_false c.is_legal.ensures c.if-not-is_legal.true) in
+    rw c.content-then-not-is_legal.ensures (record
+    { unchanged = refl; refuses = bad-bits (left c.args.cons.now) o _ a none; kind = (o, _, a.spells, none) })
 
 pub returns : goal.returns
 returns c =
@@ -37,5 +50,10 @@ returns c =
     let o = c.in_ok-contents.contents.now in
     let r = left c.take_primitive_if.new.self in
     let b = bits_of (get_or o 0 0) (take (length o - 1) (drop 1 o)) in
-    let is : IsBits b o = record { legal = c.is_legal.ensures.0 c.if-not-is_legal.false; contents = first_rest o 0 c.in-len1-up.len_at_least } in
-    signature-accepted s b r b.octets refl (leaf-accepted bit_string false IsBits s o r b c.in_ok-contents.ensures is (λ w p. bits-one b o w is p))
+    let is : IsBits b o = record {
+      legal = c.is_legal.ensures.0 c.if-not-is_legal.false;
+      contents =
+          first_rest o 0 c.in-len1-up.len_at_least;
+    } in
+    signature-accepted s b r b.octets refl (leaf-accepted bit_string false IsBits s o r b c.in_ok-contents.ensures is
+    (λ w p. bits-one b o w is p))

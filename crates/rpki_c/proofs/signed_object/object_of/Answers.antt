@@ -62,7 +62,8 @@ returns c =
           identifier = c.from.ensures ∙ p.signer.identifier;
           parameters = c.has_parameters.ensures ∙ p.signer.algorithm;
           values =
-              values-told strict l.one.value.1 (values_known v.signer.signed_attrs.values) x.signer.attributes.values same
+              values-told strict l.one.value.1 (values_known v.signer.signed_attrs.values) x.signer.attributes.values
+              same
               l.one.stands.values _ c.into_array.ensures c.is_some.ensures c.moment_if.ensures.since
               c.moment_if.ensures.date c.moment_if.ensures.clock c.is_some-2.ensures c.unwrap_or.ensures;
         };

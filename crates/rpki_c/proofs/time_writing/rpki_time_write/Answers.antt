@@ -9,6 +9,7 @@ returns-in-Some c =
     inl (
       c.in-Some.time,
       c.in-Some.ensures.value,
-      subst (λ (t : DateTime). IsMade (time_octets t) c.store_values.result c.args.out.now c.store_values.new.out c.args.written.now c.store_values.new.written)
+      subst (λ (t : DateTime). IsMade (time_octets t) c.store_values.result c.args.out.now c.store_values.new.out
+          c.args.written.now c.store_values.new.written)
           c.encode_varied.ensures.time c.store_values.ensures,
     )

@@ -7,5 +7,6 @@ returns-in-Ok-clause-ok c =
     record {
       time = c.in-Ok.time;
       spelled = h.0;
-      moment = moment c.args.octets.now c.in-Ok.time c.moment_of.result h.0 c.moment_of.ensures.since c.moment_of.ensures.date c.moment_of.ensures.clock;
+      moment = moment c.args.octets.now c.in-Ok.time c.moment_of.result h.0 c.moment_of.ensures.since
+          c.moment_of.ensures.date c.moment_of.ensures.clock;
     }

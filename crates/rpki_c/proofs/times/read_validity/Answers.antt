@@ -10,8 +10,10 @@ returns-in-Ok-clause-ok c =
     let p = h.spelled in
     let one = subst (λ t. SpellsTime t p.start) (sym c.not_before.ensures) p.not_before in
     let two = subst (λ t. SpellsTime t p.end) (sym c.not_after.ensures) p.not_after in
-    let from = moment p.start c.not_before.result c.moment_of.result one c.moment_of.ensures.since c.moment_of.ensures.date c.moment_of.ensures.clock in
-    let upto = moment p.end c.not_after.result c.moment_of-in-Ok.result two c.moment_of-in-Ok.ensures.since c.moment_of-in-Ok.ensures.date c.moment_of-in-Ok.ensures.clock in
+    let from = moment p.start c.not_before.result c.moment_of.result one c.moment_of.ensures.since
+    c.moment_of.ensures.date c.moment_of.ensures.clock in
+    let upto = moment p.end c.not_after.result c.moment_of-in-Ok.result two c.moment_of-in-Ok.ensures.since
+    c.moment_of-in-Ok.ensures.date c.moment_of-in-Ok.ensures.clock in
     record {
       period = c.in-Ok.period;
       spelled = h;

@@ -1,0 +1,72 @@
+//! Certificates of which one may have issued the other.
+
+ghost use Rattle.std.specs.Prelude.{◌≡◌, ◌↔◌, ℕ, List, IsTrue};
+ghost use Rattle.std.specs.Prelude.{Option};
+ghost use Rattle.sha1.specs.Sha1.{sha1};
+ghost use Rattle.rpki_cert.specs.Cert.{CertParts};
+ghost use Rattle.rpki_cert.specs.View.{IsCertAt};
+ghost use Rattle.rpki_c.specs.Issued.{IsIssuerRead};
+
+use crate::certificate::part_number;
+use crate::certificate_extensions::known_number;
+use crate::status::{NO_ISSUER, OTHER_AUTHORITY, OTHER_ISSUER};
+use rpki::crypto::KeyIdentifier;
+use rpki_cert::CertView;
+use rpki_digests::Digests;
+
+/// Whether the key identifier is there and is this one.
+fn is_identifier(found: Option<KeyIdentifier>, wanted: KeyIdentifier) -> bool
+    ensures { IsTrue result ↔ (found ≡ Option.Some wanted) }
+{
+    match found {
+        Some(found) => found == wanted,
+        None => false,
+    }
+}
+
+/// Whether the issuer of the one has the name of the other's subject, octet for octet.
+fn is_named(found: &CertView<'_>, issuer: &CertView<'_>) -> bool
+    ensures { (s t : List ℕ) (x y : CertParts) → IsCertAt s found.now x → IsCertAt t issuer.now y
+        → IsTrue result ↔ (x.tbs.issuer ≡ y.tbs.subject) }
+{
+    found.tbs.named.issuer.octets == issuer.tbs.named.subject.octets
+}
+
+/// The identifier of the certificate's key: the SHA-1 digest of its bits (RFC 6487 4.8.2).
+fn key_of(issuer: &CertView<'_>) -> KeyIdentifier
+    ensures { (t : List ℕ) (y : CertParts) → IsCertAt t issuer.now y → result ≡ sha1 y.tbs.key.bits.octets }
+{
+    issuer.tbs.named.keyed.key.key_identifier(&Digests)
+}
+
+/// Reads two resource certificates, and says whether the second may have issued the first (RFC 5280 6.1.3, RFC 6487
+/// 4.8.3): whether the issuer of the first has the name of the second's subject, octet for octet, and the authority key
+/// identifier of the first is that of the second's key. Whether that key has signed the first is not looked at.
+///
+/// The status is 0. Else it is, in this order: as of `rpki_certificate_extensions`, where the first is no certificate,
+/// or one of its extensions is wrong; `NO_ISSUER`, where the second is none; `OTHER_ISSUER`; `OTHER_AUTHORITY`. Nothing
+/// is allocated.
+#[unsafe(no_mangle)]
+pub extern "C" fn rpki_certificate_issued_by(octets: &[u8], issuer: &[u8]) -> u8
+    ensures { IsIssuerRead octets.now issuer.now result }
+{
+    let found = match CertView::read(octets) {
+        Ok(found) => found,
+        Err(part) => return part_number(part),
+    };
+    let known = match found.tbs.named.keyed.known() {
+        Ok(known) => known,
+        Err(part) => return known_number(part),
+    };
+    let authority = match CertView::read(issuer) {
+        Ok(authority) => authority,
+        Err(_) => return NO_ISSUER,
+    };
+    if !is_named(&found, &authority) {
+        return OTHER_ISSUER;
+    }
+    if !is_identifier(known.authority_key_identifier, key_of(&authority)) {
+        return OTHER_AUTHORITY;
+    }
+    0
+}

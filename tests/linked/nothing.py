@@ -1,0 +1,78 @@
+"""Writes a program in C that makes each call of rpki.h with NULL and the size or capacity 0, and with another pointer
+and 0: status and all that is written have to be the same.
+
+usage: nothing.py > FILE"""
+import os
+import re
+
+HEADER = os.path.join(os.path.dirname(os.path.abspath(__file__)), "..", "..", "include", "rpki.h")
+HEAD = """\
+#include <stdio.h>
+#include <string.h>
+
+#include "rpki.h"
+
+static unsigned char one[4096], other[4096];
+
+static void fill(unsigned char *room) { memset(room, 0, sizeof one); }
+
+"""
+MAIN = """\
+int main(void) {
+    static const uint8_t nothing[1];
+    unsigned passed = 0, failed = 0;
+    size_t at;
+    for (at = 0; at < sizeof calls / sizeof *calls; at++) {
+        bool well;
+        fill(one);
+        fill(other);
+        well = calls[at].make(NULL, NULL, one) == calls[at].make(nothing, (uint8_t *)nothing, other);
+        well = well && !memcmp(one, other, sizeof one);
+        passed += well;
+        failed += !well;
+        if (!well) printf("%s: NULL and 0 is not as another pointer and 0\\n", calls[at].name);
+    }
+    printf("%u passed, %u failed\\n", passed, failed);
+    return failed != 0;
+}
+"""
+
+
+def arguments(parameters):
+    """What is passed: no octets, no room, and places of their own in a room for all else."""
+    at = 0
+    for number, text in enumerate(parameters):
+        kind, name = re.fullmatch(r"(.*?)(\w+)(?:\[\d+\])?", text).groups()
+        after = parameters[number + 1] if number + 1 < len(parameters) else ""
+        if name.endswith("size") or name == "capacity":
+            yield "0"
+        elif kind == "const uint8_t *" and after.startswith("size_t"):
+            yield "octets"
+        elif "*" in kind and after == "size_t capacity":
+            yield f"({kind.strip()})(void *)room_of_none"
+        elif "*" in kind or "[" in text:
+            yield f"(void *)(room + {at})"
+            at += 512
+        else:
+            yield "0"
+
+
+def main():
+    with open(HEADER, encoding="utf-8") as file:
+        text = re.sub(r"/\*.*?\*/", "", file.read().split("/* ---- In this header alone")[0], flags=re.S)
+    calls = []
+    print(HEAD, end="")
+    for name, told in re.findall(r"^rpki_status (rpki_\w+)\(([^)]*)\)", text, re.M):
+        passed = list(arguments([" ".join(one.split()) for one in told.split(",")]))
+        if "octets" in passed or any("room_of_none" in one for one in passed):
+            calls.append(name)
+            print(f"static rpki_status make_{name}(const uint8_t *octets, uint8_t *room_of_none, unsigned char *room) {{\n"
+                  f"    (void)octets, (void)room_of_none, (void)room;\n    return {name}({', '.join(passed)});\n}}\n")
+    print("static const struct {\n    const char *name;\n"
+          "    rpki_status (*make)(const uint8_t *octets, uint8_t *room_of_none, unsigned char *room);\n} calls[] = {")
+    print("".join(f'    {{"{name}", make_{name}}},\n' for name in calls), end="")
+    print("};\n")
+    print(MAIN, end="")
+
+
+main()
