@@ -1,85 +1,105 @@
 -- What is found of a file.
-use Rattle.std.proofs.Common.{◌≡◌, ℕ, false, List, inl, inr, refl, subst}
-use Rattle.std.specs.Prelude.{Option, Some, None, Ok, Err, IfSome}
+use Rattle.std.proofs.Common.{◌≡◌, ℕ, List, inl, inr, refl, subst, sym}
+use Rattle.std.specs.Prelude.{Option, Some, None, Result, Ok, Err, IfSome, IsErrAnd, MatchResult}
 use Rattle.rpki_der.specs.declared.error.DecodeError.{DecodeError}
-use Rattle.rpki_der.specs.declared.error.DecodeError.TheVariants.{Truncated, BadTag, BadLength, Unexpected, Content, Trailing}
+use Rattle.rpki_der.specs.declared.error.DecodeError.TheVariants.{Truncated, BadTag, BadLength, Unexpected, Content}
+use Rattle.rpki_der.specs.declared.error.DecodeError.TheVariants.{Trailing}
 use Rattle.rpki_der.specs.declared.error.DecodeError.TheVariants as der
-use Rattle.rpki_der.specs.Reading.{SpellsNothing, IsWholeFault, UnlessMemory}
-use Rattle.rpki.specs.declared.repository.error.ValidationError.{ValidationError}
-use Rattle.rpki.specs.declared.repository.error.ValidationError.TheVariants.{Decoding, Inspection as Inspected, Verification}
-use Rattle.rpki_cert.specs.Cert.{SpellsCert}
-use Rattle.rpki_cert.specs.CertFault.{IsCertFault}
-use Rattle.rpki_cert.specs.Known.{UnlessNoMemory, is_memory}
+use Rattle.rpki_fields.specs.Kind.{kind_of}
+use Rattle.rpki_fields.specs.Object.{IsNone}
+use Rattle.rpki_fields.specs.Place.{IsPlace}
+use Rattle.rpki_fields.specs.declared.object.Object.{Object}
+use Rattle.rpki_fields.specs.declared.place.Place.{Place}
 use Rattle.rpkicert.specs.declared.profile.Inspection.{Inspection}
 use Rattle.rpkicert.specs.declared.fault.Fault.{Fault}
-use Rattle.rpkicert.specs.declared.fault.Fault.TheVariants.{Unreadable, TooLarge, OutOfMemory, Malformed, Refused, Violated}
+use Rattle.rpkicert.specs.declared.finding.Found.{Found}
+use Rattle.rpkicert.specs.FindingView.{finding_of}
+use Rattle.rpkicert.specs.declared.fault.Fault.TheVariants.{Unreadable, TooLarge, OutOfMemory, Malformed, Refused}
+use Rattle.rpkicert.specs.declared.fault.Fault.TheVariants.{Violated}
 use Rattle.rpkicert.specs.Fault.{refusal}
-use Rattle.rpkicert.specs.Finding.{Finding, IsRefusal, HoldsTo, FindsIn, Finds, IsRead}
+use Rattle.rpki_cert.specs.Cert.{TbsParts}
+use Rattle.rpki.specs.declared.repository.error.ValidationError.{ValidationError}
+use Rattle.rpkicert.specs.Finding.{Finding, IsObject, IsRefusal, HoldsTo, FindsIn, Finds, IsRead, Meets, IsViolation}
 
--- why octets are no certificate
-pub refusal-of : (octets : List ℕ) (e : DecodeError) → UnlessMemory e (SpellsNothing SpellsCert octets) × IsWholeFault SpellsCert IsCertFault octets e → IsRefusal octets (refusal e)
-refusal-of octets Truncated h = ((λ (z : Truncated ≡ der.OutOfMemory). cc), h.0, h.1)
-refusal-of octets BadTag h = ((λ (z : BadTag ≡ der.OutOfMemory). cc), h.0, h.1)
-refusal-of octets BadLength h = ((λ (z : BadLength ≡ der.OutOfMemory). cc), h.0, h.1)
-refusal-of octets Unexpected h = ((λ (z : Unexpected ≡ der.OutOfMemory). cc), h.0, h.1)
-refusal-of octets (Content x) h = ((λ (z : Content x ≡ der.OutOfMemory). cc), h.0, h.1)
-refusal-of octets Trailing h = ((λ (z : Trailing ≡ der.OutOfMemory). cc), h.0, h.1)
-refusal-of octets der.OutOfMemory h = tt
+-- why octets are no object
+pub refusal-of : (octets : List ℕ) (place : Option Place) (e : DecodeError) → IsNone (kind_of octets) octets e
+    → IsPlace (kind_of octets) octets place
+    → IsRefusal octets (refusal (kind_of octets) place e)
+refusal-of octets place Truncated h k =
+    record { told = refl; memory = λ (z : Truncated ≡ der.OutOfMemory). cc; none = h; placed = k }
+refusal-of octets place BadTag h k =
+    record { told = refl; memory = λ (z : BadTag ≡ der.OutOfMemory). cc; none = h; placed = k }
+refusal-of octets place BadLength h k =
+    record { told = refl; memory = λ (z : BadLength ≡ der.OutOfMemory). cc; none = h; placed = k }
+refusal-of octets place Unexpected h k =
+    record { told = refl; memory = λ (z : Unexpected ≡ der.OutOfMemory). cc; none = h; placed = k }
+refusal-of octets place (Content x) h k =
+    record { told = refl; memory = λ (z : Content x ≡ der.OutOfMemory). cc; none = h; placed = k }
+refusal-of octets place Trailing h k =
+    record { told = refl; memory = λ (z : Trailing ≡ der.OutOfMemory). cc; none = h; placed = k }
+refusal-of octets place der.OutOfMemory h k = tt
 
-pub refused-holds : (inspection : Option Inspection) (octets : List ℕ) (f : Fault) → IsRefusal octets f → HoldsTo inspection octets (Err f)
-refused-holds inspection octets (Refused e) h = h
+pub refused-holds : (inspection : Option Inspection) (octets : List ℕ) (f : Fault) → IsRefusal octets f
+    → HoldsTo inspection octets (Err f)
+refused-holds inspection octets (Refused kind place e) h = h
 refused-holds inspection octets OutOfMemory h = tt
 refused-holds inspection octets (Unreadable cause) h = absurd h
 refused-holds inspection octets TooLarge h = absurd h
 refused-holds inspection octets Malformed h = absurd h
 refused-holds inspection octets (Violated e) h = absurd h
 
-unless : (e : DecodeError) (P : Type 0) → is_memory (Decoding e) ≡ false → UnlessMemory e P → P
-unless Truncated P z h = h
-unless BadTag P z h = h
-unless BadLength P z h = h
-unless Unexpected P z h = h
-unless (Content x) P z h = h
-unless Trailing P z h = h
-unless der.OutOfMemory P z h = absurd cc
+-- an object in memory of its own
+pub boxed-is : {B : Type 0} (r : Result B Fault) (value : B → Object) (octets : List ℕ) (x : Object)
+    → MatchResult r (λ b. value b ≡ x) (λ f. f ≡ OutOfMemory) → IsObject octets x
+    → MatchResult r (λ b. IsObject octets (value b)) (IsRefusal octets)
+boxed-is (Ok b) value octets x h k = subst (λ (y : Object). IsObject octets y) (sym h) k
+boxed-is (Err f) value octets x h k = subst (λ (g : Fault). IsRefusal octets g) (sym h) tt
 
--- an error that is no allocation failure
-pub unless-memory : (e : ValidationError) (P : Type 0) → is_memory e ≡ false → UnlessNoMemory e P → P
-unless-memory (Decoding e) P z h = unless e P z h
-unless-memory (Inspected e) P z h = h
-unless-memory (Verification e) P z h = h
+-- a fault that is handed on
+pub given-up : (inspection : Option Inspection) (octets : List ℕ) (r : Result Found Fault) (f : Fault)
+    → IsErrAnd r (λ g. g ≡ f) → IsRefusal octets f → HoldsTo inspection octets (finding_of r)
+given-up inspection octets (Ok x) f h k = absurd h
+given-up inspection octets (Err g) f h k =
+    refused-holds inspection octets g (subst (λ (g : Fault). IsRefusal octets g) (sym h) k)
+
+-- what holds of a certificate holds of the object's, where it is that one
+pub meets-of : (inspection : Option Inspection) (t u : Option TbsParts) → t ≡ u → Meets inspection t
+    → Meets inspection u
+meets-of inspection t u same h = subst (λ (v : Option TbsParts). Meets inspection v) same h
+
+pub breaks-of : (inspection : Option Inspection) (t u : Option TbsParts) → t ≡ u → (Meets inspection t → ⊥)
+    → Meets inspection u → ⊥
+breaks-of inspection t u same h = subst (λ (v : Option TbsParts). Meets inspection v → ⊥) same h
+
+pub violates-of : (inspection : Option Inspection) (t u : Option TbsParts) (e : ValidationError) → t ≡ u
+    → IsViolation inspection t e → IsViolation inspection u e
+violates-of inspection t u e same h = subst (λ (v : Option TbsParts). IsViolation inspection v e) same h
 
 -- a file that was not read
-pub not-read : (inspection : Option Inspection) (source : Option (List ℕ)) (f : Fault) → IsRead source (Err f) → Finds inspection source (Err f)
+pub not-read : (inspection : Option Inspection) (source : Option (List ℕ)) (f : Fault) → IsRead source (Err f)
+    → Finds inspection source (Err f)
 not-read inspection (Some octets) (Unreadable cause) h = absurd h
 not-read inspection (Some octets) TooLarge h = inr (inl (h, refl))
 not-read inspection (Some octets) OutOfMemory h = inr (inr refl)
 not-read inspection (Some octets) Malformed h = absurd h
-not-read inspection (Some octets) (Refused e) h = absurd h
+not-read inspection (Some octets) (Refused kind place e) h = absurd h
 not-read inspection (Some octets) (Violated e) h = absurd h
 not-read inspection None (Unreadable cause) h = inl (cause, refl)
 not-read inspection None TooLarge h = absurd h
 not-read inspection None OutOfMemory h = inr refl
 not-read inspection None Malformed h = absurd h
-not-read inspection None (Refused e) h = absurd h
+not-read inspection None (Refused kind place e) h = absurd h
 not-read inspection None (Violated e) h = absurd h
 
 -- a file that was read
-was-read : (inspection : Option Inspection) (source : Option (List ℕ)) (input : List ℕ) (finding : Finding) → IsRead source (Ok input) → FindsIn inspection input finding → Finds inspection source finding
-was-read inspection (Some octets) input finding h k = inl (h.1, subst (λ (w : List ℕ). FindsIn inspection w finding) h.0 k)
+was-read : (inspection : Option Inspection) (source : Option (List ℕ)) (input : List ℕ) (finding : Finding)
+    → IsRead source (Ok input) → FindsIn inspection input finding → Finds inspection source finding
+was-read inspection (Some octets) input finding h k =
+    inl (h.1, subst (λ (w : List ℕ). FindsIn inspection w finding) h.0 k)
 was-read inspection None input finding h k = absurd h
 
-pub was-read-of : (inspection : Option Inspection) (held : Option (Option (List ℕ))) (input : List ℕ) (finding : Finding) → IfSome held (λ source. IsRead source (Ok input)) → FindsIn inspection input finding
+pub was-read-of : (inspection : Option Inspection) (held : Option (Option (List ℕ))) (input : List ℕ)
+    (finding : Finding) → IfSome held (λ source. IsRead source (Ok input)) → FindsIn inspection input finding
     → IfSome held (λ source. Finds inspection source finding)
 was-read-of inspection None input finding h k = tt
 was-read-of inspection (Some source) input finding h k = was-read inspection source input finding h k
-
--- the same of an error of a reader that takes no memory
-pub unless-taken : (e : DecodeError) (P : Type 0) → (e ≡ der.OutOfMemory → ⊥) → UnlessMemory e P → P
-unless-taken Truncated P z h = h
-unless-taken BadTag P z h = h
-unless-taken BadLength P z h = h
-unless-taken Unexpected P z h = h
-unless-taken (Content x) P z h = h
-unless-taken Trailing P z h = h
-unless-taken der.OutOfMemory P z h = absurd (z refl)

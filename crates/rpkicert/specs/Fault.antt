@@ -1,16 +1,22 @@
 -- Why nothing is printed of a file.
-use Rattle.std.specs.Prelude.{ℕ, List, ◌++◌, codes, unwrap_or}
+use Rattle.std.specs.Prelude.{ℕ, List, ◌++◌, codes, unwrap_or, Option}
 use Rattle.rpki_der.specs.declared.error.DecodeError.{DecodeError}
-use Rattle.rpki_der.specs.declared.error.DecodeError.TheVariants.{Truncated, BadTag, BadLength, Unexpected, Content, Trailing}
+use Rattle.rpki_der.specs.declared.error.DecodeError.TheVariants.{Truncated, BadTag, BadLength, Unexpected, Content}
+use Rattle.rpki_der.specs.declared.error.DecodeError.TheVariants.{Trailing}
 use Rattle.rpki_der.specs.declared.error.DecodeError.TheVariants as der
 use Rattle.rpki_der.specs.ErrorText.{error_text}
 use Rattle.rpki.specs.ErrorContent.{validation_text}
+use Rattle.rpki_fields.specs.declared.kind.Kind.{Kind}
+use Rattle.rpki_fields.specs.Kind.{kind_text}
+use Rattle.rpki_fields.specs.PlaceText.{place_text}
+use Rattle.rpki_fields.specs.declared.place.Place.{Place}
 use Rattle.std.specs.declared.io.ErrorKind.{ErrorKind}
 use Rattle.std.specs.declared.io.ErrorKind.TheVariants.{NotFound, PermissionDenied, IsADirectory}
 use Rattle.rpkicert.specs.declared.fault.Cause.{Cause}
 use Rattle.rpkicert.specs.declared.fault.Cause.TheVariants.{Absent, Denied, Folder, Other}
 use Rattle.rpkicert.specs.declared.fault.Fault.{Fault}
-use Rattle.rpkicert.specs.declared.fault.Fault.TheVariants.{Unreadable, TooLarge, OutOfMemory, Malformed, Refused, Violated}
+use Rattle.rpkicert.specs.declared.fault.Fault.TheVariants.{Unreadable, TooLarge, OutOfMemory, Malformed, Refused}
+use Rattle.rpkicert.specs.declared.fault.Fault.TheVariants.{Violated}
 
 -- a file has at most so many octets
 abbrev pub most_octets : ℕ
@@ -35,7 +41,7 @@ fault_text (Unreadable cause) = unreadable_text cause
 fault_text TooLarge = codes "larger than 1048576 octets"
 fault_text OutOfMemory = codes "out of memory"
 fault_text Malformed = codes "malformed PEM"
-fault_text (Refused e) = codes "not a certificate: " ++ error_text e
+fault_text (Refused kind place e) = codes "not a " ++ kind_text kind ++ codes ": " ++ place_text place ++ error_text e
 fault_text (Violated e) = codes "violates the profile: " ++ unwrap_or (validation_text e) (codes "")
 
 -- the exit status
@@ -44,15 +50,15 @@ status_of (Unreadable cause) = 2
 status_of TooLarge = 2
 status_of OutOfMemory = 2
 status_of Malformed = 1
-status_of (Refused e) = 1
+status_of (Refused kind place e) = 1
 status_of (Violated e) = 1
 
--- the fault of a reader's error
-abbrev pub refusal : DecodeError → Fault
-refusal Truncated = Refused Truncated
-refusal BadTag = Refused BadTag
-refusal BadLength = Refused BadLength
-refusal Unexpected = Refused Unexpected
-refusal (Content e) = Refused (Content e)
-refusal Trailing = Refused Trailing
-refusal der.OutOfMemory = OutOfMemory
+-- the fault of a reader's error, of octets of this kind, in this place
+abbrev pub refusal : Kind → Option Place → DecodeError → Fault
+refusal kind place Truncated = Refused kind place Truncated
+refusal kind place BadTag = Refused kind place BadTag
+refusal kind place BadLength = Refused kind place BadLength
+refusal kind place Unexpected = Refused kind place Unexpected
+refusal kind place (Content e) = Refused kind place (Content e)
+refusal kind place Trailing = Refused kind place Trailing
+refusal kind place der.OutOfMemory = OutOfMemory

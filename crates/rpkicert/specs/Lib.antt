@@ -1,12 +1,4 @@
 -- Definitions: what the contracts say. They are trusted, and read against the standards.
-pub mod AtMostOne
-pub mod ValueText
-pub mod NameText
-pub mod KeySize
-pub mod Field
-pub mod ResourceText
-pub mod CertText
-pub mod Rendering
 pub mod Pem
 pub mod Fault
 pub mod Finding

@@ -1,5 +1,6 @@
 -- Certificates in the textual encoding of RFC 7468.
-use Rattle.std.specs.Prelude.{ℕ, nat_eq, ◌==◌, ◌||◌, ◌&&◌, not, Bool, if◌then◌else◌, List, [], ◌∷◌, length, drop, filter, take_while, codes, Option, Some, None}
+use Rattle.std.specs.Prelude.{ℕ, nat_eq, ◌==◌, ◌||◌, ◌&&◌, not, Bool, if◌then◌else◌, List, [], ◌∷◌, length, drop}
+use Rattle.std.specs.Prelude.{filter, take_while, codes, Option, Some, None}
 use Rattle.std.specs.List.{starts_with}
 use Rattle.std.specs.Option.{is_none}
 use Rattle.std.specs.Result.{result_ok}

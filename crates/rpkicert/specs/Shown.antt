@@ -1,17 +1,19 @@
 -- What is shown of a file, and of a run.
-use Rattle.std.specs.Prelude.{◌≡◌, ◌⊎◌, ℕ, nat_lt, nat_eq, ◌||◌, max, if◌then◌else◌, List, [], ◌∷◌, ◌++◌, codes, Option, Some, None, Result, Ok, Err, IsSome, IfSome, All}
+use Rattle.std.specs.Prelude.{◌≡◌, ◌⊎◌, ℕ, nat_lt, nat_eq, ◌||◌, max, if◌then◌else◌, List, [], ◌∷◌, ◌++◌, codes, Option}
+use Rattle.std.specs.Prelude.{Some, None, Result, Ok, Err, IsSome, IfSome, All}
 use Rattle.std.specs.Io.KnownBytes.{Appends}
 use Rattle.std.specs.List.{flat_map}
 use Rattle.rpki_der.specs.Written.{AppendsBeginning, AppendsCut}
-use Rattle.rpki_cert.specs.Cert.{TbsParts}
-use Rattle.rpkicert.specs.declared.rendering.Form.{Form}
-use Rattle.rpkicert.specs.declared.rendering.Form.TheVariants.{Text, Json}
+use Rattle.rpki_fields.specs.declared.rendering.Form.{Form}
+use Rattle.rpki_fields.specs.declared.rendering.Form.TheVariants.{Text, Json}
 use Rattle.rpkicert.specs.declared.profile.Inspection.{Inspection}
 use Rattle.rpkicert.specs.declared.fault.Fault.TheVariants.{OutOfMemory}
-use Rattle.rpkicert.specs.ValueText.{hex_pair}
-use Rattle.rpkicert.specs.Field.{FieldParts, field_parts}
-use Rattle.rpkicert.specs.Rendering.{rendering}
-use Rattle.rpkicert.specs.CertText.{AreFields}
+use Rattle.rpki_fields.specs.ValueText.{hex_pair}
+use Rattle.rpki_fields.specs.Field.{field_parts}
+use Rattle.rpki_fields.specs.Rendering.{rendering}
+use Rattle.rpki_fields.specs.ObjectText.{IsSheet}
+use Rattle.rpki_fields.specs.Sheet.{SheetParts, sheet_behind}
+use Rattle.rpki_fields.specs.declared.object.Object.{Object}
 use Rattle.rpkicert.specs.Fault.{fault_text, status_of}
 use Rattle.rpkicert.specs.Finding.{Finding, Finds}
 use Rattle.rpkicert.specs.Request.{Asked}
@@ -32,16 +34,16 @@ visible name = flat_map name_octet name
 abbrev pub line : List ℕ → List ℕ → List ℕ
 line name text = visible name ++ codes ": " ++ text ++ 10 ∷ []
 
--- the name of a certificate's file: on a line as above, in JSON as it is
+-- the name of an object's file: on a line as above, in JSON as it is
 abbrev pub file_text : Form → List ℕ → List ℕ
 file_text Text name = visible name
 file_text Json name = name
 
--- the text of the certificate that these octets are: its file, and then its fields, in one form or the other
-abbrev pub IsTextOf : Form → List ℕ → List ℕ → TbsParts → List ℕ → Type 0
-IsTextOf form name octets t text =
-    (fields : List FieldParts) × AreFields octets t fields
-    × (text ≡ rendering form (field_parts (codes "File") (file_text form name) ∷ fields))
+-- the text of the object that these octets are: its file, and then its sheet, in one form or the other
+abbrev pub IsTextOf : Form → List ℕ → List ℕ → Object → List ℕ → Type 0
+IsTextOf form name octets x text =
+    (s : SheetParts) × IsSheet octets x s
+    × (text ≡ rendering form (sheet_behind (field_parts (codes "File") (file_text form name)) s))
 
 -- what goes to the output, what goes to the faults, and the status
 pub record ShownParts : Type 0 where
@@ -52,12 +54,12 @@ pub record ShownParts : Type 0 where
 abbrev pub shown_parts : List ℕ → List ℕ → ℕ → ShownParts
 shown_parts output faults status = record { output = output; faults = faults; status = status }
 
--- a certificate by its fields, a fault by a line among the faults; without a form a line for either
+-- an object by its sheet, a fault by a line among the faults; without a form a line for either
 abbrev pub IsShown : Option Form → List ℕ → Finding → ShownParts → Type 0
 IsShown None name (Ok found) s = s ≡ shown_parts (line name (codes "OK")) [] 0
 IsShown None name (Err fault) s = s ≡ shown_parts (line name (fault_text fault)) [] (status_of fault)
 IsShown (Some form) name (Ok found) s =
-    (text : List ℕ) × IsTextOf form name found.0 found.1.tbs text × (s ≡ shown_parts text [] 0)
+    (text : List ℕ) × IsTextOf form name found.0 found.1 text × (s ≡ shown_parts text [] 0)
 IsShown (Some form) name (Err fault) s =
     s ≡ shown_parts [] (codes "rpkicert: " ++ line name (fault_text fault)) (status_of fault)
 

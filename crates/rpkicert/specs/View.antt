@@ -1,18 +1,8 @@
 -- What clauses see of results that the program holds.
-use Rattle.std.specs.Prelude.{◌≡◌, ℕ, false, List, Option, Some, Result, Ok, Err, Vec}
-use Rattle.std.specs.Option.{option_map}
-use Rattle.rpki.specs.declared.repository.error.ValidationError.{ValidationError}
-use Rattle.rpki_cert.specs.Known.{is_memory}
+use Rattle.std.specs.Prelude.{ℕ, List, Result, Ok, Err, Vec}
 use Rattle.rpkicert.specs.declared.fault.Fault.{Fault}
-use Rattle.rpkicert.specs.Field.{other_text}
 
 -- octets that are owned
 abbrev pub read_of : {Z : Type 0} → Result (Vec ℕ Z) Fault → Result (List ℕ) Fault
 read_of (Ok octets) = Ok octets.items
 read_of (Err fault) = Err fault
-
--- What is shown of a value that was looked for: it, as it is shown; or that it is not as the profile has it, where
--- allocation did not fail.
-abbrev pub Shows : {V : Type 0} → (V → List ℕ) → Result (Option V) ValidationError → Option (List ℕ) → Type 0
-Shows show (Ok v) o = o ≡ option_map show v
-Shows show (Err e) o = (is_memory e ≡ false) × (o ≡ Some other_text)

@@ -1,10 +1,14 @@
 //! Why nothing is printed of a file.
 
-ghost use Rattle.std.specs.Prelude.{◌≡◌, IfOk, OnOk, ◌++◌, string_bytes};
-ghost use Rattle.rpkicert.specs.Fault.{cause_of, unreadable_text, fault_text, status_of};
+ghost use Rattle.std.specs.Prelude.{◌≡◌, IfOk, OnOk, ◌++◌, codes, string_bytes};
+ghost use Rattle.rpki_der.specs.ErrorText.{error_text};
+ghost use Rattle.rpki_fields.specs.Kind.{kind_text};
+ghost use Rattle.rpki_fields.specs.PlaceText.{place_text};
+ghost use Rattle.rpkicert.specs.Fault.{cause_of, unreadable_text, fault_text, status_of, refusal};
 
 use rpki::der::DecodeError;
 use rpki::repository::error::ValidationError;
+use rpki_fields::{Kind, Place, text_of_place};
 use std::alloc::{AllocError, AllocFailed, Global};
 use std::io::ErrorKind;
 
@@ -58,10 +62,25 @@ pub enum Fault {
     OutOfMemory,
     /// It begins as a text of RFC 7468, and isn't exactly one certificate in that encoding.
     Malformed,
-    /// Its octets are no certificate.
-    Refused(DecodeError),
-    /// The certificate violates the profile.
+    /// Its octets are of this kind, and no such object: wrong in this place, where one is known.
+    Refused(Kind, Option<Place>, DecodeError),
+    /// The certificate in it violates the profile.
     Violated(ValidationError),
+}
+
+/// That octets of this kind are no such object, and why.
+fn refused_text(
+    alloc: Global,
+    kind: Kind,
+    place: Option<Place>,
+    e: DecodeError,
+) -> Result<String, AllocError>
+    ensures { IfOk result (λ text. string_bytes text
+        ≡ codes "not a " ++ kind_text kind ++ codes ": " ++ place_text place ++ error_text e) }
+{
+    let name = kind.text();
+    let place = text_of_place(place);
+    format!(in alloc; "not a {name}: {place}{e}")
 }
 
 impl Fault {
@@ -71,7 +90,7 @@ impl Fault {
     {
         match self {
             Fault::Unreadable(_) | Fault::TooLarge | Fault::OutOfMemory => 2,
-            Fault::Malformed | Fault::Refused(_) | Fault::Violated(_) => 1,
+            Fault::Malformed | Fault::Refused(..) | Fault::Violated(_) => 1,
         }
     }
 
@@ -86,7 +105,7 @@ impl Fault {
             Fault::TooLarge => String::from_str(alloc, "larger than 1048576 octets"),
             Fault::OutOfMemory => String::from_str(alloc, "out of memory"),
             Fault::Malformed => String::from_str(alloc, "malformed PEM"),
-            Fault::Refused(e) => format!(in alloc; "not a certificate: {e}"),
+            Fault::Refused(kind, place, e) => refused_text(alloc, kind, place, e),
             Fault::Violated(e) => format!(in alloc; "violates the profile: {e}"),
         }
     }
@@ -114,17 +133,13 @@ impl<T: Drop> From<AllocFailed<T>> for Fault {
     }
 }
 
-/// An allocation failure is a fault of its own, and no error of the octets.
-impl From<DecodeError> for Fault {
-    ghost use Rattle.std.specs.Prelude.{◌≡◌};
-    ghost use Rattle.rpkicert.specs.Fault.{refusal};
-
-    ghost from_gives = { λ e f. f ≡ refusal e };
-
-    fn from(e: DecodeError) -> Fault {
-        match e {
-            DecodeError::OutOfMemory => Fault::OutOfMemory,
-            e => Fault::Refused(e),
-        }
+/// The fault of a reader's error, of octets of this kind, in this place. An allocation failure is a fault of its own,
+/// and no error of the octets.
+pub fn refusal(kind: Kind, place: Option<Place>, e: DecodeError) -> Fault
+    ensures { result ≡ refusal kind place e }
+{
+    match e {
+        DecodeError::OutOfMemory => Fault::OutOfMemory,
+        e => Fault::Refused(kind, place, e),
     }
 }

@@ -1,27 +1,17 @@
-//! A program that prints certificates of the RPKI, and holds them to their profiles.
+//! A program that prints the objects of a repository of the RPKI, and holds their certificates to profiles.
 #![tactic(auto)]
 
 mod arguments;
-mod cert_text;
-mod extension_text;
 mod fault;
-mod field;
 mod finding;
 mod input;
-mod key_size;
 mod laws;
-mod memory;
-mod name;
 mod pem;
-mod place_text;
 mod profile;
-mod rendering;
 mod request;
-mod resource_text;
 mod runs;
 mod shown;
 mod sources;
-mod value;
 mod words;
 
 use crate::arguments::words_of;

@@ -4,9 +4,9 @@ ghost use Rattle.std.specs.Prelude.{◌≡◌, drop, IfOk};
 ghost use Rattle.std.specs.Option.{option_map};
 ghost use Rattle.rpkicert.specs.Pem.{is_space, from_begin, before_hyphen, without_space, pem_octets, octets_of};
 
-use crate::name::after;
 use base64::DecodeAllocError;
 use base64::engine::general_purpose::STANDARD;
+use rpki_fields::after;
 use std::alloc::{AllocError, Global};
 
 /// The first line.

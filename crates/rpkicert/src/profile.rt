@@ -1,6 +1,7 @@
 //! The profiles of certificates (RFC 6487 4, RFC 9323 2, RFC 8209 3.1).
 
 ghost use Rattle.std.specs.Prelude.{◌≡◌};
+ghost use Rattle.std.specs.Option.{option_copied};
 ghost use Rattle.rpki_cert.specs.RuleError.{ChecksBy, IsFirstError};
 ghost use Rattle.rpkicert.specs.Finding.{HasProfile, rules_of, Meets, IsViolation};
 ghost use Rattle.rpkicert.specs.Request.{profile_of};
@@ -66,13 +67,20 @@ fn inspect_as(profile: Profile, tbs: &TbsCert, strict: bool) -> Result<(), Valid
     }
 }
 
-/// Whether the certificate has the profile that is asked for, if one is; the error is that of the rule of the profile
-/// that is broken first.
-pub fn inspect(inspection: Option<Inspection>, tbs: &TbsCert) -> Result<(), ValidationError>
-    ensures { ChecksBy (Meets inspection tbs.now) (IsViolation inspection tbs.now) result }
+/// Whether the certificate, where there is one, has the profile that is asked for, if one is; the error is that of the
+/// rule of the profile that is broken first.
+pub fn inspect(
+    inspection: Option<Inspection>,
+    cert: Option<&TbsCert>,
+) -> Result<(), ValidationError>
+    ensures { ChecksBy (Meets inspection (option_copied cert.entry)) (IsViolation inspection (option_copied cert.entry))
+        result }
 {
     match inspection {
         None => Ok(()),
-        Some(inspection) => inspect_as(inspection.profile, tbs, inspection.strict),
+        Some(inspection) => match cert {
+            None => Ok(()),
+            Some(tbs) => inspect_as(inspection.profile, tbs, inspection.strict),
+        },
     }
 }

@@ -2,13 +2,14 @@
 
 ghost use Rattle.std.specs.Prelude.{◌≡◌, map, codes, IfOk, false, option_map, string_bytes};
 ghost use Rattle.clap.specs.Words.{all_of, app_of, first_of, rule_of};
-ghost use Rattle.rpkicert.specs.Request.{flag, help_flag, profile_option, files_rule, command_app, matched, is_given, form_of, named_inspection, some_files, request_of};
+ghost use Rattle.rpkicert.specs.Request.{flag, help_flag, profile_option, files_rule, command_app, matched, is_given};
+ghost use Rattle.rpkicert.specs.Request.{form_of, named_inspection, some_files, request_of};
 ghost use Rattle.rpkicert.specs.RequestView.{asked_of, rows_in};
 
 use crate::profile::{Inspection, Profile};
-use crate::rendering::Form;
 use clap::error::ErrorKind;
 use clap::{Arg, ArgAction, ArgMatches, Command};
+use rpki_fields::Form;
 use std::alloc::{AllocError, Global};
 
 /// What the words ask for of files.

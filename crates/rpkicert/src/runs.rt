@@ -123,13 +123,13 @@ fn answer<S: Sources, W: Write, F: Write>(
 
 /// Runs what the words, which are the program's arguments, ask for, and returns the exit status.
 ///
-/// `--help` and `--version` print a text. Else each file that the words name is shown, in order: the certificate that
-/// it is by its fields, and a fault by a line among the faults; with `--check` a line for either to the output. Other
-/// words get the usage line among the faults.
+/// `--help` and `--version` print a text. Else each file that the words name is shown, in order: the object that it is
+/// by its fields and items, and a fault by a line among the faults; with `--check` a line for either to the output.
+/// Other words get the usage line among the faults.
 ///
-/// The status is 0 if all is well, 1 if a file is no certificate or violates the profile, 2 if one can't be read, for
-/// other words, if allocation fails, and if the output or the faults fail; of several the greatest. Returns `AllocError`
-/// if there is no memory to read the words; then nothing is written.
+/// The status is 0 if all is well, 1 if a file is no such object or violates the profile, 2 if one can't be read, for
+/// other words, if allocation fails, and if the output or the faults fail; of several the greatest. Returns
+/// `AllocError` if there is no memory to read the words; then nothing is written.
 pub fn run<S: Sources, W: Write, F: Write>(
     alloc: Global,
     words: &[String],

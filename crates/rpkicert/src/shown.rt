@@ -5,12 +5,9 @@ ghost use Rattle.rpkicert.specs.Shown.{name_octet, visible, line, file_text, IsT
 ghost use Rattle.rpkicert.specs.FindingView.{finding_of};
 ghost use Rattle.rpkicert.specs.ShownView.{parts_of};
 
-use crate::cert_text::fields;
 use crate::fault::Fault;
-use crate::field::push_field;
 use crate::finding::Found;
-use crate::rendering::Form;
-use crate::value::hex_pair;
+use rpki_fields::{Form, hex_pair};
 use std::alloc::{AllocError, Global};
 
 /// What is shown of a file.
@@ -58,7 +55,7 @@ fn push_line(text: &mut Vec<u8>, name: &str, said: &[u8]) -> Result<(), AllocErr
     Ok(())
 }
 
-/// The name of a certificate's file, in this form.
+/// The name of an object's file, in this form.
 fn file_text(alloc: Global, form: Form, name: &str) -> Result<Vec<u8>, AllocError>
     ensures { IfOk result (λ text. text.items ≡ file_text form name.now) }
 {
@@ -72,22 +69,21 @@ fn file_text(alloc: Global, form: Form, name: &str) -> Result<Vec<u8>, AllocErro
     }
 }
 
-/// The text of a certificate, in this form.
+/// The text of an object, in this form.
 fn text_of(alloc: Global, form: Form, name: &str, found: &Found) -> Result<Vec<u8>, AllocError>
     ensures { IfOk result (λ text.
-        IsTextOf form name.now found.now.octets.items found.now.cert.tbs text.items) }
+        IsTextOf form name.now found.now.octets.items found.now.object.value text.items) }
 {
     let file = file_text(alloc, form, name)?;
-    let mut fields = fields(alloc, found.octets.as_slice(), found.cert.tbs())?;
-    let mut all = Vec::new(alloc);
-    push_field(&mut all, b"File", file.as_slice())?;
-    all.append(&mut fields)?;
-    form.render(alloc, all.as_slice())
+    let sheet = found.object.as_ref().sheet(alloc, found.octets.as_slice())?;
+    let all = sheet.behind(alloc, b"File", file.as_slice())?;
+    form.render(alloc, &all)
 }
 
-/// What is shown of a certificate.
+/// What is shown of an object.
 fn good(alloc: Global, form: Option<Form>, name: &str, found: &Found) -> Result<Shown, AllocError>
-    ensures { IfOk result (λ s. IsShown form name.now (Ok (found.now.octets.items, found.now.cert)) (parts_of s)) }
+    ensures { IfOk result (λ s.
+        IsShown form name.now (Ok (found.now.octets.items, found.now.object.value)) (parts_of s)) }
 {
     let faults = Vec::new(alloc);
     match form {

@@ -12,27 +12,31 @@ pub const OUT_OF_MEMORY: &[u8] = b"rpkicert: out of memory\n";
 
 /// What `--help` prints.
 pub const HELP: &[u8] = b"\
-rpkicert - print certificates of the RPKI
+rpkicert - print the objects of a repository of the RPKI
 
 usage: rpkicert [--json|--check] [--profile ta|ca|ee|detached|router [--lax]]
                 FILE..
        rpkicert -h | --help
        rpkicert --version
 
-Prints the fields of each certificate (RFC 5280, in the profiles of RFC 6487
-and RFC 8209), a field a line. A FILE has one certificate, as DER or in the
-textual encoding of RFC 7468 (PEM) with other text around it, and at most
-1048576 octets; - is standard input.
+Prints the fields of each object, a field a line, and the items that it lists:
+of certificates (RFC 5280, in the profiles of RFC 6487 and RFC 8209),
+revocation lists (RFC 6487 5), and signed objects (RFC 6488): manifests (RFC
+9286), route origin attestations (RFC 9582), attestations of providers (ASPA)
+and other contents. Its octets tell which one a FILE has, not its name. It has
+at most 1048576 octets, as DER; a certificate may be in the textual encoding of
+RFC 7468 (PEM) with other text around it. - is standard input.
 
   --json       print an object of JSON a line
   --check      print a line a file: its name, and OK or what is wrong
-  --profile P  hold each certificate to the profile of a trust anchor (ta), a
-               certification authority (ca), an end entity (ee), one without
-               subject information access (detached, RFC 9323) or a BGPsec
-               router (router)
+  --profile P  hold each certificate, and that of the signer of each signed
+               object, to the profile of a trust anchor (ta), a certification
+               authority (ca), an end entity (ee), one without subject
+               information access (detached, RFC 9323) or a BGPsec router
+               (router)
   --lax        with --profile, don't hold the names to the profile
 
-Exit status: 0 if all is well; 1 if a file is no certificate or violates the
+Exit status: 0 if all is well; 1 if a file is no such object or violates the
 profile; 2 if a file can't be read, for a wrong usage, and if writing fails.
 Signatures are not verified.
 ";

@@ -9,5 +9,8 @@ pub returns-in-Ok-collect : goal.returns-in-Ok-collect
 returns-in-Ok-collect c =
     let left = c.next-name.new.self in
     let all = c.in-Ok.arguments in
-    let rest = items_from_collect {E = Unit {0}} (Ok c.in-Ok-collect.words) c.in-Ok-collect.ensures.ran (YieldsList-from_vec _ refl left.rest.ok.0) in
-    rw c.in-Ok.is (rest ∙ sym (drop-next _ _ c.next-name.result _ all.rest.ok.0 c.next-name.ensures.items c.next-name.ensures.variant))
+    let rest = items_from_collect {E = Unit {0}} (Ok c.in-Ok-collect.words) c.in-Ok-collect.ensures.ran
+    (YieldsList-from_vec _ refl left.rest.ok.0) in
+    rw c.in-Ok.is
+    (rest ∙ sym (drop-next _ _ c.next-name.result _ all.rest.ok.0 c.next-name.ensures.items
+    c.next-name.ensures.variant))

@@ -1,12 +1,13 @@
-use Rattle.std.proofs.lemmas.Result.{err_from_is_err_and}
 use Rattle.rpkicert.proofs.FindingLaws.{refusal-of}
 use Rattle.rpkicert.proofs.finding.decoded.Goals as goal
 
-pub returns : goal.returns
-returns c = rw (c.in_ok-bytes.ensures.ok, c.in_ok-copy.ensures.items) at c.in_ok-cert.ensures
+pub returns-in-Ok : goal.returns-in-Ok
+returns-in-Ok c =
+    let h = rw (c.of-kind.ensures, c.in_ok-bytes.ensures.ok, c.in_ok-copy.ensures.items) at c.in-Ok.ensures in
+    record { is = h }
 
-pub returns-in_err-cert : goal.returns-in_err-cert
-returns-in_err-cert c =
-    let p = err_from_is_err_and c.from_residual-in_err-cert.result c.from_residual-in_err-cert.ensures.1 in
-    let h = rw (c.in_ok-bytes.ensures.ok, c.in_ok-copy.ensures.items) at c.in_err-cert.ensures in
-    rw (p.1, p.2) (refusal-of c.args.octets.now c.in_err-cert.field-0.0 h)
+pub returns-in-Err : goal.returns-in-Err
+returns-in-Err c =
+    let h = rw (c.of-kind.ensures, c.in_ok-bytes.ensures.ok, c.in_ok-copy.ensures.items) at c.in-Err.ensures in
+    let k = rw c.of-kind.ensures at c.of.ensures in
+    rw (c.refusal.ensures, c.of-kind.ensures) (refusal-of c.args.octets.now c.of.result c.in-Err.e h k)

@@ -3,4 +3,5 @@ use Rattle.rpkicert.proofs.FindingLaws.{was-read-of}
 use Rattle.rpkicert.proofs.finding.find.Goals as goal
 
 pub returns : goal.returns
-returns g c = was-read-of c.args.inspection _ c.in_ok-input.input.items (finding_of c.found_in.result) c.in_ok-input.ensures c.found_in.ensures
+returns g c = was-read-of c.args.inspection _ c.in_ok-input.input.items (finding_of c.found_in.result)
+    c.in_ok-input.ensures c.found_in.ensures

@@ -1,26 +1,32 @@
-use Rattle.std.proofs.Common.{refl}
-use Rattle.std.proofs.lemmas.Result.{err_from_is_err_and}
-use Rattle.rpkicert.proofs.FindingLaws.{refused-holds}
+use Rattle.std.proofs.Common.{◌∙◌, ℕ, List, refl, subst, ap}
+use Rattle.std.specs.Prelude.{option_copied}
+use Rattle.rpki_fields.specs.Object.{cert_of}
+use Rattle.rpkicert.specs.Finding.{IsObject, IsRefusal}
+use Rattle.rpkicert.proofs.FindingLaws.{given-up, meets-of, breaks-of, violates-of}
 use Rattle.rpkicert.proofs.finding.held.Goals as goal
 
-pub returns-in_err-cert : goal.returns-in_err-cert
-returns-in_err-cert c =
-    let p = err_from_is_err_and c.from_residual.result c.from_residual.ensures.1 in
-    let h = rw c.as_slice.ensures.value at c.in_err-cert.ensures in
-    rw (p.1, p.2) (refused-holds c.args.inspection c.args.octets.items c.in_err-cert.field-0.0 h)
+pub returns-in_err-object : goal.returns-in_err-object
+returns-in_err-object c =
+    given-up c.args.inspection c.args.octets.items c.from_residual.result c.in_err-object.field-0.0
+    c.from_residual.ensures.1
+    (subst (λ (o : List ℕ). IsRefusal o c.in_err-object.field-0.0) c.as_slice.ensures.value c.in_err-object.ensures)
 
 pub returns-in-Ok : goal.returns-in-Ok
 returns-in-Ok c = (
   refl,
-  rw c.as_slice.ensures.value at c.in_ok-cert.ensures,
-  rw c.tbs.ensures at c.in-Ok.ensures,
+  subst (λ (o : List ℕ). IsObject o c.in_ok-object.object.value) c.as_slice.ensures.value c.in_ok-object.ensures,
+  meets-of c.args.inspection (option_copied c.cert.result) (cert_of c.in_ok-object.object.value)
+      (c.cert.ensures ∙ ap cert_of c.as_ref.ensures)
+      c.in-Ok.ensures,
 )
 
 pub returns-in-Err : goal.returns-in-Err
-returns-in-Err c =
-    let broken = rw c.tbs.ensures at c.in-Err.ensures in (
-      c.in_ok-cert.cert,
-      rw c.as_slice.ensures.value at c.in_ok-cert.ensures,
-      broken.0,
-      broken.1,
-    )
+returns-in-Err c = (
+  c.in_ok-object.object.value,
+  subst (λ (o : List ℕ). IsObject o c.in_ok-object.object.value) c.as_slice.ensures.value c.in_ok-object.ensures,
+  breaks-of c.args.inspection (option_copied c.cert.result) (cert_of c.in_ok-object.object.value)
+      (c.cert.ensures ∙ ap cert_of c.as_ref.ensures)
+      c.in-Err.ensures.0,
+  violates-of c.args.inspection (option_copied c.cert.result) (cert_of c.in_ok-object.object.value) c.in-Err.e
+      (c.cert.ensures ∙ ap cert_of c.as_ref.ensures) c.in-Err.ensures.1,
+)

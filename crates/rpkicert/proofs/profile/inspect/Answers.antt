@@ -1,4 +1,4 @@
 use Rattle.rpkicert.proofs.profile.inspect.Goals as goal
 
-pub returns-in-Some : goal.returns-in-Some
-returns-in-Some c = rw c.in-Some.is c.inspect_as.ensures
+pub returns-in-Some-cert : goal.returns-in-Some-cert
+returns-in-Some-cert c = rw (c.in-Some.is, c.in-Some-cert.is) c.inspect_as.ensures

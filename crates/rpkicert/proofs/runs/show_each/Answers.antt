@@ -14,14 +14,17 @@ files-preserved g c =
     let file = get_or files c.files.file-index slot in
     let lt : c.files.file-index < length files = omega arith in
     rw c.max-worst.ensures
-    (one-seen (λ file. file.now) _ files c.files.file-index file _ _ _ _ _ _ _ _ (seen_of c.seen-shown.result) lt (get_or_default files c.files.file-index slot file lt) c.files.invariant c.seen-shown.ensures c.in-Ok.ensures.0 c.in-Ok.ensures.1 c.in-Ok.ensures.2)
+    (one-seen (λ file. file.now) _ files c.files.file-index file _ _ _ _ _ _ _ _ (seen_of c.seen-shown.result) lt
+    (get_or_default files c.files.file-index slot file lt) c.files.invariant c.seen-shown.ensures c.in-Ok.ensures.0
+    c.in-Ok.ensures.1 c.in-Ok.ensures.2)
 
 pub returns-in-Err : goal.returns-in-Err
 returns-in-Err g c =
     let files = c.args.request.now.files.now in
     let file = get_or files c.files.file-index slot in
     let lt : c.files.file-index < length files = omega arith in
-    cut-seen (λ file. file.now) _ files c.files.file-index file _ _ _ _ _ _ _ (seen_of c.seen-shown.result) lt (get_or_default files c.files.file-index slot file lt) c.files.invariant c.seen-shown.ensures c.in-Err.ensures
+    cut-seen (λ file. file.now) _ files c.files.file-index file _ _ _ _ _ _ _ (seen_of c.seen-shown.result) lt
+    (get_or_default files c.files.file-index slot file lt) c.files.invariant c.seen-shown.ensures c.in-Err.ensures
 
 pub returns : goal.returns
 returns g c =

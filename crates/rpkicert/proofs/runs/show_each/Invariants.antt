@@ -6,6 +6,7 @@ use Rattle.rpkicert.proofs.runs.show_each.Given as goal
 
 abbrev pub invariant-files : goal.invariant-files
 invariant-files g l =
-    HaveSeen (Sees (g.S.Sources.holds l.sources) (asked_of l.request)) (map (λ file. file.now) (take l.file-index l.request.files.now))
+    HaveSeen (Sees (g.S.Sources.holds l.sources) (asked_of l.request))
+    (map (λ file. file.now) (take l.file-index l.request.files.now))
     (g.W.Write.contents l.initial.out) (g.W.Write.contents l.out) (g.F.Write.contents l.initial.err)
     (g.F.Write.contents l.err) l.worst

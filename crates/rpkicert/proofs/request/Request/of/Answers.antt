@@ -12,7 +12,8 @@ returns-in_err-inspection c =
     let none : c.from_residual-in_err-inspection.result ≡ None = search rules in
     let form : c.form_of.result ≡ Some c.in_ok-form.form = search rules in
     let inspection : c.named_inspection.result ≡ None = search rules in
-    let given = c.named_inspection.ensures ∙ ap₂ named_inspection c.is_given-3.ensures (c.get_str.ensures ∙ first_value-rows (found_of c.args.matches.now) (codes "profile")) in
+    let given = c.named_inspection.ensures ∙ ap₂ named_inspection c.is_given-3.ensures
+    (c.get_str.ensures ∙ first_value-rows (found_of c.args.matches.now) (codes "profile")) in
     rw none (of-parts (rows_in c.args.matches.now) (Some c.in_ok-form.form) None _
     (sym form ∙ c.form_of.ensures ∙ rw (c.is_given.ensures, c.is_given-2.ensures) refl) (sym inspection ∙ given) refl)
 
@@ -22,17 +23,24 @@ returns-in_err-files c =
     let form : c.form_of.result ≡ Some c.in_ok-form.form = search rules in
     let inspection : c.named_inspection.result ≡ Some c.in_ok-inspection.inspection = search rules in
     let files : c.some_files.result ≡ None = search rules in
-    let given = c.named_inspection.ensures ∙ ap₂ named_inspection c.is_given-3.ensures (c.get_str.ensures ∙ first_value-rows (found_of c.args.matches.now) (codes "profile")) in
-    let named = c.some_files.ensures ∙ ap some_files (c.get_raw.ensures ∙ raw_values-rows (found_of c.args.matches.now) (codes "FILE")) in
+    let given = c.named_inspection.ensures ∙ ap₂ named_inspection c.is_given-3.ensures
+    (c.get_str.ensures ∙ first_value-rows (found_of c.args.matches.now) (codes "profile")) in
+    let named = c.some_files.ensures ∙ ap some_files
+    (c.get_raw.ensures ∙ raw_values-rows (found_of c.args.matches.now) (codes "FILE")) in
     rw none (of-parts (rows_in c.args.matches.now) (Some c.in_ok-form.form) (Some c.in_ok-inspection.inspection) None
-    (sym form ∙ c.form_of.ensures ∙ rw (c.is_given.ensures, c.is_given-2.ensures) refl) (sym inspection ∙ given) (rw files at named))
+    (sym form ∙ c.form_of.ensures ∙ rw (c.is_given.ensures, c.is_given-2.ensures) refl) (sym inspection ∙ given)
+    (rw files at named))
 
 pub returns : goal.returns
 returns c =
     let form : c.form_of.result ≡ Some c.in_ok-form.form = search rules in
     let inspection : c.named_inspection.result ≡ Some c.in_ok-inspection.inspection = search rules in
     let files : c.some_files.result ≡ Some c.in_ok-files.files = search rules in
-    let given = c.named_inspection.ensures ∙ ap₂ named_inspection c.is_given-3.ensures (c.get_str.ensures ∙ first_value-rows (found_of c.args.matches.now) (codes "profile")) in
-    let named = c.some_files.ensures ∙ ap some_files (c.get_raw.ensures ∙ raw_values-rows (found_of c.args.matches.now) (codes "FILE")) in
-    of-parts (rows_in c.args.matches.now) (Some c.in_ok-form.form) (Some c.in_ok-inspection.inspection) (Some (map (λ file. file.now) c.in_ok-files.files.now))
-    (sym form ∙ c.form_of.ensures ∙ rw (c.is_given.ensures, c.is_given-2.ensures) refl) (sym inspection ∙ given) (rw files at named)
+    let given = c.named_inspection.ensures ∙ ap₂ named_inspection c.is_given-3.ensures
+    (c.get_str.ensures ∙ first_value-rows (found_of c.args.matches.now) (codes "profile")) in
+    let named = c.some_files.ensures ∙ ap some_files
+    (c.get_raw.ensures ∙ raw_values-rows (found_of c.args.matches.now) (codes "FILE")) in
+    of-parts (rows_in c.args.matches.now) (Some c.in_ok-form.form) (Some c.in_ok-inspection.inspection)
+    (Some (map (λ file. file.now) c.in_ok-files.files.now))
+    (sym form ∙ c.form_of.ensures ∙ rw (c.is_given.ensures, c.is_given-2.ensures) refl) (sym inspection ∙ given)
+    (rw files at named)

@@ -1,0 +1,110 @@
+-- An object has one sheet.
+use Rattle.std.proofs.Common.{◌≡◌, ℕ, List, sym, ap, ◌∙◌}
+use Rattle.rpki.specs.ExtensionValue.{ExtensionParts}
+use Rattle.rpki_cert.specs.Access.{SpellsRsyncAccess, ca_issuers, signed_object}
+use Rattle.rpki_cert.specs.Cert.{TbsParts}
+use Rattle.rpki_cert.specs.ExtensionContent.{SpellsAuthority}
+use Rattle.rpki_cert.specs.Known.{subject_key_identifier, authority_key_identifier, authority_info_access}
+use Rattle.rpki_cert.specs.Known.{subject_info_access}
+use Rattle.rpki.specs.KeyIdentifier.{SpellsKeyIdentifier}
+use Rattle.rpki_contents.specs.Aspa.{AspaParts}
+use Rattle.rpki_contents.specs.Manifest.{ManifestParts}
+use Rattle.rpki_contents.specs.Roa.{AttestationParts}
+use Rattle.rpki_objects.specs.Crl.{Entry, ListParts, listed}
+use Rattle.rpki_objects.specs.SignedObject.{ObjectParts}
+use Rattle.rpki_objects.specs.TypedObject.{TypedParts}
+use Rattle.std.specs.Prelude.{codes, false}
+use Rattle.rpki_fields.specs.declared.object.Object.{Object}
+use Rattle.rpki_fields.specs.declared.object.Object.TheVariants.{Certificate, RevocationList, FileList, RouteOrigins}
+use Rattle.rpki_fields.specs.declared.object.Object.TheVariants.{Providers, OtherContent}
+use Rattle.rpki_fields.specs.ContentText.{AreManifestFields, IsManifestSheet, IsOriginSheet, IsProviderSheet}
+use Rattle.rpki_fields.specs.ContentText.{IsOtherSheet}
+use Rattle.rpki_fields.specs.Field.{FieldParts}
+use Rattle.rpki_fields.specs.ListText.{AreListFields, IsEntryItem, IsListSheet}
+use Rattle.rpki_fields.specs.ObjectText.{IsSheet}
+use Rattle.rpki_fields.specs.Sheet.{SheetParts, plain_sheet}
+use Rattle.rpki_fields.specs.SignedText.{AreSignerKeys, AreSignerNames, AreSignerPlaces, AreSignedFields}
+use Rattle.rpki_fields.specs.ValueText.{colon_digits}
+use Rattle.rpki_fields.proofs.EachIsLaws.{one-each}
+use Rattle.rpki_fields.proofs.OneTextLaws.{one-number, one-name-text, one-only, one-uri, one-fields}
+
+-- ---- revocation lists
+
+one-list-fields : (t : ListParts) (xs ys : List FieldParts) → AreListFields t xs → AreListFields t ys → xs ≡ ys
+one-list-fields t xs ys g h =
+    let issuer = one-name-text t.issuer g.0 h.0 g.2 h.2 in
+    let number = one-number t.extensions.number g.1 h.1 g.3 h.3 in
+    (rw (issuer, number) at g.4) ∙ sym h.4
+
+one-entry-item : (e : Entry) (xs ys : List FieldParts) → IsEntryItem e xs → IsEntryItem e ys → xs ≡ ys
+one-entry-item e xs ys g h = let serial = one-number e.0 g.0 h.0 g.1 h.1 in (rw serial at g.2) ∙ sym h.2
+
+one-list-sheet : (t : ListParts) (a b : SheetParts) → IsListSheet t a → IsListSheet t b → a ≡ b
+one-list-sheet t a b g h =
+    let fields = one-list-fields t g.0 h.0 g.2 h.2 in
+    let items = one-each IsEntryItem one-entry-item (listed t.revoked) g.1 h.1 g.3 h.3 in
+    (rw (fields, items) at g.4) ∙ sym h.4
+
+-- ---- signed objects
+
+one-signer-keys : (es : List ExtensionParts) (xs ys : List FieldParts) → AreSignerKeys es xs → AreSignerKeys es ys
+    → xs ≡ ys
+one-signer-keys es xs ys g h =
+    let subject = one-only subject_key_identifier false SpellsKeyIdentifier colon_digits es g.0 h.0 g.2 h.2 in
+    let authority = one-only authority_key_identifier false SpellsAuthority colon_digits es g.1 h.1 g.3 h.3 in
+    (rw (subject, authority) at g.4) ∙ sym h.4
+
+one-signer-names : (t : TbsParts) (xs ys : List FieldParts) → AreSignerNames t xs → AreSignerNames t ys → xs ≡ ys
+one-signer-names t xs ys g h =
+    let issuer = one-name-text t.issuer g.0 h.0 g.2 h.2 in
+    let serial = one-number t.serial g.1 h.1 g.3 h.3 in
+    (rw (issuer, serial) at g.4) ∙ sym h.4
+
+one-signer-places : (es : List ExtensionParts) (xs ys : List FieldParts) → AreSignerPlaces es xs → AreSignerPlaces es ys
+    → xs ≡ ys
+one-signer-places es xs ys g h =
+    let issuer = one-uri authority_info_access (SpellsRsyncAccess ca_issuers) es g.0 h.0 g.2 h.2 in
+    let object = one-uri subject_info_access (SpellsRsyncAccess signed_object) es g.1 h.1 g.3 h.3 in
+    (rw (issuer, object) at g.4) ∙ sym h.4
+
+one-signed-fields : (type : List ℕ) (x : ObjectParts) (xs ys : List FieldParts) → AreSignedFields type x xs
+    → AreSignedFields type x ys → xs ≡ ys
+one-signed-fields type x xs ys g h =
+    let keys = one-signer-keys x.cert.tbs.extensions g.keys h.keys g.are_keys h.are_keys in
+    let names = one-signer-names x.cert.tbs g.names h.names g.are_names h.are_names in
+    let places = one-signer-places x.cert.tbs.extensions g.places h.places g.are_places h.are_places in
+    (rw (keys, names, places) at g.parts) ∙ sym h.parts
+
+one-manifest-fields : (m : ManifestParts) (xs ys : List FieldParts) → AreManifestFields m xs → AreManifestFields m ys
+    → xs ≡ ys
+one-manifest-fields m xs ys g h = let number = one-number m.number g.0 h.0 g.1 h.1 in (rw number at g.2) ∙ sym h.2
+
+one-manifest-sheet : (x : TypedParts ManifestParts) (a b : SheetParts) → IsManifestSheet x a → IsManifestSheet x b
+    → a ≡ b
+one-manifest-sheet x a b g h =
+    let signed = one-signed-fields (codes "manifest") x.object g.0 h.0 g.2 h.2 in
+    let own = one-manifest-fields x.content g.1 h.1 g.3 h.3 in
+    (rw (signed, own) at g.4) ∙ sym h.4
+
+one-origin-sheet : (x : TypedParts AttestationParts) (a b : SheetParts) → IsOriginSheet x a → IsOriginSheet x b → a ≡ b
+one-origin-sheet x a b g h = let signed = one-signed-fields (codes "roa") x.object g.0 h.0 g.1 h.1 in (rw signed at g.2)
+    ∙ sym h.2
+
+one-provider-sheet : (x : TypedParts AspaParts) (a b : SheetParts) → IsProviderSheet x a → IsProviderSheet x b → a ≡ b
+one-provider-sheet x a b g h = let signed = one-signed-fields (codes "aspa") x.object g.0 h.0 g.1 h.1 in
+    (rw signed at g.2) ∙ sym h.2
+
+one-other-sheet : (x : ObjectParts) (a b : SheetParts) → IsOtherSheet x a → IsOtherSheet x b → a ≡ b
+one-other-sheet x a b g h = let signed = one-signed-fields (codes "signed_object") x g.0 h.0 g.1 h.1 in
+    (rw signed at g.2) ∙ sym h.2
+
+-- ---- objects
+
+pub one-sheet : (octets : List ℕ) (x : Object) (a b : SheetParts) → IsSheet octets x a → IsSheet octets x b → a ≡ b
+one-sheet octets (Certificate c) a b g h = g.2
+    ∙ ap (λ (fields : List FieldParts). plain_sheet fields) (one-fields octets c.tbs g.0 h.0 g.1 h.1) ∙ sym h.2
+one-sheet octets (RevocationList l) a b g h = one-list-sheet l.list a b g h
+one-sheet octets (FileList m) a b g h = one-manifest-sheet m a b g h
+one-sheet octets (RouteOrigins r) a b g h = one-origin-sheet r a b g h
+one-sheet octets (Providers p) a b g h = one-provider-sheet p a b g h
+one-sheet octets (OtherContent o) a b g h = one-other-sheet o a b g h

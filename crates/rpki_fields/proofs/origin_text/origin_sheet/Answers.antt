@@ -1,0 +1,17 @@
+use Rattle.std.proofs.Common.{refl, ◌∙◌}
+use Rattle.std.proofs.lemmas.Result.{IfOk-weaker}
+use Rattle.rpki_fields.proofs.origin_text.origin_sheet.Goals as goal
+
+pub returns : goal.returns
+returns c =
+    IfOk-weaker c.of_list.result _ _ (λ s e. (
+      c.in_ok-fields.fields.items,
+      rw c.object.ensures at c.in_ok-fields.ensures,
+      e ∙ rw (
+        c.in_ok-push_number.ensures,
+        c.from.ensures,
+        c.in_ok-items.ensures,
+        c.as_id.ensures.number,
+        c.content-content.ensures,
+      ) refl,
+    )) c.of_list.ensures

@@ -1,0 +1,5 @@
+use Rattle.rpki_fields.proofs.SaysLaws.{said-ok}
+use Rattle.rpki_fields.proofs.place_text.notify.Goals as goal
+
+pub returns : goal.returns
+returns c = said-ok _ _ (λ uri. uri) _ c.https_text.result c.rpki_notify.ensures c.https_text.ensures

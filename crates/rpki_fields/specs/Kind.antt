@@ -1,0 +1,70 @@
+-- Which kind of object octets are, by what stands at their front. Whether they are such an object is for its grammar to
+-- say.
+use Rattle.std.specs.Prelude.{ℕ, nat_lt, nat_eq, ◌-◌, ◌&&◌, Bool, if◌then◌else◌, List, [], ◌∷◌, drop, codes}
+use Rattle.std.specs.List.{starts_with}
+use Rattle.rpki_fields.specs.declared.kind.Kind.{Kind}
+use Rattle.rpki_fields.specs.declared.kind.Kind.TheVariants.{Certificate, RevocationList, FileList, RouteOrigins}
+use Rattle.rpki_fields.specs.declared.kind.Kind.TheVariants.{Providers, OtherContent}
+use Rattle.rpki_objects.specs.TypedObject.{manifest_type, origin_type, aspa_type}
+
+-- ---- values, by their first octets (X.690 8.1.2, 8.1.3)
+
+-- what stands behind the identifier octet and the length octets of the value at the front
+abbrev pub inside : List ℕ → List ℕ
+inside [] = []
+inside (identifier ∷ []) = []
+inside (identifier ∷ length ∷ rest) = if nat_lt length 128 then rest else drop (length - 128) rest
+
+-- what stands behind the value at the front, where its length is one octet
+abbrev pub behind : List ℕ → List ℕ
+behind [] = []
+behind (identifier ∷ []) = []
+behind (identifier ∷ length ∷ rest) = drop length rest
+
+-- the front is these octets
+abbrev pub begins : List ℕ → List ℕ → Bool
+begins octets front = starts_with nat_eq octets front
+
+-- ---- kinds
+
+-- The identifier of the type of a content (RFC 5652 3, 5.1, 5.2), of what stands in the SEQUENCE of a ContentInfo:
+-- behind the identifier of signed data, in the tag and the SEQUENCE around it, behind the version and the digest
+-- algorithms, in the SEQUENCE of the content.
+abbrev pub content_type_in : List ℕ → List ℕ
+content_type_in contents = inside (behind (behind (inside (inside (behind contents)))))
+
+-- the kind of a signed object whose content has the type that stands at the front, as an object identifier of eleven
+-- octets
+abbrev pub content_kind : List ℕ → Kind
+content_kind front =
+    if begins front (6 ∷ 11 ∷ manifest_type) then FileList
+    else if begins front (6 ∷ 11 ∷ origin_type) then RouteOrigins
+    else if begins front (6 ∷ 11 ∷ aspa_type) then Providers
+    else OtherContent
+
+-- Of a signed value: what is signed of a revocation list begins with version 2, the INTEGER 1 (RFC 5280 5.1.2.1); of a
+-- certificate with a tag, or with its serial number.
+abbrev pub signed_kind : List ℕ → Kind
+signed_kind signed = if begins signed (2 ∷ 1 ∷ 1 ∷ []) then RevocationList else Certificate
+
+-- The kind by what stands in the SEQUENCE around all: a signed object begins with an object identifier (RFC 5652 3), a
+-- revocation list or a certificate with the SEQUENCE that is signed (RFC 5280 4.1, 5.1).
+abbrev pub kind_inside : List ℕ → Kind
+kind_inside contents =
+    if begins contents (6 ∷ []) then content_kind (content_type_in contents)
+    else if begins contents (48 ∷ []) then signed_kind (inside contents)
+    else Certificate
+
+-- the kind; that of a certificate where nothing tells
+abbrev pub kind_of : List ℕ → Kind
+kind_of octets = if begins octets (48 ∷ []) then kind_inside (inside octets) else Certificate
+
+-- ---- their names, as a person reads them
+
+abbrev pub kind_text : Kind → List ℕ
+kind_text Certificate = codes "certificate"
+kind_text RevocationList = codes "revocation list"
+kind_text FileList = codes "manifest"
+kind_text RouteOrigins = codes "route origin attestation"
+kind_text Providers = codes "provider attestation"
+kind_text OtherContent = codes "signed object"

@@ -1,0 +1,21 @@
+-- Definitions: what the contracts say. They are trusted, and read against the standards.
+pub mod AtMostOne
+pub mod EachIs
+pub mod ValueText
+pub mod IdentifierText
+pub mod NameText
+pub mod KeySize
+pub mod Field
+pub mod Sheet
+pub mod ResourceText
+pub mod CertText
+pub mod ListText
+pub mod SignedText
+pub mod ContentText
+pub mod Kind
+pub mod Object
+pub mod Place
+pub mod PlaceText
+pub mod ObjectText
+pub mod Rendering
+pub mod View

@@ -1,0 +1,62 @@
+-- The objects of a repository, each of a kind.
+use Rattle.std.specs.Prelude.{◌≡◌, ℕ, false, List, Option, Some, None}
+use Rattle.rpki_der.specs.declared.error.DecodeError.{DecodeError}
+use Rattle.rpki_der.specs.Reading.{SpellsNothing, IsWholeFault, UnlessMemory}
+use Rattle.rpki_cert.specs.Cert.{TbsParts, CertParts, SpellsCert}
+use Rattle.rpki_cert.specs.CertFault.{IsCertFault}
+use Rattle.rpki_contents.specs.Aspa.{AspaParts}
+use Rattle.rpki_contents.specs.Manifest.{ManifestParts}
+use Rattle.rpki_contents.specs.Roa.{AttestationParts}
+use Rattle.rpki_objects.specs.Crl.{CrlParts, crl}
+use Rattle.rpki_objects.specs.SignedObject.{ObjectParts, ObjectFields, object_fields_of, signed_object}
+use Rattle.rpki_objects.specs.TypedObject.{TypedParts, manifest_object, origin_object, aspa_object}
+use Rattle.rpki_fields.specs.declared.kind.Kind.{Kind}
+use Rattle.rpki_fields.specs.declared.kind.Kind.TheVariants as K
+use Rattle.rpki_fields.specs.declared.object.Object.{Object}
+use Rattle.rpki_fields.specs.declared.object.Object.TheVariants.{Certificate, RevocationList, FileList, RouteOrigins}
+use Rattle.rpki_fields.specs.declared.object.Object.TheVariants.{Providers, OtherContent}
+
+-- the octets spell this value, and no other
+abbrev pub SpellsOnly : {V : Type 0} → (V → List ℕ → Type 0) → V → List ℕ → Type 0
+SpellsOnly {V} G v octets = G v octets × ((w : V) → G w octets → w ≡ v)
+
+-- a signed object by its fields
+abbrev pub SpellsFields : ObjectFields → List ℕ → Type 0
+SpellsFields = (signed_object false).spells
+
+-- The octets are this object, which is of the kind, and no other. Of signed objects the attributes and the order of
+-- families are read as they were before RFC 9589 and RFC 9582 4.3.3.
+abbrev pub IsOf : Kind → List ℕ → Object → Type 0
+IsOf K.Certificate octets x = (c : CertParts) × SpellsOnly SpellsCert c octets × (x ≡ Certificate c)
+IsOf K.RevocationList octets x = (l : CrlParts) × SpellsOnly crl.spells l octets × (x ≡ RevocationList l)
+IsOf K.FileList octets x =
+    (m : TypedParts ManifestParts) × SpellsOnly (manifest_object false).spells m octets × (x ≡ FileList m)
+IsOf K.RouteOrigins octets x =
+    (r : TypedParts AttestationParts) × SpellsOnly (origin_object false).spells r octets × (x ≡ RouteOrigins r)
+IsOf K.Providers octets x =
+    (a : TypedParts AspaParts) × SpellsOnly (aspa_object false).spells a octets × (x ≡ Providers a)
+IsOf K.OtherContent octets x =
+    (o : ObjectParts) × SpellsOnly SpellsFields (object_fields_of o) octets × (x ≡ OtherContent o)
+
+-- the octets spell nothing, and the error is the one that is due; or allocation failed
+abbrev pub IsUnspelled : {V : Type 0} → (V → List ℕ → Type 0) → (List ℕ → DecodeError → Type 0) → List ℕ → DecodeError
+    → Type 0
+IsUnspelled G K octets e = UnlessMemory e (SpellsNothing G octets) × IsWholeFault G K octets e
+
+-- the octets are no object of the kind
+abbrev pub IsNone : Kind → List ℕ → DecodeError → Type 0
+IsNone K.Certificate = IsUnspelled SpellsCert IsCertFault
+IsNone K.RevocationList = IsUnspelled crl.spells crl.fault
+IsNone K.FileList = IsUnspelled (manifest_object false).spells (manifest_object false).fault
+IsNone K.RouteOrigins = IsUnspelled (origin_object false).spells (origin_object false).fault
+IsNone K.Providers = IsUnspelled (aspa_object false).spells (aspa_object false).fault
+IsNone K.OtherContent = IsUnspelled SpellsFields (signed_object false).fault
+
+-- the certificate that an object is, or that its signer has; a revocation list has none
+abbrev pub cert_of : Object → Option TbsParts
+cert_of (Certificate c) = Some c.tbs
+cert_of (RevocationList l) = None
+cert_of (FileList m) = Some m.object.cert.tbs
+cert_of (RouteOrigins r) = Some r.object.cert.tbs
+cert_of (Providers a) = Some a.object.cert.tbs
+cert_of (OtherContent o) = Some o.cert.tbs

@@ -1,0 +1,20 @@
+-- What is shown of an object.
+use Rattle.std.specs.Prelude.{◌≡◌, ℕ, List}
+use Rattle.rpki_fields.specs.declared.object.Object.{Object}
+use Rattle.rpki_fields.specs.declared.object.Object.TheVariants.{Certificate, RevocationList, FileList, RouteOrigins}
+use Rattle.rpki_fields.specs.declared.object.Object.TheVariants.{Providers, OtherContent}
+use Rattle.rpki_fields.specs.CertText.{AreFields}
+use Rattle.rpki_fields.specs.ContentText.{IsManifestSheet, IsOriginSheet, IsProviderSheet, IsOtherSheet}
+use Rattle.rpki_fields.specs.Field.{FieldParts}
+use Rattle.rpki_fields.specs.ListText.{IsListSheet}
+use Rattle.rpki_fields.specs.Sheet.{SheetParts, plain_sheet}
+
+-- the sheet of the object that these octets are
+abbrev pub IsSheet : List ℕ → Object → SheetParts → Type 0
+IsSheet octets (Certificate c) s =
+    (fields : List FieldParts) × AreFields octets c.tbs fields × (s ≡ plain_sheet fields)
+IsSheet octets (RevocationList l) s = IsListSheet l.list s
+IsSheet octets (FileList m) s = IsManifestSheet m s
+IsSheet octets (RouteOrigins r) s = IsOriginSheet r s
+IsSheet octets (Providers a) s = IsProviderSheet a s
+IsSheet octets (OtherContent o) s = IsOtherSheet o s

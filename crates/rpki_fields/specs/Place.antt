@@ -1,0 +1,80 @@
+-- Which part of octets is wrong that are no object of their kind: the leftmost, as readers in place tell it; none where
+-- these read all parts, so that what is wrong is seen of several together, or of a part that they don't look into.
+use Rattle.std.specs.Prelude.{◌≡◌, ◌⊎◌, ℕ, false, List, Option, Some, None}
+use Rattle.rpki_cert.specs.declared.cert_part.CertPart.{CertPart}
+use Rattle.rpki_cert.specs.declared.view.CertView.{CertView}
+use Rattle.rpki_cert.specs.Cert.{CertParts}
+use Rattle.rpki_cert.specs.View.{IsCertAt, IsCertWrong}
+use Rattle.rpki_contents.specs.declared.manifest_part.ManifestPart.{ManifestPart}
+use Rattle.rpki_contents.specs.declared.manifest_view.ManifestView.{ManifestView}
+use Rattle.rpki_contents.specs.declared.roa_view.RoaPart.{RoaPart}
+use Rattle.rpki_contents.specs.declared.roa_view.RoaView.{RoaView}
+use Rattle.rpki_contents.specs.declared.aspa_view.AspaPart.{AspaPart}
+use Rattle.rpki_contents.specs.declared.aspa_view.AspaView.{AspaView}
+use Rattle.rpki_contents.specs.Aspa.{AspaParts}
+use Rattle.rpki_contents.specs.AspaView.{IsAspaAt, IsAspaWrong}
+use Rattle.rpki_contents.specs.ListedFile.{ListedFile}
+use Rattle.rpki_contents.specs.ManifestView.{IsManifestAt, IsManifestWrong}
+use Rattle.rpki_contents.specs.Roa.{AttestationParts}
+use Rattle.rpki_contents.specs.RoaView.{IsRoaAt, IsRoaWrong}
+use Rattle.rpki_objects.specs.declared.crl_part.CrlPart.{CrlPart}
+use Rattle.rpki_objects.specs.declared.crl_view.CrlView.{CrlView}
+use Rattle.rpki_objects.specs.declared.object_part.ObjectPart.{ObjectPart}
+use Rattle.rpki_objects.specs.declared.signed_object_view.SignedObjectView.{SignedObjectView}
+use Rattle.rpki_objects.specs.Crl.{CrlParts}
+use Rattle.rpki_objects.specs.CrlView.{IsCrlAt, IsCrlWrong}
+use Rattle.rpki_objects.specs.SignedObject.{ObjectParts}
+use Rattle.rpki_objects.specs.SignedObjectView.{IsObjectAt, IsObjectWrong}
+use Rattle.rpki_fields.specs.declared.kind.Kind.{Kind}
+use Rattle.rpki_fields.specs.declared.kind.Kind.TheVariants as K
+use Rattle.rpki_fields.specs.declared.place.Place.{Place}
+use Rattle.rpki_fields.specs.declared.place.Place.TheVariants as P
+
+-- a reader in place of all of the octets: it reads them, or W says which part is wrong
+abbrev pub IsPart : {Q : Type 0} → (List ℕ → Type 0) → (List ℕ → Q → Type 0) → (Q → Place) → List ℕ → Option Place
+    → Type 0
+IsPart {Q} Reads W named octets o =
+    ((q : Q) × W octets q × (o ≡ Some (named q))) ⊎ (Reads octets × (o ≡ None))
+
+abbrev pub ReadsCert : List ℕ → Type 0
+ReadsCert octets = (v : CertView) × (x : CertParts) × IsCertAt octets v x
+
+abbrev pub ReadsList : List ℕ → Type 0
+ReadsList octets = (v : CrlView) × (x : CrlParts) × IsCrlAt octets v x
+
+abbrev pub ReadsManifest : List ℕ → Type 0
+ReadsManifest octets = (v : ManifestView) × (xs : List ListedFile) × IsManifestAt octets v xs
+
+abbrev pub ReadsOrigins : List ℕ → Type 0
+ReadsOrigins octets = (v : RoaView) × (x : AttestationParts) × IsRoaAt false octets v x
+
+abbrev pub ReadsProviders : List ℕ → Type 0
+ReadsProviders octets = (v : AspaView) × (x : AspaParts) × IsAspaAt octets v x
+
+-- the contents of signed objects
+abbrev pub IsFilesPart : List ℕ → Option Place → Type 0
+IsFilesPart = IsPart ReadsManifest IsManifestWrong P.Manifest
+
+abbrev pub IsOriginsPart : List ℕ → Option Place → Type 0
+IsOriginsPart = IsPart ReadsOrigins (IsRoaWrong false) P.Origins
+
+abbrev pub IsProvidersPart : List ℕ → Option Place → Type 0
+IsProvidersPart = IsPart ReadsProviders IsAspaWrong P.Providers
+
+-- of any other content nothing is known
+abbrev pub IsOtherPart : List ℕ → Option Place → Type 0
+IsOtherPart octets o = o ≡ None
+
+-- the object is wrong; or it is read, and C says it of its content
+abbrev pub IsObjectPart : (List ℕ → Option Place → Type 0) → List ℕ → Option Place → Type 0
+IsObjectPart C octets o =
+    ((q : ObjectPart) × IsObjectWrong false octets q × (o ≡ Some (P.Object q)))
+    ⊎ ((v : SignedObjectView) × (x : ObjectParts) × IsObjectAt false octets v x × C v.content.content.octets.now o)
+
+abbrev pub IsPlace : Kind → List ℕ → Option Place → Type 0
+IsPlace K.Certificate = IsPart ReadsCert IsCertWrong P.Cert
+IsPlace K.RevocationList = IsPart ReadsList IsCrlWrong P.List
+IsPlace K.FileList = IsObjectPart IsFilesPart
+IsPlace K.RouteOrigins = IsObjectPart IsOriginsPart
+IsPlace K.Providers = IsObjectPart IsProvidersPart
+IsPlace K.OtherContent = IsObjectPart IsOtherPart

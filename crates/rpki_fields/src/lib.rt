@@ -1,0 +1,41 @@
+//! What is shown of the objects of a repository of the RPKI: certificates, revocation lists, and signed objects.
+//!
+//! [Kind::of] tells by the octets of a file which kind of object it is, [Object::decode] reads it, and [Object::sheet]
+//! makes a [Sheet] of it: fields, and the items that it lists. [Form::render] makes text or JSON of that.
+#![tactic(auto)]
+
+mod cert_text;
+mod extension_text;
+mod fault_place;
+mod field;
+mod identifier;
+mod key_size;
+mod kind;
+pub mod laws;
+mod list_text;
+mod manifest_text;
+mod memory;
+mod name;
+mod object;
+mod origin_text;
+mod other_text;
+mod place;
+mod place_text;
+mod provider_text;
+mod rendering;
+mod resource_text;
+mod sheet;
+mod signed_text;
+mod value;
+
+pub use cert_text::fields;
+pub use fault_place::text_of_place;
+pub use field::{Field, push_field, push_field_if, push_number};
+pub use identifier::push_identifier;
+pub use kind::Kind;
+pub use name::{after, name_text};
+pub use object::Object;
+pub use place::Place;
+pub use rendering::Form;
+pub use sheet::{Item, Listing, Sheet};
+pub use value::{colon_digits, hex_digits, hex_pair, push_digits, serial_text, time_text};

@@ -1,0 +1,113 @@
+//! What is shown of resources: addresses of both families, and AS numbers (RFC 6487 4.8.10, 4.8.11).
+
+ghost use Rattle.std.specs.Prelude.{◌≡◌, ◌∷◌, [], codes, IfOk};
+ghost use Rattle.std.specs.Option.{option_map};
+ghost use Rattle.rpki_fields.specs.ResourceText.{IsListText, IsChoiceText, AreKind, AreFamilies, AreAsNumbers};
+ghost use Rattle.rpki_fields.specs.ResourceText.{other_field, AreAddresses, AreNumbers, AreResources};
+
+use crate::field::{Field, OTHER, push_field, push_field_if};
+use rpki_cert::TbsCert;
+use rpki_resources::{Blocks, BlocksView, ChoiceView, IpResourcesView};
+use std::alloc::{AllocError, Global};
+
+/// The blocks of a list, in order.
+fn list_text(alloc: Global, list: &BlocksView<'_>) -> Result<Vec<u8>, AllocError>
+    ensures { IfOk result (λ text. IsListText list.now text.items) }
+{
+    let blocks = Blocks::from_view(alloc, list)?;
+    match blocks.text(list.kind()) {
+        Some(text) => {
+            let written = format!(in alloc; "{text}")?;
+            Ok(written.into_bytes())
+        }
+        None => unreachable!(),
+    }
+}
+
+/// What is shown of resources of one kind.
+fn choice_text(alloc: Global, choice: &ChoiceView<'_>) -> Result<Option<Vec<u8>>, AllocError>
+    ensures { IfOk result (λ o. IsChoiceText choice.now (option_map (λ v. v.items) o)) }
+{
+    match choice {
+        ChoiceView::Missing => Ok(None),
+        ChoiceView::Inherit => {
+            let text = Vec::from_slice(alloc, b"inherit")?;
+            Ok(Some(text))
+        }
+        ChoiceView::Blocks(list) => {
+            let text = list_text(alloc, list)?;
+            Ok(Some(text))
+        }
+    }
+}
+
+/// Resources of one kind under a label.
+fn kind(alloc: Global, label: &[u8], choice: &ChoiceView<'_>) -> Result<Vec<Field>, AllocError>
+    ensures { IfOk result (λ fields. AreKind label.now choice.now fields.items) }
+{
+    let text = choice_text(alloc, choice)?;
+    let mut fields = Vec::new(alloc);
+    push_field_if(&mut fields, label, text)?;
+    Ok(fields)
+}
+
+/// The addresses of both families.
+fn families(alloc: Global, found: &IpResourcesView<'_>) -> Result<Vec<Field>, AllocError>
+    ensures { IfOk result (λ fields. AreFamilies (Some found.now) fields.items) }
+{
+    let mut fields = kind(alloc, b"IPv4", &found.v4)?;
+    let mut others = kind(alloc, b"IPv6", &found.v6)?;
+    fields.append(&mut others)?;
+    Ok(fields)
+}
+
+/// That a kind is not as the profile has it.
+fn other_kind(alloc: Global, label: &[u8]) -> Result<Vec<Field>, AllocError>
+    ensures { IfOk result (λ fields. fields.items ≡ other_field label.now ∷ []) }
+{
+    let mut fields = Vec::new(alloc);
+    push_field(&mut fields, label, OTHER)?;
+    Ok(fields)
+}
+
+/// That both families are not.
+fn other_families(alloc: Global) -> Result<Vec<Field>, AllocError>
+    ensures { IfOk result (λ fields. fields.items
+        ≡ other_field (codes "IPv4") ∷ other_field (codes "IPv6") ∷ []) }
+{
+    let mut fields = other_kind(alloc, b"IPv4")?;
+    push_field(&mut fields, b"IPv6", OTHER)?;
+    Ok(fields)
+}
+
+/// What is shown of the addresses.
+fn addresses(alloc: Global, tbs: &TbsCert) -> Result<Vec<Field>, AllocError>
+    ensures { IfOk result (λ fields. AreAddresses tbs.now.extensions fields.items) }
+{
+    match tbs.ip_resources() {
+        Ok(Some(found)) => families(alloc, &found),
+        Ok(None) => Ok(Vec::new(alloc)),
+        Err(_) => other_families(alloc),
+    }
+}
+
+/// What is shown of the AS numbers.
+fn numbers(alloc: Global, tbs: &TbsCert) -> Result<Vec<Field>, AllocError>
+    ensures { IfOk result (λ fields. AreNumbers tbs.now.extensions fields.items) }
+{
+    match tbs.as_resources() {
+        Ok(Some(found)) => kind(alloc, b"AS", &found),
+        Ok(None) => Ok(Vec::new(alloc)),
+        Err(_) => other_kind(alloc, b"AS"),
+    }
+}
+
+/// What is shown of resources.
+pub fn resources(alloc: Global, tbs: &TbsCert) -> Result<Vec<Field>, AllocError>
+    ensures { IfOk result (λ fields. AreResources tbs.now.extensions fields.items) }
+{
+    let mut fields = addresses(alloc, tbs)?;
+    let mut numbers = numbers(alloc, tbs)?;
+    fields.append(&mut numbers)?;
+    Ok(fields)
+}

@@ -1,6 +1,0 @@
-use Rattle.std.proofs.Common.{◌≡◌, take, map}
-use Rattle.rpkicert.specs.CertText.{extension_field}
-use Rattle.rpkicert.proofs.cert_text.extensions.Given as goal
-
-abbrev pub invariant-extensions : goal.invariant-extensions
-invariant-extensions l = l.fields.items ≡ map extension_field (take l.extension-index l.all)

@@ -1,9 +1,0 @@
-use Rattle.std.proofs.Common.{refl, ◌∙◌}
-use Rattle.rpkicert.proofs.cert_text.middle.Goals as goal
-
-pub returns : goal.returns
-returns c = (
-  c.in_ok-subject.subject.items,
-  rw c.subject.ensures at c.in_ok-subject.ensures,
-  c.in_ok-push_field-3.ensures ∙ rw (c.in_ok-push_field-2.ensures, c.in_ok-push_field.ensures, c.new-fields.ensures.items, c.as_slice.ensures.value, c.time_text.ensures, c.time_text-2.ensures, c.not_before.ensures, c.not_after.ensures, c.validity-validity.ensures) refl,
-)

@@ -1,6 +1,0 @@
-use Rattle.std.proofs.Common.{◌≡◌, ◌++◌, take}
-use Rattle.rpkicert.specs.ValueText.{hex_digits}
-use Rattle.rpkicert.proofs.name.push_digits.Given as goal
-
-abbrev pub invariant-octets : goal.invariant-octets
-invariant-octets l = l.text.items ≡ l.initial.text.items ++ hex_digits (take l.octet-index l.octets)

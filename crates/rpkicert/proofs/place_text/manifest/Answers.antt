@@ -1,5 +1,0 @@
-use Rattle.rpkicert.proofs.SaysLaws.{said-ok}
-use Rattle.rpkicert.proofs.place_text.manifest.Goals as goal
-
-pub returns : goal.returns
-returns c = said-ok _ _ (λ uri. uri) _ c.rsync_text.result c.rpki_manifest.ensures c.rsync_text.ensures

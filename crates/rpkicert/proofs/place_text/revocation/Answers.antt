@@ -1,5 +1,0 @@
-use Rattle.rpkicert.proofs.SaysLaws.{said-ok}
-use Rattle.rpkicert.proofs.place_text.revocation.Goals as goal
-
-pub returns : goal.returns
-returns c = said-ok _ _ (λ uri. uri) _ c.rsync_text.result c.crl_uri.ensures c.rsync_text.ensures

@@ -1,6 +1,0 @@
-use Rattle.std.proofs.Common.{◌≡◌, take}
-use Rattle.rpkicert.specs.Rendering.{lines}
-use Rattle.rpkicert.proofs.rendering.lines.Given as goal
-
-abbrev pub invariant-fields : goal.invariant-fields
-invariant-fields l = l.text.items ≡ lines (take l.field-index l.fields)

@@ -1,7 +1,0 @@
-use Rattle.std.proofs.Common.{◌≡◌, ◌∷◌, ◌++◌, take}
-use Rattle.std.specs.List.{flat_map}
-use Rattle.rpkicert.specs.ValueText.{hex_pair}
-use Rattle.rpkicert.proofs.value.push_colon_digits.Given as goal
-
-abbrev pub invariant-octets : goal.invariant-octets
-invariant-octets l = l.text.items ≡ l.initial.text.items ++ flat_map (λ each. 58 ∷ hex_pair each) (take l.octet-index l.octets)
