@@ -1,14 +1,14 @@
 //! Attestations of the providers of an autonomous system.
 
-ghost use Rattle.std.specs.Prelude.{◌≡◌, ℕ, List, length};
-ghost use Rattle.rpki_contents.specs.Aspa.{each_number, AspaParts as Attestation};
+ghost use Rattle.std.specs.Prelude.{◌≡◌};
+ghost use Rattle.rpki_contents.specs.Aspa.{AspaParts as Attestation};
 ghost use Rattle.rpki_contents.specs.AspaView.{IsAspaAt};
 ghost use Rattle.rpki_c.specs.Aspa.{aspa_part_number, HasAspa, IsAspaRead, IsProviderRead};
 
 use crate::certificate::place_of;
 use crate::place::Place;
 use rpki_cert::Section;
-use rpki_contents::{AspaPart, AspaView, ProviderCursor};
+use rpki_contents::{AspaPart, AspaView};
 use rpki_der::Constructed;
 use rpki_resources::take_as_number;
 
@@ -36,20 +36,6 @@ fn aspa_part_number(part: AspaPart) -> u8
     }
 }
 
-/// How many providers the octets are.
-fn count_providers(octets: &[u8]) -> usize
-    ensures { (ns : List ℕ) → each_number.spells ns octets.now → result ≡ length ns }
-{
-    let mut rest = ProviderCursor {
-        rest: Constructed::from_slice(octets),
-    };
-    let mut count = 0;
-    'each: while let Some(_) = rest.next_provider() {
-        count += 1;
-    }
-    count
-}
-
 /// The parts of the attestation that the octets are.
 fn aspa_of(octets: &[u8], found: AspaView<'_>) -> AspaParts
     requires { (x : Attestation) × IsAspaAt octets.now found x }
@@ -61,7 +47,7 @@ fn aspa_of(octets: &[u8], found: AspaView<'_>) -> AspaParts
     };
     AspaParts {
         providers: place_of(octets.len(), 0, providers),
-        count: count_providers(found.providers),
+        count: found.count,
         customer: found.customer,
     }
 }

@@ -1,9 +1,6 @@
 //! Route origin attestations.
 
-ghost use Rattle.std.specs.Prelude.{◌≡◌, List, length};
-ghost use Rattle.rpki_resources.specs.Address.{width};
-ghost use Rattle.rpki_contents.specs.declared.roa_address.RoaIpAddress.{RoaIpAddress};
-ghost use Rattle.rpki_contents.specs.RoaAddress.{each_address};
+ghost use Rattle.std.specs.Prelude.{◌≡◌};
 ghost use Rattle.rpki_contents.specs.Roa.{AttestationParts};
 ghost use Rattle.rpki_contents.specs.RoaView.{IsRoaAt, PrefixesStand};
 ghost use Rattle.rpki_c.specs.Roa.{roa_part_number, HasRoa, IsRoaRead, IsAddressRead};
@@ -14,9 +11,8 @@ use crate::ip_blocks::octets_of;
 use crate::place::Place;
 use crate::status::CONTENT;
 use rpki_cert::Section;
-use rpki_contents::{AddressCursor, RoaIpAddress, RoaPart, RoaView};
+use rpki_contents::{RoaIpAddress, RoaPart, RoaView};
 use rpki_der::Constructed;
-use rpki_resources::AddressFamily;
 
 /// The parts of a route origin attestation.
 #[repr(C)]
@@ -45,21 +41,6 @@ fn roa_part_number(part: RoaPart) -> u8
     }
 }
 
-/// How many prefixes of the family the octets are.
-fn count_addresses(family: AddressFamily, octets: &[u8]) -> usize
-    ensures { (xs : List RoaIpAddress) → (each_address (width family)).spells xs octets.now → result ≡ length xs }
-{
-    let mut rest = AddressCursor {
-        family,
-        rest: Constructed::from_slice(octets),
-    };
-    let mut count = 0;
-    'each: while let Some(_) = rest.next_address() {
-        count += 1;
-    }
-    count
-}
-
 /// The parts of the attestation that the octets are.
 fn roa_of(octets: &[u8], strict: bool, found: RoaView<'_>) -> RoaParts
     requires attestation { (x : AttestationParts) × IsRoaAt strict octets.now found x }
@@ -78,8 +59,8 @@ fn roa_of(octets: &[u8], strict: bool, found: RoaView<'_>) -> RoaParts
     RoaParts {
         v4: place_of(total, 0, v4),
         v6: place_of(total, 0, v6),
-        v4_count: count_addresses(AddressFamily::Ipv4, found.v4),
-        v6_count: count_addresses(AddressFamily::Ipv6, found.v6),
+        v4_count: found.v4_count,
+        v6_count: found.v6_count,
         as_id: found.as_id,
     }
 }

@@ -1,6 +1,6 @@
 -- Prefixes of one family in place.
-use Rattle.std.proofs.Common.{◌≡◌, ◌≢◌, ◌^◌, ◌∙◌, ℕ, true, false, List, [], ◌∷◌, Option, None, Some}
-use Rattle.std.proofs.Common.{refl, sym, ap, subst}
+use Rattle.std.proofs.Common.{◌≡◌, ◌≢◌, ◌^◌, ◌∙◌, ◌<◌, ◌++◌, ℕ, suc, true, false, List, [], ◌∷◌, Option, None, Some}
+use Rattle.std.proofs.Common.{length, length-append, refl, sym, ap, subst, arith}
 use Rattle.std.specs.Prelude.{IfSome, IfNone}
 use Rattle.rpki_der.specs.declared.error.DecodeError.{DecodeError}
 use Rattle.rpki_der.specs.declared.error.DecodeError.TheVariants.{OutOfMemory}
@@ -47,10 +47,17 @@ nowhere w s r x e h =
     leaf-nowhere sequence true (address_parts w).spells s h.spelled.value r e
     (record { front = h.front; parts = h.parts; spelled = h.spelled.spelled })
 
+-- it takes some octets
+pub shorter : (w : ℕ) (s r : List ℕ) (x : RoaIpAddress) → Accepts (roa_address w).spells s x r → length r < length s
+shorter w s r x a = behind a.spells.front a.spells.parts a.spells.spelled where
+  behind : (p : List ℕ) → s ≡ p ++ r → (roa_address w).spells x p → length r < length s
+  behind [] e h = absurd (nowhere w [] [] x refl (record { front = []; parts = refl; spelled = h }))
+  behind (y ∷ ys) e h = omega (arith, ap length e, length-append (y ∷ ys) r)
+
 -- ---- prefixes, one after another
 
-pub each-end : (w : ℕ) (s : List ℕ) → s ≡ [] → IsOfPrefixes w s
-each-end w s e = ([], (e, one)) where
+pub each-end : (w : ℕ) (s : List ℕ) → s ≡ [] → IsOfPrefixes w s 0
+each-end w s e = ([], (e, one), refl) where
   one : (ys : List RoaIpAddress) → (each_address w).spells ys s → ys ≡ []
   one [] h = refl
   one (y ∷ ys) h = absurd (nowhere w s h.0 y e h.1)
@@ -61,8 +68,8 @@ module _ (w : ℕ) (s : List ℕ) (some : s ≢ []) where
   each-refused none (x ∷ xs) h = none x h.0 h.1
 
   module _ (m : List ℕ) (x : RoaIpAddress) (a : Accepts (roa_address w).spells s x m) where
-    pub each-on : IsOfPrefixes w m → IsOfPrefixes w s
-    each-on h = (x ∷ h.0, ((m, a.spells, h.1.0), one)) where
+    pub each-on : (n : ℕ) → IsOfPrefixes w m n → IsOfPrefixes w s (suc n)
+    each-on n h = (x ∷ h.0, ((m, a.spells, h.1.0), one), ap (λ (k : ℕ). suc k) h.2) where
       one : (ys : List RoaIpAddress) → (each_address w).spells ys s → ys ≡ x ∷ h.0
       one [] k = absurd (some k)
       one (y ∷ ys) k =
@@ -103,8 +110,8 @@ module _ (w : ℕ) (s c : List ℕ) (q : IsSequenceOf s c) where
   pub list-not : SpellsNothing (each_address w).spells c → SpellsNothing (addresses w).spells s
   list-not none xs h = none h.value (inside-is xs h)
 
-  pub list-read : c ≢ [] → IsOfPrefixes w c → AreAddressesAt w s c
-  list-read some h = (h.0, (is, one), h.1.0) where
+  pub list-read : (n : ℕ) → c ≢ [] → IsOfPrefixes w c n → AreAddressesAt w s c n
+  list-read n some h = (h.0, (is, one), h.1.0, h.2) where
     there : h.0 ≢ []
     there e = some (subst (λ (xs : List RoaIpAddress). (each_address w).spells xs c) e h.1.0)
 
@@ -135,14 +142,15 @@ module _ (c m : List ℕ) (f : AddressFamily) (a : Accepts family.spells c f m) 
   pub no-addresses : SpellsNothing (addresses (width f)).spells m → SpellsNothing family_parts.spells c
   no-addresses none x k = none x.1 (behind family following a x k).1
 
-  pub family-read : (v : FamilyView) → v.family ≡ f → AreAddressesAt (width f) m v.addresses.now → IsFamilyIn c v
+  pub family-read : (v : FamilyView) → v.family ≡ f
+      → AreAddressesAt (width f) m v.addresses.octets.now v.addresses.count → IsFamilyIn c v
   family-read v e h = (
     (f, h.0),
     (
       record { first = a.spells.front; second = m; parts = a.spells.parts; one = a.spells.spelled; two = h.1.0 },
       λ x k. let q = behind family following a x k in pair-is x f h.0 q.0 (h.1.1 x.1 q.1),
     ),
-    record { family = e; addresses = h.2 },
+    record { family = e; addresses = h.2; count = h.3 },
   )
 
 pub family-taken : (s c r : List ℕ) (x : Option FamilyView) → Accepts (SpellsContents sequence true) s c r

@@ -1,5 +1,5 @@
 -- Attestations of providers.
-use Rattle.std.proofs.Common.{◌≡◌, ℕ, List, [], ◌∷◌, ap, subst}
+use Rattle.std.proofs.Common.{◌≡◌, ℕ, suc, List, [], ◌∷◌, get_or, Fits, w32, ap, subst}
 use Rattle.rpki_contents.specs.Aspa.{AreProviders, AreNumbers, AspaParts, aspa_parts, Fields, fields_of, IsAspa}
 use Rattle.rpki_contents.specs.Aspa.{IsAttestation, each_number, fields}
 use Rattle.rpki_der.specs.Prelude.{sequence, around}
@@ -17,6 +17,11 @@ module _ (customer : ℕ) (providers : List ℕ) where
   pub no-aspa : (AreProviders customer providers → ⊥) → (y : AspaParts) → IsAspa y (fields_of This) → ⊥
   no-aspa none y h =
       none (subst (λ (z : AspaParts). AreProviders z.customer z.providers) (only-aspa y h) h.providers)
+
+-- numbers of 32 bits
+pub numbers-fit : (ns : List ℕ) → ((k : ℕ) → Fits w32 (get_or ns k 0)) → AreNumbers ns
+numbers-fit [] h = tt
+numbers-fit (n ∷ ns) h = ((h 0).fits, numbers-fit ns (λ k. h (suc k)))
 
 -- numbers that were read
 numbers-in : (ns : List ℕ) (s : List ℕ) → each_number.spells ns s → AreNumbers ns

@@ -1,19 +1,19 @@
 -- Attestations of providers in place.
-use Rattle.std.proofs.Common.{◌≡◌, ◌≢◌, ◌^◌, ℕ, true, false, List, [], ◌∷◌, Option, None, Some, refl, sym, ap}
-use Rattle.std.proofs.Common.{subst}
-use Rattle.std.specs.Prelude.{◌↔◌, IsTrue, is_some}
+use Rattle.std.proofs.Common.{◌≡◌, ◌≢◌, ◌^◌, ◌<◌, ◌++◌, ℕ, suc, true, false, List, [], ◌∷◌, Option, None, Some}
+use Rattle.std.proofs.Common.{length, length-append, refl, sym, ap, subst, arith}
+use Rattle.std.specs.Prelude.{◌↔◌}
 use Rattle.rpki_der.specs.declared.error.DecodeError.{DecodeError}
 use Rattle.rpki_der.specs.declared.error.DecodeError.TheVariants.{OutOfMemory}
-use Rattle.rpki_der.specs.Prelude.{integer, sequence, Accepts, Refusal, Refuses, SpellsContents, SpellsLeaf}
-use Rattle.rpki_der.specs.Prelude.{IsLeafFault, IsUnsignedBelow, IsNumber, IsEndFault, FirstFault}
+use Rattle.rpki_der.specs.Prelude.{integer, sequence, Accepts, Refusal, Refuses, Spells, SpellsContents}
+use Rattle.rpki_der.specs.Prelude.{SpellsLeaf, IsLeafFault, IsUnsignedBelow, IsNumber, IsEndFault, FirstFault}
 use Rattle.rpki_der.proofs.LeavesLaws.{leaf-no-memory}
 use Rattle.rpki_der.proofs.LeafValueLaws.{leaf-nowhere}
 use Rattle.rpki_der.proofs.FirstFaultLaws.{inside-no-memory, first-no-memory, end-no-memory}
 use Rattle.rpki_contents.specs.InPlace.{IsSequenceOf}
 use Rattle.rpki_contents.specs.Aspa.{version_tag, version, as_number, each_number, AscendFrom, IsNoneOf}
 use Rattle.rpki_contents.specs.Aspa.{AreProviders, AspaParts, aspa_parts, fields_of}
-use Rattle.rpki_contents.specs.AspaView.{IsAfter, IsThere, AreBehind, SpellsBehind, AreProvidersAt, HasNoProviders}
-use Rattle.rpki_contents.specs.AspaView.{IsAspaParts, IsAspaAt, GivesNumber}
+use Rattle.rpki_contents.specs.AspaView.{IsAfter, IsThere, AreBehind, SpellsBehind, CountsBehind, AreProvidersAt}
+use Rattle.rpki_contents.specs.AspaView.{HasNoProviders, IsAspaParts, IsAspaAt, GivesNumber}
 use Rattle.rpki_contents.specs.declared.aspa_view.AspaView.{AspaView}
 use Rattle.rpki_contents.proofs.InPlaceLaws.{refused, leaf-missing}
 
@@ -51,24 +51,36 @@ module _ (customer : ℕ) (last : Option ℕ) (s : List ℕ) (some : s ≢ []) w
     pub number-not : (IsAfter last n → (customer ≢ n) → ⊥) → SpellsBehind customer last s → ⊥
     number-not none h = let k = first-is h.0 h.1 h.2 in none k.0 k.1
 
-    pub number-next : IsAfter last n → (customer ≢ n)
-        → SpellsBehind customer last s ↔ SpellsBehind customer (Some n) m
-    number-next after other = (
-      λ h. (first-is h.0 h.1 h.2).2,
-      λ h. (n ∷ h.0, (m, a.spells, h.1), (after, other, h.2)),
-    )
+    pub number-past : SpellsBehind customer last s → SpellsBehind customer (Some n) m
+    number-past h = (first-is h.0 h.1 h.2).2
 
-pub none-behind : (customer : ℕ) (last : Option ℕ) (s : List ℕ) → s ≡ []
-    → SpellsBehind customer last s ↔ IsTrue (is_some last)
-none-behind customer last s end = (λ h. forth last h.0 h.1 h.2, λ there. ([], end, back last there)) where
-  forth : (o : Option ℕ) (ns : List ℕ) → each_number.spells ns s → AreBehind customer o ns → IsTrue (is_some o)
-  forth None [] h b = absurd b
-  forth (Some l) [] h b = refl
-  forth o (x ∷ xs) h b = absurd (leaf-nowhere integer false (IsUnsignedBelow (2 ^ 32)) s x h.0 end h.1)
+    pub number-next : IsAfter last n → (customer ≢ n) → (k : ℕ) → CountsBehind customer (Some n) m k
+        → CountsBehind customer last s (suc k)
+    number-next after other k h =
+        (n ∷ h.0, (m, a.spells, h.1), (after, other, h.2), ap (λ (j : ℕ). suc j) h.3)
 
-  back : (o : Option ℕ) → IsTrue (is_some o) → IsThere o
-  back None e = absurd (cc)
-  back (Some l) e = tt
+-- a number takes some octets
+pub shorter : (s r : List ℕ) (n : ℕ) → Accepts as_number.spells s n r → length r < length s
+shorter s r n a = behind a.spells.front a.spells.parts a.spells.spelled where
+  behind : (p : List ℕ) → s ≡ p ++ r → as_number.spells n p → length r < length s
+  behind [] e h =
+      let k : Spells as_number.spells [] n [] = record { front = []; parts = refl; spelled = h } in
+      absurd (leaf-nowhere integer false (IsUnsignedBelow (2 ^ 32)) [] n [] refl k)
+  behind (y ∷ ys) e h = omega (arith, ap length e, length-append (y ∷ ys) r)
+
+-- ---- no number is left
+
+module _ (customer : ℕ) (s : List ℕ) (end : s ≡ []) where
+  pub none-behind : (last : Option ℕ) (n : ℕ) → last ≡ Some n → CountsBehind customer last s 0
+  none-behind last n e = ([], end, subst (λ (o : Option ℕ). IsThere o) (sym e) tt, refl)
+
+  none-there : (ns : List ℕ) → each_number.spells ns s → AreBehind customer None ns → ⊥
+  none-there [] h b = b
+  none-there (x ∷ xs) h b = leaf-nowhere integer false (IsUnsignedBelow (2 ^ 32)) s x h.0 end h.1
+
+  pub nothing-behind : (last : Option ℕ) → last ≡ None → SpellsBehind customer last s → ⊥
+  nothing-behind last e h =
+      let k = subst (λ (o : Option ℕ). SpellsBehind customer o s) e h in none-there k.0 k.1 k.2
 
 -- numbers behind none are the providers of the customer
 behind-ascend : (customer last : ℕ) (ns : List ℕ)
@@ -91,9 +103,14 @@ behind-none customer (n ∷ ns) =
 -- ---- the list of them
 
 module _ (customer : ℕ) (s c : List ℕ) (q : IsSequenceOf s c) where
-  pub providers-there : SpellsBehind customer None c → AreProvidersAt customer s c
-  providers-there h =
-      (h.0, record { contents = c; value = q.spelled; spelled = h.1 }, refl, (behind-none customer h.0).0 h.2)
+  pub providers-there : (n : ℕ) → CountsBehind customer None c n → AreProvidersAt customer s c n
+  providers-there n h = (
+    h.0,
+    record { contents = c; value = q.spelled; spelled = h.1 },
+    refl,
+    (behind-none customer h.0).0 h.2,
+    h.3,
+  )
 
   pub providers-not : (SpellsBehind customer None c → ⊥) → HasNoProviders customer s
   providers-not none ns h k =
@@ -110,7 +127,7 @@ no-list customer s none ns h k = none h.contents h.value
 -- ---- the parts
 
 pub parts-read : (c r m : List ℕ) (n : ℕ) (v : AspaView) → Accepts version.spells c tt r
-    → Accepts as_number.spells r n m → v.customer ≡ n → AreProvidersAt n m v.providers.now → IsAspaParts c v
+    → Accepts as_number.spells r n m → v.customer ≡ n → AreProvidersAt n m v.providers.now v.count → IsAspaParts c v
 parts-read c r m n v a b same h =
     record {
       customer = n;
@@ -125,6 +142,7 @@ parts-read c r m n v a b same h =
       };
       stands = h.3;
       octets = h.2;
+      count = h.4;
     }
 
 pub aspa-read : (s c : List ℕ) (v : AspaView) → SpellsContents sequence true c s → IsAspaParts c v
@@ -139,6 +157,7 @@ aspa-read s c v outer h = (
     };
     customer = h.is;
     providers = h.octets;
+    count = h.count;
   },
 )
 

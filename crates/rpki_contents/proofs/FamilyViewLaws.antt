@@ -8,7 +8,7 @@ use Rattle.rpki_contents.specs.declared.roa_view.RoaView.{RoaView}
 use Rattle.rpki_contents.specs.RoaAddress.{Family, roa_family}
 use Rattle.rpki_contents.specs.Roa.{alone, together, each_family, AttestationParts}
 use Rattle.rpki_contents.specs.Roa.{attestation}
-use Rattle.rpki_contents.specs.RoaView.{IsFamilyAt, AreBothAt, AreFamiliesIn, HasNoFamilies, AreTogetherAt}
+use Rattle.rpki_contents.specs.RoaView.{IsFamilyAt, AreIn, AreFamiliesIn, HasNoFamilies, AreTogetherAt}
 use Rattle.rpki_contents.specs.RoaView.{AreRoaParts, IsRoaAt}
 use Rattle.rpki_contents.proofs.RoaLaws.{none-is}
 
@@ -24,13 +24,16 @@ both_view v u = record {
 
 module _ (v u : FamilyView) (strict : Bool) where
   pub in-order : v.family ≡ Ipv4 → u.family ≡ Ipv6 → AreTogetherAt strict v u (both_view v u)
-  in-order e f (Ipv4, xs) (Ipv6, ys) h k = ((xs, ys), refl, record { in_v4 = h.addresses; in_v6 = k.addresses })
+  in-order e f (Ipv4, xs) (Ipv6, ys) h k =
+      ((xs, ys), refl, record { in_v4 = h.addresses; in_v6 = k.addresses; v4_count = h.count; v6_count = k.count })
   in-order e f (Ipv4, xs) (Ipv4, ys) h k = let z = sym f ∙ k.family in absurd (cc)
   in-order e f (Ipv6, xs) y h k = let z = sym e ∙ h.family in absurd (cc)
 
   pub turned : strict ≡ false → v.family ≡ Ipv6 → u.family ≡ Ipv4 → AreTogetherAt strict v u (both_view u v)
   turned lax e f (Ipv6, xs) (Ipv4, ys) h k =
-      ((ys, xs), rw lax refl, record { in_v4 = k.addresses; in_v6 = h.addresses })
+      let at : AreIn (ys, xs) (both_view u v) =
+      record { in_v4 = k.addresses; in_v6 = h.addresses; v4_count = k.count; v6_count = h.count } in
+      ((ys, xs), rw lax refl, at)
   turned lax e f (Ipv6, xs) (Ipv6, ys) h k = let z = sym f ∙ k.family in absurd (cc)
   turned lax e f (Ipv4, xs) y h k = let z = sym e ∙ h.family in absurd (cc)
 
@@ -42,7 +45,7 @@ module _ (strict : Bool) (c : List ℕ) where
   none-first none (x ∷ xs) b h e = none x h.0 h.1
 
   module _ (m : List ℕ) (x : Family) (a : Accepts roa_family.spells c x m) where
-    pub one-family : m ≡ [] → (v : BothView) → AreBothAt (alone x) v.v4.now v.v6.now → AreFamiliesIn strict c v
+    pub one-family : m ≡ [] → (v : BothView) → AreIn (alone x) v → AreFamiliesIn strict c v
     one-family end v at = (x ∷ [], alone x, (m, a.spells, end), refl, at)
 
     module _ (some : m ≢ []) where

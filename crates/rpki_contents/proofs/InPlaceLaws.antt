@@ -1,5 +1,7 @@
 -- Parts that are read in place, by readers that take no memory.
-use Rattle.std.proofs.Common.{◌≡◌, ℕ, true, false, List, [], Result, Ok, Err, Option, None, Some, refl, subst}
+use Rattle.std.proofs.Common.{◌≡◌, ◌≢◌, ◌<◌, ◌==◌, ℕ, Bool, true, false, List, [], ◌∷◌, length, Result, Ok, Err}
+use Rattle.std.proofs.Common.{Option, None, Some, refl, ap, subst, arith}
+use Rattle.std.proofs.lemmas.Bool.Decides.{nat_tests}
 use Rattle.std.specs.Prelude.{IfOk, IfErr, IfSome, IfNone}
 use Rattle.rpki_der.specs.declared.error.DecodeError.{DecodeError}
 use Rattle.rpki_der.specs.declared.error.DecodeError.TheVariants.{OutOfMemory}
@@ -43,6 +45,16 @@ module _ (s r : List ℕ) where
 
     pub sequence-more : (r ≡ [] → ⊥) → SpellsNothing (SpellsContents sequence true) s
     sequence-more some = nothing-after (SpellsContents sequence true) s r c a some
+
+-- ---- whether octets are left
+
+pub left-some : (xs : List ℕ) (b : Bool) → b ≡ (length xs == 0) → b ≡ false → xs ≢ []
+left-some xs b e f z = let k : 0 < length xs = grind (arith, nat_tests, e, f) in omega (arith, ap length z, k)
+
+pub left-none : (xs : List ℕ) (b : Bool) → b ≡ (length xs == 0) → b ≡ true → xs ≡ []
+left-none [] b e f = refl
+left-none (x ∷ xs) b e f =
+    let k : length (x ∷ xs) ≡ 0 = grind (arith, nat_tests, e, f) in absurd (omega (arith, k))
 
 -- ---- what is handed on
 

@@ -10,6 +10,7 @@
 -- Route origin attestations that are written: RoaWritingLaws.
 -- The providers of a customer: AspaLaws. Attestations of providers that are written: AspaWritingLaws.
 -- Both in place: InPlaceLaws, AspaViewLaws, AddressViewLaws, FamilyViewLaws; where prefixes stand: StandsLaws.
+-- Values whose header is two octets: ShortLaws; prefixes and files of such: ShortAddressLaws, ShortFileLaws.
 -- Lists that are written: ListedLaws.
 
 pub mod AddressViewLaws
@@ -31,6 +32,9 @@ pub mod RoaAddressLaws
 pub mod RoaLaws
 pub mod RoaWritingLaws
 pub mod RoomLaws
+pub mod ShortAddressLaws
+pub mod ShortFileLaws
+pub mod ShortLaws
 pub mod StandsLaws
 pub mod SuchLaws
 pub mod ThenByLaws

@@ -27,13 +27,13 @@ IsOneWhole {V} G = (s : List ℕ) (v w : V) → G v s → G w s → v ≡ w
 
 -- ---- composed values
 
-both-one : {A B : Type 0} (G : A → List ℕ → Type 0) (H : B → List ℕ → Type 0) → IsOneFront G → IsOneWhole H
+pub both-one : {A B : Type 0} (G : A → List ℕ → Type 0) (H : B → List ℕ → Type 0) → IsOneFront G → IsOneWhole H
     → IsOneWhole (Then G H)
 both-one G H one two s x y h k =
     let e = one s x.0 y.0 h.second k.second (first-of h) (first-of k) in
     pair-is x y.0 y.1 e.0 (two h.second x.1 y.1 h.two (subst (H y.1) (sym e.1) k.two))
 
-such-one : {V O : Type 0} (G : O → List ℕ → Type 0) (R : V → O → Type 0) → IsOneFront G
+pub such-one : {V O : Type 0} (G : O → List ℕ → Type 0) (R : V → O → Type 0) → IsOneFront G
     → ((o : O) (v w : V) → R v o → R w o → v ≡ w) → IsOneFront (SpellsFor G R)
 such-one G R one says s v w r q h k =
     let x = h.spelled in
@@ -42,7 +42,7 @@ such-one G R one says s v w r q h k =
     (record { front = k.front; parts = k.parts; spelled = y.spelled }) in
     (says x.value v w x.stands (subst (R w) (sym e.0) y.stands), e.1)
 
-around-one : {V : Type 0} (t : TagName) (G : V → List ℕ → Type 0) → IsOneWhole G → IsOneFront (SpellsLeaf t true G)
+pub around-one : {V : Type 0} (t : TagName) (G : V → List ℕ → Type 0) → IsOneWhole G → IsOneFront (SpellsLeaf t true G)
 around-one {V} t G one =
     let contents : Format V = record { spells = G; fault = λ s e. ⊥ } in
     let lawful : IsLawfulWhole contents =

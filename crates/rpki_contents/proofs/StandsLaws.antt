@@ -40,11 +40,11 @@ in-front s q r p e h = record {
 }
 
 pub family-stands : (s c r : List ℕ) (n : ℕ) (x : Option FamilyView) → Accepts (SpellsContents sequence true) s c r
-    → n ≡ length r → IfSome x (λ v. StandsIn c v.addresses.now 0) → IfSome x (λ v. v.following ≡ n)
+    → n ≡ length r → IfSome x (λ v. StandsIn c v.addresses.octets.now 0) → IfSome x (λ v. v.following ≡ n)
     → IfSome x (λ v. FamilyStands s r v)
 family-stands s c r n None a e h k = h
 family-stands s c r n (Some v) a e h k =
     let q = a.spells.front in
-    let p = v.addresses.now in
+    let p = v.addresses.octets.now in
     let here = in-front s q r p a.spells.parts (in-sequence q c p 0 a.spells.spelled h) in
     (subst (λ (m : ℕ). StandsIn s p m) (sym (k ∙ e)) here, k ∙ e)

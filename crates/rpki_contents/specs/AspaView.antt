@@ -1,5 +1,5 @@
 -- Attestations of providers that are read in place: what stands where, and which part is wrong.
-use Rattle.std.specs.Prelude.{◌≡◌, ◌≢◌, ◌<◌, ℕ, true, List, [], ◌∷◌, Option, None, Some}
+use Rattle.std.specs.Prelude.{◌≡◌, ◌≢◌, ◌<◌, ℕ, true, List, [], ◌∷◌, Option, None, Some, length}
 use Rattle.rpki_der.specs.Prelude.{sequence, Refuses, Spells, SpellsNothing, SpellsContents}
 use Rattle.rpki_contents.specs.declared.aspa_view.AspaPart.{AspaPart}
 use Rattle.rpki_contents.specs.declared.aspa_view.AspaPart.TheVariants as P
@@ -28,10 +28,15 @@ AreBehind customer last (n ∷ ns) = IsAfter last n × (customer ≢ n) × AreBe
 abbrev pub SpellsBehind : ℕ → Option ℕ → List ℕ → Type 0
 SpellsBehind customer last s = (ns : List ℕ) × each_number.spells ns s × AreBehind customer last ns
 
--- all of s is a list of providers of the customer, and p are the octets of these
-abbrev pub AreProvidersAt : ℕ → List ℕ → List ℕ → Type 0
-AreProvidersAt customer s p =
-    (ns : List ℕ) × (h : numbers.spells ns s) × (p ≡ h.contents) × AreProviders customer ns
+-- the same, and so many
+abbrev pub CountsBehind : ℕ → Option ℕ → List ℕ → ℕ → Type 0
+CountsBehind customer last s n =
+    (ns : List ℕ) × each_number.spells ns s × AreBehind customer last ns × (length ns ≡ n)
+
+-- all of s is a list of providers of the customer; p are the octets of these, and they are so many
+abbrev pub AreProvidersAt : ℕ → List ℕ → List ℕ → ℕ → Type 0
+AreProvidersAt customer s p n =
+    (ns : List ℕ) × (h : numbers.spells ns s) × (p ≡ h.contents) × AreProviders customer ns × (length ns ≡ n)
 
 -- all of s is none
 abbrev pub HasNoProviders : ℕ → List ℕ → Type 0
@@ -39,11 +44,12 @@ HasNoProviders customer s = (ns : List ℕ) → numbers.spells ns s → AreProvi
 
 -- ---- the whole
 
--- the attestation x is all of s, and the octets are those of its providers
+-- the attestation x is all of s, and the octets are those of its providers, and as many
 pub record IsAspaAt (s : List ℕ) (v : AspaView) (x : AspaParts) : Type 0 where
   pub spelled : aspa.spells x s
   pub customer : v.customer ≡ x.customer
   pub providers : v.providers.now ≡ spelled.spelled.spelled.two.two.contents
+  pub count : length x.providers ≡ v.count
 
 -- the same of the parts, which are all of c
 pub record IsAspaParts (c : List ℕ) (v : AspaView) : Type 0 where
@@ -53,6 +59,7 @@ pub record IsAspaParts (c : List ℕ) (v : AspaView) : Type 0 where
   pub spelled : fields.spells (fields_of (aspa_parts customer providers)) c
   pub stands : AreProviders customer providers
   pub octets : v.providers.now ≡ spelled.two.two.contents
+  pub count : length providers ≡ v.count
 
 -- all of c is to be the parts: the leftmost that is wrong
 pub data AreAspaPartsWrong (c : List ℕ) (q : AspaPart) : Type 0 where

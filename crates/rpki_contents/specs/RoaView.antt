@@ -19,13 +19,14 @@ IsOnly {V} G v s = G v s × ((w : V) → G w s → w ≡ v)
 
 -- ---- the prefixes of one family
 
--- all of s is these prefixes for addresses of w bits, and no others; or it is none
-abbrev pub IsOfPrefixes : ℕ → List ℕ → Type 0
-IsOfPrefixes w s = (xs : List RoaIpAddress) × IsOnly (each_address w).spells xs s
+-- all of s is so many prefixes for addresses of w bits, and no others; or it is none
+abbrev pub IsOfPrefixes : ℕ → List ℕ → ℕ → Type 0
+IsOfPrefixes w s n = (xs : List RoaIpAddress) × IsOnly (each_address w).spells xs s × (length xs ≡ n)
 
--- all of s is a list of prefixes, one at least, and p are the octets of these
-abbrev pub AreAddressesAt : ℕ → List ℕ → List ℕ → Type 0
-AreAddressesAt w s p = (xs : List RoaIpAddress) × IsOnly (addresses w).spells xs s × (each_address w).spells xs p
+-- all of s is a list of prefixes, one at least; p are the octets of these, and they are so many
+abbrev pub AreAddressesAt : ℕ → List ℕ → List ℕ → ℕ → Type 0
+AreAddressesAt w s p n =
+    (xs : List RoaIpAddress) × IsOnly (addresses w).spells xs s × (each_address w).spells xs p × (length xs ≡ n)
 
 -- of the prefixes that were left the first was given, and the others are left now
 abbrev pub GivesAddress : ℕ → List RoaIpAddress → Option RoaIpAddress → List ℕ → Type 0
@@ -36,10 +37,11 @@ GivesAddress w (x ∷ xs) found s = (found ≡ Some x) × (each_address w).spell
 abbrev pub GivesNext : ℕ → List ℕ → Option RoaIpAddress → List ℕ → Type 0
 GivesNext w s found r = (xs : List RoaIpAddress) → (each_address w).spells xs s → GivesAddress w xs found r
 
--- the octets of the prefixes of this family are those of v
+-- the octets of the prefixes of this family are those of v, and as many
 pub record IsFamilyAt (v : FamilyView) (x : Family) : Type 0 where
   pub family : v.family ≡ x.0
-  pub addresses : (each_address (width x.0)).spells x.1 v.addresses.now
+  pub addresses : (each_address (width x.0)).spells x.1 v.addresses.octets.now
+  pub count : length x.1 ≡ v.addresses.count
 
 -- all of c is the parts of one family
 abbrev pub IsFamilyIn : List ℕ → FamilyView → Type 0
@@ -52,32 +54,38 @@ TakesFamily s r None = Refuses roa_family.spells s
 
 -- the prefixes of the family at the front of s stand in it, and what is left follows them
 abbrev pub FamilyStands : List ℕ → List ℕ → FamilyView → Type 0
-FamilyStands s r v = StandsIn s v.addresses.now v.following × (v.following ≡ length r)
+FamilyStands s r v = StandsIn s v.addresses.octets.now v.following × (v.following ≡ length r)
 
 -- ---- the whole
 
 -- the prefixes of both families stand in s
 abbrev pub BothStand : List ℕ → BothView → Type 0
-BothStand s v = StandsIn s v.v4.now v.v4_following × StandsIn s v.v6.now v.v6_following
+BothStand s v = StandsIn s v.v4.octets.now v.v4_following × StandsIn s v.v6.octets.now v.v6_following
 
 -- the same, where the prefixes of each of two families stand in s
 abbrev pub StandTogether : FamilyView → FamilyView → BothView → Type 0
 StandTogether first second v =
-    (s : List ℕ) → StandsIn s first.addresses.now first.following → StandsIn s second.addresses.now second.following
-    → BothStand s v
+    (s : List ℕ) → StandsIn s first.addresses.octets.now first.following
+    → StandsIn s second.addresses.octets.now second.following → BothStand s v
 
 abbrev pub PrefixesStand : List ℕ → RoaView → Type 0
 PrefixesStand s v = StandsIn s v.v4.now v.v4_following × StandsIn s v.v6.now v.v6_following
 
--- the octets of the prefixes of both families
-pub record AreBothAt (x : Both) (v4 v6 : List ℕ) : Type 0 where
+-- the octets of the prefixes of both families, and how many they are
+pub record AreBothAt (x : Both) (v4 v6 : List ℕ) (n4 n6 : ℕ) : Type 0 where
   pub in_v4 : (each_address 32).spells x.0 v4
   pub in_v6 : (each_address 128).spells x.1 v6
+  pub v4_count : length x.0 ≡ n4
+  pub v6_count : length x.1 ≡ n6
+
+-- those of v
+abbrev pub AreIn : Both → BothView → Type 0
+AreIn x v = AreBothAt x v.v4.octets.now v.v6.octets.now v.v4.count v.v6.count
 
 -- v has those of the families of c, of which this is taken
 abbrev pub AreFamiliesIn : Bool → List ℕ → BothView → Type 0
 AreFamiliesIn strict c v =
-    (xs : List Family) × (x : Both) × each_family.spells xs c × AreFamilies strict x xs × AreBothAt x v.v4.now v.v6.now
+    (xs : List Family) × (x : Both) × each_family.spells xs c × AreFamilies strict x xs × AreIn x v
 
 -- nothing is taken of families that are all of c
 abbrev pub HasNoFamilies : Bool → List ℕ → Type 0
@@ -85,23 +93,25 @@ HasNoFamilies strict c = (xs : List Family) (x : Both) → each_family.spells xs
 
 -- all of s is a list of families, and v has the octets of their prefixes
 abbrev pub AreBlocksAt : Bool → List ℕ → BothView → Type 0
-AreBlocksAt strict s v = (x : Both) × (families strict).spells x s × AreBothAt x v.v4.now v.v6.now
+AreBlocksAt strict s v = (x : Both) × (families strict).spells x s × AreIn x v
 
 -- the octets of v are those of what two families are together
 abbrev pub AreTogetherAt : Bool → FamilyView → FamilyView → BothView → Type 0
 AreTogetherAt strict first second v =
     (x y : Family) → IsFamilyAt first x → IsFamilyAt second y
-    → (b : Both) × (together strict x y ≡ Some b) × AreBothAt b v.v4.now v.v6.now
+    → (b : Both) × (together strict x y ≡ Some b) × AreIn b v
 
--- the attestation x is all of s, and the octets are those of its prefixes
+-- the attestation x is all of s, and the octets are those of its prefixes, and as many
 pub record IsRoaAt (strict : Bool) (s : List ℕ) (v : RoaView) (x : AttestationParts) : Type 0 where
   pub spelled : (roa strict).spells (fields_of x) s
   pub as_id : v.as_id ≡ x.as_id
-  pub prefixes : AreBothAt (x.v4, x.v6) v.v4.now v.v6.now
+  pub prefixes : AreBothAt (x.v4, x.v6) v.v4.now v.v6.now v.v4_count v.v6_count
 
 -- the same of the parts, which are all of c
 abbrev pub AreRoaParts : Bool → List ℕ → RoaView → Type 0
-AreRoaParts strict c v = (x : Both) × (fields strict).spells (v.as_id, x) c × AreBothAt x v.v4.now v.v6.now
+AreRoaParts strict c v =
+    (x : Both) × (fields strict).spells (v.as_id, x) c
+    × AreBothAt x v.v4.now v.v6.now v.v4_count v.v6_count
 
 -- all of c is to be the parts: the leftmost that is wrong
 pub data AreRoaPartsWrong (strict : Bool) (c : List ℕ) (q : RoaPart) : Type 0 where

@@ -7,10 +7,10 @@
 //!     providers     SEQUENCE (SIZE (1..MAX)) OF INTEGER (0..4294967295) }
 //! ```
 
-ghost use Rattle.std.specs.Prelude.{◌≡◌, ◌↔◌, IsTrue};
+ghost use Rattle.std.specs.Prelude.{◌≡◌, ◌↔◌, IsSome, IfSome, IsTrue};
 ghost use Rattle.rpki_der.specs.Prelude.{left, sequence, around, Takes, TakesAll, TakesWhole};
-ghost use Rattle.rpki_contents.specs.Aspa.{AreProviders, AscendFrom, IsAttestation, IsNoneOf, Ascend};
-ghost use Rattle.rpki_contents.specs.Aspa.{aspa, each_number, fields, listed_of, numbers, version};
+ghost use Rattle.rpki_contents.specs.Aspa.{AreNumbers, AreProviders, AscendFrom, IsAttestation, IsNoneOf, Ascend};
+ghost use Rattle.rpki_contents.specs.Aspa.{aspa, aspa_parts, each_number, fields, listed_of, numbers, version};
 
 use rpki_der::{Class, Constructed, DecodeError, Tag};
 use rpki_resources::take_as_number;
@@ -125,7 +125,8 @@ fn is_none_of(number: u32, numbers: &[u32]) -> bool
 
 /// Whether the numbers are providers of the customer: one at least, ascending, and the customer isn't one.
 fn are_providers(customer: u32, providers: &[u32]) -> bool
-    ensures { IsTrue result ↔ AreProviders customer providers.now }
+    ensures answer { IsTrue result ↔ AreProviders customer providers.now }
+    ensures numbers { AreNumbers providers.now }
 {
     if providers.is_empty() {
         return false;
@@ -137,6 +138,22 @@ fn are_providers(customer: u32, providers: &[u32]) -> bool
 }
 
 impl AsProviderAttestation {
+    /// The attestation that these are the providers of the customer. It allocates nothing.
+    ///
+    /// Returns None where there is no provider, one isn't above the one before it, or one is the customer.
+    pub fn new(customer: u32, providers: Vec<u32>) -> Option<AsProviderAttestation>
+        ensures some { IsSome result ↔ IsAttestation (aspa_parts customer providers.items) }
+        ensures value { IfSome result (λ x. x ≡ aspa_parts customer providers.items) }
+    {
+        if !are_providers(customer, providers.as_slice()) {
+            return None;
+        }
+        Some(AsProviderAttestation {
+            customer,
+            providers,
+        })
+    }
+
     /// Reads an attestation, in DER: a SEQUENCE of the version, which is 1 under the explicit tag 0; of the customer;
     /// and of a list of providers, one at least, each above the one before it, of which none is the customer; and
     /// nothing else.

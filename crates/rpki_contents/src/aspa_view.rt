@@ -1,13 +1,16 @@
 //! Attestations of the providers of an autonomous system, read in place without memory.
 
 ghost use Rattle.std.specs.Prelude.{◌≡◌, ◌<◌, ◌↔◌, List, None, ℕ, IsTrue, IfOk, IfErr, IfSome, IfNone, length};
-ghost use Rattle.rpki_der.specs.Prelude.{left};
-ghost use Rattle.rpki_contents.specs.Aspa.{AspaParts, each_number};
-ghost use Rattle.rpki_contents.specs.AspaView.{AreAspaPartsWrong, AreProvidersAt, GivesNumber, HasNoProviders, IsAfter};
-ghost use Rattle.rpki_contents.specs.AspaView.{IsAspaAt, IsAspaParts, IsAspaWrong, SpellsBehind};
+ghost use Rattle.rpki_der.specs.Prelude.{left, Accepts, Refuses};
+ghost use Rattle.rpki_contents.specs.Aspa.{AspaParts, as_number, each_number};
+ghost use Rattle.rpki_contents.specs.AspaView.{AreAspaPartsWrong, AreProvidersAt, CountsBehind, GivesNumber};
+ghost use Rattle.rpki_contents.specs.AspaView.{HasNoProviders, IsAfter, IsAspaAt, IsAspaParts, IsAspaWrong};
+ghost use Rattle.rpki_contents.specs.AspaView.{SpellsBehind};
 
 use crate::aspa::take_version;
+use crate::counted::Counted;
 use crate::inside::inside;
+use crate::short::short_number;
 use rpki_der::Constructed;
 use rpki_resources::take_as_number;
 
@@ -31,6 +34,8 @@ pub struct AspaView<'a> {
     pub customer: u32,
     /// The providers, one after another: the contents of their list.
     pub providers: &'a [u8],
+    /// How many providers there are.
+    pub count: usize,
 }
 
 /// The providers of an attestation in place that have yet to be given, in order.
@@ -50,40 +55,73 @@ fn is_after(last: Option<u32>, number: u32) -> bool
     }
 }
 
-/// Whether all that is left are providers of the customer, one after another.
-fn are_providers(contents: Constructed<'_>, customer: u32) -> bool
-    ensures { IsTrue result ↔ SpellsBehind customer None (left contents.entry) }
+/// The AS number at the front, and what follows it; None where there is none.
+#[inline(always)]
+fn first_number(octets: &[u8]) -> Option<(u32, &[u8])>
+    ensures some { IfSome result (λ x. Accepts as_number.spells octets.now x.0 x.1.now) }
+    ensures none { IfNone result (Refuses as_number.spells octets.now) }
 {
-    let mut rest = contents;
+    match short_number(octets) {
+        Some(found) => Some(found),
+        None => any_number(octets),
+    }
+}
+
+/// The same, of any length.
+#[inline(never)]
+fn any_number(octets: &[u8]) -> Option<(u32, &[u8])>
+    ensures some { IfSome result (λ x. Accepts as_number.spells octets.now x.0 x.1.now) }
+    ensures none { IfNone result (Refuses as_number.spells octets.now) }
+{
+    let mut rest = Constructed::from_slice(octets);
+    match take_as_number(&mut rest) {
+        Ok(number) => Some((number, rest.rest())),
+        Err(_) => None,
+    }
+}
+
+/// How many providers of the customer the octets are, one after another, and one at least; None where they are none.
+fn count_providers(octets: &[u8], customer: u32) -> Option<usize>
+    ensures some { IfSome result (λ n. CountsBehind customer None octets.now n) }
+    ensures none { IfNone result (SpellsBehind customer None octets.now → ⊥) }
+{
+    let mut rest = octets;
     let mut last = None;
+    let mut count = 0;
     'each: while !rest.is_empty() {
-        match take_as_number(&mut rest) {
-            Ok(number) => {
+        match first_number(rest) {
+            Some((number, following)) => {
                 if !is_after(last, number) {
-                    return false;
+                    return None;
                 }
                 if number == customer {
-                    return false;
+                    return None;
                 }
                 last = Some(number);
+                rest = following;
+                count += 1;
             }
-            Err(_) => return false,
+            None => return None,
         }
     }
-    last.is_some()
+    match last {
+        Some(_) => Some(count),
+        None => None,
+    }
 }
 
 /// The octets of the providers of the customer, whose list is all that is left.
-fn read_providers<'a>(rest: Constructed<'a>, customer: u32) -> Option<&'a [u8]>
-    ensures some { IfSome result (λ p. AreProvidersAt customer (left rest.entry) p.now) }
+fn read_providers<'a>(rest: Constructed<'a>, customer: u32) -> Option<Counted<'a>>
+    ensures some { IfSome result (λ v. AreProvidersAt customer (left rest.entry) v.octets.now v.count) }
     ensures none { IfNone result (HasNoProviders customer (left rest.entry)) }
 {
     match inside(rest) {
         Some(contents) => {
-            if !are_providers(contents, customer) {
-                return None;
+            let octets = contents.rest();
+            match count_providers(octets, customer) {
+                Some(count) => Some(Counted { octets, count }),
+                None => None,
             }
-            Some(contents.rest())
         }
         None => None,
     }
@@ -106,7 +144,8 @@ fn read_parts<'a>(contents: Constructed<'a>) -> Result<AspaView<'a>, AspaPart>
     match read_providers(rest, customer) {
         Some(providers) => Ok(AspaView {
             customer,
-            providers,
+            providers: providers.octets,
+            count: providers.count,
         }),
         None => Err(AspaPart::Providers),
     }

@@ -1,17 +1,18 @@
 //! The prefixes of route origin attestations by family, read in place without memory (RFC 9582 4.3).
 
-ghost use Rattle.std.specs.Prelude.{◌≡◌, List, true, false, None, ℕ, IfSome, IfNone, length};
+ghost use Rattle.std.specs.Prelude.{◌≡◌, List, None, ℕ, IfSome, IfNone};
 ghost use Rattle.rpki_der.specs.Prelude.{left, SpellsNothing};
 ghost use Rattle.rpki_resources.specs.Address.{width};
-ghost use Rattle.rpki_contents.specs.RoaAddress.{Family, addresses, each_address, family_parts};
+ghost use Rattle.rpki_contents.specs.RoaAddress.{Family, addresses, family_parts};
 ghost use Rattle.rpki_contents.specs.Roa.{alone, families, together};
-ghost use Rattle.rpki_contents.specs.RoaView.{AreAddressesAt, AreBlocksAt, AreBothAt, AreFamiliesIn, AreTogetherAt};
-ghost use Rattle.rpki_contents.specs.RoaView.{HasNoFamilies, IsFamilyAt, IsFamilyIn, IsOfPrefixes, TakesFamily};
+ghost use Rattle.rpki_contents.specs.RoaView.{AreAddressesAt, AreBlocksAt, AreFamiliesIn, AreIn, AreTogetherAt};
+ghost use Rattle.rpki_contents.specs.RoaView.{HasNoFamilies, IsFamilyAt, IsFamilyIn, TakesFamily};
 ghost use Rattle.rpki_contents.specs.InPlace.{StandsIn};
 ghost use Rattle.rpki_contents.specs.RoaView.{BothStand, FamilyStands, StandTogether};
 
+use crate::addresses::count_addresses;
+use crate::counted::Counted;
 use crate::inside::inside;
-use crate::roa_address::RoaIpAddress;
 use rpki_der::Constructed;
 use rpki_resources::{AddressFamily, take_family};
 
@@ -21,7 +22,7 @@ pub(crate) struct FamilyView<'a> {
     /// The family.
     pub(crate) family: AddressFamily,
     /// The prefixes, one after another.
-    pub(crate) addresses: &'a [u8],
+    pub(crate) addresses: Counted<'a>,
     /// How many octets follow the family.
     pub(crate) following: usize,
 }
@@ -30,34 +31,19 @@ pub(crate) struct FamilyView<'a> {
 #[derive(Clone, Copy)]
 pub(crate) struct BothView<'a> {
     /// Those of IP version 4.
-    pub(crate) v4: &'a [u8],
+    pub(crate) v4: Counted<'a>,
     /// Those of IP version 6.
-    pub(crate) v6: &'a [u8],
+    pub(crate) v6: Counted<'a>,
     /// How many octets follow those of IP version 4.
     pub(crate) v4_following: usize,
     /// How many octets follow those of IP version 6.
     pub(crate) v6_following: usize,
 }
 
-/// Whether all that is left are prefixes of the family, one after another.
-fn are_addresses(contents: Constructed<'_>, family: AddressFamily) -> bool
-    ensures yes { result ≡ true → IsOfPrefixes (width family) (left contents.entry) }
-    ensures no { result ≡ false → SpellsNothing (each_address (width family)).spells (left contents.entry) }
-{
-    let mut rest = contents;
-    'each: while !rest.is_empty() {
-        match RoaIpAddress::take_from(&mut rest, family) {
-            Ok(_) => {}
-            Err(_) => return false,
-        }
-    }
-    true
-}
-
 /// The octets of the prefixes of the family, whose list is all that is left: one at least.
-fn read_addresses<'a>(rest: Constructed<'a>, family: AddressFamily) -> Option<&'a [u8]>
-    ensures some { IfSome result (λ p. AreAddressesAt (width family) (left rest.entry) p.now) }
-    ensures stand { IfSome result (λ p. StandsIn (left rest.entry) p.now 0) }
+fn read_addresses<'a>(rest: Constructed<'a>, family: AddressFamily) -> Option<Counted<'a>>
+    ensures some { IfSome result (λ v. AreAddressesAt (width family) (left rest.entry) v.octets.now v.count) }
+    ensures stand { IfSome result (λ v. StandsIn (left rest.entry) v.octets.now 0) }
     ensures none { IfNone result (SpellsNothing (addresses (width family)).spells (left rest.entry)) }
 {
     match inside(rest) {
@@ -65,10 +51,11 @@ fn read_addresses<'a>(rest: Constructed<'a>, family: AddressFamily) -> Option<&'
             if contents.is_empty() {
                 return None;
             }
-            if !are_addresses(contents, family) {
-                return None;
+            let octets = contents.rest();
+            match count_addresses(octets, family) {
+                Some(count) => Some(Counted { octets, count }),
+                None => None,
             }
-            Some(contents.rest())
         }
         None => None,
     }
@@ -77,7 +64,7 @@ fn read_addresses<'a>(rest: Constructed<'a>, family: AddressFamily) -> Option<&'
 /// The name of a family and its prefixes, which are all that is left; so many octets follow them.
 fn read_family<'a>(contents: Constructed<'a>, following: usize) -> Option<FamilyView<'a>>
     ensures some { IfSome result (λ v. IsFamilyIn (left contents.entry) v) }
-    ensures stand { IfSome result (λ v. StandsIn (left contents.entry) v.addresses.now 0) }
+    ensures stand { IfSome result (λ v. StandsIn (left contents.entry) v.addresses.octets.now 0) }
     ensures following { IfSome result (λ v. v.following ≡ following) }
     ensures none { IfNone result (SpellsNothing family_parts.spells (left contents.entry)) }
 {
@@ -109,18 +96,23 @@ fn take_family_view<'a>(cons: &mut Constructed<'a>) -> Option<FamilyView<'a>>
 
 /// The prefixes of the one family that there is.
 fn alone_view<'a>(only: FamilyView<'a>) -> BothView<'a>
-    ensures both { (x : Family) → IsFamilyAt only.entry x → AreBothAt (alone x) result.v4.now result.v6.now }
-    ensures stand { (s : List ℕ) → StandsIn s only.entry.addresses.now only.entry.following → BothStand s result }
+    ensures both { (x : Family) → IsFamilyAt only.entry x → AreIn (alone x) result }
+    ensures stand { (s : List ℕ) → StandsIn s only.entry.addresses.octets.now only.entry.following
+        → BothStand s result }
 {
+    let nothing = Counted {
+        octets: &[],
+        count: 0,
+    };
     match only.family {
         AddressFamily::Ipv4 => BothView {
             v4: only.addresses,
-            v6: &[],
+            v6: nothing,
             v4_following: only.following,
             v6_following: 0,
         },
         AddressFamily::Ipv6 => BothView {
-            v4: &[],
+            v4: nothing,
             v6: only.addresses,
             v4_following: 0,
             v6_following: only.following,

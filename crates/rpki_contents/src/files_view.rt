@@ -3,10 +3,11 @@
 ghost use Rattle.std.specs.Prelude.{◌≡◌, ◌↔◌, ◌≤◌, ◌<◌, IsTrue, IfSome, IfNone, List, length};
 ghost use Rattle.rpki_der.specs.Prelude.{SpellsNothing};
 ghost use Rattle.rpki_contents.specs.ListedFile.{ListedFile, AreDistinct};
-ghost use Rattle.rpki_contents.specs.FilesInPlace.{AreFiles, HoldFiles, CountsFiles};
+ghost use Rattle.rpki_contents.specs.FilesInPlace.{AreFiles, HoldFiles};
 ghost use Rattle.rpki_contents.specs.ManifestView.{GivesFile};
 
 use crate::file_view::FileView;
+use crate::files::count_files;
 use crate::names::differ;
 use rpki::der::Constructed;
 use std::marker::Model;
@@ -47,21 +48,6 @@ impl<'a> Model for FileCursor<'a> {
     ghost view = { λ x. left x.rest };
 
     ghost invariant = { λ x. (xs : List ListedFile) × AreFiles xs (left x.rest) };
-}
-
-/// How many files the octets are; None where they are none.
-fn count_files(octets: &[u8]) -> Option<usize>
-    ensures { CountsFiles octets.now result }
-{
-    let mut rest = Constructed::from_slice(octets);
-    let mut count = 0;
-    'files: while !rest.is_empty() {
-        match FileView::take_from(&mut rest) {
-            Ok(_) => count += 1,
-            Err(_) => return None,
-        }
-    }
-    Some(count)
 }
 
 impl<'a> FilesView<'a> {

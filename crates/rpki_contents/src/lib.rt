@@ -10,15 +10,18 @@
 //! them in place, without memory.
 #![tactic(auto)]
 
+mod addresses;
 mod aspa;
 mod aspa_encoder;
 mod aspa_view;
+mod counted;
 mod each;
 mod encode;
 mod family_view;
 mod file_and_hash;
 mod file_name;
 mod file_view;
+mod files;
 mod files_view;
 mod inside;
 pub mod laws;
@@ -34,6 +37,7 @@ mod roa_encoder;
 mod roa_family;
 mod roa_view;
 mod route_origin;
+mod short;
 mod within;
 
 pub use aspa::AsProviderAttestation;

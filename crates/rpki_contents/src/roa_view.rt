@@ -34,6 +34,10 @@ pub struct RoaView<'a> {
     pub v4: &'a [u8],
     /// The prefixes of IP version 6, one after another; no octets where that family isn't there.
     pub v6: &'a [u8],
+    /// How many prefixes of IP version 4 there are.
+    pub v4_count: usize,
+    /// How many prefixes of IP version 6 there are.
+    pub v6_count: usize,
     /// How many octets follow the prefixes of IP version 4.
     pub v4_following: usize,
     /// How many octets follow the prefixes of IP version 6.
@@ -63,8 +67,10 @@ fn read_parts<'a>(contents: Constructed<'a>, strict: bool) -> Result<RoaView<'a>
     match read_blocks(rest, strict) {
         Some(both) => Ok(RoaView {
             as_id,
-            v4: both.v4,
-            v6: both.v6,
+            v4: both.v4.octets,
+            v6: both.v6.octets,
+            v4_count: both.v4.count,
+            v6_count: both.v6.count,
             v4_following: both.v4_following,
             v6_following: both.v6_following,
         }),

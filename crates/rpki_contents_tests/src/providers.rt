@@ -22,7 +22,7 @@ fn is_in_place(octets: &[u8], customer: u32, providers: &[u32]) -> bool {
             return false;
         }
     }
-    rest.next_provider().is_none() && view.customer == customer
+    rest.next_provider().is_none() && view.customer == customer && view.count == providers.len()
 }
 
 /// Whether these octets are an attestation of this customer and of these providers.
@@ -70,6 +70,86 @@ fn accepted_attestations_are_written(rt: HostRuntime) -> Result<(), Fail> {
     for (name, text, _, _) in accepted::rows() {
         let octets = octets_of(rt.alloc(), text)?;
         assert!(rt; is_written(rt.alloc(), octets.as_slice())?, "{name}");
+    }
+    Ok(())
+}
+
+/// A customer and providers, and whether they make an attestation.
+struct Made {
+    name: &'static str,
+    customer: u32,
+    providers: &'static [u32],
+    is_made: bool,
+}
+
+/// By the rules of the profile: one provider at least, each above the one before it, and none is the customer.
+const MADE: &[Made] = &[
+    Made {
+        name: "one provider",
+        customer: 64496,
+        providers: &[64497],
+        is_made: true,
+    },
+    Made {
+        name: "providers on both sides of the customer",
+        customer: 5,
+        providers: &[0, 4, 6, 4294967295],
+        is_made: true,
+    },
+    Made {
+        name: "no provider",
+        customer: 64496,
+        providers: &[],
+        is_made: false,
+    },
+    Made {
+        name: "the customer alone",
+        customer: 1,
+        providers: &[1],
+        is_made: false,
+    },
+    Made {
+        name: "the customer last",
+        customer: 4,
+        providers: &[2, 3, 4],
+        is_made: false,
+    },
+    Made {
+        name: "a provider twice",
+        customer: 1,
+        providers: &[2, 2],
+        is_made: false,
+    },
+    Made {
+        name: "the last two in descending order",
+        customer: 1,
+        providers: &[2, 4, 3],
+        is_made: false,
+    },
+];
+
+fn made_rows() -> &'static [Made] {
+    MADE
+}
+
+/// Whether an attestation of these is made, and has them.
+fn is_made_of(alloc: Global, customer: u32, providers: &[u32]) -> Result<bool, AllocError> {
+    let mut listed = Vec::new(alloc);
+    listed.extend_from_slice(providers)?;
+    match AsProviderAttestation::new(customer, listed) {
+        Some(found) => Ok(found.customer_as() == customer && found.providers() == providers),
+        None => Ok(false),
+    }
+}
+
+#[test]
+fn attestations_are_made(rt: HostRuntime) -> Result<(), Fail> {
+    for row in made_rows() {
+        let is_made = is_made_of(rt.alloc(), row.customer, row.providers)?;
+        assert!(rt; is_made == row.is_made, "{}", row.name);
+    }
+    for (name, _, customer, providers) in accepted::rows() {
+        assert!(rt; is_made_of(rt.alloc(), *customer, providers)?, "{name}");
     }
     Ok(())
 }

@@ -46,6 +46,8 @@ fn is_in_place(octets: &[u8], strict: bool, found: &RouteOriginAttestation) -> b
             view.as_id == found.as_id()
                 && gives(view.v4_addrs(), found.v4_addrs())
                 && gives(view.v6_addrs(), found.v6_addrs())
+                && view.v4_count == found.v4_addrs().len()
+                && view.v6_count == found.v6_addrs().len()
         }
         Err(_) => false,
     }

@@ -1,6 +1,6 @@
-use Rattle.std.proofs.Common.{◌++◌, [], refl}
+use Rattle.std.proofs.Common.{◌++◌, [], refl, sym}
 use Rattle.rpki_c.proofs.CertificateLaws.{stands}
-use Rattle.rpki_c.proofs.ContentLaws.{providers-end, providers-listed}
+use Rattle.rpki_c.proofs.ContentLaws.{providers-end}
 use Rattle.rpki_c.proofs.aspa.aspa_of.Goals as goal
 
 pub returns : goal.returns
@@ -16,5 +16,5 @@ returns c =
       providers =
           stands s (list.contents ++ []) list.contents [] c.args.found.providers.now 0 0 c.place_of.result
           (providers-end x s at.spelled) refl at.providers refl c.place_of.ensures.start c.place_of.ensures.size;
-      count = c.count_providers.ensures x.providers (rw at.providers (providers-listed x s at.spelled));
+      count = sym at.count;
     }

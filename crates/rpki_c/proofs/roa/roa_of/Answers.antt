@@ -1,3 +1,4 @@
+use Rattle.std.proofs.Common.{sym}
 use Rattle.rpki_c.proofs.RoaPlaceLaws.{prefixes-at}
 use Rattle.rpki_c.proofs.roa.roa_of.Goals as goal
 
@@ -19,6 +20,6 @@ returns c =
       v6 =
           prefixes-at 128 x.v6 s v.v6.now v.v6_following c.place_of-2.result stand.1 p.in_v6 c.place_of-2.ensures.start
           c.place_of-2.ensures.size;
-      v4_count = c.count_addresses.ensures x.v4 p.in_v4;
-      v6_count = c.count_addresses-2.ensures x.v6 p.in_v6;
+      v4_count = sym p.v4_count;
+      v6_count = sym p.v6_count;
     }

@@ -16,21 +16,21 @@ returns-in_err-listed c =
 pub returns-then-not-are_providers : goal.returns-then-not-are_providers
 returns-then-not-are_providers c =
     let x = c.in_ok-listed.listed in
-    let tested = rw c.as_slice.ensures.value at c.are_providers.ensures in
+    let tested = rw c.as_slice.ensures.value at c.are_providers.ensures.answer in
     let none = no-aspa x.customer x.providers.items (iff_false tested c.if-not-are_providers.true) in
     rw c.content.ensures (such-nothing IsAspa (around sequence fields) _ refl c.in_ok-listed.ensures none)
 
 pub invariant_of-result : goal.invariant_of-result
 invariant_of-result c =
     let x = c.in_ok-listed.listed in
-    let tested = rw c.as_slice.ensures.value at c.are_providers.ensures in
+    let tested = rw c.as_slice.ensures.value at c.are_providers.ensures.answer in
     let a = c.in_ok-listed.ensures.spells in
     is-attestation x.customer x.providers.items a.front a.spelled (tested.0 c.if-not-are_providers.false)
 
 pub returns : goal.returns
 returns c =
     let x = c.in_ok-listed.listed in
-    let tested = rw c.as_slice.ensures.value at c.are_providers.ensures in
+    let tested = rw c.as_slice.ensures.value at c.are_providers.ensures.answer in
     such-read IsAspa (around sequence fields) (aspa_parts x.customer x.providers.items) c.in_ok-listed.ensures
     (record { same = refl; providers = tested.0 c.if-not-are_providers.false })
     (only-aspa x.customer x.providers.items)

@@ -1,0 +1,40 @@
+use Rattle.std.proofs.Common.{◌≡◌, ◌≢◌, ◌∷◌, ◌++◌, [], refl, arith, length-append}
+use Rattle.rpki_contents.proofs.InPlaceLaws.{left-some, left-none}
+use Rattle.rpki_contents.proofs.FilesLaws.{at-start, one-more, all-behind, nothing-here, shorter}
+use Rattle.rpki_contents.proofs.files.count_files.Goals as goal
+
+pub files-init : goal.files-init
+files-init c = record { read = ([], at-start c.args.octets.now, refl); few = omega arith }
+
+pub overflow_add-count : goal.overflow_add-count
+overflow_add-count c =
+    let h = c.in-Some.ensures.some in
+    let less = shorter c.files.rest.now _ h.0 h.1 in
+    record { fits = omega (arith, c.files.invariant.few, less) }
+
+pub files-preserved : goal.files-preserved
+files-preserved c =
+    let so = c.files.invariant.read in
+    let some : c.files.rest.now ≢ [] = left-some c.files.rest.now _ c.is_empty.ensures c.files-test.true in
+    let h = c.in-Some.ensures.some in
+    let less = shorter c.files.rest.now _ h.0 h.1 in
+    record {
+      read = (
+        so.0 ++ h.0 ∷ [],
+        one-more c.args.octets.now c.files.rest.now _ so.0 h.0 so.1 some h.1,
+        omega (arith, length-append so.0 (h.0 ∷ []), so.2),
+      );
+      few = omega (arith, less, c.files.invariant.few);
+    }
+
+pub returns-in-None : goal.returns-in-None
+returns-in-None c =
+    let so = c.files.invariant.read in
+    let some : c.files.rest.now ≢ [] = left-some c.files.rest.now _ c.is_empty.ensures c.files-test.true in
+    so.1.nothing (nothing-here c.files.rest.now some c.in-None.ensures.none)
+
+pub returns : goal.returns
+returns c =
+    let so = c.files.invariant.read in
+    let end : c.files.rest.now ≡ [] = left-none c.files.rest.now _ c.is_empty.ensures c.files-test.false in
+    (so.0, all-behind c.args.octets.now c.files.rest.now so.0 so.1 end, so.2)

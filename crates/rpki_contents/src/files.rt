@@ -1,0 +1,80 @@
+//! The files that a manifest lists, one after another, in place (RFC 9286 4.2.1).
+
+ghost use Rattle.std.specs.Prelude.{IfSome, IfNone};
+ghost use Rattle.rpki_der.specs.Prelude.{Refuses};
+ghost use Rattle.rpki_contents.specs.FilesInPlace.{CountsFiles};
+ghost use Rattle.rpki_contents.specs.InPlace.{Follows};
+ghost use Rattle.rpki_contents.specs.ListedFile.{file};
+
+use crate::file_name::is_file_name;
+use crate::file_view::FileView;
+use crate::short::short;
+use rpki::der::Constructed;
+
+/// What follows the file at the front, where its header and that of its name are two octets each.
+#[inline(always)]
+fn after_short_file(octets: &[u8]) -> Option<&[u8]>
+    ensures { IfSome result (λ r. Follows file.spells octets.now r.now) }
+{
+    let Some((parts, rest)) = short(octets, 0x30) else {
+        return None;
+    };
+    let Some((name, behind)) = short(parts, 0x16) else {
+        return None;
+    };
+    match behind {
+        [tag, length, unused, digest @ ..] => {
+            if *tag != 0x03 || *length != 0x21 || *unused != 0 || digest.len() != 32 {
+                return None;
+            }
+            if !is_file_name(name) {
+                return None;
+            }
+            Some(rest)
+        }
+        _ => None,
+    }
+}
+
+/// What follows the file at the front; None where there is none.
+#[inline(always)]
+fn after_file(octets: &[u8]) -> Option<&[u8]>
+    ensures some { IfSome result (λ r. Follows file.spells octets.now r.now) }
+    ensures none { IfNone result (Refuses file.spells octets.now) }
+{
+    match after_short_file(octets) {
+        Some(rest) => Some(rest),
+        None => after_any_file(octets),
+    }
+}
+
+/// The same, however the file is written.
+#[inline(never)]
+fn after_any_file(octets: &[u8]) -> Option<&[u8]>
+    ensures some { IfSome result (λ r. Follows file.spells octets.now r.now) }
+    ensures none { IfNone result (Refuses file.spells octets.now) }
+{
+    let mut rest = Constructed::from_slice(octets);
+    match FileView::take_from(&mut rest) {
+        Ok(_) => Some(rest.rest()),
+        Err(_) => None,
+    }
+}
+
+/// How many files the octets are; None where they are none.
+pub(crate) fn count_files(octets: &[u8]) -> Option<usize>
+    ensures { CountsFiles octets.now result }
+{
+    let mut rest = octets;
+    let mut count = 0;
+    'files: while !rest.is_empty() {
+        match after_file(rest) {
+            Some(following) => {
+                rest = following;
+                count += 1;
+            }
+            None => return None,
+        }
+    }
+    Some(count)
+}
