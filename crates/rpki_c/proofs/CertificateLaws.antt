@@ -9,7 +9,7 @@ use Rattle.rpki_time.specs.TimeValue.{SpellsTime}
 use Rattle.rpki.specs.ExtensionValue.{ExtensionParts, SpellsExtension}
 use Rattle.rpki_cert.specs.Cert.{CertParts, SpellsCert, extensions_tag, find}
 use Rattle.rpki_cert.specs.View.{behind_first, IsCertAt}
-use Rattle.rpki_cert.specs.declared.view.CertView.{CertView}
+use Rattle.rpki_cert.specs.declared.read.view.CertView.{CertView}
 use Rattle.rpki_c.specs.declared.place.Place.{Place}
 use Rattle.rpki_c.specs.Place.{StandsBefore}
 use Rattle.rpki_c.specs.Certificate.{behind_signed}

@@ -1,5 +1,5 @@
 -- Where the parts of manifests and of attestations stand.
-use Rattle.std.proofs.Common.{◌≡◌, ◌∙◌, ◌++◌, ◌-◌, ◌^◌, ℕ, true, false, List, [], inr, length, refl, sym, ap, subst}
+use Rattle.std.proofs.Common.{◌≡◌, ◌∙◌, ◌++◌, ◌-◌, ◌^◌, ℕ, true, false, List, [], inr, length, refl, sym, ap}
 use Rattle.std.proofs.Common.{arith}
 use Rattle.std.proofs.Common.{append-nil, append_assoc, length-append}
 use Rattle.jiff.specs.Types.{DateTime}
@@ -14,7 +14,7 @@ use Rattle.rpki_time.specs.TimeValue.{SpellsTime, generalized}
 use Rattle.rpki_contents.specs.ListedFile.{ListedFile, file}
 use Rattle.rpki_contents.specs.Manifest.{ManifestParts, fields_of}
 use Rattle.rpki_contents.specs.ManifestView.{view_manifest}
-use Rattle.rpki_contents.specs.Aspa.{AspaParts, Fields, aspa, as_number, each_number}
+use Rattle.rpki_contents.specs.Aspa.{AspaParts, aspa, as_number}
 use Rattle.rpki_c.specs.declared.place.Place.{Place}
 use Rattle.rpki_c.specs.Place.{StandsBefore}
 use Rattle.rpki_c.proofs.CertificateLaws.{stands, ends-next, ends-inside}
@@ -110,13 +110,6 @@ providers-end x s h =
     let a = ends-next s k.contents f.first f.second (ends-contents sequence true k.contents s k.value) f.parts in
     let b = ends-next s f.second f.two.first f.two.second a f.two.parts in
     ends-last s f.two.second f.two.two.contents b f.two.two.value
-
-pub providers-listed : (x : AspaParts) (s : List ℕ) (h : aspa.spells x s)
-    → each_number.spells x.providers h.spelled.spelled.two.two.contents
-providers-listed x s h =
-    let list = h.spelled.spelled.two.two in
-    subst (λ (ns : List ℕ). each_number.spells ns list.contents)
-    (sym (ap (λ (f : Fields). f.1.1) h.stands.same)) list.spelled
 
 pub number-no-memory : (s : List ℕ) → as_number.fault s OutOfMemory → ⊥
 number-no-memory s h = leaf-no-memory integer false (IsUnsignedBelow (2 ^ 32)) s OutOfMemory h refl

@@ -11,7 +11,7 @@
 -- Parts of parsed URIs, by their places: RsyncPlacesLaws, HttpsPlacesLaws. Parts of certificates: CertificateLaws; that
 --   one is held to a profile: InspectionLaws. Parts of revocation lists: CrlLaws; of signed
 --   objects: SignedObjectLaws; of manifests and attestations: ContentLaws, RoaPlaceLaws; names by their places:
---   PlacedNamesLaws; how many: CountLaws. Where something is: AccessLaws. Values that are taken off a part: TakingLaws.
+--   PlacedNamesLaws. Where something is: AccessLaws. Values that are taken off a part: TakingLaws.
 -- Entries of blocks, one after another, and how many there are: BlockListLaws, ViewCountLaws. Statuses of
 --   contents of resources: ResourceStatusLaws.
 
@@ -42,6 +42,5 @@ mod ResourceStatusLaws
 mod CrlLaws
 pub mod SignedObjectLaws
 mod ContentLaws
-mod CountLaws
 mod RoaPlaceLaws
 mod PlacedNamesLaws

@@ -1,11 +1,12 @@
 -- What a status says of the octets of a certificate.
 use Rattle.std.specs.Prelude.{◌≡◌, ◌⊎◌, ◌++◌, ℕ, List, []}
 use Rattle.rpki_der.specs.Number.{number_of}
-use Rattle.rpki_cert.specs.declared.cert_part.CertPart.{CertPart}
-use Rattle.rpki_cert.specs.declared.cert_part.CertPart.TheVariants.{Certificate, Signed, Algorithm, Signature, Tbs}
-use Rattle.rpki_cert.specs.declared.cert_part.CertPart.TheVariants.{Version, SerialNumber, TbsAlgorithm, Issuer}
-use Rattle.rpki_cert.specs.declared.cert_part.CertPart.TheVariants.{Validity, Subject, PublicKey, Extensions}
-use Rattle.rpki_cert.specs.declared.cert_part.CertPart.TheVariants.{ExtensionCount, ExtensionIdentifiers, SameAlgorithm}
+use Rattle.rpki_cert.specs.declared.read.cert_part.CertPart.{CertPart}
+use Rattle.rpki_cert.specs.declared.read.cert_part.CertPart.TheVariants.{Certificate, Signed, Algorithm, Signature, Tbs}
+use Rattle.rpki_cert.specs.declared.read.cert_part.CertPart.TheVariants.{Version, SerialNumber, TbsAlgorithm, Issuer}
+use Rattle.rpki_cert.specs.declared.read.cert_part.CertPart.TheVariants.{Validity, Subject, PublicKey, Extensions}
+use Rattle.rpki_cert.specs.declared.read.cert_part.CertPart.TheVariants.{ExtensionCount, ExtensionIdentifiers}
+use Rattle.rpki_cert.specs.declared.read.cert_part.CertPart.TheVariants.{SameAlgorithm}
 use Rattle.rpki_cert.specs.Cert.{TbsParts, CertParts, SpellsCert}
 use Rattle.rpki_cert.specs.View.{AreNamed, IsCertWrong}
 use Rattle.rpki_c.specs.declared.certificate.CertificateParts.{CertificateParts as Parts}

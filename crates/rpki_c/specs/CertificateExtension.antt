@@ -1,7 +1,7 @@
 -- What a status says of one extension of a certificate, whichever others there are.
 use Rattle.std.specs.Prelude.{◌≡◌, ◌⊎◌, ◌<◌, ℕ, List}
-use Rattle.rpki_cert.specs.declared.cert_part.CertPart.{CertPart}
-use Rattle.rpki_cert.specs.declared.extension_kind.ExtensionKind.{ExtensionKind}
+use Rattle.rpki_cert.specs.declared.read.cert_part.CertPart.{CertPart}
+use Rattle.rpki_cert.specs.declared.extension.kind.ExtensionKind.{ExtensionKind}
 use Rattle.rpki_cert.specs.Cert.{CertParts, SpellsCert}
 use Rattle.rpki_cert.specs.ExtensionTable.{identifier_of}
 use Rattle.rpki_cert.specs.View.{IsCertWrong}

@@ -2,16 +2,16 @@
 use Rattle.std.specs.Prelude.{◌≡◌, ◌⊎◌, ◌++◌, ℕ, true, false, List, Option, Some, None, replicate}
 use Rattle.rpki_der.specs.Each.{SpellsEach}
 use Rattle.rpki.specs.ExtensionValue.{ExtensionParts, SpellsExtension}
-use Rattle.rpki_cert.specs.declared.cert_part.CertPart.{CertPart}
-use Rattle.rpki_cert.specs.declared.known_part.KnownPart.{KnownPart}
-use Rattle.rpki_cert.specs.declared.known_part.KnownPart.TheVariants.{BasicConstraints, SubjectKeyIdentifier}
-use Rattle.rpki_cert.specs.declared.known_part.KnownPart.TheVariants.{AuthorityKeyIdentifier, KeyUsage}
-use Rattle.rpki_cert.specs.declared.known_part.KnownPart.TheVariants.{CertificatePolicies}
-use Rattle.rpki_cert.specs.declared.known_view.KnownView.{KnownView}
-use Rattle.rpki_cert.specs.declared.key_usage.KeyUsage.{KeyUsage as Usage}
-use Rattle.rpki_cert.specs.declared.key_usage.KeyUsage.TheVariants.{Ca, Ee}
-use Rattle.rpki_cert.specs.declared.policy.Overclaim.{Overclaim}
-use Rattle.rpki_cert.specs.declared.policy.Overclaim.TheVariants.{Refuse, Trim}
+use Rattle.rpki_cert.specs.declared.read.cert_part.CertPart.{CertPart}
+use Rattle.rpki_cert.specs.declared.extension.known_part.KnownPart.{KnownPart}
+use Rattle.rpki_cert.specs.declared.extension.known_part.KnownPart.TheVariants.{BasicConstraints, SubjectKeyIdentifier}
+use Rattle.rpki_cert.specs.declared.extension.known_part.KnownPart.TheVariants.{AuthorityKeyIdentifier, KeyUsage}
+use Rattle.rpki_cert.specs.declared.extension.known_part.KnownPart.TheVariants.{CertificatePolicies}
+use Rattle.rpki_cert.specs.declared.extension.known_view.KnownView.{KnownView}
+use Rattle.rpki_cert.specs.declared.extension.key_usage.KeyUsage.{KeyUsage as Usage}
+use Rattle.rpki_cert.specs.declared.extension.key_usage.KeyUsage.TheVariants.{Ca, Ee}
+use Rattle.rpki_cert.specs.declared.extension.policy.Overclaim.{Overclaim}
+use Rattle.rpki_cert.specs.declared.extension.policy.Overclaim.TheVariants.{Refuse, Trim}
 use Rattle.rpki_cert.specs.Cert.{CertParts, SpellsCert, find}
 use Rattle.rpki_cert.specs.Known.{subject_key_identifier, key_usage, basic_constraints, crl_distribution_points}
 use Rattle.rpki_cert.specs.Known.{certificate_policies, authority_key_identifier, extended_key_usage}

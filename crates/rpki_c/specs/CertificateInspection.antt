@@ -1,23 +1,30 @@
 -- What a status says of a certificate that is held to a profile.
 use Rattle.std.specs.Prelude.{◌≡◌, ◌⊎◌, ◌<◌, ℕ, Bool, List}
-use Rattle.rpki_cert.specs.declared.cert_part.CertPart.{CertPart}
-use Rattle.rpki_cert.specs.declared.rule.CertRule.{CertRule}
-use Rattle.rpki_cert.specs.declared.rule.CertRule.TheVariants.{SerialNumber, CriticalExtensions, Issuer, Validity}
-use Rattle.rpki_cert.specs.declared.rule.CertRule.TheVariants.{Subject, RouterSubject, RsaKey, RouterKey}
-use Rattle.rpki_cert.specs.declared.rule.CertRule.TheVariants.{BasicConstraints, NoBasicConstraints}
-use Rattle.rpki_cert.specs.declared.rule.CertRule.TheVariants.{SubjectKeyIdentifier, AuthorityKeyIdentifier}
-use Rattle.rpki_cert.specs.declared.rule.CertRule.TheVariants.{OwnAuthority, SelfIssued, AuthorityUsage, EndUsage}
-use Rattle.rpki_cert.specs.declared.rule.CertRule.TheVariants.{NoExtendedKeyUsage, RouterPurpose, RevocationList}
-use Rattle.rpki_cert.specs.declared.rule.CertRule.TheVariants.{NoRevocationList, IssuerCertificate, NoIssuerCertificate}
-use Rattle.rpki_cert.specs.declared.rule.CertRule.TheVariants.{Repository, Manifest, ManifestPlace, Notifications}
-use Rattle.rpki_cert.specs.declared.rule.CertRule.TheVariants.{SignedObject, NoSubjectAccess, CertificatePolicies}
-use Rattle.rpki_cert.specs.declared.rule.CertRule.TheVariants.{Resources, ResourceVersion, RouterNumbers, ObjectAccess}
-use Rattle.rpki_cert.specs.declared.rule.CertRule.TheVariants.{ResourceBlocks, OwnResources}
-use Rattle.rpki_c.specs.declared.certificate_inspection.CertificateProfile.{CertificateProfile}
-use Rattle.rpki_c.specs.declared.certificate_inspection.CertificateProfile.TheVariants.{Ta, Ca, Ee, Router, Detached}
-use Rattle.rpki_cert.specs.Cert.{TbsParts, CertParts, SpellsCert}
-use Rattle.rpki_cert.specs.Profile.{IsTaProfile, IsCaProfile, IsEeProfile, IsDetachedProfile, IsRouterProfile}
-use Rattle.rpki_cert.specs.Rule.{IsFirstBroken, ta_rules, ca_rules, ee_rules, detached_rules, router_rules}
+use Rattle.rpki_cert.specs.declared.read.cert_part.CertPart.{CertPart}
+use Rattle.rpki_cert.specs.declared.profile.rule.CertRule.{CertRule}
+use Rattle.rpki_cert.specs.declared.profile.rule.CertRule.TheVariants.{SerialNumber, CriticalExtensions, Issuer}
+use Rattle.rpki_cert.specs.declared.profile.rule.CertRule.TheVariants.{Validity}
+use Rattle.rpki_cert.specs.declared.profile.rule.CertRule.TheVariants.{Subject, RouterSubject, RsaKey, RouterKey}
+use Rattle.rpki_cert.specs.declared.profile.rule.CertRule.TheVariants.{BasicConstraints, NoBasicConstraints}
+use Rattle.rpki_cert.specs.declared.profile.rule.CertRule.TheVariants.{SubjectKeyIdentifier, AuthorityKeyIdentifier}
+use Rattle.rpki_cert.specs.declared.profile.rule.CertRule.TheVariants.{OwnAuthority, SelfIssued, AuthorityUsage}
+use Rattle.rpki_cert.specs.declared.profile.rule.CertRule.TheVariants.{EndUsage}
+use Rattle.rpki_cert.specs.declared.profile.rule.CertRule.TheVariants.{NoExtendedKeyUsage, RouterPurpose}
+use Rattle.rpki_cert.specs.declared.profile.rule.CertRule.TheVariants.{RevocationList}
+use Rattle.rpki_cert.specs.declared.profile.rule.CertRule.TheVariants.{NoRevocationList, IssuerCertificate}
+use Rattle.rpki_cert.specs.declared.profile.rule.CertRule.TheVariants.{NoIssuerCertificate}
+use Rattle.rpki_cert.specs.declared.profile.rule.CertRule.TheVariants.{Repository, Manifest, ManifestPlace}
+use Rattle.rpki_cert.specs.declared.profile.rule.CertRule.TheVariants.{Notifications}
+use Rattle.rpki_cert.specs.declared.profile.rule.CertRule.TheVariants.{SignedObject, NoSubjectAccess}
+use Rattle.rpki_cert.specs.declared.profile.rule.CertRule.TheVariants.{CertificatePolicies}
+use Rattle.rpki_cert.specs.declared.profile.rule.CertRule.TheVariants.{Resources, ResourceVersion, RouterNumbers}
+use Rattle.rpki_cert.specs.declared.profile.rule.CertRule.TheVariants.{ObjectAccess}
+use Rattle.rpki_cert.specs.declared.profile.rule.CertRule.TheVariants.{ResourceBlocks, OwnResources}
+use Rattle.rpki_cert.specs.declared.profile.Profile.{Profile}
+use Rattle.rpki_cert.specs.declared.profile.Profile.TheVariants.{Ta, Ca, Ee, Router, DetachedEe}
+use Rattle.rpki_cert.specs.Cert.{CertParts, SpellsCert}
+use Rattle.rpki_cert.specs.Profile.{rules_of, HasProfile}
+use Rattle.rpki_cert.specs.Rule.{IsFirstBroken}
 use Rattle.rpki_cert.specs.View.{IsCertWrong}
 use Rattle.rpki_c.specs.Certificate.{part_number}
 use Rattle.rpki_c.specs.Status.{no_profile}
@@ -61,36 +68,21 @@ cert_rule_number ManifestPlace = 118
 cert_rule_number Notifications = 119
 
 -- how a profile is passed
-abbrev pub profile_number : CertificateProfile → ℕ
+abbrev pub profile_number : Profile → ℕ
 profile_number Ta = 0
 profile_number Ca = 1
 profile_number Ee = 2
 profile_number Router = 3
-profile_number Detached = 4
-
-abbrev pub HasProfile : CertificateProfile → Bool → TbsParts → Type 0
-HasProfile Ta strict t = IsTaProfile strict t
-HasProfile Ca strict t = IsCaProfile strict t
-HasProfile Ee strict t = IsEeProfile strict t
-HasProfile Router strict t = IsRouterProfile strict t
-HasProfile Detached strict t = IsDetachedProfile strict t
-
--- its rules, in the order in which they are tested
-abbrev pub rules_of : CertificateProfile → List CertRule
-rules_of Ta = ta_rules
-rules_of Ca = ca_rules
-rules_of Ee = ee_rules
-rules_of Router = router_rules
-rules_of Detached = detached_rules
+profile_number DetachedEe = 4
 
 -- the octets are a certificate of the profile
-pub record IsOfProfile (s : List ℕ) (profile : CertificateProfile) (strict : Bool) : Type 0 where
+pub record IsOfProfile (s : List ℕ) (profile : Profile) (strict : Bool) : Type 0 where
   pub cert : CertParts
   pub spelled : SpellsCert cert s
   pub has : HasProfile profile strict cert.tbs
 
 -- they are a certificate, which of the rules of the profile breaks this one first, and so hasn't the profile
-pub record BreaksRule (s : List ℕ) (profile : CertificateProfile) (strict : Bool) (rule : CertRule) : Type 0 where
+pub record BreaksRule (s : List ℕ) (profile : Profile) (strict : Bool) (rule : CertRule) : Type 0 where
   pub cert : CertParts
   pub spelled : SpellsCert cert s
   pub first : IsFirstBroken strict cert.tbs (rules_of profile) rule
@@ -98,7 +90,7 @@ pub record BreaksRule (s : List ℕ) (profile : CertificateProfile) (strict : Bo
 
 -- Status 0: the octets are a certificate of the profile. 85 to 119: they are a certificate, which breaks the rule of
 -- this number first. Else the number of the part that is wrong.
-abbrev pub IsInspectedAs : List ℕ → CertificateProfile → Bool → ℕ → Type 0
+abbrev pub IsInspectedAs : List ℕ → Profile → Bool → ℕ → Type 0
 IsInspectedAs s profile strict status =
     ((status ≡ 0) × IsOfProfile s profile strict)
     ⊎ ((rule : CertRule) × (status ≡ cert_rule_number rule) × BreaksRule s profile strict rule)
@@ -107,5 +99,5 @@ IsInspectedAs s profile strict status =
 -- the same of the profile of this number; status 12: no profile has it
 abbrev pub IsCertificateInspected : List ℕ → ℕ → Bool → ℕ → Type 0
 IsCertificateInspected s number strict status =
-    ((profile : CertificateProfile) × (number ≡ profile_number profile) × IsInspectedAs s profile strict status)
+    ((profile : Profile) × (number ≡ profile_number profile) × IsInspectedAs s profile strict status)
     ⊎ ((4 < number) × (status ≡ no_profile))

@@ -1,9 +1,9 @@
 -- What a status says of two certificates, of which the second may have issued the first.
 use Rattle.std.specs.Prelude.{◌≡◌, ◌≢◌, ◌⊎◌, ℕ, false, List, Some}
 use Rattle.sha1.specs.Sha1.{sha1}
-use Rattle.rpki_cert.specs.declared.cert_part.CertPart.{CertPart}
-use Rattle.rpki_cert.specs.declared.known_part.KnownPart.{KnownPart}
-use Rattle.rpki_cert.specs.declared.known_view.KnownView.{KnownView}
+use Rattle.rpki_cert.specs.declared.read.cert_part.CertPart.{CertPart}
+use Rattle.rpki_cert.specs.declared.extension.known_part.KnownPart.{KnownPart}
+use Rattle.rpki_cert.specs.declared.extension.known_view.KnownView.{KnownView}
 use Rattle.rpki_cert.specs.Cert.{CertParts, SpellsCert}
 use Rattle.rpki_cert.specs.KnownView.{AreKnown, IsFirstWrong}
 use Rattle.rpki_cert.specs.View.{IsCertWrong}

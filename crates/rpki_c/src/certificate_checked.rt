@@ -1,17 +1,28 @@
 //! Certificates, of which all is asked at once.
 
-ghost use Rattle.rpki_c.specs.CertificateChecked.{IsCheckedAs, IsCertificateChecked};
+ghost use Rattle.std.specs.Prelude.{◌≡◌};
+ghost use Rattle.rpki_c.specs.CertificateChecked.{check_number, IsCheckedAs, IsCertificateChecked};
 
 use crate::certificate::{CertificateParts, part_number, parts_of};
 use crate::certificate_extensions::{KnownExtensions, extensions_of, known_number};
-use crate::certificate_inspection::{CertificateProfile, cert_rule_number, profile_of, test};
+use crate::certificate_inspection::{cert_rule_number, profile_of};
 use crate::status::NO_PROFILE;
-use rpki_cert::CertView;
+use rpki_cert::{CertView, CheckError, Profile};
+
+/// How the error of a check is passed.
+fn check_number(error: CheckError) -> u8
+    ensures { result ≡ check_number error }
+{
+    match error {
+        CheckError::Extension(part) => known_number(part),
+        CheckError::Rule(rule) => cert_rule_number(rule),
+    }
+}
 
 /// Reads a resource certificate, and tests it by the profile; returns the status.
 fn check(
     octets: &[u8],
-    profile: CertificateProfile,
+    profile: Profile,
     strict: bool,
     parts: &mut CertificateParts,
     extensions: &mut KnownExtensions,
@@ -22,17 +33,13 @@ fn check(
         Ok(found) => found,
         Err(part) => return part_number(part),
     };
-    let known = match found.tbs.named.keyed.known() {
-        Ok(known) => known,
-        Err(part) => return known_number(part),
-    };
-    match test(&found, profile, strict) {
-        Ok(()) => {
+    match found.check(profile, strict) {
+        Ok(known) => {
             *parts = parts_of(octets, &found);
             *extensions = extensions_of(octets, &found, known);
             0
         }
-        Err(rule) => cert_rule_number(rule),
+        Err(error) => check_number(error),
     }
 }
 

@@ -1,30 +1,12 @@
 //! Certificates, held to a profile.
 
-ghost use Rattle.std.specs.Prelude.{◌≡◌, ◌<◌, List, ℕ, IfSome, IfNone};
-ghost use Rattle.rpki_cert.specs.Cert.{CertParts};
-ghost use Rattle.rpki_cert.specs.View.{IsCertAt};
-ghost use Rattle.rpki_cert.specs.Rule.{TestsRules};
-ghost use Rattle.rpki_c.specs.CertificateInspection.{cert_rule_number, profile_number, HasProfile, rules_of};
+ghost use Rattle.std.specs.Prelude.{◌≡◌, ◌<◌, IfSome, IfNone};
+ghost use Rattle.rpki_c.specs.CertificateInspection.{cert_rule_number, profile_number};
 ghost use Rattle.rpki_c.specs.CertificateInspection.{IsInspectedAs, IsCertificateInspected};
 
 use crate::certificate::part_number;
 use crate::status::NO_PROFILE;
-use rpki_cert::{CertRule, CertView};
-
-/// A profile of certificates (RFC 6487 4, RFC 8209 3.1, RFC 9323 2).
-#[derive(Clone, Copy)]
-pub(crate) enum CertificateProfile {
-    /// That of trust anchors.
-    Ta,
-    /// That of certification authorities.
-    Ca,
-    /// That of end entities that sign an object.
-    Ee,
-    /// That of BGPsec routers.
-    Router,
-    /// That of end entities without subject information access.
-    Detached,
-}
+use rpki_cert::{CertRule, CertView, Profile};
 
 /// How a rule is passed.
 pub(crate) fn cert_rule_number(rule: CertRule) -> u8
@@ -70,45 +52,26 @@ pub(crate) fn cert_rule_number(rule: CertRule) -> u8
 }
 
 /// The profile of this number.
-pub(crate) fn profile_of(number: u8) -> Option<CertificateProfile>
+pub(crate) fn profile_of(number: u8) -> Option<Profile>
     ensures some { IfSome result (λ p. number ≡ profile_number p) }
     ensures none { IfNone result (4 < number) }
 {
     match number {
-        0 => Some(CertificateProfile::Ta),
-        1 => Some(CertificateProfile::Ca),
-        2 => Some(CertificateProfile::Ee),
-        3 => Some(CertificateProfile::Router),
-        4 => Some(CertificateProfile::Detached),
+        0 => Some(Profile::Ta),
+        1 => Some(Profile::Ca),
+        2 => Some(Profile::Ee),
+        3 => Some(Profile::Router),
+        4 => Some(Profile::DetachedEe),
         _ => None,
     }
 }
 
-/// Tests the certificate by the profile; returns the rule that it breaks first.
-pub(crate) fn test(
-    cert: &CertView<'_>,
-    profile: CertificateProfile,
-    strict: bool,
-) -> Result<(), CertRule>
-    requires { (s : List ℕ) × (x : CertParts) × IsCertAt s cert.now x }
-    ensures { (s : List ℕ) (x : CertParts) → IsCertAt s cert.now x
-        → TestsRules (HasProfile profile strict x.tbs) strict x.tbs (rules_of profile) result }
-{
-    match profile {
-        CertificateProfile::Ta => cert.test_ta(strict),
-        CertificateProfile::Ca => cert.test_ca(strict),
-        CertificateProfile::Ee => cert.test_ee(strict),
-        CertificateProfile::Router => cert.test_router(strict),
-        CertificateProfile::Detached => cert.test_detached_ee(strict),
-    }
-}
-
 /// Reads a resource certificate, and tests it by the profile; returns the status.
-fn inspect(octets: &[u8], profile: CertificateProfile, strict: bool) -> u8
+fn inspect(octets: &[u8], profile: Profile, strict: bool) -> u8
     ensures { IsInspectedAs octets.now profile strict result }
 {
     match CertView::read(octets) {
-        Ok(found) => match test(&found, profile, strict) {
+        Ok(found) => match found.test(profile, strict) {
             Ok(()) => 0,
             Err(rule) => cert_rule_number(rule),
         },

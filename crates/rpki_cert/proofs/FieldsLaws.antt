@@ -19,13 +19,13 @@ use Rattle.rpki.specs.PublicKey.{KeyParts, SpellsKey}
 use Rattle.rpki.specs.KeyFault.{IsKeyViewFault}
 use Rattle.rpki.proofs.KeyFaultLaws.{view-outer}
 use Rattle.rpki.specs.ExtensionValue.{ExtensionParts}
-use Rattle.rpki_cert.specs.declared.section.Section.{Section}
-use Rattle.rpki_cert.specs.declared.fields.Keyed.{Keyed}
-use Rattle.rpki_cert.specs.declared.fields.Named.{Named}
-use Rattle.rpki_cert.specs.declared.fields.TbsView.{TbsView}
+use Rattle.rpki_cert.specs.declared.read.section.Section.{Section}
+use Rattle.rpki_cert.specs.declared.read.fields.Keyed.{Keyed}
+use Rattle.rpki_cert.specs.declared.read.fields.Named.{Named}
+use Rattle.rpki_cert.specs.declared.read.fields.TbsView.{TbsView}
 use Rattle.rpki_cert.specs.Cert.{TbsParts, SpellsVersion, SpellsRpkiAlgorithm, AreFields, fields_of, SpellsTbs}
 use Rattle.rpki_cert.specs.Cert.{version_tag, SpellsTwo}
-use Rattle.rpki_cert.specs.declared.cert_part.CertPart.{CertPart}
+use Rattle.rpki_cert.specs.declared.read.cert_part.CertPart.{CertPart}
 use Rattle.rpki_cert.specs.View.{IsSection, AreExtensionsAt, IsKeyedAt, IsNamedIn, IsTbsIn, AreNamed, AreFieldsWrong}
 use Rattle.rpki_cert.specs.View.{IsTbsWrong}
 use Rattle.rpki_cert.specs.View.IsTbsWrong.{InTbs}

@@ -15,17 +15,18 @@ use Rattle.rpki_der.proofs.LeavesLaws.{leaf-no-memory}
 use Rattle.rpki.specs.ExtensionValue.{ExtensionParts}
 use Rattle.rpki.specs.declared.repository.error.ValidationError.{ValidationError}
 use Rattle.rpki_text.specs.HttpsText.{https_refusal}
-use Rattle.rpki_cert.specs.declared.access_method.AccessMethod.{AccessMethod}
-use Rattle.rpki_cert.specs.declared.access_method.AccessMethod.TheVariants.{CaIssuers, CaRepository, RpkiManifest}
-use Rattle.rpki_cert.specs.declared.access_method.AccessMethod.TheVariants.{SignedObject, RpkiNotify}
-use Rattle.rpki_cert.specs.declared.access_rule.AccessRule.{AccessRule}
-use Rattle.rpki_cert.specs.declared.access_rule.AccessRule.TheVariants.{EndEntity, Notification}
+use Rattle.rpki_cert.specs.declared.extension.access_method.AccessMethod.{AccessMethod}
+use Rattle.rpki_cert.specs.declared.extension.access_method.AccessMethod.TheVariants.{CaIssuers, CaRepository}
+use Rattle.rpki_cert.specs.declared.extension.access_method.AccessMethod.TheVariants.{RpkiManifest}
+use Rattle.rpki_cert.specs.declared.extension.access_method.AccessMethod.TheVariants.{SignedObject, RpkiNotify}
+use Rattle.rpki_cert.specs.declared.extension.access_rule.AccessRule.{AccessRule}
+use Rattle.rpki_cert.specs.declared.extension.access_rule.AccessRule.TheVariants.{EndEntity, Notification}
 use Rattle.rpki_cert.specs.Access.{ca_issuers, ca_repository, rpki_manifest, signed_object, rpki_notify, named, chosen}
 use Rattle.rpki_cert.specs.Access.{allows, is_https, first_rsync, first_https, flat, SaysUri, SpellsAccess}
 use Rattle.rpki_cert.specs.Access.{SpellsHeldAccess}
 use Rattle.rpki_cert.specs.AccessInformation.{AccessParts, access_parts, joined, uri_at, SpellsUriOf, obeyed}
 use Rattle.rpki_cert.specs.Known.{Says, SaysOnly, SaysNone, IsFoundWrong}
-use Rattle.rpki_cert.specs.Profile.{SaysSome}
+use Rattle.rpki_cert.specs.RuleWords.{SaysSome}
 use Rattle.rpki_cert.proofs.AccessLaws.{or-first, or-first-https, or-none}
 use Rattle.rpki_cert.proofs.ListedLaws.{refused}
 

@@ -16,7 +16,7 @@ use Rattle.rpki_der.proofs.LeafValueLaws.{leaf-shorter}
 use Rattle.rpki.specs.ExtensionValue.{ExtensionParts, SpellsExtension, IsExtensionContents}
 use Rattle.rpki.specs.ExtensionFault.{IsCertExtensionFault}
 use Rattle.rpki.proofs.ExtensionFaultLaws.{extension-outer}
-use Rattle.rpki_cert.specs.declared.cert_part.CertPart.{CertPart}
+use Rattle.rpki_cert.specs.declared.read.cert_part.CertPart.{CertPart}
 use Rattle.rpki_cert.specs.Cert.{find, is_there, are_unique}
 use Rattle.rpki_cert.specs.ExtensionTable.{OfListed}
 use Rattle.rpki_cert.specs.View.{SpellsListed, SpellsFrame, AreExtensionsWrong, AreExtensionsAt, HasCount}

@@ -8,12 +8,12 @@ use Rattle.std.proofs.lemmas.List.{nil_from_length}
 use Rattle.rpki_der.specs.declared.error.DecodeError.{DecodeError}
 use Rattle.rpki.specs.declared.repository.error.ValidationError.{ValidationError}
 use Rattle.rpki.specs.ExtensionValue.{ExtensionParts}
-use Rattle.rpki_cert.specs.declared.rule.CertRule.{CertRule}
+use Rattle.rpki_cert.specs.declared.profile.rule.CertRule.{CertRule}
 use Rattle.rpki_cert.specs.Known.{Says, SaysOnly, IsFoundWrong, IsOtherwise}
 use Rattle.rpki_cert.specs.RuleError.{SaysRule, SaysFound}
 use Rattle.rpki_text.specs.RsyncText.{rsync_refusal, uri_of, relative}
 use Rattle.rpki_cert.specs.Access.{flat, SaysUri}
-use Rattle.rpki_cert.specs.Profile.{SaysSomeUri, IsBelow}
+use Rattle.rpki_cert.specs.RuleWords.{SaysSomeUri, IsBelow}
 
 module _ (G : Option (List ℕ) → List ℕ → Type 0) (found : Option ExtensionParts) where
   one-uri : (u w : Option (List ℕ)) → SaysUri G found u → SaysUri G found w → u ≡ w

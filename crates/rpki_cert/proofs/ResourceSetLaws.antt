@@ -22,10 +22,10 @@ use Rattle.std.specs.Prelude.{◌↔◌, Result, Ok, Err, IfErr}
 use Rattle.std.proofs.lemmas.Bool.{false≢true}
 use Rattle.rpki_resources.specs.Extension.{SpellsIpResources, SpellsAsResources}
 use Rattle.rpki_resources.proofs.SettledLaws.{down-within}
-use Rattle.rpki_cert.specs.declared.policy.Overclaim.{Overclaim}
-use Rattle.rpki_cert.specs.declared.policy.Overclaim.TheVariants.{Refuse, Trim}
-use Rattle.rpki_cert.specs.declared.claim.Claim.{Claim}
-use Rattle.rpki_cert.specs.declared.resource_set.ResourceSet.{ResourceSet}
+use Rattle.rpki_cert.specs.declared.extension.policy.Overclaim.{Overclaim}
+use Rattle.rpki_cert.specs.declared.extension.policy.Overclaim.TheVariants.{Refuse, Trim}
+use Rattle.rpki_cert.specs.declared.resource.claim.Claim.{Claim}
+use Rattle.rpki_cert.specs.declared.resource.set.ResourceSet.{ResourceSet}
 use Rattle.rpki_cert.specs.Cert.{find}
 use Rattle.rpki_cert.specs.ExtensionContent.{SpellsPolicies}
 use Rattle.rpki_cert.specs.Known.{certificate_policies, UnlessNoMemory, SaysOnly}

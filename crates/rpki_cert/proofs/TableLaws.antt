@@ -13,9 +13,9 @@ use Rattle.rpki_der.specs.Reading.{Accepts, Refuses}
 use Rattle.rpki_der.specs.Each.{SpellsSome}
 use Rattle.rpki_der.proofs.LeafValueLaws.{leaf-shorter}
 use Rattle.rpki.specs.ExtensionValue.{ExtensionParts, extension_parts, SpellsExtension, IsExtensionContents}
-use Rattle.rpki_cert.specs.declared.extension_kind.ExtensionKind.{ExtensionKind}
-use Rattle.rpki_cert.specs.declared.listed_extension.ListedExtension.{ListedExtension}
-use Rattle.rpki_cert.specs.declared.extension_table.Passed.{Passed}
+use Rattle.rpki_cert.specs.declared.extension.kind.ExtensionKind.{ExtensionKind}
+use Rattle.rpki_cert.specs.declared.extension.listed_extension.ListedExtension.{ListedExtension}
+use Rattle.rpki_cert.specs.declared.extension.table.Passed.{Passed}
 use Rattle.rpki_cert.specs.Cert.{find, are_unique}
 use Rattle.rpki_cert.specs.Known.{is_known, are_understood}
 use Rattle.rpki_cert.specs.ExtensionTable.{identifier_of, slot_of, ending, IsSlot, behind_first, IsListed, FindsListed}

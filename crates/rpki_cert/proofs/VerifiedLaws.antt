@@ -4,13 +4,12 @@ use Rattle.std.specs.Prelude.{IfOk}
 use Rattle.jiff.specs.Types.{DateTime}
 use Rattle.rpki_time.specs.Validity.{HoldsAt}
 use Rattle.rpki.specs.declared.repository.error.ValidationError.{ValidationError}
-use Rattle.rpki_cert.specs.declared.resource_set.ResourceSet.{ResourceSet}
-use Rattle.rpki_cert.specs.declared.rule.CertRule.{CertRule}
-use Rattle.std.proofs.Common.{List}
-use Rattle.rpki_cert.specs.Cert.{TbsParts, CertParts}
+use Rattle.rpki_cert.specs.declared.resource.set.ResourceSet.{ResourceSet}
+use Rattle.rpki_cert.specs.declared.profile.Profile.{Profile}
+use Rattle.rpki_cert.specs.declared.profile.Profile.TheVariants.{Ta, Ca}
+use Rattle.rpki_cert.specs.Cert.{CertParts}
 use Rattle.rpki_cert.specs.Known.{UnlessNoMemory}
-use Rattle.rpki_cert.specs.Profile.{IsTaProfile, IsCaProfile}
-use Rattle.rpki_cert.specs.Rule.{ta_rules}
+use Rattle.rpki_cert.specs.Profile.{rules_of, HasProfile}
 use Rattle.rpki_cert.specs.RuleError.{IsFirstError}
 use Rattle.rpki_cert.specs.Valid.{IsIssued, IsUnissued, IsPeriodError, IsAnchor, IsNoAnchor}
 use Rattle.rpki_cert.specs.ResourceSet.{HasNoResources, SettlesUnder, SettlesOwn, AreWithin}
@@ -48,29 +47,29 @@ module _ (v : Verified) (at : DateTime) (x : CertParts) where
 
 -- ---- a certificate of a profile on a path
 
-module _ (HasProfile : TbsParts → Type 0) (strict : Bool) (rules : List CertRule) (v : Verified) (at : DateTime)
-    (x : CertParts) where
-  pub profile-then : (r : Result ResourceSet ValidationError) → HasProfile x.tbs → ChecksPath v at x r
-      → ChecksLink HasProfile strict rules v at x r
-  profile-then (Ok r) p h = record { profile = p; path = h }
+module _ (profile : Profile) (strict : Bool) (v : Verified) (at : DateTime) (x : CertParts) where
+  pub profile-then : (r : Result ResourceSet ValidationError) → HasProfile profile strict x.tbs → ChecksPath v at x r
+      → ChecksLink profile strict v at x r
+  profile-then (Ok r) p h = record { profiled = p; path = h }
   profile-then (Err e) p h = (unless-weaker e (λ none r k. none r k.path) h.0, inr (p, h.1))
 
-  pub profile-else : (e : ValidationError) → (HasProfile x.tbs → ⊥) × IsFirstError strict x.tbs rules e
-      → IsRefusedLink HasProfile strict rules v at x e
-  profile-else e h = (unless-from e (λ r k. h.0 k.profile), inl h)
+  pub profile-else : (e : ValidationError)
+      → (HasProfile profile strict x.tbs → ⊥) × IsFirstError strict x.tbs (rules_of profile) e
+      → IsRefusedLink profile strict v at x e
+  profile-else e h = (unless-from e (λ r k. h.0 k.profiled), inl h)
 
-  pub has-path : (r : ResourceSet) → IsVerified v → IsVerifiedBy HasProfile v at x r
-      → HasPath HasProfile v.by at (holder x r)
+  has-path : (r : ResourceSet) → IsVerified v → IsVerifiedBy profile strict v at x r
+      → HasPath profile strict v.by at (holder x r)
   has-path r all h = record {
     issuer = holder v.cert v.resources;
     authority = all at h.path.period;
     link =
-        record { profile = h.profile; issued = h.path.issued; resources = h.path.resources };
+        record { profiled = h.profiled; issued = h.path.issued; resources = h.path.resources };
   }
 
-  pub path-then : (r : Result ResourceSet ValidationError) → IsVerified v → HasProfile x.tbs → ChecksPath v at x r
-      → IfOk r (λ y. HasPath HasProfile v.by at (holder x y))
-  path-then (Ok r) all p h = has-path r all (record { profile = p; path = h })
+  pub path-then : (r : Result ResourceSet ValidationError) → IsVerified v → HasProfile profile strict x.tbs
+      → ChecksPath v at x r → IfOk r (λ y. HasPath profile strict v.by at (holder x y))
+  path-then (Ok r) all p h = has-path r all (record { profiled = p; path = h })
   path-then (Err e) all p h = tt
 
   pub within-then : (r : Result ResourceSet ValidationError) → ChecksPath v at x r
@@ -81,16 +80,16 @@ module _ (HasProfile : TbsParts → Type 0) (strict : Bool) (rules : List CertRu
 -- ---- a trust anchor
 
 module _ (strict : Bool) (by : Checkers) (at : DateTime) (x : CertParts) where
-  pub root-settles : (r : Result ResourceSet ValidationError) → IsTaProfile strict x.tbs
+  pub root-settles : (r : Result ResourceSet ValidationError) → HasProfile Ta strict x.tbs
       → IsAnchor by.rsa by.ecdsa by.sha1 at x → SettlesOwn x.tbs.extensions r → ChecksRoot strict by at x r
-  root-settles (Ok r) p h k = record { profile = p; anchor = h; resources = k }
+  root-settles (Ok r) p h k = record { profiled = p; anchor = h; resources = k }
   root-settles (Err e) p h k = (out-unless e _ k, inr (p, inr (h, k)))
 
-  pub root-else : (e : ValidationError) → (IsTaProfile strict x.tbs → ⊥) × IsFirstError strict x.tbs ta_rules e
+  pub root-else : (e : ValidationError) → (HasProfile Ta strict x.tbs → ⊥) × IsFirstError strict x.tbs (rules_of Ta) e
       → IsRefusedRoot strict by at x e
-  root-else e h = (unless-from e (λ r k. h.0 k.profile), inl h)
+  root-else e h = (unless-from e (λ r k. h.0 k.profiled), inl h)
 
-  pub root-off : (e : ValidationError) → IsTaProfile strict x.tbs
+  pub root-off : (e : ValidationError) → HasProfile Ta strict x.tbs
       → (IsAnchor by.rsa by.ecdsa by.sha1 at x → ⊥) × IsNoAnchor by.rsa by.ecdsa by.sha1 at x e
       → IsRefusedRoot strict by at x e
   root-off e p h = (unless-from e (λ r k. h.0 k.anchor), inr (p, inl h))
@@ -102,7 +101,7 @@ pub root-at : (strict : Bool) (by : Checkers) (at m : DateTime) (x : Holder) →
 root-at strict by at m x h holds =
     let s = h.anchor.signed in
     Root strict x (record {
-      profile = h.profile;
+      profiled = h.profiled;
       anchor = record {
         signed = record {
           signature = s.signature;
@@ -118,12 +117,12 @@ root-at strict by at m x h holds =
     })
 
 pub issued-at : (strict : Bool) (v : Verified) (at m : DateTime) (x : CertParts) (r : ResourceSet) → IsVerified v
-    → IsVerifiedBy (IsCaProfile strict) v at x r → HoldsAt v.period m × HoldsAt x.tbs.validity m
+    → IsVerifiedBy Ca strict v at x r → HoldsAt v.period m × HoldsAt x.tbs.validity m
     → IsAuthorityAt v.by m (holder x r)
 issued-at strict v at m x r all h holds =
     let s = h.path.issued.signed in
     Issued strict (holder v.cert v.resources) (holder x r) (all m holds.0) (record {
-      profile = h.profile;
+      profiled = h.profiled;
       issued = record {
         signed = record {
           signature = s.signature;

@@ -11,10 +11,10 @@ use Rattle.rpki_der.proofs.InsideLaws.{unless-memory}
 use Rattle.rpki_der.proofs.LeavesLaws.{leaf-no-memory}
 use Rattle.rpki_der.proofs.ComposedLaws.{all-read, nothing-after, nothing-whole, spelled-whole}
 use Rattle.rpki.specs.SignedData.{SignedParts, parts_of, IsSignedContents}
-use Rattle.rpki_cert.specs.declared.cert_part.CertPart.{CertPart}
-use Rattle.rpki_cert.specs.declared.fields.TbsView.{TbsView}
-use Rattle.rpki_cert.specs.declared.view.Parts.{Parts}
-use Rattle.rpki_cert.specs.declared.view.CertView.{CertView}
+use Rattle.rpki_cert.specs.declared.read.cert_part.CertPart.{CertPart}
+use Rattle.rpki_cert.specs.declared.read.fields.TbsView.{TbsView}
+use Rattle.rpki_cert.specs.declared.read.view.Parts.{Parts}
+use Rattle.rpki_cert.specs.declared.read.view.CertView.{CertView}
 use Rattle.rpki_cert.specs.Cert.{TbsParts, CertParts, cert_parts, SpellsRpkiAlgorithm, SpellsTbs}
 use Rattle.rpki_cert.specs.View.{SpellsUsed, ArePartsIn, IsTbsIn, IsCertAt, IsTbsWrong, IsCertWrong}
 use Rattle.rpki_cert.specs.View.IsCertWrong.{InSigned, Differ}

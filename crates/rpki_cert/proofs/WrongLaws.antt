@@ -18,7 +18,7 @@ use Rattle.rpki.specs.Algorithm.{IsParameters, IsIdentified}
 use Rattle.rpki.specs.SignedData.{SignedParts, IsSignedContents}
 use Rattle.rpki.specs.ExtensionValue.{ExtensionParts, SpellsExtension, IsExtensionContents}
 use Rattle.rpki.proofs.ExtensionLaws.{one-contents}
-use Rattle.rpki_cert.specs.declared.cert_part.CertPart.{CertPart}
+use Rattle.rpki_cert.specs.declared.read.cert_part.CertPart.{CertPart}
 use Rattle.rpki_cert.specs.Cert.{TbsParts, CertParts, version_tag, extensions_tag, are_unique, SpellsTwo}
 use Rattle.rpki_cert.specs.Cert.{SpellsExtensions, SpellsRpkiAlgorithm, AreFields, fields_of, SpellsTbs, SpellsCert}
 use Rattle.rpki_cert.specs.View.{most_extensions, SpellsUsed, FirstWrong, SpellsListed, AreExtensionsWrong}

@@ -16,8 +16,8 @@ use Rattle.rpki_text.specs.RsyncText.{rsync_refusal}
 use Rattle.rpki_text.specs.HttpsText.{https_refusal}
 use Rattle.rpki.specs.ExtensionValue.{ExtensionParts}
 use Rattle.rpki.specs.declared.repository.error.ValidationError.{ValidationError}
-use Rattle.rpki_cert.specs.declared.access_rule.AccessRule.{AccessRule}
-use Rattle.rpki_cert.specs.declared.access_rule.AccessRule.TheVariants.{EndEntity, Notification}
+use Rattle.rpki_cert.specs.declared.extension.access_rule.AccessRule.{AccessRule}
+use Rattle.rpki_cert.specs.declared.extension.access_rule.AccessRule.TheVariants.{EndEntity, Notification}
 use Rattle.rpki_cert.specs.Cert.{find}
 use Rattle.rpki_cert.specs.GeneralName.{SpellsText, SpellsName}
 use Rattle.rpki_cert.specs.Known.{SaysOnly, IsFoundWrong, HasNone, UnlessNoMemory}

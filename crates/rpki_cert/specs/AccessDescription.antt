@@ -5,7 +5,7 @@ use Rattle.rpki_der.specs.Prelude.{sequence, Format, any_oid, around, only, then
 use Rattle.rpki_der.specs.Prelude.{SpellsContents, IsContentsFault}
 use Rattle.rpki_cert.specs.Access.{context_0}
 use Rattle.rpki_cert.specs.GeneralName.{SpellsName, IsNameFault}
-use Rattle.rpki_cert.specs.declared.access_description.AccessDescription.{AccessDescription}
+use Rattle.rpki_cert.specs.declared.extension.access_description.AccessDescription.{AccessDescription}
 
 -- ---- a general name (RFC 5280 4.2.1.6): the text of a URI, or None for a name of another form
 

@@ -5,12 +5,13 @@ use Rattle.std.specs.List.{list_all}
 use Rattle.rpki_der.specs.Reading.{AnyFault}
 use Rattle.rpki.specs.ExtensionValue.{ExtensionParts}
 use Rattle.rpki.specs.declared.repository.error.ValidationError.{ValidationError}
-use Rattle.rpki_cert.specs.declared.access_information.AccessInformation.{AccessInformation}
-use Rattle.rpki_cert.specs.declared.access_method.AccessMethod.{AccessMethod}
-use Rattle.rpki_cert.specs.declared.access_method.AccessMethod.TheVariants.{CaIssuers, CaRepository, RpkiManifest}
-use Rattle.rpki_cert.specs.declared.access_method.AccessMethod.TheVariants.{SignedObject, RpkiNotify}
-use Rattle.rpki_cert.specs.declared.access_rule.AccessRule.{AccessRule}
-use Rattle.rpki_cert.specs.declared.access_rule.AccessRule.TheVariants.{EndEntity, Notification}
+use Rattle.rpki_cert.specs.declared.extension.access_information.AccessInformation.{AccessInformation}
+use Rattle.rpki_cert.specs.declared.extension.access_method.AccessMethod.{AccessMethod}
+use Rattle.rpki_cert.specs.declared.extension.access_method.AccessMethod.TheVariants.{CaIssuers, CaRepository}
+use Rattle.rpki_cert.specs.declared.extension.access_method.AccessMethod.TheVariants.{RpkiManifest}
+use Rattle.rpki_cert.specs.declared.extension.access_method.AccessMethod.TheVariants.{SignedObject, RpkiNotify}
+use Rattle.rpki_cert.specs.declared.extension.access_rule.AccessRule.{AccessRule}
+use Rattle.rpki_cert.specs.declared.extension.access_rule.AccessRule.TheVariants.{EndEntity, Notification}
 use Rattle.rpki_cert.specs.Access.{named, allows, first_rsync, first_https, SpellsAccess, SpellsRsyncAccess}
 use Rattle.rpki_cert.specs.Access.{SpellsHttpsAccess, ca_issuers, ca_repository, rpki_manifest, signed_object}
 use Rattle.rpki_cert.specs.Access.{rpki_notify}

@@ -9,10 +9,10 @@ use Rattle.rpki_der.specs.Prelude.{IsOnly, boolean_contents, this_oid, IsWholeFa
 use Rattle.rpki_der.specs.Prelude.{Format, leaf, around, only, then, said_by}
 use Rattle.rpki.specs.KeyIdentifier.{SpellsKeyIdentifier, IsKeyIdentifier, IsIdentifierFault}
 use Rattle.rpki_cert.specs.Access.{SpellsOidAs}
-use Rattle.rpki_cert.specs.declared.key_usage.KeyUsage.{KeyUsage}
-use Rattle.rpki_cert.specs.declared.key_usage.KeyUsage.TheVariants.{Ca, Ee}
-use Rattle.rpki_cert.specs.declared.policy.Overclaim.{Overclaim}
-use Rattle.rpki_cert.specs.declared.policy.Overclaim.TheVariants.{Refuse, Trim}
+use Rattle.rpki_cert.specs.declared.extension.key_usage.KeyUsage.{KeyUsage}
+use Rattle.rpki_cert.specs.declared.extension.key_usage.KeyUsage.TheVariants.{Ca, Ee}
+use Rattle.rpki_cert.specs.declared.extension.policy.Overclaim.{Overclaim}
+use Rattle.rpki_cert.specs.declared.extension.policy.Overclaim.TheVariants.{Refuse, Trim}
 
 -- ---- basic constraints: cA is TRUE, and there is no pathLenConstraint (RFC 5280 4.2.1.9, RFC 6487 4.8.1)
 

@@ -3,8 +3,8 @@ use Rattle.std.specs.Prelude.{◌≡◌, ◌≢◌, ◌⊎◌, ◌-◌, ℕ, Boo
 use Rattle.std.specs.Prelude.{slice_index, get_or, length, bytes_eq}
 use Rattle.rpki_der.specs.Each.{SpellsEach}
 use Rattle.rpki.specs.ExtensionValue.{ExtensionParts, SpellsExtension}
-use Rattle.rpki_cert.specs.declared.extension_kind.ExtensionKind.{ExtensionKind}
-use Rattle.rpki_cert.specs.declared.listed_extension.ListedExtension.{ListedExtension}
+use Rattle.rpki_cert.specs.declared.extension.kind.ExtensionKind.{ExtensionKind}
+use Rattle.rpki_cert.specs.declared.extension.listed_extension.ListedExtension.{ListedExtension}
 use Rattle.rpki_cert.specs.Cert.{find}
 use Rattle.rpki_cert.specs.Known.{subject_key_identifier, key_usage, basic_constraints, crl_distribution_points}
 use Rattle.rpki_cert.specs.Known.{certificate_policies, authority_key_identifier, extended_key_usage}

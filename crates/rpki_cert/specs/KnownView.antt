@@ -2,11 +2,11 @@
 use Rattle.std.specs.Prelude.{true, false, List}
 use Rattle.rpki.specs.KeyIdentifier.{SpellsKeyIdentifier}
 use Rattle.rpki.specs.ExtensionValue.{ExtensionParts}
-use Rattle.rpki_cert.specs.declared.known_part.KnownPart.{KnownPart}
-use Rattle.rpki_cert.specs.declared.known_part.KnownPart.TheVariants.{BasicConstraints, SubjectKeyIdentifier}
-use Rattle.rpki_cert.specs.declared.known_part.KnownPart.TheVariants.{AuthorityKeyIdentifier, KeyUsage}
-use Rattle.rpki_cert.specs.declared.known_part.KnownPart.TheVariants.{CertificatePolicies}
-use Rattle.rpki_cert.specs.declared.known_view.KnownView.{KnownView}
+use Rattle.rpki_cert.specs.declared.extension.known_part.KnownPart.{KnownPart}
+use Rattle.rpki_cert.specs.declared.extension.known_part.KnownPart.TheVariants.{BasicConstraints, SubjectKeyIdentifier}
+use Rattle.rpki_cert.specs.declared.extension.known_part.KnownPart.TheVariants.{AuthorityKeyIdentifier, KeyUsage}
+use Rattle.rpki_cert.specs.declared.extension.known_part.KnownPart.TheVariants.{CertificatePolicies}
+use Rattle.rpki_cert.specs.declared.extension.known_view.KnownView.{KnownView}
 use Rattle.rpki_cert.specs.Known.{subject_key_identifier, key_usage, basic_constraints, certificate_policies}
 use Rattle.rpki_cert.specs.Known.{authority_key_identifier, present, HasOnly, HasNone}
 use Rattle.rpki_cert.specs.ExtensionContent.{SpellsConstraints, SpellsAuthority, SpellsUsage, SpellsPolicies}

@@ -15,9 +15,10 @@ pub mod KnownView
 pub mod Inspected
 pub mod Keys
 pub mod ResourceExtensions
-pub mod Profile
+pub mod RuleWords
 pub mod Rule
 pub mod RuleError
+pub mod Profile
 pub mod Valid
 pub mod ResourceSet
 pub mod Verified

@@ -16,10 +16,10 @@ use Rattle.rpki_resources.specs.Blocks.{IsSubset}
 use Rattle.rpki_resources.specs.Extension.{SpellsIpResources, SpellsAsResources}
 use Rattle.rpki_resources.specs.Kept.{AreIpResourcesOf, AreAsResourcesOf}
 use Rattle.rpki_resources.specs.Settled.{IsSettled, IsTrimmed, IsAnchored}
-use Rattle.rpki_cert.specs.declared.policy.Overclaim.{Overclaim}
-use Rattle.rpki_cert.specs.declared.policy.Overclaim.TheVariants.{Refuse, Trim}
-use Rattle.rpki_cert.specs.declared.claim.Claim.{Claim}
-use Rattle.rpki_cert.specs.declared.resource_set.ResourceSet.{ResourceSet}
+use Rattle.rpki_cert.specs.declared.extension.policy.Overclaim.{Overclaim}
+use Rattle.rpki_cert.specs.declared.extension.policy.Overclaim.TheVariants.{Refuse, Trim}
+use Rattle.rpki_cert.specs.declared.resource.claim.Claim.{Claim}
+use Rattle.rpki_cert.specs.declared.resource.set.ResourceSet.{ResourceSet}
 use Rattle.rpki_cert.specs.Known.{certificate_policies, Says, HasExtension, is_memory}
 use Rattle.rpki_cert.specs.ExtensionContent.{SpellsPolicies}
 use Rattle.rpki_cert.specs.ResourceExtensions.{addresses_of, numbers_of}

@@ -3,20 +3,25 @@ use Rattle.std.specs.Prelude.{◌≡◌, ◌<◌, ◌&&◌, not, ℕ, Bool, true
 use Rattle.std.specs.Prelude.{Result, MatchResult}
 use Rattle.rpki.specs.KeyIdentifier.{SpellsKeyIdentifier}
 use Rattle.rpki.specs.StrictName.{IsRpkiName, IsRouterName}
-use Rattle.rpki_cert.specs.declared.access_rule.AccessRule.TheVariants.{EndEntity, Notification}
-use Rattle.rpki_cert.specs.declared.key_usage.KeyUsage.TheVariants.{Ca, Ee}
-use Rattle.rpki_cert.specs.declared.rule.CertRule.{CertRule}
-use Rattle.rpki_cert.specs.declared.rule.CertRule.TheVariants.{SerialNumber, CriticalExtensions, Issuer, Validity}
-use Rattle.rpki_cert.specs.declared.rule.CertRule.TheVariants.{Subject, RouterSubject, RsaKey, RouterKey}
-use Rattle.rpki_cert.specs.declared.rule.CertRule.TheVariants.{BasicConstraints, NoBasicConstraints}
-use Rattle.rpki_cert.specs.declared.rule.CertRule.TheVariants.{SubjectKeyIdentifier, AuthorityKeyIdentifier}
-use Rattle.rpki_cert.specs.declared.rule.CertRule.TheVariants.{OwnAuthority, SelfIssued, AuthorityUsage, EndUsage}
-use Rattle.rpki_cert.specs.declared.rule.CertRule.TheVariants.{NoExtendedKeyUsage, RouterPurpose, RevocationList}
-use Rattle.rpki_cert.specs.declared.rule.CertRule.TheVariants.{NoRevocationList, IssuerCertificate, NoIssuerCertificate}
-use Rattle.rpki_cert.specs.declared.rule.CertRule.TheVariants.{Repository, Manifest, ManifestPlace, SignedObject}
-use Rattle.rpki_cert.specs.declared.rule.CertRule.TheVariants.{ObjectAccess, Notifications, NoSubjectAccess}
-use Rattle.rpki_cert.specs.declared.rule.CertRule.TheVariants.{CertificatePolicies, Resources, ResourceVersion}
-use Rattle.rpki_cert.specs.declared.rule.CertRule.TheVariants.{RouterNumbers, ResourceBlocks, OwnResources}
+use Rattle.rpki_cert.specs.declared.extension.access_rule.AccessRule.TheVariants.{EndEntity, Notification}
+use Rattle.rpki_cert.specs.declared.extension.key_usage.KeyUsage.TheVariants.{Ca, Ee}
+use Rattle.rpki_cert.specs.declared.profile.rule.CertRule.{CertRule}
+use Rattle.rpki_cert.specs.declared.profile.rule.CertRule.TheVariants.{SerialNumber, CriticalExtensions, Issuer}
+use Rattle.rpki_cert.specs.declared.profile.rule.CertRule.TheVariants.{Validity}
+use Rattle.rpki_cert.specs.declared.profile.rule.CertRule.TheVariants.{Subject, RouterSubject, RsaKey, RouterKey}
+use Rattle.rpki_cert.specs.declared.profile.rule.CertRule.TheVariants.{BasicConstraints, NoBasicConstraints}
+use Rattle.rpki_cert.specs.declared.profile.rule.CertRule.TheVariants.{SubjectKeyIdentifier, AuthorityKeyIdentifier}
+use Rattle.rpki_cert.specs.declared.profile.rule.CertRule.TheVariants.{OwnAuthority, SelfIssued, AuthorityUsage}
+use Rattle.rpki_cert.specs.declared.profile.rule.CertRule.TheVariants.{EndUsage}
+use Rattle.rpki_cert.specs.declared.profile.rule.CertRule.TheVariants.{NoExtendedKeyUsage, RouterPurpose}
+use Rattle.rpki_cert.specs.declared.profile.rule.CertRule.TheVariants.{RevocationList}
+use Rattle.rpki_cert.specs.declared.profile.rule.CertRule.TheVariants.{NoRevocationList, IssuerCertificate}
+use Rattle.rpki_cert.specs.declared.profile.rule.CertRule.TheVariants.{NoIssuerCertificate}
+use Rattle.rpki_cert.specs.declared.profile.rule.CertRule.TheVariants.{Repository, Manifest, ManifestPlace}
+use Rattle.rpki_cert.specs.declared.profile.rule.CertRule.TheVariants.{SignedObject}
+use Rattle.rpki_cert.specs.declared.profile.rule.CertRule.TheVariants.{ObjectAccess, Notifications, NoSubjectAccess}
+use Rattle.rpki_cert.specs.declared.profile.rule.CertRule.TheVariants.{CertificatePolicies, Resources, ResourceVersion}
+use Rattle.rpki_cert.specs.declared.profile.rule.CertRule.TheVariants.{RouterNumbers, ResourceBlocks, OwnResources}
 use Rattle.rpki_cert.specs.Cert.{TbsParts, find}
 use Rattle.rpki_cert.specs.Known.{subject_key_identifier, key_usage, basic_constraints, crl_distribution_points}
 use Rattle.rpki_cert.specs.Known.{certificate_policies, authority_key_identifier, extended_key_usage}
@@ -27,8 +32,8 @@ use Rattle.rpki_cert.specs.Access.{SpellsRsyncAccess, SpellsPoints, ca_issuers, 
 use Rattle.rpki_cert.specs.Access.{signed_object}
 use Rattle.rpki_cert.specs.Keys.{IsRpkiKey, IsRouterKey}
 use Rattle.rpki_cert.specs.ResourceExtensions.{AreWellFormed, AreOwn}
-use Rattle.rpki_cert.specs.Profile.{HasSome, HasNot, HasSomeUri, HasHeldAccess, SaysManifestBelow, IsOrdered}
-use Rattle.rpki_cert.specs.Profile.{HasOwnAuthority, has_addresses, has_numbers, has_resources, HasOneVersion}
+use Rattle.rpki_cert.specs.RuleWords.{HasSome, HasNot, HasSomeUri, HasHeldAccess, SaysManifestBelow, IsOrdered}
+use Rattle.rpki_cert.specs.RuleWords.{HasOwnAuthority, has_addresses, has_numbers, has_resources, HasOneVersion}
 
 -- what the rule says of a certificate, in the words of the profiles; a name is held to its profile where strict is true
 abbrev pub Obeys : Bool → TbsParts → CertRule → Type 0
@@ -68,41 +73,6 @@ Obeys strict t ResourceBlocks = AreWellFormed t.extensions
 Obeys strict t OwnResources = AreOwn t.extensions
 Obeys strict t RouterNumbers = IsTrue (has_numbers t.extensions && not (has_addresses t.extensions))
 
--- ---- the rules of each profile, in the order in which they are tested
-
-abbrev pub ta_rules : List CertRule
-ta_rules =
-    SerialNumber ∷ CriticalExtensions ∷ Issuer ∷ Validity ∷ SubjectKeyIdentifier ∷ CertificatePolicies ∷ Resources
-    ∷ ResourceVersion ∷ ResourceBlocks ∷ Subject ∷ RsaKey ∷ NoExtendedKeyUsage ∷ BasicConstraints ∷ AuthorityUsage
-    ∷ NoRevocationList ∷ NoIssuerCertificate ∷ Repository ∷ Manifest ∷ ManifestPlace ∷ Notifications ∷ SelfIssued
-    ∷ OwnAuthority ∷ OwnResources ∷ []
-
-abbrev pub ca_rules : List CertRule
-ca_rules =
-    SerialNumber ∷ CriticalExtensions ∷ Issuer ∷ Validity ∷ SubjectKeyIdentifier ∷ CertificatePolicies ∷ Resources
-    ∷ ResourceVersion ∷ ResourceBlocks ∷ Subject ∷ RsaKey ∷ NoExtendedKeyUsage ∷ BasicConstraints ∷ AuthorityUsage
-    ∷ Repository ∷ Manifest ∷ ManifestPlace ∷ Notifications ∷ AuthorityKeyIdentifier ∷ RevocationList
-    ∷ IssuerCertificate ∷ []
-
-abbrev pub ee_rules : List CertRule
-ee_rules =
-    SerialNumber ∷ CriticalExtensions ∷ Issuer ∷ Validity ∷ SubjectKeyIdentifier ∷ CertificatePolicies ∷ Resources
-    ∷ ResourceVersion ∷ ResourceBlocks ∷ Subject ∷ RsaKey ∷ NoExtendedKeyUsage ∷ NoBasicConstraints ∷ EndUsage
-    ∷ SignedObject ∷ ObjectAccess ∷ Notifications ∷ AuthorityKeyIdentifier ∷ RevocationList ∷ IssuerCertificate ∷ []
-
-abbrev pub detached_rules : List CertRule
-detached_rules =
-    SerialNumber ∷ CriticalExtensions ∷ Issuer ∷ Validity ∷ SubjectKeyIdentifier ∷ CertificatePolicies ∷ Resources
-    ∷ ResourceVersion ∷ ResourceBlocks ∷ Subject ∷ RsaKey ∷ NoExtendedKeyUsage ∷ NoBasicConstraints ∷ EndUsage
-    ∷ NoSubjectAccess ∷ AuthorityKeyIdentifier ∷ RevocationList ∷ IssuerCertificate ∷ []
-
-abbrev pub router_rules : List CertRule
-router_rules =
-    SerialNumber ∷ CriticalExtensions ∷ Issuer ∷ Validity ∷ SubjectKeyIdentifier ∷ CertificatePolicies ∷ Resources
-    ∷ ResourceVersion ∷ ResourceBlocks ∷ RouterSubject ∷ RouterKey ∷ NoBasicConstraints ∷ EndUsage ∷ RouterNumbers
-    ∷ OwnResources ∷ NoSubjectAccess ∷ RouterPurpose ∷ AuthorityKeyIdentifier ∷ RevocationList ∷ IssuerCertificate
-    ∷ []
-
 -- ---- which is broken
 
 -- the rule is one of these, and is broken, and those before it are not
@@ -112,10 +82,6 @@ pub record IsFirstBroken (strict : Bool) (t : TbsParts) (rules : List CertRule) 
   pub parts : rules ≡ before ++ rule ∷ after
   pub obeyed : All (Obeys strict t) before
   pub broken : Obeys strict t rule → ⊥
-
--- a test: Ok where P, the profile of these rules, holds; else the rule that is broken first
-abbrev pub TestsRules : Type 0 → Bool → TbsParts → List CertRule → Result (Unit {0}) CertRule → Type 0
-TestsRules P strict t rules r = MatchResult r (λ _. P) (λ rule. IsFirstBroken strict t rules rule × (P → ⊥))
 
 -- ---- the texts of the errors
 

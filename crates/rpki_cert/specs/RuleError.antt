@@ -7,23 +7,28 @@ use Rattle.rpki.specs.declared.repository.x509.name.rule.NameRule.{NameRule}
 use Rattle.rpki.specs.KeyIdentifier.{SpellsKeyIdentifier}
 use Rattle.rpki.specs.NameRule.{BreaksRpkiRule, BreaksRouterRule, rpki_text, router_text}
 use Rattle.rpki.specs.ExtensionValue.{ExtensionParts}
-use Rattle.rpki_cert.specs.declared.rule.CertRule.{CertRule}
-use Rattle.rpki_cert.specs.declared.rule.CertRule.TheVariants.{SerialNumber, CriticalExtensions, Issuer, Validity}
-use Rattle.rpki_cert.specs.declared.rule.CertRule.TheVariants.{Subject, RouterSubject, RsaKey, RouterKey}
-use Rattle.rpki_cert.specs.declared.rule.CertRule.TheVariants.{BasicConstraints, NoBasicConstraints}
-use Rattle.rpki_cert.specs.declared.rule.CertRule.TheVariants.{SubjectKeyIdentifier, AuthorityKeyIdentifier}
-use Rattle.rpki_cert.specs.declared.rule.CertRule.TheVariants.{OwnAuthority, SelfIssued, AuthorityUsage, EndUsage}
-use Rattle.rpki_cert.specs.declared.rule.CertRule.TheVariants.{NoExtendedKeyUsage, RouterPurpose, RevocationList}
-use Rattle.rpki_cert.specs.declared.rule.CertRule.TheVariants.{NoRevocationList, IssuerCertificate, NoIssuerCertificate}
-use Rattle.rpki_cert.specs.declared.rule.CertRule.TheVariants.{Repository, Manifest, ManifestPlace, SignedObject}
-use Rattle.rpki_cert.specs.declared.rule.CertRule.TheVariants.{ObjectAccess, Notifications, NoSubjectAccess}
-use Rattle.rpki_cert.specs.declared.rule.CertRule.TheVariants.{CertificatePolicies, Resources, ResourceVersion}
-use Rattle.rpki_cert.specs.declared.rule.CertRule.TheVariants.{RouterNumbers, ResourceBlocks, OwnResources}
+use Rattle.rpki_cert.specs.declared.profile.rule.CertRule.{CertRule}
+use Rattle.rpki_cert.specs.declared.profile.rule.CertRule.TheVariants.{SerialNumber, CriticalExtensions, Issuer}
+use Rattle.rpki_cert.specs.declared.profile.rule.CertRule.TheVariants.{Validity}
+use Rattle.rpki_cert.specs.declared.profile.rule.CertRule.TheVariants.{Subject, RouterSubject, RsaKey, RouterKey}
+use Rattle.rpki_cert.specs.declared.profile.rule.CertRule.TheVariants.{BasicConstraints, NoBasicConstraints}
+use Rattle.rpki_cert.specs.declared.profile.rule.CertRule.TheVariants.{SubjectKeyIdentifier, AuthorityKeyIdentifier}
+use Rattle.rpki_cert.specs.declared.profile.rule.CertRule.TheVariants.{OwnAuthority, SelfIssued, AuthorityUsage}
+use Rattle.rpki_cert.specs.declared.profile.rule.CertRule.TheVariants.{EndUsage}
+use Rattle.rpki_cert.specs.declared.profile.rule.CertRule.TheVariants.{NoExtendedKeyUsage, RouterPurpose}
+use Rattle.rpki_cert.specs.declared.profile.rule.CertRule.TheVariants.{RevocationList}
+use Rattle.rpki_cert.specs.declared.profile.rule.CertRule.TheVariants.{NoRevocationList, IssuerCertificate}
+use Rattle.rpki_cert.specs.declared.profile.rule.CertRule.TheVariants.{NoIssuerCertificate}
+use Rattle.rpki_cert.specs.declared.profile.rule.CertRule.TheVariants.{Repository, Manifest, ManifestPlace}
+use Rattle.rpki_cert.specs.declared.profile.rule.CertRule.TheVariants.{SignedObject}
+use Rattle.rpki_cert.specs.declared.profile.rule.CertRule.TheVariants.{ObjectAccess, Notifications, NoSubjectAccess}
+use Rattle.rpki_cert.specs.declared.profile.rule.CertRule.TheVariants.{CertificatePolicies, Resources, ResourceVersion}
+use Rattle.rpki_cert.specs.declared.profile.rule.CertRule.TheVariants.{RouterNumbers, ResourceBlocks, OwnResources}
 use Rattle.rpki_cert.specs.Cert.{TbsParts, find}
 use Rattle.rpki_cert.specs.Known.{subject_key_identifier, key_usage, basic_constraints, crl_distribution_points}
 use Rattle.rpki_cert.specs.Known.{certificate_policies, authority_key_identifier, extended_key_usage}
 use Rattle.rpki_cert.specs.Known.{authority_info_access, subject_info_access, Says, HasText, IsOtherwise}
-use Rattle.rpki_cert.specs.Profile.{SaysSome, SaysSomeUri, SaysOwn, HasOneVersion}
+use Rattle.rpki_cert.specs.RuleWords.{SaysSome, SaysSomeUri, SaysOwn, HasOneVersion}
 use Rattle.rpki_cert.specs.ExtensionContent.{SpellsConstraints, SpellsAuthority, SpellsUsage, SpellsPurposes}
 use Rattle.rpki_cert.specs.ExtensionContent.{SpellsPolicies}
 use Rattle.rpki_cert.specs.Access.{SpellsRsyncAccess, SpellsPoints, ca_issuers, ca_repository, rpki_manifest}
@@ -135,7 +140,3 @@ pub record IsFirstError (strict : Bool) (t : TbsParts) (rules : List CertRule) (
   pub rule : CertRule
   pub first : IsFirstBroken strict t rules rule
   pub error : IsRuleError t rule e
-
--- an inspection: Ok where P, the profile of these rules, holds; else the error of the rule that is broken first
-abbrev pub InspectsRules : Type 0 → Bool → TbsParts → List CertRule → Result (Unit {0}) ValidationError → Type 0
-InspectsRules P strict t rules = ChecksBy P (IsFirstError strict t rules)

@@ -5,12 +5,12 @@ use Rattle.jiff.specs.Types.{DateTime}
 use Rattle.rpki_time.specs.Validity.{Period, HoldsAt}
 use Rattle.rpki.specs.Provider.{Check}
 use Rattle.rpki.specs.declared.repository.error.ValidationError.{ValidationError}
-use Rattle.rpki_cert.specs.declared.rule.CertRule.{CertRule}
-use Rattle.rpki_cert.specs.declared.resource_set.ResourceSet.{ResourceSet}
+use Rattle.rpki_cert.specs.declared.profile.Profile.{Profile}
+use Rattle.rpki_cert.specs.declared.profile.Profile.TheVariants.{Ta, Ca}
+use Rattle.rpki_cert.specs.declared.resource.set.ResourceSet.{ResourceSet}
 use Rattle.rpki_cert.specs.Cert.{TbsParts, CertParts}
 use Rattle.rpki_cert.specs.Known.{UnlessNoMemory}
-use Rattle.rpki_cert.specs.Profile.{IsTaProfile, IsCaProfile}
-use Rattle.rpki_cert.specs.Rule.{ta_rules}
+use Rattle.rpki_cert.specs.Profile.{rules_of, HasProfile}
 use Rattle.rpki_cert.specs.RuleError.{IsFirstError}
 use Rattle.rpki_cert.specs.Valid.{IsIssued, IsAnchor, IsPeriodError, Unless, IsUnissued, IsNoAnchor}
 use Rattle.rpki_cert.specs.ResourceSet.{HasResources, HasOwnResources, IsOut, HasNoResources, AreWithin}
@@ -36,14 +36,15 @@ abbrev pub holder : CertParts → ResourceSet → Holder
 holder cert resources = record { cert = cert; resources = resources }
 
 -- a certificate of this profile that the issuer has issued, valid at the moment, with resources under the issuer's
-pub record IsLink (HasProfile : TbsParts → Type 0) (by : Checkers) (at : DateTime) (issuer x : Holder) : Type 0 where
-  pub profile : HasProfile x.cert.tbs
+pub record IsLink (profile : Profile) (strict : Bool) (by : Checkers) (at : DateTime) (issuer x : Holder)
+    : Type 0 where
+  pub profiled : HasProfile profile strict x.cert.tbs
   pub issued : IsIssued by.rsa by.ecdsa by.sha1 issuer.cert.tbs at x.cert
   pub resources : HasResources x.cert.tbs.extensions issuer.resources x.resources
 
 -- a trust anchor of its profile, which its own key has signed, valid at the moment, with resources of its own
 pub record IsRoot (strict : Bool) (by : Checkers) (at : DateTime) (x : Holder) : Type 0 where
-  pub profile : IsTaProfile strict x.cert.tbs
+  pub profiled : HasProfile Ta strict x.cert.tbs
   pub anchor : IsAnchor by.rsa by.ecdsa by.sha1 at x.cert
   pub resources : HasOwnResources x.cert.tbs.extensions x.resources
 
@@ -53,7 +54,7 @@ pub record IsRoot (strict : Bool) (by : Checkers) (at : DateTime) (x : Holder) :
 pub data IsAuthorityAt (by : Checkers) (at : DateTime) : Holder → Type 0 where
   Root : (strict : Bool) (x : Holder) → IsRoot strict by at x → IsAuthorityAt by at x
   Issued : (strict : Bool) (issuer x : Holder) → IsAuthorityAt by at issuer
-      → IsLink (IsCaProfile strict) by at issuer x → IsAuthorityAt by at x
+      → IsLink Ca strict by at issuer x → IsAuthorityAt by at x
 
 -- an authority that was verified: its certificate, its resources, the period in which all certificates of its path are
 -- valid, and what their signatures were checked with
@@ -93,22 +94,22 @@ pub record IsOnPath (issuer : Verified) (at : DateTime) (x : CertParts) (held : 
   pub resources : HasResources x.tbs.extensions issuer.resources held
 
 -- the same of a certificate of this profile
-pub record IsVerifiedBy (HasProfile : TbsParts → Type 0) (issuer : Verified) (at : DateTime) (x : CertParts)
+pub record IsVerifiedBy (profile : Profile) (strict : Bool) (issuer : Verified) (at : DateTime) (x : CertParts)
     (held : ResourceSet) : Type 0 where
-  pub profile : HasProfile x.tbs
+  pub profiled : HasProfile profile strict x.tbs
   pub path : IsOnPath issuer at x held
 
 -- a path of authorities leads from a certificate of this profile, which has these resources, to a trust anchor
-pub record HasPath (HasProfile : TbsParts → Type 0) (by : Checkers) (at : DateTime) (x : Holder) : Type 0 where
+pub record HasPath (profile : Profile) (strict : Bool) (by : Checkers) (at : DateTime) (x : Holder) : Type 0 where
   pub issuer : Holder
   pub authority : IsAuthorityAt by at issuer
-  pub link : IsLink HasProfile by at issuer x
+  pub link : IsLink profile strict by at issuer x
 
 -- an authority below another, or the other itself: each certificate between them is issued by the one above
 pub data DescendsFrom (by : Checkers) (at : DateTime) (top : Holder) : Holder → Type 0 where
   Itself : DescendsFrom by at top top
   Below : (strict : Bool) (issuer x : Holder) → DescendsFrom by at top issuer
-      → IsLink (IsCaProfile strict) by at issuer x → DescendsFrom by at top x
+      → IsLink Ca strict by at issuer x → DescendsFrom by at top x
 
 -- what the one has the other has
 abbrev pub HoldsWithin : Holder → Holder → Type 0
@@ -126,14 +127,13 @@ IsOffPath issuer at x =
     (HasNoResources x.tbs.extensions issuer.resources))
 
 -- that of the first rule of the profile that is broken; else that of the path
-abbrev pub IsUnverified : (TbsParts → Type 0) → Bool → List CertRule → Verified → DateTime → CertParts
-    → ValidationError → Type 0
-IsUnverified HasProfile strict rules issuer at x =
-    Unless (HasProfile x.tbs) (IsFirstError strict x.tbs rules) (IsOffPath issuer at x)
+abbrev pub IsUnverified : Profile → Bool → Verified → DateTime → CertParts → ValidationError → Type 0
+IsUnverified profile strict issuer at x =
+    Unless (HasProfile profile strict x.tbs) (IsFirstError strict x.tbs (rules_of profile)) (IsOffPath issuer at x)
 
 abbrev pub IsNoRoot : Bool → Checkers → DateTime → CertParts → ValidationError → Type 0
 IsNoRoot strict by at x =
-    Unless (IsTaProfile strict x.tbs) (IsFirstError strict x.tbs ta_rules)
+    Unless (HasProfile Ta strict x.tbs) (IsFirstError strict x.tbs (rules_of Ta))
     (Unless (IsAnchor by.rsa by.ecdsa by.sha1 at x) (IsNoAnchor by.rsa by.ecdsa by.sha1 at x) IsOut)
 
 -- ---- checks
@@ -151,10 +151,9 @@ abbrev pub IsRootWith : Bool → Checkers → DateTime → CertParts → Resourc
 IsRootWith strict by at x resources = IsRoot strict by at (holder x resources)
 
 -- it isn't one, and this is the error
-abbrev pub IsRefusedLink : (TbsParts → Type 0) → Bool → List CertRule → Verified → DateTime → CertParts
-    → ValidationError → Type 0
-IsRefusedLink HasProfile strict rules issuer at x =
-    IsRefusedWith (IsVerifiedBy HasProfile issuer at x) (IsUnverified HasProfile strict rules issuer at x)
+abbrev pub IsRefusedLink : Profile → Bool → Verified → DateTime → CertParts → ValidationError → Type 0
+IsRefusedLink profile strict issuer at x =
+    IsRefusedWith (IsVerifiedBy profile strict issuer at x) (IsUnverified profile strict issuer at x)
 
 abbrev pub IsRefusedRoot : Bool → Checkers → DateTime → CertParts → ValidationError → Type 0
 IsRefusedRoot strict by at x = IsRefusedWith (IsRootWith strict by at x) (IsNoRoot strict by at x)
@@ -162,10 +161,9 @@ IsRefusedRoot strict by at x = IsRefusedWith (IsRootWith strict by at x) (IsNoRo
 abbrev pub ChecksPath : Verified → DateTime → CertParts → Result ResourceSet ValidationError → Type 0
 ChecksPath issuer at x = ChecksWith (IsOnPath issuer at x) (IsOffPath issuer at x)
 
-abbrev pub ChecksLink : (TbsParts → Type 0) → Bool → List CertRule → Verified → DateTime → CertParts
-    → Result ResourceSet ValidationError → Type 0
-ChecksLink HasProfile strict rules issuer at x =
-    ChecksWith (IsVerifiedBy HasProfile issuer at x) (IsUnverified HasProfile strict rules issuer at x)
+abbrev pub ChecksLink : Profile → Bool → Verified → DateTime → CertParts → Result ResourceSet ValidationError → Type 0
+ChecksLink profile strict issuer at x =
+    ChecksWith (IsVerifiedBy profile strict issuer at x) (IsUnverified profile strict issuer at x)
 
 abbrev pub ChecksRoot : Bool → Checkers → DateTime → CertParts → Result ResourceSet ValidationError → Type 0
 ChecksRoot strict by at x = ChecksWith (IsRootWith strict by at x) (IsNoRoot strict by at x)

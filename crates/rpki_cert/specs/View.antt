@@ -14,20 +14,21 @@ use Rattle.rpki.specs.Name.{SpellsNameOctets}
 use Rattle.rpki.specs.PublicKey.{KeyParts, SpellsKey}
 use Rattle.rpki.specs.SignedData.{SignedParts, IsSignedContents}
 use Rattle.rpki.specs.ExtensionValue.{ExtensionParts, SpellsExtension}
-use Rattle.rpki_cert.specs.declared.cert_part.CertPart.{CertPart}
-use Rattle.rpki_cert.specs.declared.cert_part.CertPart.TheVariants.{Certificate, Signed, Algorithm, Signature, Tbs}
-use Rattle.rpki_cert.specs.declared.cert_part.CertPart.TheVariants.{Version, SerialNumber, TbsAlgorithm, Issuer}
-use Rattle.rpki_cert.specs.declared.cert_part.CertPart.TheVariants.{Validity, Subject, PublicKey, Extensions}
-use Rattle.rpki_cert.specs.declared.cert_part.CertPart.TheVariants.{ExtensionCount, ExtensionIdentifiers, SameAlgorithm}
-use Rattle.rpki_cert.specs.declared.section.Section.{Section}
-use Rattle.rpki_cert.specs.declared.extension_table.Passed.{Passed}
+use Rattle.rpki_cert.specs.declared.read.cert_part.CertPart.{CertPart}
+use Rattle.rpki_cert.specs.declared.read.cert_part.CertPart.TheVariants.{Certificate, Signed, Algorithm, Signature, Tbs}
+use Rattle.rpki_cert.specs.declared.read.cert_part.CertPart.TheVariants.{Version, SerialNumber, TbsAlgorithm, Issuer}
+use Rattle.rpki_cert.specs.declared.read.cert_part.CertPart.TheVariants.{Validity, Subject, PublicKey, Extensions}
+use Rattle.rpki_cert.specs.declared.read.cert_part.CertPart.TheVariants.{ExtensionCount, ExtensionIdentifiers}
+use Rattle.rpki_cert.specs.declared.read.cert_part.CertPart.TheVariants.{SameAlgorithm}
+use Rattle.rpki_cert.specs.declared.read.section.Section.{Section}
+use Rattle.rpki_cert.specs.declared.extension.table.Passed.{Passed}
 pub use Rattle.rpki_cert.specs.ExtensionTable.{behind_first}
 use Rattle.rpki_cert.specs.ExtensionTable.{OfListed}
-use Rattle.rpki_cert.specs.declared.fields.Keyed.{Keyed}
-use Rattle.rpki_cert.specs.declared.fields.Named.{Named}
-use Rattle.rpki_cert.specs.declared.fields.TbsView.{TbsView}
-use Rattle.rpki_cert.specs.declared.view.Parts.{Parts}
-use Rattle.rpki_cert.specs.declared.view.CertView.{CertView}
+use Rattle.rpki_cert.specs.declared.read.fields.Keyed.{Keyed}
+use Rattle.rpki_cert.specs.declared.read.fields.Named.{Named}
+use Rattle.rpki_cert.specs.declared.read.fields.TbsView.{TbsView}
+use Rattle.rpki_cert.specs.declared.read.view.Parts.{Parts}
+use Rattle.rpki_cert.specs.declared.read.view.CertView.{CertView}
 use Rattle.rpki_cert.specs.Cert.{TbsParts, CertParts, extensions_tag, are_unique, SpellsExtensions, SpellsVersion}
 use Rattle.rpki_cert.specs.Cert.{SpellsRpkiAlgorithm, AreFields, fields_of, SpellsTbs, SpellsCert}
 

@@ -1,9 +1,44 @@
 //! Laws of the definitions.
 
+ghost use Rattle.std.specs.Prelude.{◌≡◌, ◌↔◌, IsTrue};
 ghost use Rattle.jiff.specs.Types.{DateTime};
+ghost use Rattle.rpki_cert.specs.declared.extension.key_usage.KeyUsage.{KeyUsage as Usage};
+ghost use Rattle.rpki_cert.specs.declared.extension.kind.ExtensionKind.{ExtensionKind as KindOfExtension};
+ghost use Rattle.rpki_cert.specs.declared.extension.known_part.KnownPart.{KnownPart as WrongExtension};
+ghost use Rattle.rpki_cert.specs.declared.extension.policy.Overclaim.{Overclaim as Policy};
+ghost use Rattle.rpki_cert.specs.declared.profile.Profile.{Profile as HeldProfile};
+ghost use Rattle.rpki_cert.specs.declared.profile.rule.CertRule.{CertRule as BrokenRule};
+ghost use Rattle.rpki_cert.specs.declared.read.cert_part.CertPart.{CertPart as WrongPart};
 ghost use Rattle.rpki_cert.specs.Verified.{Checkers, Holder, DescendsFrom, HoldsWithin};
+
+use crate::extension::key_usage::KeyUsage;
+use crate::extension::kind::ExtensionKind;
+use crate::extension::known_part::KnownPart;
+use crate::extension::policy::Overclaim;
+use crate::profile::Profile;
+use crate::profile::rule::CertRule;
+use crate::read::cert_part::CertPart;
 
 /// Down a path nobody has more than an authority above: what a certificate has is within what each above it has.
 pub fn paths_settle_within()
     ensures { (by : Checkers) (at : DateTime) (top x : Holder) → DescendsFrom by at top x → HoldsWithin x top }
+{}
+
+/// What extensions say, and their kinds, are equal exactly where they are one.
+pub fn equal_extensions_are_one()
+    ensures usage { (x y : Usage) → IsTrue (⟦<KeyUsage as PartialEq>⟧.eq x y) ↔ (x ≡ y) }
+    ensures policy { (x y : Policy) → IsTrue (⟦<Overclaim as PartialEq>⟧.eq x y) ↔ (x ≡ y) }
+    ensures kind { (x y : KindOfExtension) → IsTrue (⟦<ExtensionKind as PartialEq>⟧.eq x y) ↔ (x ≡ y) }
+{}
+
+/// Parts that are wrong are equal exactly where they are one.
+pub fn equal_parts_are_one()
+    ensures part { (p q : WrongPart) → IsTrue (⟦<CertPart as PartialEq>⟧.eq p q) ↔ (p ≡ q) }
+    ensures extension { (p q : WrongExtension) → IsTrue (⟦<KnownPart as PartialEq>⟧.eq p q) ↔ (p ≡ q) }
+{}
+
+/// Profiles, and their rules, are equal exactly where they are one.
+pub fn equal_profiles_are_one()
+    ensures profile { (p q : HeldProfile) → IsTrue (⟦<Profile as PartialEq>⟧.eq p q) ↔ (p ≡ q) }
+    ensures rule { (p q : BrokenRule) → IsTrue (⟦<CertRule as PartialEq>⟧.eq p q) ↔ (p ≡ q) }
 {}

@@ -1,27 +1,188 @@
 //! The profiles of certificates (RFC 6487 4, RFC 8209 3.1, RFC 9323 2).
 
-ghost use Rattle.std.specs.Prelude.{◌≡◌, List, ℕ, All, MatchResult};
+ghost use Rattle.std.specs.Prelude.{◌≡◌, List, ℕ, All, IfOk, IfErr, MatchResult};
+ghost use Rattle.rpki_cert.specs.declared.profile.Profile.TheVariants.{Ta, Ca, Ee, DetachedEe, Router};
 ghost use Rattle.rpki_cert.specs.Cert.{TbsParts, CertParts};
 ghost use Rattle.rpki_cert.specs.View.{IsCertAt};
 ghost use Rattle.rpki_cert.specs.Inspected.{IsReadOf};
-ghost use Rattle.rpki_cert.specs.Profile.{IsTaProfile, IsCaProfile, IsEeProfile, IsDetachedProfile, IsRouterProfile};
-ghost use Rattle.rpki_cert.specs.Rule.{Obeys, IsFirstBroken, TestsRules, ta_rules, ca_rules, ee_rules, detached_rules};
-ghost use Rattle.rpki_cert.specs.Rule.{router_rules};
-ghost use Rattle.rpki_cert.specs.RuleError.{InspectsRules, BreaksWith};
+ghost use Rattle.rpki_cert.specs.KnownView.{AreKnown};
+ghost use Rattle.rpki_cert.specs.Profile.{rules_of, HasProfile, TestsProfile, InspectsProfile, IsCheckError};
+ghost use Rattle.rpki_cert.specs.Rule.{Obeys};
+ghost use Rattle.rpki_cert.specs.RuleError.{BreaksWith};
 
-use crate::inspected::Inspected;
-use crate::rule::{CertRule, ca_rules, detached_rules, ee_rules, router_rules, ta_rules};
+pub mod checks;
+pub mod inspected;
+pub mod key_rule;
+pub mod rule;
+
+use crate::extension::known_part::KnownPart;
+use crate::extension::known_view::KnownView;
+use crate::profile::inspected::Inspected;
+use crate::profile::rule::CertRule;
+use crate::read::view::CertView;
 use crate::tbs::TbsCert;
-use crate::view::CertView;
 use rpki::repository::error::ValidationError;
 
-/// Why a rule was not obeyed.
+/// A profile of certificates (RFC 6487 4, RFC 8209 3.1, RFC 9323 2): the rules that a certificate has to obey.
+#[derive(Clone, Copy, Debug, PartialEq, Eq)]
+pub enum Profile {
+    /// That of trust anchors: certification authorities that are their own issuers (RFC 6487 4, RFC 8630 2.3).
+    Ta,
+    /// That of certification authorities (RFC 6487 4).
+    Ca,
+    /// That of end entities that sign an object (RFC 6487 4).
+    Ee,
+    /// That of end entities without subject information access, whose key signs what is in no repository, as a signed
+    /// checklist (RFC 6487 4, RFC 9323 2).
+    DetachedEe,
+    /// That of BGPsec routers (RFC 8209 3.1).
+    Router,
+}
+
+/// The rules of trust anchors.
+const TA: &[CertRule] = &[
+    CertRule::SerialNumber,
+    CertRule::CriticalExtensions,
+    CertRule::Issuer,
+    CertRule::Validity,
+    CertRule::SubjectKeyIdentifier,
+    CertRule::CertificatePolicies,
+    CertRule::Resources,
+    CertRule::ResourceVersion,
+    CertRule::ResourceBlocks,
+    CertRule::Subject,
+    CertRule::RsaKey,
+    CertRule::NoExtendedKeyUsage,
+    CertRule::BasicConstraints,
+    CertRule::AuthorityUsage,
+    CertRule::NoRevocationList,
+    CertRule::NoIssuerCertificate,
+    CertRule::Repository,
+    CertRule::Manifest,
+    CertRule::ManifestPlace,
+    CertRule::Notifications,
+    CertRule::SelfIssued,
+    CertRule::OwnAuthority,
+    CertRule::OwnResources,
+];
+
+/// The rules of certification authorities.
+const CA: &[CertRule] = &[
+    CertRule::SerialNumber,
+    CertRule::CriticalExtensions,
+    CertRule::Issuer,
+    CertRule::Validity,
+    CertRule::SubjectKeyIdentifier,
+    CertRule::CertificatePolicies,
+    CertRule::Resources,
+    CertRule::ResourceVersion,
+    CertRule::ResourceBlocks,
+    CertRule::Subject,
+    CertRule::RsaKey,
+    CertRule::NoExtendedKeyUsage,
+    CertRule::BasicConstraints,
+    CertRule::AuthorityUsage,
+    CertRule::Repository,
+    CertRule::Manifest,
+    CertRule::ManifestPlace,
+    CertRule::Notifications,
+    CertRule::AuthorityKeyIdentifier,
+    CertRule::RevocationList,
+    CertRule::IssuerCertificate,
+];
+
+/// The rules of end entities that sign an object.
+const EE: &[CertRule] = &[
+    CertRule::SerialNumber,
+    CertRule::CriticalExtensions,
+    CertRule::Issuer,
+    CertRule::Validity,
+    CertRule::SubjectKeyIdentifier,
+    CertRule::CertificatePolicies,
+    CertRule::Resources,
+    CertRule::ResourceVersion,
+    CertRule::ResourceBlocks,
+    CertRule::Subject,
+    CertRule::RsaKey,
+    CertRule::NoExtendedKeyUsage,
+    CertRule::NoBasicConstraints,
+    CertRule::EndUsage,
+    CertRule::SignedObject,
+    CertRule::ObjectAccess,
+    CertRule::Notifications,
+    CertRule::AuthorityKeyIdentifier,
+    CertRule::RevocationList,
+    CertRule::IssuerCertificate,
+];
+
+/// The rules of end entities without subject information access.
+const DETACHED_EE: &[CertRule] = &[
+    CertRule::SerialNumber,
+    CertRule::CriticalExtensions,
+    CertRule::Issuer,
+    CertRule::Validity,
+    CertRule::SubjectKeyIdentifier,
+    CertRule::CertificatePolicies,
+    CertRule::Resources,
+    CertRule::ResourceVersion,
+    CertRule::ResourceBlocks,
+    CertRule::Subject,
+    CertRule::RsaKey,
+    CertRule::NoExtendedKeyUsage,
+    CertRule::NoBasicConstraints,
+    CertRule::EndUsage,
+    CertRule::NoSubjectAccess,
+    CertRule::AuthorityKeyIdentifier,
+    CertRule::RevocationList,
+    CertRule::IssuerCertificate,
+];
+
+/// The rules of BGPsec routers.
+const ROUTER: &[CertRule] = &[
+    CertRule::SerialNumber,
+    CertRule::CriticalExtensions,
+    CertRule::Issuer,
+    CertRule::Validity,
+    CertRule::SubjectKeyIdentifier,
+    CertRule::CertificatePolicies,
+    CertRule::Resources,
+    CertRule::ResourceVersion,
+    CertRule::ResourceBlocks,
+    CertRule::RouterSubject,
+    CertRule::RouterKey,
+    CertRule::NoBasicConstraints,
+    CertRule::EndUsage,
+    CertRule::RouterNumbers,
+    CertRule::OwnResources,
+    CertRule::NoSubjectAccess,
+    CertRule::RouterPurpose,
+    CertRule::AuthorityKeyIdentifier,
+    CertRule::RevocationList,
+    CertRule::IssuerCertificate,
+];
+
+impl Profile {
+    /// The rules of the profile, each with its section of an RFC, in the order in which they are tested.
+    pub fn rules(self) -> &'static [CertRule]
+        ensures { result.now ≡ rules_of self }
+    {
+        match self {
+            Profile::Ta => TA,
+            Profile::Ca => CA,
+            Profile::Ee => EE,
+            Profile::DetachedEe => DETACHED_EE,
+            Profile::Router => ROUTER,
+        }
+    }
+}
+
+/// A rule that was not obeyed.
 #[derive(Clone, Copy)]
-struct Refusal {
+pub(crate) struct Refusal {
     /// The rule.
-    rule: CertRule,
+    pub(crate) rule: CertRule,
     /// The error.
-    error: ValidationError,
+    pub(crate) error: ValidationError,
 }
 
 impl Inspected<'_> {
@@ -42,23 +203,21 @@ impl Inspected<'_> {
         Ok(())
     }
 
-    /// The same, of which the error is that of the first rule that is broken.
-    fn inspect_all(&self, strict: bool, rules: &[CertRule]) -> Result<(), ValidationError>
-        ensures { (t : TbsParts) → IsReadOf t self.now
-            → InspectsRules (All (Obeys strict t) rules.now) strict t rules.now result }
+    /// Tests the certificate by the profile; the error is that of the first rule that is broken.
+    fn inspect(&self, profile: Profile, strict: bool) -> Result<(), ValidationError>
+        ensures { (t : TbsParts) → IsReadOf t self.now → InspectsProfile profile strict t result }
     {
-        match self.inspect_rules(strict, rules) {
+        match self.inspect_rules(strict, profile.rules()) {
             Ok(()) => Ok(()),
             Err(Refusal { rule: _, error }) => Err(error),
         }
     }
 
-    /// The same, and which rule is broken first.
-    fn test_all(&self, strict: bool, rules: &[CertRule]) -> Result<(), CertRule>
-        ensures { (t : TbsParts) → IsReadOf t self.now
-            → TestsRules (All (Obeys strict t) rules.now) strict t rules.now result }
+    /// Tests the certificate by the profile; returns the rule that it breaks first.
+    fn test(&self, profile: Profile, strict: bool) -> Result<(), CertRule>
+        ensures { (t : TbsParts) → IsReadOf t self.now → TestsProfile profile strict t result }
     {
-        match self.inspect_rules(strict, rules) {
+        match self.inspect_rules(strict, profile.rules()) {
             Ok(()) => Ok(()),
             Err(Refusal { rule, error: _ }) => Err(rule),
         }
@@ -66,161 +225,135 @@ impl Inspected<'_> {
 }
 
 impl TbsCert {
-    /// Tests that the certificate has the profile of a trust anchor (RFC 6487 4): that of a certification authority
-    /// that is its own issuer, without CRL distribution points and authority information access. The names are looked
-    /// at if `strict`.
+    /// Tests that the certificate has the profile. The names are looked at if `strict`.
     ///
-    /// The error is that of the first rule that is broken, in the order of [TbsCert::test_ta]: `Inspection` with the
-    /// rule's text; or, for an extension that the rule wants, `Inspection` with the text `extension is not as critical
-    /// as it has to be`, or `Decoding` if its octets are malformed. Allocates nothing.
+    /// The error is that of the first of [Profile::rules] that is broken: `Inspection` with the rule's text; or, for an
+    /// extension that the rule wants, `Inspection` with the text `extension is not as critical as it has to be`, or
+    /// `Decoding` if its octets are malformed. Allocates nothing.
+    pub fn inspect(&self, profile: Profile, strict: bool) -> Result<(), ValidationError>
+        ensures { InspectsProfile profile strict self.now result }
+    {
+        self.inspected().inspect(profile, strict)
+    }
+
+    /// Tests that the certificate has the profile, as [TbsCert::inspect] does; returns the first of [Profile::rules]
+    /// that it breaks. An extension that a rule wants and that is malformed, or not as critical as it has to be, breaks
+    /// the rule. Allocates nothing.
+    pub fn test(&self, profile: Profile, strict: bool) -> Result<(), CertRule>
+        ensures { TestsProfile profile strict self.now result }
+    {
+        self.inspected().test(profile, strict)
+    }
+
+    /// [TbsCert::inspect] by the profile of a trust anchor.
     pub fn inspect_ta(&self, strict: bool) -> Result<(), ValidationError>
-        ensures { InspectsRules (IsTaProfile strict self.now) strict self.now ta_rules result }
+        ensures { InspectsProfile Ta strict self.now result }
     {
-        self.inspected().inspect_all(strict, ta_rules())
+        self.inspect(Profile::Ta, strict)
     }
 
-    /// Tests that the certificate has the profile of a trust anchor, as [TbsCert::inspect_ta] does; returns the rule
-    /// that it breaks first, in the order: serial number, critical extensions, issuer, period, subject key identifier,
-    /// policies, resources, their version, their form, subject, key, extended key usage, basic constraints, key usage,
-    /// revocation list, certificate of the issuer, repository, manifest, its place, notifications, issuer that is the
-    /// subject, authority key identifier, resources of the issuer. An extension that a rule wants and that is
-    /// malformed, or not as critical as it has to be, breaks the rule. Allocates nothing.
+    /// [TbsCert::test] by the profile of a trust anchor.
     pub fn test_ta(&self, strict: bool) -> Result<(), CertRule>
-        ensures { TestsRules (IsTaProfile strict self.now) strict self.now ta_rules result }
+        ensures { TestsProfile Ta strict self.now result }
     {
-        self.inspected().test_all(strict, ta_rules())
+        self.test(Profile::Ta, strict)
     }
 
-    /// Tests that the certificate has the profile of a certification authority (RFC 6487 4). The names are looked at if
-    /// `strict`.
-    ///
-    /// The errors are those of [TbsCert::inspect_ta].
+    /// [TbsCert::inspect] by the profile of a certification authority.
     pub fn inspect_ca(&self, strict: bool) -> Result<(), ValidationError>
-        ensures { InspectsRules (IsCaProfile strict self.now) strict self.now ca_rules result }
+        ensures { InspectsProfile Ca strict self.now result }
     {
-        self.inspected().inspect_all(strict, ca_rules())
+        self.inspect(Profile::Ca, strict)
     }
 
-    /// Tests that the certificate has the profile of a certification authority, as [TbsCert::inspect_ca] does;
-    /// returns the rule that it breaks first, in the order: those of a trust anchor up to the key usage; then
-    /// repository, manifest, its place, notifications, authority key identifier, revocation list, certificate of the
-    /// issuer.
+    /// [TbsCert::test] by the profile of a certification authority.
     pub fn test_ca(&self, strict: bool) -> Result<(), CertRule>
-        ensures { TestsRules (IsCaProfile strict self.now) strict self.now ca_rules result }
+        ensures { TestsProfile Ca strict self.now result }
     {
-        self.inspected().test_all(strict, ca_rules())
+        self.test(Profile::Ca, strict)
     }
 
-    /// Tests that the certificate has the profile of an end entity that signs an object (RFC 6487 4). The names are
-    /// looked at if `strict`.
-    ///
-    /// The errors are those of [TbsCert::inspect_ta].
+    /// [TbsCert::inspect] by the profile of an end entity that signs an object.
     pub fn inspect_ee(&self, strict: bool) -> Result<(), ValidationError>
-        ensures { InspectsRules (IsEeProfile strict self.now) strict self.now ee_rules result }
+        ensures { InspectsProfile Ee strict self.now result }
     {
-        self.inspected().inspect_all(strict, ee_rules())
+        self.inspect(Profile::Ee, strict)
     }
 
-    /// Tests that the certificate has the profile of an end entity that signs an object, as [TbsCert::inspect_ee] does;
-    /// returns the rule that it breaks first, in the order: those of a trust anchor up to the key usage; then signed
-    /// object, other access methods, notifications, authority key identifier, revocation list, certificate of the
-    /// issuer.
+    /// [TbsCert::test] by the profile of an end entity that signs an object.
     pub fn test_ee(&self, strict: bool) -> Result<(), CertRule>
-        ensures { TestsRules (IsEeProfile strict self.now) strict self.now ee_rules result }
+        ensures { TestsProfile Ee strict self.now result }
     {
-        self.inspected().test_all(strict, ee_rules())
+        self.test(Profile::Ee, strict)
     }
 
-    /// Tests that the certificate has the profile of an end entity without subject information access, whose key signs
-    /// what is in no repository, as a signed checklist (RFC 6487 4, RFC 9323 2). The names are looked at if `strict`.
-    ///
-    /// The errors are those of [TbsCert::inspect_ta].
+    /// [TbsCert::inspect] by the profile of an end entity without subject information access.
     pub fn inspect_detached_ee(&self, strict: bool) -> Result<(), ValidationError>
-        ensures { InspectsRules (IsDetachedProfile strict self.now) strict self.now detached_rules result }
+        ensures { InspectsProfile DetachedEe strict self.now result }
     {
-        self.inspected().inspect_all(strict, detached_rules())
+        self.inspect(Profile::DetachedEe, strict)
     }
 
-    /// Tests that the certificate has the profile of an end entity without subject information access, as
-    /// [TbsCert::inspect_detached_ee] does; returns the rule that it breaks first, in the order: those of a trust
-    /// anchor up to the key usage; then access to the subject, authority key identifier, revocation list, certificate
-    /// of the issuer.
+    /// [TbsCert::test] by the profile of an end entity without subject information access.
     pub fn test_detached_ee(&self, strict: bool) -> Result<(), CertRule>
-        ensures { TestsRules (IsDetachedProfile strict self.now) strict self.now detached_rules result }
+        ensures { TestsProfile DetachedEe strict self.now result }
     {
-        self.inspected().test_all(strict, detached_rules())
+        self.test(Profile::DetachedEe, strict)
     }
 
-    /// Tests that the certificate has the profile of a BGPsec router (RFC 8209 3.1). The names are looked at if
-    /// `strict`.
-    ///
-    /// The errors are those of [TbsCert::inspect_ta].
+    /// [TbsCert::inspect] by the profile of a BGPsec router.
     pub fn inspect_router(&self, strict: bool) -> Result<(), ValidationError>
-        ensures { InspectsRules (IsRouterProfile strict self.now) strict self.now router_rules result }
+        ensures { InspectsProfile Router strict self.now result }
     {
-        self.inspected().inspect_all(strict, router_rules())
+        self.inspect(Profile::Router, strict)
     }
 
-    /// Tests that the certificate has the profile of a BGPsec router, as [TbsCert::inspect_router] does; returns the
-    /// rule that it breaks first, in the order: those of a trust anchor up to the key; then basic constraints, key
-    /// usage, numbers of autonomous systems, resources of the issuer, access to the subject, extended key usage,
-    /// authority key identifier, revocation list, certificate of the issuer.
+    /// [TbsCert::test] by the profile of a BGPsec router.
     pub fn test_router(&self, strict: bool) -> Result<(), CertRule>
-        ensures { TestsRules (IsRouterProfile strict self.now) strict self.now router_rules result }
+        ensures { TestsProfile Router strict self.now result }
     {
-        self.inspected().test_all(strict, router_rules())
+        self.test(Profile::Router, strict)
     }
 }
 
-/// # Profiles, tested in place
+/// Why a certificate is not what [CertView::check] asks of it.
+#[derive(Clone, Copy, Debug, PartialEq, Eq)]
+pub enum CheckError {
+    /// An extension is malformed, or not as critical as it has to be: the first, as [ExtensionTable::known] has them.
+    ///
+    /// [ExtensionTable::known]: crate::ExtensionTable::known
+    Extension(KnownPart),
+    /// The certificate breaks this rule of the profile first.
+    Rule(CertRule),
+}
+
 impl CertView<'_> {
-    /// Tests that the certificate has the profile of a trust anchor, as [TbsCert::test_ta] does. Allocates
-    /// nothing.
-    pub fn test_ta(&self, strict: bool) -> Result<(), CertRule>
+    /// Tests that the certificate has the profile, in place, as [TbsCert::test] does. Allocates nothing.
+    pub fn test(&self, profile: Profile, strict: bool) -> Result<(), CertRule>
         requires { (s : List ℕ) × (x : CertParts) × IsCertAt s self.now x }
-        ensures { (s : List ℕ) (x : CertParts) → IsCertAt s self.now x
-            → TestsRules (IsTaProfile strict x.tbs) strict x.tbs ta_rules result }
+        ensures { (s : List ℕ) (x : CertParts) → IsCertAt s self.now x → TestsProfile profile strict x.tbs result }
     {
-        self.inspected().test_all(strict, ta_rules())
+        self.inspected().test(profile, strict)
     }
 
-    /// Tests that the certificate has the profile of a certification authority, as [TbsCert::test_ca] does. Allocates
-    /// nothing.
-    pub fn test_ca(&self, strict: bool) -> Result<(), CertRule>
+    /// What the extensions say, of a certificate that has the profile: [Keyed::known](crate::Keyed::known) and
+    /// [CertView::test] at once, each extension read once. Allocates nothing.
+    ///
+    /// The error is that of the extensions; else the rule of the profile that is broken first.
+    pub fn check(&self, profile: Profile, strict: bool) -> Result<KnownView, CheckError>
         requires { (s : List ℕ) × (x : CertParts) × IsCertAt s self.now x }
-        ensures { (s : List ℕ) (x : CertParts) → IsCertAt s self.now x
-            → TestsRules (IsCaProfile strict x.tbs) strict x.tbs ca_rules result }
+        ensures ok { IfOk result (λ v. (s : List ℕ) (x : CertParts) → IsCertAt s self.now x
+            → AreKnown x.tbs.extensions v × HasProfile profile strict x.tbs) }
+        ensures err { IfErr result (λ e. (s : List ℕ) (x : CertParts) → IsCertAt s self.now x
+            → IsCheckError profile strict x.tbs e) }
     {
-        self.inspected().test_all(strict, ca_rules())
-    }
-
-    /// Tests that the certificate has the profile of an end entity that signs an object, as [TbsCert::test_ee] does.
-    /// Allocates nothing.
-    pub fn test_ee(&self, strict: bool) -> Result<(), CertRule>
-        requires { (s : List ℕ) × (x : CertParts) × IsCertAt s self.now x }
-        ensures { (s : List ℕ) (x : CertParts) → IsCertAt s self.now x
-            → TestsRules (IsEeProfile strict x.tbs) strict x.tbs ee_rules result }
-    {
-        self.inspected().test_all(strict, ee_rules())
-    }
-
-    /// Tests that the certificate has the profile of an end entity without subject information access, as
-    /// [TbsCert::test_detached_ee] does. Allocates nothing.
-    pub fn test_detached_ee(&self, strict: bool) -> Result<(), CertRule>
-        requires { (s : List ℕ) × (x : CertParts) × IsCertAt s self.now x }
-        ensures { (s : List ℕ) (x : CertParts) → IsCertAt s self.now x
-            → TestsRules (IsDetachedProfile strict x.tbs) strict x.tbs detached_rules result }
-    {
-        self.inspected().test_all(strict, detached_rules())
-    }
-
-    /// Tests that the certificate has the profile of a BGPsec router, as [TbsCert::test_router] does. Allocates
-    /// nothing.
-    pub fn test_router(&self, strict: bool) -> Result<(), CertRule>
-        requires { (s : List ℕ) × (x : CertParts) × IsCertAt s self.now x }
-        ensures { (s : List ℕ) (x : CertParts) → IsCertAt s self.now x
-            → TestsRules (IsRouterProfile strict x.tbs) strict x.tbs router_rules result }
-    {
-        self.inspected().test_all(strict, router_rules())
+        let inspected = self.inspected();
+        match inspected.values.known() {
+            Ok(known) => match inspected.test(profile, strict) {
+                Ok(()) => Ok(known),
+                Err(rule) => Err(CheckError::Rule(rule)),
+            },
+            Err(part) => Err(CheckError::Extension(part)),
+        }
     }
 }

@@ -7,8 +7,8 @@ ghost use Rattle.rpki_der.specs.FirstFault.{ReadsParts};
 ghost use Rattle.rpki_cert.specs.Cert.{fields_of, AreFields, SpellsTbs};
 ghost use Rattle.rpki_cert.specs.Cert.{fields, tbs_certificate};
 
-use crate::extensions::take_extensions;
-use crate::version::skip_version;
+use crate::extension::list::take_extensions;
+use crate::read::version::skip_version;
 use rpki::crypto::{PublicKey, RpkiSignatureAlgorithm, SignatureAlgorithm};
 use rpki::der::{Constructed, DecodeError, Keep};
 use rpki::repository::x509::{CertExtension, Name, Serial, Validity};

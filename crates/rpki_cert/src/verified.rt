@@ -5,15 +5,16 @@ ghost use Rattle.jiff.specs.Types.{DateTime as Civil};
 ghost use Rattle.rpki_time.specs.Validity.{HoldsAt};
 ghost use Rattle.rpki_cert.specs.Known.{certificate_policies};
 ghost use Rattle.rpki_cert.specs.ExtensionContent.{SpellsPolicies};
-ghost use Rattle.rpki_cert.specs.Profile.{HasSome, IsCaProfile, IsEeProfile, IsDetachedProfile, IsRouterProfile};
-ghost use Rattle.rpki_cert.specs.Rule.{ca_rules, ee_rules, detached_rules, router_rules};
+ghost use Rattle.rpki_cert.specs.RuleWords.{HasSome};
+ghost use Rattle.rpki_cert.specs.declared.profile.Profile.TheVariants.{Ca, Ee, DetachedEe, Router};
 ghost use Rattle.rpki_cert.specs.ResourceExtensions.{AreWellFormed};
 ghost use Rattle.rpki_cert.specs.ResourceSet.{AreWithin};
 ghost use Rattle.rpki_cert.specs.Verified.{checkers_by, verified_by, holder, IsRootWith, IsVerified, IsVerifiedBy};
 ghost use Rattle.rpki_cert.specs.Verified.{HasPath, ChecksPath, ChecksLink, ChecksRoot, IsRefusedLink, IsRefusedRoot};
 
 use crate::cert::Cert;
-use crate::resource_set::ResourceSet;
+use crate::profile::Profile;
+use crate::resource::set::ResourceSet;
 use crate::verify::verify_period;
 use rpki::crypto::Provider;
 use rpki::repository::error::ValidationError;
@@ -125,19 +126,24 @@ impl Cert {
         self.tbs().settle(alloc, issuer.resources())
     }
 
-    /// Tests what [Cert::verify_ca] does; returns the resources that the path gives it.
-    fn check_ca<P: Provider>(
+    /// Tests that the certificate has the profile, that the verified authority has issued it, and that all of its path
+    /// is valid at the moment; returns the resources that the path gives it.
+    fn verify_link<P: Provider>(
         &self,
         alloc: Global,
         issuer: &ResourceCert<'_, P>,
+        profile: Profile,
         strict: bool,
         at: Time,
     ) -> Result<ResourceSet, ValidationError>
-        ensures exactly { ChecksLink (IsCaProfile strict) strict ca_rules
+        ensures exactly { ChecksLink profile strict
             (verified_by P.rsa_of P.ecdsa_of P.sha1_of issuer.now) at self.now result }
+        ensures path { IfOk result (λ v. HasPath profile strict
+            (checkers_by P.rsa_of P.ecdsa_of P.sha1_of issuer.now.provider) at (holder self.now v)) }
+        ensures within { IfOk result (λ v. AreWithin v issuer.now.resources) }
         ensures verified { IfOk result (λ _. IsVerified (verified_by P.rsa_of P.ecdsa_of P.sha1_of issuer.now)) }
     {
-        self.tbs().inspect_ca(strict)?;
+        self.tbs().inspect(profile, strict)?;
         self.verify_path(alloc, issuer, at)
     }
 
@@ -174,19 +180,19 @@ impl Cert {
         strict: bool,
         at: Time,
     ) -> Result<ResourceCert<'p, P>, ValidationError>
-        ensures ok { IfOk result (λ v. IsVerifiedBy (IsCaProfile strict)
+        ensures ok { IfOk result (λ v. IsVerifiedBy Ca strict
             (verified_by P.rsa_of P.ecdsa_of P.sha1_of issuer.now) at self v.resources) }
-        ensures path { IfOk result (λ v. HasPath (IsCaProfile strict)
+        ensures path { IfOk result (λ v. HasPath Ca strict
             (checkers_by P.rsa_of P.ecdsa_of P.sha1_of issuer.now.provider) at (holder self v.resources)) }
         ensures within { IfOk result (λ v. AreWithin v.resources issuer.now.resources) }
         ensures cert { IfOk result (λ v. v.cert ≡ self) }
         ensures period { IfOk result (λ v. (m : Civil)
             → HoldsAt v.period m ↔ (HoldsAt issuer.now.period m × HoldsAt self.tbs.validity m)) }
         ensures provider { IfOk result (λ v. v.provider ≡ issuer.now.provider) }
-        ensures err { IfErr result (λ e. IsRefusedLink (IsCaProfile strict) strict ca_rules
+        ensures err { IfErr result (λ e. IsRefusedLink Ca strict
             (verified_by P.rsa_of P.ecdsa_of P.sha1_of issuer.now) at self e) }
     {
-        let resources = self.check_ca(alloc, issuer, strict, at)?;
+        let resources = self.verify_link(alloc, issuer, Profile::Ca, strict, at)?;
         let period = issuer.period().trim(self.tbs().validity());
         Ok(ResourceCert {
             cert: self,
@@ -206,14 +212,13 @@ impl Cert {
         strict: bool,
         at: Time,
     ) -> Result<ResourceSet, ValidationError>
-        ensures exactly { ChecksLink (IsEeProfile strict) strict ee_rules
+        ensures exactly { ChecksLink Ee strict
             (verified_by P.rsa_of P.ecdsa_of P.sha1_of issuer.now) at self.now result }
-        ensures path { IfOk result (λ v. HasPath (IsEeProfile strict)
+        ensures path { IfOk result (λ v. HasPath Ee strict
             (checkers_by P.rsa_of P.ecdsa_of P.sha1_of issuer.now.provider) at (holder self.now v)) }
         ensures within { IfOk result (λ v. AreWithin v issuer.now.resources) }
     {
-        self.tbs().inspect_ee(strict)?;
-        self.verify_path(alloc, issuer, at)
+        self.verify_link(alloc, issuer, Profile::Ee, strict, at)
     }
 
     /// As [Cert::verify_ca], of an end entity without subject information access (RFC 9323 2); returns its resources.
@@ -226,14 +231,13 @@ impl Cert {
         strict: bool,
         at: Time,
     ) -> Result<ResourceSet, ValidationError>
-        ensures exactly { ChecksLink (IsDetachedProfile strict) strict detached_rules
+        ensures exactly { ChecksLink DetachedEe strict
             (verified_by P.rsa_of P.ecdsa_of P.sha1_of issuer.now) at self.now result }
-        ensures path { IfOk result (λ v. HasPath (IsDetachedProfile strict)
+        ensures path { IfOk result (λ v. HasPath DetachedEe strict
             (checkers_by P.rsa_of P.ecdsa_of P.sha1_of issuer.now.provider) at (holder self.now v)) }
         ensures within { IfOk result (λ v. AreWithin v issuer.now.resources) }
     {
-        self.tbs().inspect_detached_ee(strict)?;
-        self.verify_path(alloc, issuer, at)
+        self.verify_link(alloc, issuer, Profile::DetachedEe, strict, at)
     }
 
     /// As [Cert::verify_ca], of a BGPsec router (RFC 8209 3.1); returns its resources.
@@ -246,13 +250,12 @@ impl Cert {
         strict: bool,
         at: Time,
     ) -> Result<ResourceSet, ValidationError>
-        ensures exactly { ChecksLink (IsRouterProfile strict) strict router_rules
+        ensures exactly { ChecksLink Router strict
             (verified_by P.rsa_of P.ecdsa_of P.sha1_of issuer.now) at self.now result }
-        ensures path { IfOk result (λ v. HasPath (IsRouterProfile strict)
+        ensures path { IfOk result (λ v. HasPath Router strict
             (checkers_by P.rsa_of P.ecdsa_of P.sha1_of issuer.now.provider) at (holder self.now v)) }
         ensures within { IfOk result (λ v. AreWithin v issuer.now.resources) }
     {
-        self.tbs().inspect_router(strict)?;
-        self.verify_path(alloc, issuer, at)
+        self.verify_link(alloc, issuer, Profile::Router, strict, at)
     }
 }

@@ -10,8 +10,8 @@ ghost use Rattle.rpki_cert.specs.Valid.{HasReason, IsPeriodError, IsSignedBy, Ha
 ghost use Rattle.rpki_cert.specs.Valid.{HasAuthority, IsOtherAuthority, ChecksIssued, ChecksAnchor};
 
 use crate::cert::Cert;
-use crate::extension_source::are_understood;
-use crate::extensions::find;
+use crate::extension::list::find;
+use crate::extension::source::are_understood;
 use crate::tbs::TbsCert;
 use rpki::crypto::{KeyIdentifier, Provider, PublicKey, PublicKeyFormat};
 use rpki::der::ContentError;

@@ -5,9 +5,8 @@ use Rattle.jiff.specs.Types.{DateTime}
 use Rattle.rpki.specs.declared.repository.error.ValidationError.{ValidationError}
 use Rattle.rpki.specs.ErrorTexts.{verification_text}
 use Rattle.rpki.specs.Provider.{Check}
-use Rattle.rpki_cert.specs.declared.resource_set.ResourceSet.{ResourceSet}
-use Rattle.rpki_cert.specs.Profile.{IsEeProfile}
-use Rattle.rpki_cert.specs.Rule.{ee_rules}
+use Rattle.rpki_cert.specs.declared.resource.set.ResourceSet.{ResourceSet}
+use Rattle.rpki_cert.specs.declared.profile.Profile.TheVariants.{Ee}
 use Rattle.rpki_cert.specs.RuleError.{ChecksBy}
 use Rattle.rpki_cert.specs.Valid.{HasReason, HasSubject, IsOtherSubject}
 use Rattle.rpki_cert.specs.Verified.{Verified, ChecksLink, IsRefusedWith}
@@ -56,6 +55,6 @@ module _ (strict : Bool) (sha256 : List ℕ → List ℕ) (v : Verified) (at : D
 
   -- it has: so the certificate decides
   pub cert-decides : (r : Result ResourceSet ValidationError) → IsSignedObject v.by.rsa v.by.ecdsa sha256 x
-      → ChecksLink (IsEeProfile strict) strict ee_rules v at x.cert r → ChecksObject strict sha256 v at x r
+      → ChecksLink Ee strict v at x.cert r → ChecksObject strict sha256 v at x r
   cert-decides (Ok r) signed h = record { signed = signed; cert = h }
   cert-decides (Err e) signed h = (unless-weaker e (λ none r k. none r k.cert) h.0, inr (signed, h.1))

@@ -8,7 +8,7 @@ use Rattle.rpki_contents.specs.Aspa.{AspaParts}
 use Rattle.rpki_contents.specs.Manifest.{ManifestParts}
 use Rattle.rpki_contents.specs.Roa.{AttestationParts}
 use Rattle.rpki_contents.specs.Within.{AreWithin}
-use Rattle.rpki_cert.specs.declared.resource_set.ResourceSet.{ResourceSet}
+use Rattle.rpki_cert.specs.declared.resource.set.ResourceSet.{ResourceSet}
 use Rattle.rpki_cert.specs.RuleError.{ChecksBy}
 use Rattle.rpki_cert.specs.Valid.{HasReason}
 use Rattle.rpki_objects.specs.Crl.{CrlParts}

@@ -8,10 +8,10 @@ use Rattle.rpki_der.specs.Parts.{OptionalThen}
 use Rattle.rpki_der.specs.FirstFault.{RepeatedFault}
 use Rattle.rpki_time.specs.TimeValue.{time}
 use Rattle.rpki.specs.Prelude.{ExtensionParts, SignedParts, SpellsExtension, SpellsNameOctets, IsSignedContents}
-use Rattle.rpki_cert.specs.declared.cert_part.CertPart.{CertPart}
-use Rattle.rpki_cert.specs.declared.cert_part.CertPart.TheVariants.{Algorithm, Signature}
-use Rattle.rpki_cert.specs.declared.section.Section.{Section}
-use Rattle.rpki_cert.specs.declared.view.Parts.{Parts}
+use Rattle.rpki_cert.specs.declared.read.cert_part.CertPart.{CertPart}
+use Rattle.rpki_cert.specs.declared.read.cert_part.CertPart.TheVariants.{Algorithm, Signature}
+use Rattle.rpki_cert.specs.declared.read.section.Section.{Section}
+use Rattle.rpki_cert.specs.declared.read.view.Parts.{Parts}
 use Rattle.rpki_cert.specs.Cert.{SpellsRpkiAlgorithm}
 use Rattle.rpki_cert.specs.View.{IsSection, ArePartsIn, ArePartsWrong}
 use Rattle.rpki_objects.specs.declared.crl_part.CrlPart.{CrlPart}

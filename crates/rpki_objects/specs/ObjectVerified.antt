@@ -6,9 +6,8 @@ use Rattle.rpki.specs.declared.crypto.keys.PublicKeyFormat.TheVariants.{Rsa}
 use Rattle.rpki.specs.Provider.{Check, Verifies}
 use Rattle.rpki.specs.PublicKey.{KeyParts}
 use Rattle.rpki.specs.ErrorTexts.{verification_text}
-use Rattle.rpki_cert.specs.declared.resource_set.ResourceSet.{ResourceSet}
-use Rattle.rpki_cert.specs.Profile.{IsEeProfile}
-use Rattle.rpki_cert.specs.Rule.{ee_rules}
+use Rattle.rpki_cert.specs.declared.resource.set.ResourceSet.{ResourceSet}
+use Rattle.rpki_cert.specs.declared.profile.Profile.TheVariants.{Ee}
 use Rattle.rpki_cert.specs.RuleError.{ChecksBy}
 use Rattle.rpki_cert.specs.Valid.{HasReason, HasSubject, IsOtherSubject, Unless}
 use Rattle.rpki_cert.specs.Verified.{Verified, IsVerifiedBy, IsUnverified, ChecksWith}
@@ -55,14 +54,14 @@ ChecksSigned rsa ecdsa sha256 x = ChecksBy (IsSignedObject rsa ecdsa sha256 x) (
 pub record IsValidObject (strict : Bool) (sha256 : List ℕ → List ℕ) (issuer : Verified) (at : DateTime)
     (x : ObjectParts) (held : ResourceSet) : Type 0 where
   pub signed : IsSignedObject issuer.by.rsa issuer.by.ecdsa sha256 x
-  pub cert : IsVerifiedBy (IsEeProfile strict) issuer at x.cert held
+  pub cert : IsVerifiedBy Ee strict issuer at x.cert held
 
 -- the error where it isn't: that of the first that doesn't hold
 abbrev pub IsInvalidObject : Bool → (List ℕ → List ℕ) → Verified → DateTime → ObjectParts → ValidationError → Type 0
 IsInvalidObject strict sha256 issuer at x =
     Unless (IsSignedObject issuer.by.rsa issuer.by.ecdsa sha256 x)
     (IsUnsignedObject issuer.by.rsa issuer.by.ecdsa sha256 x)
-    (IsUnverified (IsEeProfile strict) strict ee_rules issuer at x.cert)
+    (IsUnverified Ee strict issuer at x.cert)
 
 -- a check that returns the resources of the object
 abbrev pub ChecksObject : Bool → (List ℕ → List ℕ) → Verified → DateTime → ObjectParts

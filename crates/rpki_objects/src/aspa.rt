@@ -4,7 +4,7 @@
 ghost use Rattle.std.specs.Prelude.{◌≡◌, IfOk, codes};
 ghost use Rattle.std.specs.Option.{option_copied};
 ghost use Rattle.rpki_der.specs.Prelude.{left, Takes, TakesWhole, CanShare};
-ghost use Rattle.rpki_cert.specs.Profile.{IsEeProfile};
+ghost use Rattle.rpki_cert.specs.declared.profile.Profile.TheVariants.{Ee};
 ghost use Rattle.rpki_cert.specs.ResourceSet.{AreWithin};
 ghost use Rattle.rpki_cert.specs.RuleError.{ChecksBy};
 ghost use Rattle.rpki_cert.specs.Valid.{HasReason};
@@ -150,7 +150,7 @@ impl Aspa {
     ) -> Result<ResourceSet, ValidationError>
         ensures exactly { ProcessesAspa strict (P.sha256_of issuer.now.provider)
             (verified_by P.rsa_of P.ecdsa_of P.sha1_of issuer.now) at (option_copied list.entry) self.now result }
-        ensures path { IfOk result (λ v. HasPath (IsEeProfile strict)
+        ensures path { IfOk result (λ v. HasPath Ee strict
             (checkers_by P.rsa_of P.ecdsa_of P.sha1_of issuer.now.provider) at (holder self.now.object.cert v)) }
         ensures within { IfOk result (λ v. AreWithin v issuer.now.resources) }
     {

@@ -1,12 +1,16 @@
 //! Laws of the definitions.
 
-ghost use Rattle.std.specs.Prelude.{ℕ, List};
+ghost use Rattle.std.specs.Prelude.{◌≡◌, ◌↔◌, ℕ, List, IsTrue};
+ghost use Rattle.rpki_objects.specs.declared.crl_part.CrlPart.{CrlPart as WrongList};
+ghost use Rattle.rpki_objects.specs.declared.object_part.ObjectPart.{ObjectPart as WrongObject};
 ghost use Rattle.rpki_objects.specs.SignedAttributes.{AttributeValues};
 ghost use Rattle.rpki_objects.specs.Crl.{ListParts};
 ghost use Rattle.rpki_objects.specs.EncodedCrl.{IsListReadBack, IsShortCrl, IsCrlReadBack};
 ghost use Rattle.rpki_objects.specs.EncodedAttributes.{CanWriteAttributes, AreReadBack};
 ghost use Rattle.rpki_objects.specs.EncodedObject.{BuiltObject, CanWriteObject, IsObjectReadBack, IsDecodedBack};
 
+use crate::crl_part::CrlPart;
+use crate::object_part::ObjectPart;
 use crate::signed_object::SignedObject;
 use bytes::Bytes;
 use rpki::der::DecodeError;
@@ -37,3 +41,9 @@ pub fn objects_read_back(
 {
     SignedObject::decode(alloc, bytes, strict)
 }
+
+/// Parts that are wrong are equal exactly where they are one.
+pub fn equal_parts_are_one()
+    ensures list { (p q : WrongList) → IsTrue (⟦<CrlPart as PartialEq>⟧.eq p q) ↔ (p ≡ q) }
+    ensures object { (p q : WrongObject) → IsTrue (⟦<ObjectPart as PartialEq>⟧.eq p q) ↔ (p ≡ q) }
+{}

@@ -3,7 +3,7 @@
 ghost use Rattle.std.specs.Prelude.{◌≡◌, ◌↔◌, Option, IfOk, IsTrue, codes};
 ghost use Rattle.std.specs.Option.{option_copied};
 ghost use Rattle.rpki.specs.ErrorTexts.{verification_text};
-ghost use Rattle.rpki_cert.specs.Profile.{IsEeProfile};
+ghost use Rattle.rpki_cert.specs.declared.profile.Profile.TheVariants.{Ee};
 ghost use Rattle.rpki_cert.specs.ResourceSet.{AreWithin};
 ghost use Rattle.rpki_cert.specs.RuleError.{ChecksBy};
 ghost use Rattle.rpki_cert.specs.Valid.{HasReason, HasSubject, IsOtherSubject};
@@ -117,7 +117,7 @@ impl SignedObject {
     ) -> Result<ResourceSet, ValidationError>
         ensures exactly { ChecksObject strict (P.sha256_of issuer.now.provider)
             (verified_by P.rsa_of P.ecdsa_of P.sha1_of issuer.now) at self.now result }
-        ensures path { IfOk result (λ v. HasPath (IsEeProfile strict)
+        ensures path { IfOk result (λ v. HasPath Ee strict
             (checkers_by P.rsa_of P.ecdsa_of P.sha1_of issuer.now.provider) at (holder self.now.cert v)) }
         ensures within { IfOk result (λ v. AreWithin v issuer.now.resources) }
     {

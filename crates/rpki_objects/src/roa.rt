@@ -3,7 +3,7 @@
 ghost use Rattle.std.specs.Prelude.{◌≡◌, IfOk};
 ghost use Rattle.std.specs.Option.{option_copied};
 ghost use Rattle.rpki_der.specs.Prelude.{left, Takes, TakesWhole, CanShare};
-ghost use Rattle.rpki_cert.specs.Profile.{IsEeProfile};
+ghost use Rattle.rpki_cert.specs.declared.profile.Profile.TheVariants.{Ee};
 ghost use Rattle.rpki_cert.specs.ResourceSet.{AreWithin as AreHeldWithin};
 ghost use Rattle.rpki_cert.specs.Verified.{checkers_by, verified_by, holder, HasPath};
 ghost use Rattle.rpki_contents.specs.Roa.{fields_of, roa};
@@ -157,7 +157,7 @@ impl Roa {
     ) -> Result<ResourceSet, ValidationError>
         ensures exactly { ProcessesOrigin strict (P.sha256_of issuer.now.provider)
             (verified_by P.rsa_of P.ecdsa_of P.sha1_of issuer.now) at (option_copied list.entry) self.now result }
-        ensures path { IfOk result (λ v. HasPath (IsEeProfile strict)
+        ensures path { IfOk result (λ v. HasPath Ee strict
             (checkers_by P.rsa_of P.ecdsa_of P.sha1_of issuer.now.provider) at (holder self.now.object.cert v)) }
         ensures within { IfOk result (λ v. AreHeldWithin v issuer.now.resources) }
     {

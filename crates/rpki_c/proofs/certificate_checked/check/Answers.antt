@@ -1,11 +1,10 @@
-use Rattle.std.proofs.Common.{inl, inr, refl, Ok, Err}
-use Rattle.rpki_c.specs.CertificateChecked.IsRefusedAs.{WrongPart, WrongExtension, BrokenRule}
-use Rattle.rpki_c.proofs.CertificateLaws.{listed}
-use Rattle.rpki_c.proofs.InspectionLaws.{of-octets}
+use Rattle.std.proofs.Common.{inl, inr, refl}
+use Rattle.rpki_c.specs.CertificateChecked.IsRefusedAs.{WrongPart}
+use Rattle.rpki_c.proofs.InspectionLaws.{refused-as}
 use Rattle.rpki_c.proofs.certificate_checked.check.Goals as goal
 
-pub test-requires : goal.test-requires
-test-requires c = let (x, h) = c.in-Ok.ensures.ok in (c.args.octets.now, x, h)
+pub check-requires : goal.check-requires
+check-requires c = let (x, h) = c.in-Ok.ensures.ok in (c.args.octets.now, x, h)
 
 pub parts_of-requires : goal.parts_of-requires
 parts_of-requires c = c.in-Ok.ensures.ok
@@ -13,38 +12,31 @@ parts_of-requires c = c.in-Ok.ensures.ok
 pub extensions_of-requires : goal.extensions_of-requires
 extensions_of-requires c =
     let (x, h) = c.in-Ok.ensures.ok in
-    (x, h, c.in-Ok-known.ensures.ok x.tbs.extensions (listed c.args.octets.now c.in-Ok.found x h))
+    (x, h, (c.in-Ok-check.ensures.ok c.args.octets.now x h).0)
 
-pub returns-in-Ok-test : goal.returns-in-Ok-test
-returns-in-Ok-test c =
+pub returns-in-Ok-check : goal.returns-in-Ok-check
+returns-in-Ok-check c =
     let (x, h) = c.in-Ok.ensures.ok in
     inl (
       refl,
       record {
-        profiled = of-octets c.args.octets.now c.args.profile c.args.strict x h.spelled (Ok c.in-Ok-test.field-0)
-            (c.in-Ok-test.ensures c.args.octets.now x h);
+        profiled =
+            record { cert = x; spelled = h.spelled; has = (c.in-Ok-check.ensures.ok c.args.octets.now x h).1 };
         divided = c.parts_of.ensures;
         extended = c.extensions_of.ensures;
       },
     )
 
-pub returns-in-Err-test : goal.returns-in-Err-test
-returns-in-Err-test c =
+pub returns-in-Err-check : goal.returns-in-Err-check
+returns-in-Err-check c =
     let (x, h) = c.in-Ok.ensures.ok in
-    let known = c.in-Ok-known.ensures.ok x.tbs.extensions (listed c.args.octets.now c.in-Ok.found x h) in
     inr (
-      BrokenRule c.in-Err-test.rule x c.in-Ok-known.known c.cert_rule_number.ensures h.spelled known
-          (of-octets c.args.octets.now c.args.profile c.args.strict x h.spelled (Err c.in-Err-test.rule)
-          (c.in-Err-test.ensures c.args.octets.now x h)),
+      refused-as c.args.octets.now c.args.profile c.args.strict x h.spelled c.in-Err-check.error
+          (c.in-Err-check.ensures.err c.args.octets.now x h) c.check_number.result
+          c.check_number.ensures,
       refl,
       refl,
     )
-
-pub returns-in-Err-known : goal.returns-in-Err-known
-returns-in-Err-known c =
-    let (x, h) = c.in-Ok.ensures.ok in
-    let wrong = c.in-Err-known.ensures.err x.tbs.extensions (listed c.args.octets.now c.in-Ok.found x h) in
-    inr (WrongExtension c.in-Err-known.part x c.known_number.ensures h.spelled wrong, refl, refl)
 
 pub returns-in-Err : goal.returns-in-Err
 returns-in-Err c = inr (WrongPart c.in-Err.part c.part_number.ensures c.in-Err.ensures.err, refl, refl)

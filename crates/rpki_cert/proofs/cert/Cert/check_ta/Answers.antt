@@ -1,12 +1,18 @@
+use Rattle.rpki_cert.specs.declared.profile.Profile.TheVariants.{Ta}
 use Rattle.rpki_cert.specs.Verified.{checkers_of}
+use Rattle.rpki_cert.proofs.RuleLaws.{has-policy, has-own}
 use Rattle.rpki_cert.proofs.TriedLaws.{tried-fault}
 use Rattle.rpki_cert.proofs.VerifiedLaws.{root-settles, root-else, root-off}
 use Rattle.rpki_cert.proofs.cert.Cert.check_ta.Goals as goal
 
 pub settle_anchor-requires : goal.settle_anchor-requires
 settle_anchor-requires g c =
-    let profile = rw c.tbs.ensures at c.in_ok-inspect_ta.ensures in
-    rw c.tbs-2.ensures (record { form = profile.ordinary.basic.blocks; own = profile.own })
+    let t = c.args.self.now.tbs in
+    let has = rw c.tbs.ensures at c.in_ok-inspect_ta.ensures in
+    rw c.tbs-2.ensures (record {
+      form = (has-policy c.args.strict t Ta has).1;
+      own = has-own c.args.strict t has;
+    })
 
 pub returns-in_err-inspect_ta : goal.returns-in_err-inspect_ta
 returns-in_err-inspect_ta g c =

@@ -1,9 +1,6 @@
 use Rattle.rpki_der.proofs.TriedLaws.{tried-error}
-use Rattle.rpki_cert.specs.Profile.{IsCaProfile}
-use Rattle.rpki_cert.specs.Rule.{ca_rules}
 use Rattle.rpki_cert.specs.Verified.{verified_by}
-use Rattle.rpki_cert.proofs.VerifiedLaws.{has-path, issued-at}
-use Rattle.rpki_cert.proofs.ResourceSetLaws.{resources-within}
+use Rattle.rpki_cert.proofs.VerifiedLaws.{issued-at}
 use Rattle.rpki_cert.proofs.cert.Cert.verify_ca.Goals as goal
 
 pub returns-in_err-resources-clause-err : goal.returns-in_err-resources-clause-err
@@ -16,16 +13,6 @@ invariant_of-result g c = λ m h.
     rw c.provider.ensures (issued-at c.args.strict v c.args.at m c.args.self c.in_ok-resources.resources
     c.in_ok-resources.ensures.verified c.in_ok-resources.ensures.exactly (holds.0 h))
 
-pub returns-clause-path : goal.returns-clause-path
-returns-clause-path g c =
-    let v = verified_by g.P.Provider.rsa_of g.P.Provider.ecdsa_of g.P.Provider.sha1_of c.args.issuer.now in
-    has-path (IsCaProfile c.args.strict) c.args.strict ca_rules v c.args.at c.args.self c.in_ok-resources.resources
-    c.in_ok-resources.ensures.verified c.in_ok-resources.ensures.exactly
-
 pub returns-clause-period : goal.returns-clause-period
 returns-clause-period g c = λ m. rw (c.period.ensures, c.validity.ensures, c.tbs.ensures)
     at c.trim-period.ensures.holds m
-
-pub returns-clause-within : goal.returns-clause-within
-returns-clause-within g c = resources-within c.args.self.tbs.extensions c.args.issuer.now.resources
-    c.in_ok-resources.resources c.in_ok-resources.ensures.exactly.path.resources

@@ -9,5 +9,6 @@ returns c = record {
   validity = c.validity.ensures;
   key = c.kept_key.ensures ∙ c.subject_public_key_info.ensures;
   extensions = c.extensions.ensures;
+  values = c.of.ensures c.args.self.now.extensions c.extensions.ensures;
   access = rw (c.find_kept.ensures, c.extensions-2.ensures) at c.information_in.ensures;
 }

@@ -1,5 +1,5 @@
 use Rattle.std.proofs.Common.{Some, inr}
-use Rattle.rpki_cert.specs.declared.resource_set.ResourceSet.{ResourceSet}
+use Rattle.rpki_cert.specs.declared.resource.set.ResourceSet.{ResourceSet}
 use Rattle.rpki_cert.specs.ResourceSet.{HasResources}
 use Rattle.rpki_cert.proofs.ResourceSetLaws.{settled-alone}
 use Rattle.rpki_cert.proofs.tbs.TbsCert.settle.Goals as goal

@@ -1,6 +1,6 @@
 use Rattle.std.proofs.Common.{refl}
 use Rattle.std.proofs.lemmas.Bool.{iff_false}
-use Rattle.rpki_cert.specs.declared.cert_part.CertPart.TheVariants.{Signed}
+use Rattle.rpki_cert.specs.declared.read.cert_part.CertPart.TheVariants.{Signed}
 use Rattle.rpki_cert.specs.View.FirstWrong.{AtPart}
 use Rattle.rpki_objects.specs.CrlView.IsCrlWrong.{NoList, InParts}
 use Rattle.rpki_objects.proofs.crl_view.CrlView.read.Goals as goal

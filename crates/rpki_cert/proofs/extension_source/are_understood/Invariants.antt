@@ -1,6 +1,0 @@
-use Rattle.std.proofs.Common.{◌≡◌, drop}
-use Rattle.rpki_cert.specs.Known.{are_understood}
-use Rattle.rpki_cert.proofs.extension_source.are_understood.Given as goal
-
-abbrev pub invariant-extensions : goal.invariant-extensions
-invariant-extensions l = are_understood l.all ≡ are_understood (drop l.extension-index l.all)

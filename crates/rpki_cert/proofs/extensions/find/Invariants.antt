@@ -1,6 +1,0 @@
-use Rattle.std.proofs.Common.{◌≡◌, drop}
-use Rattle.rpki_cert.specs.Cert.{find}
-use Rattle.rpki_cert.proofs.extensions.find.Given as goal
-
-abbrev pub invariant-extensions : goal.invariant-extensions
-invariant-extensions l = find l.id.0.now l.all ≡ find l.id.0.now (drop l.extension-index l.all)

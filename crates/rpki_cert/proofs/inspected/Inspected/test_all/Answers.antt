@@ -1,7 +1,0 @@
-use Rattle.rpki_cert.proofs.RuleLaws.{not-all}
-use Rattle.rpki_cert.proofs.inspected.Inspected.test_all.Goals as goal
-
-pub returns-in-Err : goal.returns-in-Err
-returns-in-Err c = λ t h.
-    let first = (c.in-Err.ensures t h).0 in
-    (first, not-all c.args.strict t c.args.rules.now c.in-Err.field-0.rule first)

@@ -1,0 +1,137 @@
+//! The extensions of a certificate, read once, in place without memory (RFC 5280 4.1.2.9, 4.2).
+
+ghost use Rattle.std.specs.Prelude.{◌≡◌, List, IfSome, IfNone};
+ghost use Rattle.rpki_der.specs.Cursor.{left};
+ghost use Rattle.rpki_der.specs.Each.{SpellsSome};
+ghost use Rattle.rpki.specs.ExtensionValue.{ExtensionParts, SpellsExtension};
+ghost use Rattle.rpki_cert.specs.Cert.{find};
+ghost use Rattle.rpki_cert.specs.Known.{are_understood};
+ghost use Rattle.rpki_cert.specs.ExtensionTable.{OfListed, identifier_of, FindsListed, IsListed};
+ghost use Rattle.rpki_cert.specs.View.{IsPassed};
+
+use crate::extension::kind::{ExtensionKind, is_understood, slot_of};
+use crate::extension::listed_extension::ListedExtension;
+use crate::read::section::Section;
+use rpki::der::Constructed;
+use rpki::repository::x509::ExtensionView;
+use std::marker::Model;
+
+/// The extensions of a certificate, and where each that certificates of the RPKI have is found.
+#[derive(Drop)]
+pub struct ExtensionTable<'a> {
+    list: &'a [u8],
+    slots: [Option<ListedExtension<'a>>; 14],
+    understood: bool,
+}
+
+impl<'a> Model for ExtensionTable<'a> {
+    ghost use Rattle.std.specs.Prelude.{ℕ, List};
+    ghost use Rattle.rpki_cert.specs.ExtensionTable.{IsTable};
+
+    ghost Value = { List ℕ };
+
+    ghost view = { λ t. t.list.now };
+
+    ghost invariant = { λ t. IsTable t.list.now t.slots t.understood };
+}
+
+/// Extensions that were read, one after another.
+#[derive(Drop)]
+pub struct Passed<'a> {
+    /// Their table; of those that have one identifier, the first is in it.
+    pub table: ExtensionTable<'a>,
+    /// How many they are.
+    pub count: usize,
+    /// Whether each of them has a slot of its own; so no two have the same identifier.
+    pub apart: bool,
+}
+
+/// What is kept of an extension, which is followed by what is left.
+fn listed_of<'a>(extension: &ExtensionView<'a>, rest: Constructed<'a>) -> ListedExtension<'a>
+    ensures { IsListed extension.now (left rest.entry) result }
+{
+    ListedExtension {
+        critical: extension.critical(),
+        contents: Section {
+            octets: extension.octets(),
+            following: rest.rest().len(),
+        },
+    }
+}
+
+/// Reads extensions, one after another, and one at least; None where the octets are something else.
+pub fn pass<'a>(list: Constructed<'a>) -> Option<Passed<'a>>
+    ensures some { IfSome result (λ p. IsPassed (left list.entry) p) }
+    ensures none { IfNone result ((xs : List ExtensionParts) → SpellsSome SpellsExtension xs (left list.entry) → ⊥) }
+{
+    if list.is_empty() {
+        return None;
+    }
+    let mut slots = [None; 14];
+    let mut understood = true;
+    let mut count = 0;
+    let mut apart = true;
+    let mut rest = Constructed::from_slice(list.rest());
+    'extensions: while !rest.is_empty() {
+        match ExtensionView::take_from(&mut rest) {
+            Ok(extension) => {
+                count += 1;
+                let known = is_understood(extension.critical(), extension.id());
+                understood = understood && known;
+                let slot = slot_of(extension.id());
+                if slots[slot].is_some() {
+                    apart = false;
+                } else {
+                    slots[slot] = Some(listed_of(&extension, rest));
+                }
+            }
+            Err(_) => return None,
+        }
+    }
+    Some(Passed {
+        table: ExtensionTable {
+            list: list.rest(),
+            slots,
+            understood,
+        },
+        count,
+        apart,
+    })
+}
+
+impl<'a> ExtensionTable<'a> {
+    /// The octets of the extensions.
+    pub fn octets(&self) -> &'a [u8]
+        ensures { result.now ≡ self.now }
+    {
+        self.list
+    }
+
+    /// The extension of this kind, and how many octets follow it.
+    pub fn listed(&self, kind: ExtensionKind) -> Option<ListedExtension<'a>>
+        ensures { FindsListed (identifier_of kind) self.now result }
+    {
+        self.slots[kind.slot()]
+    }
+
+    /// The extension of this kind.
+    pub fn find(&self, kind: ExtensionKind) -> Option<ExtensionView<'a>>
+        ensures { OfListed self.now (λ xs. result ≡ find (identifier_of kind) xs) }
+    {
+        match self.listed(kind) {
+            Some(found) => Some(ExtensionView::of_parts(
+                kind.id(),
+                found.critical,
+                found.contents.octets,
+            )),
+            None => None,
+        }
+    }
+
+    /// Whether every critical extension is a known one (RFC 5280 4.2).
+    pub fn are_understood(&self) -> bool
+        ensures { OfListed self.now (λ xs. result ≡ are_understood xs) }
+    {
+        self.understood
+    }
+}

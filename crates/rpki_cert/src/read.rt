@@ -1,0 +1,11 @@
+//! Reading certificates in place: a pass over the octets, without memory (RFC 5280 4.1).
+
+pub mod cert_part;
+pub mod fields;
+pub mod listed;
+pub mod names;
+pub mod nested;
+pub mod part;
+pub mod section;
+pub mod version;
+pub mod view;
