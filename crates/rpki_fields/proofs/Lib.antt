@@ -1,15 +1,22 @@
 -- Which lemma file answers which question.
 --
 -- Names, identifiers, what extensions say, errors that are no allocation failure: NameLaws, IdentifierLaws, SaysLaws,
--- MemoryLaws. Lists whose items
+-- MemoryLaws. Certificates of any algorithms: OtherCertLaws, OtherPartsLaws,
+-- OtherSizeLaws. Lists whose items
 -- stand in a relation: EachIsLaws. That a certificate has one list of fields, an object one sheet, and octets one
--- object: OneTextLaws, OneSheetLaws, OneObjectLaws.
+-- object: OneTextLaws, OtherTextLaws, OneSheetLaws,
+-- OneObjectLaws; what a reader of certificates says: OtherObjectLaws.
 
 pub mod NameLaws
 pub mod IdentifierLaws
 pub mod SaysLaws
 pub mod MemoryLaws
 pub mod EachIsLaws
+pub mod OtherCertLaws
+pub mod OtherPartsLaws
+pub mod OtherSizeLaws
 pub mod OneTextLaws
+pub mod OtherTextLaws
+pub mod OtherObjectLaws
 pub mod OneSheetLaws
 pub mod OneObjectLaws

@@ -1,5 +1,5 @@
 -- Octets are one object of a kind at most, and none where a reader says so.
-use Rattle.std.proofs.Common.{◌≡◌, ℕ, false, List, sym, ap, ◌∙◌}
+use Rattle.std.proofs.Common.{◌≡◌, ℕ, false, List, sym, ap, ◌∙◌, inl, inr}
 use Rattle.rpki_der.specs.declared.error.DecodeError.{DecodeError}
 use Rattle.rpki_der.specs.declared.error.DecodeError.TheVariants as der
 use Rattle.rpki_der.specs.Reading.{SpellsNothing}
@@ -14,8 +14,10 @@ use Rattle.rpki_fields.specs.declared.kind.Kind.{Kind}
 use Rattle.rpki_fields.specs.declared.kind.Kind.TheVariants as K
 use Rattle.rpki_fields.specs.declared.object.Object.{Object}
 use Rattle.rpki_fields.specs.declared.object.Object.TheVariants.{Certificate, RevocationList, FileList, RouteOrigins}
-use Rattle.rpki_fields.specs.declared.object.Object.TheVariants.{Providers, OtherContent}
-use Rattle.rpki_fields.specs.Object.{SpellsFields, IsOf, IsNone}
+use Rattle.rpki_fields.specs.declared.object.Object.TheVariants.{Providers, OtherContent, OtherCertificate}
+use Rattle.rpki_fields.specs.OtherCert.{AlgorithmParts, AlgorithmFields, OtherCertParts, CertFields, cert_fields_of}
+use Rattle.rpki_fields.specs.Object.{SpellsFields, IsOf, IsNone, IsCertificate, IsNoCertificate, NoOtherCert}
+use Rattle.rpki_fields.specs.Object.IsNoCertificate.{Neither, Lacking}
 use Rattle.rpki_fields.proofs.MemoryLaws.{unless-taken}
 
 -- the object of these fields
@@ -30,8 +32,53 @@ object_from f = record {
   };
 }
 
+-- ---- certificates
+
+-- the certificate of any algorithms of these fields
+abbrev algorithm_from : AlgorithmFields → AlgorithmParts
+algorithm_from f = record { identifier = f.0; parameters = f.1 }
+
+abbrev other_from : CertFields → OtherCertParts
+other_from f = record {
+  tbs = record {
+    serial = f.0.1.0;
+    algorithm = algorithm_from f.0.1.1.0;
+    issuer = f.0.1.1.1.0;
+    validity = f.0.1.1.1.1.0;
+    subject = f.0.1.1.1.1.1.0;
+    key = record { algorithm = algorithm_from f.0.1.1.1.1.1.1.0.0; bits = f.0.1.1.1.1.1.1.0.1 };
+    optional = record {
+      issuer_id = f.0.1.1.1.1.1.1.1.0;
+      subject_id = f.0.1.1.1.1.1.1.1.1.0;
+      extensions = f.0.1.1.1.1.1.1.1.1.1.0;
+    };
+  };
+  algorithm = algorithm_from f.1.0;
+  signature = f.1.1;
+}
+
+pub one-other : (c d : OtherCertParts) → cert_fields_of c ≡ cert_fields_of d → c ≡ d
+one-other c d e = ap other_from e
+
+one-certificate : (octets : List ℕ) (x y : Object) → IsCertificate octets x → IsCertificate octets y → x ≡ y
+one-certificate octets x y (inl g) (inl h) =
+    g.2 ∙ ap (λ (c : CertParts). Certificate c) (h.1.1 g.0 g.1.0) ∙ sym h.2
+one-certificate octets x y (inl g) (inr h) = absurd (h.0 g.0 g.1.0)
+one-certificate octets x y (inr g) (inl h) = absurd (g.0 h.0 h.1.0)
+one-certificate octets x y (inr g) (inr h) =
+    let same : g.1 ≡ h.1 = one-other g.1 h.1 (h.2.0.1 _ g.2.0.0) in
+    g.3 ∙ ap (λ (c : OtherCertParts). OtherCertificate c) same ∙ sym h.3
+
+-- none is there where a reader of those of the RPKI finds none, and one of others finds none
+no-certificate : (octets : List ℕ) (e : DecodeError) (x : Object) → (e ≡ der.OutOfMemory → ⊥)
+    → IsNoCertificate octets e → IsCertificate octets x → ⊥
+no-certificate octets e x z (Neither n k) (inl g) = unless-taken e (SpellsNothing SpellsCert octets) z n.0 g.0 g.1.0
+no-certificate octets e x z (Neither n k) (inr g) =
+    unless-taken e (NoOtherCert octets) z k g.1 g.2.0.0 g.2.1
+no-certificate octets e x z (Lacking y n) g = z y
+
 pub one-of : (kind : Kind) (octets : List ℕ) (x y : Object) → IsOf kind octets x → IsOf kind octets y → x ≡ y
-one-of K.Certificate octets x y g h = g.2 ∙ ap (λ (c : CertParts). Certificate c) (h.1.1 g.0 g.1.0) ∙ sym h.2
+one-of K.Certificate octets x y g h = one-certificate octets x y g h
 one-of K.RevocationList octets x y g h = g.2 ∙ ap (λ (l : CrlParts). RevocationList l) (h.1.1 g.0 g.1.0) ∙ sym h.2
 one-of K.FileList octets x y g h = g.2 ∙ ap (λ (m : TypedParts ManifestParts). FileList m) (h.1.1 g.0 g.1.0) ∙ sym h.2
 one-of K.RouteOrigins octets x y g h = g.2 ∙ ap (λ (r : TypedParts AttestationParts). RouteOrigins r) (h.1.1 g.0 g.1.0)
@@ -43,7 +90,7 @@ one-of K.OtherContent octets x y g h =
 
 pub none-of : (kind : Kind) (octets : List ℕ) (e : DecodeError) (x : Object) → (e ≡ der.OutOfMemory → ⊥)
     → IsNone kind octets e → IsOf kind octets x → ⊥
-none-of K.Certificate octets e x z n g = unless-taken e (SpellsNothing SpellsCert octets) z n.0 g.0 g.1.0
+none-of K.Certificate octets e x z n g = no-certificate octets e x z n g
 none-of K.RevocationList octets e x z n g = unless-taken e (SpellsNothing crl.spells octets) z n.0 g.0 g.1.0
 none-of K.FileList octets e x z n g = unless-taken e (SpellsNothing (manifest_object false).spells octets) z n.0 g.0
     g.1.0

@@ -16,7 +16,7 @@ use Rattle.rpki_objects.specs.TypedObject.{TypedParts}
 use Rattle.std.specs.Prelude.{codes, false}
 use Rattle.rpki_fields.specs.declared.object.Object.{Object}
 use Rattle.rpki_fields.specs.declared.object.Object.TheVariants.{Certificate, RevocationList, FileList, RouteOrigins}
-use Rattle.rpki_fields.specs.declared.object.Object.TheVariants.{Providers, OtherContent}
+use Rattle.rpki_fields.specs.declared.object.Object.TheVariants.{Providers, OtherContent, OtherCertificate}
 use Rattle.rpki_fields.specs.ContentText.{AreManifestFields, IsManifestSheet, IsOriginSheet, IsProviderSheet}
 use Rattle.rpki_fields.specs.ContentText.{IsOtherSheet}
 use Rattle.rpki_fields.specs.Field.{FieldParts}
@@ -26,6 +26,7 @@ use Rattle.rpki_fields.specs.Sheet.{SheetParts, plain_sheet}
 use Rattle.rpki_fields.specs.SignedText.{AreSignerKeys, AreSignerNames, AreSignerPlaces, AreSignedFields}
 use Rattle.rpki_fields.specs.ValueText.{colon_digits}
 use Rattle.rpki_fields.proofs.EachIsLaws.{one-each}
+use Rattle.rpki_fields.proofs.OtherTextLaws.{one-other-fields}
 use Rattle.rpki_fields.proofs.OneTextLaws.{one-number, one-name-text, one-only, one-uri, one-fields}
 
 -- ---- revocation lists
@@ -108,3 +109,5 @@ one-sheet octets (FileList m) a b g h = one-manifest-sheet m a b g h
 one-sheet octets (RouteOrigins r) a b g h = one-origin-sheet r a b g h
 one-sheet octets (Providers p) a b g h = one-provider-sheet p a b g h
 one-sheet octets (OtherContent o) a b g h = one-other-sheet o a b g h
+one-sheet octets (OtherCertificate c) a b g h = g.2
+    ∙ ap (λ (fields : List FieldParts). plain_sheet fields) (one-other-fields octets c g.0 h.0 g.1 h.1) ∙ sym h.2

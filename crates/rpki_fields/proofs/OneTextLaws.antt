@@ -6,6 +6,7 @@ use Rattle.rpki_der.specs.Number.{number_of, low_octets}
 use Rattle.rpki_der.specs.NumberLaws.{low_octets-full}
 use Rattle.rpki_der.specs.Integer.{IsMagnitude}
 use Rattle.rpki_der.proofs.UnsignedLaws.{magnitude-at-most}
+use Rattle.rpki_time.specs.Validity.{Period}
 use Rattle.rpki.specs.declared.crypto.keys.PublicKeyFormat.{PublicKeyFormat}
 use Rattle.rpki.specs.declared.crypto.keys.PublicKeyFormat.TheVariants.{Rsa, EcdsaP256}
 use Rattle.rpki.specs.PublicKey.{KeyParts}
@@ -53,7 +54,7 @@ one-number number text other g h = g.3 ∙ ap hex_digits (one-magnitude g.0 h.0 
 pub one-name-text : (octets text other : List ℕ) → IsNameText octets text → IsNameText octets other → text ≡ other
 one-name-text octets text other g h = g.2 ∙ ap parts_text (one-name octets g.0 h.0 g.1 h.1) ∙ sym h.2
 
-one-rsa-size : (bits text other : List ℕ) → IsRsaSize bits text → IsRsaSize bits other → text ≡ other
+pub one-rsa-size : (bits text other : List ℕ) → IsRsaSize bits text → IsRsaSize bits other → text ≡ other
 one-rsa-size bits text other (inl g) (inl h) =
     g.5 ∙ ap (λ (o : List ℕ). decimal (number_bits o)) (one-magnitude g.2 h.2 g.3 h.3 (g.4 ∙ sym h.4)) ∙ sym h.5
 one-rsa-size bits text other (inl g) (inr h) = absurd (h.0 g.0 g.1)
@@ -96,9 +97,10 @@ one-head t xs ys g h =
     let issuer = one-name-text t.issuer g.1 h.1 g.3 h.3 in
     (rw (serial, issuer) at g.4) ∙ sym h.4
 
-one-middle : (t : TbsParts) (xs ys : List FieldParts) → AreMiddle t xs → AreMiddle t ys → xs ≡ ys
-one-middle t xs ys g h =
-    let subject = one-name-text t.subject g.0 h.0 g.1 h.1 in
+pub one-middle : (validity : Period) (name : List ℕ) (xs ys : List FieldParts) → AreMiddle validity name xs
+    → AreMiddle validity name ys → xs ≡ ys
+one-middle validity name xs ys g h =
+    let subject = one-name-text name g.0 h.0 g.1 h.1 in
     (rw subject at g.2) ∙ sym h.2
 
 one-key : (k : KeyParts) (xs ys : List FieldParts) → AreKey k xs → AreKey k ys → xs ≡ ys
@@ -184,7 +186,7 @@ pub one-fields : (octets : List ℕ) (t : TbsParts) (xs ys : List FieldParts) �
     → AreFields octets t ys → xs ≡ ys
 one-fields octets t xs ys g h =
     let head = one-head t g.head h.head g.are_head h.are_head in
-    let middle = one-middle t g.middle h.middle g.are_middle h.are_middle in
+    let middle = one-middle t.validity t.subject g.middle h.middle g.are_middle h.are_middle in
     let key = one-key t.key g.key h.key g.are_key h.are_key in
     let identifiers = one-identifiers t.extensions g.identifiers h.identifiers g.are_identifiers h.are_identifiers in
     let uses = one-uses t.extensions g.uses h.uses g.are_uses h.are_uses in

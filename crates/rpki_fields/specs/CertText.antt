@@ -6,13 +6,14 @@ use Rattle.sha1.specs.Sha1.{sha1}
 use Rattle.sha2.specs.Sha256.{sha256}
 use Rattle.rpki.specs.declared.crypto.keys.PublicKeyFormat.{PublicKeyFormat}
 use Rattle.rpki.specs.declared.crypto.keys.PublicKeyFormat.TheVariants.{Rsa, EcdsaP256}
+use Rattle.rpki_time.specs.Validity.{Period}
 use Rattle.rpki.specs.PublicKey.{KeyParts}
 use Rattle.rpki.specs.KeyIdentifier.{SpellsKeyIdentifier}
 use Rattle.rpki.specs.ExtensionValue.{ExtensionParts}
-use Rattle.rpki_cert.specs.declared.key_usage.KeyUsage.{KeyUsage}
-use Rattle.rpki_cert.specs.declared.key_usage.KeyUsage.TheVariants.{Ca, Ee}
-use Rattle.rpki_cert.specs.declared.policy.Overclaim.{Overclaim}
-use Rattle.rpki_cert.specs.declared.policy.Overclaim.TheVariants.{Refuse, Trim}
+use Rattle.rpki_cert.specs.declared.extension.key_usage.KeyUsage.{KeyUsage}
+use Rattle.rpki_cert.specs.declared.extension.key_usage.KeyUsage.TheVariants.{Ca, Ee}
+use Rattle.rpki_cert.specs.declared.extension.policy.Overclaim.{Overclaim}
+use Rattle.rpki_cert.specs.declared.extension.policy.Overclaim.TheVariants.{Refuse, Trim}
 use Rattle.rpki_cert.specs.Cert.{TbsParts}
 use Rattle.rpki_cert.specs.Known.{subject_key_identifier, key_usage, basic_constraints, crl_distribution_points}
 use Rattle.rpki_cert.specs.Known.{certificate_policies, authority_key_identifier, extended_key_usage}
@@ -40,11 +41,11 @@ AreHead t fields =
     ∷ field_parts (codes "Issuer") issuer ∷ [])
 
 -- the period and the subject
-abbrev pub AreMiddle : TbsParts → List FieldParts → Type 0
-AreMiddle t fields =
-    (subject : List ℕ) × IsNameText t.subject subject
-    × (fields ≡ field_parts (codes "Not Before") (time_text t.validity.not_before)
-    ∷ field_parts (codes "Not After") (time_text t.validity.not_after)
+abbrev pub AreMiddle : Period → List ℕ → List FieldParts → Type 0
+AreMiddle validity name fields =
+    (subject : List ℕ) × IsNameText name subject
+    × (fields ≡ field_parts (codes "Not Before") (time_text validity.not_before)
+    ∷ field_parts (codes "Not After") (time_text validity.not_after)
     ∷ field_parts (codes "Subject") subject ∷ [])
 
 abbrev pub algorithm_text : PublicKeyFormat → List ℕ
@@ -199,7 +200,7 @@ pub record AreFields (octets : List ℕ) (t : TbsParts) (fields : List FieldPart
   pub subject : List FieldParts
   pub resources : List FieldParts
   pub are_head : AreHead t head
-  pub are_middle : AreMiddle t middle
+  pub are_middle : AreMiddle t.validity t.subject middle
   pub are_key : AreKey t.key key
   pub are_identifiers : AreIdentifiers t.extensions identifiers
   pub are_uses : AreUses t.extensions uses

@@ -9,6 +9,9 @@ pub mod Field
 pub mod Sheet
 pub mod ResourceText
 pub mod CertText
+pub mod OtherCert
+pub mod OtherView
+pub mod OtherText
 pub mod ListText
 pub mod SignedText
 pub mod ContentText

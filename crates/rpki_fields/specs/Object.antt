@@ -1,6 +1,7 @@
 -- The objects of a repository, each of a kind.
-use Rattle.std.specs.Prelude.{◌≡◌, ℕ, false, List, Option, Some, None}
+use Rattle.std.specs.Prelude.{◌≡◌, ◌⊎◌, ℕ, true, false, List, Option, Some, None}
 use Rattle.rpki_der.specs.declared.error.DecodeError.{DecodeError}
+use Rattle.rpki_der.specs.declared.error.DecodeError.TheVariants.{OutOfMemory}
 use Rattle.rpki_der.specs.Reading.{SpellsNothing, IsWholeFault, UnlessMemory}
 use Rattle.rpki_cert.specs.Cert.{TbsParts, CertParts, SpellsCert}
 use Rattle.rpki_cert.specs.CertFault.{IsCertFault}
@@ -14,7 +15,9 @@ use Rattle.rpki_fields.specs.declared.kind.Kind.{Kind}
 use Rattle.rpki_fields.specs.declared.kind.Kind.TheVariants as K
 use Rattle.rpki_fields.specs.declared.object.Object.{Object}
 use Rattle.rpki_fields.specs.declared.object.Object.TheVariants.{Certificate, RevocationList, FileList, RouteOrigins}
-use Rattle.rpki_fields.specs.declared.object.Object.TheVariants.{Providers, OtherContent}
+use Rattle.rpki_fields.specs.declared.object.Object.TheVariants.{Providers, OtherContent, OtherCertificate}
+use Rattle.rpki_fields.specs.OtherCert.{OtherCertParts, other_cert, cert_fields_of, has_other}
+use Rattle.rpki_fields.specs.OtherText.{objection}
 
 -- the octets spell this value, and no other
 abbrev pub SpellsOnly : {V : Type 0} → (V → List ℕ → Type 0) → V → List ℕ → Type 0
@@ -24,10 +27,24 @@ SpellsOnly {V} G v octets = G v octets × ((w : V) → G w octets → w ≡ v)
 abbrev pub SpellsFields : ObjectFields → List ℕ → Type 0
 SpellsFields = (signed_object false).spells
 
+-- a certificate with an algorithm that the RPKI doesn't use, and no other
+abbrev pub IsOtherCert : List ℕ → OtherCertParts → Type 0
+IsOtherCert octets c = SpellsOnly other_cert.spells (cert_fields_of c) octets × (has_other c ≡ true)
+
+-- the octets are no such certificate
+abbrev pub NoOtherCert : List ℕ → Type 0
+NoOtherCert octets = (c : OtherCertParts) → other_cert.spells (cert_fields_of c) octets → has_other c ≡ true → ⊥
+
+-- The octets are a certificate in the profile of the RPKI; or they are none, and one of other algorithms.
+abbrev pub IsCertificate : List ℕ → Object → Type 0
+IsCertificate octets x =
+    ((c : CertParts) × SpellsOnly SpellsCert c octets × (x ≡ Certificate c))
+    ⊎ (SpellsNothing SpellsCert octets × (c : OtherCertParts) × IsOtherCert octets c × (x ≡ OtherCertificate c))
+
 -- The octets are this object, which is of the kind, and no other. Of signed objects the attributes and the order of
 -- families are read as they were before RFC 9589 and RFC 9582 4.3.3.
 abbrev pub IsOf : Kind → List ℕ → Object → Type 0
-IsOf K.Certificate octets x = (c : CertParts) × SpellsOnly SpellsCert c octets × (x ≡ Certificate c)
+IsOf K.Certificate octets x = IsCertificate octets x
 IsOf K.RevocationList octets x = (l : CrlParts) × SpellsOnly crl.spells l octets × (x ≡ RevocationList l)
 IsOf K.FileList octets x =
     (m : TypedParts ManifestParts) × SpellsOnly (manifest_object false).spells m octets × (x ≡ FileList m)
@@ -43,16 +60,23 @@ abbrev pub IsUnspelled : {V : Type 0} → (V → List ℕ → Type 0) → (List 
     → Type 0
 IsUnspelled G K octets e = UnlessMemory e (SpellsNothing G octets) × IsWholeFault G K octets e
 
+-- The octets are no certificate, with the error of one in the profile of the RPKI; or there was no memory to read one
+-- of other algorithms.
+pub data IsNoCertificate (octets : List ℕ) (e : DecodeError) : Type 0 where
+  Neither : IsUnspelled SpellsCert IsCertFault octets e → UnlessMemory e (NoOtherCert octets) → IsNoCertificate octets e
+  Lacking : e ≡ OutOfMemory → IsUnspelled other_cert.spells other_cert.fault octets e
+      → IsNoCertificate octets e
+
 -- the octets are no object of the kind
 abbrev pub IsNone : Kind → List ℕ → DecodeError → Type 0
-IsNone K.Certificate = IsUnspelled SpellsCert IsCertFault
+IsNone K.Certificate = IsNoCertificate
 IsNone K.RevocationList = IsUnspelled crl.spells crl.fault
 IsNone K.FileList = IsUnspelled (manifest_object false).spells (manifest_object false).fault
 IsNone K.RouteOrigins = IsUnspelled (origin_object false).spells (origin_object false).fault
 IsNone K.Providers = IsUnspelled (aspa_object false).spells (aspa_object false).fault
 IsNone K.OtherContent = IsUnspelled SpellsFields (signed_object false).fault
 
--- the certificate that an object is, or that its signer has; a revocation list has none
+-- the certificate in the profile of the RPKI that an object is, or that its signer has; a revocation list has none
 abbrev pub cert_of : Object → Option TbsParts
 cert_of (Certificate c) = Some c.tbs
 cert_of (RevocationList l) = None
@@ -60,3 +84,14 @@ cert_of (FileList m) = Some m.object.cert.tbs
 cert_of (RouteOrigins r) = Some r.object.cert.tbs
 cert_of (Providers a) = Some a.object.cert.tbs
 cert_of (OtherContent o) = Some o.cert.tbs
+cert_of (OtherCertificate c) = None
+
+-- what the RPKI doesn't use of an object
+abbrev pub objection_to : Object → Option (List ℕ)
+objection_to (Certificate c) = None
+objection_to (RevocationList l) = None
+objection_to (FileList m) = None
+objection_to (RouteOrigins r) = None
+objection_to (Providers a) = None
+objection_to (OtherContent o) = None
+objection_to (OtherCertificate c) = Some (objection c)

@@ -2,11 +2,12 @@
 use Rattle.std.specs.Prelude.{◌≡◌, ℕ, List}
 use Rattle.rpki_fields.specs.declared.object.Object.{Object}
 use Rattle.rpki_fields.specs.declared.object.Object.TheVariants.{Certificate, RevocationList, FileList, RouteOrigins}
-use Rattle.rpki_fields.specs.declared.object.Object.TheVariants.{Providers, OtherContent}
+use Rattle.rpki_fields.specs.declared.object.Object.TheVariants.{Providers, OtherContent, OtherCertificate}
 use Rattle.rpki_fields.specs.CertText.{AreFields}
 use Rattle.rpki_fields.specs.ContentText.{IsManifestSheet, IsOriginSheet, IsProviderSheet, IsOtherSheet}
 use Rattle.rpki_fields.specs.Field.{FieldParts}
 use Rattle.rpki_fields.specs.ListText.{IsListSheet}
+use Rattle.rpki_fields.specs.OtherText.{AreOtherFields}
 use Rattle.rpki_fields.specs.Sheet.{SheetParts, plain_sheet}
 
 -- the sheet of the object that these octets are
@@ -18,3 +19,5 @@ IsSheet octets (FileList m) s = IsManifestSheet m s
 IsSheet octets (RouteOrigins r) s = IsOriginSheet r s
 IsSheet octets (Providers a) s = IsProviderSheet a s
 IsSheet octets (OtherContent o) s = IsOtherSheet o s
+IsSheet octets (OtherCertificate c) s =
+    (fields : List FieldParts) × AreOtherFields octets c fields × (s ≡ plain_sheet fields)

@@ -1,8 +1,8 @@
 -- Which part of octets is wrong that are no object of their kind: the leftmost, as readers in place tell it; none where
 -- these read all parts, so that what is wrong is seen of several together, or of a part that they don't look into.
 use Rattle.std.specs.Prelude.{◌≡◌, ◌⊎◌, ℕ, false, List, Option, Some, None}
-use Rattle.rpki_cert.specs.declared.cert_part.CertPart.{CertPart}
-use Rattle.rpki_cert.specs.declared.view.CertView.{CertView}
+use Rattle.rpki_cert.specs.declared.read.cert_part.CertPart.{CertPart}
+use Rattle.rpki_cert.specs.declared.read.view.CertView.{CertView}
 use Rattle.rpki_cert.specs.Cert.{CertParts}
 use Rattle.rpki_cert.specs.View.{IsCertAt, IsCertWrong}
 use Rattle.rpki_contents.specs.declared.manifest_part.ManifestPart.{ManifestPart}

@@ -1,7 +1,7 @@
 -- Where octets are wrong that are no object of their kind.
 use Rattle.std.specs.Prelude.{ℕ, List, codes, Option, Some, None}
-use Rattle.rpki_cert.specs.declared.cert_part.CertPart.{CertPart}
-use Rattle.rpki_cert.specs.declared.cert_part.CertPart.TheVariants as C
+use Rattle.rpki_cert.specs.declared.read.cert_part.CertPart.{CertPart}
+use Rattle.rpki_cert.specs.declared.read.cert_part.CertPart.TheVariants as C
 use Rattle.rpki_objects.specs.declared.crl_part.CrlPart.{CrlPart}
 use Rattle.rpki_objects.specs.declared.crl_part.CrlPart.TheVariants as L
 use Rattle.rpki_objects.specs.declared.object_part.ObjectPart.{ObjectPart}

@@ -15,7 +15,7 @@ use crate::value::{colon_digits, serial_text, time_text};
 use rpki::crypto::{PublicKey, PublicKeyFormat};
 use rpki::der::Oid;
 use rpki::oid;
-use rpki::repository::x509::CertExtension;
+use rpki::repository::x509::{CertExtension, Name, Validity};
 use rpki_cert::TbsCert;
 use sha1::Sha1;
 use sha2::{Digest, Sha256};
@@ -40,11 +40,10 @@ fn head(alloc: Global, tbs: &TbsCert) -> Result<Vec<Field>, AllocError>
 }
 
 /// The period and the subject.
-fn middle(alloc: Global, tbs: &TbsCert) -> Result<Vec<Field>, AllocError>
-    ensures { IfOk result (λ fields. AreMiddle tbs.now fields.items) }
+pub fn middle(alloc: Global, validity: Validity, subject: &Name) -> Result<Vec<Field>, AllocError>
+    ensures { IfOk result (λ fields. AreMiddle validity subject.now fields.items) }
 {
-    let subject = name_text(alloc, tbs.subject())?;
-    let validity = tbs.validity();
+    let subject = name_text(alloc, subject)?;
     let mut fields = Vec::new(alloc);
     push_field(
         &mut fields,
@@ -164,7 +163,7 @@ fn push_extension(
 }
 
 /// A field for each extension.
-fn extensions(alloc: Global, all: &[CertExtension]) -> Result<Vec<Field>, AllocError>
+pub fn extensions(alloc: Global, all: &[CertExtension]) -> Result<Vec<Field>, AllocError>
     ensures { IfOk result (λ fields. fields.items ≡ map extension_field all.now) }
 {
     let mut fields = Vec::new(alloc);
@@ -175,7 +174,7 @@ fn extensions(alloc: Global, all: &[CertExtension]) -> Result<Vec<Field>, AllocE
 }
 
 /// The digest of the octets, in digits.
-fn fingerprint(alloc: Global, octets: &[u8]) -> Result<Vec<u8>, AllocError>
+pub fn fingerprint(alloc: Global, octets: &[u8]) -> Result<Vec<u8>, AllocError>
     ensures { IfOk result (λ text. text.items ≡ fingerprint_text octets.now) }
 {
     colon_digits(alloc, &Sha256::digest(octets))
@@ -188,7 +187,7 @@ pub fn fields(alloc: Global, octets: &[u8], tbs: &TbsCert) -> Result<Vec<Field>,
     ensures { IfOk result (λ fields. AreFields octets.now tbs.now fields.items) }
 {
     let mut fields = head(alloc, tbs)?;
-    let mut middle = middle(alloc, tbs)?;
+    let mut middle = middle(alloc, tbs.validity(), tbs.subject())?;
     let mut key = key(alloc, tbs)?;
     let mut identifiers = identifiers(alloc, tbs)?;
     let mut uses = uses(alloc, tbs)?;

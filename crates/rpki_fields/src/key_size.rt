@@ -5,6 +5,7 @@ ghost use Rattle.rpki_der.specs.Number.{number_of};
 ghost use Rattle.rpki_der.specs.Integer.{IsMagnitude};
 ghost use Rattle.rpki_fields.specs.KeySize.{octet_bits, number_bits, modulus_of, IsRsaSize, IsSizeText};
 
+use bytes::Bytes;
 use rpki::crypto::{PublicKey, PublicKeyFormat};
 use rpki::der::{Constructed, DecodeError};
 use std::alloc::{AllocError, Global};
@@ -63,13 +64,15 @@ fn modulus<'a>(bits: &'a [u8]) -> Result<&'a [u8], DecodeError>
     Ok(number.as_slice())
 }
 
-/// The bits of the modulus of an RSA key, in decimal digits.
-fn rsa_size(alloc: Global, key: &PublicKey) -> Result<Vec<u8>, AllocError>
-    ensures { IfOk result (λ text. IsRsaSize key.now.bits.octets text.items) }
+/// The bits of the modulus of an RSA key with these octets as its bits, in decimal digits.
+///
+/// Requires that both are the same octets. Returns `AllocError` if allocation fails.
+pub fn rsa_size(alloc: Global, octets: &[u8], bytes: Bytes) -> Result<Vec<u8>, AllocError>
+    requires { bytes ≡ octets.now }
+    ensures { IfOk result (λ text. IsRsaSize octets.now text.items) }
 {
-    let bytes = key.bits_bytes()?;
     match PublicKey::rsa_from_bits_bytes(bytes) {
-        Ok(_) => match modulus(key.bits()) {
+        Ok(_) => match modulus(octets) {
             Ok(octets) => number_text(alloc, number_bits(octets)),
             Err(_) => Err(AllocError),
         },
@@ -84,7 +87,7 @@ pub fn size_text(alloc: Global, key: &PublicKey) -> Result<Vec<u8>, AllocError>
     ensures { IfOk result (λ text. IsSizeText key.now text.items) }
 {
     match key.algorithm() {
-        PublicKeyFormat::Rsa => rsa_size(alloc, key),
+        PublicKeyFormat::Rsa => rsa_size(alloc, key.bits(), key.bits_bytes()?),
         PublicKeyFormat::EcdsaP256 => Vec::from_slice(alloc, b"256"),
     }
 }

@@ -1,14 +1,28 @@
 //! Laws of what is shown: each function does nothing, and its contract is the law.
 
-ghost use Rattle.std.specs.Prelude.{ℕ, List};
+ghost use Rattle.std.specs.Prelude.{◌≡◌, ◌↔◌, ℕ, List, IsTrue};
 ghost use Rattle.rpki_fields.specs.AtMostOne.{AtMostOne};
 ghost use Rattle.rpki_fields.specs.Kind.{kind_of};
 ghost use Rattle.rpki_fields.specs.Object.{IsOf};
 ghost use Rattle.rpki_fields.specs.ObjectText.{IsSheet};
 ghost use Rattle.rpki_fields.specs.declared.object.Object.{Object};
+ghost use Rattle.rpki_fields.specs.declared.kind.Kind.{Kind as ToldKind};
+ghost use Rattle.rpki_fields.specs.declared.place.Place.{Place as WrongPlace};
+ghost use Rattle.rpki_fields.specs.declared.rendering.Form.{Form as AskedForm};
+
+use crate::kind::Kind;
+use crate::place::Place;
+use crate::rendering::Form;
 
 /// Octets are one object at most, and an object has one sheet.
 pub fn one_sheet()
     ensures object { (octets : List ℕ) → AtMostOne (IsOf (kind_of octets) octets) }
     ensures sheet { (octets : List ℕ) (x : Object) → AtMostOne (IsSheet octets x) }
+{}
+
+/// Kinds, forms and places are equal exactly where they are one.
+pub fn equal_kinds_are_one()
+    ensures kind { (p q : ToldKind) → IsTrue (⟦<Kind as PartialEq>⟧.eq p q) ↔ (p ≡ q) }
+    ensures place { (p q : WrongPlace) → IsTrue (⟦<Place as PartialEq>⟧.eq p q) ↔ (p ≡ q) }
+    ensures form { (p q : AskedForm) → IsTrue (⟦<Form as PartialEq>⟧.eq p q) ↔ (p ≡ q) }
 {}

@@ -4,6 +4,8 @@
 //! makes a [Sheet] of it: fields, and the items that it lists. [Form::render] makes text or JSON of that.
 #![tactic(auto)]
 
+mod algorithm;
+mod algorithm_text;
 mod cert_text;
 mod extension_text;
 mod fault_place;
@@ -18,6 +20,8 @@ mod memory;
 mod name;
 mod object;
 mod origin_text;
+mod other_cert;
+mod other_cert_text;
 mod other_text;
 mod place;
 mod place_text;
@@ -28,6 +32,7 @@ mod sheet;
 mod signed_text;
 mod value;
 
+pub use algorithm::{Algorithm, OtherKey};
 pub use cert_text::fields;
 pub use fault_place::text_of_place;
 pub use field::{Field, push_field, push_field_if, push_number};
@@ -35,6 +40,7 @@ pub use identifier::push_identifier;
 pub use kind::Kind;
 pub use name::{after, name_text};
 pub use object::Object;
+pub use other_cert::{OtherCert, OtherTbs};
 pub use place::Place;
 pub use rendering::Form;
 pub use sheet::{Item, Listing, Sheet};

@@ -1,22 +1,29 @@
 //! Objects of a repository.
 
-ghost use Rattle.std.specs.Prelude.{◌≡◌, IfOk, MatchResult};
+ghost use Rattle.std.specs.Prelude.{◌≡◌, IfOk, MatchResult, is_some};
 ghost use Rattle.std.specs.Option.{option_map};
+ghost use Rattle.rpki_der.specs.Prelude.{left, CanShare, Decodes, IsWholeFault};
+ghost use Rattle.rpki_cert.specs.Cert.{SpellsCert};
+ghost use Rattle.rpki_cert.specs.CertFault.{IsCertFault};
 ghost use Rattle.rpki_fields.specs.declared.kind.Kind.TheVariants as K;
-ghost use Rattle.rpki_fields.specs.declared.object.Object.TheVariants.{Certificate};
-ghost use Rattle.rpki_fields.specs.Object.{IsOf, IsNone, cert_of};
+ghost use Rattle.rpki_fields.specs.declared.object.Object.TheVariants.{Certificate, OtherCertificate};
+ghost use Rattle.rpki_fields.specs.Object.{IsOf, IsNone, IsUnspelled, cert_of, objection_to};
 ghost use Rattle.rpki_fields.specs.ObjectText.{IsSheet};
 
 use crate::cert_text::fields;
 use crate::kind::Kind;
 use crate::list_text::list_sheet;
 use crate::manifest_text::manifest_sheet;
+use crate::memory::is_memory;
 use crate::origin_text::origin_sheet;
+use crate::other_cert::OtherCert;
+use crate::other_cert_text::{objection, other_fields};
 use crate::other_text::other_sheet;
 use crate::provider_text::provider_sheet;
 use crate::sheet::Sheet;
 use bytes::Bytes;
-use rpki::der::DecodeError;
+use rpki::der::{Constructed, DecodeError, Shared};
+use rpki::repository::error::ValidationError;
 use rpki_cert::{Cert, TbsCert};
 use rpki_objects::{Aspa, Crl, Manifest, Roa, SignedObject};
 use std::alloc::{AllocError, Global};
@@ -36,15 +43,57 @@ pub enum Object {
     Providers(Aspa),
     /// A signed object of any other content.
     OtherContent(SignedObject),
+    /// A certificate of an algorithm that the RPKI doesn't use.
+    OtherCertificate(OtherCert),
+}
+
+/// The certificate in the profile of the RPKI that the octets are, whose octets it shares.
+fn rpki_certificate(alloc: Global, octets: &Bytes) -> Result<Cert, DecodeError>
+    ensures { Decodes (λ x. x) SpellsCert (IsWholeFault SpellsCert IsCertFault) octets.now result }
+{
+    Constructed::new(octets).whole_with(
+        Shared::new(alloc, octets),
+        |cons, keep|
+            requires { CanShare keep (left cons.old) }
+        { Cert::take_from(keep, cons) },
+    )
+}
+
+/// The certificate of other algorithms that octets are which are none in the profile of the RPKI, with this error.
+///
+/// Requires that. Returns this error if they are no such certificate; `OutOfMemory` if allocation fails.
+fn other_certificate(alloc: Global, octets: &[u8], e: DecodeError) -> Result<Object, DecodeError>
+    requires { IsUnspelled SpellsCert IsCertFault octets.now e }
+    ensures { MatchResult result (IsOf K.Certificate octets.now) (IsNone K.Certificate octets.now) }
+{
+    if is_memory(ValidationError::Decoding(e)) {
+        return Err(e);
+    }
+    match OtherCert::decode(alloc, octets) {
+        Ok(cert) => {
+            if cert.has_other() {
+                Ok(Object::OtherCertificate(cert))
+            } else {
+                Err(e)
+            }
+        }
+        Err(d) => {
+            if is_memory(ValidationError::Decoding(d)) {
+                Err(d)
+            } else {
+                Err(e)
+            }
+        }
+    }
 }
 
 /// The certificate that the octets are.
 fn certificate(alloc: Global, octets: Bytes) -> Result<Object, DecodeError>
     ensures { MatchResult result (IsOf K.Certificate octets) (IsNone K.Certificate octets) }
 {
-    match Cert::decode(alloc, octets) {
+    match rpki_certificate(alloc, &octets) {
         Ok(cert) => Ok(Object::Certificate(cert)),
-        Err(e) => Err(e),
+        Err(e) => other_certificate(alloc, octets.as_slice(), e),
     }
 }
 
@@ -106,9 +155,18 @@ fn cert_sheet(alloc: Global, octets: &[u8], cert: &Cert) -> Result<Sheet, AllocE
     Ok(Sheet::plain(fields))
 }
 
+/// The sheet of the certificate of other algorithms that these octets are.
+fn other_cert_sheet(alloc: Global, octets: &[u8], cert: &OtherCert) -> Result<Sheet, AllocError>
+    ensures { IfOk result (λ s. IsSheet octets.now (OtherCertificate cert.now) s) }
+{
+    let fields = other_fields(alloc, octets, cert)?;
+    Ok(Sheet::plain(fields))
+}
+
 impl Object {
     /// The object of this kind that the octets are, and nothing else. It shares the octets. Of signed objects the
-    /// signed attributes may be as before RFC 9589, and families in any order.
+    /// signed attributes may be as before RFC 9589, and families in any order. A certificate may have algorithms that
+    /// the RPKI doesn't use.
     ///
     /// The errors are those of [Cert::decode], [Crl::decode], [Manifest::decode], [Roa::decode], [Aspa::decode] and
     /// [SignedObject::decode].
@@ -125,7 +183,8 @@ impl Object {
         }
     }
 
-    /// The certificate that the object is, or that its signer has; a revocation list has none.
+    /// The certificate in the profile of the RPKI that the object is, or that its signer has; a revocation list and a
+    /// certificate of other algorithms have none.
     pub fn cert(&self) -> Option<&TbsCert>
         ensures { option_map (λ t. t.now) result ≡ cert_of self.now }
     {
@@ -136,6 +195,33 @@ impl Object {
             Object::RouteOrigins(origins) => Some(origins.object().cert().tbs()),
             Object::Providers(attestation) => Some(attestation.object().cert().tbs()),
             Object::OtherContent(object) => Some(object.cert().tbs()),
+            Object::OtherCertificate(_) => None,
+        }
+    }
+
+    /// What the RPKI doesn't use of the object: the algorithm by which a certificate is signed, or that of its key, as
+    /// `signed by ecdsa-with-SHA384, which the RPKI doesn't use` (RFC 7935 2, 3). None of all other objects.
+    ///
+    /// Returns `AllocError` if allocation fails.
+    pub fn objection(&self, alloc: Global) -> Result<Option<Vec<u8>>, AllocError>
+        ensures { IfOk result (λ o. option_map (λ v. v.items) o ≡ objection_to self.now) }
+    {
+        match self {
+            Object::OtherCertificate(cert) => {
+                let text = objection(alloc, cert)?;
+                Ok(Some(text))
+            }
+            _ => Ok(None),
+        }
+    }
+
+    /// Whether there is something of the object that the RPKI doesn't use, as [Object::objection] says.
+    pub fn has_objection(&self) -> bool
+        ensures { result ≡ is_some (objection_to self.now) }
+    {
+        match self {
+            Object::OtherCertificate(_) => true,
+            _ => false,
         }
     }
 
@@ -152,6 +238,7 @@ impl Object {
             Object::RouteOrigins(origins) => origin_sheet(alloc, origins),
             Object::Providers(attestation) => provider_sheet(alloc, attestation),
             Object::OtherContent(object) => other_sheet(alloc, object),
+            Object::OtherCertificate(cert) => other_cert_sheet(alloc, octets, cert),
         }
     }
 }

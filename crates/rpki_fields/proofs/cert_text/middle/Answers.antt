@@ -4,7 +4,7 @@ use Rattle.rpki_fields.proofs.cert_text.middle.Goals as goal
 pub returns : goal.returns
 returns c = (
   c.in_ok-subject.subject.items,
-  rw c.subject.ensures at c.in_ok-subject.ensures,
+  c.in_ok-subject.ensures,
   c.in_ok-push_field-3.ensures ∙ rw (
     c.in_ok-push_field-2.ensures,
     c.in_ok-push_field.ensures,
@@ -14,6 +14,5 @@ returns c = (
     c.time_text-2.ensures,
     c.not_before.ensures,
     c.not_after.ensures,
-    c.validity-validity.ensures,
   ) refl,
 )

@@ -1,0 +1,8 @@
+use Rattle.std.proofs.Common.{rules}
+use Rattle.rpki_der.specs.TagName.{sequence}
+use Rattle.rpki_der.proofs.FormatLaws.{takes-around}
+use Rattle.rpki_fields.specs.OtherCert.{algorithm_of, algorithm_fields}
+use Rattle.rpki_fields.proofs.algorithm.Algorithm.take_from.Goals as goal
+
+pub returns : goal.returns
+returns c = takes-around algorithm_of sequence algorithm_fields _ (λ b a x h. search rules) _ _ _ c.in_sequence.ensures

@@ -1,0 +1,8 @@
+use Rattle.std.proofs.Common.{rules}
+use Rattle.rpki_der.specs.TagName.{sequence}
+use Rattle.rpki_der.proofs.FormatLaws.{takes-around}
+use Rattle.rpki_fields.specs.OtherCert.{each_extension}
+use Rattle.rpki_fields.proofs.other_cert.take_list.Goals as goal
+
+pub returns : goal.returns
+returns c = takes-around (λ v. v.items) sequence each_extension _ (λ b a x h. search rules) _ _ _ c.in_sequence.ensures
