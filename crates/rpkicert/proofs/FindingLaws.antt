@@ -1,12 +1,12 @@
 -- What is found of a file.
-use Rattle.std.proofs.Common.{◌≡◌, ℕ, List, inl, inr, refl, subst, sym}
+use Rattle.std.proofs.Common.{◌≡◌, ℕ, Bool, List, inl, inr, refl, subst, sym}
 use Rattle.std.specs.Prelude.{Option, Some, None, Result, Ok, Err, IfSome, IsErrAnd, MatchResult}
 use Rattle.rpki_der.specs.declared.error.DecodeError.{DecodeError}
 use Rattle.rpki_der.specs.declared.error.DecodeError.TheVariants.{Truncated, BadTag, BadLength, Unexpected, Content}
 use Rattle.rpki_der.specs.declared.error.DecodeError.TheVariants.{Trailing}
 use Rattle.rpki_der.specs.declared.error.DecodeError.TheVariants as der
 use Rattle.rpki_fields.specs.Kind.{kind_of}
-use Rattle.rpki_fields.specs.Object.{IsNone}
+use Rattle.rpki_fields.specs.Object.{IsNone, cert_of}
 use Rattle.rpki_fields.specs.Place.{IsPlace}
 use Rattle.rpki_fields.specs.declared.object.Object.{Object}
 use Rattle.rpki_fields.specs.declared.place.Place.{Place}
@@ -15,11 +15,13 @@ use Rattle.rpkicert.specs.declared.fault.Fault.{Fault}
 use Rattle.rpkicert.specs.declared.finding.Found.{Found}
 use Rattle.rpkicert.specs.FindingView.{finding_of}
 use Rattle.rpkicert.specs.declared.fault.Fault.TheVariants.{Unreadable, TooLarge, OutOfMemory, Malformed, Refused}
-use Rattle.rpkicert.specs.declared.fault.Fault.TheVariants.{Violated}
+use Rattle.rpkicert.specs.declared.fault.Fault.TheVariants.{Violated, Unverified, NoCertificate, OtherAlgorithm}
 use Rattle.rpkicert.specs.Fault.{refusal}
 use Rattle.rpki_cert.specs.Cert.{TbsParts}
 use Rattle.rpki.specs.declared.repository.error.ValidationError.{ValidationError}
+use Rattle.rpkicert.specs.Terms.{TermParts, IsUnverifiedBy}
 use Rattle.rpkicert.specs.Finding.{Finding, IsObject, IsRefusal, HoldsTo, FindsIn, Finds, IsRead, Meets, IsViolation}
+use Rattle.rpkicert.specs.Finding.{is_outside}
 
 -- why octets are no object
 pub refusal-of : (octets : List ℕ) (place : Option Place) (e : DecodeError) → IsNone (kind_of octets) octets e
@@ -39,14 +41,17 @@ refusal-of octets place Trailing h k =
     record { told = refl; memory = λ (z : Trailing ≡ der.OutOfMemory). cc; none = h; placed = k }
 refusal-of octets place der.OutOfMemory h k = tt
 
-pub refused-holds : (inspection : Option Inspection) (octets : List ℕ) (f : Fault) → IsRefusal octets f
-    → HoldsTo inspection octets (Err f)
-refused-holds inspection octets (Refused kind place e) h = h
-refused-holds inspection octets OutOfMemory h = tt
-refused-holds inspection octets (Unreadable cause) h = absurd h
-refused-holds inspection octets TooLarge h = absurd h
-refused-holds inspection octets Malformed h = absurd h
-refused-holds inspection octets (Violated e) h = absurd h
+pub refused-holds : (terms : TermParts) (octets : List ℕ) (f : Fault) → IsRefusal octets f
+    → HoldsTo terms octets (Err f)
+refused-holds terms octets (Refused kind place e) h = h
+refused-holds terms octets OutOfMemory h = tt
+refused-holds terms octets (Unreadable cause) h = absurd h
+refused-holds terms octets TooLarge h = absurd h
+refused-holds terms octets Malformed h = absurd h
+refused-holds terms octets (Violated e) h = absurd h
+refused-holds terms octets (Unverified clause e) h = absurd h
+refused-holds terms octets NoCertificate h = absurd h
+refused-holds terms octets OtherAlgorithm h = absurd h
 
 -- an object in memory of its own
 pub boxed-is : {B : Type 0} (r : Result B Fault) (value : B → Object) (octets : List ℕ) (x : Object)
@@ -56,11 +61,17 @@ boxed-is (Ok b) value octets x h k = subst (λ (y : Object). IsObject octets y) 
 boxed-is (Err f) value octets x h k = subst (λ (g : Fault). IsRefusal octets g) (sym h) tt
 
 -- a fault that is handed on
-pub given-up : (inspection : Option Inspection) (octets : List ℕ) (r : Result Found Fault) (f : Fault)
-    → IsErrAnd r (λ g. g ≡ f) → IsRefusal octets f → HoldsTo inspection octets (finding_of r)
-given-up inspection octets (Ok x) f h k = absurd h
-given-up inspection octets (Err g) f h k =
-    refused-holds inspection octets g (subst (λ (g : Fault). IsRefusal octets g) (sym h) k)
+pub given-up : (terms : TermParts) (octets : List ℕ) (r : Result Found Fault) (f : Fault)
+    → IsErrAnd r (λ g. g ≡ f) → IsRefusal octets f → HoldsTo terms octets (finding_of r)
+given-up terms octets (Ok x) f h k = absurd h
+given-up terms octets (Err g) f h k =
+    refused-holds terms octets g (subst (λ (g : Fault). IsRefusal octets g) (sym h) k)
+
+-- an object that isn't what it is held to
+pub unverified-holds : (terms : TermParts) (octets : List ℕ) (x : Object) (f : Fault) → IsObject octets x
+    → Meets terms.inspection (cert_of x) → IsUnverifiedBy terms x f → HoldsTo terms octets (Err f)
+unverified-holds terms octets x f h k u =
+    subst (λ (g : Fault). HoldsTo terms octets (Err g)) (sym u.2) (x, h, k, u.3)
 
 -- what holds of a certificate holds of the object's, where it is that one
 pub meets-of : (inspection : Option Inspection) (t u : Option TbsParts) → t ≡ u → Meets inspection t
@@ -75,31 +86,41 @@ pub violates-of : (inspection : Option Inspection) (t u : Option TbsParts) (e : 
     → IsViolation inspection t e → IsViolation inspection u e
 violates-of inspection t u e same h = subst (λ (v : Option TbsParts). IsViolation inspection v e) same h
 
+pub outside-of : (terms : TermParts) (x y : Object) (b : Bool) → x ≡ y → is_outside terms x ≡ b
+    → is_outside terms y ≡ b
+outside-of terms x y b same h = subst (λ (z : Object). is_outside terms z ≡ b) same h
+
 -- a file that was not read
-pub not-read : (inspection : Option Inspection) (source : Option (List ℕ)) (f : Fault) → IsRead source (Err f)
-    → Finds inspection source (Err f)
-not-read inspection (Some octets) (Unreadable cause) h = absurd h
-not-read inspection (Some octets) TooLarge h = inr (inl (h, refl))
-not-read inspection (Some octets) OutOfMemory h = inr (inr refl)
-not-read inspection (Some octets) Malformed h = absurd h
-not-read inspection (Some octets) (Refused kind place e) h = absurd h
-not-read inspection (Some octets) (Violated e) h = absurd h
-not-read inspection None (Unreadable cause) h = inl (cause, refl)
-not-read inspection None TooLarge h = absurd h
-not-read inspection None OutOfMemory h = inr refl
-not-read inspection None Malformed h = absurd h
-not-read inspection None (Refused kind place e) h = absurd h
-not-read inspection None (Violated e) h = absurd h
+pub not-read : (terms : TermParts) (source : Option (List ℕ)) (f : Fault) → IsRead source (Err f)
+    → Finds terms source (Err f)
+not-read terms (Some octets) (Unreadable cause) h = absurd h
+not-read terms (Some octets) TooLarge h = inr (inl (h, refl))
+not-read terms (Some octets) OutOfMemory h = inr (inr refl)
+not-read terms (Some octets) Malformed h = absurd h
+not-read terms (Some octets) (Refused kind place e) h = absurd h
+not-read terms (Some octets) (Violated e) h = absurd h
+not-read terms (Some octets) (Unverified clause e) h = absurd h
+not-read terms (Some octets) NoCertificate h = absurd h
+not-read terms (Some octets) OtherAlgorithm h = absurd h
+not-read terms None (Unreadable cause) h = inl (cause, refl)
+not-read terms None TooLarge h = absurd h
+not-read terms None OutOfMemory h = inr refl
+not-read terms None Malformed h = absurd h
+not-read terms None (Refused kind place e) h = absurd h
+not-read terms None (Violated e) h = absurd h
+not-read terms None (Unverified clause e) h = absurd h
+not-read terms None NoCertificate h = absurd h
+not-read terms None OtherAlgorithm h = absurd h
 
 -- a file that was read
-was-read : (inspection : Option Inspection) (source : Option (List ℕ)) (input : List ℕ) (finding : Finding)
-    → IsRead source (Ok input) → FindsIn inspection input finding → Finds inspection source finding
-was-read inspection (Some octets) input finding h k =
-    inl (h.1, subst (λ (w : List ℕ). FindsIn inspection w finding) h.0 k)
-was-read inspection None input finding h k = absurd h
+was-read : (terms : TermParts) (source : Option (List ℕ)) (input : List ℕ) (finding : Finding)
+    → IsRead source (Ok input) → FindsIn terms input finding → Finds terms source finding
+was-read terms (Some octets) input finding h k =
+    inl (h.1, subst (λ (w : List ℕ). FindsIn terms w finding) h.0 k)
+was-read terms None input finding h k = absurd h
 
-pub was-read-of : (inspection : Option Inspection) (held : Option (Option (List ℕ))) (input : List ℕ)
-    (finding : Finding) → IfSome held (λ source. IsRead source (Ok input)) → FindsIn inspection input finding
-    → IfSome held (λ source. Finds inspection source finding)
-was-read-of inspection None input finding h k = tt
-was-read-of inspection (Some source) input finding h k = was-read inspection source input finding h k
+pub was-read-of : (terms : TermParts) (held : Option (Option (List ℕ))) (input : List ℕ)
+    (finding : Finding) → IfSome held (λ source. IsRead source (Ok input)) → FindsIn terms input finding
+    → IfSome held (λ source. Finds terms source finding)
+was-read-of terms None input finding h k = tt
+was-read-of terms (Some source) input finding h k = was-read terms source input finding h k

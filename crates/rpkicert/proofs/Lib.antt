@@ -1,10 +1,13 @@
 -- Which lemma file answers which question.
 --
--- Texts around certificates, findings: PemLaws, FindingLaws. What words ask for, what is seen of a run: RequestLaws,
--- RunLaws. That octets have one text, and inputs one answer: OneAnswerLaws.
+-- Texts around certificates, what objects are held to, findings: PemLaws, TermsLaws, FindingLaws. What words ask for,
+-- what is seen of a run, and what it is held to: RequestLaws, RunLaws, SettledLaws. That octets have one text, and
+-- inputs one answer: OneAnswerLaws.
 
 pub mod PemLaws
+pub mod TermsLaws
 pub mod FindingLaws
 pub mod RunLaws
+pub mod SettledLaws
 pub mod RequestLaws
 pub mod OneAnswerLaws

@@ -1,34 +1,44 @@
 -- An input has one answer, and a run one output, where the status is 0.
 use Rattle.std.proofs.Common.{◌≡◌, ℕ, List, [], ◌∷◌, refl, sym, ap, subst, ◌∙◌, inl, inr, arith}
+use Rattle.std.proofs.lemmas.Bool.{false≢true}
 use Rattle.std.proofs.lemmas.List.Elements.{All-tail}
 use Rattle.std.specs.Io.KnownBytes.{Appends}
-use Rattle.std.specs.Prelude.{◌⊎◌, codes, Option, Some, None, Ok, Err, IsSome, IfSome}
+use Rattle.std.specs.Prelude.{◌⊎◌, codes, Bool, true, false, is_some, Option, Some, None, Ok, Err, IsSome, IfSome}
 use Rattle.rpki_fields.specs.Kind.{kind_of}
 use Rattle.rpki_fields.specs.Object.{cert_of}
 use Rattle.rpki_fields.specs.Field.{field_parts}
 use Rattle.rpki_fields.specs.Rendering.{rendering}
 use Rattle.rpki_fields.specs.Sheet.{SheetParts, sheet_behind}
 use Rattle.rpki_fields.specs.declared.object.Object.{Object}
-use Rattle.rpkicert.specs.declared.profile.Inspection.{Inspection}
 use Rattle.rpkicert.specs.declared.fault.Fault.{Fault}
 use Rattle.rpkicert.specs.declared.fault.Fault.TheVariants.{Unreadable, TooLarge, OutOfMemory, Malformed, Refused}
-use Rattle.rpkicert.specs.declared.fault.Fault.TheVariants.{Violated}
+use Rattle.rpkicert.specs.declared.fault.Fault.TheVariants.{Violated, Unverified, NoCertificate, OtherAlgorithm}
 use Rattle.rpki_fields.specs.declared.rendering.Form.{Form}
 use Rattle.rpkicert.specs.Fault.{status_of}
-use Rattle.rpkicert.specs.Finding.{Finding, Meets, HoldsTo, FindsIn, Finds}
+use Rattle.rpkicert.specs.Finding.{Finding, Meets, HoldsTo, FindsIn, Finds, is_outside}
 use Rattle.rpkicert.specs.Request.{Asked}
-use Rattle.rpkicert.specs.Shown.{file_text, IsTextOf, ShownParts, shown_parts, IsShown, IsSeen, LacksMemory, AreSeen}
-use Rattle.rpkicert.specs.Shown.{outputs, faults, worst, Sees, IsRunOf, AreKnown, EndsWellWith}
+use Rattle.rpkicert.specs.Terms.{TermParts, term_parts, no_terms, IsVerified}
+use Rattle.rpkicert.specs.Shown.{file_text, marked, IsTextOf, ShownParts, shown_parts, IsShown, IsSeen, LacksMemory}
+use Rattle.rpkicert.specs.Shown.{AreSeen, outputs, faults, worst, IsRun}
 use Rattle.rpkicert.specs.Shown.IsRun.{Whole, Cut}
+use Rattle.rpkicert.specs.Run.{Holds, IsMoment, issuer_in, IsIssuerOf, AreTerms, Sees, IsRunOf, AreKnown, IsKnown}
+use Rattle.rpkicert.specs.Run.{EndsWellWith}
+use Rattle.rpkicert.specs.Run.IsRunOf.{Held, Denied}
+use Rattle.rpkicert.specs.Words.{Prints}
 use Rattle.rpki_fields.proofs.OneObjectLaws.{one-of, none-of}
 use Rattle.rpki_fields.proofs.OneSheetLaws.{one-sheet}
+use Rattle.rpki_cert.specs.Cert.{TbsParts}
+use Rattle.jiff.specs.Types.{DateTime}
+use Rattle.jiff.specs.Words.{civil_nanos}
+use Rattle.jiff.proofs.Family.{same_datetime}
 
 -- ---- the text
 
-pub one-text-of : (form : Form) (name octets : List ℕ) (x : Object) (text other : List ℕ)
-    → IsTextOf form name octets x text → IsTextOf form name octets x other → text ≡ other
-one-text-of form name octets x text other g h =
-    g.2 ∙ ap (λ (s : SheetParts). rendering form (sheet_behind (field_parts (codes "File") (file_text form name)) s))
+pub one-text-of : (form : Form) (issued : Bool) (name octets : List ℕ) (x : Object) (text other : List ℕ)
+    → IsTextOf form issued name octets x text → IsTextOf form issued name octets x other → text ≡ other
+one-text-of form issued name octets x text other g h =
+    g.2 ∙ ap (λ (s : SheetParts). rendering form
+    (sheet_behind (field_parts (codes "File") (file_text form name)) (marked issued s)))
     (one-sheet octets x g.0 h.0 g.1 h.1) ∙ sym h.2
 
 -- ---- what is found
@@ -39,49 +49,56 @@ IsAlone found f = (f ≡ Ok found) ⊎ (f ≡ Err OutOfMemory)
 same-found : (a b : List ℕ × Object) → a.0 ≡ b.0 → a.1 ≡ b.1 → a ≡ b
 same-found a b p q = let e : (a.0, a.1) ≡ (b.0, b.1) = rw (p, q) refl in e
 
-one-held : (inspection : Option Inspection) (octets : List ℕ) (found : List ℕ × Object) (f : Finding)
-    → HoldsTo inspection octets (Ok found) → HoldsTo inspection octets f → IsAlone found f
-one-held inspection octets found (Ok other) g h =
+one-held : (terms : TermParts) (octets : List ℕ) (found : List ℕ × Object) (f : Finding)
+    → HoldsTo terms octets (Ok found) → HoldsTo terms octets f → IsAlone found f
+one-held terms octets found (Ok other) g h =
     inl (ap (λ (w : List ℕ × Object). Ok w) (same-found other found (h.0 ∙ sym g.0)
     (one-of (kind_of octets) octets other.1 found.1 h.1.is g.1.is)))
-one-held inspection octets found (Err (Violated e)) g h =
-    absurd (h.2 (subst (λ (x : Object). Meets inspection (cert_of x))
+one-held terms octets found (Err (Violated e)) g h =
+    absurd (h.2 (subst (λ (x : Object). Meets terms.inspection (cert_of x))
     (one-of (kind_of octets) octets found.1 h.0 g.1.is h.1.is) g.2))
-one-held inspection octets found (Err (Refused kind place e)) g h =
+one-held terms octets found (Err (Unverified clause e)) g h =
+    absurd (h.3.not_all (subst (λ (x : Object). IsVerified terms x)
+    (one-of (kind_of octets) octets found.1 h.0 g.1.is h.1.is) g.3))
+one-held terms octets found (Err OtherAlgorithm) g h =
+    absurd (false≢true (sym g.4 ∙ ap (is_outside terms)
+    (one-of (kind_of octets) octets found.1 h.0 g.1.is h.1.is) ∙ h.2))
+one-held terms octets found (Err (Refused kind place e)) g h =
     absurd (none-of (kind_of octets) octets e found.1 h.memory h.none g.1.is)
-one-held inspection octets found (Err OutOfMemory) g h = inr refl
-one-held inspection octets found (Err (Unreadable cause)) g h = absurd h
-one-held inspection octets found (Err TooLarge) g h = absurd h
-one-held inspection octets found (Err Malformed) g h = absurd h
+one-held terms octets found (Err OutOfMemory) g h = inr refl
+one-held terms octets found (Err (Unreadable cause)) g h = absurd h
+one-held terms octets found (Err TooLarge) g h = absurd h
+one-held terms octets found (Err Malformed) g h = absurd h
+one-held terms octets found (Err NoCertificate) g h = absurd h
 
-one-found-in : (inspection : Option Inspection) (input : List ℕ) (found : List ℕ × Object) (f : Finding)
-    → FindsIn inspection input (Ok found) → FindsIn inspection input f → IsAlone found f
-one-found-in inspection input found f (inl g) (inl h) =
+one-found-in : (terms : TermParts) (input : List ℕ) (found : List ℕ × Object) (f : Finding)
+    → FindsIn terms input (Ok found) → FindsIn terms input f → IsAlone found f
+one-found-in terms input found f (inl g) (inl h) =
     let same : h.0 ≡ g.0 = cc in
-    one-held inspection g.0 found f g.2 (subst (λ (octets : List ℕ). HoldsTo inspection octets f) same h.2)
-one-found-in inspection input found f (inl g) (inr (inl h)) = absurd (let a = g.1 in let b = h.0 in cc)
-one-found-in inspection input found f (inl g) (inr (inr h)) = inr h
-one-found-in inspection input found f (inr (inl g)) h = absurd (let a = g.1 in cc)
-one-found-in inspection input found f (inr (inr g)) h = absurd cc
+    one-held terms g.0 found f g.2 (subst (λ (octets : List ℕ). HoldsTo terms octets f) same h.2)
+one-found-in terms input found f (inl g) (inr (inl h)) = absurd (let a = g.1 in let b = h.0 in cc)
+one-found-in terms input found f (inl g) (inr (inr h)) = inr h
+one-found-in terms input found f (inr (inl g)) h = absurd (let a = g.1 in cc)
+one-found-in terms input found f (inr (inr g)) h = absurd cc
 
-pub one-finding : (inspection : Option Inspection) (source : Option (List ℕ)) (found : List ℕ × Object)
-    → Finds inspection source (Ok found) → (f : Finding) → Finds inspection source f
+pub one-finding : (terms : TermParts) (source : Option (List ℕ)) (found : List ℕ × Object)
+    → Finds terms source (Ok found) → (f : Finding) → Finds terms source f
     → (f ≡ Ok found) ⊎ (f ≡ Err OutOfMemory)
-one-finding inspection None found (inl g) f h = absurd (let a = g.1 in cc)
-one-finding inspection None found (inr g) f h = absurd cc
-one-finding inspection (Some input) found (inl g) f (inl h) = one-found-in inspection input found f g.1 h.1
-one-finding inspection (Some input) found (inl g) f (inr (inl h)) = absurd (let a = g.0 in let b = h.0 in omega arith)
-one-finding inspection (Some input) found (inl g) f (inr (inr h)) = inr h
-one-finding inspection (Some input) found (inr (inl g)) f h = absurd (let a = g.1 in cc)
-one-finding inspection (Some input) found (inr (inr g)) f h = absurd cc
+one-finding terms None found (inl g) f h = absurd (let a = g.1 in cc)
+one-finding terms None found (inr g) f h = absurd cc
+one-finding terms (Some input) found (inl g) f (inl h) = one-found-in terms input found f g.1 h.1
+one-finding terms (Some input) found (inl g) f (inr (inl h)) = absurd (let a = g.0 in let b = h.0 in omega arith)
+one-finding terms (Some input) found (inl g) f (inr (inr h)) = inr h
+one-finding terms (Some input) found (inr (inl g)) f h = absurd (let a = g.1 in cc)
+one-finding terms (Some input) found (inr (inr g)) f h = absurd cc
 
 -- ---- what is seen
 
-one-shown : (form : Option Form) (name : List ℕ) (found : List ℕ × Object) (s t : ShownParts)
-    → IsShown form name (Ok found) s → IsShown form name (Ok found) t → t ≡ s
-one-shown None name found s t g h = h ∙ sym g
-one-shown (Some form) name found s t g h =
-    h.2 ∙ ap (λ (text : List ℕ). shown_parts text [] 0) (one-text-of form name found.0 found.1 h.0 g.0 h.1 g.1)
+one-shown : (check : Bool) (form : Form) (issued : Bool) (name : List ℕ) (found : List ℕ × Object) (s t : ShownParts)
+    → IsShown check form issued name (Ok found) s → IsShown check form issued name (Ok found) t → t ≡ s
+one-shown true form issued name found s t g h = h ∙ sym g
+one-shown false form issued name found s t g h =
+    h.2 ∙ ap (λ (text : List ℕ). shown_parts text [] 0) (one-text-of form issued name found.0 found.1 h.0 g.0 h.1 g.1)
     ∙ sym g.2
 
 fault-status : (fault : Fault) → status_of fault ≡ 0 → ⊥
@@ -91,86 +108,170 @@ fault-status OutOfMemory e = omega arith
 fault-status Malformed e = omega arith
 fault-status (Refused kind place x) e = omega arith
 fault-status (Violated x) e = omega arith
+fault-status (Unverified clause x) e = omega arith
+fault-status NoCertificate e = omega arith
+fault-status OtherAlgorithm e = omega arith
 
-shown-status : (form : Option Form) (name : List ℕ) (fault : Fault) (s : ShownParts) → IsShown form name (Err fault) s
-    → s.status ≡ status_of fault
-shown-status None name fault s g = ap (λ (w : ShownParts). w.status) g
-shown-status (Some form) name fault s g = ap (λ (w : ShownParts). w.status) g
+shown-status : (check : Bool) (form : Form) (issued : Bool) (name : List ℕ) (fault : Fault) (s : ShownParts)
+    → IsShown check form issued name (Err fault) s → s.status ≡ status_of fault
+shown-status true form issued name fault s g = ap (λ (w : ShownParts). w.status) g
+shown-status false form issued name fault s g = ap (λ (w : ShownParts). w.status) g
 
 -- another finding is shown
-other-shown : (form : Option Form) (name : List ℕ) (found : List ℕ × Object) (f : Finding) (s t : ShownParts)
-    → IsAlone found f
-    → IsShown form name (Ok found) s → IsShown form name f t → (t ≡ s) ⊎ LacksMemory form name t
-other-shown form name found f s t (inl e) g h =
-    inl (one-shown form name found s t g (subst (λ (w : Finding). IsShown form name w t) e h))
-other-shown form name found f s t (inr e) g h = inr (inl (subst (λ (w : Finding). IsShown form name w t) e h))
+other-shown : (check : Bool) (form : Form) (issued : Bool) (name : List ℕ) (found : List ℕ × Object) (f : Finding)
+    (s t : ShownParts) → IsAlone found f
+    → IsShown check form issued name (Ok found) s → IsShown check form issued name f t
+    → (t ≡ s) ⊎ LacksMemory check form issued name t
+other-shown check form issued name found f s t (inl e) g h =
+    inl (one-shown check form issued name found s t g (subst (λ (w : Finding). IsShown check form issued name w t) e h))
+other-shown check form issued name found f s t (inr e) g h =
+    inr (inl (subst (λ (w : Finding). IsShown check form issued name w t) e h))
 
-good-seen : (form : Option Form) (inspection : Option Inspection) (name : List ℕ) (source : Option (List ℕ))
-    (f : Finding) (s t : ShownParts) → Finds inspection source f → IsShown form name f s
-    → s.status ≡ 0 → IsSeen form inspection name source t → (t ≡ s) ⊎ LacksMemory form name t
-good-seen form inspection name source (Err fault) s t g k z h =
-    absurd (fault-status fault (sym (shown-status form name fault s k) ∙ z))
-good-seen form inspection name source (Ok found) s t g k z (inl h) =
-    other-shown form name found h.0 s t (one-finding inspection source found g h.0 h.1) k h.2
-good-seen form inspection name source (Ok found) s t g k z (inr h) = inr (inr h)
+good-seen : (check : Bool) (form : Form) (terms : TermParts) (name : List ℕ) (source : Option (List ℕ))
+    (f : Finding) (s t : ShownParts) → Finds terms source f → IsShown check form (is_some terms.issuer) name f s
+    → s.status ≡ 0 → IsSeen check form terms name source t
+    → (t ≡ s) ⊎ LacksMemory check form (is_some terms.issuer) name t
+good-seen check form terms name source (Err fault) s t g k z h =
+    absurd (fault-status fault (sym (shown-status check form (is_some terms.issuer) name fault s k) ∙ z))
+good-seen check form terms name source (Ok found) s t g k z (inl h) =
+    other-shown check form (is_some terms.issuer) name found h.0 s t (one-finding terms source found g h.0 h.1) k h.2
+good-seen check form terms name source (Ok found) s t g k z (inr h) = inr (inr h)
 
-pub one-seen : (form : Option Form) (inspection : Option Inspection) (name : List ℕ) (source : Option (List ℕ))
+pub one-seen : (check : Bool) (form : Form) (terms : TermParts) (name : List ℕ) (source : Option (List ℕ))
     (s t : ShownParts)
-    → IsSeen form inspection name source s → s.status ≡ 0 → IsSeen form inspection name source t
-    → (t ≡ s) ⊎ LacksMemory form name t
-one-seen form inspection name source s t (inl g) z h = good-seen form inspection name source g.0 s t g.1 g.2 z h
-one-seen form inspection name source s t (inr g) z h =
+    → IsSeen check form terms name source s → s.status ≡ 0 → IsSeen check form terms name source t
+    → (t ≡ s) ⊎ LacksMemory check form (is_some terms.issuer) name t
+one-seen check form terms name source s t (inl g) z h = good-seen check form terms name source g.0 s t g.1 g.2 z h
+one-seen check form terms name source s t (inr g) z h =
     absurd (let e : s.status ≡ 2 = ap (λ (w : ShownParts). w.status) g in omega arith)
+
+-- ---- files
+
+lacking-status : (check : Bool) (form : Form) (issued : Bool) (name : List ℕ) (s : ShownParts)
+    → LacksMemory check form issued name s → s.status ≡ 2
+lacking-status check form issued name s (inl g) = shown-status check form issued name OutOfMemory s g
+lacking-status check form issued name s (inr g) = ap (λ (w : ShownParts). w.status) g
+
+unless-lacking : (check : Bool) (form : Form) (issued : Bool) (name : List ℕ) (s t : ShownParts)
+    → (t ≡ s) ⊎ LacksMemory check form issued name t → t.status ≡ 0 → t ≡ s
+unless-lacking check form issued name s t (inl e) z = e
+unless-lacking check form issued name s t (inr g) z =
+    absurd (let e = lacking-status check form issued name t g in omega arith)
+
+one-sees : (held : Option (Option (List ℕ))) (check : Bool) (form : Form) (terms : TermParts) (name : List ℕ)
+    (s t : ShownParts) → IsSome held
+    → IfSome held (λ source. IsSeen check form terms name source s)
+    → IfSome held (λ source. IsSeen check form terms name source t) → s.status ≡ 0 → t.status ≡ 0 → t ≡ s
+one-sees None check form terms name s t known g h y z = absurd cc
+one-sees (Some source) check form terms name s t known g h y z =
+    unless-lacking check form (is_some terms.issuer) name s t (one-seen check form terms name source s t g y h) z
+
+one-all : (holds : Holds) (check : Bool) (form : Form) (terms : TermParts) (names : List (List ℕ))
+    (all others : List ShownParts) → AreKnown holds names
+    → AreSeen (Sees holds check form terms) names all → AreSeen (Sees holds check form terms) names others
+    → worst all ≡ 0 → worst others ≡ 0 → others ≡ all
+one-all holds check form terms [] [] [] known g h y z = refl
+one-all holds check form terms [] [] (t ∷ ts) known g h y z = absurd h
+one-all holds check form terms [] (s ∷ ss) others known g h y z = absurd g
+one-all holds check form terms (name ∷ names) [] others known g h y z = absurd g
+one-all holds check form terms (name ∷ names) (s ∷ ss) [] known g h y z = absurd h
+one-all holds check form terms (name ∷ names) (s ∷ ss) (t ∷ ts) known g h y z =
+    let first = one-sees (holds name) check form terms name s t (known 0 [] (omega arith)) g.0 h.0 (omega arith)
+    (omega arith) in
+    let rest = one-all holds check form terms names ss ts (All-tail (λ (n : List ℕ). IsSome (holds n)) name names known)
+    g.1 h.1 (omega arith) (omega arith) in
+    rw (first, rest) refl
+
+-- ---- the terms
+
+one-moment : (word : Option (List ℕ)) (t u : Option DateTime) → IsMoment word t → IsMoment word u → t ≡ u
+one-moment None None None g h = refl
+one-moment None None (Some u) g h = absurd h
+one-moment None (Some t) u g h = absurd g
+one-moment (Some word) None u g h = absurd g
+one-moment (Some word) (Some t) None g h = absurd h
+one-moment (Some word) (Some t) (Some u) g h =
+    let e = sym g ∙ h in
+    let same : civil_nanos t ≡ civil_nanos u = cc in
+    ap Some (same_datetime t u same)
+
+other-issuer : (found : List ℕ × Object) (k : Finding) (t u : TbsParts) → IsAlone found k
+    → issuer_in (Ok found) ≡ Ok t → issuer_in k ≡ Ok u → t ≡ u
+other-issuer found k t u (inl e) p q = let r = sym p ∙ sym (ap issuer_in e) ∙ q in cc
+other-issuer found k t u (inr e) p q = absurd (let r = sym (ap issuer_in e) ∙ q in cc)
+
+same-issuer : (source : Option (List ℕ)) (f k : Finding) (t u : TbsParts) → Finds no_terms source f
+    → Finds no_terms source k → issuer_in f ≡ Ok t → issuer_in k ≡ Ok u → t ≡ u
+same-issuer source (Err fault) k t u g h p q = absurd (let r = p in cc)
+same-issuer source (Ok found) k t u g h p q = other-issuer found k t u (one-finding no_terms source found g k h) p q
+
+held-issuer : (held : Option (Option (List ℕ))) (f k : Finding) (t u : TbsParts) → IsSome held
+    → IfSome held (λ source. Finds no_terms source f) → IfSome held (λ source. Finds no_terms source k)
+    → issuer_in f ≡ Ok t → issuer_in k ≡ Ok u → t ≡ u
+held-issuer None f k t u known g h p q = absurd cc
+held-issuer (Some source) f k t u known g h p q = same-issuer source f k t u g h p q
+
+one-issuer : (holds : Holds) (name : Option (List ℕ)) (t u : Option TbsParts)
+    → IfSome name (λ name. IsSome (holds name)) → IsIssuerOf holds name t → IsIssuerOf holds name u → t ≡ u
+one-issuer holds None None None known g h = refl
+one-issuer holds None None (Some u) known g h = absurd h
+one-issuer holds None (Some t) u known g h = absurd g
+one-issuer holds (Some name) None u known g h = absurd g
+one-issuer holds (Some name) (Some t) None known g h = absurd h
+one-issuer holds (Some name) (Some t) (Some u) known g h =
+    ap Some (held-issuer (holds name) g.0 h.0 t u known g.1 h.1 g.2 h.2)
+
+same-terms : (t u : TermParts) → t.inspection ≡ u.inspection → t.issuer ≡ u.issuer → t.moment ≡ u.moment → t ≡ u
+same-terms t u p q r =
+    let e : term_parts t.inspection t.issuer t.moment ≡ term_parts u.inspection u.issuer u.moment = rw (p, q, r) refl in
+    e
+
+one-terms : (holds : Holds) (a : Asked) (t u : TermParts) → IsKnown holds a → AreTerms holds a t → AreTerms holds a u
+    → u ≡ t
+one-terms holds a t u known g h =
+    same-terms u t (h.inspection ∙ sym g.inspection)
+    (one-issuer holds a.issuer u.issuer t.issuer known.issuer h.issuer g.issuer)
+    (one-moment a.moment u.moment t.moment h.moment g.moment)
 
 -- ---- a run
 
-lacking-status : (form : Option Form) (name : List ℕ) (s : ShownParts) → LacksMemory form name s → s.status ≡ 2
-lacking-status form name s (inl g) = shown-status form name OutOfMemory s g
-lacking-status form name s (inr g) = ap (λ (w : ShownParts). w.status) g
-
-unless-lacking : (form : Option Form) (name : List ℕ) (s t : ShownParts) → (t ≡ s) ⊎ LacksMemory form name t
-    → t.status ≡ 0 → t ≡ s
-unless-lacking form name s t (inl e) z = e
-unless-lacking form name s t (inr g) z = absurd (let e = lacking-status form name t g in omega arith)
-
-one-sees : (held : Option (Option (List ℕ))) (form : Option Form) (inspection : Option Inspection) (name : List ℕ)
-    (s t : ShownParts) → IsSome held
-    → IfSome held (λ source. IsSeen form inspection name source s)
-    → IfSome held (λ source. IsSeen form inspection name source t) → s.status ≡ 0 → t.status ≡ 0 → t ≡ s
-one-sees None form inspection name s t known g h y z = absurd cc
-one-sees (Some source) form inspection name s t known g h y z =
-    unless-lacking form name s t (one-seen form inspection name source s t g y h) z
-
-one-all : (holds : List ℕ → Option (Option (List ℕ))) (a : Asked) (names : List (List ℕ)) (all others : List ShownParts)
-    → AreKnown holds names
-    → AreSeen (Sees holds a) names all → AreSeen (Sees holds a) names others → worst all ≡ 0 → worst others ≡ 0
-    → others ≡ all
-one-all holds a [] [] [] known g h y z = refl
-one-all holds a [] [] (t ∷ ts) known g h y z = absurd h
-one-all holds a [] (s ∷ ss) others known g h y z = absurd g
-one-all holds a (name ∷ names) [] others known g h y z = absurd g
-one-all holds a (name ∷ names) (s ∷ ss) [] known g h y z = absurd h
-one-all holds a (name ∷ names) (s ∷ ss) (t ∷ ts) known g h y z =
-    let first = one-sees (holds name) a.form a.inspection name s t (known 0 [] (omega arith)) g.0 h.0 (omega arith)
-    (omega arith) in
-    let rest = one-all holds a names ss ts (All-tail (λ (n : List ℕ). IsSome (holds n)) name names known) g.1 h.1
-    (omega arith) (omega arith) in
-    rw (first, rest) refl
-
-the-same : (holds : List ℕ → Option (Option (List ℕ))) (a : Asked) (all : List ShownParts) → AreKnown holds a.files
-    → AreSeen (Sees holds a) a.files all → 0 ≡ worst all
-    → (old new was is : Option (List ℕ)) → IsRunOf holds old new was is 0 a
+the-same-files : (holds : Holds) (a : Asked) (terms : TermParts) (all : List ShownParts) → IsKnown holds a
+    → AreSeen (Sees holds a.check a.form terms) a.files all → 0 ≡ worst all
+    → (old new was is : Option (List ℕ)) → IsRun (Sees holds a.check a.form terms) a.files old new was is 0
     → Appends old new (outputs all) × Appends was is (faults all)
-the-same holds a all known seen z old new was is (Whole others g o f y) =
-    let e = one-all holds a a.files others all known g seen (sym y) (sym z) in (
+the-same-files holds a terms all known seen z old new was is (Whole others g o f y) =
+    let e = one-all holds a.check a.form terms a.files others all known.files g seen (sym y) (sym z) in (
       subst (λ (w : List ShownParts). Appends old new (outputs w)) (sym e) o,
       subst (λ (w : List ShownParts). Appends was is (faults w)) (sym e) f,
     )
-the-same holds a all known seen z old new was is (Cut front rest others parts g cut y) =
+the-same-files holds a terms all known seen z old new was is (Cut front rest others parts g cut y) =
     absurd (let e = y in omega arith)
 
-pub one-output : (holds : List ℕ → Option (Option (List ℕ))) (a : Asked) → AreKnown holds a.files
+-- what is denied ends with the status 2
+denied : {P : Type 0} (old new : Option (List ℕ)) (text : List ℕ) → Prints old new text 2 0 → P
+denied old new text (inl h) = absurd (let e = h.1 in omega arith)
+denied old new text (inr h) = absurd (let e = h.1 in omega arith)
+
+the-same : (holds : Holds) (a : Asked) (terms : TermParts) (all : List ShownParts) → IsKnown holds a
+    → AreTerms holds a terms → AreSeen (Sees holds a.check a.form terms) a.files all → 0 ≡ worst all
+    → (old new was is : Option (List ℕ)) → IsRunOf holds old new was is 0 a
+    → Appends old new (outputs all) × Appends was is (faults all)
+the-same holds a terms all known are seen z old new was is (Held others h g) =
+    the-same-files holds a terms all known seen z old new was is
+    (subst (λ (t : TermParts). IsRun (Sees holds a.check a.form t) a.files old new was is 0)
+    (one-terms holds a terms others known are h) g)
+the-same holds a terms all known are seen z old new was is (Denied text h g p) = denied was is text p
+
+held-output : (holds : Holds) (a : Asked) (terms : TermParts) → IsKnown holds a → AreTerms holds a terms
+    → (old new was is : Option (List ℕ)) → IsRun (Sees holds a.check a.form terms) a.files old new was is 0
+    → (output : List ℕ) × (said : List ℕ) × EndsWellWith holds a output said
+held-output holds a terms known are old new was is (Whole all g o f y) =
+    (outputs all, faults all, the-same holds a terms all known are g y)
+held-output holds a terms known are old new was is (Cut front rest all parts g cut y) =
+    absurd (let e = y in omega arith)
+
+pub one-output : (holds : Holds) (a : Asked) → IsKnown holds a
     → (old new was is : Option (List ℕ)) → IsRunOf holds old new was is 0 a
     → (output : List ℕ) × (said : List ℕ) × EndsWellWith holds a output said
-one-output holds a known old new was is (Whole all g o f y) = (outputs all, faults all, the-same holds a all known g y)
-one-output holds a known old new was is (Cut front rest all parts g cut y) = absurd (let e = y in omega arith)
+one-output holds a known old new was is (Held terms h g) = held-output holds a terms known h old new was is g
+one-output holds a known old new was is (Denied text h g p) = denied was is text p

@@ -1,6 +1,6 @@
 -- What words ask for.
 use Rattle.std.proofs.Common.{◌≡◌, ◌↔◌, ℕ, ◌<◌, false, List, [], ◌∷◌, ◌++◌, length, drop, ap, refl, arith}
-use Rattle.std.specs.Prelude.{Option, Some, None, IsSome, option_to_list, option_and_then, option_map, codes}
+use Rattle.std.specs.Prelude.{Bool, Option, Some, None, IsSome, option_to_list, option_and_then, option_map, codes}
 use Rattle.clap.specs.Words.{Row, all_of, first_of}
 use Rattle.rpki_fields.specs.declared.rendering.Form.{Form}
 use Rattle.rpkicert.specs.declared.profile.Inspection.{Inspection}
@@ -15,13 +15,23 @@ drop-next (x ∷ xs) new None n size is some = absurd (let h = some.1 (omega (ar
 drop-next old new (Some x) n size is some = ap (λ w. drop 1 w) is
 
 -- a request from its parts
-pub of-parts : (rows : List Row) (form : Option (Option Form)) (inspection : Option (Option Inspection))
-    (all : Option (List (List ℕ)))
-    → form ≡ form_of (is_given (codes "json") rows) (is_given (codes "check") rows)
+pub of-parts : (rows : List Row) (inspection : Option (Option Inspection)) (all : Option (List (List ℕ)))
     → inspection ≡ named_inspection (is_given (codes "lax") rows) (first_of (codes "profile") rows)
     → all ≡ some_files (all_of (codes "FILE") rows)
-    → option_and_then (λ f. option_and_then (λ p. option_map (asked f p) all) inspection) form ≡ request_of rows
-of-parts rows form inspection all a b d = rw (a, b, d) refl
+    → option_and_then (λ p. option_map (asked (first_of (codes "issuer") rows) (first_of (codes "at") rows)
+    (form_of (is_given (codes "json") rows)) (is_given (codes "check") rows) p) all) inspection ≡ request_of rows
+of-parts rows inspection all b d = rw (b, d) refl
+
+-- the same, where there are all
+pub of-all : (rows : List Row) (issuer moment : Option (List ℕ)) (form : Form) (check : Bool)
+    (inspection : Option Inspection) (all : List (List ℕ)) → issuer ≡ first_of (codes "issuer") rows
+    → moment ≡ first_of (codes "at") rows → form ≡ form_of (is_given (codes "json") rows)
+    → check ≡ is_given (codes "check") rows
+    → Some inspection ≡ named_inspection (is_given (codes "lax") rows) (first_of (codes "profile") rows)
+    → Some all ≡ some_files (all_of (codes "FILE") rows)
+    → Some (asked issuer moment form check inspection all) ≡ request_of rows
+of-all rows issuer moment form check inspection all i m f c b d =
+    rw (i, m, f, c) (of-parts rows (Some inspection) (Some all) b d)
 
 -- the files that are asked for
 pub the-files : (rows : List Row) (x a : Asked) → is_given (codes "help") rows ≡ false

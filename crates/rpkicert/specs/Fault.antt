@@ -16,7 +16,9 @@ use Rattle.rpkicert.specs.declared.fault.Cause.{Cause}
 use Rattle.rpkicert.specs.declared.fault.Cause.TheVariants.{Absent, Denied, Folder, Other}
 use Rattle.rpkicert.specs.declared.fault.Fault.{Fault}
 use Rattle.rpkicert.specs.declared.fault.Fault.TheVariants.{Unreadable, TooLarge, OutOfMemory, Malformed, Refused}
-use Rattle.rpkicert.specs.declared.fault.Fault.TheVariants.{Violated}
+use Rattle.rpkicert.specs.declared.fault.Fault.TheVariants.{Violated, Unverified, NoCertificate, OtherAlgorithm}
+use Rattle.rpkicert.specs.declared.fault.Clause.{Clause}
+use Rattle.rpkicert.specs.declared.fault.Clause.TheVariants as C
 
 -- a file has at most so many octets
 abbrev pub most_octets : ℕ
@@ -36,6 +38,12 @@ unreadable_text Denied = codes "cannot be read: Permission denied"
 unreadable_text Folder = codes "cannot be read: Is a directory"
 unreadable_text Other = codes "cannot be read"
 
+-- what has to hold of issuers and periods: of certificates, of revocation lists, and of manifests
+abbrev pub clause_text : Clause → List ℕ
+clause_text C.Certificate = codes "RFC 6487 7.2"
+clause_text C.List = codes "RFC 5280 6.3.3"
+clause_text C.Manifest = codes "RFC 9286 6.3"
+
 abbrev pub fault_text : Fault → List ℕ
 fault_text (Unreadable cause) = unreadable_text cause
 fault_text TooLarge = codes "larger than 1048576 octets"
@@ -43,6 +51,9 @@ fault_text OutOfMemory = codes "out of memory"
 fault_text Malformed = codes "malformed PEM"
 fault_text (Refused kind place e) = codes "not a " ++ kind_text kind ++ codes ": " ++ place_text place ++ error_text e
 fault_text (Violated e) = codes "violates the profile: " ++ unwrap_or (validation_text e) (codes "")
+fault_text (Unverified clause e) = clause_text clause ++ codes ": " ++ unwrap_or (validation_text e) (codes "")
+fault_text NoCertificate = codes "not a certificate"
+fault_text OtherAlgorithm = codes "RFC 7935 2, 3: of an algorithm that the RPKI doesn't use"
 
 -- the exit status
 abbrev pub status_of : Fault → ℕ
@@ -52,6 +63,9 @@ status_of OutOfMemory = 2
 status_of Malformed = 1
 status_of (Refused kind place e) = 1
 status_of (Violated e) = 1
+status_of (Unverified clause e) = 1
+status_of NoCertificate = 2
+status_of OtherAlgorithm = 1
 
 -- the fault of a reader's error, of octets of this kind, in this place
 abbrev pub refusal : Kind → Option Place → DecodeError → Fault

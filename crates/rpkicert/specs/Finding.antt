@@ -1,50 +1,37 @@
 -- What is found of a file.
-use Rattle.std.specs.Prelude.{◌≡◌, ◌≢◌, ◌⊎◌, ◌<◌, ◌≤◌, ℕ, Bool, List, length, Option, Some, None, Result, Ok, Err}
+use Rattle.std.specs.Prelude.{◌≡◌, ◌≢◌, ◌⊎◌, ◌<◌, ◌≤◌, ◌&&◌, ◌||◌, ℕ, Bool, true, false, List, length, Option}
+use Rattle.std.specs.Prelude.{Some, None, is_some, Result, Ok, Err}
 use Rattle.rpki_der.specs.declared.error.DecodeError.{DecodeError}
 use Rattle.rpki_der.specs.declared.error.DecodeError.TheVariants as der
 use Rattle.rpki_cert.specs.Cert.{TbsParts}
-use Rattle.rpki_cert.specs.Profile.{IsTaProfile, IsCaProfile, IsEeProfile, IsDetachedProfile, IsRouterProfile}
-use Rattle.rpki_cert.specs.declared.rule.CertRule.{CertRule}
-use Rattle.rpki_cert.specs.Rule.{ta_rules, ca_rules, ee_rules, detached_rules, router_rules}
+use Rattle.rpki_cert.specs.Profile.{rules_of, HasProfile}
 use Rattle.rpki_cert.specs.RuleError.{IsFirstError}
 use Rattle.rpki.specs.declared.repository.error.ValidationError.{ValidationError}
 use Rattle.rpki_fields.specs.Kind.{kind_of}
-use Rattle.rpki_fields.specs.Object.{IsOf, IsNone, cert_of}
+use Rattle.rpki_fields.specs.Object.{IsOf, IsNone, cert_of, objection_to}
 use Rattle.rpki_fields.specs.Place.{IsPlace}
 use Rattle.rpki_fields.specs.declared.kind.Kind.{Kind}
 use Rattle.rpki_fields.specs.declared.object.Object.{Object}
 use Rattle.rpki_fields.specs.declared.place.Place.{Place}
-use Rattle.rpkicert.specs.declared.profile.Profile.{Profile}
 use Rattle.rpkicert.specs.declared.profile.Inspection.{Inspection}
-use Rattle.rpkicert.specs.declared.profile.Profile.TheVariants.{Ta, Ca, Ee, Detached, Router}
 use Rattle.rpkicert.specs.declared.fault.Cause.{Cause}
 use Rattle.rpkicert.specs.declared.fault.Fault.{Fault}
 use Rattle.rpkicert.specs.declared.fault.Fault.TheVariants.{Unreadable, TooLarge, OutOfMemory, Malformed, Refused}
-use Rattle.rpkicert.specs.declared.fault.Fault.TheVariants.{Violated}
+use Rattle.rpkicert.specs.declared.fault.Fault.TheVariants.{Violated, Unverified, NoCertificate, OtherAlgorithm}
+use Rattle.rpkicert.specs.Terms.{TermParts, IsVerified, IsUnverified}
 use Rattle.rpkicert.specs.Pem.{octets_of}
 use Rattle.rpkicert.specs.Fault.{most_octets}
 
--- the certificate has the profile, strictly with the names that it wants (RFC 6487 4, RFC 9323 2, RFC 8209 3.1)
-abbrev pub HasProfile : Profile → Bool → TbsParts → Type 0
-HasProfile Ta strict t = IsTaProfile strict t
-HasProfile Ca strict t = IsCaProfile strict t
-HasProfile Ee strict t = IsEeProfile strict t
-HasProfile Detached strict t = IsDetachedProfile strict t
-HasProfile Router strict t = IsRouterProfile strict t
-
--- the rules of the profile, in their order
-abbrev pub rules_of : Profile → List CertRule
-rules_of Ta = ta_rules
-rules_of Ca = ca_rules
-rules_of Ee = ee_rules
-rules_of Detached = detached_rules
-rules_of Router = router_rules
-
--- the same where a profile is asked for, and there is a certificate
+-- the certificate, where there is one, has the profile, where one is asked for
 abbrev pub Meets : Option Inspection → Option TbsParts → Type 0
 Meets None cert = Unit {0}
 Meets (Some inspection) None = Unit {0}
 Meets (Some inspection) (Some t) = HasProfile inspection.profile inspection.strict t
+
+-- the object is held to something, and is a certificate of an algorithm that the RPKI doesn't use
+abbrev pub is_outside : TermParts → Object → Bool
+is_outside terms x =
+    (is_some terms.inspection || is_some terms.issuer || is_some terms.moment) && is_some (objection_to x)
 
 -- the error is that of the first of the rules that the certificate breaks
 abbrev pub IsViolation : Option Inspection → Option TbsParts → ValidationError → Type 0
@@ -75,37 +62,46 @@ IsRefusal octets (Unreadable cause) = ⊥
 IsRefusal octets TooLarge = ⊥
 IsRefusal octets Malformed = ⊥
 IsRefusal octets (Violated e) = ⊥
+IsRefusal octets (Unverified clause e) = ⊥
+IsRefusal octets NoCertificate = ⊥
+IsRefusal octets OtherAlgorithm = ⊥
 
--- What is found of octets: the object that they are, where the certificate in it has the profile that is asked for; or
--- why there is none, or it hasn't; or allocation failed.
-abbrev pub HoldsTo : Option Inspection → List ℕ → Finding → Type 0
-HoldsTo inspection octets (Ok found) =
-    (found.0 ≡ octets) × IsObject octets found.1 × Meets inspection (cert_of found.1)
-HoldsTo inspection octets (Err (Violated e)) =
-    (x : Object) × IsObject octets x × (Meets inspection (cert_of x) → ⊥) × IsViolation inspection (cert_of x) e
-HoldsTo inspection octets (Err (Refused kind place e)) = IsRefusal octets (Refused kind place e)
-HoldsTo inspection octets (Err OutOfMemory) = Unit {0}
-HoldsTo inspection octets (Err (Unreadable cause)) = ⊥
-HoldsTo inspection octets (Err TooLarge) = ⊥
-HoldsTo inspection octets (Err Malformed) = ⊥
+-- What is found of octets: the object that they are, where it is what it is held to; or why there is none, or it isn't:
+-- first the profile of the certificate in it, then its issuer and the moment; or allocation failed.
+abbrev pub HoldsTo : TermParts → List ℕ → Finding → Type 0
+HoldsTo terms octets (Ok found) =
+    (found.0 ≡ octets) × IsObject octets found.1 × Meets terms.inspection (cert_of found.1) × IsVerified terms found.1
+    × (is_outside terms found.1 ≡ false)
+HoldsTo terms octets (Err (Violated e)) =
+    (x : Object) × IsObject octets x × (Meets terms.inspection (cert_of x) → ⊥)
+    × IsViolation terms.inspection (cert_of x) e
+HoldsTo terms octets (Err (Unverified clause e)) =
+    (x : Object) × IsObject octets x × Meets terms.inspection (cert_of x) × IsUnverified terms x clause e
+HoldsTo terms octets (Err OtherAlgorithm) = (x : Object) × IsObject octets x × (is_outside terms x ≡ true)
+HoldsTo terms octets (Err (Refused kind place e)) = IsRefusal octets (Refused kind place e)
+HoldsTo terms octets (Err OutOfMemory) = Unit {0}
+HoldsTo terms octets (Err (Unreadable cause)) = ⊥
+HoldsTo terms octets (Err TooLarge) = ⊥
+HoldsTo terms octets (Err Malformed) = ⊥
+HoldsTo terms octets (Err NoCertificate) = ⊥
 
 -- The same of an input, which may be a text that stands for octets, or for none.
-abbrev pub FindsIn : Option Inspection → List ℕ → Finding → Type 0
-FindsIn inspection input finding =
-    ((octets : List ℕ) × (octets_of input ≡ Some octets) × HoldsTo inspection octets finding)
+abbrev pub FindsIn : TermParts → List ℕ → Finding → Type 0
+FindsIn terms input finding =
+    ((octets : List ℕ) × (octets_of input ≡ Some octets) × HoldsTo terms octets finding)
     ⊎ ((octets_of input ≡ None) × (finding ≡ Err Malformed)) ⊎ (finding ≡ Err OutOfMemory)
 
 -- The same of a file, which may not be there, or have too many octets.
-abbrev pub Finds : Option Inspection → Option (List ℕ) → Finding → Type 0
-Finds inspection None finding = ((cause : Cause) × (finding ≡ Err (Unreadable cause))) ⊎ (finding ≡ Err OutOfMemory)
-Finds inspection (Some input) finding =
-    ((length input ≤ most_octets) × FindsIn inspection input finding)
+abbrev pub Finds : TermParts → Option (List ℕ) → Finding → Type 0
+Finds terms None finding = ((cause : Cause) × (finding ≡ Err (Unreadable cause))) ⊎ (finding ≡ Err OutOfMemory)
+Finds terms (Some input) finding =
+    ((length input ≤ most_octets) × FindsIn terms input finding)
     ⊎ ((most_octets < length input) × (finding ≡ Err TooLarge)) ⊎ (finding ≡ Err OutOfMemory)
 
 -- where this object is found, nothing else is, unless allocation fails
-abbrev pub IsFoundAlone : Option Inspection → Option (List ℕ) → List ℕ × Object → Type 0
-IsFoundAlone inspection source found =
-    Finds inspection source (Ok found) → (f : Finding) → Finds inspection source f
+abbrev pub IsFoundAlone : TermParts → Option (List ℕ) → List ℕ × Object → Type 0
+IsFoundAlone terms source found =
+    Finds terms source (Ok found) → (f : Finding) → Finds terms source f
     → (f ≡ Ok found) ⊎ (f ≡ Err OutOfMemory)
 
 -- What reading a file gives: all of its octets, which are few enough; or why not.
@@ -117,6 +113,9 @@ IsRead (Some octets) (Err OutOfMemory) = Unit {0}
 IsRead (Some octets) (Err Malformed) = ⊥
 IsRead (Some octets) (Err (Refused kind place e)) = ⊥
 IsRead (Some octets) (Err (Violated e)) = ⊥
+IsRead (Some octets) (Err (Unverified clause e)) = ⊥
+IsRead (Some octets) (Err NoCertificate) = ⊥
+IsRead (Some octets) (Err OtherAlgorithm) = ⊥
 IsRead None (Ok read) = ⊥
 IsRead None (Err (Unreadable cause)) = Unit {0}
 IsRead None (Err TooLarge) = ⊥
@@ -124,6 +123,9 @@ IsRead None (Err OutOfMemory) = Unit {0}
 IsRead None (Err Malformed) = ⊥
 IsRead None (Err (Refused kind place e)) = ⊥
 IsRead None (Err (Violated e)) = ⊥
+IsRead None (Err (Unverified clause e)) = ⊥
+IsRead None (Err NoCertificate) = ⊥
+IsRead None (Err OtherAlgorithm) = ⊥
 
 -- What reading to the end gives where these octets are left; a reader may fail.
 abbrev pub IsReadFrom : List ℕ → Result (List ℕ) Fault → Type 0
@@ -134,3 +136,6 @@ IsReadFrom octets (Err OutOfMemory) = Unit {0}
 IsReadFrom octets (Err Malformed) = ⊥
 IsReadFrom octets (Err (Refused kind place e)) = ⊥
 IsReadFrom octets (Err (Violated e)) = ⊥
+IsReadFrom octets (Err (Unverified clause e)) = ⊥
+IsReadFrom octets (Err NoCertificate) = ⊥
+IsReadFrom octets (Err OtherAlgorithm) = ⊥

@@ -7,9 +7,9 @@ use Rattle.clap.specs.Walk.{is_empty}
 use Rattle.clap.specs.declared.builder.action.ArgAction.TheVariants.{Append, SetTrue}
 use Rattle.rpki_fields.specs.declared.rendering.Form.{Form}
 use Rattle.rpki_fields.specs.declared.rendering.Form.TheVariants.{Text, Json}
-use Rattle.rpkicert.specs.declared.profile.Profile.{Profile}
+use Rattle.rpki_cert.specs.declared.profile.Profile.{Profile}
 use Rattle.rpkicert.specs.declared.profile.Inspection.{Inspection}
-use Rattle.rpkicert.specs.declared.profile.Profile.TheVariants.{Ta, Ca, Ee, Detached, Router}
+use Rattle.rpki_cert.specs.declared.profile.Profile.TheVariants.{Ta, Ca, Ee, DetachedEe, Router}
 
 -- ---- the command, in the words of `clap`
 
@@ -21,9 +21,9 @@ flag name = record (new_rule name) { long = Some name; action = Some SetTrue }
 abbrev pub help_flag : Rule
 help_flag = record (new_rule (codes "help")) { short = Some 104; long = Some (codes "help"); action = Some SetTrue }
 
--- `--profile` takes a value, which is the name of a profile (`named_profile`, below)
-abbrev pub profile_option : Rule
-profile_option = record (new_rule (codes "profile")) { long = Some (codes "profile") }
+-- the option of this name, which takes a value
+abbrev pub valued : List ℕ → Rule
+valued name = record (new_rule name) { long = Some name }
 
 -- each of the other words is the name of a file
 abbrev pub files_rule : Rule
@@ -36,9 +36,9 @@ command_alone =
 
 abbrev pub command_app : App
 command_app =
-    with_rule (with_rule (with_rule (with_rule (with_rule (with_rule (with_rule command_alone help_flag)
-    (flag (codes "version"))) (flag (codes "json"))) (flag (codes "check"))) (flag (codes "lax"))) profile_option)
-    files_rule
+    with_rule (with_rule (with_rule (with_rule (with_rule (with_rule (with_rule (with_rule (with_rule command_alone
+    help_flag) (flag (codes "version"))) (flag (codes "json"))) (flag (codes "check"))) (flag (codes "lax")))
+    (valued (codes "profile"))) (valued (codes "issuer"))) (valued (codes "at"))) files_rule
 
 -- what `clap` matches in the words; None where it finds a fault in them
 abbrev pub matched : List (List ℕ) → Option (List Row)
@@ -50,12 +50,10 @@ matched words = if is_empty (fault_of command_app words) then Some (matches_of c
 abbrev pub is_given : List ℕ → List Row → Bool
 is_given name rows = bytes_eq (unwrap_or (first_of name rows) []) (codes "true")
 
--- how certificates are printed; without a form there is a line for each file
-abbrev pub form_of : (json check : Bool) → Option (Option Form)
-form_of true true = None
-form_of true false = Some (Some Json)
-form_of false true = Some None
-form_of false false = Some (Some Text)
+-- as lines of text, or as JSON
+abbrev pub form_of : (json : Bool) → Form
+form_of true = Json
+form_of false = Text
 
 -- the profile of this name
 abbrev pub profile_of : List ℕ → Option Profile
@@ -63,7 +61,7 @@ profile_of word =
     if bytes_eq word (codes "ta") then Some Ta
     else if bytes_eq word (codes "ca") then Some Ca
     else if bytes_eq word (codes "ee") then Some Ee
-    else if bytes_eq word (codes "detached") then Some Detached
+    else if bytes_eq word (codes "detached") then Some DetachedEe
     else if bytes_eq word (codes "router") then Some Router
     else None
 
@@ -80,22 +78,33 @@ some_files None = None
 some_files (Some []) = None
 some_files (Some (file ∷ files)) = Some (file ∷ files)
 
--- how certificates are printed, how they are held to a profile, and the files
+-- how objects are printed, whether only a verdict is, how certificates are held to a profile, the file of the issuer,
+-- the text of the moment, and the files
 pub record Asked : Type 0 where
-  pub form : Option Form
+  pub form : Form
+  pub check : Bool
   pub inspection : Option Inspection
+  pub issuer : Option (List ℕ)
+  pub moment : Option (List ℕ)
   pub files : List (List ℕ)
 
-abbrev pub asked : Option Form → Option Inspection → List (List ℕ) → Asked
-asked form inspection files = record { form = form; inspection = inspection; files = files }
+abbrev pub asked : Option (List ℕ) → Option (List ℕ) → Form → Bool → Option Inspection → List (List ℕ) → Asked
+asked issuer moment form check inspection files = record {
+  form = form;
+  check = check;
+  inspection = inspection;
+  issuer = issuer;
+  moment = moment;
+  files = files;
+}
 
--- `--json` or `--check` or neither, a profile, perhaps, and files
+-- `--json` and `--check`, a profile, an issuer and a moment, perhaps, and files
 abbrev pub request_of : List Row → Option Asked
 request_of rows =
-    option_and_then (λ form. option_and_then (λ inspection. option_map (asked form inspection)
-    (some_files (all_of (codes "FILE") rows)))
-    (named_inspection (is_given (codes "lax") rows) (first_of (codes "profile") rows)))
-    (form_of (is_given (codes "json") rows) (is_given (codes "check") rows))
+    option_and_then (λ inspection. option_map
+    (asked (first_of (codes "issuer") rows) (first_of (codes "at") rows) (form_of (is_given (codes "json") rows))
+    (is_given (codes "check") rows) inspection) (some_files (all_of (codes "FILE") rows)))
+    (named_inspection (is_given (codes "lax") rows) (first_of (codes "profile") rows))
 
 -- what words ask for: the help, the version, or files
 pub data Wanted : Type 0 where

@@ -1,12 +1,14 @@
 -- What clauses see of a request.
-use Rattle.std.specs.Prelude.{◌≡◌, ℕ, List, String, Option, Some, None, Result, IfOk, map, string_bytes}
+use Rattle.std.specs.Prelude.{◌≡◌, ℕ, List, String, Option, Some, None, Result, IfOk, map, option_map, string_bytes}
 use Rattle.clap.specs.Words.{Row, found_of, rows_of}
 use Rattle.clap.specs.declared.parser.matches.ArgMatches.{ArgMatches}
 use Rattle.rpkicert.specs.declared.request.Request.{Request}
 use Rattle.rpkicert.specs.Request.{Asked, asked, Wanted, help, version, files, wanted_in, wanted_of}
 
 abbrev pub asked_of : Request → Asked
-asked_of r = asked r.form r.inspection (map (λ file. file.now) r.files.now)
+asked_of r =
+    asked (option_map (λ name. name.now) r.issuer) (option_map (λ word. word.now) r.moment) r.form r.check
+    r.inspection (map (λ file. file.now) r.files.now)
 
 -- what was matched
 abbrev pub rows_in : ArgMatches → List Row

@@ -1,22 +1,22 @@
 -- What is shown of a file, and of a run.
 use Rattle.std.specs.Prelude.{◌≡◌, ◌⊎◌, ℕ, nat_lt, nat_eq, ◌||◌, max, if◌then◌else◌, List, [], ◌∷◌, ◌++◌, codes, Option}
-use Rattle.std.specs.Prelude.{Some, None, Result, Ok, Err, IsSome, IfSome, All}
+use Rattle.std.specs.Prelude.{Some, None, Result, Ok, Err, Bool, true, false, is_some}
 use Rattle.std.specs.Io.KnownBytes.{Appends}
 use Rattle.std.specs.List.{flat_map}
 use Rattle.rpki_der.specs.Written.{AppendsBeginning, AppendsCut}
 use Rattle.rpki_fields.specs.declared.rendering.Form.{Form}
 use Rattle.rpki_fields.specs.declared.rendering.Form.TheVariants.{Text, Json}
-use Rattle.rpkicert.specs.declared.profile.Inspection.{Inspection}
 use Rattle.rpkicert.specs.declared.fault.Fault.TheVariants.{OutOfMemory}
 use Rattle.rpki_fields.specs.ValueText.{hex_pair}
 use Rattle.rpki_fields.specs.Field.{field_parts}
 use Rattle.rpki_fields.specs.Rendering.{rendering}
+use Rattle.rpki_fields.specs.Object.{objection_to}
 use Rattle.rpki_fields.specs.ObjectText.{IsSheet}
-use Rattle.rpki_fields.specs.Sheet.{SheetParts, sheet_behind}
+use Rattle.rpki_fields.specs.Sheet.{SheetParts, plain_sheet, sheet_behind}
 use Rattle.rpki_fields.specs.declared.object.Object.{Object}
 use Rattle.rpkicert.specs.Fault.{fault_text, status_of}
 use Rattle.rpkicert.specs.Finding.{Finding, Finds}
-use Rattle.rpkicert.specs.Request.{Asked}
+use Rattle.rpkicert.specs.Terms.{TermParts}
 use Rattle.rpkicert.specs.Words.{memory_text}
 
 -- ---- a file
@@ -39,11 +39,33 @@ abbrev pub file_text : Form → List ℕ → List ℕ
 file_text Text name = visible name
 file_text Json name = name
 
+-- a sheet with a field in front that says that the signature was not checked, where the issuer was
+abbrev pub marked : (issued : Bool) → SheetParts → SheetParts
+marked true s = sheet_behind (field_parts (codes "Signature") (codes "not checked")) s
+marked false s = s
+
 -- the text of the object that these octets are: its file, and then its sheet, in one form or the other
-abbrev pub IsTextOf : Form → List ℕ → List ℕ → Object → List ℕ → Type 0
-IsTextOf form name octets x text =
+abbrev pub IsTextOf : Form → (issued : Bool) → List ℕ → List ℕ → Object → List ℕ → Type 0
+IsTextOf form issued name octets x text =
     (s : SheetParts) × IsSheet octets x s
-    × (text ≡ rendering form (sheet_behind (field_parts (codes "File") (file_text form name)) s))
+    × (text ≡ rendering form (sheet_behind (field_parts (codes "File") (file_text form name)) (marked issued s)))
+
+-- that all is well
+abbrev pub good_text : List ℕ
+good_text = codes "OK"
+
+-- what is behind the verdict of an object whose issuer was checked
+abbrev pub signature_text : (issued : Bool) → List ℕ
+signature_text true = codes ", signature not checked"
+signature_text false = []
+
+-- The verdict on a file, OK or what is wrong: a line, or an object of JSON on a line, whose names are those of
+-- `rpki-client -f -j` where that has one.
+abbrev pub verdict : Form → (issued : Bool) → (name said : List ℕ) → List ℕ
+verdict Text issued name said = line name (said ++ signature_text issued)
+verdict Json issued name said =
+    rendering Json (sheet_behind (field_parts (codes "File") name)
+    (marked issued (sheet_behind (field_parts (codes "Validation") said) (plain_sheet []))))
 
 -- what goes to the output, what goes to the faults, and the status
 pub record ShownParts : Type 0 where
@@ -54,32 +76,39 @@ pub record ShownParts : Type 0 where
 abbrev pub shown_parts : List ℕ → List ℕ → ℕ → ShownParts
 shown_parts output faults status = record { output = output; faults = faults; status = status }
 
--- an object by its sheet, a fault by a line among the faults; without a form a line for either
-abbrev pub IsShown : Option Form → List ℕ → Finding → ShownParts → Type 0
-IsShown None name (Ok found) s = s ≡ shown_parts (line name (codes "OK")) [] 0
-IsShown None name (Err fault) s = s ≡ shown_parts (line name (fault_text fault)) [] (status_of fault)
-IsShown (Some form) name (Ok found) s =
-    (text : List ℕ) × IsTextOf form name found.0 found.1 text × (s ≡ shown_parts text [] 0)
-IsShown (Some form) name (Err fault) s =
+-- the verdict on an object: that all is well; or what the RPKI doesn't use of it, and the status 1
+abbrev pub checked_parts : Form → (issued : Bool) → (name : List ℕ) → Option (List ℕ) → ShownParts
+checked_parts form issued name None = shown_parts (verdict form issued name good_text) [] 0
+checked_parts form issued name (Some said) = shown_parts (verdict form false name said) [] 1
+
+-- an object by its sheet, a fault by a line among the faults; or only the verdict on either
+abbrev pub IsShown : (check : Bool) → Form → (issued : Bool) → List ℕ → Finding → ShownParts → Type 0
+IsShown true form issued name (Ok found) s = s ≡ checked_parts form issued name (objection_to found.1)
+IsShown true form issued name (Err fault) s =
+    s ≡ shown_parts (verdict form false name (fault_text fault)) [] (status_of fault)
+IsShown false form issued name (Ok found) s =
+    (text : List ℕ) × IsTextOf form issued name found.0 found.1 text × (s ≡ shown_parts text [] 0)
+IsShown false form issued name (Err fault) s =
     s ≡ shown_parts [] (codes "rpkicert: " ++ line name (fault_text fault)) (status_of fault)
 
 -- What is seen of a file: what was found, as it is shown; or that there was no memory to show it.
-abbrev pub IsSeen : Option Form → Option Inspection → List ℕ → Option (List ℕ) → ShownParts → Type 0
-IsSeen form inspection name source s =
-    ((finding : Finding) × Finds inspection source finding × IsShown form name finding s)
+abbrev pub IsSeen : (check : Bool) → Form → TermParts → List ℕ → Option (List ℕ) → ShownParts → Type 0
+IsSeen check form terms name source s =
+    ((finding : Finding) × Finds terms source finding × IsShown check form (is_some terms.issuer) name finding s)
     ⊎ (s ≡ shown_parts [] memory_text 2)
 
 -- there was no memory to find what is shown, or to show it
-abbrev pub LacksMemory : Option Form → List ℕ → ShownParts → Type 0
-LacksMemory form name s = IsShown form name (Err OutOfMemory) s ⊎ (s ≡ shown_parts [] memory_text 2)
+abbrev pub LacksMemory : (check : Bool) → Form → (issued : Bool) → List ℕ → ShownParts → Type 0
+LacksMemory check form issued name s =
+    IsShown check form issued name (Err OutOfMemory) s ⊎ (s ≡ shown_parts [] memory_text 2)
 
 -- where something is seen with the status 0, nothing else is, unless memory is lacking
-abbrev pub HasOneGoodAnswer : Option Form → Option Inspection → List ℕ → Option (List ℕ) → Type 0
-HasOneGoodAnswer form inspection name source =
-    (s t : ShownParts) → IsSeen form inspection name source s → s.status ≡ 0 → IsSeen form inspection name source t
-    → (t ≡ s) ⊎ LacksMemory form name t
+abbrev pub HasOneGoodAnswer : (check : Bool) → Form → TermParts → List ℕ → Option (List ℕ) → Type 0
+HasOneGoodAnswer check form terms name source =
+    (s t : ShownParts) → IsSeen check form terms name source s → s.status ≡ 0 → IsSeen check form terms name source t
+    → (t ≡ s) ⊎ LacksMemory check form (is_some terms.issuer) name t
 
--- ---- a run
+-- ---- files
 
 -- what is seen of each file, in order
 abbrev pub AreSeen : (List ℕ → ShownParts → Type 0) → List (List ℕ) → List ShownParts → Type 0
@@ -119,26 +148,3 @@ pub data IsRun (P : List ℕ → ShownParts → Type 0) (names : List (List ℕ)
       → status ≡ worst all → IsRun P names old new was is status
   Cut : (front rest : List (List ℕ)) → (all : List ShownParts) → names ≡ front ++ rest → AreSeen P front all
       → AreCut old new was is (outputs all) (faults all) → status ≡ 2 → IsRun P names old new was is status
-
--- what is seen of the file of this name, where it is known what files hold
-abbrev pub Sees : (List ℕ → Option (Option (List ℕ))) → Asked → List ℕ → ShownParts → Type 0
-Sees holds a name s = IfSome (holds name) (λ source. IsSeen a.form a.inspection name source s)
-
--- the run of what is asked for
-abbrev pub IsRunOf : (List ℕ → Option (Option (List ℕ))) → (old new was is : Option (List ℕ)) → ℕ → Asked → Type 0
-IsRunOf holds old new was is status a = IsRun (Sees holds a) a.files old new was is status
-
--- what there is by each of these names is known
-abbrev pub AreKnown : (List ℕ → Option (Option (List ℕ))) → List (List ℕ) → Type 0
-AreKnown holds names = All (λ name. IsSome (holds name)) names
-
--- each run of what is asked for that ends with the status 0 writes these texts, to the output and to the faults
-abbrev pub EndsWellWith : (List ℕ → Option (Option (List ℕ))) → Asked → (output said : List ℕ) → Type 0
-EndsWellWith holds a output said =
-    (old new was is : Option (List ℕ)) → IsRunOf holds old new was is 0 a → Appends old new output × Appends was is said
-
--- where one run of it ends so, each that does writes the same
-abbrev pub RunsAlike : (List ℕ → Option (Option (List ℕ))) → Asked → Type 0
-RunsAlike holds a =
-    (old new was is : Option (List ℕ)) → IsRunOf holds old new was is 0 a
-    → (output : List ℕ) × (said : List ℕ) × EndsWellWith holds a output said

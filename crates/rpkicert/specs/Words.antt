@@ -1,5 +1,5 @@
 -- Texts of a run that are not of a file.
-use Rattle.std.specs.Prelude.{◌≡◌, ◌⊎◌, ℕ, List, Option, codes}
+use Rattle.std.specs.Prelude.{◌≡◌, ◌⊎◌, ◌++◌, ℕ, List, Option, codes}
 use Rattle.std.specs.Io.KnownBytes.{Appends}
 use Rattle.rpki_der.specs.Written.{AppendsCut}
 
@@ -14,3 +14,9 @@ PrintsAlone old new text wanted status Stays = Prints old new text wanted status
 
 abbrev pub memory_text : List ℕ
 memory_text = codes "rpkicert: out of memory\n"
+
+-- how the program is used
+abbrev pub usage_text : List ℕ
+usage_text =
+    codes "usage: rpkicert [--json] [--check] [--profile ta|ca|ee|detached|router [--lax]] "
+    ++ codes "[--issuer FILE] [--at MOMENT] FILE..\n"

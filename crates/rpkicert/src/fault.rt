@@ -1,16 +1,20 @@
 //! Why nothing is printed of a file.
 
-ghost use Rattle.std.specs.Prelude.{◌≡◌, IfOk, OnOk, ◌++◌, codes, string_bytes};
+ghost use Rattle.std.specs.Prelude.{◌≡◌, IfOk, ◌++◌, codes, string_bytes, unwrap_or};
+ghost use Rattle.rpki.specs.ErrorContent.{validation_text};
 ghost use Rattle.rpki_der.specs.ErrorText.{error_text};
 ghost use Rattle.rpki_fields.specs.Kind.{kind_text};
 ghost use Rattle.rpki_fields.specs.PlaceText.{place_text};
-ghost use Rattle.rpkicert.specs.Fault.{cause_of, unreadable_text, fault_text, status_of, refusal};
+ghost use Rattle.rpkicert.specs.Fault.{cause_of, unreadable_text, clause_text, fault_text, status_of, refusal};
 
 use rpki::der::DecodeError;
 use rpki::repository::error::ValidationError;
 use rpki_fields::{Kind, Place, text_of_place};
 use std::alloc::{AllocError, AllocFailed, Global};
 use std::io::ErrorKind;
+
+/// What is said of a certificate of an algorithm that the RPKI doesn't use.
+const OTHER_ALGORITHM: &str = "RFC 7935 2, 3: of an algorithm that the RPKI doesn't use";
 
 /// Why a file could not be read to its end.
 #[derive(Clone, Copy, Debug, PartialEq, Eq)]
@@ -51,6 +55,30 @@ impl Cause {
     }
 }
 
+/// What has to hold of issuers and periods.
+#[derive(Clone, Copy, Debug, PartialEq, Eq)]
+pub enum Clause {
+    /// Of certificates (RFC 6487 7.2).
+    Certificate,
+    /// Of revocation lists (RFC 5280 6.3.3).
+    List,
+    /// Of manifests (RFC 9286 6.3).
+    Manifest,
+}
+
+impl Clause {
+    /// The section.
+    fn text(self) -> &'static str
+        ensures { result.now ≡ clause_text self }
+    {
+        match self {
+            Clause::Certificate => "RFC 6487 7.2",
+            Clause::List => "RFC 5280 6.3.3",
+            Clause::Manifest => "RFC 9286 6.3",
+        }
+    }
+}
+
 /// Why nothing is printed of a file.
 #[derive(Clone, Copy, Debug, PartialEq, Eq)]
 pub enum Fault {
@@ -66,6 +94,12 @@ pub enum Fault {
     Refused(Kind, Option<Place>, DecodeError),
     /// The certificate in it violates the profile.
     Violated(ValidationError),
+    /// The object is not of the issuer that is asked for, all but the signature, or doesn't hold at the moment.
+    Unverified(Clause, ValidationError),
+    /// The issuer that is asked for is an object of another kind.
+    NoCertificate,
+    /// It is held to something, or is to be an issuer, and is a certificate of an algorithm that the RPKI doesn't use.
+    OtherAlgorithm,
 }
 
 /// That octets of this kind are no such object, and why.
@@ -83,6 +117,15 @@ fn refused_text(
     format!(in alloc; "not a {name}: {place}{e}")
 }
 
+/// That the clause is broken, and how.
+fn unverified_text(alloc: Global, clause: Clause, e: ValidationError) -> Result<String, AllocError>
+    ensures { IfOk result (λ text. string_bytes text
+        ≡ clause_text clause ++ codes ": " ++ unwrap_or (validation_text e) (codes "")) }
+{
+    let section = clause.text();
+    format!(in alloc; "{section}: {e}")
+}
+
 impl Fault {
     /// The exit status for it.
     pub fn status(self) -> u8
@@ -90,7 +133,9 @@ impl Fault {
     {
         match self {
             Fault::Unreadable(_) | Fault::TooLarge | Fault::OutOfMemory => 2,
+            Fault::NoCertificate => 2,
             Fault::Malformed | Fault::Refused(..) | Fault::Violated(_) => 1,
+            Fault::Unverified(..) | Fault::OtherAlgorithm => 1,
         }
     }
 
@@ -107,6 +152,9 @@ impl Fault {
             Fault::Malformed => String::from_str(alloc, "malformed PEM"),
             Fault::Refused(kind, place, e) => refused_text(alloc, kind, place, e),
             Fault::Violated(e) => format!(in alloc; "violates the profile: {e}"),
+            Fault::Unverified(clause, e) => unverified_text(alloc, clause, e),
+            Fault::NoCertificate => String::from_str(alloc, "not a certificate"),
+            Fault::OtherAlgorithm => String::from_str(alloc, OTHER_ALGORITHM),
         }
     }
 }

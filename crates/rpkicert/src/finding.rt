@@ -1,14 +1,17 @@
 //! What is found of a file.
 
 ghost use Rattle.std.specs.Prelude.{IfSome, MatchResult, ◌≡◌};
-ghost use Rattle.rpkicert.specs.Finding.{IsObject, IsRefusal, HoldsTo, FindsIn, Finds};
+ghost use Rattle.rpkicert.specs.Finding.{IsObject, IsRefusal, HoldsTo, FindsIn, Finds, is_outside};
 ghost use Rattle.rpkicert.specs.FindingView.{finding_of};
+ghost use Rattle.rpkicert.specs.Terms.{no_terms};
+ghost use Rattle.rpkicert.specs.TermsView.{terms_of};
 ghost use Rattle.rpkicert.specs.declared.fault.Fault.TheVariants.{OutOfMemory};
 
 use crate::fault::{Fault, refusal};
 use crate::pem::octets_of;
-use crate::profile::{Inspection, inspect};
+use crate::profile::inspect;
 use crate::sources::Sources;
+use crate::terms::{Terms, verify};
 use bytes::Bytes;
 use rpki_fields::{Kind, Object, Place};
 use std::alloc::Global;
@@ -55,41 +58,70 @@ fn kept(alloc: Global, octets: &[u8]) -> Result<Box<Object>, Fault>
     }
 }
 
-/// The object of these octets, where the certificate in it has the profile.
-fn held(alloc: Global, inspection: Option<Inspection>, octets: Vec<u8>) -> Result<Found, Fault>
-    ensures { HoldsTo inspection octets.items (finding_of result) }
+/// Whether the object is held to something, and is a certificate of an algorithm that the RPKI doesn't use.
+fn is_outside(terms: &Terms<'_>, object: &Object) -> bool
+    ensures { result ≡ is_outside (terms_of terms.now) object.now }
+{
+    let held = terms.inspection.is_some() || terms.issuer.is_some() || terms.moment.is_some();
+    held && object.has_objection()
+}
+
+/// The object of these octets, where it is what it is held to.
+fn held(alloc: Global, terms: &Terms<'_>, octets: Vec<u8>) -> Result<Found, Fault>
+    ensures { HoldsTo (terms_of terms.now) octets.items (finding_of result) }
 {
     let object = kept(alloc, octets.as_slice())?;
-    match inspect(inspection, object.as_ref().cert()) {
-        Ok(()) => Ok(Found { octets, object }),
+    if is_outside(terms, object.as_ref()) {
+        return Err(Fault::OtherAlgorithm);
+    }
+    match inspect(terms.inspection, object.as_ref().cert()) {
+        Ok(()) => match verify(terms, object.as_ref()) {
+            Ok(()) => Ok(Found { octets, object }),
+            Err(fault) => Err(fault),
+        },
         Err(e) => Err(Fault::Violated(e)),
     }
 }
 
-/// The object that an input stands for, where the certificate in it has the profile.
-fn found_in(alloc: Global, inspection: Option<Inspection>, input: Vec<u8>) -> Result<Found, Fault>
-    ensures { FindsIn inspection input.items (finding_of result) }
+/// The object that an input stands for, where it is what it is held to.
+fn found_in(alloc: Global, terms: &Terms<'_>, input: Vec<u8>) -> Result<Found, Fault>
+    ensures { FindsIn (terms_of terms.now) input.items (finding_of result) }
 {
     match octets_of(alloc, input)? {
-        Some(octets) => held(alloc, inspection, octets),
+        Some(octets) => held(alloc, terms, octets),
         None => Err(Fault::Malformed),
     }
 }
 
-/// The object in the file of this name, where the certificate in it has the profile: of a signed object that of its
-/// signer; a revocation list has none.
+/// The object in the file of this name, where it is what it is held to. The profile is that of the certificate: of a
+/// signed object that of its signer; a revocation list has none.
 ///
 /// Returns `Unreadable` and `TooLarge` as [Sources::read]; `Malformed` for a text that isn't one certificate; `Refused`
 /// for octets that are no object of the kind that they tell; `Violated` if the certificate violates the profile;
-/// `OutOfMemory` if allocation fails.
+/// `Unverified` as [verify]; `OtherAlgorithm` where it is held to something, and is a certificate of an algorithm that
+/// the RPKI doesn't use; `OutOfMemory` if allocation fails.
 pub fn find<S: Sources>(
     alloc: Global,
     sources: &S,
-    inspection: Option<Inspection>,
+    terms: &Terms<'_>,
     name: &str,
 ) -> Result<Found, Fault>
-    ensures { IfSome (S.holds sources.now name.now) (λ source. Finds inspection source (finding_of result)) }
+    ensures { IfSome (S.holds sources.now name.now) (λ source. Finds (terms_of terms.now) source (finding_of result)) }
 {
     let input = sources.read(alloc, name)?;
-    found_in(alloc, inspection, input)
+    found_in(alloc, terms, input)
+}
+
+/// The object in the file of this name, which is held to nothing, so that it can be an issuer.
+///
+/// The errors are those of [find], but for `Violated` and `Unverified`.
+pub fn find_issuer<S: Sources>(alloc: Global, sources: &S, name: &str) -> Result<Found, Fault>
+    ensures { IfSome (S.holds sources.now name.now) (λ source. Finds no_terms source (finding_of result)) }
+{
+    let terms = Terms {
+        inspection: None,
+        issuer: None,
+        moment: None,
+    };
+    find(alloc, sources, &terms, name)
 }

@@ -1,4 +1,4 @@
-//! A program that prints the objects of a repository of the RPKI, and holds their certificates to profiles.
+//! A program that prints the objects of a repository of the RPKI, and holds them to profiles, an issuer and a moment.
 #![tactic(auto)]
 
 mod arguments;
@@ -10,8 +10,11 @@ mod pem;
 mod profile;
 mod request;
 mod runs;
+mod settled;
 mod shown;
 mod sources;
+mod terms;
+mod unsigned;
 mod words;
 
 use crate::arguments::words_of;

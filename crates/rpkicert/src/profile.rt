@@ -2,46 +2,29 @@
 
 ghost use Rattle.std.specs.Prelude.{◌≡◌};
 ghost use Rattle.std.specs.Option.{option_copied};
-ghost use Rattle.rpki_cert.specs.RuleError.{ChecksBy, IsFirstError};
-ghost use Rattle.rpkicert.specs.Finding.{HasProfile, rules_of, Meets, IsViolation};
+ghost use Rattle.rpki_cert.specs.RuleError.{ChecksBy};
+ghost use Rattle.rpkicert.specs.Finding.{Meets, IsViolation};
 ghost use Rattle.rpkicert.specs.Request.{profile_of};
 
 use rpki::repository::error::ValidationError;
-use rpki_cert::TbsCert;
+use rpki_cert::{Profile, TbsCert};
 
-/// A profile that a certificate is held to.
-#[derive(Clone, Copy, Debug, PartialEq, Eq)]
-pub enum Profile {
-    /// A trust anchor.
-    Ta,
-    /// A certification authority.
-    Ca,
-    /// An end entity that signs an object.
-    Ee,
-    /// An end entity without subject information access, whose key signs what is in no repository.
-    Detached,
-    /// A BGPsec router.
-    Router,
-}
-
-impl Profile {
-    /// The profile of this name.
-    pub fn of(word: &str) -> Option<Profile>
-        ensures { result ≡ profile_of word.now }
-    {
-        if word == "ta" {
-            Some(Profile::Ta)
-        } else if word == "ca" {
-            Some(Profile::Ca)
-        } else if word == "ee" {
-            Some(Profile::Ee)
-        } else if word == "detached" {
-            Some(Profile::Detached)
-        } else if word == "router" {
-            Some(Profile::Router)
-        } else {
-            None
-        }
+/// The profile of this name.
+pub fn profile_of(word: &str) -> Option<Profile>
+    ensures { result ≡ profile_of word.now }
+{
+    if word == "ta" {
+        Some(Profile::Ta)
+    } else if word == "ca" {
+        Some(Profile::Ca)
+    } else if word == "ee" {
+        Some(Profile::Ee)
+    } else if word == "detached" {
+        Some(Profile::DetachedEe)
+    } else if word == "router" {
+        Some(Profile::Router)
+    } else {
+        None
     }
 }
 
@@ -52,19 +35,6 @@ pub struct Inspection {
     pub profile: Profile,
     /// Whether the names are held to theirs.
     pub strict: bool,
-}
-
-/// Whether the certificate has the profile; the error is that of the rule of the profile that is broken first.
-fn inspect_as(profile: Profile, tbs: &TbsCert, strict: bool) -> Result<(), ValidationError>
-    ensures { ChecksBy (HasProfile profile strict tbs.now) (IsFirstError strict tbs.now (rules_of profile)) result }
-{
-    match profile {
-        Profile::Ta => tbs.inspect_ta(strict),
-        Profile::Ca => tbs.inspect_ca(strict),
-        Profile::Ee => tbs.inspect_ee(strict),
-        Profile::Detached => tbs.inspect_detached_ee(strict),
-        Profile::Router => tbs.inspect_router(strict),
-    }
 }
 
 /// Whether the certificate, where there is one, has the profile that is asked for, if one is; the error is that of the
@@ -80,7 +50,7 @@ pub fn inspect(
         None => Ok(()),
         Some(inspection) => match cert {
             None => Ok(()),
-            Some(tbs) => inspect_as(inspection.profile, tbs, inspection.strict),
+            Some(tbs) => tbs.inspect(inspection.profile, inspection.strict),
         },
     }
 }

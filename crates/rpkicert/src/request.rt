@@ -2,11 +2,11 @@
 
 ghost use Rattle.std.specs.Prelude.{◌≡◌, map, codes, IfOk, false, option_map, string_bytes};
 ghost use Rattle.clap.specs.Words.{all_of, app_of, first_of, rule_of};
-ghost use Rattle.rpkicert.specs.Request.{flag, help_flag, profile_option, files_rule, command_app, matched, is_given};
+ghost use Rattle.rpkicert.specs.Request.{flag, help_flag, valued, files_rule, command_app, matched, is_given};
 ghost use Rattle.rpkicert.specs.Request.{form_of, named_inspection, some_files, request_of};
 ghost use Rattle.rpkicert.specs.RequestView.{asked_of, rows_in};
 
-use crate::profile::{Inspection, Profile};
+use crate::profile::{Inspection, profile_of};
 use clap::error::ErrorKind;
 use clap::{Arg, ArgAction, ArgMatches, Command};
 use rpki_fields::Form;
@@ -15,10 +15,16 @@ use std::alloc::{AllocError, Global};
 /// What the words ask for of files.
 #[derive(Clone, Copy)]
 pub struct Request<'m, 'a> {
-    /// How certificates are printed; without a form there is a line for each file.
-    pub form: Option<Form>,
+    /// How objects are printed.
+    pub form: Form,
+    /// Whether only a verdict is printed.
+    pub check: bool,
     /// How certificates are held to a profile, if they are.
     pub inspection: Option<Inspection>,
+    /// The name of the file of the issuer.
+    pub issuer: Option<&'a str>,
+    /// The text of the moment.
+    pub moment: Option<&'a str>,
     /// The names of the files.
     pub files: &'m [&'a str],
 }
@@ -42,12 +48,12 @@ fn help_flag<'a>(alloc: Global) -> Arg<'a>
         .action(ArgAction::SetTrue)
 }
 
-/// The option for a profile.
-fn profile_option<'a>(alloc: Global) -> Arg<'a>
-    ensures rule { rule_of result ≡ profile_option }
+/// The option of this name, which takes a value.
+fn valued<'a>(alloc: Global, name: &'a str) -> Arg<'a>
+    ensures rule { rule_of result ≡ valued name.entry.now }
     ensures local { result.global ≡ false }
 {
-    Arg::new(alloc, "profile").long("profile")
+    Arg::new(alloc, name).long(name)
 }
 
 /// The names of files.
@@ -70,7 +76,9 @@ fn command<'a>(alloc: Global) -> Result<Command<'a>, AllocError>
         .arg(flag(alloc, "json"))?
         .arg(flag(alloc, "check"))?
         .arg(flag(alloc, "lax"))?
-        .arg(profile_option(alloc))?
+        .arg(valued(alloc, "profile"))?
+        .arg(valued(alloc, "issuer"))?
+        .arg(valued(alloc, "at"))?
         .arg(files_rule(alloc))
 }
 
@@ -100,16 +108,11 @@ pub fn is_given(matches: &ArgMatches<'_>, name: &str) -> bool
     }
 }
 
-/// How certificates are printed. None if two ways are asked for.
-fn form_of(json: bool, check: bool) -> Option<Option<Form>>
-    ensures { result ≡ form_of json check }
+/// As lines of text, or as JSON.
+fn form_of(json: bool) -> Form
+    ensures { result ≡ form_of json }
 {
-    match (json, check) {
-        (true, true) => None,
-        (true, false) => Some(Some(Form::Json)),
-        (false, true) => Some(None),
-        (false, false) => Some(Some(Form::Text)),
-    }
+    if json { Form::Json } else { Form::Text }
 }
 
 /// How a certificate is held to the profile of this name, if one is named. None if there is no profile of that name, or
@@ -118,7 +121,7 @@ fn named_inspection(lax: bool, name: Option<&str>) -> Option<Option<Inspection>>
     ensures { result ≡ named_inspection lax (option_map (λ name. name.now) name.entry) }
 {
     match name {
-        Some(name) => match Profile::of(name) {
+        Some(name) => match profile_of(name) {
             Some(profile) => Some(Some(Inspection {
                 profile,
                 strict: !lax,
@@ -146,17 +149,19 @@ fn some_files<'m, 'a>(files: Option<&'m [&'a str]>) -> Option<&'m [&'a str]>
 }
 
 impl<'m, 'a> Request<'m, 'a> {
-    /// What is asked for of files: how certificates are printed, a profile, perhaps, and the files. None if there are
-    /// none, or two ways are asked for, or what belongs to a profile without one.
+    /// What is asked for of files: how objects are printed, a profile, an issuer and a moment, perhaps, and the files.
+    /// None if there are none, or what belongs to a profile is asked for without one.
     pub fn of(matches: &'m ArgMatches<'a>) -> Option<Request<'m, 'a>>
         ensures { option_map asked_of result ≡ request_of (rows_in matches.entry.now) }
     {
-        let form = form_of(is_given(matches, "json"), is_given(matches, "check"))?;
         let inspection = named_inspection(is_given(matches, "lax"), matches.get_str("profile"))?;
         let files = some_files(matches.get_raw("FILE"))?;
         Some(Request {
-            form,
+            form: form_of(is_given(matches, "json")),
+            check: is_given(matches, "check"),
             inspection,
+            issuer: matches.get_str("issuer"),
+            moment: matches.get_str("at"),
             files,
         })
     }

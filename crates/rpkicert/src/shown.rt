@@ -1,13 +1,16 @@
 //! What is shown of a file.
 
-ghost use Rattle.std.specs.Prelude.{◌≡◌, ◌++◌, OnOk, IfOk};
-ghost use Rattle.rpkicert.specs.Shown.{name_octet, visible, line, file_text, IsTextOf, IsShown};
+ghost use Rattle.std.specs.Prelude.{◌≡◌, ◌++◌, OnOk, IfOk, Bool, Ok, Err};
+ghost use Rattle.rpki_fields.specs.declared.rendering.Form.TheVariants.{Text, Json};
+ghost use Rattle.rpkicert.specs.Shown.{name_octet, visible, line, file_text, marked, signature_text, verdict};
+ghost use Rattle.rpkicert.specs.Shown.{IsTextOf, IsShown, checked_parts};
+ghost use Rattle.rpki_fields.specs.Object.{objection_to};
 ghost use Rattle.rpkicert.specs.FindingView.{finding_of};
 ghost use Rattle.rpkicert.specs.ShownView.{parts_of};
 
 use crate::fault::Fault;
 use crate::finding::Found;
-use rpki_fields::{Form, hex_pair};
+use rpki_fields::{Form, Object, Sheet, hex_pair};
 use std::alloc::{AllocError, Global};
 
 /// What is shown of a file.
@@ -45,7 +48,9 @@ fn push_visible(text: &mut Vec<u8>, name: &[u8]) -> Result<(), AllocError>
 }
 
 /// Adds a file's name and what is said of it.
-fn push_line(text: &mut Vec<u8>, name: &str, said: &[u8]) -> Result<(), AllocError>
+///
+/// Returns `AllocError` if allocation fails.
+pub fn push_line(text: &mut Vec<u8>, name: &str, said: &[u8]) -> Result<(), AllocError>
     ensures { OnOk result (text.new.items ≡ text.old.items ++ line name.now said.now) }
 {
     push_visible(text, name.as_bytes())?;
@@ -69,35 +74,105 @@ fn file_text(alloc: Global, form: Form, name: &str) -> Result<Vec<u8>, AllocErro
     }
 }
 
+/// The sheet with a field in front that says that the signature was not checked, where the issuer was.
+fn marked(alloc: Global, issued: bool, sheet: Sheet) -> Result<Sheet, AllocError>
+    ensures { IfOk result (λ s. s ≡ marked issued sheet) }
+{
+    if issued {
+        return sheet.behind(alloc, b"Signature", b"not checked");
+    }
+    Ok(sheet)
+}
+
 /// The text of an object, in this form.
-fn text_of(alloc: Global, form: Form, name: &str, found: &Found) -> Result<Vec<u8>, AllocError>
+fn text_of(
+    alloc: Global,
+    form: Form,
+    issued: bool,
+    name: &str,
+    found: &Found,
+) -> Result<Vec<u8>, AllocError>
     ensures { IfOk result (λ text.
-        IsTextOf form name.now found.now.octets.items found.now.object.value text.items) }
+        IsTextOf form issued name.now found.now.octets.items found.now.object.value text.items) }
 {
     let file = file_text(alloc, form, name)?;
     let sheet = found.object.as_ref().sheet(alloc, found.octets.as_slice())?;
-    let all = sheet.behind(alloc, b"File", file.as_slice())?;
+    let own = marked(alloc, issued, sheet)?;
+    let all = own.behind(alloc, b"File", file.as_slice())?;
     form.render(alloc, &all)
 }
 
-/// What is shown of an object.
-fn good(alloc: Global, form: Option<Form>, name: &str, found: &Found) -> Result<Shown, AllocError>
-    ensures { IfOk result (λ s.
-        IsShown form name.now (Ok (found.now.octets.items, found.now.object.value)) (parts_of s)) }
+/// What is behind the verdict of an object whose issuer was checked.
+fn signature_text(issued: bool) -> &'static [u8]
+    ensures { result.now ≡ signature_text issued }
+{
+    if issued {
+        b", signature not checked"
+    } else {
+        b""
+    }
+}
+
+/// The verdict on a file as a line.
+fn line_of(alloc: Global, issued: bool, name: &str, said: &[u8]) -> Result<Vec<u8>, AllocError>
+    ensures { IfOk result (λ text. text.items ≡ verdict Text issued name.now said.now) }
+{
+    let mut all = Vec::from_slice(alloc, said)?;
+    all.extend_from_slice(signature_text(issued))?;
+    let mut text = Vec::new(alloc);
+    push_line(&mut text, name, all.as_slice())?;
+    Ok(text)
+}
+
+/// The verdict on a file as an object of JSON.
+fn member_of(alloc: Global, issued: bool, name: &str, said: &[u8]) -> Result<Vec<u8>, AllocError>
+    ensures { IfOk result (λ text. text.items ≡ verdict Json issued name.now said.now) }
+{
+    let none = Sheet::plain(Vec::new(alloc));
+    let told = none.behind(alloc, b"Validation", said)?;
+    let own = marked(alloc, issued, told)?;
+    let all = own.behind(alloc, b"File", name.as_bytes())?;
+    Form::Json.render(alloc, &all)
+}
+
+/// The verdict on a file, in this form.
+fn verdict(
+    alloc: Global,
+    form: Form,
+    issued: bool,
+    name: &str,
+    said: &[u8],
+) -> Result<Vec<u8>, AllocError>
+    ensures { IfOk result (λ text. text.items ≡ verdict form issued name.now said.now) }
+{
+    match form {
+        Form::Text => line_of(alloc, issued, name, said),
+        Form::Json => member_of(alloc, issued, name, said),
+    }
+}
+
+/// The verdict on an object: that it is well, or what the RPKI doesn't use of it.
+fn checked(
+    alloc: Global,
+    form: Form,
+    issued: bool,
+    name: &str,
+    object: &Object,
+) -> Result<Shown, AllocError>
+    ensures { IfOk result (λ s. parts_of s ≡ checked_parts form issued name.now (objection_to object.now)) }
 {
     let faults = Vec::new(alloc);
-    match form {
-        Some(form) => {
-            let output = text_of(alloc, form, name, found)?;
+    match object.objection(alloc)? {
+        Some(said) => {
+            let output = verdict(alloc, form, false, name, said.as_slice())?;
             Ok(Shown {
                 output,
                 faults,
-                status: 0,
+                status: 1,
             })
         }
         None => {
-            let mut output = Vec::new(alloc);
-            push_line(&mut output, name, b"OK")?;
+            let output = verdict(alloc, form, issued, name, b"OK")?;
             Ok(Shown {
                 output,
                 faults,
@@ -105,51 +180,78 @@ fn good(alloc: Global, form: Option<Form>, name: &str, found: &Found) -> Result<
             })
         }
     }
+}
+
+/// What is shown of an object.
+fn good(
+    alloc: Global,
+    check: bool,
+    form: Form,
+    issued: bool,
+    name: &str,
+    found: &Found,
+) -> Result<Shown, AllocError>
+    ensures { IfOk result (λ s.
+        IsShown check form issued name.now (Ok (found.now.octets.items, found.now.object.value)) (parts_of s)) }
+{
+    if check {
+        return checked(alloc, form, issued, name, found.object.as_ref());
+    }
+    let faults = Vec::new(alloc);
+    let output = text_of(alloc, form, issued, name, found)?;
+    Ok(Shown {
+        output,
+        faults,
+        status: 0,
+    })
 }
 
 /// What is shown of a fault.
-fn bad(alloc: Global, form: Option<Form>, name: &str, fault: Fault) -> Result<Shown, AllocError>
-    ensures { IfOk result (λ s. IsShown form name.now (Err fault) (parts_of s)) }
+fn bad(
+    alloc: Global,
+    check: bool,
+    form: Form,
+    name: &str,
+    fault: Fault,
+) -> Result<Shown, AllocError>
+    ensures { (issued : Bool) → IfOk result (λ s. IsShown check form issued name.now (Err fault) (parts_of s)) }
 {
     let said = fault.text(alloc)?;
     let status = fault.status();
-    let mut line = Vec::new(alloc);
-    match form {
-        Some(_) => {
-            line.extend_from_slice(b"rpkicert: ")?;
-            push_line(&mut line, name, said.as_bytes())?;
-            let output = Vec::new(alloc);
-            Ok(Shown {
-                output,
-                faults: line,
-                status,
-            })
-        }
-        None => {
-            push_line(&mut line, name, said.as_bytes())?;
-            let faults = Vec::new(alloc);
-            Ok(Shown {
-                output: line,
-                faults,
-                status,
-            })
-        }
+    if check {
+        let output = verdict(alloc, form, false, name, said.as_bytes())?;
+        let faults = Vec::new(alloc);
+        return Ok(Shown {
+            output,
+            faults,
+            status,
+        });
     }
+    let mut faults = Vec::from_slice(alloc, b"rpkicert: ")?;
+    push_line(&mut faults, name, said.as_bytes())?;
+    let output = Vec::new(alloc);
+    Ok(Shown {
+        output,
+        faults,
+        status,
+    })
 }
 
-/// What is shown of what was found of a file.
+/// What is shown of what was found of a file, whose issuer was checked, or not.
 ///
 /// Returns `AllocError` if allocation fails.
 pub fn show(
     alloc: Global,
-    form: Option<Form>,
+    check: bool,
+    form: Form,
+    issued: bool,
     name: &str,
     finding: Result<Found, Fault>,
 ) -> Result<Shown, AllocError>
-    ensures { IfOk result (λ s. IsShown form name.now (finding_of finding) (parts_of s)) }
+    ensures { IfOk result (λ s. IsShown check form issued name.now (finding_of finding) (parts_of s)) }
 {
     match finding {
-        Ok(found) => good(alloc, form, name, &found),
-        Err(fault) => bad(alloc, form, name, fault),
+        Ok(found) => good(alloc, check, form, issued, name, &found),
+        Err(fault) => bad(alloc, check, form, name, fault),
     }
 }

@@ -2,7 +2,8 @@
 
 /// How the program is used.
 pub const USAGE: &[u8] =
-    b"usage: rpkicert [--json|--check] [--profile ta|ca|ee|detached|router [--lax]] FILE..\n";
+    b"usage: rpkicert [--json] [--check] [--profile ta|ca|ee|detached|router [--lax]] \
+[--issuer FILE] [--at MOMENT] FILE..\n";
 
 /// The program's name and version.
 pub const VERSION: &[u8] = b"rpkicert 0.1.0\n";
@@ -14,8 +15,8 @@ pub const OUT_OF_MEMORY: &[u8] = b"rpkicert: out of memory\n";
 pub const HELP: &[u8] = b"\
 rpkicert - print the objects of a repository of the RPKI
 
-usage: rpkicert [--json|--check] [--profile ta|ca|ee|detached|router [--lax]]
-                FILE..
+usage: rpkicert [--json] [--check] [--profile ta|ca|ee|detached|router [--lax]]
+                [--issuer FILE] [--at MOMENT] FILE..
        rpkicert -h | --help
        rpkicert --version
 
@@ -28,15 +29,23 @@ at most 1048576 octets, as DER; a certificate may be in the textual encoding of
 RFC 7468 (PEM) with other text around it. - is standard input.
 
   --json       print an object of JSON a line
-  --check      print a line a file: its name, and OK or what is wrong
+  --check      print a verdict a line and file: its name, and OK or what is wrong;
+               with --json as an object of JSON, with file and validation
   --profile P  hold each certificate, and that of the signer of each signed
                object, to the profile of a trust anchor (ta), a certification
                authority (ca), an end entity (ee), one without subject
                information access (detached, RFC 9323) or a BGPsec router
                (router)
   --lax        with --profile, don't hold the names to the profile
+  --issuer F   hold each certificate, that of the signer of each signed object,
+               and each revocation list to its issuer, whose certificate is in
+               F: to the name, the key identifiers, and known extensions, but
+               not to the signature (RFC 6487 7.2, RFC 5280 6.3.3)
+  --at MOMENT  hold periods of certificates, and those between the updates of
+               revocation lists and manifests (RFC 9286 6.3), to a moment such
+               as 2026-11-26T12:00:00Z (RFC 3339)
 
-Exit status: 0 if all is well; 1 if a file is no such object or violates the
-profile; 2 if a file can't be read, for a wrong usage, and if writing fails.
-Signatures are not verified.
+Exit status: 0 if all is well; 1 if a file is no such object, violates the
+profile, is of another issuer, or holds at another time; 2 if a file can't be
+read, for a wrong usage, and if writing fails. Signatures are not verified.
 ";

@@ -18,7 +18,8 @@ returns c =
     let json = c.in_ok-arg-3.ensures.shape c.flag-2.ensures.local ∙ ap₂ with_rule version c.flag-2.ensures.rule in
     let check = c.in_ok-arg-4.ensures.shape c.flag-3.ensures.local ∙ ap₂ with_rule json c.flag-3.ensures.rule in
     let lax = c.in_ok-arg-5.ensures.shape c.flag-4.ensures.local ∙ ap₂ with_rule check c.flag-4.ensures.rule in
-    let profile = c.in_ok-arg-6.ensures.shape c.profile_option.ensures.local
-    ∙ ap₂ with_rule lax c.profile_option.ensures.rule in
-    IfOk-weaker c.arg-7.result _ _ (λ r h. h.shape c.files_rule.ensures.local
-    ∙ ap₂ with_rule profile c.files_rule.ensures.rule) c.arg-7.ensures
+    let profile = c.in_ok-arg-6.ensures.shape c.valued.ensures.local ∙ ap₂ with_rule lax c.valued.ensures.rule in
+    let issuer = c.in_ok-arg-7.ensures.shape c.valued-2.ensures.local ∙ ap₂ with_rule profile c.valued-2.ensures.rule in
+    let moment = c.in_ok-arg-8.ensures.shape c.valued-3.ensures.local ∙ ap₂ with_rule issuer c.valued-3.ensures.rule in
+    IfOk-weaker c.arg-9.result _ _ (λ r h. h.shape c.files_rule.ensures.local
+    ∙ ap₂ with_rule moment c.files_rule.ensures.rule) c.arg-9.ensures

@@ -1,0 +1,104 @@
+-- What is written where the terms of a run are none.
+use Rattle.std.proofs.Common.{◌≡◌, ◌⊎◌, ℕ, List, [], refl, sym, subst, inl, inr}
+use Rattle.std.specs.Prelude.{Bool, Option, Some, None, option_map, is_some, Result, Ok, Err, Vec, IfOk, IfSome}
+use Rattle.std.specs.Io.KnownBytes.{Appends}
+use Rattle.jiff.specs.Types.{DateTime}
+use Rattle.jiff.specs.Words.{civil_nanos}
+use Rattle.rpki_time.specs.MomentText.{moment_of}
+use Rattle.rpki_fields.specs.declared.rendering.Form.{Form}
+use Rattle.rpkicert.specs.declared.shown.Shown.{Shown}
+use Rattle.rpkicert.specs.Shown.{IsShown, IsSeen}
+use Rattle.rpki_cert.specs.Cert.{TbsParts}
+use Rattle.rpkicert.specs.declared.fault.Fault.{Fault}
+use Rattle.rpkicert.specs.Finding.{Finding, Finds}
+use Rattle.rpkicert.specs.Request.{Asked}
+use Rattle.rpkicert.specs.Terms.{TermParts, term_parts, no_terms}
+use Rattle.rpkicert.specs.ShownView.{parts_of, seen_of, text_in}
+use Rattle.rpkicert.specs.Words.{Prints, memory_text}
+use Rattle.rpkicert.specs.Run.{Holds, IsMoment, IsNoMoment, IsIssuer, IsIssuerOf, issuer_in, IsDenied}
+use Rattle.rpkicert.specs.Run.{IsDeniedBy, RunsOver, RunsBy, IsRunOf, wrong_moment_text, wrong_issuer_text}
+use Rattle.rpkicert.specs.Run.IsDenied.{WrongMoment, WrongIssuer, NoMemory}
+use Rattle.rpkicert.specs.Run.IsRunOf.{Held, Denied}
+
+-- what is shown of what was found is what is seen
+pub some-mapped : {A B : Type 0} (f : A → B) (o : Option A) → is_some o ≡ is_some (option_map f o)
+some-mapped f None = refl
+some-mapped f (Some x) = refl
+
+shown-seen : {E : Type 0} (check : Bool) (form : Form) (terms : TermParts) (name : List ℕ) (source : Option (List ℕ))
+    (finding : Finding) (r : Result Shown E) → Finds terms source finding
+    → IfOk r (λ s. IsShown check form (is_some terms.issuer) name finding (parts_of s))
+    → IsSeen check form terms name source (seen_of r)
+shown-seen check form terms name source finding (Ok s) h k = inl (finding, h, k)
+shown-seen check form terms name source finding (Err e) h k = inr refl
+
+pub seen-by : {E : Type 0} (held : Option (Option (List ℕ))) (check : Bool) (form : Form) (terms : TermParts)
+    (issued : Bool) (name : List ℕ) (finding : Finding) (r : Result Shown E) → issued ≡ is_some terms.issuer
+    → IfSome held (λ source. Finds terms source finding)
+    → IfOk r (λ s. IsShown check form issued name finding (parts_of s))
+    → IfSome held (λ source. IsSeen check form terms name source (seen_of r))
+seen-by None check form terms issued name finding r e h k = tt
+seen-by (Some source) check form terms issued name finding r e h k =
+    shown-seen check form terms name source finding r h
+    (subst (λ (b : Bool). IfOk r (λ s. IsShown check form b name finding (parts_of s))) e k)
+
+-- the moment that is asked for
+pub no-moment : (word : Option (List ℕ)) → word ≡ None → IsMoment word None
+no-moment word e = subst (λ (w : Option (List ℕ)). IsMoment w None) (sym e) tt
+
+pub the-moment : (word : Option (List ℕ)) (text : List ℕ) (t : DateTime) → word ≡ Some text
+    → moment_of text ≡ Ok (civil_nanos t) → IsMoment word (Some t)
+the-moment word text t e h = subst (λ (w : Option (List ℕ)). IsMoment w (Some t)) (sym e) h
+
+-- a text that was made, or wasn't
+pub denied-by : {Z E : Type 0} (r : Result (Vec ℕ Z) E) (wanted : List ℕ) (old new was is : Option (List ℕ))
+    (status : ℕ) → IfOk r (λ text. text.items ≡ wanted) → Appends old new [] → Prints was is (text_in r) 2 status
+    → IsDeniedBy old new was is status wanted
+denied-by (Ok text) wanted old new was is status h k p = record { kept = k; told = (text.items, inl h, p) }
+denied-by (Err e) wanted old new was is status h k p = record { kept = k; told = (memory_text, inr refl, p) }
+
+-- the moment is none
+told-moment : (holds : Holds) (a : Asked) (word : List ℕ) (said : List ℕ) → a.moment ≡ Some word → IsNoMoment word
+    → (said ≡ wrong_moment_text word) ⊎ (said ≡ memory_text) → IsDenied holds a said
+told-moment holds a word said m h (inl e) = WrongMoment word m h e
+told-moment holds a word said m h (inr e) = NoMemory e
+
+pub wrong-moment : (holds : Holds) (a : Asked) (word : List ℕ) (old new was is : Option (List ℕ)) (status : ℕ)
+    → a.moment ≡ Some word → IsNoMoment word → IsDeniedBy old new was is status (wrong_moment_text word)
+    → IsRunOf holds old new was is status a
+wrong-moment holds a word old new was is status m h d =
+    Denied d.told.0 (told-moment holds a word d.told.0 m h d.told.1) d.kept d.told.2
+
+-- the issuer is none
+told-issuer : (holds : Holds) (a : Asked) (name : List ℕ) (fault : Fault) (moment : Option DateTime) (said : List ℕ)
+    → a.issuer ≡ Some name → IsMoment a.moment moment → IsIssuer holds name (Err fault)
+    → (said ≡ wrong_issuer_text name fault) ⊎ (said ≡ memory_text) → IsDenied holds a said
+told-issuer holds a name fault moment said n m h (inl e) = WrongIssuer name fault moment n m h e
+told-issuer holds a name fault moment said n m h (inr e) = NoMemory e
+
+-- with an issuer, or none
+pub by-issuer : (holds : Holds) (a : Asked) (name : List ℕ) (moment : Option DateTime) (finding : Finding)
+    (issuer : Result TbsParts Fault) (old new was is : Option (List ℕ)) (status : ℕ)
+    → a.issuer ≡ Some name → IsMoment a.moment moment
+    → IfSome (holds name) (λ source. Finds no_terms source finding) → issuer_in finding ≡ issuer
+    → RunsBy holds old new was is status a name moment issuer → IsRunOf holds old new was is status a
+by-issuer holds a name moment finding (Ok t) old new was is status n m h e r =
+    Held (term_parts a.inspection (Some t) moment) (record {
+      inspection = refl;
+      issuer = subst (λ (o : Option (List ℕ)). IsIssuerOf holds o (Some t)) (sym n) (finding, h, e);
+      moment = m;
+    }) r
+by-issuer holds a name moment finding (Err fault) old new was is status n m h e r =
+    Denied r.told.0 (told-issuer holds a name fault moment r.told.0 n m (finding, h, e) r.told.1) r.kept r.told.2
+
+-- without an issuer
+pub by-none : (holds : Holds) (a : Asked) (moment : Option DateTime) (old new was is : Option (List ℕ)) (status : ℕ)
+    → a.issuer ≡ None → IsMoment a.moment moment
+    → RunsOver holds old new was is status a (term_parts a.inspection None moment)
+    → IsRunOf holds old new was is status a
+by-none holds a moment old new was is status n m r =
+    Held (term_parts a.inspection None moment) (record {
+      inspection = refl;
+      issuer = subst (λ (o : Option (List ℕ)). IsIssuerOf holds o None) (sym n) tt;
+      moment = m;
+    }) r

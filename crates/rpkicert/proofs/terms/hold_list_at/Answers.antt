@@ -1,0 +1,11 @@
+use Rattle.std.proofs.Common.{refl}
+use Rattle.rpki_time.specs.Validity.{HoldsAt}
+use Rattle.rpkicert.specs.Terms.{IsUpdateError}
+use Rattle.rpkicert.specs.declared.fault.Clause.TheVariants as C
+use Rattle.rpkicert.proofs.TermsLaws.{by-both}
+use Rattle.rpkicert.proofs.terms.hold_list_at.Goals as goal
+
+pub returns : goal.returns
+returns c =
+    by-both C.List HoldsAt IsUpdateError _ _ _ _ c.check_updates.result c.by.result c.list_period.ensures refl
+    c.check_updates.ensures c.by.ensures

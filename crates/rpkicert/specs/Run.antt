@@ -1,0 +1,138 @@
+-- A run of what is asked for: first its terms, and then the files.
+use Rattle.std.specs.Prelude.{◌≡◌, ◌⊎◌, ℕ, Bool, List, [], ◌++◌, codes, Option, Some, None, Result, Ok, Err, IsOkAnd}
+use Rattle.std.specs.Prelude.{IsSome, IfSome, All}
+use Rattle.std.specs.Io.KnownBytes.{Appends}
+use Rattle.jiff.specs.Types.{DateTime}
+use Rattle.jiff.specs.Words.{civil_nanos}
+use Rattle.rpki_time.specs.Time.{IsTimeNanos}
+use Rattle.rpki_time.specs.MomentText.{moment_of}
+use Rattle.rpki_cert.specs.Cert.{TbsParts}
+use Rattle.rpki_fields.specs.declared.object.Object.{Object}
+use Rattle.rpki_fields.specs.declared.object.Object.TheVariants.{Certificate, RevocationList, FileList, RouteOrigins}
+use Rattle.rpki_fields.specs.declared.object.Object.TheVariants.{Providers, OtherContent, OtherCertificate}
+use Rattle.rpki_fields.specs.declared.rendering.Form.{Form}
+use Rattle.rpkicert.specs.declared.fault.Fault.{Fault}
+use Rattle.rpkicert.specs.declared.fault.Fault.TheVariants.{NoCertificate, OtherAlgorithm}
+use Rattle.rpkicert.specs.Fault.{fault_text}
+use Rattle.rpkicert.specs.Finding.{Finding, Finds}
+use Rattle.rpkicert.specs.Request.{Asked}
+use Rattle.rpkicert.specs.Terms.{TermParts, term_parts, no_terms}
+use Rattle.rpkicert.specs.Shown.{line, ShownParts, IsSeen, IsRun}
+use Rattle.rpkicert.specs.Words.{Prints, memory_text, usage_text}
+
+-- what there is by a name: the octets, or None where there is no file; or nothing is known of it
+abbrev pub Holds : Type 0
+Holds = List ℕ → Option (Option (List ℕ))
+
+-- ---- the terms
+
+-- the word is the text of this moment (RFC 3339 5.6); without a word there is none
+abbrev pub IsMoment : Option (List ℕ) → Option DateTime → Type 0
+IsMoment None None = Unit {0}
+IsMoment None (Some t) = ⊥
+IsMoment (Some word) None = ⊥
+IsMoment (Some word) (Some t) = moment_of word ≡ Ok (civil_nanos t)
+
+-- the word is the text of no moment of the years 0 to 9999
+abbrev pub IsNoMoment : List ℕ → Type 0
+IsNoMoment word = IsOkAnd (moment_of word) IsTimeNanos → ⊥
+
+-- the certificate that an object is, as that of an issuer
+abbrev pub certificate_in : Object → Result TbsParts Fault
+certificate_in (Certificate c) = Ok c.tbs
+certificate_in (RevocationList l) = Err NoCertificate
+certificate_in (FileList m) = Err NoCertificate
+certificate_in (RouteOrigins r) = Err NoCertificate
+certificate_in (Providers a) = Err NoCertificate
+certificate_in (OtherContent o) = Err NoCertificate
+certificate_in (OtherCertificate c) = Err OtherAlgorithm
+
+-- the same of what was found; or why there is none
+abbrev pub issuer_in : Finding → Result TbsParts Fault
+issuer_in (Ok found) = certificate_in found.1
+issuer_in (Err fault) = Err fault
+
+-- what is found in the file of this name, as of an issuer
+abbrev pub IsIssuer : Holds → List ℕ → Result TbsParts Fault → Type 0
+IsIssuer holds name issuer =
+    (finding : Finding) × IfSome (holds name) (λ source. Finds no_terms source finding) × (issuer_in finding ≡ issuer)
+
+-- the certificate in the file of this name; without a name there is none
+abbrev pub IsIssuerOf : Holds → Option (List ℕ) → Option TbsParts → Type 0
+IsIssuerOf holds None None = Unit {0}
+IsIssuerOf holds None (Some t) = ⊥
+IsIssuerOf holds (Some name) None = ⊥
+IsIssuerOf holds (Some name) (Some t) = IsIssuer holds name (Ok t)
+
+-- objects are held to what is asked for
+pub record AreTerms (holds : Holds) (a : Asked) (terms : TermParts) : Type 0 where
+  pub inspection : terms.inspection ≡ a.inspection
+  pub issuer : IsIssuerOf holds a.issuer terms.issuer
+  pub moment : IsMoment a.moment terms.moment
+
+-- there is no such moment
+abbrev pub wrong_moment_text : List ℕ → List ℕ
+wrong_moment_text word = codes "rpkicert: " ++ line word (codes "no moment") ++ usage_text
+
+-- the file of this name has no issuer, and why
+abbrev pub wrong_issuer_text : List ℕ → Fault → List ℕ
+wrong_issuer_text name fault = codes "rpkicert: " ++ line name (fault_text fault)
+
+-- Why nothing is shown: the word is no moment; or it is one, and the file has no certificate; or allocation failed.
+pub data IsDenied (holds : Holds) (a : Asked) (text : List ℕ) : Type 0 where
+  WrongMoment : (word : List ℕ) → a.moment ≡ Some word → IsNoMoment word → text ≡ wrong_moment_text word
+      → IsDenied holds a text
+  WrongIssuer : (name : List ℕ) → (fault : Fault) → (moment : Option DateTime) → a.issuer ≡ Some name
+      → IsMoment a.moment moment → IsIssuer holds name (Err fault) → text ≡ wrong_issuer_text name fault
+      → IsDenied holds a text
+  NoMemory : text ≡ memory_text → IsDenied holds a text
+
+-- ---- the run
+
+-- what is seen of the file of this name, where it is known what files hold
+abbrev pub Sees : Holds → (check : Bool) → Form → TermParts → List ℕ → ShownParts → Type 0
+Sees holds check form terms name s = IfSome (holds name) (λ source. IsSeen check form terms name source s)
+
+-- The run of what is asked for: of the files, held to the terms; or nothing but why there are none, with the status 2.
+pub data IsRunOf (holds : Holds) (old new was is : Option (List ℕ)) (status : ℕ) (a : Asked) : Type 0 where
+  Held : (terms : TermParts) → AreTerms holds a terms
+      → IsRun (Sees holds a.check a.form terms) a.files old new was is status → IsRunOf holds old new was is status a
+  Denied : (text : List ℕ) → IsDenied holds a text → Appends old new [] → Prints was is text 2 status
+      → IsRunOf holds old new was is status a
+
+-- the run of the files, held to these terms
+abbrev pub RunsOver : Holds → (old new was is : Option (List ℕ)) → ℕ → Asked → TermParts → Type 0
+RunsOver holds old new was is status a terms = IsRun (Sees holds a.check a.form terms) a.files old new was is status
+
+-- nothing is shown, this text is written, or that allocation failed, and the status is 2
+pub record IsDeniedBy (old new was is : Option (List ℕ)) (status : ℕ) (text : List ℕ) : Type 0 where
+  pub kept : Appends old new []
+  pub told : (said : List ℕ) × ((said ≡ text) ⊎ (said ≡ memory_text)) × Prints was is said 2 status
+
+-- the run of the files, held to this issuer; or why it is none
+abbrev pub RunsBy : Holds → (old new was is : Option (List ℕ)) → ℕ → Asked → (name : List ℕ) → Option DateTime
+    → Result TbsParts Fault → Type 0
+RunsBy holds old new was is status a name moment (Ok t) =
+    RunsOver holds old new was is status a (term_parts a.inspection (Some t) moment)
+RunsBy holds old new was is status a name moment (Err fault) =
+    IsDeniedBy old new was is status (wrong_issuer_text name fault)
+
+-- what there is by each of these names is known
+abbrev pub AreKnown : Holds → List (List ℕ) → Type 0
+AreKnown holds names = All (λ name. IsSome (holds name)) names
+
+-- what there is by the names of the issuer, if there is one, and of the files is known
+pub record IsKnown (holds : Holds) (a : Asked) : Type 0 where
+  pub issuer : IfSome a.issuer (λ name. IsSome (holds name))
+  pub files : AreKnown holds a.files
+
+-- each run of what is asked for that ends with the status 0 writes these texts, to the output and to the faults
+abbrev pub EndsWellWith : Holds → Asked → (output said : List ℕ) → Type 0
+EndsWellWith holds a output said =
+    (old new was is : Option (List ℕ)) → IsRunOf holds old new was is 0 a → Appends old new output × Appends was is said
+
+-- where one run of it ends so, each that does writes the same
+abbrev pub RunsAlike : Holds → Asked → Type 0
+RunsAlike holds a =
+    (old new was is : Option (List ℕ)) → IsRunOf holds old new was is 0 a
+    → (output : List ℕ) × (said : List ℕ) × EndsWellWith holds a output said

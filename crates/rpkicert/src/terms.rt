@@ -1,0 +1,254 @@
+//! What an object is held to: a profile, an issuer and a moment.
+
+ghost use Rattle.std.specs.Prelude.{◌≡◌, MatchResult, option_map};
+ghost use Rattle.std.specs.Option.{option_copied};
+ghost use Rattle.rpki_time.specs.Validity.{HoldsAt};
+ghost use Rattle.rpki_cert.specs.RuleError.{ChecksBy};
+ghost use Rattle.rpki_cert.specs.Valid.{IsPeriodError};
+ghost use Rattle.rpkicert.specs.Terms.{signer_of, list_of, signer_period, list_period, manifest_period};
+ghost use Rattle.rpkicert.specs.Terms.{IsCertIssued, IsCertUnissued, IsListIssued, IsListUnissued};
+ghost use Rattle.rpkicert.specs.Terms.{IsUpdateError, IsVerified, IsUnverifiedBy};
+ghost use Rattle.rpkicert.specs.TermsView.{terms_of, by_clause, ChecksBoth, HoldsBoth};
+ghost use Rattle.rpkicert.specs.declared.fault.Clause.TheVariants as C;
+
+use crate::fault::{Clause, Fault};
+use crate::profile::Inspection;
+use crate::unsigned::Unsigned;
+use rpki::repository::error::ValidationError;
+use rpki::repository::x509::{Time, Validity};
+use rpki_cert::objects::{unverified, verify_period};
+use rpki_cert::{Cert, TbsCert};
+use rpki_fields::Object;
+use rpki_objects::Crl;
+
+/// What an object is held to.
+#[derive(Clone, Copy)]
+pub struct Terms<'a> {
+    /// The profile of its certificate.
+    pub inspection: Option<Inspection>,
+    /// The certificate that has issued it, all but the signature.
+    pub issuer: Option<&'a TbsCert>,
+    /// A moment within its periods.
+    pub moment: Option<Time>,
+}
+
+/// The certificate in the profile of the RPKI that the object is, or that of its signer; a revocation list has none.
+fn signer(object: &Object) -> Option<&Cert>
+    ensures { option_map (λ c. c.now) result ≡ signer_of object.now }
+{
+    match object {
+        Object::Certificate(cert) => Some(cert),
+        Object::RevocationList(_) => None,
+        Object::FileList(manifest) => Some(manifest.object().cert()),
+        Object::RouteOrigins(origins) => Some(origins.object().cert()),
+        Object::Providers(attestation) => Some(attestation.object().cert()),
+        Object::OtherContent(object) => Some(object.cert()),
+        Object::OtherCertificate(_) => None,
+    }
+}
+
+/// The revocation list that the object is.
+fn list(object: &Object) -> Option<&Crl>
+    ensures { option_map (λ l. l.now) result ≡ list_of object.now }
+{
+    match object {
+        Object::RevocationList(list) => Some(list),
+        _ => None,
+    }
+}
+
+/// The period of the certificate that the object is, or of that of its signer.
+fn signer_period(object: &Object) -> Option<Validity>
+    ensures { result ≡ signer_period object.now }
+{
+    match signer(object) {
+        Some(cert) => Some(cert.tbs().validity()),
+        None => None,
+    }
+}
+
+/// From this update to the next, of the revocation list that the object is.
+fn list_period(object: &Object) -> Option<Validity>
+    ensures { result ≡ list_period object.now }
+{
+    match object {
+        Object::RevocationList(list) => {
+            Some(Validity::new(list.this_update(), list.next_update()))
+        }
+        _ => None,
+    }
+}
+
+/// From this update to the next, of the manifest that the object is.
+fn manifest_period(object: &Object) -> Option<Validity>
+    ensures { result ≡ manifest_period object.now }
+{
+    match object {
+        Object::FileList(manifest) => {
+            let content = manifest.content();
+            Some(Validity::new(content.this_update(), content.next_update()))
+        }
+        _ => None,
+    }
+}
+
+/// Whether the one certificate has issued the other, all but the signature; where both are there.
+///
+/// The errors are those of [Cert::verify_issued].
+fn check_signer(issuer: Option<&TbsCert>, cert: Option<&Cert>) -> Result<(), ValidationError>
+    ensures { ChecksBoth IsCertIssued IsCertUnissued (option_copied issuer.entry) (option_copied cert.entry) result }
+{
+    match issuer {
+        Some(issuer) => match cert {
+            Some(cert) => cert.verify_issued(&Unsigned, issuer, cert.tbs().validity().not_before()),
+            None => Ok(()),
+        },
+        None => Ok(()),
+    }
+}
+
+/// Whether the list names the certificate's subject as its issuer, and its key.
+///
+/// The error is `Verification` of the first that isn't so: `issuer name mismatch`; `authority key identifier mismatch`.
+fn verify_list(issuer: &TbsCert, list: &Crl) -> Result<(), ValidationError>
+    ensures { ChecksBy (IsListIssued issuer.now list.now) (IsListUnissued issuer.now list.now) result }
+{
+    if *list.issuer() != *issuer.subject() {
+        return Err(unverified("issuer name mismatch"));
+    }
+    if list.authority_key_identifier()
+        != issuer.subject_public_key_info().key_identifier(&Unsigned)
+    {
+        return Err(unverified("authority key identifier mismatch"));
+    }
+    Ok(())
+}
+
+/// The same where both are there.
+fn check_list(issuer: Option<&TbsCert>, list: Option<&Crl>) -> Result<(), ValidationError>
+    ensures { ChecksBoth IsListIssued IsListUnissued (option_copied issuer.entry) (option_copied list.entry) result }
+{
+    match issuer {
+        Some(issuer) => match list {
+            Some(list) => verify_list(issuer, list),
+            None => Ok(()),
+        },
+        None => Ok(()),
+    }
+}
+
+/// Whether the period holds at the moment; where both are there.
+fn check_period(period: Option<Validity>, moment: Option<Time>) -> Result<(), ValidationError>
+    ensures { ChecksBoth HoldsAt IsPeriodError period moment result }
+{
+    match period {
+        Some(period) => match moment {
+            Some(moment) => verify_period(period, moment),
+            None => Ok(()),
+        },
+        None => Ok(()),
+    }
+}
+
+/// Whether the moment is within this update and the next, both included.
+///
+/// The error is `Verification` of the first that isn't so: `issued later`; `stale`.
+fn verify_updates(period: Validity, moment: Time) -> Result<(), ValidationError>
+    ensures { ChecksBy (HoldsAt period moment) (IsUpdateError period moment) result }
+{
+    if period.not_before() <= moment {
+        if moment <= period.not_after() {
+            return Ok(());
+        }
+        return Err(unverified("stale"));
+    }
+    Err(unverified("issued later"))
+}
+
+/// The same where both are there.
+fn check_updates(period: Option<Validity>, moment: Option<Time>) -> Result<(), ValidationError>
+    ensures { ChecksBoth HoldsAt IsUpdateError period moment result }
+{
+    match period {
+        Some(period) => match moment {
+            Some(moment) => verify_updates(period, moment),
+            None => Ok(()),
+        },
+        None => Ok(()),
+    }
+}
+
+/// The fault of a check that this clause asks for.
+fn by(clause: Clause, checked: Result<(), ValidationError>) -> Result<(), Fault>
+    ensures { result ≡ by_clause clause checked }
+{
+    match checked {
+        Ok(()) => Ok(()),
+        Err(e) => Err(Fault::Unverified(clause, e)),
+    }
+}
+
+/// The clause that the certificate has the issuer.
+fn hold_cert(terms: &Terms<'_>, object: &Object) -> Result<(), Fault>
+    ensures { HoldsBoth C.Certificate IsCertIssued IsCertUnissued (terms_of terms.now).issuer (signer_of object.now)
+        result }
+{
+    by(
+        Clause::Certificate,
+        check_signer(terms.issuer, signer(object)),
+    )
+}
+
+/// The clause that the list has the issuer.
+fn hold_list(terms: &Terms<'_>, object: &Object) -> Result<(), Fault>
+    ensures { HoldsBoth C.List IsListIssued IsListUnissued (terms_of terms.now).issuer (list_of object.now) result }
+{
+    by(Clause::List, check_list(terms.issuer, list(object)))
+}
+
+/// The clause that the period of the certificate holds.
+fn hold_cert_at(terms: &Terms<'_>, object: &Object) -> Result<(), Fault>
+    ensures { HoldsBoth C.Certificate HoldsAt IsPeriodError (signer_period object.now) terms.now.moment result }
+{
+    by(
+        Clause::Certificate,
+        check_period(signer_period(object), terms.moment),
+    )
+}
+
+/// The clause that the updates of the list hold.
+fn hold_list_at(terms: &Terms<'_>, object: &Object) -> Result<(), Fault>
+    ensures { HoldsBoth C.List HoldsAt IsUpdateError (list_period object.now) terms.now.moment result }
+{
+    by(
+        Clause::List,
+        check_updates(list_period(object), terms.moment),
+    )
+}
+
+/// The clause that the updates of the manifest hold.
+fn hold_manifest_at(terms: &Terms<'_>, object: &Object) -> Result<(), Fault>
+    ensures { HoldsBoth C.Manifest HoldsAt IsUpdateError (manifest_period object.now) terms.now.moment result }
+{
+    by(
+        Clause::Manifest,
+        check_updates(manifest_period(object), terms.moment),
+    )
+}
+
+/// Whether the object has the issuer, all but the signature, and its periods hold at the moment; where these are asked
+/// for.
+///
+/// The error is `Unverified` with the first clause that is broken: that the certificate has issued the object's, as
+/// [Cert::verify_issued] says; that the list names its subject and its key; that the periods hold, of the certificate,
+/// between the updates of a list, and those of a manifest.
+pub fn verify(terms: &Terms<'_>, object: &Object) -> Result<(), Fault>
+    ensures { MatchResult result (λ _. IsVerified (terms_of terms.now) object.now)
+        (IsUnverifiedBy (terms_of terms.now) object.now) }
+{
+    hold_cert(terms, object)?;
+    hold_list(terms, object)?;
+    hold_cert_at(terms, object)?;
+    hold_list_at(terms, object)?;
+    hold_manifest_at(terms, object)
+}

@@ -1,0 +1,250 @@
+"""Objects that are held to an issuer, all but the signature, and to a moment: those of authority.py and of a repository
+that openssl makes, beside what openssl says of names, key identifiers and periods; certificates that break one rule
+each (RFC 6487 7.2, RFC 5280 6.3.3); manifests within and without their updates (RFC 9286 6.3); and issuers and moments
+that are none."""
+import json
+import os
+from datetime import datetime, timedelta, timezone
+
+import authority
+import kinds
+import objects
+import payloads
+from authority import openssl
+from kinds import run
+
+SYNOPSIS = b"usage: rpkicert [--json] [--check] [--profile ta|ca|ee|detached|router [--lax]]"
+USAGE = SYNOPSIS + b" [--issuer FILE] [--at MOMENT] FILE..\n"
+UNSIGNED = "OK, signature not checked"
+NAME, KEY = "issuer name mismatch", "authority key identifier mismatch"
+OF_CERTIFICATE, OF_LIST, OF_MANIFEST = "RFC 6487 7.2: ", "RFC 5280 6.3.3: ", "RFC 9286 6.3: "
+
+
+def told(path, *words, kind="x509"):
+    """What openssl says after the sign of equality."""
+    return openssl(kind, "-inform", "DER", "-in", path, "-noout", *words).decode().strip().split("=", 1)[1]
+
+
+def extension(path, name, kind="x509"):
+    """The hexadecimal digits that openssl prints of an extension; nothing where it isn't there."""
+    lines = openssl(kind, "-inform", "DER", "-in", path, "-noout", "-text").decode().splitlines()
+    places = [at for at, line in enumerate(lines) if name in line]
+    return lines[places[0] + 1].strip().replace("keyid:", "") if places else ""
+
+
+def fault(path, issuer, kind="x509", clause=OF_CERTIFICATE):
+    """What is said of a certificate or a list and its issuer, by the names and key identifiers that openssl prints."""
+    if told(path, "-issuer", kind=kind) != told(issuer, "-subject"):
+        return clause + NAME
+    if extension(path, "Authority Key Identifier", kind) != extension(issuer, "Subject Key Identifier"):
+        return clause + KEY
+    return UNSIGNED
+
+
+def line(path, said):
+    return f"{path}: {said}\n".encode()
+
+
+def issued(program, folder):
+    """Each certificate beside each as its issuer, as DER and as PEM."""
+    paths = {name: os.path.join(folder, name) for name, *_ in authority.CERTIFICATES}
+    for issuer, of_issuer in paths.items():
+        for name, path in paths.items():
+            said = fault(path + ".der", of_issuer + ".der")
+            if name == issuer == "ta":
+                said = OF_CERTIFICATE + KEY  # RFC 6487 4.8.3: an anchor may leave it out, what is issued may not
+            elif issuer == "router":
+                said = OF_CERTIFICATE + "signature verification failed"  # RFC 7935 3: issuers have keys of RSA
+            for ending in (".der", ".pem"):
+                seen = run(program, "--check", "--issuer", of_issuer + ending, path + ".der")
+                yield f"{name} by {issuer}{ending}", seen, (0 if said == UNSIGNED else 1, line(path + ".der", said), b"")
+    with open(paths["ta"] + ".pem", "rb") as file:
+        octets = file.read()
+    seen = run(program, "--check", "--issuer", "-", paths["ca"] + ".der", octets=octets)
+    yield "an issuer as input", seen, (0, line(paths["ca"] + ".der", UNSIGNED), b"")
+    path = paths["ca"] + ".der"
+    plain, marked = run(program, path)[1].splitlines(), run(program, "--issuer", paths["ta"] + ".der", path)
+    yield "a field", (marked[0], marked[1].splitlines(), marked[2]), (
+        0, plain[:1] + [b"Signature: not checked"] + plain[1:], b"")
+    status, output, faults = run(program, "--json", "--issuer", paths["ta"] + ".der", path)
+    yield "a member", (status, json.loads(output)["signature"], faults), (0, "not checked", b"")
+    for issuer, told in ("ta", {"signature": "not checked", "validation": "OK"}), ("ca", {"validation": OF_CERTIFICATE + NAME}):
+        status, output, faults = run(program, "--json", "--check", "--issuer", paths[issuer] + ".der", path)
+        yield f"a verdict as JSON, {issuer}", (status, json.loads(output), faults), (
+            0 if issuer == "ta" else 1, {"file": path, **told}, b"")
+    status, output, faults = run(program, "--json", "--at", at(period(path)[0]), path)
+    yield "no member without an issuer", (status, "signature" in json.loads(output), faults), (0, False, b"")
+    seen = run(program, "--issuer", paths["ca"] + ".der", path)
+    yield "a fault", seen, (1, b"", b"rpkicert: " + line(path, OF_CERTIFICATE + NAME))
+    seen = run(program, "--check", "--profile", "ee", "--issuer", paths["ca"] + ".der", path)
+    yield "the profile is first", (seen[0], seen[1].startswith(f"{path}: violates".encode())), (1, True)
+    seen = run(program, "--check", "--issuer", paths["ca"] + ".der", "--at", "1999-12-31T00:00:00Z", path)
+    yield "the issuer is before the moment", seen, (1, line(path, OF_CERTIFICATE + NAME), b"")
+    many = [paths[name] + ".der" for name in ("ee", "ca", "router")]
+    wanted = line(many[0], UNSIGNED) + line(many[1], OF_CERTIFICATE + NAME) + line(many[2], UNSIGNED)
+    yield "several", run(program, "--check", "--issuer", paths["ca"] + ".der", *many), (1, wanted, b"")
+
+
+def made(folder, name, lines, issuer="ta", subject="ca"):
+    """A certificate of the request of [subject], by [issuer], with these lines for extensions."""
+    config, path = os.path.join(folder, name + ".cnf"), os.path.join(folder, name + ".der")
+    with open(config, "w", encoding="ascii") as file:
+        file.write("[extensions]\n" + "\n".join(lines) + "\n")
+    signer = os.path.join(folder, issuer)
+    openssl("x509", "-req", "-in", os.path.join(folder, subject + ".csr"), "-CA", signer + ".pem", "-CAkey",
+            signer + ".key", "-set_serial", "7", "-days", "365", "-sha256", "-extfile", config, "-extensions",
+            "extensions", "-outform", "DER", "-out", path)
+    return path
+
+
+def broken(program, folder):
+    """Certificates that break one rule each, and issuers of the same name or of the same key."""
+    whole = [line for line in (authority.COMMON + authority.AUTHORITY + authority.ISSUED)
+             .format(name="ca", issuer="ta").splitlines()]
+    rest = [line for line in whole if not line.startswith(("subjectKeyIdentifier", "authorityKeyIdentifier"))]
+    subject, key = "subjectKeyIdentifier = hash", "authorityKeyIdentifier = keyid"
+    other = ":".join(["AB"] * 20)
+    rows = [
+        ("whole", [*rest, subject, key], UNSIGNED),
+        ("an unknown extension", [*rest, subject, key, "1.2.3.4 = DER:0500"], UNSIGNED),
+        ("an unknown extension that is critical", [*rest, subject, key, "1.2.3.4 = critical, DER:0500"],
+         OF_CERTIFICATE + "unknown critical extension"),
+        ("another subject key identifier", [*rest, "subjectKeyIdentifier = " + other, key],
+         OF_CERTIFICATE + "subject key identifier mismatch"),
+        ("no authority key identifier", [*rest, subject, "authorityKeyIdentifier = none"], OF_CERTIFICATE + KEY),
+        ("no subject key identifier", [*rest, "subjectKeyIdentifier = none", key],
+         OF_CERTIFICATE + "subject key identifier mismatch"),
+    ]
+    issuer = os.path.join(folder, "ta.der")
+    for number, (name, lines, said) in enumerate(rows):
+        path = made(folder, f"broken{number}", lines)
+        seen = run(program, "--check", "--issuer", issuer, path)
+        yield f"broken: {name}", seen, (0 if said == UNSIGNED else 1, line(path, said), b"")
+    # an anchor of the same name and another key, and one of the same key and another name
+    for name, words, said in [("another key", ["-newkey", "rsa:2048", "-nodes", "-keyout", os.path.join(folder, "new.key"),
+                                              "-subj", "/CN=anchor"], KEY),
+                              ("another name", ["-key", os.path.join(folder, "ta.key"), "-subj", "/CN=Anchor"], NAME)]:
+        path, config = os.path.join(folder, "twin.der"), os.path.join(folder, "ta.cnf")
+        openssl("req", "-x509", "-new", "-config", config, "-extensions", "extensions", "-outform", "DER", *words, "-out",
+                path)
+        certificate = os.path.join(folder, "ca.der")
+        yield f"an issuer of {name}", run(program, "--check", "--issuer", path, certificate), (
+            1, line(certificate, OF_CERTIFICATE + said), b"")
+
+
+def published(program, folder):
+    """Lists and signed objects of a repository, beside both of its authorities."""
+    place = kinds.made(os.path.join(folder, "issuers"))
+    issuers = {name: os.path.join(place, "rpki.example/repo/ta", name + ".cer") for name in ("ta", "ca")}
+    rows = [(os.path.join(place, "rpki.example/repo", name, name + ".crl"), None) for name in ("ta", "ca")]
+    rows += [(os.path.join(place, where, name), os.path.join(place, "work", entity + ".cer"))
+             for name, (where, _, entity, _) in kinds.SIGNED.items()]
+    for path, cert in rows:
+        for issuer, certificate in issuers.items():
+            said = fault(cert, certificate) if cert else fault(path, certificate, "crl", OF_LIST)
+            seen = run(program, "--check", "--issuer", certificate, path)
+            yield f"{os.path.basename(path)} by {issuer}", seen, (0 if said == UNSIGNED else 1, line(path, said), b"")
+    first, last = "2026-01-01T00:00:00Z", "2036-01-01T00:00:00Z"
+    before, after = "2025-12-31T23:59:59Z", "2036-01-01T00:00:01Z"
+    for path, cert in rows:
+        early = OF_CERTIFICATE + "certificate is not yet valid" if cert else OF_LIST + "issued later"
+        late = OF_CERTIFICATE + "certificate has expired" if cert else OF_LIST + "stale"
+        for moment, said in [(before, early), (first, "OK"), (last, "OK"), (after, late)]:
+            seen = run(program, "--check", "--at", moment, path)
+            yield f"{os.path.basename(path)} at {moment}", seen, (0 if said == "OK" else 1, line(path, said), b"")
+    # an authority of the same name and of another key
+    other = os.path.join(folder, "other.cer")
+    config = os.path.join(folder, "other.cnf")
+    with open(config, "w", encoding="ascii") as file:
+        file.write("[req]\ndistinguished_name = name\nstring_mask = nombstr\n[name]\n[extensions]\n")
+        file.write((authority.COMMON + authority.AUTHORITY).format(name="ca"))
+    openssl("req", "-x509", "-new", "-newkey", "rsa:2048", "-nodes", "-keyout", os.path.join(folder, "other.key"), "-config",
+            config, "-extensions", "extensions", "-subj", "/CN=ca", "-outform", "DER", "-out", other)
+    path = rows[1][0]
+    yield "a list of another key", run(program, "--check", "--issuer", other, path), (
+        1, line(path, fault(path, other, "crl", OF_LIST)), b"")
+    yield "the key is another", fault(path, other, "crl", OF_LIST), OF_LIST + KEY
+
+
+def period(path):
+    """The period of a certificate, by openssl."""
+    texts = [told(path, word, "-dateopt", "iso_8601") for word in ("-startdate", "-enddate")]
+    return [datetime.strptime(text, "%Y-%m-%d %H:%M:%SZ").replace(tzinfo=timezone.utc) for text in texts]
+
+
+def at(moment, zone="Z"):
+    """A moment in RFC 3339."""
+    return moment.strftime("%Y-%m-%dT%H:%M:%S") + zone
+
+
+SECOND = timedelta(seconds=1)
+EARLY, LATE = OF_CERTIFICATE + "certificate is not yet valid", OF_CERTIFICATE + "certificate has expired"
+
+
+def moments(program, folder):
+    """Both ends of the period of a certificate, a second before and after, and other spellings of a moment."""
+    path = os.path.join(folder, "ca.der")
+    first, last = period(path)
+    rows = [(at(first - SECOND), EARLY), (at(first), "OK"), (at(last), "OK"), (at(last + SECOND), LATE),
+            (at(first + timedelta(hours=2), "+02:00"), "OK"), (at(first + timedelta(hours=2) - SECOND, "+02:00"), EARLY),
+            (at(last - timedelta(hours=5), "-05:00"), "OK"), (at(last - timedelta(hours=5) + SECOND, "-05:00"), LATE),
+            (at(first - SECOND, ".999999999Z"), EARLY), (at(last, ".000000001Z"), LATE), (at(last, ".0Z"), "OK"),
+            ("0000-01-01T00:00:00Z", EARLY), ("9999-12-31T23:59:59Z", LATE)]
+    for moment, said in rows:
+        for words in ("--at", moment), (f"--at={moment}",):
+            seen = run(program, "--check", *words, path)
+            yield f"{words}", seen, (0 if said == "OK" else 1, line(path, said), b"")
+        issuer = os.path.join(folder, "ta.der")
+        seen = run(program, "--check", "--at", moment, "--issuer", issuer, path)
+        yield f"{moment} and an issuer", seen, (
+            0 if said == "OK" else 1, line(path, UNSIGNED if said == "OK" else said), b"")
+    seconds = str(int(first.timestamp()))
+    checked = openssl("verify", "-attime", seconds, "-partial_chain", "-ignore_critical", "-trusted",
+                      os.path.join(folder, "ta.pem"), os.path.join(folder, "ca.pem"))
+    yield "openssl at the first second", checked.decode().strip().endswith(": OK"), True
+    for word in ["", "x", "2026-01-01", "2026-01-01T00:00:00", "2026-13-01T00:00:00Z", "2026-02-29T00:00:00Z",
+                 "10000-01-01T00:00:00Z", "2026-01-01T25:00:00Z", "0000-01-01T00:00:00+01:00", "9999-12-31T23:59:59-01:00",
+                 "1767225600", "now", "20260101000000Z"]:
+        for order in ["--at", word, path], [path, f"--at={word}"], ["--check", "--at", word, "--issuer", "lost", path]:
+            if word or order[0] == "--at":
+                yield f"no moment {order}", run(program, *order), (2, b"", b"rpkicert: " + line(word, "no moment") + USAGE)
+
+
+def updates(program, folder):
+    """A manifest within and without its updates, in the period of its signer's certificate."""
+    certificate = os.path.join(folder, "signer.cer")
+    with open(certificate, "wb") as file:
+        file.write(objects.CERTIFICATE)
+    first, last = period(certificate)
+    middle = first + (last - first) / 2
+    middle = middle.replace(microsecond=0)
+    until = middle + timedelta(days=1)
+    spelled = [moment.strftime("%Y%m%d%H%M%SZ") for moment in (middle, until)]
+    octets = kinds.object_of(kinds.MANIFEST, payloads.manifest([], this=spelled[0], until=spelled[1]))
+    for moment, said in [(first - SECOND, EARLY), (first, OF_MANIFEST + "issued later"),
+                         (middle - SECOND, OF_MANIFEST + "issued later"), (middle, "OK"), (until, "OK"),
+                         (until + SECOND, OF_MANIFEST + "stale"), (last + SECOND, LATE)]:
+        seen = run(program, "--check", "--at", at(moment), "-", octets=octets)
+        yield f"a manifest at {moment}", seen, (0 if said == "OK" else 1, line("-", said), b"")
+
+
+def none(program, folder):
+    """Issuers that are none: nothing is shown."""
+    path = os.path.join(folder, "ca.der")
+    crl = os.path.join(folder, "issuers", "repository", "rpki.example/repo/ta/ta.crl")
+    text = os.path.join(folder, "text")
+    with open(text, "wb") as file:
+        file.write(b"-----BEGIN CERTIFICATE-----\n")
+    lost = os.path.join(folder, "lost")
+    rows = [(lost, "cannot be read: No such file or directory"), (folder, "cannot be read: Is a directory"),
+            (crl, "not a certificate"), (text, "malformed PEM")]
+    for issuer, said in rows:
+        for words in ["--issuer", issuer, path], ["--check", path, f"--issuer={issuer}"], \
+                ["--json", "--at", "2026-01-01T00:00:00Z", "--issuer", issuer, path, path]:
+            yield f"no issuer {issuer} {words[0]}", run(program, *words), (2, b"", b"rpkicert: " + line(issuer, said))
+    for words in (["--issuer"], ["--issuer", path], ["--at"], ["--at", "2026-01-01T00:00:00Z"],
+                  ["--issuer", path, "--issuer", path, path], [path, "--at"]):
+        yield f"usage {words}", (run(program, *words)[0], run(program, *words)[1]), (2, b"")
+
+
+TABLES = [issued, broken, published, moments, updates, none]
