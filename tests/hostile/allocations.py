@@ -76,6 +76,7 @@ READERS = [
     on_cursor("take_https_name", b"\x86\x0Bhttps://h/a\x05", made(b"https://h/a"), b"\x05", group="slice"),
     on_cursor("skip_one", SIGNED + b"\x00", b"done", b"\x00"),
     on_cursor("skip_one", DEEP, b"done"),
+    on_cursor("skip_nested", DEEP, b"done", grows=False),
     on_cursor("walk", SIGNED + b"\x00", b"done", b"\x00", counts=range(7)),
     on_cursor("walk", DEEP, b"done", counts=range(302)),
     on_cursor("take_name", NAME + b"\x00", made(NAME), b"\x00"),

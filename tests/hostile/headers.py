@@ -23,6 +23,7 @@ FUNCTION = "rpki_der::header::tag_number"
 CALLS = [
     (["cursor", "walk"], b"done", MEMBERS),
     (["cursor", "skip_one"], b"done", MEMBERS),
+    (["cursor", "skip_nested"], b"done", 2 * MEMBERS),
     (["cursor", "walk_octets"], b"size %d" % len(VALUE), MEMBERS),
     (["cursor", "index_octets"], b"size %d" % len(VALUE), MEMBERS),
     (["cursor", "capture_one"], b"made " + digits_of(VALUE), MEMBERS),

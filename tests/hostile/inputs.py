@@ -18,7 +18,8 @@ def deep_nesting(programs):
     deep = nested(100_000)
     assert len(deep) == 483_407
     made = "made " + deep.hex().upper()
-    for call, answer, count in [("walk", "done", 100_001), ("skip_one", "done", 0), ("capture_one", made, 0)]:
+    skips = [("skip_one", "done", 0), ("skip_nested", "done", 0)]
+    for call, answer, count in [("walk", "done", 100_001), *skips, ("capture_one", made, 0)]:
         seen = run(programs.calls, ["cursor", call], deep)
         yield f"{call} of 100,001 levels", seen, lines(answer, count, b"", True, deep)
     signed = sequence(nested(10_000), RSA_SIGNATURE, bytes.fromhex("030200AA"))
@@ -32,7 +33,7 @@ def cut_values(programs):
     for value in VALUES:
         for cut in range(len(value)):
             beginning = value[:cut]
-            for call in ["capture_one", "capture"]:
+            for call in ["capture_one", "capture", *(["skip_nested"] if cut else [])]:
                 seen = run(programs.calls, ["cursor", call], beginning)
                 told = lines("refused 1", 0, beginning, cut == 0, beginning)
                 yield f"{call}: {cut} octets of {value.hex()}", seen, told

@@ -62,6 +62,7 @@ def reading():
             *both_cursors("capture_one", value, made(value)),
             *both_cursors("capture", value, made(value)),
             on_cursor("skip_one", value, b"done"),
+            on_cursor("skip_nested", value, b"done"),
             on_cursor("walk", value, b"done", counts=[headers]),
             on_cursor("walk_octets", value, whole, value, counts=[headers]),
             on_cursor("index_octets", value, whole + b"\nentries %d" % headers, value),

@@ -83,6 +83,7 @@ fn take<K: Keep>(keep: K, call: &str, cursor: &mut Constructed<'_>, steps: &mut 
         "capture_one" => Ok(Made::Captured(cursor.capture_one(keep)?)),
         "capture" => Ok(Made::Captured(readers::kept(keep, cursor)?)),
         "skip_one" => walked(cursor.skip_one(alloc)),
+        "skip_nested" => walked(cursor.skip_nested()),
         "walk" => walk(alloc, cursor, steps),
         "index_octets" => index(alloc, cursor.rest()),
         "walk_octets" => walk_left(alloc, cursor.rest(), steps),

@@ -7,7 +7,7 @@ use Rattle.rpki_der.specs.TagName.{TagName}
 use Rattle.rpki_der.specs.Reading.{Spells, Accepts, Refusal}
 use Rattle.rpki_der.specs.Values.{HasTag}
 use Rattle.rpki_der.specs.FirstFault.FirstFault.{AtPart, Later}
-use Rattle.rpki_der.specs.Format.{Format, either, such, SpellsFor, Takes}
+use Rattle.rpki_der.specs.Format.{Format, either, such, Takes}
 use Rattle.rpki_der.proofs.ReadingLaws.{UnlessMemory-weaker}
 
 -- ---- a choice: a value of F begins with the tag, and one of G does not

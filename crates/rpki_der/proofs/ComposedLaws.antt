@@ -6,9 +6,9 @@ use Rattle.rpki_der.specs.declared.error.DecodeError.TheVariants.{Trailing, OutO
 use Rattle.rpki_der.specs.TagName.{TagName}
 use Rattle.rpki_der.specs.Reading.{Spells, Accepts, Refuses, Refusal, UnlessMemory, SpellsNothing, TakesNoMemory}
 use Rattle.rpki_der.specs.Reading.{IsWholeFault}
-use Rattle.rpki_der.specs.Values.{SpellsContents, SpellsLeaf, IsContentsFault, GivesOuterFault, IsOuterFault}
+use Rattle.rpki_der.specs.Values.{SpellsContents, SpellsLeaf, IsContentsFault, GivesOuterFault}
 use Rattle.rpki_der.proofs.ReadingLaws.{UnlessMemory-weaker}
-use Rattle.rpki_der.proofs.LeavesLaws.{contents-no-memory, leaf-value, leaf-refused, leaf-accepted}
+use Rattle.rpki_der.proofs.LeavesLaws.{leaf-value, leaf-refused, leaf-accepted}
 
 -- ---- one value, over the reader of its contents
 
@@ -44,22 +44,6 @@ pub without-memory : {V : Type 0} (G : V → List ℕ → Type 0) (K : List ℕ 
     → e ≢ OutOfMemory → Refusal G K s r e → Refusal G (TakesNoMemory K) s r e
 without-memory G K s r e ne h =
     record { unchanged = h.unchanged; refuses = h.refuses; kind = record { other = ne; kind = h.kind } }
-
--- the value isn't there, and the reader allocates nothing
-pub outer-refused-exactly : {V : Type 0} (t : TagName) (f : Bool) (C : V → List ℕ → Type 0) (s q r : List ℕ)
-    (e : DecodeError) → r ≡ s
-    → Refusal (SpellsContents t f) (IsContentsFault t f) s q e → Refusal (SpellsLeaf t f C) (IsOuterFault t f) s r e
-outer-refused-exactly t f C s q r e same h =
-    without-memory (SpellsLeaf t f C) (GivesOuterFault t f) s r e (contents-no-memory t f s e h.kind)
-    (outer-refused t f C s q r e same h)
-
--- its contents spell nothing, and the reader allocates nothing
-pub inner-refused-exactly : {V : Type 0} (t : TagName) (f : Bool) (C : V → List ℕ → Type 0) (s c q r : List ℕ)
-    (e : DecodeError) → r ≡ s
-    → Accepts (SpellsContents t f) s c q → UnlessMemory e (SpellsNothing C c) × (e ≢ OutOfMemory)
-    → Refusal (SpellsLeaf t f C) (IsOuterFault t f) s r e
-inner-refused-exactly t f C s c q r e same a h =
-    without-memory (SpellsLeaf t f C) (GivesOuterFault t f) s r e h.1 (inner-refused t f C s c q r e same a h.0)
 
 -- ---- all of a list, over the reader of its beginning
 

@@ -9,9 +9,9 @@ use Rattle.rpki_der.specs.HeaderReading.{length_at}
 use Rattle.rpki_der.specs.Values.{SpellsContents, SpellsLeaf}
 use Rattle.rpki_der.specs.Members.{Members, spell, count, AreValues}
 use Rattle.rpki_der.specs.Members.Members.{Empty, Primitive, Constructed}
-use Rattle.rpki_der.specs.Leaves.{Bits, AreBits, IsBits, IsNull, bits_of}
-use Rattle.rpki_der.specs.Contents.{null_contents, bits_contents}
-use Rattle.rpki_der.proofs.HeaderWritingLaws.{identifier-few, identifier-short, length-few}
+use Rattle.rpki_der.specs.Leaves.{Bits, AreBits, IsBits, bits_of}
+use Rattle.rpki_der.specs.Contents.{bits_contents}
+use Rattle.rpki_der.proofs.HeaderWritingLaws.{identifier-few, length-few}
 use Rattle.rpki_der.proofs.StepLaws.{pair-is}
 use Rattle.rpki_der.proofs.LengthLaws.{length-again, len-short, len-long}
 

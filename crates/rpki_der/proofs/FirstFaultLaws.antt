@@ -1,6 +1,6 @@
 -- The error of the leftmost part that isn't there: how a composed reader shows it, and what follows from it.
-use Rattle.std.proofs.Common.{◌≡◌, ◌≢◌, inl, inr, ℕ, Bool, true, List, [], ◌∷◌, Option, Some, None, Result, Ok, Err}
-use Rattle.std.proofs.Common.{refl, sym, ap, subst, ◌∙◌}
+use Rattle.std.proofs.Common.{◌≡◌, ◌≢◌, inl, inr, ℕ, Bool, true, List, [], Option, Some, None, Result, Ok, Err}
+use Rattle.std.proofs.Common.{refl, sym, subst, ◌∙◌}
 use Rattle.std.specs.Prelude.{IsErr, IsErrAnd}
 use Rattle.rpki_der.specs.declared.error.DecodeError.{DecodeError}
 use Rattle.rpki_der.specs.declared.error.DecodeError.TheVariants.{Truncated, BadTag, BadLength, Unexpected, Content}
@@ -10,7 +10,7 @@ use Rattle.rpki_der.specs.Cursor.{left}
 use Rattle.rpki_der.specs.Error.{error_number}
 use Rattle.rpki_der.specs.TagName.{TagName}
 use Rattle.rpki_der.specs.Reading.{Spells, Accepts, Refuses, Refusal, Reads, ReadsWhere, SpellsNothing, UnlessMemory}
-use Rattle.rpki_der.specs.Reading.{OrMemoryWhere, IsWholeFault, Decodes}
+use Rattle.rpki_der.specs.Reading.{OrMemoryWhere, IsWholeFault}
 use Rattle.rpki_der.specs.Values.{SpellsContents, SpellsLeaf, IsContentsFault, GivesOuterFault, IsOuterFault}
 use Rattle.rpki_der.specs.Inside.{HasInside}
 use Rattle.rpki_der.specs.Composed.{NotInside, ReadsInside, ReadsAll}
@@ -20,7 +20,6 @@ use Rattle.rpki_der.specs.FirstFault.FirstFault.{AtPart, Later}
 use Rattle.rpki_der.specs.FirstFault.RepeatedFault.{AtMember, AfterMember}
 use Rattle.rpki_der.proofs.ReadingLaws.{UnlessMemory-weaker}
 use Rattle.rpki_der.proofs.LeavesLaws.{contents-no-memory}
-use Rattle.rpki_der.proofs.FaultKindLaws.{one-contents-fault}
 use Rattle.rpki_der.proofs.InsideLaws.{Same, no-memory, unless-memory, read-inside}
 use Rattle.rpki_der.proofs.ComposedLaws.{all-read, nothing-after, nothing-whole}
 
@@ -137,17 +136,6 @@ inside-outer-exactly t f L s e g h = record {
   kind = inside-outer t f L s e h;
 }
 
--- the same, where something is allocated for contents that have P
-pub inside-outer-where : (t : TagName) (P : List ℕ → Type 0) (L : Kind) (s : List ℕ) (e : DecodeError)
-    → ((c : List ℕ) → L c OutOfMemory → P c)
-    → IsInsideFault t true L s e → OrMemoryWhere (HasInside t P) (GivesOuterFault t true) s e
-inside-outer-where t P L s e g (AtPart none k) =
-    no-memory (HasInside t P) (GivesOuterFault t true) s e (contents-no-memory t true s e k) (λ not. k)
-inside-outer-where t P L s e g (Later c r a l) = found e l where
-  found : (d : DecodeError) → L c d → OrMemoryWhere (HasInside t P) (GivesOuterFault t true) s d
-  found d k = memory-where (HasInside t P) (GivesOuterFault t true) s d (λ z. (c, r, a.spells, g c (subst (L c) z k)))
-      (λ none. absurd (none c r a.spells))
-
 -- ---- a reader of a value, over the reader of its contents
 
 pub reads-parts-all : {X V : Type 0} (view : X → V) (G : V → List ℕ → Type 0) (K : Kind) (s r : List ℕ)
@@ -207,11 +195,6 @@ reads-kind view G K L s r (Ok x) f h = h
 reads-kind view G K L s r (Err e) f h = record { unchanged = h.unchanged; refuses = h.refuses; kind = f e h.kind }
 
 -- ---- a reader of whole octets
-
-pub whole-kind : {V : Type 0} (G : V → List ℕ → Type 0) (K L : Kind) (s : List ℕ) (e : DecodeError)
-    → ((d : DecodeError) → K s d → L s d) → IsWholeFault G K s e → IsWholeFault G L s e
-whole-kind G K L s e f h =
-    record { trailing = h.trailing; kind = λ none. f e (h.kind none); memory = λ z. f OutOfMemory (h.memory z) }
 
 -- where nothing is allocated there is no allocation failure
 pub whole-no-memory : {V : Type 0} (G : V → List ℕ → Type 0) (K : Kind) (s : List ℕ) (e : DecodeError)

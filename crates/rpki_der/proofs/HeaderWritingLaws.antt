@@ -77,7 +77,3 @@ length-few n =
       | inr ge ↦ let h =
           length-digits 256 0 4 n in rw (length-long n ge) (record { some = omega arith; few = omega arith })
     ]
-
--- one octet for a number below 31
-pub identifier-short : (t : TagName) (f : Bool) → t.number < 31 → length (identifier_octets t f) ≡ 1
-identifier-short t f low = rw (identifier-low t f low) refl

@@ -5,7 +5,7 @@ use Rattle.std.proofs.Common.{drop, Option, Some, None, refl, sym, ap, ◌∙◌
 use Rattle.std.proofs.Common.{length-append, length-drop, take-append-drop}
 use Rattle.std.specs.Prelude.{is_none, count_by, if◌then◌else◌}
 use Rattle.std.specs.List.{between, AllByRecursion}
-use Rattle.std.proofs.lemmas.List.{take_at, drop_at, take_all, length-take-le}
+use Rattle.std.proofs.lemmas.List.{take_at, drop_at, length-take-le}
 use Rattle.std.proofs.lemmas.List.Sums.{sum_by-append}
 use Rattle.rpki_der.specs.TagName.{TagName}
 use Rattle.rpki_der.specs.Header.{tlv}

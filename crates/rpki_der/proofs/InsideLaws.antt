@@ -6,7 +6,7 @@ use Rattle.rpki_der.specs.declared.error.DecodeError.TheVariants.{Trailing, OutO
 use Rattle.rpki_der.specs.declared.cursor.Constructed.{Constructed}
 use Rattle.rpki_der.specs.Cursor.{left}
 use Rattle.rpki_der.specs.TagName.{TagName}
-use Rattle.rpki_der.specs.Reading.{Spells, Refusal, Reads, UnlessMemory, OrMemoryWhere, TakesNoMemory}
+use Rattle.rpki_der.specs.Reading.{Spells, Refusal, Reads, UnlessMemory, OrMemoryWhere}
 use Rattle.rpki_der.specs.Values.{SpellsContents, SpellsLeaf, IsContentsFault, GivesOuterFault, IsOuterFault}
 use Rattle.rpki_der.specs.Inside.{HasInside}
 use Rattle.rpki_der.specs.Composed.{Inside, NotInside, ReadsInside, ReadsAll, NotWhole, ReadsWhole}
@@ -124,12 +124,6 @@ module _ {X V : Type 0} (view : X → V) (t : TagName) (C : V → List ℕ → T
       record { unchanged = k.unchanged; refuses = k.refuses; kind = memory s e h.1 k.kind }
 
 -- ---- the reader of the contents
-
--- a reader of a beginning is one of the whole
-pub reads-all : {X V : Type 0} (view : X → V) (G : V → List ℕ → Type 0) (K : List ℕ → DecodeError → Type 0)
-    (s r : List ℕ) (x : Result X DecodeError) → Reads view G K s r x → ReadsAll view G K s r x
-reads-all view G K s r (Ok x) h = (all-read G s (view x) r h, nothing-after G s r (view x) h)
-reads-all view G K s r (Err e) h = (UnlessMemory-weaker e (nothing-whole G s) h.refuses, h.kind)
 
 -- What the reader of the contents says of errors alone, where the contents have B, is said of the value.
 module _ {X : Type 0} (t : TagName) (f : Bool) (B : List ℕ → Type 0) (R : Result X DecodeError → Type 0)

@@ -2,12 +2,11 @@
 use Rattle.std.proofs.Common.{◌≡◌, ℕ, zero, suc, ◌+◌, ◌-◌, ◌*◌, ◌^◌, ◌<◌, ◌≤◌, inl, inr, List, [], ◌∷◌, length, get_or}
 use Rattle.std.proofs.Common.{drop, length-drop, add-zero, Fits, w8, arith, refl, sym, ap, ◌∙◌}
 use Rattle.std.proofs.lemmas.Bool.{cases_order}
-use Rattle.std.proofs.lemmas.List.{get_or-drop, take_rest}
+use Rattle.std.proofs.lemmas.List.{get_or-drop}
 use Rattle.std.proofs.Math.Nat.{pow-le-pow_right, mul-le-mul_right, le-mul_of_pos_right}
 use Rattle.rpki_der.specs.Number.{number_of, AreOctets, low_octets}
 use Rattle.rpki_der.specs.NumberLaws.{number-lt, power, low_octets-full}
 use Rattle.rpki_der.specs.Integer.{WritesNumber, IsUnsigned, IsMinimal, IsMagnitude}
-use borrow.Rule.Slice.PartMut.{mid_of}
 
 -- a number whose first bit is 0 is small for its length
 number-high : (d : List ℕ) → AreOctets d → 0 < length d → get_or d 0 0 < 128 → number_of d < 128 * 256 ^ (length d - 1)

@@ -19,7 +19,7 @@
 -- Headers: tag, tag number, length, all together: IdentifierLaws, TagNumberLaws, LengthLaws, HeaderLaws,
 --   HeaderReadingLaws.
 -- An error excludes the others: HeaderFaultLaws, FaultKindLaws, NestedFaultLaws, SomeFaultLaws.
--- A walk: in the middle, at its end: WalkingLaws, WalkLaws, MembersLaws.
+-- A walk: in the middle, at its end: WalkingLaws, WalkLaws, MembersLaws; without memory: NestedLaws.
 -- The index: IndexingLaws, IndexReadingLaws, IndexLaws, IndexOrderLaws.
 -- A cursor; what can be kept of its octets: CursorLaws, KeepLaws.
 -- Contents: numbers, identifiers, strings: IntegerLaws, UnsignedLaws, OidLaws, TextLaws.
@@ -53,6 +53,7 @@ pub mod OidLaws
 pub mod TextLaws
 pub mod MembersLaws
 pub mod NestedFaultLaws
+pub mod NestedLaws
 pub mod WalkingLaws
 pub mod IndexingLaws
 pub mod IndexLaws

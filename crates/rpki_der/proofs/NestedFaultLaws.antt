@@ -50,7 +50,7 @@ strip (Constructed t ms rest) (Constructed t' ms' rest') r y h h' free e =
     strip rest rest' r y h.2 h'.2 free same.rest
 
 -- a header and then its contents and more
-flat : (t : TagName) (f : Bool) (c x : List ℕ) → tlv t f c ++ x ≡ header t f (length c) ++ (c ++ x)
+pub flat : (t : TagName) (f : Bool) (c x : List ℕ) → tlv t f c ++ x ≡ header t f (length c) ++ (c ++ x)
 flat t f c x = append_assoc (header t f (length c)) c x
 
 -- a value, others after it, and more
@@ -59,7 +59,7 @@ flat-front : (t : TagName) (f : Bool) (c x y : List ℕ)
 flat-front t f c x y = append_assoc (tlv t f c) x y ∙ flat t f c (x ++ y)
 
 -- contents that are not all there are no contents
-short-contents : (s : List ℕ) (h : Header) (r : List ℕ) (t : TagName) (f : Bool) (c x : List ℕ)
+pub short-contents : (s : List ℕ) (h : Header) (r : List ℕ) (t : TagName) (f : Bool) (c x : List ℕ)
     → Spells SpellsHeader s h r → length r < h.length → HasHeader t (length c) → s ≡ header t f (length c) ++ (c ++ x)
     → ⊥
 short-contents s h r t f c x sp l k is =
@@ -145,7 +145,7 @@ fault-or-value {s} {a} x {e} fault v is =
 -- ---- a cut value
 
 -- octets that a header begins, and not all of its contents, or that are cut in the header
-cut-at : (s more : List ℕ) (b : ℕ) (t : TagName) (f : Bool) (c : List ℕ) → s ≢ [] → HasHeader t (length c)
+pub cut-at : (s more : List ℕ) (b : ℕ) (t : TagName) (f : Bool) (c : List ℕ) → s ≢ [] → HasHeader t (length c)
     → s ++ b ∷ more ≡ header t f (length c) ++ c → IsNestedFault s Truncated
 cut-at s more b t f c some h e =
     elim (beginnings s (b ∷ more) (header t f (length c)) c e) [

@@ -1,5 +1,5 @@
 -- Contents of an object identifier, read from the left.
-use Rattle.std.proofs.Common.{◌≡◌, ◌≢◌, ℕ, zero, suc, ◌+◌, ◌-◌, ◌<◌, Bool, true, nat_lt, List, length}
+use Rattle.std.proofs.Common.{◌≡◌, ◌≢◌, ℕ, zero, suc, ◌+◌, ◌<◌, Bool, true, nat_lt, List, length}
 use Rattle.std.proofs.Common.{get_or, IsTrue, arith}
 use borrow.Author.Tests.{ltb-true}
 use Rattle.rpki_der.specs.Leaves.{IsOid}

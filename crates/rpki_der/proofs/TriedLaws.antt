@@ -1,12 +1,9 @@
 -- What a reader returns where a `?` ends it.
-use Rattle.std.proofs.Common.{◌≡◌, ◌≢◌, ℕ, Bool, true, false, List, Result, Ok, Err, sym, subst}
-use Rattle.std.specs.Prelude.{◌↔◌, IsOk, IsErr, IsErrAnd, IfErr, MatchResult}
+use Rattle.std.proofs.Common.{◌≡◌, ℕ, Bool, true, false, List, Result, Ok, Err, sym, subst}
+use Rattle.std.specs.Prelude.{◌↔◌, IsErr, IsErrAnd, IfErr}
 use Rattle.std.proofs.lemmas.Bool.{false≢true}
 use Rattle.rpki_der.specs.declared.error.DecodeError.{DecodeError}
-use Rattle.rpki_der.specs.declared.error.DecodeError.TheVariants.{OutOfMemory}
-use Rattle.rpki_der.specs.Reading.{SpellsNothing, UnlessMemory, Refusal, Reads, Decodes, TakesNoMemory, AnyFault}
-use Rattle.rpki_der.specs.Composed.{ReadsAll}
-use Rattle.rpki_der.proofs.ReadingLaws.{UnlessMemory-weaker}
+use Rattle.rpki_der.specs.Reading.{SpellsNothing, UnlessMemory, Refusal, Reads, Decodes}
 
 -- a reader of a beginning
 pub tried-refused : {X V : Type 0} (view : X → V) (G : V → List ℕ → Type 0) (K : List ℕ → DecodeError → Type 0)

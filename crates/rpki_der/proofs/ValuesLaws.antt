@@ -1,16 +1,13 @@
 -- Values by their headers.
 use Rattle.std.proofs.Common.{◌≡◌, ℕ, ◌+◌, ◌-◌, ◌<◌, ◌≤◌, Bool, List, ◌∷◌, ◌++◌, length, take, drop, refl, sym, ap, ◌∙◌}
-use Rattle.std.proofs.Common.{arith, inl, append_assoc, length-append}
+use Rattle.std.proofs.Common.{arith, append_assoc, length-append}
 use Rattle.std.specs.Prelude.{replicate}
 use Rattle.std.proofs.lemmas.List.{take-append-drop, length-take-le, length-replicate, take_at, drop_at}
-use Rattle.rpki_der.specs.declared.error.DecodeError.{DecodeError}
-use Rattle.rpki_der.specs.declared.error.DecodeError.TheVariants.{Truncated, BadTag, BadLength, Unexpected, Content}
-use Rattle.rpki_der.specs.declared.error.DecodeError.TheVariants.{Trailing, OutOfMemory}
 use Rattle.rpki_der.specs.declared.tag.Header.{Header}
 use Rattle.rpki_der.specs.TagName.{TagName}
 use Rattle.rpki_der.specs.Header.{header_octets, tlv}
 use Rattle.rpki_der.specs.Reading.{Spells, Accepts, Refuses, IsCut}
-use Rattle.rpki_der.specs.Values.{SpellsHeader, SpellsContents, IsHeaderFault, IsContentsFault}
+use Rattle.rpki_der.specs.Values.{SpellsHeader, SpellsContents}
 
 abbrev head-of : TagName → Bool → ℕ → Header
 head-of t f n = record { tag = t; constructed = f; length = n }

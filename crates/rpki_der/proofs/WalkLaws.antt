@@ -24,8 +24,8 @@ no-value : {s : List ℕ} {e : DecodeError} → IsNestedFault s e → Refuses Sp
 no-value fault v r sp = fault-or-value r fault sp.spelled.value (value-parts sp)
 
 -- no fault is an allocation failure
-no-memory : {s : List ℕ} → IsNestedFault s OutOfMemory → ⊥
-no-memory fault = kinds (fault-kinds fault)
+pub nested-no-memory : {s : List ℕ} → IsNestedFault s OutOfMemory → ⊥
+nested-no-memory fault = kinds (fault-kinds fault)
   where
     kinds : (OutOfMemory ≡ Truncated) ⊎ (OutOfMemory ≡ BadTag) ⊎ (OutOfMemory ≡ BadLength) → ⊥
     kinds (inl e) = cc e
@@ -46,7 +46,7 @@ refusal-of P s e (inr f) = Refusal-or-memory-where P IsCaptureFault s s e (λ k.
   where
     none : IsCaptureFault s OutOfMemory → ⊥
     none (inl z) = let x = z.1 in cc x
-    none (inr g) = no-memory g
+    none (inr g) = nested-no-memory g
 
 -- an error is the fault, or allocation failure
 pub error-named : {A : Type 0} (P : List ℕ → Type 0) (s : List ℕ) (d : DecodeError)
@@ -144,6 +144,14 @@ any-refused {P} {s} {r} {e} some h = Refusal-weaker (λ none v q sp. none sp.fro
     kind (Content x) k = capture-fault some k
     kind Trailing k = capture-fault some k
     kind OutOfMemory k = k
+
+-- a fault, of a reader that allocates nothing
+pub nested-refused : {s : List ℕ} {e : DecodeError} → IsNestedFault s e → Refusal SpellsAnyValue IsNestedFault s s e
+nested-refused {s} {e} fault = record {
+  unchanged = refl;
+  refuses = UnlessMemory-from e (λ v q sp. no-value fault sp.front q (value-of-any sp));
+  kind = fault;
+}
 
 -- what a value begins is something
 pub some-left : {s v r : List ℕ} → Accepts SpellsValue s v r → s ≢ []

@@ -28,6 +28,7 @@ pub mod Integer
 pub mod Text
 pub mod Equal
 pub mod Walk
+pub mod Headed
 pub mod Wanted
 pub mod Written
 pub mod Contents

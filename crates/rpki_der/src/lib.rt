@@ -29,6 +29,7 @@ mod kind;
 pub mod laws;
 mod leaf;
 mod members;
+mod nested;
 mod oid;
 mod tag;
 mod text;

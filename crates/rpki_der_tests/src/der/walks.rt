@@ -87,6 +87,36 @@ const ROWS: &[Row] = &[
         left: 4,
     },
     Row {
+        name: "no length inside, in front of a value that is cut short",
+        octets: &[0x30, 0x06, 0x30, 0x02, 0x05, 0x80, 0x02, 0x05],
+        answer: 3,
+        count: 3,
+        left: 8,
+    },
+    Row {
+        name: "no tag inside, in front of no length inside",
+        octets: &[0x30, 0x08, 0x30, 0x02, 0x00, 0x00, 0x30, 0x02, 0x05, 0x80],
+        answer: 2,
+        count: 3,
+        left: 10,
+    },
+    Row {
+        name: "a value that is cut short, in front of no tag",
+        octets: &[0x30, 0x08, 0x30, 0x04, 0x05, 0x00, 0x04, 0x01, 0x00, 0x00],
+        answer: 1,
+        count: 4,
+        left: 10,
+    },
+    Row {
+        name: "no length of the first of two, each with values inside",
+        octets: &[
+            0x30, 0x0c, 0x30, 0x04, 0x05, 0x00, 0x05, 0x80, 0x30, 0x04, 0x00, 0x00, 0x05, 0x00,
+        ],
+        answer: 3,
+        count: 4,
+        left: 14,
+    },
+    Row {
         name: "an OCTET STRING, and an octet",
         octets: &[0x04, 0x02, 0x30, 0x7f, 0x05],
         answer: 0,
@@ -216,6 +246,21 @@ fn skipped(alloc: Global, octets: &'static [u8]) -> (u8, usize) {
 fn skips(rt: HostRuntime) {
     for row in rows() {
         let found = skipped(rt.alloc(), row.octets);
+        assert!(rt; found == (row.answer, row.left), "{}", row.name);
+    }
+}
+
+/// What passing over a value in place returns, and how many octets are left.
+fn skipped_in_place(octets: &'static [u8]) -> (u8, usize) {
+    let mut cursor = Constructed::from_slice(octets);
+    let answer = number_of(cursor.skip_nested());
+    (answer, cursor.rest().len())
+}
+
+#[test]
+fn skips_in_place(rt: HostRuntime) {
+    for row in rows() {
+        let found = skipped_in_place(row.octets);
         assert!(rt; found == (row.answer, row.left), "{}", row.name);
     }
 }
@@ -389,6 +434,9 @@ fn nesting_has_no_limit(rt: HostRuntime) -> Result<(), Fail> {
         let mut skipped = Constructed::new(&source);
         assert_eq!(rt; skipped.skip_one(rt.alloc()), Ok(Some(())), "{levels}");
         assert!(rt; skipped.is_empty(), "{levels}");
+        let mut in_place = Constructed::new(&source);
+        assert_eq!(rt; in_place.skip_nested(), Ok(Some(())), "{levels}");
+        assert!(rt; in_place.is_empty(), "{levels}");
         let mut cursor = Constructed::new(&source);
         let same = match cursor.capture_one(rt.alloc()) {
             Ok(found) => found.as_slice() == source.as_slice(),

@@ -1,5 +1,5 @@
-use Rattle.std.proofs.Common.{◌≡◌, ◌↔◌, ℕ, Bool, true, false, List, nat_eq, subst, sym}
-use Rattle.std.proofs.lemmas.Bool.{eq-eqb, false≢true}
+use Rattle.std.proofs.Common.{ℕ, subst}
+use Rattle.std.proofs.lemmas.Bool.{eq-eqb}
 use Rattle.std.proofs.Math.Facts.{Fits-lt-pow}
 use borrow.Author.Tests.{eqb-true}
 use Rattle.rpki_der.proofs.IntegerLaws.{one-number}
