@@ -22,7 +22,7 @@ use Rattle.rpki_contents.specs.RoaAddress.{address, max_length, address_parts, r
 use Rattle.rpki_contents.specs.RoaAddress.{family, family_parts, roa_family}
 use Rattle.rpki_contents.specs.RoaView.{IsOfPrefixes, AreAddressesAt, GivesAddress, IsFamilyIn}
 use Rattle.rpki_contents.specs.RoaView.{TakesFamily}
-use Rattle.rpki_contents.proofs.ThenByLaws.{behind}
+use Rattle.rpki_resources.proofs.ThenByLaws.{behind}
 use Rattle.rpki_contents.proofs.InPlaceLaws.{refused, leaf-missing}
 
 -- ---- a prefix takes no memory, and isn't written in no octets

@@ -4,7 +4,6 @@
 -- and room for their names: FilesLaws, RoomLaws. A manifest over its fields: ManifestLaws. A manifest read in place:
 -- ManifestViewLaws. Files that are written: WritingLaws; the manifest around them: ManifestWritingLaws.
 -- What is decoded of it: InPlaceManifestLaws, by OneReadingLaws.
--- A part, and others that its value says: ThenByLaws.
 -- The prefixes of an attestation, and its families: RoaAddressLaws, RoaLaws.
 -- What it authorizes, and whether that is within resources: OriginLaws, WithinLaws.
 -- Route origin attestations that are written: RoaWritingLaws.
@@ -37,6 +36,5 @@ pub mod ShortFileLaws
 pub mod ShortLaws
 pub mod StandsLaws
 pub mod SuchLaws
-pub mod ThenByLaws
 pub mod WithinLaws
 pub mod WritingLaws

@@ -9,7 +9,7 @@ use Rattle.rpki_der.specs.Reading.{Spells, Accepts, Refusal}
 use Rattle.rpki_der.specs.Values.{SpellsLeaf, IsLeafFault}
 use Rattle.rpki_der.specs.Integer.{IsUnsignedBelow}
 use Rattle.rpki_der.proofs.ReadingLaws.{UnlessMemory-weaker}
-use Rattle.rpki_resources.specs.AsNumber.{SpellsAsNumber, IsAsNumberFault}
+use Rattle.rpki_resources.specs.AsNumber.{as_number}
 
 abbrev Large : ℕ → List ℕ → Type 0
 Large = SpellsLeaf integer false (IsUnsignedBelow (2 ^ 64))
@@ -17,7 +17,7 @@ Large = SpellsLeaf integer false (IsUnsignedBelow (2 ^ 64))
 larger : (n : ℕ) (c : List ℕ) → IsUnsignedBelow (2 ^ 32) n c → IsUnsignedBelow (2 ^ 64) n c
 larger n c h = record { below = omega (arith, h.below); contents = h.contents }
 
-as-large : (s : List ℕ) (n : ℕ) (r : List ℕ) → Spells SpellsAsNumber s n r → Spells Large s n r
+as-large : (s : List ℕ) (n : ℕ) (r : List ℕ) → Spells as_number.spells s n r → Spells Large s n r
 as-large s n r h = record {
   front = h.front;
   parts = h.parts;
@@ -29,7 +29,7 @@ as-large s n r h = record {
   };
 }
 
-pub number-accepted : (s r : List ℕ) (n : ℕ) → n < 2 ^ 32 → Accepts Large s n r → Accepts SpellsAsNumber s n r
+pub number-accepted : (s r : List ℕ) (n : ℕ) → n < 2 ^ 32 → Accepts Large s n r → Accepts as_number.spells s n r
 number-accepted s r n small a = record {
   spells = record {
     front = a.spells.front;
@@ -44,7 +44,7 @@ number-accepted s r n small a = record {
   only = λ m q h. a.only m q (as-large s m q h);
 }
 
-kind : (s : List ℕ) (e : DecodeError) → IsLeafFault integer false (IsUnsignedBelow (2 ^ 64)) s e → IsAsNumberFault s e
+kind : (s : List ℕ) (e : DecodeError) → IsLeafFault integer false (IsUnsignedBelow (2 ^ 64)) s e → as_number.fault s e
 kind s Truncated h = h
 kind s BadTag h = h
 kind s BadLength h = h
@@ -55,7 +55,7 @@ kind s OutOfMemory h = h
 
 pub number-refused : (s q r : List ℕ) (e : DecodeError) → r ≡ s
     → Refusal Large (IsLeafFault integer false (IsUnsignedBelow (2 ^ 64))) s q e
-    → Refusal SpellsAsNumber IsAsNumberFault s r e
+    → Refusal as_number.spells as_number.fault s r e
 number-refused s q r e same h = record {
   unchanged = same;
   refuses = UnlessMemory-weaker e (λ none n p k. none n p (as-large s n p k)) h.refuses;
@@ -63,7 +63,7 @@ number-refused s q r e same h = record {
 }
 
 pub number-too-large : (s q r : List ℕ) (n : ℕ) (x : ContentError) → 2 ^ 32 ≤ n → r ≡ s → Accepts Large s n q
-    → Refusal SpellsAsNumber IsAsNumberFault s r (Content x)
+    → Refusal as_number.spells as_number.fault s r (Content x)
 number-too-large s q r n x large same a = record {
   unchanged = same;
   refuses = λ m p k. let e = a.only m p (as-large s m p k) in omega (arith, e.0, k.spelled.spelled.below);

@@ -11,11 +11,11 @@ use Rattle.rpki_resources.specs.declared.address.Address.{Address}
 use Rattle.rpki_resources.specs.declared.block.Block.{Block}
 use Rattle.rpki_resources.specs.declared.kind.ResourceKind.{ResourceKind}
 use Rattle.rpki_resources.specs.declared.kind.ResourceKind.TheVariants.{Addresses, AsNumbers}
-use Rattle.rpki_resources.specs.Address.{width, IsAddress, IsAddressOf, SpellsAddress, SpellsRangeEnds, SpellsBlock}
+use Rattle.rpki_resources.specs.Address.{width, IsAddress, IsAddressOf, address, range_ends, block}
 use Rattle.rpki_resources.specs.Address.{prefix_block}
-use Rattle.rpki_resources.specs.AsNumber.{SpellsAsNumber, SpellsAsEnds, SpellsAsBlock}
+use Rattle.rpki_resources.specs.AsNumber.{as_number, as_ends, as_block}
 use Rattle.rpki_resources.specs.Blocks.{AreCanonical}
-use Rattle.rpki_resources.specs.Listed.{SpellsBlockOf, AreBlocks}
+use Rattle.rpki_resources.specs.Listed.{block_of, AreBlocks}
 use Rattle.rpki_resources.specs.Encoded.{address_contents, address_octets, as_contents, as_number_octets, shared_bits}
 use Rattle.rpki_resources.specs.Encoded.{without_zeros, without_ones, prefix_or_range, pair_octets, block_octets}
 use Rattle.rpki_resources.specs.Encoded.{blocks_octets, IsBlockOf, AreBlocksOf}
@@ -28,14 +28,14 @@ use Rattle.rpki_resources.proofs.BlockWritingLaws.{as-few, bits-legal, integer-l
 
 -- ---- addresses
 
-address-back : (w : ℕ) (x : Address) → w ≤ 128 → IsAddressOf w x → SpellsAddress w x (address_octets x)
+address-back : (w : ℕ) (x : Address) → w ≤ 128 → IsAddressOf w x → (address w).spells x (address_octets x)
 address-back w x most h =
     leaf-legal bit_string false (IsAddress w) x (address_contents x) bits-legal
     (omega (arith, address-few x (omega (arith, most, h.0)))) (address-spelled w x h)
 
 prefix-back : (w : ℕ) (b : Block) → w ≤ 128 → b.low ≤ b.high → b.high < 2 ^ w → (o : Option Address)
     → shared_bits w b.low b.high ≡ o
-    → SpellsBlock w b (prefix_or_range w b o)
+    → (block w).spells b (prefix_or_range w b o)
 prefix-back w b most some lt (Some x) is =
     let h = are-shared w b.low b.high x lt is in
     inr (record {
@@ -50,9 +50,9 @@ prefix-back w b most some lt None is =
     let k = stripped-high w b.high lt in
     let sizes = bits-pair-short bit_string bit_string x y (omega (arith, h.legal.0, most))
     (omega (arith, k.legal.0, most)) in
-    inl (leaf-legal sequence true (SpellsRangeEnds w) b (address_octets x ++ address_octets y) sequence_legal sizes.1
+    inl (leaf-legal sequence true (range_ends w).spells b (address_octets x ++ address_octets y) sequence_legal sizes.1
     (record {
-      ends = (x, y);
+      value = (x, y);
       spelled = record {
         first = address_octets x;
         second = address_octets y;
@@ -60,7 +60,7 @@ prefix-back w b most some lt None is =
         one = address-back w x most h.legal;
         two = address-back w y most k.legal;
       };
-      are = record {
+      stands = record {
         low = sym h.end;
         high = sym k.end;
         no_zeros = h.stripped;
@@ -72,13 +72,13 @@ prefix-back w b most some lt None is =
 
 -- ---- AS numbers
 
-number-back : (n : ℕ) → n < 2 ^ 32 → SpellsAsNumber n (as_number_octets n)
+number-back : (n : ℕ) → n < 2 ^ 32 → as_number.spells n (as_number_octets n)
 number-back n small =
     leaf-legal integer false (IsUnsignedBelow (2 ^ 32)) n (as_contents n) integer-legal (omega (arith, as-few n))
     (record { below = small; contents = as-unsigned n small })
 
 numbers-back : (b : Block) → b.low ≤ b.high → b.high < 2 ^ 32 → (same : Bool) → eqb b.low b.high ≡ same
-    → SpellsAsBlock b (cond same (as_number_octets b.low)
+    → as_block.spells b (cond same (as_number_octets b.low)
     (pair_octets (as_number_octets b.low) (as_number_octets b.high)))
 numbers-back b some lt true e =
     inr (record {
@@ -91,9 +91,9 @@ numbers-back b some lt false e =
     let one = as_number_octets b.low in
     let two = as_number_octets b.high in
     let other = eqb-false b.low b.high e in
-    inl (leaf-legal sequence true SpellsAsEnds b (one ++ two) sequence_legal
+    inl (leaf-legal sequence true as_ends.spells b (one ++ two) sequence_legal
     (as-pair-short integer integer b.low b.high).1 (record {
-      ends = (b.low, b.high);
+      value = (b.low, b.high);
       spelled = record {
         first = one;
         second = two;
@@ -101,18 +101,18 @@ numbers-back b some lt false e =
         one = number-back b.low (omega (arith, some, lt));
         two = number-back b.high lt;
       };
-      are = record { low = refl; high = refl; ascends = omega (arith, some, other) };
+      stands = record { low = refl; high = refl; ascends = omega (arith, some, other) };
     }))
 
 -- ---- a block, and blocks one after another
 
-pub block-back : (kind : ResourceKind) (b : Block) → IsBlockOf kind b → SpellsBlockOf kind b (block_octets kind b)
+pub block-back : (kind : ResourceKind) (b : Block) → IsBlockOf kind b → (block_of kind).spells b (block_octets kind b)
 block-back (Addresses family) b h = prefix-back (width family) b (width-most family) h.0 h.1
     (shared_bits (width family) b.low b.high) refl
 block-back AsNumbers b h = numbers-back b h.0 h.1 (eqb b.low b.high) refl
 
 each-back : (kind : ResourceKind) (bs : List Block) → AreBlocksOf kind bs
-    → SpellsEach (SpellsBlockOf kind) bs (blocks_octets kind bs)
+    → SpellsEach (block_of kind).spells bs (blocks_octets kind bs)
 each-back kind [] h = refl
 each-back kind (b ∷ bs) h = (
   blocks_octets kind bs,

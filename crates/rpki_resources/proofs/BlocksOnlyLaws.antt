@@ -13,9 +13,9 @@ use Rattle.rpki_resources.specs.declared.address.Address.{Address}
 use Rattle.rpki_resources.specs.declared.block.Block.{Block}
 use Rattle.rpki_resources.specs.declared.kind.ResourceKind.{ResourceKind}
 use Rattle.rpki_resources.specs.declared.kind.ResourceKind.TheVariants.{Addresses, AsNumbers}
-use Rattle.rpki_resources.specs.Address.{width, SpellsAddress, SpellsBlock, HasNoZeros, HasNoOnes, low_end, high_end}
-use Rattle.rpki_resources.specs.AsNumber.{SpellsAsNumber, SpellsAsBlock}
-use Rattle.rpki_resources.specs.Listed.{SpellsBlockOf}
+use Rattle.rpki_resources.specs.Address.{width, address, block, HasNoZeros, HasNoOnes, low_end, high_end}
+use Rattle.rpki_resources.specs.AsNumber.{as_number, as_block}
+use Rattle.rpki_resources.specs.Listed.{block_of}
 use Rattle.rpki_resources.specs.Encoded.{bits_at, without_zeros, without_ones, shared_bits, prefix_or_range}
 use Rattle.rpki_resources.specs.Encoded.{pair_octets, address_octets, as_contents, as_number_octets, ip_block_octets}
 use Rattle.rpki_resources.specs.Encoded.{as_block_octets, block_octets, blocks_octets}
@@ -40,12 +40,12 @@ octets-inside t f c p h o =
 
 -- ---- one value
 
-address-written : (w : ℕ) (x : Address) (p : List ℕ) → AreOctets p → SpellsAddress w x p → p ≡ address_octets x
+address-written : (w : ℕ) (x : Address) (p : List ℕ) → AreOctets p → (address w).spells x p → p ≡ address_octets x
 address-written w x p o h =
     h.value.octets ∙ ap (λ (c : List ℕ). tlv bit_string false c)
     (address-only w x h.contents (octets-inside bit_string false h.contents p h.value o) h.spelled)
 
-number-written : (n : ℕ) (p : List ℕ) → SpellsAsNumber n p → p ≡ as_number_octets n
+number-written : (n : ℕ) (p : List ℕ) → as_number.spells n p → p ≡ as_number_octets n
 number-written n p h =
     h.value.octets ∙ ap (λ (c : List ℕ). tlv integer false c)
     (contents-unique n h.contents (as_contents n) h.spelled.contents (as-unsigned n h.spelled.below))
@@ -115,19 +115,19 @@ prefix-found w x low high few l h =
     let size : w - (w - x.size) ≡ x.size = omega (arith, few) in
     shared-some w (w - x.size) x.number low high (omega arith) l above ∙ ap (λ (k : ℕ). Some (bits_at x.number k)) size
 
-ip-written : (w : ℕ) (b : Block) (p : List ℕ) → AreOctets p → SpellsBlock w b p → p ≡ ip_block_octets w b
+ip-written : (w : ℕ) (b : Block) (p : List ℕ) → AreOctets p → (block w).spells b p → p ≡ ip_block_octets w b
 ip-written w b p o (inl h) =
     let ends = h.spelled in
     let inside = subst AreOctets ends.spelled.parts (octets-inside sequence true h.contents p h.value o) in
-    let x = ends.ends.0 in
-    let y = ends.ends.1 in
+    let x = ends.value.0 in
+    let y = ends.value.1 in
     let one = address-written w x ends.spelled.first
     (octets-before ends.spelled.first ends.spelled.second inside) ends.spelled.one in
     let two = address-written w y ends.spelled.second
     (octets-behind ends.spelled.first ends.spelled.second inside) ends.spelled.two in
-    let low = low-only w b.low x ends.spelled.one.spelled.few ends.are.no_zeros (sym ends.are.low) in
-    let high = high-only w b.high y ends.spelled.two.spelled.few ends.are.no_ones (sym ends.are.high) in
-    let none = shared-none w b.low b.high ends.are.no_prefix in
+    let low = low-only w b.low x ends.spelled.one.spelled.few ends.stands.no_zeros (sym ends.stands.low) in
+    let high = high-only w b.high y ends.spelled.two.spelled.few ends.stands.no_ones (sym ends.stands.high) in
+    let none = shared-none w b.low b.high ends.stands.no_prefix in
     let both : h.contents ≡ address_octets (without_zeros w b.low) ++ address_octets (without_ones w b.high) =
     ends.spelled.parts ∙ ap (λ (s : List ℕ). s ++ ends.spelled.second) (one ∙ ap address_octets (sym low))
     ∙ ap (λ (s : List ℕ). address_octets (without_zeros w b.low) ++ s) (two ∙ ap address_octets (sym high)) in
@@ -141,29 +141,29 @@ ip-written w b p o (inr h) =
 as-block : (b : Block) → Bool → List ℕ
 as-block b same = cond same (as_number_octets b.low) (pair_octets (as_number_octets b.low) (as_number_octets b.high))
 
-as-written : (b : Block) (p : List ℕ) → SpellsAsBlock b p → p ≡ as_block_octets b
+as-written : (b : Block) (p : List ℕ) → as_block.spells b p → p ≡ as_block_octets b
 unfolding as-block
 as-written b p (inl h) =
     let ends = h.spelled in
-    let one = number-written ends.ends.0 ends.spelled.first ends.spelled.one in
-    let two = number-written ends.ends.1 ends.spelled.second ends.spelled.two in
+    let one = number-written ends.value.0 ends.spelled.first ends.spelled.one in
+    let two = number-written ends.value.1 ends.spelled.second ends.spelled.two in
     let other : eqb b.low b.high ≡ false = ne_eqb b.low b.high
-    (λ e. omega (arith, e, ends.are.low, ends.are.high, ends.are.ascends)) in
+    (λ e. omega (arith, e, ends.stands.low, ends.stands.high, ends.stands.ascends)) in
     let both : h.contents ≡ as_number_octets b.low ++ as_number_octets b.high =
-    ends.spelled.parts ∙ ap (λ (s : List ℕ). s ++ ends.spelled.second) (one ∙ ap as_number_octets (sym ends.are.low))
-    ∙ ap (λ (s : List ℕ). as_number_octets b.low ++ s) (two ∙ ap as_number_octets (sym ends.are.high)) in
+    ends.spelled.parts ∙ ap (λ (s : List ℕ). s ++ ends.spelled.second) (one ∙ ap as_number_octets (sym ends.stands.low))
+    ∙ ap (λ (s : List ℕ). as_number_octets b.low ++ s) (two ∙ ap as_number_octets (sym ends.stands.high)) in
     h.value.octets ∙ ap (λ (c : List ℕ). tlv sequence true c) both ∙ sym (ap (as-block b) other)
 as-written b p (inr h) =
     let same : eqb b.low b.high ≡ true = eq-eqb b.low b.high (h.stands.0 ∙ sym h.stands.1) in
     number-written h.value p h.spelled ∙ ap as_number_octets (sym h.stands.0) ∙ sym (ap (as-block b) same)
 
-block-written : (kind : ResourceKind) (b : Block) (p : List ℕ) → AreOctets p → SpellsBlockOf kind b p
+block-written : (kind : ResourceKind) (b : Block) (p : List ℕ) → AreOctets p → (block_of kind).spells b p
     → p ≡ block_octets kind b
 block-written (Addresses family) b p o h = ip-written (width family) b p o h
 block-written AsNumbers b p o h = as-written b p h
 
 pub blocks-written : (kind : ResourceKind) (bs : List Block) (c : List ℕ) → AreOctets c
-    → SpellsEach (SpellsBlockOf kind) bs c
+    → SpellsEach (block_of kind).spells bs c
     → c ≡ blocks_octets kind bs
 blocks-written kind [] c o h = h
 blocks-written kind (b ∷ bs) c o h =

@@ -22,9 +22,6 @@ abbrev pub Followings : ResourceKind → ℕ → List ℕ → Type 0
 Followings kind last s = (bs : List Block) × SpellsFollowing kind (Some last) bs s
 
 module _ (kind : ResourceKind) (last : ℕ) (s : List ℕ) where
-  pub none-follow : s ≡ [] → Followings kind last s
-  none-follow end = ([], end)
-
   module _ (b : Block) (q : List ℕ) (some : s ≢ []) (a : Accepts (SpellsNext kind (Some last)) s b q) where
     pub follow-on : Followings kind last s → Followings kind b.high q
     follow-on h = step h.0 h.1 where

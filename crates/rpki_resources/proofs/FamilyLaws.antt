@@ -6,21 +6,19 @@ use Rattle.rpki_der.specs.declared.error.DecodeError.TheVariants.{Content}
 use Rattle.rpki_der.specs.TagName.{sequence}
 use Rattle.rpki_der.specs.Reading.{Accepts, Refuses, Refusal, SpellsNothing}
 use Rattle.rpki_der.specs.Parts.{SpellsBoth}
-use Rattle.rpki_der.specs.FirstFault.{FirstFault}
 use Rattle.rpki_der.specs.FirstFault.FirstFault.{AtPart, Later}
 use Rattle.rpki_der.proofs.ReadingLaws.{UnlessMemory-weaker}
 use Rattle.rpki_der.proofs.ComposedLaws.{spelled-whole, all-read, nothing-after, nothing-whole}
 use Rattle.rpki_der.proofs.EachLaws.{leaf-some}
-use Rattle.rpki_der.proofs.PartsLaws.{Returned, Failed, first-of, pair-is}
-use Rattle.rpki_resources.specs.declared.kind.ResourceKind.TheVariants.{Addresses}
+use Rattle.rpki_der.proofs.PartsLaws.{Returned, Failed, first-of}
 use Rattle.rpki_resources.specs.declared.family.AddressFamily.{AddressFamily}
 use Rattle.rpki_resources.specs.declared.family.AddressFamily.TheVariants.{Ipv4, Ipv6}
 use Rattle.rpki_resources.specs.declared.choice_view.ChoiceView.{ChoiceView}
 use Rattle.rpki_resources.specs.declared.choice_view.ChoiceView.TheVariants.{Missing}
 use Rattle.rpki_resources.specs.declared.ip_view.IpResourcesView.{IpResourcesView}
-use Rattle.rpki_resources.specs.Extension.{SpellsChoice, IsChoiceFault, IsFamily, SpellsFamily, IsFamilyFault, AreNamed}
-use Rattle.rpki_resources.specs.Extension.{AreNamedFault, SpellsNamed, IsNamedFault, families, SpellsV6}
-use Rattle.rpki_resources.specs.Extension.{IsAfterSecondFault, AreFamilies, AreFamiliesFault}
+use Rattle.rpki_resources.specs.Extension.{IsFamily, family_parts}
+use Rattle.rpki_resources.specs.Extension.{SpellsNamed, named_family, families, second_family}
+use Rattle.rpki_resources.specs.Extension.{AreFamilies, ip_families}
 use Rattle.rpki_resources.specs.Extension.AreFamilies.{OnlyV4, OnlyV6, BothFamilies}
 
 -- ---- the name of a family
@@ -30,58 +28,6 @@ one-family Ipv4 Ipv4 c h k = refl
 one-family Ipv6 Ipv6 c h k = refl
 one-family Ipv4 Ipv6 c h k = let e = sym h ∙ k in absurd (cc)
 one-family Ipv6 Ipv4 c h k = let e = sym h ∙ k in absurd (cc)
-
--- ---- the name, and the choice that it goes with
-
-module _ (s : List ℕ) where
-  pub no-name : (r : List ℕ) (e : DecodeError) → Refusal SpellsFamily IsFamilyFault s r e
-      → Failed AreNamed AreNamedFault s e
-  no-name r e h = (
-    UnlessMemory-weaker e (λ none x k. none x.0 k.second (first-of k)) h.refuses,
-    AtPart h.refuses h.kind,
-  )
-
-  module _ (f : AddressFamily) (m : List ℕ) (one : Accepts SpellsFamily s f m) where
-    abbrev Choices : ChoiceView → List ℕ → Type 0
-    Choices = SpellsChoice (Addresses f)
-
-    -- what follows the name is of its family
-    behind : (x : AddressFamily × ChoiceView) → AreNamed x s → (x.0 ≡ f) × SpellsChoice (Addresses f) x.1 m
-    behind x k =
-        let is = one.only x.0 k.second (first-of k) in (
-          is.0,
-          subst (λ (q : List ℕ). SpellsChoice (Addresses f) x.1 q) is.1
-              (subst (λ (g : AddressFamily). SpellsChoice (Addresses g) x.1 k.second) is.0 k.two),
-        )
-
-    pub no-choice : (r : List ℕ) (e : DecodeError)
-        → Refusal (SpellsChoice (Addresses f)) (IsChoiceFault (Addresses f)) m r e → Failed AreNamed AreNamedFault s e
-    no-choice r e h = (
-      UnlessMemory-weaker e (λ none x k. nothing-whole (SpellsChoice (Addresses f)) m none x.1 (behind x k).1)
-          h.refuses,
-      Later f m one (AtPart h.refuses h.kind),
-    )
-
-    pub named : (r : List ℕ) (v : ChoiceView) → Accepts (SpellsChoice (Addresses f)) m v r
-        → Returned AreNamed AreNamedFault s r (f, v)
-    named r v two = (
-      λ end.
-          let is = all-read (SpellsChoice (Addresses f)) m v r two end in (
-            record {
-              first = one.spells.front;
-              second = m;
-              parts = one.spells.parts;
-              one = one.spells.spelled;
-              two =
-                  is.0;
-            },
-            λ x k. let b = behind x k in pair-is x f v b.0 (is.1 x.1 b.1),
-          ),
-      λ some. (
-        λ x k. nothing-after (SpellsChoice (Addresses f)) m r v two some x.1 (behind x k).1,
-        Later f m one (Later v r two (some, refl)),
-      ),
-    )
 
 -- ---- the second family
 
@@ -94,19 +40,16 @@ families-differ v w e = let n = ap (λ (x : AddressFamily × ChoiceView). x.0) e
 same-choice : (f g : AddressFamily) (v w : ChoiceView) → pair f v ≡ pair g w → v ≡ w
 same-choice f g v w e = ap (λ (x : AddressFamily × ChoiceView). x.1) e
 
-abbrev pub IsSecondFault : List ℕ → DecodeError → Type 0
-IsSecondFault = FirstFault SpellsNamed IsNamedFault IsAfterSecondFault
-
 module _ (s : List ℕ) where
-  pub no-second : (r : List ℕ) (e : DecodeError) → Refusal SpellsNamed IsNamedFault s r e
-      → Failed SpellsV6 IsSecondFault s e
+  pub no-second : (r : List ℕ) (e : DecodeError) → Refusal SpellsNamed named_family.fault s r e
+      → Failed second_family.spells second_family.fault s e
   no-second r e h = (
     UnlessMemory-weaker e (λ none v k. nothing-whole SpellsNamed s none (Ipv6, v) k) h.refuses,
     AtPart h.refuses h.kind,
   )
 
   pub second-v6 : (r : List ℕ) (v : ChoiceView) → Accepts SpellsNamed s (Ipv6, v) r
-      → Returned SpellsV6 IsSecondFault s r v
+      → Returned second_family.spells second_family.fault s r v
   second-v6 r v a = (
     λ end. let is = all-read SpellsNamed s (Ipv6, v) r a end in
         (is.0, λ w k. same-choice Ipv6 Ipv6 w v (is.1 (Ipv6, w) k)),
@@ -114,7 +57,7 @@ module _ (s : List ℕ) where
   )
 
   pub second-v4 : (r : List ℕ) (v : ChoiceView) (x : ContentError) → Accepts SpellsNamed s (Ipv4, v) r
-      → Failed SpellsV6 IsSecondFault s (Content x)
+      → Failed second_family.spells second_family.fault s (Content x)
   second-v4 r v x a = (
     λ w k. families-differ v w
         (sym (a.only (Ipv6, w) [] (spelled-whole SpellsNamed s (Ipv6, w) k)).0),
@@ -124,8 +67,8 @@ module _ (s : List ℕ) where
 -- ---- both
 
 module _ (s : List ℕ) where
-  pub no-families : (r : List ℕ) (e : DecodeError) → Refusal SpellsNamed IsNamedFault s r e
-      → Failed AreFamilies AreFamiliesFault s e
+  pub no-families : (r : List ℕ) (e : DecodeError) → Refusal SpellsNamed named_family.fault s r e
+      → Failed AreFamilies ip_families.fault s e
   no-families r e h = (UnlessMemory-weaker e nothing h.refuses, AtPart h.refuses h.kind) where
     nothing : Refuses SpellsNamed s → SpellsNothing AreFamilies s
     nothing none x (OnlyV4 v is k) = nothing-whole SpellsNamed s none (Ipv4, v) k
@@ -134,7 +77,7 @@ module _ (s : List ℕ) where
 
   module _ (m : List ℕ) (v : ChoiceView) where
     -- IP version 6 is first
-    pub only-v6 : Accepts SpellsNamed s (Ipv6, v) m → Returned AreFamilies AreFamiliesFault s m (families Missing v)
+    pub only-v6 : Accepts SpellsNamed s (Ipv6, v) m → Returned AreFamilies ip_families.fault s m (families Missing v)
     only-v6 one = (
       λ end. (OnlyV6 v refl (all-read SpellsNamed s (Ipv6, v) m one end).0, unique),
       λ some. (nothing some, Later (Ipv6, v) m one (some, refl)),
@@ -158,12 +101,13 @@ module _ (s : List ℕ) where
       whole-v4 : (x : AddressFamily × ChoiceView) → SpellsNamed x s → (x ≡ pair Ipv4 v) × ([] ≡ m)
       whole-v4 x k = one.only x [] (spelled-whole SpellsNamed s x k)
 
-      both-v4 : (w u : ChoiceView) → SpellsBoth SpellsNamed SpellsNamed (Ipv4, w) (Ipv6, u) s → (w ≡ v) × SpellsV6 u m
+      both-v4 : (w u : ChoiceView) → SpellsBoth SpellsNamed SpellsNamed (Ipv4, w) (Ipv6, u) s
+          → (w ≡ v) × second_family.spells u m
       both-v4 w u k =
           let is = one.only (Ipv4, w) k.second (first-of k) in
           (same-choice Ipv4 Ipv4 w v is.0, subst (λ (q : List ℕ). SpellsNamed (Ipv6, u) q) is.1 k.two)
 
-      pub only-v4 : m ≡ [] → Returned AreFamilies AreFamiliesFault s m (families v Missing)
+      pub only-v4 : m ≡ [] → Returned AreFamilies ip_families.fault s m (families v Missing)
       only-v4 end = (
         λ z. (OnlyV4 v refl (all-read SpellsNamed s (Ipv4, v) m one end).0, unique),
         λ some. absurd (some end),
@@ -173,20 +117,20 @@ module _ (s : List ℕ) where
             (same-choice Ipv4 Ipv4 w v (whole-v4 (Ipv4, w) k).0)
         unique x (OnlyV6 w is k) = absurd (families-differ v w (sym (whole-v4 (Ipv6, w) k).0))
         unique x (BothFamilies w u is k) = absurd
-            (leaf-some sequence true AreNamed (Ipv6, u)
+            (leaf-some sequence true family_parts.spells (Ipv6, u)
             (subst (λ (q : List ℕ). SpellsNamed (Ipv6, u) q) end (both-v4 w u k).1))
 
-      nothing-second : m ≢ [] → SpellsNothing SpellsV6 m → SpellsNothing AreFamilies s
+      nothing-second : m ≢ [] → SpellsNothing second_family.spells m → SpellsNothing AreFamilies s
       nothing-second some none x (OnlyV4 w is k) = some (sym (whole-v4 (Ipv4, w) k).1)
       nothing-second some none x (OnlyV6 w is k) = some (sym (whole-v4 (Ipv6, w) k).1)
       nothing-second some none x (BothFamilies w u is k) = none u (both-v4 w u k).1
 
-      pub second-refused : (e : DecodeError) → m ≢ [] → Failed SpellsV6 IsSecondFault m e
-          → Failed AreFamilies AreFamiliesFault s e
+      pub second-refused : (e : DecodeError) → m ≢ [] → Failed second_family.spells second_family.fault m e
+          → Failed AreFamilies ip_families.fault s e
       second-refused e some h = (UnlessMemory-weaker e (nothing-second some) h.0, Later (Ipv4, v) m one (some, h.1))
 
-      pub second-read : (r : List ℕ) (u : ChoiceView) → m ≢ [] → Returned SpellsV6 IsSecondFault m r u
-          → Returned AreFamilies AreFamiliesFault s r (families v u)
+      pub second-read : (r : List ℕ) (u : ChoiceView) → m ≢ [] → Returned second_family.spells second_family.fault m r u
+          → Returned AreFamilies ip_families.fault s r (families v u)
       second-read r u some h = (
         λ end.
             let is = h.0 end in (
@@ -203,7 +147,8 @@ module _ (s : List ℕ) where
             ),
         λ more. let k = h.1 more in (nothing-second some k.0, Later (Ipv4, v) m one (some, k.1)),
       ) where
-        unique : ((w : ChoiceView) → SpellsV6 w m → w ≡ u) → (x : IpResourcesView) → AreFamilies x s → x ≡ families v u
+        unique : ((w : ChoiceView) → second_family.spells w m → w ≡ u) → (x : IpResourcesView) → AreFamilies x s
+            → x ≡ families v u
         unique only x (OnlyV4 w is k) = absurd (some (sym (whole-v4 (Ipv4, w) k).1))
         unique only x (OnlyV6 w is k) = absurd (some (sym (whole-v4 (Ipv6, w) k).1))
         unique only x (BothFamilies w y is k) =

@@ -12,94 +12,80 @@ use Rattle.rpki_der.specs.TagName.{sequence, bit_string, integer}
 use Rattle.rpki_der.specs.Integer.{IsUnsignedBelow}
 use Rattle.rpki_der.specs.Reading.{Spells, Accepts, Refuses, Refusal, SpellsNothing}
 use Rattle.rpki_der.specs.Each.{SpellsEach}
-use Rattle.rpki_der.specs.FirstFault.{FirstFault}
+use Rattle.rpki_der.specs.Format.{IsContentError}
 use Rattle.rpki_der.proofs.ReadingLaws.{UnlessMemory-from}
-use Rattle.rpki_der.proofs.LeavesLaws.{leaf-no-memory}
-use Rattle.rpki_der.proofs.FirstFaultLaws.{first-no-memory, inside-no-memory}
 use Rattle.rpki_der.proofs.EachLaws.{leaf-some}
 use Rattle.rpki_der.proofs.InsideLaws.{unless-memory}
 use Rattle.rpki_resources.specs.declared.block.Block.{Block}
 use Rattle.rpki_resources.specs.declared.kind.ResourceKind.{ResourceKind}
 use Rattle.rpki_resources.specs.declared.kind.ResourceKind.TheVariants.{Addresses, AsNumbers}
 use Rattle.rpki_resources.specs.Blocks.{AreCanonical, IsPast}
-use Rattle.rpki_resources.specs.Composing.{SpellsEnds, IsContentError, IsAfterEndsFault, IsEndsFault}
-use Rattle.rpki_resources.specs.Address.{width, IsAddress, SpellsAddress, IsAddressFault, IsRange, SpellsBlock}
-use Rattle.rpki_resources.specs.Address.{IsBlockFault}
-use Rattle.rpki_resources.specs.AsNumber.{SpellsAsNumber, IsAsNumberFault, IsAsRange, SpellsAsBlock, IsAsBlockFault}
-use Rattle.rpki_resources.specs.Listed.{SpellsBlockOf, IsBlockFaultOf, AreBlocks, Follows, SpellsNext, SpellsFollowing}
-use Rattle.rpki_resources.specs.Listed.{IsNextFault, AreBlocksFault}
+use Rattle.rpki_resources.specs.Address.{width, IsAddress, address, IsRange, prefix, range_ends, range, block}
+use Rattle.rpki_resources.specs.AsNumber.{as_number, as_id, IsAsRange, as_ends, as_range, as_block}
+use Rattle.rpki_resources.specs.Listed.{block_of, AreBlocks, Follows, SpellsNext, SpellsFollowing, IsNextFault}
+use Rattle.rpki_resources.specs.Listed.{AreBlocksFault}
 use Rattle.rpki_resources.specs.Listed.IsNextFault.{InBlock, OutOfOrder}
 use Rattle.rpki_resources.specs.Listed.AreBlocksFault.{NoBlock, AtBlock, AfterBlock}
 use Rattle.rpki_resources.proofs.AddressLaws.{prefix-ascends}
+use Rattle.rpki_resources.proofs.ComposingLaws.{NeverFails, leaf-never, around-never, either-never, ends-never}
 
 -- ---- one block
 
 -- it is written in some octets
-address-some : (w : ℕ) (b : Block) → SpellsBlock w b [] → ⊥
-address-some w b (inl p) = leaf-some sequence true (SpellsEnds (SpellsAddress w) (IsRange w)) b p
+address-some : (w : ℕ) (b : Block) → (block w).spells b [] → ⊥
+address-some w b (inl p) = leaf-some sequence true (range_ends w).spells b p
 address-some w b (inr p) = leaf-some bit_string false (IsAddress w) p.value p.spelled
 
-number-some : (b : Block) → SpellsAsBlock b [] → ⊥
-number-some b (inl p) = leaf-some sequence true (SpellsEnds SpellsAsNumber IsAsRange) b p
+number-some : (b : Block) → as_block.spells b [] → ⊥
+number-some b (inl p) = leaf-some sequence true as_ends.spells b p
 number-some b (inr p) = leaf-some integer false (IsUnsignedBelow (2 ^ 32)) p.value p.spelled
 
-pub block-some : (kind : ResourceKind) (b : Block) → SpellsBlockOf kind b [] → ⊥
+pub block-some : (kind : ResourceKind) (b : Block) → (block_of kind).spells b [] → ⊥
 block-some (Addresses family) b p = address-some (width family) b p
 block-some AsNumbers b p = number-some b p
 
 -- it isn't empty
-address-ascends : (w : ℕ) (b : Block) (p : List ℕ) → SpellsBlock w b p → b.low ≤ b.high
-address-ascends w b p (inl h) = h.spelled.are.some
+address-ascends : (w : ℕ) (b : Block) (p : List ℕ) → (block w).spells b p → b.low ≤ b.high
+address-ascends w b p (inl h) = h.spelled.stands.some
 address-ascends w b p (inr h) = subst (λ (d : Block). d.low ≤ d.high) (sym h.stands) (prefix-ascends w h.value)
 
-number-ascends : (b : Block) (p : List ℕ) → SpellsAsBlock b p → b.low ≤ b.high
-number-ascends b p (inl h) = omega (arith, h.spelled.are.low, h.spelled.are.high, h.spelled.are.ascends)
+number-ascends : (b : Block) (p : List ℕ) → as_block.spells b p → b.low ≤ b.high
+number-ascends b p (inl h) = omega (arith, h.spelled.stands.low, h.spelled.stands.high, h.spelled.stands.ascends)
 number-ascends b p (inr h) = omega (arith, h.stands.0, h.stands.1)
 
-pub block-ascends : (kind : ResourceKind) (b : Block) (p : List ℕ) → SpellsBlockOf kind b p → b.low ≤ b.high
+pub block-ascends : (kind : ResourceKind) (b : Block) (p : List ℕ) → (block_of kind).spells b p → b.low ≤ b.high
 block-ascends (Addresses family) b p h = address-ascends (width family) b p h
 block-ascends AsNumbers b p h = number-ascends b p h
 
 -- reading it takes no memory
-after-ends : {A V : Type 0} (R : V → A × A → Type 0) (x : A × A) (r : List ℕ) → IsAfterEndsFault R x r OutOfMemory → ⊥
-after-ends R x r (inl h) = h.1
-after-ends R x r (inr h) = let e = h.1.1 in cc
+address-never : (w : ℕ) → NeverFails (address w)
+address-never w = leaf-never bit_string (IsAddress w)
 
-ends-no-memory : {A V : Type 0} (G : A → List ℕ → Type 0) (K : List ℕ → DecodeError → Type 0) (R : V → A × A → Type 0)
-    → ((s : List ℕ) → K s OutOfMemory → ⊥) → (c : List ℕ)
-    → IsEndsFault G K R c OutOfMemory → ⊥
-ends-no-memory G K R none c h =
-    first-no-memory G K (λ low. λ r e. FirstFault G K (λ high. IsAfterEndsFault R (low, high)) r e) c (none c)
-    (λ low m k. first-no-memory G K (λ high. IsAfterEndsFault R (low, high)) m (none m)
-    (λ high r l. after-ends R (low, high) r l) k) h
+number-never : NeverFails as_number
+number-never = leaf-never integer (IsUnsignedBelow (2 ^ 32))
 
-address-no-memory : (w : ℕ) (s : List ℕ) → IsBlockFault w s OutOfMemory → ⊥
-address-no-memory w s (inl h) =
-    inside-no-memory sequence true (IsEndsFault (SpellsAddress w) (IsAddressFault w) (IsRange w)) s
-    (ends-no-memory (SpellsAddress w) (IsAddressFault w) (IsRange w)
-    (λ r k. leaf-no-memory bit_string false (IsAddress w) r OutOfMemory k refl)) h.1
-address-no-memory w s (inr h) = leaf-no-memory bit_string false (IsAddress w) s OutOfMemory h.1 refl
+addresses-never : (w : ℕ) → NeverFails (block w)
+addresses-never w =
+    either-never sequence (range w) (prefix w)
+    (around-never sequence (range_ends w) (ends-never (IsRange w) (address w) (address-never w))) (address-never w)
 
-number-no-memory : (s : List ℕ) → IsAsBlockFault s OutOfMemory → ⊥
-number-no-memory s (inl h) =
-    inside-no-memory sequence true (IsEndsFault SpellsAsNumber IsAsNumberFault IsAsRange) s
-    (ends-no-memory SpellsAsNumber IsAsNumberFault IsAsRange
-    (λ r k. leaf-no-memory integer false (IsUnsignedBelow (2 ^ 32)) r OutOfMemory k refl)) h.1
-number-no-memory s (inr h) = leaf-no-memory integer false (IsUnsignedBelow (2 ^ 32)) s OutOfMemory h.1 refl
+block-never : (kind : ResourceKind) → NeverFails (block_of kind)
+block-never (Addresses family) = addresses-never (width family)
+block-never AsNumbers =
+    either-never sequence as_range as_id
+    (around-never sequence as_ends (ends-never IsAsRange as_number number-never)) number-never
 
-pub block-no-memory : (kind : ResourceKind) (s : List ℕ) (e : DecodeError) → IsBlockFaultOf kind s e → e ≢ OutOfMemory
-block-no-memory (Addresses family) s e h z = address-no-memory (width family) s
-    (subst (IsBlockFault (width family) s) z h)
-block-no-memory AsNumbers s e h z = number-no-memory s (subst (IsAsBlockFault s) z h)
+pub block-no-memory : (kind : ResourceKind) (s : List ℕ) (e : DecodeError) → (block_of kind).fault s e → e ≢ OutOfMemory
+block-no-memory kind s e h z = block-never kind s (subst ((block_of kind).fault s) z h)
 
 -- ---- a block that may stand behind a number
 
 as-block : (kind : ResourceKind) (last : Option ℕ) (s : List ℕ) (b : Block) (r : List ℕ)
-    → Spells (SpellsNext kind last) s b r → Spells (SpellsBlockOf kind) s b r
+    → Spells (SpellsNext kind last) s b r → Spells (block_of kind).spells s b r
 as-block kind last s b r h = record { front = h.front; parts = h.parts; spelled = h.spelled.block }
 
 module _ (kind : ResourceKind) (last : Option ℕ) (s : List ℕ) where
-  pub next-accepted : (b : Block) (r : List ℕ) → Accepts (SpellsBlockOf kind) s b r → Follows last b
+  pub next-accepted : (b : Block) (r : List ℕ) → Accepts (block_of kind).spells s b r → Follows last b
       → Accepts (SpellsNext kind last) s b r
   next-accepted b r a f = record {
     spells = record {
@@ -111,17 +97,18 @@ module _ (kind : ResourceKind) (last : Option ℕ) (s : List ℕ) where
     only = λ d q h. a.only d q (as-block kind last s d q h);
   }
 
-  pub next-refused : (q r : List ℕ) (e : DecodeError) → r ≡ s → Refusal (SpellsBlockOf kind) (IsBlockFaultOf kind) s q e
+  pub next-refused : (q r : List ℕ) (e : DecodeError) → r ≡ s
+      → Refusal (block_of kind).spells (block_of kind).fault s q e
       → Refusal (SpellsNext kind last) (IsNextFault kind last) s r e
   next-refused q r e same k =
-      let none : Refuses (SpellsBlockOf kind) s = unless-memory e (block-no-memory kind s e k.kind) k.refuses in
+      let none : Refuses (block_of kind).spells s = unless-memory e (block-no-memory kind s e k.kind) k.refuses in
       record {
         unchanged = same;
         refuses = UnlessMemory-from e (λ d p h. none d p (as-block kind last s d p h));
         kind = InBlock none k.kind;
       }
 
-  pub next-out : (b : Block) (q r : List ℕ) (x : ContentError) → r ≡ s → Accepts (SpellsBlockOf kind) s b q
+  pub next-out : (b : Block) (q r : List ℕ) (x : ContentError) → r ≡ s → Accepts (block_of kind).spells s b q
       → (Follows last b → ⊥)
       → Refusal (SpellsNext kind last) (IsNextFault kind last) s r (Content x)
   next-out b q r x same a not = record {
@@ -138,11 +125,11 @@ next-no-memory kind last s e (OutOfOrder b r a not k) = λ z. subst IsContentErr
 
 pub next-some : (kind : ResourceKind) (last : Option ℕ) (b : Block) (r : List ℕ) → Spells (SpellsNext kind last) [] b r
     → ⊥
-next-some kind last b r h = block-some kind b (subst (SpellsBlockOf kind b) (none h.front r h.parts) h.spelled.block)
-  where
-    none : (p q : List ℕ) → [] ≡ p ++ q → p ≡ []
-    none [] q e = refl
-    none (y ∷ ys) q e = absurd (cc)
+next-some kind last b r h =
+    block-some kind b (subst ((block_of kind).spells b) (none h.front r h.parts) h.spelled.block) where
+      none : (p q : List ℕ) → [] ≡ p ++ q → p ≡ []
+      none [] q e = refl
+      none (y ∷ ys) q e = absurd (cc)
 
 -- ---- blocks, each behind the one before, are blocks in canonical form
 
@@ -159,7 +146,7 @@ first-past high [] h = tt
 first-past high (b ∷ bs) h = h
 
 taken-apart : (kind : ResourceKind) (last : Option ℕ) (bs : List Block) (c : List ℕ) → SpellsFollowing kind last bs c
-    → SpellsEach (SpellsBlockOf kind) bs c × AreCanonical bs × FollowsFirst last bs
+    → SpellsEach (block_of kind).spells bs c × AreCanonical bs × FollowsFirst last bs
 taken-apart kind last [] c h = (h, tt, tt)
 taken-apart kind last (b ∷ bs) c h =
     let k = taken-apart kind (Some b.high) bs h.0 h.2 in (
@@ -169,7 +156,7 @@ taken-apart kind last (b ∷ bs) c h =
     )
 
 put-together : (kind : ResourceKind) (last : Option ℕ) (bs : List Block) (c : List ℕ)
-    → SpellsEach (SpellsBlockOf kind) bs c → AreCanonical bs → FollowsFirst last bs → SpellsFollowing kind last bs c
+    → SpellsEach (block_of kind).spells bs c → AreCanonical bs → FollowsFirst last bs → SpellsFollowing kind last bs c
 put-together kind last [] c h d f = h
 put-together kind last (b ∷ bs) c h d f = (
   h.0,

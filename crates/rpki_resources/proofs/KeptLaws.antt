@@ -1,19 +1,20 @@
 -- Blocks that are kept as they are given.
-use Rattle.std.proofs.Common.{◌≡◌, ℕ, List, [], ◌∷◌, ◌++◌, Option, Some, None, sym, ap, ◌∙◌, subst, append_assoc}
+use Rattle.std.proofs.Common.{◌≡◌, ℕ, List, [], ◌∷◌, ◌++◌, Option, Some, None, refl, sym, ap, ◌∙◌, subst, append_assoc}
 use Rattle.std.proofs.lemmas.List.{append-nil}
 use Rattle.rpki_der.specs.declared.error.DecodeError.{DecodeError}
 use Rattle.rpki_der.specs.declared.error.DecodeError.TheVariants.{OutOfMemory}
-use Rattle.rpki_der.specs.Reading.{Refusal, Finds, OrMemoryWhere}
-use Rattle.rpki_der.proofs.ReadingLaws.{UnlessMemory-weaker, or-memory-where}
+use Rattle.rpki_der.specs.Reading.{Refusal, Finds}
+use Rattle.rpki_der.specs.Format.{Format, kept}
+use Rattle.rpki_der.proofs.ReadingLaws.{or-memory-where}
 use Rattle.rpki_resources.specs.declared.block.Block.{Block}
 use Rattle.rpki_resources.specs.declared.choice.ResourcesChoice.{ResourcesChoice}
 use Rattle.rpki_resources.specs.declared.choice_view.ChoiceView.{ChoiceView}
 use Rattle.rpki_resources.specs.declared.resources.IpResources.{IpResources}
 use Rattle.rpki_resources.specs.declared.resources.AsResources.{AsResources}
 use Rattle.rpki_resources.specs.declared.ip_view.IpResourcesView.{IpResourcesView}
-use Rattle.rpki_resources.specs.Composing.{SpellsFor}
+use Rattle.rpki_resources.specs.Composing.{standing_for}
 use Rattle.rpki_resources.specs.Kept.{IsOnlyChoiceOf, AreIpResourcesOf, AreAsResourcesOf}
-use Rattle.rpki_resources.proofs.ComposingLaws.{value-of}
+use Rattle.rpki_resources.proofs.ComposingLaws.{standing-refused}
 use Rattle.rpki_resources.specs.Blocks.{AreCanonical}
 use Rattle.rpki_resources.specs.InPlace.{Octets, Holds, HoldsOnly, Rest, IsLeft, Gives}
 
@@ -65,12 +66,12 @@ as-only x v h w k = ap (λ (y : ResourcesChoice). as_of y) (h.1 w.numbers k)
 
 -- ---- readers that keep what was read
 
-module _ {V O : Type 0} (G : O → List ℕ → Type 0) (R : V → O → Type 0) (K : List ℕ → DecodeError → Type 0)
-    (s r : List ℕ) where
-  pub not-read : (q : List ℕ) (e : DecodeError) → r ≡ s → (K s OutOfMemory → ⊥) → Refusal G K s q e
-      → Refusal (SpellsFor G R) (OrMemoryWhere (Finds G) K) s r e
-  not-read q e same never h = record {
-    unchanged = same;
-    refuses = UnlessMemory-weaker e (λ none v p k. none k.spelled.value p (value-of G R s v p k)) h.refuses;
-    kind = or-memory-where (Finds G) K s e (λ k. absurd (never k)) h.kind;
-  }
+pub not-read : {V O : Type 0} (R : V → O → Type 0) (F : Format O) {s q : List ℕ} {e : DecodeError}
+    → (F.fault s OutOfMemory → ⊥) → Refusal F.spells F.fault s q e
+    → Refusal (standing_for R (kept F)).spells (standing_for R (kept F)).fault s s e
+not-read R F {s} {q} {e} never h =
+    standing-refused R (kept F) (record {
+      unchanged = refl;
+      refuses = h.refuses;
+      kind = or-memory-where (Finds F.spells) F.fault s e (λ k. absurd (never k)) h.kind;
+    })

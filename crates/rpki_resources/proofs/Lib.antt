@@ -3,7 +3,8 @@
 -- Subsets, and that a set has one list: BlocksLaws, EqualBlocksLaws. What two sets make: MergeLaws, UnionLaws,
 -- DifferenceLaws. The numbers of blocks in any order: SetLaws.
 -- Bits, prefixes and ranges of addresses; AS numbers: OctetsLaws, AddressLaws, PrefixLaws, RangeLaws, AsNumberLaws.
--- How readings are put together; a choice by its tag, two ends: ComposingLaws.
+-- How readings are put together: a part and others that its value says: ThenByLaws; two ends, and that nothing is
+-- allocated: ComposingLaws.
 -- Blocks one behind another, counted, given by a cursor and kept: FollowLaws, ViewLaws, KeptLaws.
 -- Choices and families; that reading them takes no memory: ExtensionLaws, FamilyLaws, NoMemoryLaws.
 -- What a list is written as, by its prefixes and ranges: ListTextLaws. As what a text is read: AsReadLaws, IpReadLaws,
@@ -18,6 +19,7 @@ pub mod PrefixLaws
 pub mod OctetsLaws
 pub mod AddressLaws
 pub mod RangeLaws
+pub mod ThenByLaws
 pub mod ComposingLaws
 pub mod AsNumberLaws
 pub mod FollowLaws

@@ -1,6 +1,6 @@
 -- Texts of lists of blocks, as they are read.
 use Rattle.std.proofs.Common.{◌≡◌, ◌≢◌, inl, inr, ℕ, suc, Bool, true, false, List, [], ◌∷◌, ◌++◌, length, refl, sym, ap}
-use Rattle.std.proofs.Common.{◌∙◌, subst, append_assoc, arith}
+use Rattle.std.proofs.Common.{◌∙◌, subst, arith}
 use Rattle.std.specs.Prelude.{Option, Some, None, ◌==◌}
 use Rattle.std.specs.Str.{trim}
 use Rattle.std.proofs.lemmas.List.{append-nil}
@@ -49,15 +49,6 @@ pub record Reading (kind : ResourceKind) (text : List ℕ) (found : List Block) 
 
 module _ (kind : ResourceKind) (text : List ℕ) (found : List Block) (here part : List ℕ) (rest : Option (List ℕ))
     (is : Reading kind text found (Some here)) (parts : parts_at_commas here ≡ part ∷ parts_of_rest rest) where
-  pub one-read : (b : Block) (next : List Block) → IsBlockText kind (trim part) b → next ≡ found ++ b ∷ []
-      → Reading kind text next rest
-  one-read b next h e = record {
-    accepted = λ bs k.
-        let all : AreBlockTexts kind (parts_at_commas here) (b ∷ bs) = rw parts (h, k) in
-        rw (e, append_assoc found (b ∷ []) bs) (is.accepted (b ∷ bs) all);
-    refused = λ x k. is.refused x (rw parts (inr (b, h, inr k)));
-  }
-
   pub none-read : (e : ParseBlocksError) → IsBlockTextError kind (trim part) e
       → AreBlockTextsError kind (parts_at_commas text) e
   none-read e h = is.refused e (rw parts (inl h))

@@ -1,18 +1,15 @@
 -- Blocks as prefixes or as ranges, and that a list begins with one of them at most.
-use Rattle.std.proofs.Common.{◌≡◌, ℕ, List, true, false, sym, ap, ◌∙◌, ◌^◌, arith}
-use Rattle.rpki_der.specs.TagName.{TagName, sequence, bit_string, integer}
-use Rattle.rpki_der.specs.Reading.{Spells}
-use Rattle.rpki_der.specs.Values.{HasTag}
-use Rattle.rpki_der.specs.Integer.{IsUnsignedBelow}
+use Rattle.std.proofs.Common.{◌≡◌, ℕ, List, true, false, sym, ap, ◌∙◌, ◌^◌, arith, Result}
+use Rattle.rpki_der.specs.declared.error.DecodeError.{DecodeError}
+use Rattle.rpki_der.specs.Prelude.{TagName, sequence, bit_string, integer, HasTag, IsUnsignedBelow, Takes}
+use Rattle.rpki_der.proofs.ChoiceLaws.{takes-first, takes-second}
 use Rattle.rpki_der.proofs.LeavesLaws.{leaf-tag}
-use Rattle.rpki_der.proofs.FrontLaws.{one-tag}
 use Rattle.rpki_resources.specs.declared.block.Block.{Block}
 use Rattle.rpki_resources.specs.declared.address.Address.{Address}
-use Rattle.rpki_resources.specs.Composing.{SpellsEnds}
-use Rattle.rpki_resources.specs.Address.{IsAddress, SpellsAddress, prefix_block, IsRange, SpellsPrefix, SpellsRange}
-use Rattle.rpki_resources.specs.AsNumber.{SpellsAsNumber, IsOneNumber, SpellsAsId, IsAsRange, SpellsAsRange}
+use Rattle.rpki_resources.specs.Address.{IsAddress, address, prefix_block, IsRange, prefix, range_ends, range, block}
+use Rattle.rpki_resources.specs.AsNumber.{as_number, IsOneNumber, as_id, IsAsRange, as_ends, as_range, as_block}
 use Rattle.rpki_resources.proofs.BlocksLaws.{same-block}
-use Rattle.rpki_resources.proofs.ComposingLaws.{value-of}
+use Rattle.rpki_resources.proofs.ComposingLaws.{standing-apart}
 
 pub one-range : (w : ℕ) (b d : Block) (x : Address × Address) → IsRange w b x → IsRange w d x → d ≡ b
 one-range w b d x h k = same-block d b (k.low ∙ sym h.low) (k.high ∙ sym h.high)
@@ -29,19 +26,29 @@ not-bits e = let n = ap (λ (t : TagName). t.number) e in omega (arith, n)
 not-integer : sequence ≡ integer → ⊥
 not-integer e = let n = ap (λ (t : TagName). t.number) e in omega (arith, n)
 
-pub range-tag : (w : ℕ) (s : List ℕ) (b : Block) (r : List ℕ) → Spells (SpellsRange w) s b r → HasTag sequence s
-range-tag w s b r h = leaf-tag sequence true (SpellsEnds (SpellsAddress w) (IsRange w)) s b r h
+-- a block of addresses: a range, or a prefix
+module _ (w : ℕ) (s r : List ℕ) (x : Result Block DecodeError) where
+  abbrev IsPrefixBlock : Block → Address → Type 0
+  IsPrefixBlock b a = b ≡ prefix_block w a
 
-pub prefix-tag : (w : ℕ) (s : List ℕ) (b : Block) (r : List ℕ) → Spells (SpellsPrefix w) s b r → HasTag sequence s → ⊥
-prefix-tag w s b r h there =
-    let k = value-of (SpellsAddress w) (λ (b : Block) (x : Address). b ≡ prefix_block w x) s b r h in
-    not-bits (one-tag s sequence bit_string there (leaf-tag bit_string false (IsAddress w) s h.spelled.value r k))
+  pub takes-range : HasTag sequence s → Takes (λ b. b) (range w) s r x → Takes (λ b. b) (block w) s r x
+  takes-range = takes-first (λ b. b) sequence (range w) (prefix w) (leaf-tag sequence true (range_ends w).spells)
+      (standing-apart IsPrefixBlock (address w) sequence bit_string not-bits (leaf-tag bit_string false (IsAddress w)))
+      s r x
 
-pub as-range-tag : (s : List ℕ) (b : Block) (r : List ℕ) → Spells SpellsAsRange s b r → HasTag sequence s
-as-range-tag s b r h = leaf-tag sequence true (SpellsEnds SpellsAsNumber IsAsRange) s b r h
+  pub takes-prefix : (HasTag sequence s → ⊥) → Takes (λ b. b) (prefix w) s r x → Takes (λ b. b) (block w) s r x
+  takes-prefix = takes-second (λ b. b) sequence (range w) (prefix w) (leaf-tag sequence true (range_ends w).spells)
+      (standing-apart IsPrefixBlock (address w) sequence bit_string not-bits (leaf-tag bit_string false (IsAddress w)))
+      s r x
 
-pub as-id-tag : (s : List ℕ) (b : Block) (r : List ℕ) → Spells SpellsAsId s b r → HasTag sequence s → ⊥
-as-id-tag s b r h there =
-    let k = value-of SpellsAsNumber IsOneNumber s b r h in
-    not-integer (one-tag s sequence integer there
-    (leaf-tag integer false (IsUnsignedBelow (2 ^ 32)) s h.spelled.value r k))
+-- a block of AS numbers: a range, or one
+module _ (s r : List ℕ) (x : Result Block DecodeError) where
+  pub takes-as-range : HasTag sequence s → Takes (λ b. b) as_range s r x → Takes (λ b. b) as_block s r x
+  takes-as-range = takes-first (λ b. b) sequence as_range as_id (leaf-tag sequence true as_ends.spells)
+      (standing-apart IsOneNumber as_number sequence integer not-integer
+      (leaf-tag integer false (IsUnsignedBelow (2 ^ 32)))) s r x
+
+  pub takes-as-id : (HasTag sequence s → ⊥) → Takes (λ b. b) as_id s r x → Takes (λ b. b) as_block s r x
+  takes-as-id = takes-second (λ b. b) sequence as_range as_id (leaf-tag sequence true as_ends.spells)
+      (standing-apart IsOneNumber as_number sequence integer not-integer
+      (leaf-tag integer false (IsUnsignedBelow (2 ^ 32)))) s r x

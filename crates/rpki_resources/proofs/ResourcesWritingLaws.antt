@@ -23,7 +23,7 @@ use Rattle.rpki_resources.specs.declared.resources.IpResources.{IpResources}
 use Rattle.rpki_resources.specs.declared.resources.AsResources.{AsResources}
 use Rattle.rpki_resources.specs.Address.{family_octets}
 use Rattle.rpki_resources.specs.InPlace.{octets_of, Holds, IsListed}
-use Rattle.rpki_resources.specs.Extension.{SpellsChoice, as_numbers, SpellsAsNumbers, IsFamily, AreNamed, SpellsNamed}
+use Rattle.rpki_resources.specs.Extension.{SpellsChoice, as_numbers, asnum, IsFamily, family_parts, SpellsNamed}
 use Rattle.rpki_resources.specs.Extension.{families, AreFamilies}
 use Rattle.rpki_resources.specs.Extension.AreFamilies.{OnlyV4, OnlyV6, BothFamilies}
 use Rattle.rpki_resources.specs.Kept.{IsChoiceOf, SpellsIp, SpellsAs}
@@ -101,7 +101,7 @@ name-back : (family : AddressFamily) (v : ChoiceView) (octets : List ℕ) → Sp
     → SpellsNamed (family, v) (tlv sequence true (tlv octet_string false (family_octets family) ++ octets))
 name-back family v octets h short =
     let name = tlv octet_string false (family_octets family) in
-    leaf-legal sequence true AreNamed (family, v) (name ++ octets) sequence_legal short (record {
+    leaf-legal sequence true family_parts.spells (family, v) (name ++ octets) sequence_legal short (record {
       first = name;
       second = octets;
       parts = refl;
@@ -201,12 +201,12 @@ pub as-back : (x : AsResources) → CanWriteAs x → IsShortAs x → SpellsAs x 
 as-back x can short =
     let v = view_of AsNumbers x.numbers in
     let c = choice_octets AsNumbers x.numbers in
-    let inside : SpellsAsNumbers v (tlv as_numbers true c) =
+    let inside : asnum.spells v (tlv as_numbers true c) =
     leaf-legal as_numbers true (SpellsChoice AsNumbers) v c as_numbers_legal
     (omega (arith, short, tlv-at-least as_numbers true c))
     (choice-back AsNumbers x.numbers can.some can.numbers (numbers-short x.numbers short)) in
     record {
       value = v;
-      spelled = leaf-legal sequence true SpellsAsNumbers v (tlv as_numbers true c) sequence_legal short inside;
+      spelled = leaf-legal sequence true asnum.spells v (tlv as_numbers true c) sequence_legal short inside;
       stands = choice-of AsNumbers x.numbers can.numbers;
     }

@@ -32,11 +32,11 @@ use Rattle.rpki_resources.specs.declared.unread.Unread.{Unread}
 use Rattle.rpki_resources.specs.declared.unread.Unread.TheVariants.{Missing as NothingFound, Inherit as InheritFound}
 use Rattle.rpki_resources.specs.declared.unread.Unread.TheVariants.{Listed}
 use Rattle.rpki_resources.specs.declared.unread.UnreadIp.{UnreadIp}
-use Rattle.rpki_resources.specs.Composing.{SpellsFor}
+use Rattle.rpki_der.specs.Format.{SpellsFor}
 use Rattle.rpki_resources.specs.Listed.{AreBlocks}
 use Rattle.rpki_resources.specs.InPlace.{Octets, octets_of, Holds, IsListed}
-use Rattle.rpki_resources.specs.Extension.{SpellsInherit, SpellsListed, SpellsChoice, IsFamily, SpellsFamily}
-use Rattle.rpki_resources.specs.Extension.{IsFamilyFault, AreNamed, SpellsNamed, families, AreFamilies}
+use Rattle.rpki_resources.specs.Extension.{inherit, listed_blocks, SpellsChoice, IsFamily, family_name}
+use Rattle.rpki_resources.specs.Extension.{family_parts, SpellsNamed, families, AreFamilies}
 use Rattle.rpki_resources.specs.Extension.AreFamilies.{OnlyV4, OnlyV6, BothFamilies}
 use Rattle.rpki_resources.specs.Blocks.{IsSubset, AreCanonical}
 use Rattle.rpki_resources.specs.Kept.{IsChoiceOf, AreIpResourcesOf, SpellsIp, SpellsAs}
@@ -79,9 +79,6 @@ module _ (t : TagName) (s : List ℕ) where
       λ k. record { value = k.value; spelled = leaf-in C c h k.value k.spelled; stands = k.stands },
     )
 
-    pub for-none : SpellsNothing (SpellsContents t true) s → SpellsNothing (SpellsFor (SpellsLeaf t true C) R) s
-    for-none none v k = leaf-none C none k.value k.spelled
-
 -- ---- a choice
 
 kept-inherit : (kind : ResourceKind) (v : ResourcesChoice) → IsChoiceOf v Inherit → IsUnread kind InheritFound v
@@ -106,10 +103,10 @@ missing-kept kind (BlocksKept bs) h = absurd h
 
 module _ (kind : ResourceKind) (s : List ℕ) where
   null-only : HasTag null s → (v : ResourcesChoice) → SpellsKept kind v s
-      → IsChoiceOf v Inherit × SpellsInherit Inherit s
+      → IsChoiceOf v Inherit × inherit.spells Inherit s
   null-only tag v k = elim k.spelled [
     | inl g ↦ (subst (IsChoiceOf v) g.stands k.stands, record { value = g.value; spelled = g.spelled; stands = refl })
-    | inr g ↦ absurd (listed-tag kind s k.value [] (spelled-whole (SpellsListed kind) s k.value g) tag)
+    | inr g ↦ absurd (listed-tag kind s k.value [] (spelled-whole (listed_blocks kind).spells s k.value g) tag)
   ]
 
   pub is-inherit : HasTag null s → (r : List ℕ) → Accepts (SpellsLeaf null false IsNull) s tt r → r ≡ []
@@ -139,7 +136,7 @@ module _ (kind : ResourceKind) (s : List ℕ) where
   list-only : (HasTag null s → ⊥) → (v : ResourcesChoice) → SpellsKept kind v s
       → (o : Octets) × SpellsLeaf sequence true (IsListed kind) o s × IsChoiceOf v (Blocks o)
   list-only untagged v k = elim k.spelled [
-    | inl g ↦ absurd (untagged (inherit-tag s k.value [] (spelled-whole SpellsInherit s k.value g)))
+    | inl g ↦ absurd (untagged (inherit-tag s k.value [] (spelled-whole inherit.spells s k.value g)))
     | inr g ↦ (g.value, g.spelled, subst (IsChoiceOf v) g.stands k.stands)
   ]
 
@@ -199,12 +196,12 @@ listed-there kind u c e b is = (
 -- ---- a family
 
 module _ (s : List ℕ) where
-  pub no-name : (r : List ℕ) (e : DecodeError) → Refusal SpellsFamily IsFamilyFault s r e → (f : AddressFamily)
-      → SpellsNothing (AreNamedKept f) s
+  pub no-name : (r : List ℕ) (e : DecodeError) → Refusal family_name.spells family_name.fault s r e
+      → (f : AddressFamily) → SpellsNothing (AreNamedKept f) s
   no-name r e h f v k = unless-memory e (leaf-no-memory octet_string false IsFamily s e h.kind) h.refuses f k.1.second
       (first-of k.1)
 
-  module _ (f : AddressFamily) (m : List ℕ) (one : Accepts SpellsFamily s f m) where
+  module _ (f : AddressFamily) (m : List ℕ) (one : Accepts family_name.spells s f m) where
     named-out : (g : AddressFamily) (v : ResourcesChoice) → AreNamedKept g v s → (f ≡ g) × SpellsKept (Addresses f) v m
     named-out g v k =
         let is = one.only g k.1.second (first-of k.1) in
@@ -254,13 +251,9 @@ v4-v6 e = cc
 -- ---- the second family
 
 module _ (s : List ℕ) where
-  pub no-second-value : SpellsNothing (SpellsContents sequence true) s → (f : AddressFamily)
-      → SpellsNothing (SpellsNamedKept f) s
-  no-second-value none f v k = leaf-none sequence s AreNamed none (f, k.0) k.1
-
   module _ (c : List ℕ) (h : IsAround sequence s c) where
     second-out : (f : AddressFamily) (v : ResourcesChoice) → SpellsNamedKept f v s → AreNamedKept f v c
-    second-out f v k = (k.0, leaf-out sequence s AreNamed c h (f, k.0) k.1, k.2)
+    second-out f v k = (k.0, leaf-out sequence s family_parts.spells c h (f, k.0) k.1, k.2)
 
     pub no-second-named : ((f : AddressFamily) → SpellsNothing (AreNamedKept f) c) → (f : AddressFamily)
         → SpellsNothing (SpellsNamedKept f) s
@@ -272,7 +265,7 @@ module _ (s : List ℕ) where
         λ k. subst (λ (g : AddressFamily). IsUnread (Addresses g) u v) six ((is Ipv6 v).0 (second-out Ipv6 v k)).1,
         λ l.
             let n = (is Ipv6 v).1 (six, subst (λ (g : AddressFamily). IsUnread (Addresses g) u v) (sym six) l) in
-            (n.0, leaf-in sequence s AreNamed c h (Ipv6, n.0) n.1, n.2),
+            (n.0, leaf-in sequence s family_parts.spells c h (Ipv6, n.0) n.1, n.2),
       )
 
       pub second-v4 : f ≡ Ipv4 → SpellsNothing (SpellsNamedKept Ipv6) s
@@ -284,27 +277,28 @@ module _ (s n m : List ℕ) where
   pub no-first-value : Refuses (SpellsContents sequence true) s → SpellsNothing AreFamiliesKept s
   no-first-value none v k = step k.value k.spelled where
     step : (x : IpResourcesView) → AreFamilies x s → ⊥
-    step x (OnlyV4 w is l) = leaf-none sequence s AreNamed (nothing-whole (SpellsContents sequence true) s none)
-        (Ipv4, w) l
-    step x (OnlyV6 w is l) = leaf-none sequence s AreNamed (nothing-whole (SpellsContents sequence true) s none)
-        (Ipv6, w) l
+    step x (OnlyV4 w is l) = leaf-none sequence s family_parts.spells
+        (nothing-whole (SpellsContents sequence true) s none) (Ipv4, w) l
+    step x (OnlyV6 w is l) = leaf-none sequence s family_parts.spells
+        (nothing-whole (SpellsContents sequence true) s none) (Ipv6, w) l
     step x (BothFamilies w y is l) = none l.one.contents l.second
         (record { front = l.first; parts = l.parts; spelled = l.one.value })
 
   module _ (a : Accepts (SpellsContents sequence true) s n m) where
     -- what stands in front, and what follows it
-    in-front : (x : AddressFamily × ChoiceView) (q : List ℕ) → Spells SpellsNamed s x q → (q ≡ m) × AreNamed x n
+    in-front : (x : AddressFamily × ChoiceView) (q : List ℕ) → Spells SpellsNamed s x q
+        → (q ≡ m) × family_parts.spells x n
     in-front x q h =
         let is = a.only h.spelled.contents q (record { front = h.front; parts = h.parts; spelled = h.spelled.value }) in
-        (is.1, subst (AreNamed x) is.0 h.spelled.spelled)
+        (is.1, subst (family_parts.spells x) is.0 h.spelled.spelled)
 
-    to-front : (x : AddressFamily × ChoiceView) → AreNamed x n → SpellsNamed x a.spells.front
+    to-front : (x : AddressFamily × ChoiceView) → family_parts.spells x n → SpellsNamed x a.spells.front
     to-front x h = record { contents = n; value = a.spells.spelled; spelled = h }
 
-    to-whole : m ≡ [] → (x : AddressFamily × ChoiceView) → AreNamed x n → SpellsNamed x s
-    to-whole end x h = leaf-in sequence s AreNamed n (around sequence s n m a end) x h
+    to-whole : m ≡ [] → (x : AddressFamily × ChoiceView) → family_parts.spells x n → SpellsNamed x s
+    to-whole end x h = leaf-in sequence s family_parts.spells n (around sequence s n m a end) x h
 
-    whole : (x : AddressFamily × ChoiceView) → SpellsNamed x s → ([] ≡ m) × AreNamed x n
+    whole : (x : AddressFamily × ChoiceView) → SpellsNamed x s → ([] ≡ m) × family_parts.spells x n
     whole x h = in-front x [] (spelled-whole SpellsNamed s x h)
 
     -- the resources are those of IP version 4 alone, of IP version 6 alone, or of both
@@ -413,7 +407,7 @@ module _ (s n m : List ℕ) where
         λ k. from-alone4 v (end, found-in Ipv4 v.v4 four k.0, missing-kept (Addresses Ipv6) v.v6 k.1),
       ) where
         empty-second : (w : ResourcesChoice) → SpellsNamedKept Ipv6 w [] → ⊥
-        empty-second w k = leaf-some sequence true AreNamed (Ipv6, k.0) k.1
+        empty-second w k = leaf-some sequence true family_parts.spells (Ipv6, k.0) k.1
 
       pub both-families : f ≡ Ipv4 → m ≢ [] → (y : Unread)
           → ((v : ResourcesChoice) → SpellsNamedKept Ipv6 v m ↔ IsUnread (Addresses Ipv6) y v) → (v : IpResources)

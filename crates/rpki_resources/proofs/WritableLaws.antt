@@ -18,9 +18,9 @@ use Rattle.rpki_resources.specs.declared.choice_view.ChoiceView.TheVariants.{Blo
 use Rattle.rpki_resources.specs.declared.ip_view.IpResourcesView.{IpResourcesView}
 use Rattle.rpki_resources.specs.declared.resources.IpResources.{IpResources}
 use Rattle.rpki_resources.specs.declared.resources.AsResources.{AsResources}
-use Rattle.rpki_resources.specs.Address.{width, SpellsAddress, SpellsBlock, high_end}
-use Rattle.rpki_resources.specs.AsNumber.{SpellsAsBlock}
-use Rattle.rpki_resources.specs.Listed.{SpellsBlockOf}
+use Rattle.rpki_resources.specs.Address.{width, address, block, high_end}
+use Rattle.rpki_resources.specs.AsNumber.{as_block}
+use Rattle.rpki_resources.specs.Listed.{block_of}
 use Rattle.rpki_resources.specs.Extension.{SpellsChoice, AreFamilies}
 use Rattle.rpki_resources.specs.Extension.AreFamilies.{OnlyV4, OnlyV6, BothFamilies}
 use Rattle.rpki_resources.specs.Kept.{IsChoiceOf, SpellsIp, SpellsAs}
@@ -29,7 +29,7 @@ use Rattle.rpki_resources.specs.EncodedResources.{IsOfKind, CanWriteIp, CanWrite
 use Rattle.rpki_resources.proofs.FollowLaws.{block-ascends}
 
 -- the highest address that begins with bits is one of the width
-highest-below : (w : ℕ) (x : Address) (p : List ℕ) → SpellsAddress w x p → high_end w x < 2 ^ w
+highest-below : (w : ℕ) (x : Address) (p : List ℕ) → (address w).spells x p → high_end w x < 2 ^ w
 highest-below w x p h =
     let few = h.spelled.few in
     let rest = w - x.size in
@@ -40,28 +40,28 @@ highest-below w x p h =
     let some : 0 < 2 ^ w = pow_pos w in
     omega (arith, most, all, some)
 
-below-width : (w : ℕ) (b : Block) (p : List ℕ) → SpellsBlock w b p → b.high < 2 ^ w
+below-width : (w : ℕ) (b : Block) (p : List ℕ) → (block w).spells b p → b.high < 2 ^ w
 below-width w b p (inl h) =
     let ends = h.spelled in
-    let below = highest-below w ends.ends.1 ends.spelled.second ends.spelled.two in
-    omega (arith, below, ends.are.high)
+    let below = highest-below w ends.value.1 ends.spelled.second ends.spelled.two in
+    omega (arith, below, ends.stands.high)
 below-width w b p (inr h) =
     let below = highest-below w h.value p h.spelled in
     let is : b.high ≡ high_end w h.value = ap (λ (d : Block). d.high) h.stands in
     omega (arith, below, is)
 
-below-32 : (b : Block) (p : List ℕ) → SpellsAsBlock b p → b.high < 2 ^ 32
+below-32 : (b : Block) (p : List ℕ) → as_block.spells b p → b.high < 2 ^ 32
 below-32 b p (inl h) =
     let ends = h.spelled in
-    omega (arith, ends.spelled.two.spelled.below, ends.are.high)
+    omega (arith, ends.spelled.two.spelled.below, ends.stands.high)
 below-32 b p (inr h) = omega (arith, h.spelled.spelled.below, h.stands.1)
 
-fits : (kind : ResourceKind) (b : Block) (p : List ℕ) → SpellsBlockOf kind b p → IsBlockOf kind b
+fits : (kind : ResourceKind) (b : Block) (p : List ℕ) → (block_of kind).spells b p → IsBlockOf kind b
 fits (Addresses family) b p h = (block-ascends (Addresses family) b p h, below-width (width family) b p h)
 fits AsNumbers b p h = (block-ascends AsNumbers b p h, below-32 b p h)
 
 -- blocks that contents spell have numbers of their kind
-pub all-fit : (kind : ResourceKind) (bs : List Block) (c : List ℕ) → SpellsEach (SpellsBlockOf kind) bs c
+pub all-fit : (kind : ResourceKind) (bs : List Block) (c : List ℕ) → SpellsEach (block_of kind).spells bs c
     → AreBlocksOf kind bs
 all-fit kind [] c h = tt
 all-fit kind (b ∷ bs) c h = (fits kind b h.1.front h.1.spelled, all-fit kind bs h.0 h.2)

@@ -1,12 +1,7 @@
 -- Addresses as bit strings, and the blocks that they stand for (RFC 3779 2.1.1, 2.1.2, 2.2.3.7 to 2.2.3.9).
-use Rattle.std.specs.Prelude.{◌≡◌, ◌≤◌, ◌<◌, ◌⊎◌, ◌+◌, ◌*◌, ◌-◌, ◌^◌, ◌%◌, ℕ, suc, false, true, List, [], ◌∷◌, length}
-use Rattle.rpki_der.specs.Number.{number_of}
-use Rattle.rpki_der.specs.TagName.{bit_string, sequence}
-use Rattle.rpki_der.specs.Values.{SpellsLeaf, IsLeafFault}
-use Rattle.rpki_der.specs.Leaves.{Bits, IsBits}
-use Rattle.rpki_der.specs.declared.error.DecodeError.{DecodeError}
-use Rattle.rpki_der.specs.FirstFault.{IsInsideFault}
-use Rattle.rpki_resources.specs.Composing.{SpellsFor, SpellsEnds, SpellsEither, IsEndsFault, IsEitherFault}
+use Rattle.std.specs.Prelude.{◌≡◌, ◌≤◌, ◌<◌, ◌⊎◌, ◌+◌, ◌*◌, ◌-◌, ◌^◌, ◌%◌, ℕ, suc, List, [], ◌∷◌, length}
+use Rattle.rpki_der.specs.Prelude.{number_of, bit_string, sequence, Bits, IsBits, Format, leaf, around, either}
+use Rattle.rpki_resources.specs.Composing.{standing_for, ends}
 use Rattle.rpki_resources.specs.declared.family.AddressFamily.{AddressFamily}
 use Rattle.rpki_resources.specs.declared.family.AddressFamily.TheVariants.{Ipv4, Ipv6}
 use Rattle.rpki_resources.specs.declared.address.Address.{Address}
@@ -35,8 +30,8 @@ pub record IsAddress (w : ℕ) (x : Address) (c : List ℕ) : Type 0 where
   pub has : HasBits x bits
   pub few : x.size ≤ w
 
-abbrev pub SpellsAddress : ℕ → Address → List ℕ → Type 0
-SpellsAddress w = SpellsLeaf bit_string false (IsAddress w)
+abbrev pub address : ℕ → Format Address
+address w = leaf bit_string (IsAddress w)
 
 -- the lowest and the highest address of w bits that begins with these: the bits that are missing are 0, or 1
 abbrev pub low_end : ℕ → Address → ℕ
@@ -54,8 +49,8 @@ IsPrefix low high = (q k : ℕ) × (low ≡ q * 2 ^ k) × (suc high ≡ suc q * 
 abbrev pub prefix_block : ℕ → Address → Block
 prefix_block w x = record { low = low_end w x; high = high_end w x }
 
-abbrev pub SpellsPrefix : ℕ → Block → List ℕ → Type 0
-SpellsPrefix w = SpellsFor (SpellsAddress w) (λ b x. b ≡ prefix_block w x)
+abbrev pub prefix : ℕ → Format Block
+prefix w = standing_for (λ b x. b ≡ prefix_block w x) (address w)
 
 -- ---- a block as a range
 
@@ -80,28 +75,12 @@ pub record IsRange (w : ℕ) (b : Block) (x : Address × Address) : Type 0 where
   pub some : b.low ≤ b.high
   pub no_prefix : IsPrefix b.low b.high → ⊥
 
-abbrev pub SpellsRangeEnds : ℕ → Block → List ℕ → Type 0
-SpellsRangeEnds w = SpellsEnds (SpellsAddress w) (IsRange w)
+abbrev pub range_ends : ℕ → Format Block
+range_ends w = ends (IsRange w) (address w)
 
-abbrev pub SpellsRange : ℕ → Block → List ℕ → Type 0
-SpellsRange w = SpellsLeaf sequence true (SpellsRangeEnds w)
+abbrev pub range : ℕ → Format Block
+range w = around sequence (range_ends w)
 
--- ---- a block
-
-abbrev pub SpellsBlock : ℕ → Block → List ℕ → Type 0
-SpellsBlock w = SpellsEither (SpellsRange w) (SpellsPrefix w)
-
--- ---- the errors
-
-abbrev pub IsAddressFault : ℕ → List ℕ → DecodeError → Type 0
-IsAddressFault w = IsLeafFault bit_string false (IsAddress w)
-
-abbrev pub IsRangeContentsFault : ℕ → List ℕ → DecodeError → Type 0
-IsRangeContentsFault w = IsEndsFault (SpellsAddress w) (IsAddressFault w) (IsRange w)
-
-abbrev pub IsRangeFault : ℕ → List ℕ → DecodeError → Type 0
-IsRangeFault w = IsInsideFault sequence true (IsRangeContentsFault w)
-
--- where a SEQUENCE is there, that of a range; else that of an address
-abbrev pub IsBlockFault : ℕ → List ℕ → DecodeError → Type 0
-IsBlockFault w = IsEitherFault sequence (IsRangeFault w) (IsAddressFault w)
+-- a block: a range where a SEQUENCE is there, and else a prefix
+abbrev pub block : ℕ → Format Block
+block w = either sequence (range w) (prefix w)

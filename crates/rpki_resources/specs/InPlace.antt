@@ -1,7 +1,7 @@
 -- Blocks in place: octets that are blocks, and what a cursor over them has yet to give.
 use Rattle.std.specs.Prelude.{◌≡◌, ℕ, List, [], ◌∷◌, Option, Some, None, Result, Ok, Err, length}
 use Rattle.rpki_der.specs.declared.error.DecodeError.{DecodeError}
-use Rattle.rpki_der.specs.Reading.{SpellsNothing}
+use Rattle.rpki_der.specs.Prelude.{SpellsNothing, Format}
 use Rattle.rpki_resources.specs.declared.block.Block.{Block}
 use Rattle.rpki_resources.specs.declared.kind.ResourceKind.{ResourceKind}
 use Rattle.rpki_resources.specs.Listed.{AreBlocks, AreBlocksFault, SpellsFollowing}
@@ -30,11 +30,15 @@ pub record IsListed (kind : ResourceKind) (x : Octets) (c : List ℕ) : Type 0 w
   pub octets : x.octets ≡ c
   pub held : (bs : List Block) × Holds x bs
 
+-- blocks of the kind in canonical form, one at least, which are all of the contents
+abbrev pub blocks : ResourceKind → Format Octets
+blocks kind = record { spells = IsListed kind; fault = AreBlocksFault kind None }
+
 -- how many blocks of the kind s is, and that it is these alone; or the error
 abbrev pub Counts : ResourceKind → List ℕ → Result ℕ DecodeError → Type 0
 Counts kind s (Ok n) = (bs : List Block) × AreBlocks kind bs s × (length bs ≡ n)
     × ((ds : List Block) → AreBlocks kind ds s → ds ≡ bs)
-Counts kind s (Err e) = SpellsNothing (AreBlocks kind) s × AreBlocksFault kind None s e
+Counts kind s (Err e) = SpellsNothing (AreBlocks kind) s × (blocks kind).fault s e
 
 -- ---- a cursor over blocks
 

@@ -1,7 +1,6 @@
 -- Resources that are kept, beside those that were read in place.
 use Rattle.std.specs.Prelude.{◌≡◌, ℕ, List}
-use Rattle.rpki_der.specs.declared.error.DecodeError.{DecodeError}
-use Rattle.rpki_der.specs.Reading.{Finds, OrMemoryWhere}
+use Rattle.rpki_der.specs.Prelude.{Format, kept}
 use Rattle.rpki_resources.specs.declared.choice.ResourcesChoice.{ResourcesChoice}
 use Rattle.rpki_resources.specs.declared.choice.ResourcesChoice.TheVariants.{Missing as NoneKept}
 use Rattle.rpki_resources.specs.declared.choice.ResourcesChoice.TheVariants.{Inherit as InheritKept}
@@ -11,9 +10,9 @@ use Rattle.rpki_resources.specs.declared.choice_view.ChoiceView.TheVariants.{Mis
 use Rattle.rpki_resources.specs.declared.resources.IpResources.{IpResources}
 use Rattle.rpki_resources.specs.declared.resources.AsResources.{AsResources}
 use Rattle.rpki_resources.specs.declared.ip_view.IpResourcesView.{IpResourcesView}
-use Rattle.rpki_resources.specs.Composing.{SpellsFor}
+use Rattle.rpki_resources.specs.Composing.{standing_for}
 use Rattle.rpki_resources.specs.InPlace.{Holds}
-use Rattle.rpki_resources.specs.Extension.{SpellsIpResources, IsIpResourcesFault, SpellsAsResources, IsAsResourcesFault}
+use Rattle.rpki_resources.specs.Extension.{ip_resources, as_resources}
 
 -- the choice that is kept says what the other says, and lists the blocks that it holds
 abbrev pub IsChoiceOf : ResourcesChoice → ChoiceView → Type 0
@@ -37,17 +36,16 @@ AreIpResourcesOf v x = IsChoiceOf v.v4 x.v4 × IsChoiceOf v.v6 x.v6
 abbrev pub AreAsResourcesOf : AsResources → ChoiceView → Type 0
 AreAsResourcesOf v x = IsChoiceOf v.numbers x
 
--- the contents of the extension of IP address blocks
-abbrev pub SpellsIp : IpResources → List ℕ → Type 0
-SpellsIp = SpellsFor SpellsIpResources AreIpResourcesOf
+-- the contents of the extension of IP address blocks; allocation fails only where resources are there
+abbrev pub kept_ip : Format IpResources
+kept_ip = standing_for AreIpResourcesOf (kept ip_resources)
 
--- the error; allocation fails only where resources are there
-abbrev pub IsIpFault : List ℕ → DecodeError → Type 0
-IsIpFault = OrMemoryWhere (Finds SpellsIpResources) IsIpResourcesFault
+abbrev pub SpellsIp : IpResources → List ℕ → Type 0
+SpellsIp = kept_ip.spells
 
 -- the contents of the extension of AS identifiers
-abbrev pub SpellsAs : AsResources → List ℕ → Type 0
-SpellsAs = SpellsFor SpellsAsResources AreAsResourcesOf
+abbrev pub kept_as : Format AsResources
+kept_as = standing_for AreAsResourcesOf (kept as_resources)
 
-abbrev pub IsAsFault : List ℕ → DecodeError → Type 0
-IsAsFault = OrMemoryWhere (Finds SpellsAsResources) IsAsResourcesFault
+abbrev pub SpellsAs : AsResources → List ℕ → Type 0
+SpellsAs = kept_as.spells

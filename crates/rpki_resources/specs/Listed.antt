@@ -1,28 +1,22 @@
 -- Lists of blocks in canonical form, as contents of a SEQUENCE (RFC 3779 2.2.3.5, 2.2.3.6, 3.2.3.3, 3.2.3.4).
 use Rattle.std.specs.Prelude.{◌≡◌, ◌≢◌, ◌<◌, ℕ, suc, List, [], ◌∷◌, Option, Some, None}
 use Rattle.rpki_der.specs.declared.error.DecodeError.{DecodeError}
-use Rattle.rpki_der.specs.Reading.{Spells, Accepts, Refuses}
-use Rattle.rpki_der.specs.Each.{SpellsEach}
+use Rattle.rpki_der.specs.Prelude.{Spells, Accepts, Refuses, SpellsEach, IsContentError, Format}
 use Rattle.rpki_resources.specs.declared.block.Block.{Block}
 use Rattle.rpki_resources.specs.declared.kind.ResourceKind.{ResourceKind}
 use Rattle.rpki_resources.specs.declared.kind.ResourceKind.TheVariants.{Addresses, AsNumbers}
 use Rattle.rpki_resources.specs.Blocks.{AreCanonical}
-use Rattle.rpki_resources.specs.Composing.{IsContentError}
-use Rattle.rpki_resources.specs.Address.{width, SpellsBlock, IsBlockFault}
-use Rattle.rpki_resources.specs.AsNumber.{SpellsAsBlock, IsAsBlockFault}
+use Rattle.rpki_resources.specs.Address.{width, block}
+use Rattle.rpki_resources.specs.AsNumber.{as_block}
 
 -- a block of a kind
-abbrev pub SpellsBlockOf : ResourceKind → Block → List ℕ → Type 0
-SpellsBlockOf (Addresses family) = SpellsBlock (width family)
-SpellsBlockOf AsNumbers = SpellsAsBlock
-
-abbrev pub IsBlockFaultOf : ResourceKind → List ℕ → DecodeError → Type 0
-IsBlockFaultOf (Addresses family) = IsBlockFault (width family)
-IsBlockFaultOf AsNumbers = IsAsBlockFault
+abbrev pub block_of : ResourceKind → Format Block
+block_of (Addresses family) = block (width family)
+block_of AsNumbers = as_block
 
 -- Contents of the SEQUENCE: blocks in canonical form, one at least.
 pub record AreBlocks (kind : ResourceKind) (bs : List Block) (c : List ℕ) : Type 0 where
-  pub each : SpellsEach (SpellsBlockOf kind) bs c
+  pub each : SpellsEach (block_of kind).spells bs c
   pub canonical : AreCanonical bs
   pub some : bs ≢ []
 
@@ -35,7 +29,7 @@ Follows (Some high) b = suc high < b.low
 
 -- a block that may stand behind that number
 pub record SpellsNext (kind : ResourceKind) (last : Option ℕ) (b : Block) (p : List ℕ) : Type 0 where
-  pub block : SpellsBlockOf kind b p
+  pub block : (block_of kind).spells b p
   pub follows : Follows last b
 
 -- blocks, each of which may stand behind the one before it
@@ -46,9 +40,12 @@ SpellsFollowing kind last (b ∷ bs) c =
 
 -- no block is there, and the error is that of a block; or one is there, and may not stand behind that number
 pub data IsNextFault (kind : ResourceKind) (last : Option ℕ) (s : List ℕ) (e : DecodeError) : Type 0 where
-  InBlock : Refuses (SpellsBlockOf kind) s → IsBlockFaultOf kind s e → IsNextFault kind last s e
-  OutOfOrder : (b : Block) (r : List ℕ) → Accepts (SpellsBlockOf kind) s b r → (Follows last b → ⊥) → IsContentError e
-      → IsNextFault kind last s e
+  InBlock : Refuses (block_of kind).spells s → (block_of kind).fault s e → IsNextFault kind last s e
+  OutOfOrder : (b : Block) (r : List ℕ) → Accepts (block_of kind).spells s b r → (Follows last b → ⊥)
+      → IsContentError e → IsNextFault kind last s e
+
+abbrev pub next_block : ResourceKind → Option ℕ → Format Block
+next_block kind last = record { spells = SpellsNext kind last; fault = IsNextFault kind last }
 
 -- The error of blocks that are to fill s: that of the first that isn't there, or isn't in canonical form; or there is
 -- none at all.

@@ -2,7 +2,7 @@
 use Rattle.std.specs.Prelude.{◌≡◌, ◌↔◌, ℕ, Bool, true, List}
 use Rattle.rpki_der.specs.Cursor.{left}
 use Rattle.rpki_der.specs.TagName.{TagName}
-use Rattle.rpki_der.specs.Values.{SpellsContents}
+use Rattle.rpki_der.specs.Prelude.{SpellsContents, SpellsFor}
 use Rattle.rpki_resources.specs.declared.kind.ResourceKind.{ResourceKind}
 use Rattle.rpki_resources.specs.declared.kind.ResourceKind.TheVariants.{Addresses}
 use Rattle.rpki_resources.specs.declared.family.AddressFamily.{AddressFamily}
@@ -15,9 +15,8 @@ use Rattle.rpki_resources.specs.declared.unread.Unread.{Unread}
 use Rattle.rpki_resources.specs.declared.unread.Unread.TheVariants.{Missing as NothingFound, Inherit as InheritFound}
 use Rattle.rpki_resources.specs.declared.unread.Unread.TheVariants.{Listed}
 use Rattle.rpki_resources.specs.declared.unread.UnreadIp.{UnreadIp}
-use Rattle.rpki_resources.specs.Composing.{SpellsFor}
 use Rattle.rpki_resources.specs.Listed.{AreBlocks}
-use Rattle.rpki_resources.specs.Extension.{SpellsChoice, AreNamed, SpellsNamed, AreFamilies}
+use Rattle.rpki_resources.specs.Extension.{SpellsChoice, family_parts, SpellsNamed, AreFamilies}
 use Rattle.rpki_resources.specs.Kept.{IsChoiceOf, AreIpResourcesOf}
 use Rattle.rpki_resources.specs.Compared.{IsUntold, SaysWithin}
 
@@ -46,7 +45,7 @@ SpellsKept kind = SpellsFor (SpellsChoice kind) IsChoiceOf
 
 -- all of c is the name of a family and these resources
 abbrev pub AreNamedKept : AddressFamily → ResourcesChoice → List ℕ → Type 0
-AreNamedKept f v c = (x : ChoiceView) × AreNamed (f, x) c × IsChoiceOf v x
+AreNamedKept f v c = (x : ChoiceView) × family_parts.spells (f, x) c × IsChoiceOf v x
 
 -- all of s is a name and a choice: this family, and the resources that were found
 abbrev pub IsNamedUnread : List ℕ → AddressFamily × Unread → Type 0

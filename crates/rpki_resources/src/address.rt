@@ -1,12 +1,8 @@
 //! Addresses as bit strings (RFC 3779 2.1.1, 2.2.3.8).
 
 ghost use Rattle.std.specs.Prelude.{◌≡◌, ◌≤◌, ◌<◌, ◌^◌, length, IfSome, IfNone};
-ghost use Rattle.rpki_der.specs.Leaves.{AreBits, bits_of};
-ghost use Rattle.rpki_der.specs.Cursor.{left};
-ghost use Rattle.rpki_der.specs.Number.{number_of};
-ghost use Rattle.rpki_der.specs.Values.{ReadsLeaf};
-ghost use Rattle.rpki_der.specs.TagName.{bit_string};
-ghost use Rattle.rpki_resources.specs.Address.{width, HasBits, IsAddress, low_end, high_end, prefix_block};
+ghost use Rattle.rpki_der.specs.Prelude.{AreBits, bits_of, left, number_of, Takes};
+ghost use Rattle.rpki_resources.specs.Address.{width, HasBits, IsAddress, address, low_end, high_end, prefix_block};
 
 use crate::block::Block;
 use crate::family::AddressFamily;
@@ -87,7 +83,7 @@ impl Address {
         cons: &mut Constructed<'_>,
         family: AddressFamily,
     ) -> Result<Address, DecodeError>
-        ensures { ReadsLeaf (λ x. x) bit_string (IsAddress (width family)) (left cons.old) (left cons.new) result }
+        ensures { Takes (λ x. x) (address (width family)) (left cons.old) (left cons.new) result }
     {
         let mut after = *cons;
         let contents = after.take_primitive_if(Tag::BIT_STRING)?;

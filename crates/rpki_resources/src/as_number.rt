@@ -1,13 +1,9 @@
 //! AS numbers, and blocks of them (RFC 3779 3.2.3.5 to 3.2.3.9).
 
 ghost use Rattle.std.specs.Prelude.{◌<◌, IfSome, IfNone};
-ghost use Rattle.rpki_der.specs.Cursor.{left};
-ghost use Rattle.rpki_der.specs.Reading.{Reads};
-ghost use Rattle.rpki_der.specs.FirstFault.{ReadsParts};
+ghost use Rattle.rpki_der.specs.Prelude.{left, Takes, TakesAll};
 ghost use Rattle.rpki_resources.specs.declared.block.Block.{Block};
-ghost use Rattle.rpki_resources.specs.AsNumber.{SpellsAsNumber, IsAsNumberFault, IsAsRange, SpellsAsEnds};
-ghost use Rattle.rpki_resources.specs.AsNumber.{IsAsEndsFault, SpellsAsRange, IsAsRangeFault, SpellsAsBlock};
-ghost use Rattle.rpki_resources.specs.AsNumber.{IsAsBlockFault};
+ghost use Rattle.rpki_resources.specs.AsNumber.{as_number, IsAsRange, as_ends, as_range, as_block};
 
 use crate::block::Block;
 use rpki_der::{Constructed, DecodeError, Tag};
@@ -17,7 +13,7 @@ use rpki_der::{Constructed, DecodeError, Tag};
 /// The errors are those of a header; then `Unexpected` for another tag or form; then `Truncated`; then `Content` for
 /// contents that are not those of such a number.
 pub fn take_as_number(cons: &mut Constructed<'_>) -> Result<u32, DecodeError>
-    ensures { Reads (λ n. n) SpellsAsNumber IsAsNumberFault (left cons.old) (left cons.new) result }
+    ensures { Takes (λ n. n) as_number (left cons.old) (left cons.new) result }
 {
     let mut after = *cons;
     let number = after.take_u64()?;
@@ -44,7 +40,7 @@ fn range_of(low: u32, high: u32) -> Option<Block>
 
 /// The block whose two ends these contents are, one after the other.
 fn take_ends(contents: &mut Constructed<'_>) -> Result<Block, DecodeError>
-    ensures { ReadsParts (λ b. b) SpellsAsEnds IsAsEndsFault (left contents.old) (left contents.new) result }
+    ensures { TakesAll (λ b. b) as_ends (left contents.old) (left contents.new) result }
 {
     let lowest = take_as_number(contents)?;
     let highest = take_as_number(contents)?;
@@ -56,14 +52,14 @@ fn take_ends(contents: &mut Constructed<'_>) -> Result<Block, DecodeError>
 
 /// A range: a SEQUENCE of its lowest and of its highest number, which is above the lowest.
 fn take_range(cons: &mut Constructed<'_>) -> Result<Block, DecodeError>
-    ensures { Reads (λ b. b) SpellsAsRange IsAsRangeFault (left cons.old) (left cons.new) result }
+    ensures { Takes (λ b. b) as_range (left cons.old) (left cons.new) result }
 {
     cons.in_sequence(|contents| take_ends(contents))
 }
 
 /// A block of AS numbers: one number, or a range of two at least.
 pub fn take_block(cons: &mut Constructed<'_>) -> Result<Block, DecodeError>
-    ensures { Reads (λ b. b) SpellsAsBlock IsAsBlockFault (left cons.old) (left cons.new) result }
+    ensures { Takes (λ b. b) as_block (left cons.old) (left cons.new) result }
 {
     if cons.has_tag(Tag::SEQUENCE) {
         return take_range(cons);

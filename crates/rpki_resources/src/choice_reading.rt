@@ -7,14 +7,9 @@
 //! ASId               ::= INTEGER (0..4294967295)
 //! ```
 
-ghost use Rattle.std.specs.Prelude.{None};
-ghost use Rattle.rpki_der.specs.Cursor.{left};
-ghost use Rattle.rpki_der.specs.Reading.{Reads};
-ghost use Rattle.rpki_der.specs.FirstFault.{ReadsParts};
-ghost use Rattle.rpki_resources.specs.Listed.{AreBlocksFault};
-ghost use Rattle.rpki_resources.specs.InPlace.{IsListed};
-ghost use Rattle.rpki_resources.specs.Extension.{SpellsList, IsListFault, SpellsChoice, IsChoiceFault, SpellsAsNumbers};
-ghost use Rattle.rpki_resources.specs.Extension.{IsAsNumbersFault, SpellsAsResources, IsAsResourcesFault};
+ghost use Rattle.rpki_der.specs.Prelude.{left, Takes, TakesAll};
+ghost use Rattle.rpki_resources.specs.InPlace.{blocks};
+ghost use Rattle.rpki_resources.specs.Extension.{block_list, choice, asnum, as_resources};
 
 use crate::choice_view::ChoiceView;
 use crate::kind::ResourceKind;
@@ -26,12 +21,11 @@ fn take_listed<'a>(
     cons: &mut Constructed<'a>,
     kind: ResourceKind,
 ) -> Result<BlocksView<'a>, DecodeError>
-    ensures { Reads (λ x. x) (SpellsList kind) (IsListFault kind) (left cons.old) (left cons.new) result }
+    ensures { Takes (λ x. x) (block_list kind) (left cons.old) (left cons.new) result }
 {
     cons.in_sequence(
         |contents|
-            ensures { ReadsParts (λ x. x) (IsListed kind) (AreBlocksFault kind None) (left contents.old)
-                (left contents.new) result }
+            ensures { TakesAll (λ x. x) (blocks kind) (left contents.old) (left contents.new) result }
         { BlocksView::take_contents(contents, kind) },
     )
 }
@@ -41,7 +35,7 @@ pub fn take_choice<'a>(
     cons: &mut Constructed<'a>,
     kind: ResourceKind,
 ) -> Result<ChoiceView<'a>, DecodeError>
-    ensures { Reads (λ v. v) (SpellsChoice kind) (IsChoiceFault kind) (left cons.old) (left cons.new) result }
+    ensures { Takes (λ v. v) (choice kind) (left cons.old) (left cons.new) result }
 {
     if cons.has_tag(Tag::NULL) {
         cons.take_null()?;
@@ -53,13 +47,12 @@ pub fn take_choice<'a>(
 
 /// The AS numbers, under the explicit tag 0.
 fn take_numbers<'a>(cons: &mut Constructed<'a>) -> Result<ChoiceView<'a>, DecodeError>
-    ensures { Reads (λ v. v) SpellsAsNumbers IsAsNumbersFault (left cons.old) (left cons.new) result }
+    ensures { Takes (λ v. v) asnum (left cons.old) (left cons.new) result }
 {
     cons.in_constructed(
         Tag::new(Class::Context, 0),
         |contents|
-            ensures { Reads (λ v. v) (SpellsChoice ResourceKind.AsNumbers) (IsChoiceFault ResourceKind.AsNumbers)
-                (left contents.old) (left contents.new) result }
+            ensures { Takes (λ v. v) (choice ResourceKind.AsNumbers) (left contents.old) (left contents.new) result }
         { take_choice(contents, ResourceKind::AsNumbers) },
     )
 }
@@ -69,11 +62,11 @@ fn take_numbers<'a>(cons: &mut Constructed<'a>) -> Result<ChoiceView<'a>, Decode
 ///
 /// The error is that of the leftmost part that isn't there.
 pub fn take_as_resources<'a>(cons: &mut Constructed<'a>) -> Result<ChoiceView<'a>, DecodeError>
-    ensures { Reads (λ v. v) SpellsAsResources IsAsResourcesFault (left cons.old) (left cons.new) result }
+    ensures { Takes (λ v. v) as_resources (left cons.old) (left cons.new) result }
 {
     cons.in_sequence(
         |contents|
-            ensures { Reads (λ v. v) SpellsAsNumbers IsAsNumbersFault (left contents.old) (left contents.new) result }
+            ensures { Takes (λ v. v) asnum (left contents.old) (left contents.new) result }
         { take_numbers(contents) },
     )
 }

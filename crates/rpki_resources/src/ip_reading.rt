@@ -10,13 +10,10 @@
 //! ```
 
 ghost use Rattle.std.specs.Prelude.{IfSome, IfNone};
-ghost use Rattle.rpki_der.specs.Cursor.{left};
-ghost use Rattle.rpki_der.specs.Reading.{Reads};
-ghost use Rattle.rpki_der.specs.FirstFault.{FirstFault, ReadsParts};
+ghost use Rattle.rpki_der.specs.Prelude.{left, Takes, TakesAll};
 ghost use Rattle.rpki_resources.specs.declared.family.AddressFamily.{AddressFamily};
-ghost use Rattle.rpki_resources.specs.Extension.{IsFamily, SpellsFamily, IsFamilyFault, AreNamed, AreNamedFault};
-ghost use Rattle.rpki_resources.specs.Extension.{SpellsNamed, IsNamedFault, SpellsV6, IsAfterSecondFault, AreFamilies};
-ghost use Rattle.rpki_resources.specs.Extension.{AreFamiliesFault, SpellsIpResources, IsIpResourcesFault};
+ghost use Rattle.rpki_resources.specs.Extension.{IsFamily, family_name, family_parts, named_family, second_family};
+ghost use Rattle.rpki_resources.specs.Extension.{ip_families, ip_resources};
 
 use crate::choice_reading::take_choice;
 use crate::choice_view::ChoiceView;
@@ -42,7 +39,7 @@ fn family_of(octets: &[u8]) -> Option<AddressFamily>
 /// The errors are those of a header; then `Unexpected` for another tag or form; then `Truncated`; then `Content` for
 /// other octets.
 pub fn take_family(cons: &mut Constructed<'_>) -> Result<AddressFamily, DecodeError>
-    ensures { Reads (λ family. family) SpellsFamily IsFamilyFault (left cons.old) (left cons.new) result }
+    ensures { Takes (λ family. family) family_name (left cons.old) (left cons.new) result }
 {
     let mut after = *cons;
     let octets = after.take_octets()?;
@@ -59,7 +56,7 @@ pub fn take_family(cons: &mut Constructed<'_>) -> Result<AddressFamily, DecodeEr
 fn take_parts<'a>(
     contents: &mut Constructed<'a>,
 ) -> Result<(AddressFamily, ChoiceView<'a>), DecodeError>
-    ensures { ReadsParts (λ x. x) AreNamed AreNamedFault (left contents.old) (left contents.new) result }
+    ensures { TakesAll (λ x. x) family_parts (left contents.old) (left contents.new) result }
 {
     let family = take_family(contents)?;
     let choice = take_choice(contents, ResourceKind::Addresses(family))?;
@@ -70,19 +67,18 @@ fn take_parts<'a>(
 fn take_named<'a>(
     cons: &mut Constructed<'a>,
 ) -> Result<(AddressFamily, ChoiceView<'a>), DecodeError>
-    ensures { Reads (λ x. x) SpellsNamed IsNamedFault (left cons.old) (left cons.new) result }
+    ensures { Takes (λ x. x) named_family (left cons.old) (left cons.new) result }
 {
     cons.in_sequence(
         |contents|
-            ensures { ReadsParts (λ x. x) AreNamed AreNamedFault (left contents.old) (left contents.new) result }
+            ensures { TakesAll (λ x. x) family_parts (left contents.old) (left contents.new) result }
         { take_parts(contents) },
     )
 }
 
 /// The resources of IP version 6, which stand behind those of IP version 4.
 fn take_second<'a>(contents: &mut Constructed<'a>) -> Result<ChoiceView<'a>, DecodeError>
-    ensures { ReadsParts (λ v. v) SpellsV6 (FirstFault SpellsNamed IsNamedFault IsAfterSecondFault) (left contents.old)
-        (left contents.new) result }
+    ensures { TakesAll (λ v. v) second_family (left contents.old) (left contents.new) result }
 {
     let (family, choice) = take_named(contents)?;
     match family {
@@ -93,7 +89,7 @@ fn take_second<'a>(contents: &mut Constructed<'a>) -> Result<ChoiceView<'a>, Dec
 
 /// The families that these contents are: one or both, IP version 4 first.
 fn take_families<'a>(contents: &mut Constructed<'a>) -> Result<IpResourcesView<'a>, DecodeError>
-    ensures { ReadsParts (λ x. x) AreFamilies AreFamiliesFault (left contents.old) (left contents.new) result }
+    ensures { TakesAll (λ x. x) ip_families (left contents.old) (left contents.new) result }
 {
     let (family, first) = take_named(contents)?;
     match family {
@@ -122,11 +118,11 @@ fn take_families<'a>(contents: &mut Constructed<'a>) -> Result<IpResourcesView<'
 ///
 /// The error is that of the leftmost part that isn't there.
 pub fn take_ip_resources<'a>(cons: &mut Constructed<'a>) -> Result<IpResourcesView<'a>, DecodeError>
-    ensures { Reads (λ x. x) SpellsIpResources IsIpResourcesFault (left cons.old) (left cons.new) result }
+    ensures { Takes (λ x. x) ip_resources (left cons.old) (left cons.new) result }
 {
     cons.in_sequence(
         |contents|
-            ensures { ReadsParts (λ x. x) AreFamilies AreFamiliesFault (left contents.old) (left contents.new) result }
+            ensures { TakesAll (λ x. x) ip_families (left contents.old) (left contents.new) result }
         { take_families(contents) },
     )
 }

@@ -1,9 +1,8 @@
 //! Resources that are kept: made of those that were read in place.
 
 ghost use Rattle.std.specs.Prelude.{◌≡◌, IfOk};
-ghost use Rattle.rpki_der.specs.Cursor.{left};
-ghost use Rattle.rpki_der.specs.Reading.{Reads, Decodes, IsWholeFault};
-ghost use Rattle.rpki_resources.specs.Kept.{IsOnlyChoiceOf, SpellsIp, IsIpFault, SpellsAs, IsAsFault};
+ghost use Rattle.rpki_der.specs.Prelude.{left, Takes, TakesWhole};
+ghost use Rattle.rpki_resources.specs.Kept.{IsOnlyChoiceOf, kept_ip, kept_as};
 
 use crate::blocks::Blocks;
 use crate::choice::ResourcesChoice;
@@ -38,7 +37,7 @@ impl IpResources {
     /// The error is that of the leftmost part that isn't there; `OutOfMemory` if allocation fails, only where all parts
     /// are there. An error leaves the cursor where it was.
     pub fn take_from(alloc: Global, cons: &mut Constructed<'_>) -> Result<IpResources, DecodeError>
-        ensures { Reads (λ v. v) SpellsIp IsIpFault (left cons.old) (left cons.new) result }
+        ensures { Takes (λ v. v) kept_ip (left cons.old) (left cons.new) result }
     {
         let mut after = *cons;
         let view = take_ip_resources(&mut after)?;
@@ -50,7 +49,7 @@ impl IpResources {
 
     /// As [IpResources::take_from], of all of the octets; then `Trailing` if something follows.
     pub fn decode(alloc: Global, octets: &[u8]) -> Result<IpResources, DecodeError>
-        ensures { Decodes (λ v. v) SpellsIp (IsWholeFault SpellsIp IsIpFault) octets.now result }
+        ensures { TakesWhole (λ v. v) kept_ip octets.now result }
     {
         Constructed::from_slice(octets).whole(|cons| IpResources::take_from(alloc, cons))
     }
@@ -62,7 +61,7 @@ impl AsResources {
     /// The error is that of the leftmost part that isn't there; `OutOfMemory` if allocation fails, only where all parts
     /// are there. An error leaves the cursor where it was.
     pub fn take_from(alloc: Global, cons: &mut Constructed<'_>) -> Result<AsResources, DecodeError>
-        ensures { Reads (λ v. v) SpellsAs IsAsFault (left cons.old) (left cons.new) result }
+        ensures { Takes (λ v. v) kept_as (left cons.old) (left cons.new) result }
     {
         let mut after = *cons;
         let view = take_as_resources(&mut after)?;
@@ -73,7 +72,7 @@ impl AsResources {
 
     /// As [AsResources::take_from], of all of the octets; then `Trailing` if something follows.
     pub fn decode(alloc: Global, octets: &[u8]) -> Result<AsResources, DecodeError>
-        ensures { Decodes (λ v. v) SpellsAs (IsWholeFault SpellsAs IsAsFault) octets.now result }
+        ensures { TakesWhole (λ v. v) kept_as octets.now result }
     {
         Constructed::from_slice(octets).whole(|cons| AsResources::take_from(alloc, cons))
     }

@@ -1,9 +1,8 @@
 //! Blocks in canonical form, one after another (RFC 3779 2.2.3.5, 2.2.3.6, 3.2.3.3, 3.2.3.4).
 
 ghost use Rattle.std.specs.Prelude.{◌↔◌, IsTrue};
-ghost use Rattle.rpki_der.specs.Cursor.{left};
-ghost use Rattle.rpki_der.specs.Reading.{Reads};
-ghost use Rattle.rpki_resources.specs.Listed.{SpellsBlockOf, IsBlockFaultOf, Follows, SpellsNext, IsNextFault};
+ghost use Rattle.rpki_der.specs.Prelude.{left, Takes};
+ghost use Rattle.rpki_resources.specs.Listed.{block_of, Follows, next_block};
 
 use crate::block::Block;
 use crate::canonical::begins_past;
@@ -13,7 +12,7 @@ use rpki_der::{Constructed, DecodeError};
 
 /// A block of the kind.
 fn take_block(cons: &mut Constructed<'_>, kind: ResourceKind) -> Result<Block, DecodeError>
-    ensures { Reads (λ b. b) (SpellsBlockOf kind) (IsBlockFaultOf kind) (left cons.old) (left cons.new) result }
+    ensures { Takes (λ b. b) (block_of kind) (left cons.old) (left cons.new) result }
 {
     match kind {
         ResourceKind::Addresses(family) => prefix::take_block(cons, family),
@@ -37,7 +36,7 @@ pub fn take_next(
     kind: ResourceKind,
     last: Option<u128>,
 ) -> Result<Block, DecodeError>
-    ensures { Reads (λ b. b) (SpellsNext kind last) (IsNextFault kind last) (left cons.old) (left cons.new) result }
+    ensures { Takes (λ b. b) (next_block kind last) (left cons.old) (left cons.new) result }
 {
     let mut after = *cons;
     let block = take_block(&mut after, kind)?;

@@ -1,13 +1,10 @@
 //! Blocks of addresses, each as a prefix or as a range (RFC 3779 2.2.3.7 to 2.2.3.9).
 
 ghost use Rattle.std.specs.Prelude.{◌≡◌, ◌<◌, ◌*◌, ◌^◌, ◌↔◌, ℕ, suc, IsTrue, IfSome, IfNone};
-ghost use Rattle.rpki_der.specs.Cursor.{left};
-ghost use Rattle.rpki_der.specs.Reading.{Reads};
-ghost use Rattle.rpki_der.specs.FirstFault.{ReadsParts};
+ghost use Rattle.rpki_der.specs.Prelude.{left, Takes, TakesAll};
 ghost use Rattle.rpki_resources.specs.declared.block.Block.{Block};
 ghost use Rattle.rpki_resources.specs.Address.{width, IsPrefix, HasNoZeros, HasNoOnes, IsAddressOf, IsRange};
-ghost use Rattle.rpki_resources.specs.Address.{SpellsRangeEnds, SpellsRange, SpellsBlock, IsRangeContentsFault};
-ghost use Rattle.rpki_resources.specs.Address.{IsRangeFault, IsBlockFault};
+ghost use Rattle.rpki_resources.specs.Address.{range_ends, range, block};
 
 use crate::address::Address;
 use crate::block::Block;
@@ -102,16 +99,14 @@ fn range_of(lowest: Address, highest: Address, family: AddressFamily) -> Option<
 /// A range: a SEQUENCE of its lowest address without the zeros at its end, and of its highest without the ones. A range
 /// that is a prefix has to be written as one (RFC 3779 2.2.3.7).
 fn take_range(cons: &mut Constructed<'_>, family: AddressFamily) -> Result<Block, DecodeError>
-    ensures { Reads (λ b. b) (SpellsRange (width family)) (IsRangeFault (width family)) (left cons.old) (left cons.new)
-        result }
+    ensures { Takes (λ b. b) (range (width family)) (left cons.old) (left cons.new) result }
 {
     cons.in_sequence(|contents| take_ends(contents, family))
 }
 
 /// The block whose two ends these contents are, one after the other.
 fn take_ends(contents: &mut Constructed<'_>, family: AddressFamily) -> Result<Block, DecodeError>
-    ensures { ReadsParts (λ b. b) (SpellsRangeEnds (width family)) (IsRangeContentsFault (width family))
-        (left contents.old) (left contents.new) result }
+    ensures { TakesAll (λ b. b) (range_ends (width family)) (left contents.old) (left contents.new) result }
 {
     let lowest = Address::take_from(contents, family)?;
     let highest = Address::take_from(contents, family)?;
@@ -123,8 +118,7 @@ fn take_ends(contents: &mut Constructed<'_>, family: AddressFamily) -> Result<Bl
 
 /// A block of addresses: a prefix, or a range that is none.
 pub fn take_block(cons: &mut Constructed<'_>, family: AddressFamily) -> Result<Block, DecodeError>
-    ensures { Reads (λ b. b) (SpellsBlock (width family)) (IsBlockFault (width family)) (left cons.old) (left cons.new)
-        result }
+    ensures { Takes (λ b. b) (block (width family)) (left cons.old) (left cons.new) result }
 {
     if cons.has_tag(Tag::SEQUENCE) {
         return take_range(cons, family);

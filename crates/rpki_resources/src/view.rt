@@ -1,11 +1,9 @@
 //! Blocks in place: octets that were validated once, and a cursor over their blocks.
 
 ghost use Rattle.std.specs.Prelude.{◌≡◌, ◌<◌, List, length, IfSome};
-ghost use Rattle.rpki_der.specs.Cursor.{left};
-ghost use Rattle.rpki_der.specs.FirstFault.{ReadsParts};
+ghost use Rattle.rpki_der.specs.Prelude.{left, TakesAll};
 ghost use Rattle.rpki_resources.specs.declared.block.Block.{Block};
-ghost use Rattle.rpki_resources.specs.Listed.{AreBlocksFault};
-ghost use Rattle.rpki_resources.specs.InPlace.{Counts, Holds, IsListed, IsLeft, Gives};
+ghost use Rattle.rpki_resources.specs.InPlace.{Counts, Holds, blocks, IsLeft, Gives};
 
 use crate::block::Block;
 use crate::kind::ResourceKind;
@@ -81,8 +79,7 @@ impl<'a> BlocksView<'a> {
         contents: &mut Constructed<'a>,
         kind: ResourceKind,
     ) -> Result<BlocksView<'a>, DecodeError>
-        ensures { ReadsParts (λ x. x) (IsListed kind) (AreBlocksFault kind None) (left contents.old) (left contents.new)
-            result }
+        ensures { TakesAll (λ x. x) (blocks kind) (left contents.old) (left contents.new) result }
     {
         let octets = contents.rest();
         let count = count_blocks(octets, kind)?;

@@ -2,7 +2,7 @@
 
 ghost use Rattle.std.specs.Prelude.{◌≡◌, ◌<◌, ◌≤◌, ◌^◌};
 ghost use Rattle.rpki_der.specs.TagName.{bit_string};
-ghost use Rattle.rpki_resources.specs.Address.{IsAddressOf, IsAddress, SpellsAddress};
+ghost use Rattle.rpki_resources.specs.Address.{IsAddressOf};
 ghost use Rattle.rpki_resources.specs.Encoded.{octet_count, unused_bits, address_contents, address_octets};
 
 use super::number::write_octets;

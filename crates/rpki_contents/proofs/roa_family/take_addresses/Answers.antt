@@ -5,7 +5,7 @@ use Rattle.rpki_der.proofs.ChoiceLaws.{such-read, such-refused, such-nothing}
 use Rattle.rpki_der.proofs.TriedLaws.{tried-refused}
 use Rattle.rpki_resources.specs.Address.{width}
 use Rattle.rpki_contents.specs.RoaAddress.{IsSome, each_address, addresses}
-use Rattle.rpki_contents.proofs.ThenByLaws.{stayed}
+use Rattle.rpki_resources.proofs.ThenByLaws.{stayed}
 use Rattle.rpki_contents.proofs.roa_family.take_addresses.Goals as goal
 
 pub returns-in_err-found : goal.returns-in_err-found

@@ -3,7 +3,7 @@ use Rattle.rpki_der.specs.Prelude.{sequence, around}
 use Rattle.rpki_der.proofs.ChoiceLaws.{such-read, such-refused, such-nothing}
 use Rattle.rpki_der.proofs.TriedLaws.{tried-refused}
 use Rattle.rpki_contents.specs.Roa.{AreFamilies, both_of, each_family, families}
-use Rattle.rpki_contents.proofs.ThenByLaws.{stayed}
+use Rattle.rpki_resources.proofs.ThenByLaws.{stayed}
 use Rattle.rpki_contents.proofs.RoaLaws.{some-is, none-is}
 use Rattle.rpki_contents.proofs.roa_family.take_families.Goals as goal
 

@@ -5,7 +5,7 @@ use Rattle.rpki_resources.specs.declared.family.AddressFamily.{AddressFamily}
 use Rattle.rpki_resources.specs.Address.{width}
 use Rattle.rpki_contents.specs.declared.roa_address.RoaIpAddress.{RoaIpAddress}
 use Rattle.rpki_contents.specs.RoaAddress.{family, addresses, family_of, family_parts}
-use Rattle.rpki_contents.proofs.ThenByLaws.{first-by, after-by, and-by}
+use Rattle.rpki_resources.proofs.ThenByLaws.{first-by, after-by, and-by}
 use Rattle.rpki_contents.proofs.roa_family.take_family_parts.Goals as goal
 
 abbrev behind : AddressFamily → Format (List RoaIpAddress)

@@ -1,13 +1,13 @@
 use Rattle.std.proofs.Common.{arith, refl}
 use Rattle.rpki_der.proofs.TriedLaws.{tried-refused}
-use Rattle.rpki_resources.specs.AsNumber.{SpellsAsNumber, IsAsNumberFault}
+use Rattle.rpki_resources.specs.AsNumber.{as_number}
 use Rattle.rpki_resources.proofs.AsNumberLaws.{number-accepted, number-refused, number-too-large}
 use Rattle.rpki_resources.proofs.as_number.take_as_number.Goals as goal
 
 pub returns-in_err-number : goal.returns-in_err-number
 returns-in_err-number c =
     let e = c.in_err-number.field-0.0 in
-    tried-refused (λ n. n) SpellsAsNumber IsAsNumberFault _ _ e _ c.from_residual.ensures
+    tried-refused (λ n. n) as_number.spells as_number.fault _ _ e _ c.from_residual.ensures
     (number-refused _ _ _ e refl c.in_err-number.ensures)
 
 pub returns-then-number-gt4294967295 : goal.returns-then-number-gt4294967295

@@ -1,11 +1,8 @@
-use Rattle.std.proofs.Common.{rules, true}
+use Rattle.std.proofs.Common.{rules}
 use Rattle.rpki_der.specs.TagName.{sequence}
-use Rattle.rpki_der.proofs.FirstFaultLaws.{read-parts-inside}
-use Rattle.rpki_resources.specs.Composing.{SpellsEnds, IsEndsFault}
-use Rattle.rpki_resources.specs.AsNumber.{SpellsAsNumber, IsAsNumberFault, IsAsRange}
+use Rattle.rpki_der.proofs.FormatLaws.{takes-around}
+use Rattle.rpki_resources.specs.AsNumber.{as_ends}
 use Rattle.rpki_resources.proofs.as_number.take_range.Goals as goal
 
 pub returns : goal.returns
-returns c =
-    read-parts-inside (λ b. b) sequence true (SpellsEnds SpellsAsNumber IsAsRange)
-    (IsEndsFault SpellsAsNumber IsAsNumberFault IsAsRange) _ (λ b a x h. search rules) _ _ _ c.in_sequence.ensures
+returns c = takes-around (λ b. b) sequence as_ends _ (λ b a x h. search rules) _ _ _ c.in_sequence.ensures

@@ -1,9 +1,8 @@
-use Rattle.std.proofs.Common.{rules, true}
+use Rattle.std.proofs.Common.{rules}
 use Rattle.rpki_der.specs.TagName.{sequence}
-use Rattle.rpki_der.proofs.FirstFaultLaws.{read-parts-inside}
-use Rattle.rpki_resources.specs.Extension.{AreFamilies, AreFamiliesFault}
+use Rattle.rpki_der.proofs.FormatLaws.{takes-around}
+use Rattle.rpki_resources.specs.Extension.{ip_families}
 use Rattle.rpki_resources.proofs.ip_reading.take_ip_resources.Goals as goal
 
 pub returns : goal.returns
-returns c = read-parts-inside (λ x. x) sequence true AreFamilies AreFamiliesFault _ (λ b a x h. search rules) _ _ _
-    c.in_sequence.ensures
+returns c = takes-around (λ x. x) sequence ip_families _ (λ b a x h. search rules) _ _ _ c.in_sequence.ensures

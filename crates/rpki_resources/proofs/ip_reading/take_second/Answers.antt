@@ -1,13 +1,13 @@
 use Rattle.rpki_der.specs.Cursor.{left}
 use Rattle.rpki_der.proofs.FirstFaultLaws.{tried-parts}
-use Rattle.rpki_resources.specs.Extension.{SpellsV6}
-use Rattle.rpki_resources.proofs.FamilyLaws.{IsSecondFault, no-second, second-v6, second-v4, as-family}
+use Rattle.rpki_resources.specs.Extension.{second_family}
+use Rattle.rpki_resources.proofs.FamilyLaws.{no-second, second-v6, second-v4, as-family}
 use Rattle.rpki_resources.proofs.ip_reading.take_second.Goals as goal
 
 pub returns-in_err-family : goal.returns-in_err-family
 returns-in_err-family c =
     let e = c.in_err-family.field-0.0 in
-    tried-parts (λ v. v) SpellsV6 IsSecondFault _ _ e _ c.from_residual.ensures
+    tried-parts (λ v. v) second_family.spells second_family.fault _ _ e _ c.from_residual.ensures
     (no-second _ _ e c.in_err-family.ensures)
 
 pub returns-in-Ipv6 : goal.returns-in-Ipv6

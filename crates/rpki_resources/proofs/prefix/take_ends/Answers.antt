@@ -1,7 +1,5 @@
-use Rattle.rpki_der.specs.Cursor.{left}
-use Rattle.rpki_der.proofs.FirstFaultLaws.{tried-parts}
-use Rattle.rpki_resources.specs.Composing.{SpellsEnds}
-use Rattle.rpki_resources.specs.Address.{width, SpellsAddress, IsAddressFault, IsRange, IsRangeContentsFault}
+use Rattle.rpki_der.proofs.FormatLaws.{tried, failed, given}
+use Rattle.rpki_resources.specs.Address.{width, address, IsRange, range_ends}
 use Rattle.rpki_resources.proofs.ComposingLaws.{low-refused, high-refused, ends-read, ends-of-nothing}
 use Rattle.rpki_resources.proofs.RangeLaws.{one-range}
 use Rattle.rpki_resources.proofs.prefix.take_ends.Goals as goal
@@ -9,30 +7,24 @@ use Rattle.rpki_resources.proofs.prefix.take_ends.Goals as goal
 pub returns-in_err-lowest : goal.returns-in_err-lowest
 returns-in_err-lowest c =
     let w = width c.args.family in
-    let e = c.in_err-lowest.field-0.0 in
-    tried-parts (λ b. b) (SpellsEnds (SpellsAddress w) (IsRange w)) (IsRangeContentsFault w) _ _ e _
-    c.from_residual.ensures
-    (low-refused (SpellsAddress w) (IsAddressFault w) (IsRange w) _ _ e c.in_err-lowest.ensures)
+    tried (λ b. b) (range_ends w) _ _ c.from_residual.ensures
+    (low-refused (IsRange w) (address w) c.in_err-lowest.ensures)
 
 pub returns-in_err-highest : goal.returns-in_err-highest
 returns-in_err-highest c =
     let w = width c.args.family in
-    let e = c.in_err-highest.field-0.0 in
-    tried-parts (λ b. b) (SpellsEnds (SpellsAddress w) (IsRange w)) (IsRangeContentsFault w) _ _ e _
-    c.from_residual-in_err-highest.ensures
-    (high-refused (SpellsAddress w) (IsAddressFault w) (IsRange w) _ _ _ c.in_ok-lowest.lowest e c.in_ok-lowest.ensures
-    c.in_err-highest.ensures)
+    tried (λ b. b) (range_ends w) _ _ c.from_residual-in_err-highest.ensures
+    (high-refused (IsRange w) (address w) c.in_ok-lowest.ensures c.in_err-highest.ensures)
 
 pub returns-in-Some : goal.returns-in-Some
 returns-in-Some c =
     let w = width c.args.family in
-    ends-read (SpellsAddress w) (IsAddressFault w) (IsRange w) _ _ _ c.in_ok-lowest.lowest c.in_ok-highest.highest
-    c.in-Some.block c.in_ok-lowest.ensures c.in_ok-highest.ensures c.in-Some.ensures.some
-    (λ d k. one-range w c.in-Some.block d _ c.in-Some.ensures.some k)
+    given (ends-read (IsRange w) (address w) c.in_ok-lowest.ensures c.in_ok-highest.ensures c.in-Some.ensures.some
+    (λ d k. one-range w c.in-Some.block d _ c.in-Some.ensures.some k))
 
 pub returns-in-None : goal.returns-in-None
 returns-in-None c =
     let w = width c.args.family in
-    rw c.content.ensures (ends-of-nothing (SpellsAddress w) (IsAddressFault w) (IsRange w) (left c.args.contents.now) _
-    _ c.in_ok-lowest.lowest c.in_ok-highest.highest _ c.in_ok-lowest.ensures c.in_ok-highest.ensures
-    c.in-None.ensures.none)
+    rw c.content.ensures
+    (failed (ends-of-nothing (IsRange w) (address w) c.in_ok-lowest.ensures c.in_ok-highest.ensures _
+    c.in-None.ensures.none))

@@ -1,7 +1,7 @@
 use Rattle.rpki_der.specs.Cursor.{left}
 use Rattle.rpki_der.specs.TagName.{sequence}
 use Rattle.rpki_resources.specs.declared.kind.ResourceKind.TheVariants.{AsNumbers}
-use Rattle.rpki_resources.specs.Extension.{as_numbers, SpellsChoice, SpellsAsNumbers}
+use Rattle.rpki_resources.specs.Extension.{as_numbers, SpellsChoice, asnum}
 use Rattle.rpki_resources.specs.Kept.{AreAsResourcesOf}
 use Rattle.rpki_resources.specs.Unread.{IsAround}
 use Rattle.rpki_resources.proofs.UnreadLaws.{if-none, for-around}
@@ -15,7 +15,7 @@ returns-clause-none c =
     rw c.new.ensures at c.in-Some-contents_of.ensures.some in
     if-none c.find_choice.result
     (λ none v k.
-    let l = (for-around sequence c.args.octets.now SpellsAsNumbers AreAsResourcesOf (left c.in-Some.contents) one v).0
+    let l = (for-around sequence c.args.octets.now asnum.spells AreAsResourcesOf (left c.in-Some.contents) one v).0
     k in
     let m = (for-around as_numbers (left c.in-Some.contents) (SpellsChoice AsNumbers) AreAsResourcesOf
     (left c.in-Some-contents_of.numbers) two v).0 l in

@@ -4,7 +4,7 @@ use Rattle.rpki_der.specs.Prelude.{sequence, around}
 use Rattle.rpki_der.proofs.ChoiceLaws.{such-read, such-refused, such-nothing}
 use Rattle.rpki_der.proofs.TriedLaws.{tried-refused}
 use Rattle.rpki_contents.specs.Aspa.{IsAspa, aspa, aspa_parts, fields}
-use Rattle.rpki_contents.proofs.ThenByLaws.{stayed}
+use Rattle.rpki_resources.proofs.ThenByLaws.{stayed}
 use Rattle.rpki_contents.proofs.AspaLaws.{only-aspa, no-aspa, is-attestation}
 use Rattle.rpki_contents.proofs.aspa.AsProviderAttestation.take_from.Goals as goal
 

@@ -5,7 +5,7 @@ use Rattle.rpki_der.proofs.ChoiceLaws.{such-read, such-refused, such-nothing}
 use Rattle.rpki_der.proofs.TriedLaws.{tried-refused}
 use Rattle.rpki_resources.specs.Address.{width}
 use Rattle.rpki_contents.specs.RoaAddress.{address_parts, IsRoaAddress, roa_address}
-use Rattle.rpki_contents.proofs.ThenByLaws.{stayed}
+use Rattle.rpki_resources.proofs.ThenByLaws.{stayed}
 use Rattle.rpki_contents.proofs.RoaAddressLaws.{only-address, no-address}
 use Rattle.rpki_contents.proofs.roa_address.RoaIpAddress.take_from.Goals as goal
 

@@ -2,7 +2,7 @@ use Rattle.std.proofs.Common.{false, refl}
 use Rattle.rpki_der.specs.TagName.{bit_string}
 use Rattle.rpki_der.proofs.LeavesLaws.{leaf-refused, leaf-accepted, leaf-malformed}
 use Rattle.rpki_der.proofs.TriedLaws.{tried-refused}
-use Rattle.rpki_resources.specs.Address.{width, IsAddress, SpellsAddress, IsAddressFault}
+use Rattle.rpki_resources.specs.Address.{width, IsAddress, address}
 use Rattle.rpki_resources.proofs.AddressLaws.{one-address}
 use Rattle.rpki_resources.proofs.address.Address.take_from.Goals as goal
 
@@ -10,7 +10,7 @@ pub returns-in_err-contents : goal.returns-in_err-contents
 returns-in_err-contents c =
     let w = width c.args.family in
     let e = c.in_err-contents.field-0.0 in
-    tried-refused (λ x. x) (SpellsAddress w) (IsAddressFault w) _ _ e _ c.from_residual.ensures
+    tried-refused (λ x. x) (address w).spells (address w).fault _ _ e _ c.from_residual.ensures
     (leaf-refused bit_string false (IsAddress w) _ _ _ e refl c.in_err-contents.ensures)
 
 pub returns-in-Some : goal.returns-in-Some

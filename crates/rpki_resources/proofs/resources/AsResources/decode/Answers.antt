@@ -1,8 +1,8 @@
 use Rattle.std.proofs.Common.{rules}
 use Rattle.rpki_der.proofs.InsideLaws.{read-whole}
-use Rattle.rpki_resources.specs.Kept.{SpellsAs, IsAsFault}
+use Rattle.rpki_resources.specs.Kept.{kept_as}
 use Rattle.rpki_resources.proofs.resources.AsResources.decode.Goals as goal
 
 pub returns : goal.returns
-returns c = rw c.from_slice.ensures at (read-whole (λ v. v) SpellsAs IsAsFault _ (λ b a x h. search rules) _ _
+returns c = rw c.from_slice.ensures at (read-whole (λ v. v) kept_as.spells kept_as.fault _ (λ b a x h. search rules) _ _
     c.whole.ensures)
