@@ -2,15 +2,14 @@
 use Rattle.std.proofs.Common.{inl, inr, ℕ, true, false, List, Result, refl}
 use Rattle.rpki_der.specs.declared.error.DecodeError.{DecodeError}
 use Rattle.rpki_der.specs.declared.error.DecodeError.TheVariants.{OutOfMemory}
-use Rattle.rpki_der.specs.Prelude.{oid, null, sequence, set, Reads, TakesNoMemory, SpellsLeaf, HasTag, IsLeafFault}
+use Rattle.rpki_der.specs.Prelude.{oid, null, sequence, Reads, TakesNoMemory, SpellsLeaf, HasTag, IsLeafFault}
 use Rattle.rpki_der.specs.Prelude.{IsOuterFault, IsNull, IsOidOf, IsOnly, FirstFault, IsEndFault}
 use Rattle.rpki_der.proofs.LeavesLaws.{leaf-no-memory}
 use Rattle.rpki_der.proofs.FirstFaultLaws.{first-no-memory, optional-no-memory, end-no-memory, inside-outer-exactly}
 use Rattle.rpki_der.proofs.FirstFaultLaws.{reads-kind}
 use Rattle.rpki_der.specs.Prelude.{only, any_oid, this_oid}
-use Rattle.rpki.specs.Oids.{sha256, secp256r1}
-use Rattle.rpki.specs.Digest.{SpellsDigest}
-use Rattle.rpki.specs.AlgorithmFault.{parameters, IsAlgorithmFault, IsBareFault, IsFormatRestFault, key_format}
+use Rattle.rpki.specs.Oids.{secp256r1}
+use Rattle.rpki.specs.AlgorithmFault.{parameters, algorithm, bare, IsFormatRestFault, key_format}
 use Rattle.rpki.specs.AlgorithmFault.{identified, format_parts}
 
 pub parameters-never : (s : List ℕ) → parameters.fault s OutOfMemory → ⊥
@@ -35,11 +34,11 @@ format-rest-never x r (inr (inr h)) = h.1
 
 -- ---- each is as a reader that allocates nothing says it of a SEQUENCE
 
-pub algorithm-outer : (o s : List ℕ) (e : DecodeError) → IsAlgorithmFault o s e → IsOuterFault sequence true s e
+pub algorithm-outer : (o s : List ℕ) (e : DecodeError) → (algorithm o).fault s e → IsOuterFault sequence true s e
 algorithm-outer o s e = inside-outer-exactly sequence true (identified o).fault s e
     (λ c. named-never o parameters.fault c parameters-never)
 
-pub bare-outer : (o s : List ℕ) (e : DecodeError) → IsBareFault o s e → IsOuterFault sequence true s e
+pub bare-outer : (o s : List ℕ) (e : DecodeError) → (bare o).fault s e → IsOuterFault sequence true s e
 bare-outer o s e =
     inside-outer-exactly sequence true (only (this_oid o)).fault s e (λ c. named-never o IsEndFault c end-no-memory)
 
@@ -51,11 +50,11 @@ format-outer s e = inside-outer-exactly sequence true format_parts.fault s e
 
 pub algorithm-exactly : {X V : Type 0} (view : X → V) (G : V → List ℕ → Type 0) (o s r : List ℕ)
     (x : Result X DecodeError)
-    → Reads view G (IsAlgorithmFault o) s r x → Reads view G (TakesNoMemory (IsAlgorithmFault o)) s r x
-algorithm-exactly view G o s r x = reads-kind view G (IsAlgorithmFault o) (TakesNoMemory (IsAlgorithmFault o)) s r x
+    → Reads view G (algorithm o).fault s r x → Reads view G (TakesNoMemory (algorithm o).fault) s r x
+algorithm-exactly view G o s r x = reads-kind view G (algorithm o).fault (TakesNoMemory (algorithm o).fault) s r x
     (λ e h. record { other = (algorithm-outer o s e h).other; kind = h })
 
 pub bare-exactly : {X V : Type 0} (view : X → V) (G : V → List ℕ → Type 0) (o s r : List ℕ) (x : Result X DecodeError)
-    → Reads view G (IsBareFault o) s r x → Reads view G (TakesNoMemory (IsBareFault o)) s r x
-bare-exactly view G o s r x = reads-kind view G (IsBareFault o) (TakesNoMemory (IsBareFault o)) s r x
+    → Reads view G (bare o).fault s r x → Reads view G (TakesNoMemory (bare o).fault) s r x
+bare-exactly view G o s r x = reads-kind view G (bare o).fault (TakesNoMemory (bare o).fault) s r x
     (λ e h. record { other = (bare-outer o s e h).other; kind = h })

@@ -1,20 +1,19 @@
 -- The errors of extensions, from what the readers of their parts return.
-use Rattle.std.proofs.Common.{◌≡◌, ◌⊎◌, ℕ, true, false, Option, Some, None, Ok, List, inl, inr, refl, subst}
+use Rattle.std.proofs.Common.{◌⊎◌, ℕ, true, false, Option, Some, None, Ok, List, inl, inr, refl, subst}
 use Rattle.rpki_der.specs.declared.error.DecodeError.{DecodeError}
-use Rattle.rpki_der.specs.declared.error.DecodeError.TheVariants.{Truncated, BadTag, BadLength, Unexpected, Content}
-use Rattle.rpki_der.specs.declared.error.DecodeError.TheVariants.{Trailing, OutOfMemory}
+use Rattle.rpki_der.specs.declared.error.DecodeError.TheVariants.{OutOfMemory}
 use Rattle.rpki_der.specs.Prelude.{oid, boolean, octet_string, sequence, Accepts, Refusal, ReadsWhere, SpellsNothing}
-use Rattle.rpki_der.specs.Prelude.{UnlessMemory, OrMemoryWhere, Finds, SpellsContents, SpellsLeaf, HasTag}
-use Rattle.rpki_der.specs.Prelude.{IsContentsFault, IsLeafFault, GivesOuterFault, IsOuterFault, IsOidOf, IsBoolean}
+use Rattle.rpki_der.specs.Prelude.{UnlessMemory, Finds, SpellsContents, SpellsLeaf, HasTag}
+use Rattle.rpki_der.specs.Prelude.{IsContentsFault, IsLeafFault, IsOuterFault, IsOidOf, IsBoolean}
 use Rattle.rpki_der.specs.Prelude.{SpellsKept, IsCapturedFault, OptionalFault, IsEndFault, AtPart, Later}
-use Rattle.rpki_der.proofs.ReadingLaws.{UnlessMemory-weaker, Refusal-weaker, or-memory-kind}
+use Rattle.rpki_der.proofs.ReadingLaws.{Refusal-weaker}
 use Rattle.rpki_der.proofs.CaptureLaws.{or-memory-from}
 use Rattle.rpki_der.proofs.LeavesLaws.{leaf-no-memory, contents-no-memory}
 use Rattle.rpki_der.proofs.ComposedLaws.{outer-refused, inner-refused}
-use Rattle.rpki_der.proofs.FirstFaultLaws.{first-no-memory, optional-no-memory, end-no-memory, inside-outer}
+use Rattle.rpki_der.proofs.FirstFaultLaws.{first-no-memory, optional-no-memory, end-no-memory}
 use Rattle.rpki_der.proofs.FirstFaultLaws.{inside-outer-exactly}
-use Rattle.rpki.specs.ExtensionValue.{ExtensionParts, IsExtensionContents, SpellsExtension}
-use Rattle.rpki.specs.ExtensionFault.{content, extension_fields, IsCertExtensionFault, IsKeptExtensionFault}
+use Rattle.rpki.specs.ExtensionValue.{IsExtensionContents, SpellsExtension}
+use Rattle.rpki.specs.ExtensionFault.{content, extension_fields, extension, kept_extension}
 use Rattle.rpki.proofs.ExtensionLaws.{AnyExtension}
 
 -- what follows an optional part has the error
@@ -40,13 +39,13 @@ parts-never c =
     (IsLeafFault boolean false IsBoolean) content.fault r
     (λ h. leaf-no-memory boolean false IsBoolean r OutOfMemory h refl) content-never)
 
-pub extension-outer : (s : List ℕ) (e : DecodeError) → IsCertExtensionFault s e → IsOuterFault sequence true s e
+pub extension-outer : (s : List ℕ) (e : DecodeError) → extension.fault s e → IsOuterFault sequence true s e
 extension-outer s e = inside-outer-exactly sequence true extension_fields.fault s e parts-never
 
 -- the SEQUENCE isn't there
 pub no-sequence : (s q : List ℕ) (e : DecodeError)
     → Refusal (SpellsContents sequence true) (IsContentsFault sequence true) s q e
-    → Refusal SpellsExtension IsCertExtensionFault s s e
+    → Refusal SpellsExtension extension.fault s s e
 no-sequence s q e h = record {
   unchanged = refl;
   refuses =
@@ -57,7 +56,7 @@ no-sequence s q e h = record {
 -- its contents spell nothing
 pub no-parts : (s c q : List ℕ) (e : DecodeError) → Accepts (SpellsContents sequence true) s c q
     → UnlessMemory e (SpellsNothing IsExtensionContents c) × extension_fields.fault c e
-    → Refusal SpellsExtension IsCertExtensionFault s s e
+    → Refusal SpellsExtension extension.fault s s e
 no-parts s c q e a h = record {
   unchanged = refl;
   refuses =
@@ -66,15 +65,15 @@ no-parts s c q e a h = record {
 }
 
 -- it isn't there
-pub passed-refused : (s q : List ℕ) (e : DecodeError) → Refusal SpellsExtension IsCertExtensionFault s q e
-    → Refusal AnyExtension IsCertExtensionFault s q e
+pub passed-refused : (s q : List ℕ) (e : DecodeError) → Refusal SpellsExtension extension.fault s q e
+    → Refusal AnyExtension extension.fault s q e
 passed-refused s q e h = Refusal-weaker (λ none u r k. none k.spelled.0 r
     (record { front = k.front; parts = k.parts; spelled = k.spelled.1 })) (λ k. k) h
 
 -- it isn't there, or could not be kept
 pub extension-unkept : (s r : List ℕ) (e : DecodeError)
-    → Refusal (SpellsKept AnyExtension) (IsCapturedFault AnyExtension IsCertExtensionFault) s r e
-    → Refusal SpellsExtension IsKeptExtensionFault s r e
+    → Refusal (SpellsKept AnyExtension) (IsCapturedFault AnyExtension extension.fault) s r e
+    → Refusal SpellsExtension kept_extension.fault s r e
 extension-unkept s r e h =
     Refusal-weaker (λ none w q k. none k.front q
     (record {
@@ -83,8 +82,8 @@ extension-unkept s r e h =
       spelled = record
           { same = refl; value = tt; spelled = (w, k.spelled) };
     }))
-    (or-memory-from (λ p. IsCertExtensionFault p OutOfMemory ⊎ Finds AnyExtension p) (Finds SpellsExtension)
-    IsCertExtensionFault s e (λ m. elim m [
+    (or-memory-from (λ p. extension.fault p OutOfMemory ⊎ Finds AnyExtension p) (Finds SpellsExtension)
+    extension.fault s e (λ m. elim m [
       | inl k ↦ absurd ((extension-outer s OutOfMemory k).other refl)
       | inr (u, q, k) ↦ (k.spelled.0, q, record { front = k.front; parts = k.parts; spelled = k.spelled.1 })
     ])) h

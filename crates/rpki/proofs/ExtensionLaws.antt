@@ -7,7 +7,7 @@ use Rattle.std.proofs.lemmas.Bool.{false_from_ne_true, eqb-true}
 use Rattle.rpki_der.specs.Prelude.{TagName, oid, boolean, octet_string, sequence, tlv, Spells, Accepts, Refuses}
 use Rattle.rpki_der.specs.Prelude.{SpellsNothing, ReadsWhere, SpellsContents, SpellsLeaf, HasTag, IsLeafFault, IsOid}
 use Rattle.rpki_der.specs.Prelude.{IsOidOf, IsBoolean, boolean_contents, front_contents, after_front, IsValue}
-use Rattle.rpki_der.specs.Prelude.{IsValueList, SpellsValue, primitive_value_list, value_lists_append, no_value_list}
+use Rattle.rpki_der.specs.Prelude.{IsValueList, primitive_value_list, value_lists_append, no_value_list}
 use Rattle.rpki_der.proofs.EncodeLaws.{tlv-at-least, tlv_at_most}
 use Rattle.rpki_der.proofs.LeafValueLaws.{composed-value-alone}
 use Rattle.rpki_der.proofs.LeavesLaws.{leaf-tag}

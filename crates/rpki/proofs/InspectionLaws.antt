@@ -1,8 +1,8 @@
 -- What an inspection of a name finds, attribute by attribute.
 use Rattle.std.proofs.Common.{suc, zero, lit<, if◌then◌else◌, ◌<◌, length, get_or, ◌≡◌, ◌≢◌, ℕ, ◌+◌, ◌≤◌, Bool, true}
-use Rattle.std.proofs.Common.{false, List, [], ◌∷◌, ◌++◌, cond, nat_eq, inl, inr, IsTrue, ◌↔◌, Result, Ok, Err, refl}
+use Rattle.std.proofs.Common.{false, List, [], ◌∷◌, ◌++◌, cond, nat_eq, inl, inr, IsTrue, ◌↔◌, refl}
 use Rattle.std.proofs.Common.{sym, ap, subst, ◌∙◌, arith, append_assoc, append-nil}
-use Rattle.std.specs.Prelude.{MatchResult}
+use Rattle.std.specs.Prelude.{Some, None, map}
 use Rattle.std.specs.List.{All}
 use Rattle.std.specs.Cmp.Lexicographic.{pointwise, pointwise_decides}
 use Rattle.std.proofs.lemmas.Bool.Decides.{Decides-eqb}
@@ -12,18 +12,20 @@ use Rattle.std.proofs.lemmas.List.Sums.{sum_by-append}
 use Rattle.std.proofs.lemmas.List.{get_or-set_other}
 use Rattle.std.proofs.lemmas.Grind.{get_or-set_at}
 use Rattle.std.proofs.Math.ListN.{set}
-use Rattle.std.proofs.lemmas.Grind.{flat_map-append}
+use Rattle.std.proofs.lemmas.List.{map-append}
 use Rattle.rpki_der.specs.declared.error.DecodeError.{DecodeError}
 use Rattle.rpki_der.specs.declared.error.DecodeError.TheVariants.{Truncated, BadTag, BadLength, Unexpected, Content}
 use Rattle.rpki_der.specs.declared.error.DecodeError.TheVariants.{Trailing, OutOfMemory}
-use Rattle.rpki_der.specs.Prelude.{TagName, sequence, Spells, Accepts, Refuses, Refusal, UnlessMemory, SpellsContents}
-use Rattle.rpki_der.specs.Prelude.{SpellsLeaf, IsContentsFault, IsLeafFault, IsOuterFault}
-use Rattle.rpki_der.proofs.LeavesLaws.{leaf-value, leaf-no-memory, contents-no-memory}
+use Rattle.rpki_der.specs.Prelude.{TagName, Accepts, Refuses, Refusal, UnlessMemory, SpellsLeaf, IsLeafFault}
+use Rattle.rpki_der.proofs.LeavesLaws.{leaf-no-memory}
 use Rattle.rpki_der.proofs.ComposedLaws.{all-read, nothing-whole, spelled-whole}
+use Rattle.rpki.specs.declared.repository.x509.name.attributes.AttributeView.{AttributeView}
 use Rattle.rpki.specs.Oids.{common_name}
-use Rattle.rpki.specs.Name.{Attribute, IsIdentifierThen, SpellsAttribute, SpellsEach, SpellsName, IsName}
+use Rattle.rpki.specs.Name.{Attribute, attribute_of}
+use Rattle.rpki.specs.NameAttributes.{MarkedAttribute, following, marked_relative, marked_attributes, NameRest, AreLeft}
+use Rattle.rpki.specs.NameAttributes.{IsViewOf, GivesAttribute}
 use Rattle.rpki.specs.NameTable.{Row, row_at, HasRow, name_table}
-use Rattle.rpki.specs.StrictName.{has_identifier, count_of, IsString, IsPermitted, IsStrict, attributes, IsNameOf}
+use Rattle.rpki.specs.StrictName.{has_identifier, count_of, IsString, IsPermitted, IsStrict, attributes}
 use Rattle.rpki.specs.Findings.{IsFound}
 use Rattle.rpki.specs.NameRule.{BreaksAt, FirstBreaks, BreaksRule}
 use Rattle.rpki.specs.declared.repository.x509.name.table.Strings.{Strings}
@@ -31,7 +33,6 @@ use Rattle.rpki.proofs.NameTableLaws.{Distinct}
 use Rattle.rpki.specs.declared.repository.x509.name.rule.NameRule.{NameRule}
 use Rattle.rpki.specs.declared.repository.x509.name.rule.NameRule.TheVariants.{MissingCommonName, OtherString}
 use Rattle.rpki.specs.declared.repository.x509.name.rule.NameRule.TheVariants.{OtherAttribute}
-use Rattle.rpki.proofs.NameLaws.{attribute-identified}
 
 -- ---- errors of readers that allocate nothing
 
@@ -228,135 +229,93 @@ more-after T S rule xs ys h = record {
   broken = h.broken;
 }
 
--- ---- a list of values, each of which stands for attributes
+-- ---- the attributes one after another
 
-pub record IsJoin {V : Type 0} (join : List V → List Attribute) : Type 0 where
-  pub none : join [] ≡ []
-  pub more : (xs ys : List V) → join (xs ++ ys) ≡ join xs ++ join ys
+abbrev pub unmarked : List MarkedAttribute → List Attribute
+unmarked xs = map (λ x. x.attribute) xs
 
-pub join-attributes : IsJoin {V = Attribute} (λ xs. xs)
-join-attributes = record { none = refl; more = λ xs ys. refl }
+following-unmarked : (xs : List Attribute) → unmarked (following xs) ≡ xs
+following-unmarked [] = refl
+following-unmarked (x ∷ xs) = ap (λ (l : List Attribute). x ∷ l) (following-unmarked xs)
 
-pub join-relatives : IsJoin attributes
-join-relatives = record { none = refl; more = flat_map-append (λ x. x) }
+relative-unmarked : (xs : List Attribute) → unmarked (marked_relative xs) ≡ xs
+relative-unmarked [] = refl
+relative-unmarked (x ∷ xs) = ap (λ (l : List Attribute). x ∷ l) (following-unmarked xs)
 
-pub one-relative : (xs : List Attribute) → attributes (xs ∷ []) ≡ xs
-one-relative xs = append-nil xs
+pub name-unmarked : (parts : List (List Attribute)) → unmarked (marked_attributes parts) ≡ attributes parts
+name-unmarked [] = refl
+name-unmarked (xs ∷ parts) =
+    map-append (λ x. x.attribute) (marked_relative xs) (marked_attributes parts)
+    ∙ ap (λ (l : List Attribute). l ++ unmarked (marked_attributes parts)) (relative-unmarked xs)
+    ∙ ap (λ (l : List Attribute). xs ++ l) (name-unmarked parts)
 
--- of the values that were spelled, those in which y was found, and those that m spells
-pub record Middle {V : Type 0} (G : V → List ℕ → Type 0) (join : List V → List Attribute) (T : List Row)
-    (S : Row → Strings) (x y : List Bool) (vs : List V) (m : List ℕ) : Type 0 where
-  pub done : List V
-  pub todo : List V
-  pub split : vs ≡ done ++ todo
-  pub following : SpellsEach G todo m
-  pub found : (before : List Attribute) → IsFound T S x before → IsFound T S y (before ++ join done)
+-- of the attributes xs those in front were seen, in which this was found, and the others are left
+pub record AreSeen (T : List Row) (S : Row → Strings) (found : List Bool) (xs : List MarkedAttribute) (rest : NameRest)
+    : Type 0 where
+  pub done : List MarkedAttribute
+  pub todo : List MarkedAttribute
+  pub split : xs ≡ done ++ todo
+  pub left : AreLeft rest todo
+  pub seen : IsFound T S found (unmarked done)
 
-abbrev pub Through : {V : Type 0} → (V → List ℕ → Type 0) → (List V → List Attribute) → List Row → (Row → Strings)
-    → List Bool → List Bool → List ℕ → List ℕ → Type 0
-Through {V} G join T S x y c m = (vs : List V) → SpellsEach G vs c → Middle G join T S x y vs m
+-- the view of an attribute stands for it
+viewed : (v : AttributeView) (x : MarkedAttribute) → IsViewOf v x
+    → attribute_of v.identifier.0.now v.value.now ≡ x.attribute
+viewed v x h =
+    let e : attribute_of v.identifier.0.now v.value.now ≡ attribute_of x.attribute.identifier x.attribute.value =
+    rw (h.identifier, h.value) refl in
+    e
 
-pub through-nothing : {V : Type 0} (G : V → List ℕ → Type 0) (join : List V → List Attribute) (T : List Row)
-    (S : Row → Strings) (x : List Bool) (c : List ℕ) → IsJoin join → Through G join T S x x c c
-through-nothing G join T S x c j vs h = record {
-  done = [];
-  todo = vs;
-  split = refl;
-  following = h;
-  found = λ before f. subst (IsFound T S x) (sym (ap (λ (l : List Attribute). before ++ l) j.none ∙ append-nil before))
-      f;
-}
+module _ (T : List Row) (S : Row → Strings) (x : List Bool) (xs : List MarkedAttribute) (rest : NameRest)
+    (h : AreSeen T S x xs rest) where
+  pub all-seen : (after : NameRest)
+      → ((ys : List MarkedAttribute) → AreLeft rest ys → GivesAttribute ys None after) → IsFound T S x (unmarked xs)
+  all-seen after none = go h.todo h.split (none h.todo h.left)
+    where
+      go : (todo : List MarkedAttribute) → xs ≡ h.done ++ todo → GivesAttribute todo None after
+          → IsFound T S x (unmarked xs)
+      go [] e k =
+          subst (λ (l : List MarkedAttribute). IsFound T S x (unmarked l)) (sym (e ∙ append-nil h.done)) h.seen
+      go (y ∷ ys) e k = absurd k
 
-pub through-more : {V : Type 0} (G : V → List ℕ → Type 0) (join : List V → List Attribute) (T : List Row)
-    (S : Row → Strings) (x y z : List Bool) (c m r : List ℕ) → IsJoin join → (m ≡ [] → ⊥) → Through G join T S x y c m
-    → ((v : V) (q : List ℕ) → Spells G m v q → (q ≡ r) ×
-    ((before : List Attribute) → IsFound T S y before → IsFound T S z (before ++ join (v ∷ []))))
-    → Through G join T S x z c r
-through-more {V} G join T S x y z c m r j some t step vs h =
-    let g = t vs h in next g.done g.todo g.split g.following g.found
-  where
-    next : (done todo : List V) → vs ≡ done ++ todo → SpellsEach G todo m
-        → ((before : List Attribute) → IsFound T S x before → IsFound T S y (before ++ join done))
-        → Middle G join T S x z vs r
-    next done [] split following found = absurd (some following)
-    next done (v ∷ ws) split following found =
-        let k = step v following.0 following.1 in
-        record {
-          done = done ++ v ∷ [];
-          todo = ws;
-          split = split ∙ sym (append_assoc done (v ∷ []) ws);
-          following = subst (SpellsEach G ws) k.0 following.2;
-          found = λ before f.
-              subst (IsFound T S z) (append_assoc before (join done) (join (v ∷ [])) ∙ ap
-              (λ (l : List Attribute). before ++ l) (sym (j.more done (v ∷ []))))
-              (k.1 (before ++ join done) (found before f));
+  module _ (v : AttributeView) (after : NameRest)
+      (given : (ys : List MarkedAttribute) → AreLeft rest ys → GivesAttribute ys (Some v) after) where
+    pub more-seen : (z : List Bool)
+        → ((before : List Attribute) → IsFound T S x before
+        → IsFound T S z (before ++ attribute_of v.identifier.0.now v.value.now ∷ [])) → AreSeen T S z xs after
+    more-seen z found = go h.todo h.split (given h.todo h.left)
+      where
+        go : (todo : List MarkedAttribute) → xs ≡ h.done ++ todo → GivesAttribute todo (Some v) after
+            → AreSeen T S z xs after
+        go [] e k = absurd k
+        go (y ∷ ys) e k = record {
+          done = h.done ++ y ∷ [];
+          todo = ys;
+          split = e ∙ sym (append_assoc h.done (y ∷ []) ys);
+          left = k.1;
+          seen = subst (IsFound T S z) (sym (map-append (λ x. x.attribute) h.done (y ∷ [])))
+              (subst (λ (a : Attribute). IsFound T S z (unmarked h.done ++ a ∷ [])) (viewed v y k.0)
+              (found (unmarked h.done) h.seen));
         }
 
-regroup : (a b d e : List Attribute) → a ++ (b ++ (d ++ e)) ≡ ((a ++ b) ++ d) ++ e
-regroup a b d e = simp append_assoc
-
-pub through-refused : {V : Type 0} (G : V → List ℕ → Type 0) (join : List V → List Attribute) (T : List Row)
-    (S : Row → Strings) (rule : NameRule) (x y : List Bool) (c m : List ℕ) → IsJoin join → (m ≡ [] → ⊥)
-    → Through G join T S x y c m
-    → ((v : V) (q : List ℕ) → Spells G m v q → (before : List Attribute) → IsFound T S y before → FirstBreaks T S rule
-    (before ++ join (v ∷ [])))
-    → (vs : List V) → SpellsEach G vs c → (before : List Attribute) → IsFound T S x before
-    → FirstBreaks T S rule (before ++ join vs)
-through-refused {V} G join T S rule x y c m j some t refused vs h before f =
-    let g = t vs h in next g.done g.todo g.split g.following (g.found before f)
-  where
-    next : (done todo : List V) → vs ≡ done ++ todo → SpellsEach G todo m → IsFound T S y (before ++ join done)
-        → FirstBreaks T S rule (before ++ join vs)
-    next done [] split following found = absurd (some following)
-    next done (v ∷ ws) split following found =
-        let joined : join vs ≡ join done ++ (join (v ∷ []) ++ join ws) = ap join split ∙ j.more done (v ∷ ws) ∙ ap
-        (λ (l : List Attribute). join done ++ l) (j.more (v ∷ []) ws) in
-        subst (FirstBreaks T S rule) (sym
-        (ap (λ (l : List Attribute). before ++ l) joined ∙ regroup before (join done) (join (v ∷ [])) (join ws)))
-        (more-after T S rule ((before ++ join done) ++ join (v ∷ [])) (join ws)
-        (refused v following.0 following.1 (before ++ join done) found))
-
-pub through-all : {V : Type 0} (G : V → List ℕ → Type 0) (join : List V → List Attribute) (T : List Row)
-    (S : Row → Strings) (x y : List Bool) (c m : List ℕ) → ((v : V) (q : List ℕ) → Spells G m v q → ⊥)
-    → Through G join T S x y c m
-    → (vs : List V) → SpellsEach G vs c → (before : List Attribute) → IsFound T S x before
-    → IsFound T S y (before ++ join vs)
-through-all {V} G join T S x y c m nowhere t vs h before f =
-    let g = t vs h in next g.done g.todo g.split g.following (g.found before f)
-  where
-    next : (done todo : List V) → vs ≡ done ++ todo → SpellsEach G todo m → IsFound T S y (before ++ join done)
-        → IsFound T S y (before ++ join vs)
-    next done [] split following found =
-        subst (λ (l : List V). IsFound T S y (before ++ join l)) (sym (split ∙ append-nil done)) found
-    next done (v ∷ ws) split following found = absurd (nowhere v following.0 following.1)
-
--- ---- an attribute at the front
-
-pub no-attribute : (m r : List ℕ) (e : DecodeError)
-    → Refusal (SpellsLeaf sequence true IsIdentifierThen) (IsOuterFault sequence true) m r e
-    → (v : Attribute) (q : List ℕ) → Spells SpellsAttribute m v q → ⊥
-no-attribute m r e h v q g = surely e h.kind.other h.refuses v q (attribute-identified m v q g)
-
-pub this-attribute : (m r : List ℕ) (a : Attribute) → Accepts (SpellsLeaf sequence true IsIdentifierThen) m a r
-    → (v : Attribute) (q : List ℕ) → Spells SpellsAttribute m v q → (q ≡ r) × (v ≡ a)
-this-attribute m r a h v q g = let k = h.only v q (attribute-identified m v q g) in (k.1, k.0)
-
--- ---- a value at the front, whose contents were found
-
-pub no-contents : {V : Type 0} (t : TagName) (C : V → List ℕ → Type 0) (m r : List ℕ) (e : DecodeError)
-    → Refusal (SpellsContents t true) (IsContentsFault t true) m r e → (v : V) (q : List ℕ)
-    → Spells (SpellsLeaf t true C) m v q → ⊥
-no-contents t C m r e h v q g =
-    let l = leaf-value t true C m v q g in
-    surely e (contents-no-memory t true m e h.kind) h.refuses l.0 q l.1
-
-pub these-contents : {V : Type 0} (t : TagName) (C : V → List ℕ → Type 0) (m r c : List ℕ)
-    → Accepts (SpellsContents t true) m c r → (v : V) (q : List ℕ) → Spells (SpellsLeaf t true C) m v q
-    → (q ≡ r) × C v c
-these-contents t C m r c h v q g =
-    let l = leaf-value t true C m v q g in
-    let k = h.only l.0 q l.1 in
-    (k.1, subst (C v) k.0 l.2)
+    pub rule-seen : (rule : NameRule)
+        → ((before : List Attribute) → IsFound T S x before
+        → FirstBreaks T S rule (before ++ attribute_of v.identifier.0.now v.value.now ∷ []))
+        → FirstBreaks T S rule (unmarked xs)
+    rule-seen rule broken = go h.todo h.split (given h.todo h.left)
+      where
+        go : (todo : List MarkedAttribute) → xs ≡ h.done ++ todo → GivesAttribute todo (Some v) after
+            → FirstBreaks T S rule (unmarked xs)
+        go [] e k = absurd k
+        go (y ∷ ys) e k =
+            let first : FirstBreaks T S rule (unmarked h.done ++ y.attribute ∷ []) =
+            subst (λ (a : Attribute). FirstBreaks T S rule (unmarked h.done ++ a ∷ [])) (viewed v y k.0)
+            (broken (unmarked h.done) h.seen) in
+            let all : unmarked xs ≡ (unmarked h.done ++ y.attribute ∷ []) ++ unmarked ys =
+            ap unmarked e ∙ map-append (λ x. x.attribute) h.done (y ∷ ys)
+            ∙ sym (append_assoc (unmarked h.done) (y.attribute ∷ []) (unmarked ys)) in
+            subst (FirstBreaks T S rule) (sym all)
+            (more-after T S rule (unmarked h.done ++ y.attribute ∷ []) (unmarked ys) first)
 
 -- ---- the whole name
 
@@ -385,14 +344,14 @@ unseen x h = record { unseen = not-seen x h }
 pub first-is-common : HasRow name_table 0 common_name
 first-is-common = record { below = lit< tt; same = refl }
 
-pub nothing-found : (T : List Row) (S : Row → Strings) (x : List Bool) → AreUnseen x → IsFound T S x []
+nothing-found : (T : List Row) (S : Row → Strings) (x : List Bool) → AreUnseen x → IsFound T S x []
 nothing-found T S x none =
     record { counted = λ n below. rw (none.unseen n) refl; permitted = All-nil (IsPermitted T S) }
 
-pub first-rule : (T : List Row) (S : Row → Strings) (rule : NameRule) (x : List Bool) (xs : List Attribute)
-    → AreUnseen x → ((before : List Attribute) → IsFound T S x before → FirstBreaks T S rule (before ++ xs))
-    → BreaksRule T S rule xs
-first-rule T S rule x xs none h = inl (h [] (nothing-found T S x none))
+pub none-seen : (T : List Row) (S : Row → Strings) (x : List Bool) (xs : List MarkedAttribute) (rest : NameRest)
+    → AreUnseen x → AreLeft rest xs → AreSeen T S x xs rest
+none-seen T S x xs rest none h =
+    record { done = []; todo = xs; split = refl; left = h; seen = nothing-found T S x none }
 
 -- whether there is a common name, by the flag of its row
 common-seen : (T : List Row) (S : Row → Strings) (x : List Bool) (xs : List Attribute) (n : ℕ) (b : Bool)
@@ -415,13 +374,3 @@ found-strict T S x xs n f h one = record {
   once = λ k below. omega (arith, f.counted k below, at-most-one (get_or x k false));
   permitted = f.permitted;
 }
-
--- ---- what the public calls say
-
--- of a name that has been read
-pub inspected : (T : List Row) (S : Row → Strings) (octets : List ℕ) (r : Result (Unit {0}) NameRule) → IsName octets
-    → ((parts : List (List Attribute)) → SpellsName parts octets → MatchResult r (λ u. IsStrict T S (attributes parts))
-    (λ rule. BreaksRule T S rule (attributes parts)))
-    → MatchResult r (λ u. IsNameOf (IsStrict T S) octets) (λ rule. IsNameOf (BreaksRule T S rule) octets)
-inspected T S octets (Ok u) n h = (n.0, n.1, h n.0 n.1)
-inspected T S octets (Err rule) n h = (n.0, n.1, h n.0 n.1)

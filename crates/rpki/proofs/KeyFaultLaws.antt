@@ -2,17 +2,16 @@
 use Rattle.std.proofs.Common.{ℕ, true, false, List, refl}
 use Rattle.rpki_der.specs.declared.error.DecodeError.{DecodeError}
 use Rattle.rpki_der.specs.declared.error.DecodeError.TheVariants.{OutOfMemory}
-use Rattle.rpki_der.specs.Prelude.{sequence, bit_string, integer, Finds, OrMemoryWhere, Refusal, UnlessMemory}
-use Rattle.rpki_der.specs.Prelude.{SpellsNothing, TakesNoMemory, IsWholeFault, SpellsLeaf, IsLeafFault, GivesOuterFault}
-use Rattle.rpki_der.specs.Prelude.{IsOuterFault, IsUnsigned, IsBits, HasInside, FirstFault, IsEndFault, AtPart, Later}
+use Rattle.rpki_der.specs.Prelude.{sequence, bit_string, integer, Refusal, UnlessMemory}
+use Rattle.rpki_der.specs.Prelude.{SpellsNothing, TakesNoMemory, IsWholeFault, SpellsLeaf, IsLeafFault}
+use Rattle.rpki_der.specs.Prelude.{IsOuterFault, IsUnsigned, IsBits, FirstFault, IsEndFault}
 use Rattle.rpki_der.proofs.LeavesLaws.{leaf-no-memory}
 use Rattle.rpki_der.proofs.ComposedLaws.{not-read}
-use Rattle.rpki_der.proofs.FirstFaultLaws.{first-no-memory, end-no-memory, inside-outer-exactly, inside-outer-where}
-use Rattle.rpki.specs.PublicKey.{IsKeyContents, SpellsRsaBits}
+use Rattle.rpki_der.proofs.FirstFaultLaws.{first-no-memory, end-no-memory, inside-outer-exactly}
+use Rattle.rpki.specs.PublicKey.{SpellsRsaBits}
 use Rattle.rpki.specs.KeyFormat.{SpellsFormat}
 use Rattle.rpki.specs.AlgorithmFault.{key_format}
-use Rattle.rpki.specs.KeyFault.{key_parts, IsKeyFault, key_view_parts, IsKeyViewFault, rsa_numbers, IsRsaBitsFault}
-use Rattle.rpki.proofs.PublicKeyLaws.{key-found}
+use Rattle.rpki.specs.KeyFault.{key_view_parts, key_view, rsa_numbers, rsa_bits}
 use Rattle.rpki.proofs.AlgorithmFaultLaws.{format-outer}
 
 view-parts-never : (c : List ℕ) → key_view_parts.fault c OutOfMemory → ⊥
@@ -25,7 +24,7 @@ view-parts-never c =
     (λ b q. end-no-memory q))
 
 -- a key whose bits are borrowed allocates nothing
-pub view-outer : (s : List ℕ) (e : DecodeError) → IsKeyViewFault s e → IsOuterFault sequence true s e
+pub view-outer : (s : List ℕ) (e : DecodeError) → key_view.fault s e → IsOuterFault sequence true s e
 view-outer s e = inside-outer-exactly sequence true key_view_parts.fault s e view-parts-never
 
 rsa-never : (c : List ℕ) → rsa_numbers.fault c OutOfMemory → ⊥
@@ -38,11 +37,11 @@ rsa-never c =
     (λ n q. end-no-memory q))
 
 -- nothing is allocated
-pub rsa-bits-outer : (s : List ℕ) (e : DecodeError) → IsRsaBitsFault s e → IsOuterFault sequence true s e
+pub rsa-bits-outer : (s : List ℕ) (e : DecodeError) → rsa_bits.fault s e → IsOuterFault sequence true s e
 rsa-bits-outer s e = inside-outer-exactly sequence true rsa_numbers.fault s e rsa-never
 
-pub whole-refused : (s r : List ℕ) (e : DecodeError) → Refusal SpellsRsaBits IsRsaBitsFault s r e
-    → UnlessMemory e (SpellsNothing SpellsRsaBits s) × TakesNoMemory (IsWholeFault SpellsRsaBits IsRsaBitsFault) s e
+pub whole-refused : (s r : List ℕ) (e : DecodeError) → Refusal SpellsRsaBits rsa_bits.fault s r e
+    → UnlessMemory e (SpellsNothing SpellsRsaBits s) × TakesNoMemory (IsWholeFault SpellsRsaBits rsa_bits.fault) s e
 whole-refused s r e h =
-    let k = not-read SpellsRsaBits IsRsaBitsFault s r e h in
+    let k = not-read SpellsRsaBits rsa_bits.fault s r e h in
     (k.0, record { other = (rsa-bits-outer s e h.kind).other; kind = k.1 })

@@ -2,11 +2,12 @@
 --
 -- Parts that may be left out; which identifier; allocation failures: PartLaws, NamedLaws, MemoryLaws.
 -- Algorithms, formats, digests; their errors: AlgorithmLaws, FormatLaws, DigestLaws, AlgorithmFaultLaws.
--- Signed data; its errors: SigningLaws, SignedLaws, EqualLaws, SignedFaultLaws.
+-- Signed data: SigningLaws, SignedLaws, EqualLaws.
 -- Keys and key identifiers; errors of keys: PublicKeyLaws, KeyIdentifierLaws, KeyFaultLaws.
 -- Extensions; their errors: ExtensionLaws, ExtensionIndexLaws, ExtensionFaultLaws.
--- Names; their errors, and the rules of profiles: NameLaws, OneNameLaws, NameFaultLaws, RuleLaws, InspectionLaws,
---   NameTableLaws, WithoutOrganizationLaws, SubjectLaws, StrictSubjectLaws.
+-- Names; their errors, and their attributes: NameLaws, OneNameLaws, NameFaultLaws, NameAttributeLaws.
+-- The rules of profiles of names: RuleLaws, InspectionLaws, NameTableLaws, WithoutOrganizationLaws, SubjectLaws,
+--   StrictSubjectLaws.
 
 pub mod AlgorithmLaws
 pub mod NamedLaws
@@ -23,9 +24,9 @@ pub mod EqualLaws
 pub mod SubjectLaws
 pub mod StrictSubjectLaws
 pub mod MemoryLaws
-pub mod SignedFaultLaws
 pub mod NameLaws
 pub mod NameFaultLaws
+pub mod NameAttributeLaws
 pub mod NameTableLaws
 pub mod InspectionLaws
 pub mod WithoutOrganizationLaws

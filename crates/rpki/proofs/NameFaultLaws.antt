@@ -1,24 +1,22 @@
 -- The errors of names: where allocation may fail, and where there is no SEQUENCE.
-use Rattle.std.proofs.Common.{◌≡◌, ◌⊎◌, inl, inr, ℕ, true, false, List, [], ◌∷◌, ◌++◌, refl, sym, ap, ◌∙◌, append_assoc}
-use Rattle.std.proofs.Common.{Result}
+use Rattle.std.proofs.Common.{◌≡◌, ◌⊎◌, inl, inr, ℕ, true, false, List, [], ◌∷◌, refl}
+use Rattle.std.proofs.Common.{Result, codes}
 use Rattle.rpki_der.specs.declared.error.DecodeError.{DecodeError}
-use Rattle.rpki_der.specs.declared.error.DecodeError.TheVariants.{Truncated, BadTag, BadLength, Unexpected, Content}
-use Rattle.rpki_der.specs.declared.error.DecodeError.TheVariants.{Trailing, OutOfMemory}
-use Rattle.rpki_der.specs.Prelude.{TagName, oid, sequence, set, Accepts, Refusal, Reads, Finds, UnlessMemory}
-use Rattle.rpki_der.specs.Prelude.{OrMemoryWhere, SpellsLeaf, GivesOuterFault, IsOidOf, IsValueList, SpellsKept}
-use Rattle.rpki_der.specs.Prelude.{IsCapturedFault, HasInside, RepeatedFault, IsInsideFault, AtPart, Later, AtMember}
-use Rattle.rpki_der.specs.Prelude.{AfterMember}
-use Rattle.rpki_der.proofs.LeavesLaws.{leaf-no-memory, contents-no-memory}
-use Rattle.rpki_der.proofs.ReadingLaws.{UnlessMemory-weaker, or-memory-kind}
+use Rattle.rpki_der.specs.declared.error.DecodeError.TheVariants.{OutOfMemory}
+use Rattle.rpki_der.specs.Prelude.{oid, sequence, set, Accepts, Refusal, Reads, Finds}
+use Rattle.rpki_der.specs.Prelude.{SpellsLeaf, IsOidOf, IsValueList, SpellsKept}
+use Rattle.rpki_der.specs.Prelude.{IsCapturedFault, RepeatedFault}
+use Rattle.rpki_der.specs.Prelude.{AfterMember, IsLeafFault, SpellsAnyValue, IsNestedFault, IsEndFault, only}
+use Rattle.rpki_der.proofs.LeavesLaws.{leaf-no-memory}
+use Rattle.rpki_der.proofs.ReadingLaws.{UnlessMemory-weaker}
 use Rattle.rpki_der.proofs.CaptureLaws.{reads-as, or-memory-from}
-use Rattle.rpki_der.proofs.FirstFaultLaws.{end-no-memory, inside-outer}
-use Rattle.rpki.specs.Name.{IsAttribute, SpellsSome, SpellsAttribute, SpellsRelative, IsName, SpellsNameOctets}
-use Rattle.rpki.specs.AnyValue.{SpellsAny}
-use Rattle.rpki.specs.NameValue.{HasAfter, IdentifiesValue, HasAttributeValue, HasRelativeValue, HasNameValue}
+use Rattle.rpki_der.proofs.FirstFaultLaws.{first-no-memory, end-no-memory, repeated-no-memory, inside-no-memory}
+use Rattle.rpki_der.proofs.WalkLaws.{nested-no-memory}
+use Rattle.rpki.specs.Name.{SpellsSome, SpellsRelative, IsName, SpellsNameOctets}
+use Rattle.rpki.specs.NameValue.{HasNameValue}
 use Rattle.rpki.specs.NameFault.{attribute_parts, attribute, attributes, relative, relatives, IsWalkedNameFault}
-use Rattle.rpki.specs.NameFault.{IsNameFault}
-use Rattle.rpki.proofs.NameLaws.{Passed, AnyName, any-leaf, leaf-any, octets-any, name-of, name-value, name-found}
-use Rattle.rpki.proofs.NameLaws.{identified}
+use Rattle.rpki.specs.NameFault.{IsNameFault, not_empty, any_value}
+use Rattle.rpki.proofs.NameLaws.{Passed, AnyName, leaf-any, octets-any, name-of, name-value, name-found}
 use Rattle.rpki.proofs.NameLaws.Passed.{Here, Next}
 
 -- ---- the loop of a reader of many parts
@@ -34,48 +32,30 @@ pub is-nothing : (s : List ℕ) → ((s ≡ [] → ⊥) → ⊥) → s ≡ []
 is-nothing [] h = refl
 is-nothing (x ∷ xs) h = absurd (h (λ e. cc))
 
--- ---- where allocation fails
+-- ---- allocation
 
-inside-memory : (t : TagName) (L : List ℕ → DecodeError → Type 0) (P : List ℕ → Type 0) (s : List ℕ)
-    → ((c : List ℕ) → L c OutOfMemory → P c) → IsInsideFault t true L s OutOfMemory → HasInside t P s
-inside-memory t L P s g (AtPart none k) = absurd (contents-no-memory t true s OutOfMemory k refl)
-inside-memory t L P s g (Later c r a l) = (c, r, a.spells, g c l)
+-- the name is read in place
+attribute-never : (c : List ℕ) → attribute_parts.fault c OutOfMemory → ⊥
+attribute-never c = first-no-memory (SpellsLeaf oid false IsOidOf) (IsLeafFault oid false IsOidOf) _ c
+    (λ h. leaf-no-memory oid false IsOidOf c OutOfMemory h refl) (λ x r h. value h)
+  where
+    value : {r : List ℕ} → (not_empty (codes "invalid name") (only any_value)).fault r OutOfMemory → ⊥
+    value (inl h) = h.1
+    value {r} (inr h) = first-no-memory SpellsAnyValue IsNestedFault (λ v. IsEndFault) r nested-no-memory
+        (λ v q. end-no-memory q) h
 
-repeated-memory : {V : Type 0} (t : TagName) (C : V → List ℕ → Type 0) (K : List ℕ → DecodeError → Type 0)
-    (P : List ℕ → Type 0) (s : List ℕ)
-    → ((r : List ℕ) → K r OutOfMemory → P r) → RepeatedFault (SpellsLeaf t true (SpellsAny C)) K s OutOfMemory
-    → HasAfter (SpellsLeaf t true C) P s
-repeated-memory t C K P s f (AtMember some none k) = ([], [], s, refl, refl, f s k)
-repeated-memory t C K P s f (AfterMember v r a h) =
-    let (vs, front, q, each, parts, p) = repeated-memory t C K P r f h in
-    let g = any-leaf t true C a.spells.front a.spells.spelled in (
-      g.0 ∷ vs,
-      a.spells.front ++ front,
-      q,
-      (front, record { front = a.spells.front; parts = refl; spelled = g.1 }, each),
-      a.spells.parts ∙ ap (λ (x : List ℕ). a.spells.front ++ x) parts ∙ sym (append_assoc a.spells.front front q),
-      p,
-    )
+attributes-never : (c : List ℕ) → attributes.fault c OutOfMemory → ⊥
+attributes-never c (inl h) = h.1
+attributes-never c (inr h) = repeated-no-memory _ attribute.fault c
+    (λ r. inside-no-memory sequence true attribute_parts.fault r attribute-never) h
 
-attribute-memory : (c : List ℕ) → attribute_parts.fault c OutOfMemory → IdentifiesValue c
-attribute-memory c (AtPart none k) = absurd (leaf-no-memory oid false IsOidOf c OutOfMemory k refl)
-attribute-memory c (Later x r a (inl h)) = absurd h.1
-attribute-memory c (Later x r a (inr (AtPart none k))) = (_, (identified c r x a).0, (true, k))
-attribute-memory c (Later x r a (inr (Later v q b k))) = absurd (end-no-memory q k)
+relatives-never : (c : List ℕ) → relatives.fault c OutOfMemory → ⊥
+relatives-never c (inl h) = h.1
+relatives-never c (inr h) = repeated-no-memory _ relative.fault c
+    (λ r. inside-no-memory set true attributes.fault r attributes-never) h
 
-attributes-memory : (c : List ℕ) → attributes.fault c OutOfMemory → HasAfter SpellsAttribute HasAttributeValue c
-attributes-memory c (inl h) = absurd h.1
-attributes-memory c (inr h) = repeated-memory sequence IsAttribute attribute.fault HasAttributeValue c
-    (λ s. inside-memory sequence attribute_parts.fault IdentifiesValue s attribute-memory) h
-
-relatives-memory : (c : List ℕ) → relatives.fault c OutOfMemory → HasAfter SpellsRelative HasRelativeValue c
-relatives-memory c (inl h) = absurd h.1
-relatives-memory c (inr h) =
-    repeated-memory set (SpellsSome SpellsAttribute) relative.fault HasRelativeValue c
-    (λ s. inside-memory set attributes.fault (HasAfter SpellsAttribute HasAttributeValue) s attributes-memory) h
-
-name-memory : (s : List ℕ) → IsWalkedNameFault s OutOfMemory → HasNameValue s
-name-memory s = inside-memory sequence relatives.fault (HasAfter SpellsRelative HasRelativeValue) s relatives-memory
+pub name-never : (s : List ℕ) → IsWalkedNameFault s OutOfMemory → ⊥
+name-never s = inside-no-memory sequence true relatives.fault s relatives-never
 
 -- ---- a name, captured
 
@@ -111,7 +91,7 @@ name-kept s r x h =
     x octets-of any-of
     (λ e. or-memory-from (λ q. IsWalkedNameFault q OutOfMemory ⊎ Finds AnyName q) HasNameValue IsWalkedNameFault s e
     (λ m. elim m [
-      | inl k ↦ name-memory s k
+      | inl k ↦ absurd (name-never s k)
       | inr k ↦ name-found s k.1 k.2
     ])) h
 

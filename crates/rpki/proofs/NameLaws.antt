@@ -1,12 +1,11 @@
 -- Lists of values, one after another, as a reader of one after another finds them; and what names are.
-use Rattle.std.proofs.Common.{◌≡◌, ◌≢◌, ◌↔◌, IsTrue, ℕ, ◌+◌, ◌<◌, ◌≤◌, Bool, true, false, List, [], ◌∷◌, ◌++◌, ◌-◌}
+use Rattle.std.proofs.Common.{◌≡◌, ◌≢◌, ℕ, ◌+◌, Bool, true, false, List, [], ◌∷◌, ◌++◌, ◌-◌}
 use Rattle.std.proofs.Common.{take, length, refl, sym, ap, subst, ◌∙◌, append_assoc, arith, length-append}
 use Rattle.std.proofs.lemmas.List.{append-nil, take_at, append_cancel_right}
-use Rattle.rpki_der.specs.Prelude.{TagName, sequence, set, oid, Spells, Accepts, Refuses, SpellsNothing, SpellsContents}
+use Rattle.rpki_der.specs.Prelude.{TagName, sequence, set, oid, Spells, Accepts, Refuses, SpellsNothing}
 use Rattle.rpki_der.specs.Prelude.{SpellsLeaf, IsOidOf, IsValue, IsValueList}
 use Rattle.rpki_der.proofs.MembersLaws.{value-some}
 use Rattle.rpki_der.specs.Prelude.{SpellsAnyValue, values_append, no_values}
-use Rattle.rpki_der.proofs.EncodeLaws.{tlv-at-least}
 use Rattle.rpki_der.proofs.LeafValueLaws.{leaf-value-alone, composed-value-alone, leaf-nowhere}
 use Rattle.rpki_der.proofs.LeavesLaws.{leaf-value}
 use Rattle.rpki.specs.Name.{Attribute, attribute_of, IsIdentifierThen, IsAttribute, SpellsAttribute, SpellsEach}
@@ -155,16 +154,6 @@ identified c m o a = (
 pub unidentified : (c : List ℕ) → Refuses (SpellsLeaf oid false IsOidOf) c → SpellsNothing IsIdentifierThen c
 unidentified c none w h =
     none w.identifier w.value (record { front = h.front; parts = h.parts; spelled = h.identifier })
-
--- an attribute begins with its identifier
-pub attribute-identified : (s : List ℕ) (a : Attribute) (r : List ℕ) → Spells SpellsAttribute s a r
-    → Spells (SpellsLeaf sequence true IsIdentifierThen) s a r
-attribute-identified s a r h = record {
-  front = h.front;
-  parts = h.parts;
-  spelled = record
-      { contents = h.spelled.contents; value = h.spelled.value; spelled = h.spelled.spelled.identified };
-}
 
 -- what follows the identifier of an attribute is a value
 pub identified-value : (c m : List ℕ) (o : List ℕ) → Accepts (SpellsLeaf oid false IsOidOf) c o m → (w : Attribute)

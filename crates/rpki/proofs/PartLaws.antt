@@ -1,16 +1,13 @@
 -- What the readers of parts return, in the words of a reader of all of something.
-use Rattle.std.proofs.Common.{ℕ, Bool, true, false, List, Result, refl, sym, subst}
+use Rattle.std.proofs.Common.{ℕ, Bool, true, false, List, Result, sym, subst}
 use Rattle.rpki_der.specs.declared.error.DecodeError.{DecodeError}
-use Rattle.rpki_der.specs.Prelude.{TagName, oid, sequence, Accepts, Refuses, Refusal, Reads, SpellsLeaf, IsLeafFault}
-use Rattle.rpki_der.specs.Prelude.{IsOuterFault, IsOidOf, IsOnly, left, ReadsInside}
+use Rattle.rpki_der.specs.Prelude.{TagName, oid, sequence, Accepts, Refuses, Refusal, SpellsLeaf, IsLeafFault, IsOidOf}
+use Rattle.rpki_der.specs.Prelude.{left, ReadsInside, Takes, this_oid}
 use Rattle.rpki_der.specs.declared.cursor.Constructed.{Constructed}
-use Rattle.rpki_der.proofs.InsideLaws.{Same, read-inside-never, reads-all, unless-memory, refused-inside}
+use Rattle.rpki_der.proofs.InsideLaws.{Same, unless-memory, refused-inside}
 use Rattle.rpki_der.proofs.LeavesLaws.{leaf-no-memory}
-use Rattle.rpki_der.specs.Prelude.{IsEndFault}
-use Rattle.rpki_der.proofs.FirstFaultLaws.{read-parts-inside, reads-one-part}
-use Rattle.rpki_der.specs.Prelude.{only, this_oid}
-use Rattle.rpki.specs.AlgorithmFault.{IsBareFault}
-use Rattle.rpki.specs.SignatureNames.{SpellsBare}
+use Rattle.rpki_der.proofs.FormatLaws.{takes-around-one}
+use Rattle.rpki.specs.AlgorithmFault.{bare}
 use Rattle.rpki.specs.UnknownAlgorithm.{BeginsUnknown, NamesUnknown, IsRefusedWith}
 
 -- contents that say less
@@ -53,22 +50,9 @@ module _ {X : Type 0} (Known : List ℕ → Type 0) (text : List ℕ)
 
 -- ---- an identifier alone
 
-module _ (o : List ℕ) (reads : Constructed → Result (Unit {0}) DecodeError → Constructed → Type 0)
-    (law : (b a : Constructed) (x : Result (Unit {0}) DecodeError) → reads b x a → Reads (λ u. u)
-    (SpellsLeaf oid false (IsOnly o)) (IsLeafFault oid false (IsOnly o)) (left b) (left a) x) where
-  pub only-inside : (s r : List ℕ) (x : Result (Unit {0}) DecodeError) → ReadsInside sequence true Same reads s r x
-      → Reads (λ u. u) (SpellsBare o) (IsOuterFault sequence true) s r x
-  only-inside =
-      read-inside-never (λ u. u) sequence true (SpellsLeaf oid false (IsOnly o)) (IsLeafFault oid false (IsOnly o))
-      reads
-      (λ b a x h. reads-all (λ u. u) (SpellsLeaf oid false (IsOnly o)) (IsLeafFault oid false (IsOnly o)) (left b)
-      (left a) x (law b a x h))
-      (λ s k. leaf-no-memory oid false (IsOnly o) s _ k refl)
-
-  -- the same, with the error of the identifier
-  pub only-named : (s r : List ℕ) (x : Result (Unit {0}) DecodeError) → ReadsInside sequence true Same reads s r x
-      → Reads (λ u. u) (SpellsBare o) (IsBareFault o) s r x
-  only-named =
-      read-parts-inside (λ u. u) sequence true (SpellsLeaf oid false (IsOnly o)) (only (this_oid o)).fault reads
-      (λ b a x h. reads-one-part (λ u. u) (SpellsLeaf oid false (IsOnly o)) (IsLeafFault oid false (IsOnly o)) (left b)
-      (left a) x (law b a x h))
+pub only-named : (o : List ℕ) (reads : Constructed → Result (Unit {0}) DecodeError → Constructed → Type 0)
+    → ((b a : Constructed) (x : Result (Unit {0}) DecodeError) → reads b x a
+    → Takes (λ u. u) (this_oid o) (left b) (left a) x)
+    → (s r : List ℕ) (x : Result (Unit {0}) DecodeError) → ReadsInside sequence true Same reads s r x
+    → Takes (λ u. u) (bare o) s r x
+only-named o = takes-around-one (λ u. u) sequence (this_oid o)

@@ -4,12 +4,11 @@ use Rattle.std.proofs.Common.{Result, ap}
 use Rattle.std.proofs.Common.{◌∙◌, arith, lit<, length-append}
 use Rattle.rpki_der.specs.declared.error.DecodeError.{DecodeError}
 use Rattle.rpki_der.specs.Prelude.{IsTag, oid, null, sequence, bit_string, integer, tlv, Spells, SpellsNothing}
-use Rattle.rpki_der.specs.Prelude.{UnlessMemory, TakesNoMemory, IsWholeFault, Finds, SpellsLeaf, Bits, AreBits, IsBits}
+use Rattle.rpki_der.specs.Prelude.{UnlessMemory, TakesNoMemory, IsWholeFault, Bits}
 use Rattle.rpki_der.specs.Prelude.{bits_of, bits_contents, IsUnsigned, IsMagnitude, unsigned_contents, number_of}
 use Rattle.rpki_der.specs.Prelude.{AreOctets, sequence_legal}
 use Rattle.rpki_der.proofs.ReadingLaws.{UnlessMemory-weaker}
 use Rattle.rpki_der.proofs.EncodeLaws.{leaf-legal, tlv-same, tlv-same-then, tlv-at-least, tlv_at_most, bits-same}
-use Rattle.rpki_der.proofs.EncodeLaws.{bits-spelled}
 use Rattle.rpki_der.proofs.UnsignedLaws.{unsigned-spelled, unsigned-at-most, magnitude-at-most}
 use Rattle.rpki.specs.declared.crypto.keys.PublicKeyFormat.{PublicKeyFormat}
 use Rattle.rpki.specs.declared.crypto.keys.PublicKeyFormat.TheVariants.{Rsa, EcdsaP256}
@@ -17,12 +16,11 @@ use Rattle.rpki.specs.Oids.{rsa_encryption, ec_public_key, secp256r1}
 use Rattle.rpki_der.specs.Format.{Format, TakesAll, then, only, said_by}
 use Rattle.rpki_der.proofs.FormatLaws.{takes-said}
 use Rattle.rpki.specs.AlgorithmFault.{key_format}
-use Rattle.rpki.specs.KeyFormat.{SpellsFormat, format_contents, format_octets}
-use Rattle.rpki.specs.PublicKey.{KeyParts, key_of, IsKeyContents, SpellsKey, key_contents, key_octets, AreRsaNumbers}
+use Rattle.rpki.specs.KeyFormat.{format_contents, format_octets}
+use Rattle.rpki.specs.PublicKey.{KeyParts, key_of, key_contents, key_octets, AreRsaNumbers}
 use Rattle.rpki.specs.PublicKey.{SpellsRsaNumbers, SpellsRsaBits, IsRsaKey}
-use Rattle.rpki.specs.KeyFault.{IsRsaBitsFault}
-use Rattle.rpki.proofs.FormatLaws.{format-short, format-spelled}
-use Rattle.rpki.proofs.MemoryLaws.{both-found}
+use Rattle.rpki.specs.KeyFault.{rsa_bits}
+use Rattle.rpki.proofs.FormatLaws.{format-short}
 
 -- ---- keys that are written
 
@@ -98,8 +96,8 @@ as-key s v r h =
     record { front = h.front; parts = h.parts; spelled = record { format = refl; bits = refl; numbers = h.spelled } }
 
 pub no-rsa-key : (s : List ℕ) (e : DecodeError)
-    → UnlessMemory e (SpellsNothing SpellsRsaBits s) × TakesNoMemory (IsWholeFault SpellsRsaBits IsRsaBitsFault) s e
-    → UnlessMemory e (SpellsNothing IsRsaKey s) × TakesNoMemory (IsWholeFault IsRsaKey IsRsaBitsFault) s e
+    → UnlessMemory e (SpellsNothing SpellsRsaBits s) × TakesNoMemory (IsWholeFault SpellsRsaBits rsa_bits.fault) s e
+    → UnlessMemory e (SpellsNothing IsRsaKey s) × TakesNoMemory (IsWholeFault IsRsaKey rsa_bits.fault) s e
 no-rsa-key s e h = (
   UnlessMemory-weaker e (λ none k g. none tt g.numbers) h.0,
   record {
@@ -167,10 +165,3 @@ pub rsa-bits : (modulus exponent m n octets : List ℕ) → IsMagnitude m → Is
 rsa-bits modulus exponent m n octets p q short e f is =
     let h : SpellsRsaNumbers (number_of m, number_of n) octets = rw is (numbers-spelled m n p q short) in
     rw (← e, ← f) h
-
--- a format in front of bits
-pub key-found : (s m : List ℕ) (f : PublicKeyFormat) → Spells SpellsFormat s f m
-    → Finds (SpellsLeaf bit_string false IsBits) m → Finds IsKeyContents s
-key-found s m f one h =
-    let g = both-found SpellsFormat (SpellsLeaf bit_string false IsBits) s m f h.0 h.1 one h.2 in
-    (key_of f h.0, h.1, record { front = g.0; parts = g.1; spelled = g.2 })

@@ -58,11 +58,3 @@ format_parts = record { spells = IsFormatContents; fault = FirstFault any_oid.sp
 
 abbrev pub key_format : Format PublicKeyFormat
 key_format = around sequence format_parts
-
--- ---- the errors
-
-abbrev pub IsAlgorithmFault : List ℕ → List ℕ → DecodeError → Type 0
-IsAlgorithmFault o = (algorithm o).fault
-
-abbrev pub IsBareFault : List ℕ → List ℕ → DecodeError → Type 0
-IsBareFault o = (bare o).fault

@@ -1,6 +1,6 @@
 -- The one spelling of an algorithm identifier that has no parameters.
-use Rattle.std.specs.Prelude.{◌≡◌, ℕ, ◌<◌, ◌^◌, true, false, List, length, refl}
-use Rattle.std.proofs.Common.{arith, ap, ◌∙◌}
+use Rattle.std.specs.Prelude.{ℕ, ◌<◌, ◌^◌, true, false, List, length, refl}
+use Rattle.std.proofs.Common.{arith}
 use Rattle.rpki_der.specs.Prelude.{oid, sequence, tlv, IsOnly, SpellsLeaf, IsValue, sequence_legal}
 use Rattle.rpki_der.proofs.EncodeLaws.{leaf-legal, tlv_at_most}
 use Rattle.rpki_der.proofs.LeafValueLaws.{leaf-value-alone, composed-value-alone}

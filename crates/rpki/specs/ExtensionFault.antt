@@ -1,6 +1,5 @@
 -- Extensions as formats: their octets, and which error those have that are rejected (RFC 5280 4.1).
 use Rattle.std.specs.Prelude.{ℕ, List}
-use Rattle.rpki_der.specs.declared.error.DecodeError.{DecodeError}
 use Rattle.rpki_der.specs.Prelude.{boolean, octet_string, sequence, Format, octets_under, around, then, optional_then}
 use Rattle.rpki_der.specs.Prelude.{only, said_by, kept, any_oid, boolean_value}
 use Rattle.rpki.specs.ExtensionValue.{ExtensionParts, IsExtensionContents}
@@ -19,11 +18,3 @@ extension = around sequence extension_fields
 -- an extension that is kept: allocation may fail where it is there
 abbrev pub kept_extension : Format ExtensionParts
 kept_extension = kept extension
-
--- ---- the errors
-
-abbrev pub IsCertExtensionFault : List ℕ → DecodeError → Type 0
-IsCertExtensionFault = extension.fault
-
-abbrev pub IsKeptExtensionFault : List ℕ → DecodeError → Type 0
-IsKeptExtensionFault = kept_extension.fault

@@ -1,10 +1,10 @@
 -- What the inspection of a name stands for.
-use Rattle.std.specs.Prelude.{Bool, List, ◌++◌, Result, Ok, Err, MatchResult}
+use Rattle.std.specs.Prelude.{ℕ, Bool, List, ◌++◌, Result, Ok, Err, MatchResult}
 use Rattle.rpki.specs.declared.repository.x509.name.inspection.Profile.{Profile}
 use Rattle.rpki.specs.declared.repository.x509.name.inspection.Profile.TheVariants.{Rpki, Router}
 use Rattle.rpki.specs.Name.{Attribute}
 use Rattle.rpki.specs.NameTable.{Row, name_table}
-use Rattle.rpki.specs.StrictName.{rpki_strings, router_strings, IsStrict}
+use Rattle.rpki.specs.StrictName.{rpki_strings, router_strings, IsStrict, IsNameOf}
 use Rattle.rpki.specs.Findings.{IsFound}
 use Rattle.rpki.specs.NameRule.{FirstBreaks, BreaksRule}
 use Rattle.rpki.specs.declared.repository.x509.name.rule.NameRule.{NameRule}
@@ -27,7 +27,7 @@ Finds table strings found xs (Err rule) = (before : List Attribute) → IsFound 
 abbrev pub FindsBy : Profile → List Bool → List Attribute → Result (List Bool) NameRule → Type 0
 FindsBy profile = Finds name_table (strings_of profile)
 
--- the attributes pass the rules of a profile, or this is the rule that they break first
-abbrev pub Inspects : Profile → List Attribute → Result (Unit {0}) NameRule → Type 0
-Inspects profile xs result = MatchResult result (λ _. IsStrict name_table (strings_of profile) xs)
-    (λ rule. BreaksRule name_table (strings_of profile) rule xs)
+-- the octets are a name that passes the rules of a profile, or this is the rule that it breaks first
+abbrev pub Inspects : Profile → List ℕ → Result (Unit {0}) NameRule → Type 0
+Inspects profile octets result = MatchResult result (λ _. IsNameOf (IsStrict name_table (strings_of profile)) octets)
+    (λ rule. IsNameOf (BreaksRule name_table (strings_of profile) rule) octets)

@@ -1,6 +1,4 @@
 -- Public keys as formats: their octets, and which error those have that are rejected (RFC 5280 4.1).
-use Rattle.std.specs.Prelude.{ℕ, List}
-use Rattle.rpki_der.specs.declared.error.DecodeError.{DecodeError}
 use Rattle.rpki_der.specs.Prelude.{sequence, Bits, Format, around, then, only, said_by, kept, bits_value}
 use Rattle.rpki_der.specs.Prelude.{unsigned_value}
 use Rattle.rpki.specs.AnyValue.{SpellsAny}
@@ -31,14 +29,3 @@ rsa_numbers = said_by (SpellsAny AreRsaNumbers) (then unsigned_value (only unsig
 
 abbrev pub rsa_bits : Format (Unit {0})
 rsa_bits = around sequence rsa_numbers
-
--- ---- the errors
-
-abbrev pub IsKeyFault : List ℕ → DecodeError → Type 0
-IsKeyFault = key.fault
-
-abbrev pub IsKeyViewFault : List ℕ → DecodeError → Type 0
-IsKeyViewFault = key_view.fault
-
-abbrev pub IsRsaBitsFault : List ℕ → DecodeError → Type 0
-IsRsaBitsFault = rsa_bits.fault

@@ -4,7 +4,7 @@ use Rattle.std.specs.Char.{to_ascii_uppercase}
 use Rattle.rpki_der.specs.declared.error.DecodeError.{DecodeError}
 use Rattle.rpki_der.specs.declared.error.DecodeError.TheVariants.{Truncated, BadTag, BadLength, Unexpected, Content}
 use Rattle.rpki_der.specs.declared.error.DecodeError.TheVariants.{Trailing, OutOfMemory}
-use Rattle.rpki_der.specs.Prelude.{text_of, octet_string, SpellsLeaf, IsLeafFault, AreOctets}
+use Rattle.rpki_der.specs.Prelude.{text_of, octet_string, SpellsLeaf, IsLeafFault, AreOctets, Format}
 use Rattle.rpki_text.specs.HexText.{hex_text}
 use Rattle.rpki.specs.AnyValue.{SpellsAny}
 
@@ -41,9 +41,12 @@ pub record IsHexOf (k text : List ℕ) : Type 0 where
   pub size : length k ≡ 20
   pub digits : map to_ascii_uppercase text ≡ hex_text k
 
--- any key identifier, and the error of its reader
-abbrev pub SpellsAnyIdentifier : Unit {0} → List ℕ → Type 0
-SpellsAnyIdentifier = SpellsLeaf octet_string false (SpellsAny IsKeyIdentifier)
+abbrev pub identifier : {V : Type 0} → (V → List ℕ → Type 0) → Format V
+identifier C = record { spells = SpellsLeaf octet_string false C; fault = IsIdentifierFault C }
 
-abbrev pub IsAnyIdentifierFault : List ℕ → DecodeError → Type 0
-IsAnyIdentifierFault = IsIdentifierFault (SpellsAny IsKeyIdentifier)
+abbrev pub key_identifier : Format (List ℕ)
+key_identifier = identifier IsKeyIdentifier
+
+-- any key identifier
+abbrev pub any_identifier : Format (Unit {0})
+any_identifier = identifier (SpellsAny IsKeyIdentifier)

@@ -20,6 +20,7 @@ pub mod Extension
 pub mod ExtensionValue
 pub mod ExtensionEqual
 pub mod Name
+pub mod NameAttributes
 pub mod NameValue
 pub mod NameTable
 pub mod StrictName

@@ -1,9 +1,9 @@
 -- Names as formats: their octets, and which error those have that are rejected (RFC 5280 4.1.2.4).
 use Rattle.std.specs.Prelude.{◌≡◌, ◌⊎◌, ℕ, List, [], codes}
 use Rattle.rpki_der.specs.declared.error.DecodeError.{DecodeError}
-use Rattle.rpki_der.specs.Prelude.{sequence, set, SpellsAnyValue, HasConstructed, IsNestedFault, RepeatedFault, Format}
+use Rattle.rpki_der.specs.Prelude.{sequence, set, SpellsAnyValue, IsNestedFault, RepeatedFault, Format}
 use Rattle.rpki_der.specs.Prelude.{around, then, only, said_by, kept_where, any_oid}
-use Rattle.rpki.specs.Name.{Attribute, IsAttribute, SpellsSome, SpellsAttribute, SpellsRelative, SpellsNameOctets}
+use Rattle.rpki.specs.Name.{IsAttribute, SpellsSome, SpellsAttribute, SpellsRelative, SpellsNameOctets}
 use Rattle.rpki.specs.NameValue.{HasNameValue}
 use Rattle.rpki.specs.AnyValue.{SpellsAny}
 use Rattle.rpki.specs.UnknownAlgorithm.{IsContentWith}
@@ -23,7 +23,7 @@ passed G F = record { spells = G; fault = RepeatedFault F.spells F.fault }
 -- ---- an attribute: an OBJECT IDENTIFIER; then a value, with any contents; then nothing
 
 abbrev pub any_value : Format (Unit {0})
-any_value = kept_where HasConstructed (record { spells = SpellsAnyValue; fault = IsNestedFault })
+any_value = record { spells = SpellsAnyValue; fault = IsNestedFault }
 
 abbrev pub attribute_parts : Format (Unit {0})
 attribute_parts = said_by (SpellsAny IsAttribute) (then any_oid (not_empty (codes "invalid name") (only any_value)))

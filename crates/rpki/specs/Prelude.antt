@@ -1,15 +1,15 @@
 -- The words of `rpki` that crates above say, by subject: one import line for them all. Declares nothing.
 pub use Rattle.rpki.specs.Algorithm.{IsIdentified, IsParameters, SpellsAlgorithm}
-pub use Rattle.rpki.specs.AlgorithmFault.{IsAlgorithmFault, IsBareFault, algorithm}
+pub use Rattle.rpki.specs.AlgorithmFault.{algorithm, bare}
 pub use Rattle.rpki.specs.AlgorithmOctets.{algorithm_octets}
 pub use Rattle.rpki.specs.AnyValue.{SpellsAny}
 pub use Rattle.rpki.specs.BareOctetsLaws.{bare-short, bare-spelled, bare-value}
 pub use Rattle.rpki.specs.ErrorContent.{content_of, validation_text, verification_content}
 pub use Rattle.rpki.specs.ErrorTexts.{period_text, verification_text}
 pub use Rattle.rpki.specs.Extension.{extension_contents, extension_octets}
-pub use Rattle.rpki.specs.ExtensionFault.{IsCertExtensionFault, IsKeptExtensionFault, extension_fields, kept_extension}
+pub use Rattle.rpki.specs.ExtensionFault.{extension, kept_extension, extension_fields}
 pub use Rattle.rpki.specs.ExtensionValue.{ExtensionParts, IsExtensionContents, SpellsExtension, written_extension}
-pub use Rattle.rpki.specs.KeyFault.{IsKeyFault, IsKeyViewFault, IsRsaBitsFault}
+pub use Rattle.rpki.specs.KeyFault.{key, key_view, rsa_bits}
 pub use Rattle.rpki.specs.KeyFormat.{IsFormatContents, SpellsFormat}
 pub use Rattle.rpki.specs.KeyIdentifier.{IsHexOf, IsIdentifierFault, IsKeyIdentifier, SpellsKeyIdentifier}
 pub use Rattle.rpki.specs.Name.{IsAttribute, IsName, SpellsAttribute, SpellsEach, SpellsNameOctets, SpellsRelative}
@@ -24,7 +24,7 @@ pub use Rattle.rpki.specs.Signature.{SignatureParts}
 pub use Rattle.rpki.specs.SignatureNames.{SpellsBare, bare_octets}
 pub use Rattle.rpki.specs.SignedData.{IsShortSigned, IsSignedContents, SignedParts, SpellsSignature, SpellsSigned}
 pub use Rattle.rpki.specs.SignedData.{parts_of, written_contents, written_signed}
-pub use Rattle.rpki.specs.SignedFault.{IsSignedFault, IsThreeFault, IsThreeInsideFault}
+pub use Rattle.rpki.specs.SignedFault.{around_three, signed_sequence, three}
 pub use Rattle.rpki.specs.StrictName.{IsRouterName, IsRpkiName, router_strings, rpki_strings}
 pub use Rattle.rpki.specs.SubjectName.{subject_octets}
 pub use Rattle.rpki.specs.UnknownAlgorithm.{IsContentWith}

@@ -2,7 +2,7 @@
 use Rattle.std.specs.Prelude.{ℕ, List}
 use Rattle.rpki_der.specs.declared.error.DecodeError.{DecodeError}
 use Rattle.rpki_der.specs.Prelude.{SpellsNothing, UnlessMemory, IsWholeFault}
-use Rattle.rpki.specs.Prelude.{Check, Verifies, KeyParts, SignedParts, SpellsSigned, IsSignedFault}
+use Rattle.rpki.specs.Prelude.{Check, Verifies, KeyParts, SignedParts, SpellsSigned, signed_sequence}
 use Rattle.rpki.specs.declared.crypto.keys.PublicKeyFormat.{PublicKeyFormat}
 use Rattle.rpki_examples.specs.declared.verification.Unverified.{Unverified}
 use Rattle.rpki_examples.specs.declared.verification.Unverified.TheVariants.{Malformed, NotSigned}
@@ -20,7 +20,7 @@ IsVerified spells format rsa ecdsa key octets d = SpellsSigned spells d octets �
 -- SEQUENCE or of the first of its parts that isn't there.
 abbrev pub IsMalformed : {A : Type 0} → (A → List ℕ → Type 0) → (List ℕ → DecodeError → Type 0) → List ℕ → DecodeError
     → Type 0
-IsMalformed spells fault = IsWholeFault (SpellsSigned spells) (IsSignedFault spells fault)
+IsMalformed spells fault = IsWholeFault (SpellsSigned spells) (signed_sequence spells fault).fault
 
 -- the octets spell none, or one that the key has not signed
 abbrev pub IsUnverified : {A : Type 0} → (A → List ℕ → Type 0) → (List ℕ → DecodeError → Type 0)

@@ -1,8 +1,8 @@
 //! An algorithm type of one's own.
 
 ghost use Rattle.std.specs.Prelude.{[], ◌∷◌};
-ghost use Rattle.rpki_der.specs.Prelude.{left, Reads};
-ghost use Rattle.rpki.specs.Prelude.{IsBareFault, SpellsBare};
+ghost use Rattle.rpki_der.specs.Prelude.{left, Takes};
+ghost use Rattle.rpki.specs.Prelude.{bare};
 
 use rpki::crypto::{SignatureAlgorithm, SigningAlgorithm};
 use rpki::der::{ConstOid, Constructed, DecodeError, Oid, Primitive, PrimitiveContent, Sequence};
@@ -31,12 +31,12 @@ impl SignatureAlgorithm for OwnAlgorithm {
 
     ghost use Rattle.std.specs.Prelude.{[], ◌∷◌, refl};
     ghost use Rattle.std.proofs.Common.{lit<};
-    ghost use Rattle.rpki.specs.Prelude.{IsBareFault, SpellsBare, bare_octets, bare-spelled, bare-value};
+    ghost use Rattle.rpki.specs.Prelude.{SpellsBare, bare, bare_octets, bare-spelled, bare-value};
     ghost use Rattle.rpki.specs.declared.crypto.keys.PublicKeyFormat.TheVariants.{Rsa};
 
     ghost spells = { SpellsBare (136 ∷ 55 ∷ []) };
 
-    ghost fault = { IsBareFault (136 ∷ 55 ∷ []) };
+    ghost fault = { (bare (136 ∷ 55 ∷ [])).fault };
 
     ghost written = { λ _. bare_octets (136 ∷ 55 ∷ []) };
 
@@ -64,8 +64,7 @@ impl SignatureAlgorithm for OwnAlgorithm {
     ///
     /// The errors of `in_sequence` where there is none; `Content` for another identifier; `Trailing` for parameters.
     fn x509_take_from(cons: &mut Constructed<'_>) -> Result<Self, DecodeError>
-        ensures { Reads (λ a. a) (SpellsBare (136 ∷ 55 ∷ [])) (IsBareFault (136 ∷ 55 ∷ [])) (left cons.old)
-            (left cons.new) result }
+        ensures { Takes (λ a. a) (bare (136 ∷ 55 ∷ [])) (left cons.old) (left cons.new) result }
     {
         cons.in_sequence(|contents| contents.skip_oid_if(OWN_NAME))?;
         Ok(OwnAlgorithm { only: () })

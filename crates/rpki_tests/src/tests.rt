@@ -8,6 +8,7 @@ mod extensions;
 mod identifiers;
 mod inner_errors;
 mod keys;
+mod name_attributes;
 mod names;
 mod oid;
 mod signed_data;

@@ -4,7 +4,7 @@ use Rattle.std.specs.Prelude.{◌⊎◌, ◌↔◌, Bool, true, false, IsTrue, O
 use Rattle.rpki_der.specs.Reading.{SpellsNothing}
 use Rattle.rpki.specs.SignedData.{written_contents, written_signed}
 use Rattle.rpki.specs.PublicKey.{SpellsKey}
-use Rattle.rpki.specs.KeyFault.{IsKeyFault}
+use Rattle.rpki.specs.KeyFault.{key}
 use Rattle.rpki.specs.Name.{SpellsNameOctets}
 use Rattle.rpki.specs.NameFault.{IsNameFault}
 use Rattle.rpki_text.specs.HexText.{hex_text}
@@ -104,7 +104,7 @@ pub text-or-fault : (command : Command) (input s : List ℕ) (e : Fault) → IsD
 text-or-fault Again input s e a b = no-fault SpellsRpki IsRpkiFault (IsTooLong input) input a.0 e a.1.0
     (not-too-long input s a) b
 text-or-fault Data input s e a b = no-fault SpellsRpki IsRpkiFault ⊥ input a.0 e a.1.0 (λ z. z) b
-text-or-fault Key input s e a b = no-fault SpellsKey IsKeyFault ⊥ input a.0 e a.1.0 (λ z. z) b
+text-or-fault Key input s e a b = no-fault SpellsKey key.fault ⊥ input a.0 e a.1.0 (λ z. z) b
 text-or-fault Name input s e a b = no-fault SpellsNameOctets IsNameFault ⊥ input a.0 e a.1.0 (λ z. z) b
 text-or-fault Ext input s e a b = (not-extensions input e b).2 a.0 a.1.0
 text-or-fault Uri input s e a b = let w = one-wrong (uri_refusal_of (without_last_line_feed input)) e b in let x =
@@ -138,7 +138,7 @@ pub one-fault : (command : Command) (input : List ℕ) (e f : Fault) → IsDue c
 one-fault Again input e f a b = one-kind SpellsRpki IsRpkiFault (IsTooLong input) input e f
     (λ long none. none long.0 long.1.0) a b
 one-fault Data input e f a b = one-kind SpellsRpki IsRpkiFault ⊥ input e f (λ z none. z) a b
-one-fault Key input e f a b = one-kind SpellsKey IsKeyFault ⊥ input e f (λ z none. z) a b
+one-fault Key input e f a b = one-kind SpellsKey key.fault ⊥ input e f (λ z none. z) a b
 one-fault Name input e f a b = one-kind SpellsNameOctets IsNameFault ⊥ input e f (λ z none. z) a b
 one-fault Uri input e f a b = ap text_of (one-uri-fault input e f a b)
 one-fault Ext input e f a b = ap text_of (not-extensions input e a).1 ∙ sym (ap text_of (not-extensions input f b).1)

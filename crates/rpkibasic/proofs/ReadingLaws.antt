@@ -8,7 +8,7 @@ use Rattle.rpki_der.specs.TagName.{sequence}
 use Rattle.rpki_der.specs.Reading.{Spells, Accepts, Refuses, Refusal}
 use Rattle.rpki.specs.ExtensionValue.{ExtensionParts, IsExtensionContents, SpellsExtension}
 use Rattle.rpki_der.proofs.LeafValueLaws.{leaf-nowhere}
-use Rattle.rpki.specs.ExtensionFault.{IsCertExtensionFault, IsKeptExtensionFault}
+use Rattle.rpki.specs.ExtensionFault.{extension, kept_extension}
 use Rattle.rpkibasic.specs.Fault.{refusal}
 use Rattle.rpkibasic.specs.Run.{SpellsOnly, SpellsExtensions, StopsAt, IsExtensionFault, UnlessMemory}
 
@@ -82,7 +82,7 @@ nothing-left rest some none [] k = some k
 nothing-left rest some none (z ∷ zs) k = none z k.0 k.1
 
 stops : (input rest : List ℕ) (xs : List ExtensionParts) (e : DecodeError) → (rest ≡ [] → ⊥) → HaveRead input xs rest
-    → e ≢ OutOfMemory → Refuses SpellsExtension rest → IsCertExtensionFault rest e → StopsAt input e
+    → e ≢ OutOfMemory → Refuses SpellsExtension rest → extension.fault rest e → StopsAt input e
 stops input rest xs e some h other none kind = record {
   front = h.front;
   rest = rest;
@@ -96,7 +96,7 @@ stops input rest xs e some h other none kind = record {
 
 pub extension-fault : (input rest left : List ℕ) (xs : List ExtensionParts) (e : DecodeError) → (rest ≡ [] → ⊥)
     → HaveRead input xs rest
-    → Refusal SpellsExtension IsKeptExtensionFault rest left e
+    → Refusal SpellsExtension kept_extension.fault rest left e
     → UnlessMemory (refusal e) (IsExtensionFault input (refusal e))
 extension-fault input rest left xs Truncated some h k =
     stops input rest xs Truncated some h (λ (z : Truncated ≡ OutOfMemory). cc) k.refuses k.kind

@@ -13,11 +13,11 @@ use Rattle.rpki.specs.AlgorithmOctets.{algorithm_octets}
 use Rattle.rpki.specs.SignedData.{SignedParts, SpellsSigned, written_contents, written_signed, IsShortSigned}
 use Rattle.rpki.specs.PublicKey.{KeyParts, SpellsKey}
 use Rattle.rpki.specs.Name.{SpellsEach, SpellsNameOctets}
-use Rattle.rpki.specs.AlgorithmFault.{IsAlgorithmFault}
-use Rattle.rpki.specs.SignedFault.{IsSignedFault}
-use Rattle.rpki.specs.KeyFault.{IsKeyFault}
+use Rattle.rpki.specs.AlgorithmFault.{algorithm}
+use Rattle.rpki.specs.SignedFault.{signed_sequence}
+use Rattle.rpki.specs.KeyFault.{key}
 use Rattle.rpki.specs.NameFault.{IsNameFault}
-use Rattle.rpki.specs.ExtensionFault.{IsCertExtensionFault}
+use Rattle.rpki.specs.ExtensionFault.{extension}
 use Rattle.rpki.specs.ExtensionValue.{ExtensionParts, SpellsExtension, written_extension}
 use Rattle.rpki_text.specs.HexText.{hex_text}
 use Rattle.sha1.specs.Sha1.{sha1}
@@ -54,7 +54,8 @@ SpellsOnly {V} G v octets = G v octets × ((w : V) → G w octets → w ≡ v)
 
 -- the error of signed data of the RPKI
 abbrev pub IsRpkiFault : List ℕ → DecodeError → Type 0
-IsRpkiFault = IsSignedFault (SpellsAlgorithm sha256_with_rsa_encryption) (IsAlgorithmFault sha256_with_rsa_encryption)
+IsRpkiFault =
+    (signed_sequence (SpellsAlgorithm sha256_with_rsa_encryption) (algorithm sha256_with_rsa_encryption).fault).fault
 
 -- Why an input gives no text: it is in the grammar of none, and the reader of whole octets rejects it with the leftmost
 -- error, which K says of the reader of a beginning; or T.
@@ -132,7 +133,7 @@ pub record StopsAt (input : List ℕ) (e : DecodeError) : Type 0 where
   pub parts : input ≡ front ++ rest
   pub read : SpellsExtensions before front
   pub refused : Refuses SpellsExtension rest
-  pub kind : (e ≢ der.OutOfMemory) × IsCertExtensionFault rest e
+  pub kind : (e ≢ der.OutOfMemory) × extension.fault rest e
   pub none : SpellsNothing SpellsExtensions input
 
 -- why an input isn't extensions
@@ -156,7 +157,7 @@ IsDue Again input (Err fault) = IsFaultOf SpellsRpki IsRpkiFault (IsTooLong inpu
 IsDue Data input (Ok text) = IsSlice input text
 IsDue Data input (Err fault) = IsFaultOf SpellsRpki IsRpkiFault ⊥ input fault
 IsDue Key input (Ok text) = IsKeyLine input text
-IsDue Key input (Err fault) = IsFaultOf SpellsKey IsKeyFault ⊥ input fault
+IsDue Key input (Err fault) = IsFaultOf SpellsKey key.fault ⊥ input fault
 IsDue Uri input (Ok text) = IsLines input text
 IsDue Uri input (Err fault) = IsRefusedText (uri_refusal_of (without_last_line_feed input)) fault
 IsDue Ext input (Ok text) = AreExtensions input text

@@ -2,7 +2,7 @@
 
 ghost use Rattle.std.specs.Prelude.{◌≡◌, ◌++◌, ◌∷◌, [], IfOk, MatchResult};
 ghost use Rattle.rpki.specs.PublicKey.{SpellsKey};
-ghost use Rattle.rpki.specs.KeyFault.{IsKeyFault};
+ghost use Rattle.rpki.specs.KeyFault.{key as public_key};
 ghost use Rattle.rpki_text.specs.HexText.{hex_text};
 ghost use Rattle.rpkibasic.specs.Run.{SpellsOnly, IsFaultOf, UnlessMemory, Answers};
 ghost use Rattle.rpkibasic.specs.View.{answer_of};
@@ -17,7 +17,7 @@ use std::alloc::{AllocError, Global};
 /// The public key that the input is.
 fn decoded(alloc: Global, input: Vec<u8>) -> Result<PublicKey, Fault>
     ensures { MatchResult result (λ k. SpellsOnly SpellsKey k input.items)
-        (λ f. UnlessMemory f (IsFaultOf SpellsKey IsKeyFault ⊥ input.items f)) }
+        (λ f. UnlessMemory f (IsFaultOf SpellsKey public_key.fault ⊥ input.items f)) }
 {
     let octets = Bytes::from_vec(input)?;
     let key = PublicKey::decode(alloc, octets)?;

@@ -1,7 +1,7 @@
 //! Digests, and the algorithm identifier of their algorithm.
 
 ghost use Rattle.std.specs.Prelude.{◌≡◌, false, IsTrue};
-ghost use Rattle.rpki_der.specs.Prelude.{left, Takes, TakesWhere, oid, sequence, Reads, IsLeafFault, IsOnly};
+ghost use Rattle.rpki_der.specs.Prelude.{left, Takes, TakesWhere, sequence, this_oid};
 ghost use Rattle.rpki.specs.Oids.{sha256};
 ghost use Rattle.rpki.specs.AlgorithmFault.{digest, digest_set};
 ghost use Rattle.rpki.specs.Digest.{SpellsDigest, SpellsDigestSet, SpellsDigestName, digest_octets, digest_set_octets};
@@ -95,8 +95,7 @@ impl DigestAlgorithm {
     /// The errors are those of a header; then `Unexpected` for another tag or form; then `Truncated`; then `Content`
     /// for another identifier.
     pub fn take_oid_from(cons: &mut Constructed<'_>) -> Result<DigestAlgorithm, DecodeError>
-        ensures { Reads (λ _. tt) SpellsDigestName (IsLeafFault oid false (IsOnly sha256)) (left cons.old)
-            (left cons.new) result }
+        ensures { Takes (λ _. tt) (this_oid sha256) (left cons.old) (left cons.new) result }
     {
         cons.skip_oid_if(oid::SHA256)?;
         Ok(DigestAlgorithm::sha256())

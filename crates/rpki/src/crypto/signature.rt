@@ -8,7 +8,7 @@ ghost use Rattle.rpki_der.specs.Prelude.{left, Takes, Reads, TakesNoMemory, IsVa
 ghost use Rattle.rpki.specs.Format.{format_of};
 ghost use Rattle.rpki.specs.Oids.{sha256_with_rsa_encryption};
 ghost use Rattle.rpki.specs.Algorithm.{SpellsAlgorithm};
-ghost use Rattle.rpki.specs.AlgorithmFault.{IsAlgorithmFault, algorithm};
+ghost use Rattle.rpki.specs.AlgorithmFault.{algorithm};
 ghost use Rattle.rpki.specs.Signature.{signature_of};
 
 use crate::crypto::algorithm_identifier::take_algorithm;
@@ -130,14 +130,14 @@ impl SignatureAlgorithm for RpkiSignatureAlgorithm {
     ghost use Rattle.std.proofs.Common.{lit<};
     ghost use Rattle.rpki.specs.Oids.{sha256_with_rsa_encryption};
     ghost use Rattle.rpki.specs.Algorithm.{SpellsAlgorithm};
-    ghost use Rattle.rpki.specs.AlgorithmFault.{IsAlgorithmFault};
+    ghost use Rattle.rpki.specs.AlgorithmFault.{algorithm};
     ghost use Rattle.rpki.specs.AlgorithmOctets.{algorithm_octets};
     ghost use Rattle.rpki.specs.AlgorithmOctetsLaws.{algorithm-spelled, algorithm-value, algorithm-one};
     ghost use Rattle.rpki.specs.declared.crypto.keys.PublicKeyFormat.TheVariants.{Rsa};
 
     ghost spells = { SpellsAlgorithm sha256_with_rsa_encryption };
 
-    ghost fault = { IsAlgorithmFault sha256_with_rsa_encryption };
+    ghost fault = { (algorithm sha256_with_rsa_encryption).fault };
 
     ghost written = { λ _. algorithm_octets sha256_with_rsa_encryption true };
 

@@ -9,7 +9,7 @@ mod update;
 
 pub use cert_extension::{CertExtension, ExtensionBytes, ExtensionView};
 pub use extension::{Extension, encode_extension};
-pub use name::{Name, NameRule, NameView};
+pub use name::{AttributeView, Attributes, Name, NameRule, NameView};
 pub use rpki_time::{
     GeneralizedTime, Serial, SerialSliceError, Time, TimeParseError, UtcTime, Validity,
     ValidityPeriodError, VariedTime,

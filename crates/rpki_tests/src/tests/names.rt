@@ -402,7 +402,7 @@ const WHOLE: [(&str, &[u8], Outcome, usize); 4] = [
 fn whole(alloc: Global, octets: &'static [u8]) -> (Outcome, usize) {
     let mut cons = Constructed::from_slice(octets);
     // The name is kept by the other reader: here only the place of the cursor tells.
-    let _ = Name::skip_in(alloc, &mut cons);
+    let _ = Name::skip_in(&mut cons);
     let outcome = outcome_of(Name::decode(alloc, Bytes::from_static(octets)));
     (outcome, cons.rest().len())
 }

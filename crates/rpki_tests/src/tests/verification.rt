@@ -2,9 +2,8 @@
 
 ghost use Rattle.std.specs.Prelude.{[], ◌∷◌};
 ghost use Rattle.rpki_der.specs.Cursor.{left};
-ghost use Rattle.rpki_der.specs.Reading.{Reads};
-ghost use Rattle.rpki.specs.AlgorithmFault.{IsBareFault};
-ghost use Rattle.rpki.specs.SignatureNames.{SpellsBare};
+ghost use Rattle.rpki_der.specs.Format.{Takes};
+ghost use Rattle.rpki.specs.AlgorithmFault.{bare};
 
 use super::Always;
 use super::keys::decoded;
@@ -50,14 +49,14 @@ impl SignatureAlgorithm for OwnAlgorithm {
 
     ghost use Rattle.std.specs.Prelude.{[], ◌∷◌, refl};
     ghost use Rattle.std.proofs.Common.{lit<};
-    ghost use Rattle.rpki.specs.AlgorithmFault.{IsBareFault};
+    ghost use Rattle.rpki.specs.AlgorithmFault.{bare};
     ghost use Rattle.rpki.specs.SignatureNames.{SpellsBare, bare_octets};
     ghost use Rattle.rpki.specs.BareOctetsLaws.{bare-spelled, bare-value};
     ghost use Rattle.rpki.specs.declared.crypto.keys.PublicKeyFormat.TheVariants.{Rsa};
 
     ghost spells = { SpellsBare (42 ∷ 3 ∷ []) };
 
-    ghost fault = { IsBareFault (42 ∷ 3 ∷ []) };
+    ghost fault = { (bare (42 ∷ 3 ∷ [])).fault };
 
     ghost written = { λ _. bare_octets (42 ∷ 3 ∷ []) };
 
@@ -82,8 +81,7 @@ impl SignatureAlgorithm for OwnAlgorithm {
     }
 
     fn x509_take_from(cons: &mut Constructed<'_>) -> Result<Self, DecodeError>
-        ensures { Reads (λ a. a) (SpellsBare (42 ∷ 3 ∷ [])) (IsBareFault (42 ∷ 3 ∷ [])) (left cons.old)
-            (left cons.new) result }
+        ensures { Takes (λ a. a) (bare (42 ∷ 3 ∷ [])) (left cons.old) (left cons.new) result }
     {
         cons.in_sequence(|contents| contents.skip_oid_if(OWN_NAME))?;
         Ok(OwnAlgorithm { only: () })

@@ -5,12 +5,10 @@ ghost use Rattle.std.specs.Prelude.{IfNone, MatchResult, nat_eq};
 ghost use Rattle.std.specs.Char.{to_ascii_uppercase};
 ghost use Rattle.std.specs.Cmp.Lexicographic.{pointwise};
 ghost use Rattle.rpki_der.specs.declared.error.DecodeError.TheVariants.{Unexpected};
-ghost use Rattle.rpki_der.specs.Prelude.{left, AreOctets, is_constructed, octets_of, octet_string, Reads, ReadsWhere};
-ghost use Rattle.rpki_der.specs.Prelude.{HasTag};
+ghost use Rattle.rpki_der.specs.Prelude.{left, AreOctets, is_constructed, octets_of, octet_string, Takes, TakesWhere};
 ghost use Rattle.rpki_text.specs.HexText.{hex_digit, hex_text};
 ghost use Rattle.rpki.specs.UnknownAlgorithm.{IsContentWith};
-ghost use Rattle.rpki.specs.KeyIdentifier.{IsKeyIdentifier, SpellsKeyIdentifier, IsIdentifierFault, identifier_error};
-ghost use Rattle.rpki.specs.KeyIdentifier.{SpellsAnyIdentifier, IsAnyIdentifierFault};
+ghost use Rattle.rpki.specs.KeyIdentifier.{IsKeyIdentifier, key_identifier, any_identifier, identifier_error};
 
 use rpki_der::{Constructed, Content, DecodeError, PrimitiveContent, Tag, write_whole};
 use rpki_text::util::hex;
@@ -65,8 +63,7 @@ impl KeyIdentifier {
     /// The errors are those of a header; then `Unexpected` for another tag or form; then `Truncated`; then `Content`
     /// with the text `invalid key identifier` for another number of octets.
     pub fn take_from(cons: &mut Constructed<'_>) -> Result<KeyIdentifier, DecodeError>
-        ensures { Reads (λ k. k) SpellsKeyIdentifier (IsIdentifierFault IsKeyIdentifier) (left cons.old)
-            (left cons.new) result }
+        ensures { Takes (λ k. k) key_identifier (left cons.old) (left cons.new) result }
     {
         let mut after = *cons;
         let octets = after.take_octets()?;
@@ -82,8 +79,7 @@ impl KeyIdentifier {
     /// As [KeyIdentifier::take_from] where what is left begins with the identifier octets of an OCTET STRING, in either
     /// form; else None, and the cursor stays where it is.
     pub fn take_opt_from(cons: &mut Constructed<'_>) -> Result<Option<KeyIdentifier>, DecodeError>
-        ensures { ReadsWhere (HasTag octet_string) (λ k. k) SpellsKeyIdentifier (IsIdentifierFault IsKeyIdentifier)
-            (left cons.old) (left cons.new) result }
+        ensures { TakesWhere octet_string (λ k. k) key_identifier (left cons.old) (left cons.new) result }
     {
         if !cons.has_tag(Tag::OCTET_STRING) {
             return Ok(None);
@@ -96,8 +92,7 @@ impl KeyIdentifier {
 
     /// Moves past a key identifier where [KeyIdentifier::take_opt_from] reads one; else None. The errors are the same.
     pub fn skip_opt_in(cons: &mut Constructed<'_>) -> Result<Option<()>, DecodeError>
-        ensures { ReadsWhere (HasTag octet_string) (λ _. tt) SpellsAnyIdentifier IsAnyIdentifierFault (left cons.old)
-            (left cons.new) result }
+        ensures { TakesWhere octet_string (λ _. tt) any_identifier (left cons.old) (left cons.new) result }
     {
         match KeyIdentifier::take_opt_from(cons) {
             Ok(None) => Ok(None),

@@ -1,10 +1,10 @@
 //! The bits of RSA keys: a SEQUENCE of modulus and exponent (RFC 8017 A.1.1).
 
 ghost use Rattle.std.specs.Prelude.{◌≡◌, ◌≢◌, ◌≤◌, ◌+◌, ◌^◌, ◌⊎◌, ◌↔◌, [], length, IfOk, IsErrOf};
-ghost use Rattle.rpki_der.specs.Prelude.{left, Takes, TakesAll, Decodes, TakesNoMemory, IsWholeFault, number_of};
+ghost use Rattle.rpki_der.specs.Prelude.{left, Takes, TakesAll, TakesWholeInPlace, number_of, said_by};
 ghost use Rattle.rpki.specs.declared.crypto.keys.PublicKeyFormat.TheVariants.{Rsa};
-ghost use Rattle.rpki.specs.PublicKey.{SpellsRsaNumbers, SpellsRsaBits, IsRsaKey};
-ghost use Rattle.rpki.specs.KeyFault.{IsRsaBitsFault, rsa_bits, rsa_numbers};
+ghost use Rattle.rpki.specs.PublicKey.{SpellsRsaNumbers, IsRsaKey};
+ghost use Rattle.rpki.specs.KeyFault.{rsa_bits, rsa_numbers};
 
 use super::PublicKey;
 use bytes::Bytes;
@@ -46,7 +46,7 @@ impl PublicKey {
     /// The errors are those of a SEQUENCE; then those of the INTEGERs, and `Trailing` for octets that follow them or
     /// the SEQUENCE.
     pub fn rsa_from_bits_bytes(bytes: Bytes) -> Result<PublicKey, DecodeError>
-        ensures { Decodes (λ k. k) IsRsaKey (TakesNoMemory (IsWholeFault IsRsaKey IsRsaBitsFault)) bytes result }
+        ensures { TakesWholeInPlace (λ k. k) (said_by IsRsaKey rsa_bits) bytes result }
     {
         check_rsa_bits(&bytes)?;
         Ok(PublicKey::of_bits(bytes))
@@ -55,8 +55,7 @@ impl PublicKey {
 
 /// Tests that all of the octets are the bits of an RSA key.
 fn check_rsa_bits(octets: &Bytes) -> Result<(), DecodeError>
-    ensures { Decodes (λ _. tt) SpellsRsaBits (TakesNoMemory
-        (IsWholeFault SpellsRsaBits IsRsaBitsFault)) octets.now result }
+    ensures { TakesWholeInPlace (λ _. tt) rsa_bits octets.now result }
 {
     let mut cons = Constructed::new(octets);
     take_rsa_bits(&mut cons)?;

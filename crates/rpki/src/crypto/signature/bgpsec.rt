@@ -2,7 +2,7 @@
 
 ghost use Rattle.rpki_der.specs.Prelude.{left, Takes};
 ghost use Rattle.rpki.specs.Oids.{ecdsa_with_sha256};
-ghost use Rattle.rpki.specs.AlgorithmFault.{IsBareFault, bare};
+ghost use Rattle.rpki.specs.AlgorithmFault.{bare};
 ghost use Rattle.rpki.specs.SignatureNames.{SpellsBare};
 
 use super::SignatureAlgorithm;
@@ -31,14 +31,14 @@ impl SignatureAlgorithm for BgpsecSignatureAlgorithm {
     ghost use Rattle.std.specs.Prelude.{refl};
     ghost use Rattle.std.proofs.Common.{lit<};
     ghost use Rattle.rpki.specs.Oids.{ecdsa_with_sha256};
-    ghost use Rattle.rpki.specs.AlgorithmFault.{IsBareFault};
+    ghost use Rattle.rpki.specs.AlgorithmFault.{bare};
     ghost use Rattle.rpki.specs.SignatureNames.{SpellsBare, bare_octets};
     ghost use Rattle.rpki.specs.BareOctetsLaws.{bare-spelled, bare-value};
     ghost use Rattle.rpki.specs.declared.crypto.keys.PublicKeyFormat.TheVariants.{EcdsaP256};
 
     ghost spells = { SpellsBare ecdsa_with_sha256 };
 
-    ghost fault = { IsBareFault ecdsa_with_sha256 };
+    ghost fault = { (bare ecdsa_with_sha256).fault };
 
     ghost written = { λ _. bare_octets ecdsa_with_sha256 };
 

@@ -12,14 +12,15 @@ ghost use Rattle.rpki.specs.StrictName.{IsRpkiName, IsRouterName};
 ghost use Rattle.rpki.specs.StrictNameWithoutOrganization.{IsRpkiNameWithoutOrganization};
 ghost use Rattle.rpki.specs.StrictNameWithoutOrganization.{IsRouterNameWithoutOrganization};
 
+mod attributes;
 mod grammar;
 mod inspection;
 mod rule;
 mod table;
 mod view;
 
+pub use self::attributes::{AttributeView, Attributes};
 use self::grammar::skip_name;
-use self::inspection::Profile;
 pub use self::rule::NameRule;
 pub use self::view::NameView;
 use crate::repository::error::InspectionError;
@@ -68,13 +69,13 @@ impl Name {
         )
     }
 
-    /// Moves past a name, and keeps nothing of it. Allocates only for values in it that nest.
+    /// Moves past a name, and keeps nothing of it. Allocates nothing.
     ///
-    /// The errors are those of [Name::take_from]. An error leaves the cursor where it was.
-    pub fn skip_in(alloc: Global, cons: &mut Constructed<'_>) -> Result<(), DecodeError>
+    /// The errors are those of [Name::take_from], but for `OutOfMemory`. An error leaves the cursor where it was.
+    pub fn skip_in(cons: &mut Constructed<'_>) -> Result<(), DecodeError>
         ensures { Takes (λ _. tt) walked_name (left cons.old) (left cons.new) result }
     {
-        skip_name(alloc, cons)
+        skip_name(cons)
     }
 
     /// A name: a SEQUENCE of one relative distinguished name at least, each a SET of one attribute at least, each a
@@ -89,9 +90,15 @@ impl Name {
         requires { K.holds keep (left cons.old) }
         ensures { Takes (λ n. n) name (left cons.old) (left cons.new) result }
     {
-        let alloc = keep.allocator();
-        let captured = cons.capture(keep, |cons| skip_name(alloc, cons))?;
+        let captured = cons.capture(keep, |cons| skip_name(cons))?;
         Ok(Name { captured })
+    }
+
+    /// The name in place, which borrows its octets.
+    pub fn view(&self) -> NameView<'_>
+        ensures { result ≡ self.now }
+    {
+        NameView::new(self.captured.as_slice())
     }
 
     /// Tests that the name is one of a certificate of the RPKI, as [Name::inspect_rpki] does; returns the rule that it
@@ -99,7 +106,7 @@ impl Name {
     pub fn test_rpki(&self) -> Result<(), NameRule>
         ensures { MatchResult result (λ _. IsRpkiName self.now) (λ rule. BreaksRpkiRule rule self.now) }
     {
-        Profile::Rpki.inspect(self.captured.indexed_cursor())
+        self.view().test_rpki()
     }
 
     /// Tests that the name is one of a router's certificate, as [Name::inspect_router] does; returns the rule that it
@@ -107,7 +114,7 @@ impl Name {
     pub fn test_router(&self) -> Result<(), NameRule>
         ensures { MatchResult result (λ _. IsRouterName self.now) (λ rule. BreaksRouterRule rule self.now) }
     {
-        Profile::Router.inspect(self.captured.indexed_cursor())
+        self.view().test_router()
     }
 
     /// Tests that the name is one of a certificate of the RPKI, unless `strict` is false: one common name, at most one

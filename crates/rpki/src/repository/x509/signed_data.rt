@@ -1,14 +1,13 @@
 //! Signed data: a value, and a signature over exactly its octets (RFC 5280 4.1).
 
 ghost use Rattle.std.specs.Prelude.{◌≡◌, ◌<◌, ◌^◌, ◌↔◌, IfOk, IsOk};
-ghost use Rattle.rpki_der.specs.Prelude.{left, Takes, Reads, Decodes, IsWholeFault, AreValues, IsValue, bits_contents};
-ghost use Rattle.rpki_der.specs.Prelude.{bits_of};
+ghost use Rattle.rpki_der.specs.Prelude.{left, Takes, TakesWhole, AreValues, IsValue, bits_contents, bits_of};
 ghost use Rattle.rpki.specs.Provider.{VerifiesBy};
 ghost use Rattle.rpki.specs.Signature.{signature_of};
 ghost use Rattle.rpki.specs.SignedData.{SignedParts, parts_of, IsSignedContents, SpellsSigned, written_signed};
 ghost use Rattle.rpki.specs.SignedData.{normal_parts, IsWrittenAgain, DiffersInCountAlone, IsShortSigned};
 ghost use Rattle.rpki.specs.SignedData.{IsWrittenApart, signature_in};
-ghost use Rattle.rpki.specs.SignedFault.{IsSignedPartsFault, IsSignedFault, signature_bits};
+ghost use Rattle.rpki.specs.SignedFault.{signed_parts, signed_sequence, signature_bits};
 
 use crate::crypto::{
     Provider, PublicKey, RpkiSignatureAlgorithm, Signature, SignatureAlgorithm,
@@ -78,8 +77,7 @@ impl<Alg: SignatureAlgorithm + Drop> SignedData<Alg> {
         cons: &mut Constructed<'_>,
     ) -> Result<SignedData<Alg>, DecodeError>
         requires { K.holds keep (left cons.old) }
-        ensures { Reads (λ x. x) (IsSignedContents Alg.spells) (IsSignedPartsFault Alg.spells Alg.fault)
-            (left cons.old) (left cons.new) result }
+        ensures { Takes (λ x. x) (signed_parts Alg.spells Alg.fault) (left cons.old) (left cons.new) result }
     {
         let mut after = *cons;
         let signed = after.capture_one(keep)?;
@@ -99,8 +97,7 @@ impl<Alg: SignatureAlgorithm + Drop> SignedData<Alg> {
         cons: &mut Constructed<'_>,
     ) -> Result<SignedData<Alg>, DecodeError>
         requires { K.holds keep (left cons.old) }
-        ensures { Reads (λ x. x) (SpellsSigned Alg.spells) (IsSignedFault Alg.spells Alg.fault) (left cons.old)
-            (left cons.new) result }
+        ensures { Takes (λ x. x) (signed_sequence Alg.spells Alg.fault) (left cons.old) (left cons.new) result }
     {
         cons.in_sequence_with(
             keep,
@@ -114,8 +111,7 @@ impl<Alg: SignatureAlgorithm + Drop> SignedData<Alg> {
     ///
     /// The errors are those of [SignedData::take_from]; then `Trailing` if something follows signed data.
     pub fn decode(alloc: Global, bytes: Bytes) -> Result<SignedData<Alg>, DecodeError>
-        ensures decodes { Decodes (λ x. x) (SpellsSigned Alg.spells)
-            (IsWholeFault (SpellsSigned Alg.spells) (IsSignedFault Alg.spells Alg.fault)) bytes result }
+        ensures decodes { TakesWhole (λ x. x) (signed_sequence Alg.spells Alg.fault) bytes result }
         // It is written as it was read exactly where its algorithm was spelled as it is written, and no bit was unused.
         ensures again { IfOk result (λ v. IsWrittenAgain Alg.spells Alg.written v bytes) }
         // Where the algorithm has one spelling, all inputs of this value differ in the count of unused bits alone.

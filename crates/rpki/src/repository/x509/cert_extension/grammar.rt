@@ -1,9 +1,9 @@
 //! The grammar of extensions (RFC 5280 4.1).
 
-ghost use Rattle.rpki_der.specs.Prelude.{left, Takes, Reads, Decodes};
+ghost use Rattle.rpki_der.specs.Prelude.{left, Takes, Decodes, said_by};
 ghost use Rattle.rpki.specs.AnyValue.{SpellsAny};
 ghost use Rattle.rpki.specs.ExtensionValue.{extension_parts, IsExtensionContents, SpellsExtension};
-ghost use Rattle.rpki.specs.ExtensionFault.{IsCertExtensionFault, extension, extension_fields};
+ghost use Rattle.rpki.specs.ExtensionFault.{extension, extension_fields};
 
 use rpki_der::{Constructed, DecodeError, Oid};
 
@@ -36,7 +36,7 @@ pub(super) fn take_extension<'a>(
 
 /// Moves past an extension.
 pub(super) fn skip_extension(cons: &mut Constructed<'_>) -> Result<(), DecodeError>
-    ensures { Reads (λ _. tt) (SpellsAny SpellsExtension) IsCertExtensionFault (left cons.old) (left cons.new) result }
+    ensures { Takes (λ _. tt) (said_by (SpellsAny SpellsExtension) extension) (left cons.old) (left cons.new) result }
 {
     take_extension(cons)?;
     Ok(())

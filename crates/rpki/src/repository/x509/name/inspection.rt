@@ -1,16 +1,16 @@
 //! What a name is inspected for (RFC 6487 4.4, RFC 8209 3.1.1).
 
-ghost use Rattle.std.specs.Prelude.{◌≡◌, ◌↔◌, ◌<◌, IsTrue, List, [], ◌∷◌, length, MatchResult};
+ghost use Rattle.std.specs.Prelude.{◌≡◌, ◌↔◌, ◌<◌, IsTrue, [], ◌∷◌, length};
 ghost use Rattle.std.specs.List.{count_by};
-ghost use Rattle.rpki.specs.Name.{Attribute, attribute_of, SpellsAttribute, SpellsSome, SpellsRelative, SpellsName};
+ghost use Rattle.rpki.specs.Name.{attribute_of};
 ghost use Rattle.rpki.specs.NameTable.{name_table, row_at};
-ghost use Rattle.rpki.specs.StrictName.{attributes, IsNameSize, begins_character, IsPrintable, IsUtf8String, IsString};
+ghost use Rattle.rpki.specs.StrictName.{IsNameSize, begins_character, IsPrintable, IsUtf8String, IsString};
 ghost use Rattle.rpki.specs.InspectionView.{strings_of, FindsBy, Inspects};
 
-use super::grammar::take_attribute_type;
 use super::rule::NameRule;
 use super::table::{Found, NOTHING, NameAttribute, Strings};
-use rpki_der::{Cursor, Oid, Tag, take_printable_contents, take_utf8_contents};
+use super::view::NameView;
+use rpki_der::{Constructed, Oid, take_printable_contents, take_utf8_contents};
 
 /// Whose names are inspected.
 #[derive(Clone, Copy)]
@@ -37,32 +37,32 @@ fn characters(text: &[u8]) -> usize
         .count()
 }
 
-/// Whether the octets that are left are a PrintableString of 1 to 64 characters.
-fn is_printable<C: Cursor>(value: C) -> bool
-    ensures { IsTrue result ↔ IsPrintable (C.octets_left value) }
+/// Whether the octets are a PrintableString of 1 to 64 characters.
+fn is_printable(value: &[u8]) -> bool
+    ensures { IsTrue result ↔ IsPrintable value.now }
 {
-    let mut after = value;
+    let mut after = Constructed::from_slice(value);
     match take_printable_contents(&mut after) {
-        Ok(text) => is_name_size(text.octets().len()) && after.is_at_end(),
+        Ok(text) => is_name_size(text.rest().len()) && after.is_empty(),
         Err(_) => false,
     }
 }
 
 /// Whether they are a UTF8String of 1 to 64 characters.
-fn is_utf8<C: Cursor>(value: C) -> bool
-    ensures { IsTrue result ↔ IsUtf8String (C.octets_left value) }
+fn is_utf8(value: &[u8]) -> bool
+    ensures { IsTrue result ↔ IsUtf8String value.now }
 {
-    let mut after = value;
+    let mut after = Constructed::from_slice(value);
     match take_utf8_contents(&mut after) {
-        Ok(text) => is_name_size(characters(text.octets())) && after.is_at_end(),
+        Ok(text) => is_name_size(characters(text.rest())) && after.is_empty(),
         Err(_) => false,
     }
 }
 
 impl Strings {
-    /// Whether the octets that are left are one of the strings.
-    fn permit<C: Cursor>(self, value: C) -> bool
-        ensures { IsTrue result ↔ IsString self (C.octets_left value) }
+    /// Whether the octets are one of the strings.
+    fn permit(self, value: &[u8]) -> bool
+        ensures { IsTrue result ↔ IsString self value.now }
     {
         match self {
             Strings::Printable => is_printable(value),
@@ -87,14 +87,8 @@ impl Profile {
     ///
     /// Returns the rule that is broken if an attribute that is not of the table, a second one of its type, or a string
     /// that is not permitted is found, the first of these.
-    fn add<C: Cursor>(
-        self,
-        found: Found,
-        identifier: Oid<&[u8]>,
-        value: C,
-    ) -> Result<Found, NameRule>
-        ensures { FindsBy self found
-            (attribute_of identifier.entry.0.now (C.octets_left value) ∷ []) result }
+    fn add(self, found: Found, identifier: Oid<&[u8]>, value: &[u8]) -> Result<Found, NameRule>
+        ensures { FindsBy self found (attribute_of identifier.entry.0.now value.now ∷ []) result }
     {
         let Some(number) = NameAttribute::number_of(identifier) else {
             return Err(NameRule::OtherAttribute);
@@ -110,51 +104,15 @@ impl Profile {
         Ok(found)
     }
 
-    /// What is found in these attributes, after what was found before; or the rule that is broken first.
-    fn add_attributes<C: Cursor>(self, found: Found, contents: C) -> Result<Found, NameRule>
-        ensures { (xs : List Attribute) → SpellsSome SpellsAttribute xs (C.octets_left contents)
-            → FindsBy self found xs result }
+    /// Tests a name, attribute by attribute; returns the rule that it breaks first.
+    pub(super) fn inspect(self, name: &NameView<'_>) -> Result<(), NameRule>
+        ensures { Inspects self name.now result }
     {
-        let mut rest = contents;
-        let mut all = found;
-        'attributes: while !rest.is_at_end() {
-            let (identifier, value) = match take_attribute_type(&mut rest) {
-                Ok(read) => read,
-                Err(_) => return Err(NameRule::OtherAttribute),
-            };
-            all = self.add(all, Oid(identifier.octets()), value)?;
+        let mut found = NOTHING;
+        let mut rest = name.attributes();
+        'attributes: while let Some(attribute) = rest.next_attribute() {
+            found = self.add(found, attribute.identifier, attribute.value)?;
         }
-        Ok(all)
-    }
-
-    /// The same for relative distinguished names.
-    fn add_rdns<C: Cursor>(self, found: Found, contents: C) -> Result<Found, NameRule>
-        ensures { (parts : List (List Attribute)) → SpellsSome SpellsRelative parts (C.octets_left contents)
-            → FindsBy self found (attributes parts) result }
-    {
-        let mut rest = contents;
-        let mut all = found;
-        'relatives: while !rest.is_at_end() {
-            let relative = match rest.take_value_contents(Tag::SET, true) {
-                Ok(relative) => relative,
-                Err(_) => return Err(NameRule::OtherAttribute),
-            };
-            all = self.add_attributes(all, relative)?;
-        }
-        Ok(all)
-    }
-
-    /// Tests a name; returns the rule that it breaks first.
-    pub(super) fn inspect<C: Cursor>(self, name: C) -> Result<(), NameRule>
-        ensures { (parts : List (List Attribute)) → SpellsName parts (C.octets_left name)
-            → Inspects self (attributes parts) result }
-    {
-        let mut name = name;
-        let contents = match name.take_value_contents(Tag::SEQUENCE, true) {
-            Ok(contents) => contents,
-            Err(_) => return Err(NameRule::OtherAttribute),
-        };
-        let found = self.add_rdns(NOTHING, contents)?;
         if !found[NameAttribute::COMMON_NAME] {
             return Err(NameRule::MissingCommonName);
         }

@@ -1,17 +1,18 @@
 //! Names, read in place (RFC 5280 4.1.2.4, RFC 6487 4.4).
 
-ghost use Rattle.std.specs.Prelude.{◌≡◌, MatchResult};
+ghost use Rattle.std.specs.Prelude.{◌≡◌, List, MatchResult};
 ghost use Rattle.rpki_der.specs.Prelude.{left, Takes};
-ghost use Rattle.rpki.specs.Name.{IsName};
+ghost use Rattle.rpki.specs.Name.{Attribute, IsName, SpellsName};
+ghost use Rattle.rpki.specs.NameAttributes.{marked_attributes, AreLeft};
 ghost use Rattle.rpki.specs.NameFault.{borrowed_name};
 ghost use Rattle.rpki.specs.NameRule.{BreaksRpkiRule, BreaksRouterRule};
 ghost use Rattle.rpki.specs.StrictName.{IsRpkiName, IsRouterName};
 
+use super::attributes::Attributes;
 use super::grammar::skip_name;
 use super::inspection::Profile;
 use super::rule::NameRule;
 use rpki_der::{Constructed, DecodeError};
-use std::alloc::Global;
 use std::marker::Model;
 
 /// A name, as [Name](crate::repository::x509::Name), whose octets are borrowed from those that it was read from.
@@ -41,12 +42,12 @@ impl<'a> NameView<'a> {
     }
 
     /// A name, with the grammar and the errors of [Name::take_from](crate::repository::x509::Name::take_from), but that
-    /// allocation can fail only where the value of an attribute is constructed.
-    pub fn take_from(alloc: Global, cons: &mut Constructed<'a>) -> Result<NameView<'a>, DecodeError>
+    /// it allocates nothing.
+    pub fn take_from(cons: &mut Constructed<'a>) -> Result<NameView<'a>, DecodeError>
         ensures { Takes (λ n. n) borrowed_name (left cons.old) (left cons.new) result }
     {
         let mut after = *cons;
-        skip_name(alloc, &mut after)?;
+        skip_name(&mut after)?;
         let octets = cons.rest();
         let size = octets.len() - after.rest().len();
         *cons = after;
@@ -63,13 +64,23 @@ impl<'a> NameView<'a> {
         self.octets
     }
 
+    /// The attributes of the name, in order: those of each relative distinguished name, of which the first is marked.
+    /// Allocates nothing.
+    pub fn attributes(&self) -> Attributes<'a>
+        ensures attributes { (parts : List (List Attribute)) → SpellsName parts self.now
+            → AreLeft result (marked_attributes parts) }
+        ensures named { IsName self.now }
+    {
+        Attributes::of_name(self.octets)
+    }
+
     /// Tests that the name is one of a certificate of the RPKI, as
     /// [Name::test_rpki](crate::repository::x509::Name::test_rpki) does; returns the rule that it breaks first, from
     /// the left. Allocates nothing.
     pub fn test_rpki(&self) -> Result<(), NameRule>
         ensures { MatchResult result (λ _. IsRpkiName self.now) (λ rule. BreaksRpkiRule rule self.now) }
     {
-        Profile::Rpki.inspect(Constructed::from_slice(self.octets))
+        Profile::Rpki.inspect(self)
     }
 
     /// Tests that the name is one of a router's certificate, as
@@ -78,6 +89,6 @@ impl<'a> NameView<'a> {
     pub fn test_router(&self) -> Result<(), NameRule>
         ensures { MatchResult result (λ _. IsRouterName self.now) (λ rule. BreaksRouterRule rule self.now) }
     {
-        Profile::Router.inspect(Constructed::from_slice(self.octets))
+        Profile::Router.inspect(self)
     }
 }

@@ -2,7 +2,7 @@ use Rattle.rpki_der.specs.Prelude.{left, AtPart}
 use Rattle.rpki_der.proofs.ReadingLaws.{UnlessMemory-weaker}
 use Rattle.rpki_der.proofs.FirstFaultLaws.{tried-parts}
 use Rattle.rpki.specs.Algorithm.{IsIdentified}
-use Rattle.rpki.specs.AlgorithmFault.{parameters, identified}
+use Rattle.rpki.specs.AlgorithmFault.{identified}
 use Rattle.rpki.proofs.AlgorithmLaws.{parameters-all}
 use Rattle.rpki.proofs.NamedLaws.{not-identified}
 use Rattle.rpki.proofs.crypto.algorithm_identifier.fn.take_algorithm.in_sequence.Goals as goal

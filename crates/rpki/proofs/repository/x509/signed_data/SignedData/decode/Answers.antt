@@ -1,7 +1,7 @@
 use Rattle.std.proofs.lemmas.Result.{err_from_is_err_and}
 use Rattle.rpki_der.proofs.ComposedLaws.{all-read, more-left, not-read}
 use Rattle.rpki.specs.SignedData.{SpellsSigned}
-use Rattle.rpki.specs.SignedFault.{IsSignedFault}
+use Rattle.rpki.specs.SignedFault.{signed_sequence}
 use Rattle.rpki.proofs.SignedLaws.{again-iff, differ-in-count}
 use Rattle.rpki.proofs.repository.x509.signed_data.SignedData.decode.Goals as goal
 
@@ -10,7 +10,7 @@ returns-in_err-found-clause-decodes g c =
     let h = rw c.new-cons.ensures at c.in_err-found.ensures in
     let p = err_from_is_err_and c.from_residual.result c.from_residual.ensures.1 in
     rw (p.1, p.2) (not-read (SpellsSigned g.Alg.SignatureAlgorithm.spells)
-    (IsSignedFault g.Alg.SignatureAlgorithm.spells g.Alg.SignatureAlgorithm.fault) c.args.bytes _
+    (signed_sequence g.Alg.SignatureAlgorithm.spells g.Alg.SignatureAlgorithm.fault).fault c.args.bytes _
     c.in_err-found.field-0.0 h)
 
 pub returns-clause-decodes : goal.returns-clause-decodes
@@ -44,5 +44,5 @@ returns-in_err-finish-clause-decodes g c =
     let p = err_from_is_err_and c.from_residual-in_err-finish.result c.from_residual-in_err-finish.ensures.1 in
     rw (p.1, p.2) (rw c.in_err-finish.ensures.0
     (more-left (SpellsSigned g.Alg.SignatureAlgorithm.spells)
-    (IsSignedFault g.Alg.SignatureAlgorithm.spells g.Alg.SignatureAlgorithm.fault) c.args.bytes c.in_ok-found.found _ h
-    c.in_err-finish.ensures.1))
+    (signed_sequence g.Alg.SignatureAlgorithm.spells g.Alg.SignatureAlgorithm.fault).fault c.args.bytes
+    c.in_ok-found.found _ h c.in_err-finish.ensures.1))

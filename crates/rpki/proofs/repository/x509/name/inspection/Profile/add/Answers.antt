@@ -8,29 +8,29 @@ use Rattle.rpki.proofs.InspectionLaws.{found-more, second-attribute, other-strin
 use Rattle.rpki.proofs.repository.x509.name.inspection.Profile.add.Goals as goal
 
 pub returns-in_default : goal.returns-in_default
-returns-in_default gen c = λ before f.
+returns-in_default c = λ before f.
     other-attribute name_table (strings_of c.args.self) c.args.found before
-    (attribute_of c.args.identifier.0.now (gen.C.Cursor.octets_left c.args.value)) f c.in_default.ensures.none
+    (attribute_of c.args.identifier.0.now c.args.value.now) f c.in_default.ensures.none
 
 pub returns-then-found-number : goal.returns-then-found-number
-returns-then-found-number gen c = λ before f.
+returns-then-found-number c = λ before f.
     second-attribute name_table (strings_of c.args.self) _ c.args.found before
-    (attribute_of c.args.identifier.0.now (gen.C.Cursor.octets_left c.args.value)) c.in-Some.number f
+    (attribute_of c.args.identifier.0.now c.args.value.now) c.in-Some.number f
     c.in-Some.ensures.some c.if-found-number.true
     c.of_number.ensures.second
 
 pub returns-then-not-permit : goal.returns-then-not-permit
-returns-then-not-permit gen c = λ before f.
+returns-then-not-permit c = λ before f.
     other-string name_table (strings_of c.args.self) c.args.found before
-    (attribute_of c.args.identifier.0.now (gen.C.Cursor.octets_left c.args.value)) c.in-Some.number f
+    (attribute_of c.args.identifier.0.now c.args.value.now) c.in-Some.number f
     c.in-Some.ensures.some c.if-found-number.false
-    (λ p. let yes = c.permit.ensures.1 (subst (λ s. IsString s (gen.C.Cursor.octets_left c.args.value))
+    (λ p. let yes = c.permit.ensures.1 (subst (λ s. IsString s c.args.value.now)
     (sym c.strings.ensures) p) in let both = sym c.if-not-permit.true ∙ yes in absurd (cc))
 
 pub returns : goal.returns
-returns gen c = λ before f.
+returns c = λ before f.
     found-more name_table (strings_of c.args.self) c.args.found before
-    (attribute_of c.args.identifier.0.now (gen.C.Cursor.octets_left c.args.value)) c.in-Some.number names-distinct f
+    (attribute_of c.args.identifier.0.now c.args.value.now) c.in-Some.number names-distinct f
     (omega (arith, c.in-Some.ensures.some.below)) c.in-Some.ensures.some c.if-found-number.false
-    (subst (λ s. IsString s (gen.C.Cursor.octets_left c.args.value)) c.strings.ensures
+    (subst (λ s. IsString s c.args.value.now) c.strings.ensures
     (c.permit.ensures.0 c.if-not-permit.false))

@@ -20,14 +20,14 @@ returns-in_err-take_oid c =
       AtPart h.refuses h.kind,
     )
 
-pub returns-in_err-skip_one : goal.returns-in_err-skip_one
-returns-in_err-skip_one c =
+pub returns-in_err-skip_nested : goal.returns-in_err-skip_nested
+returns-in_err-skip_nested c =
     let s = left c.args.contents.now in
     let m = left c.take_oid.new.self in
-    let e = c.in_err-skip_one.field-0.0 in
+    let e = c.in_err-skip_nested.field-0.0 in
     let a = c.in_ok-take_oid.ensures in
-    let h = c.in_err-skip_one.ensures.reads.1 in
-    let f = c.from_residual-in_err-skip_one.ensures in
+    let h = c.in_err-skip_nested.ensures.1 in
+    let f = c.from_residual-in_err-skip_nested.ensures in
     tried-parts (λ u. tt) (SpellsAny IsAttribute) attribute_parts.fault s _ e _ f (
       UnlessMemory-weaker e (λ none x k. nothing-whole SpellsAnyValue m none tt (identified-value s m _ a k.0 k.1))
           h.refuses,
@@ -39,7 +39,7 @@ returns-in-Some c =
     let s = left c.args.contents.now in
     let m = left c.take_oid.new.self in
     let a = c.in_ok-take_oid.ensures in
-    let h = rw c.in-Some.is at c.in_ok-skip_one.ensures.reads in (
+    let h = rw c.in-Some.is at c.in_ok-skip_nested.ensures in (
       λ end. (
         (_, record { identified = (identified s m _ a).0; one = (all-read SpellsAnyValue m tt _ h.1 end).0 }),
         λ w
@@ -56,7 +56,7 @@ pub returns-in-None : goal.returns-in-None
 returns-in-None c =
     let s = left c.args.contents.now in
     let m = left c.take_oid.new.self in
-    let h = rw c.in-None.is at c.in_ok-skip_one.ensures.reads in
+    let h = rw c.in-None.is at c.in_ok-skip_nested.ensures in
     let a = c.in_ok-take_oid.ensures in
     rw c.content.ensures (
       λ x k. no-value-where-nothing m h.0 tt (identified-value s m _ a k.0 k.1),
