@@ -12,11 +12,11 @@ use Rattle.rpki_time.specs.Validity.{Period}
 use Rattle.rpki_time.specs.PeriodValue.{SpellsPeriod, IsPeriodFault}
 use Rattle.rpki_time.proofs.PeriodReadingLaws.{period-no-memory}
 use Rattle.rpki.specs.Oids.{sha256_with_rsa_encryption}
-use Rattle.rpki.specs.AlgorithmFault.{IsAlgorithmFault}
+use Rattle.rpki.specs.AlgorithmFault.{algorithm}
 use Rattle.rpki.proofs.AlgorithmFaultLaws.{algorithm-outer}
 use Rattle.rpki.specs.Name.{SpellsNameOctets}
 use Rattle.rpki.specs.PublicKey.{KeyParts, SpellsKey}
-use Rattle.rpki.specs.KeyFault.{IsKeyViewFault}
+use Rattle.rpki.specs.KeyFault.{key_view}
 use Rattle.rpki.proofs.KeyFaultLaws.{view-outer}
 use Rattle.rpki.specs.ExtensionValue.{ExtensionParts}
 use Rattle.rpki_cert.specs.declared.read.section.Section.{Section}
@@ -39,8 +39,8 @@ use Rattle.rpki_cert.specs.Cert.{two_value, version}
 
 -- ---- readers that take no memory
 
-pub key-refused : (s r : List ℕ) (e : DecodeError) → Refusal SpellsKey IsKeyViewFault s r e → Refuses SpellsKey s
-key-refused s r e h = refused SpellsKey IsKeyViewFault s r e (λ k. (view-outer s OutOfMemory k).other refl) h
+pub key-refused : (s r : List ℕ) (e : DecodeError) → Refusal SpellsKey key_view.fault s r e → Refuses SpellsKey s
+key-refused s r e h = refused SpellsKey key_view.fault s r e (λ k. (view-outer s OutOfMemory k).other refl) h
 
 pub period-refused : (s r : List ℕ) (e : DecodeError) → Refusal SpellsPeriod IsPeriodFault s r e
     → Refuses SpellsPeriod s
@@ -52,8 +52,8 @@ serial-refused s r e h = refused SpellsSerial IsSerialFault s r e
     (λ k. leaf-no-memory integer false IsSerialContents s OutOfMemory k.0 refl) h
 
 pub algorithm-refused : (s r : List ℕ) (e : DecodeError)
-    → Refusal SpellsRpkiAlgorithm (IsAlgorithmFault sha256_with_rsa_encryption) s r e → Refuses SpellsRpkiAlgorithm s
-algorithm-refused s r e h = refused SpellsRpkiAlgorithm (IsAlgorithmFault sha256_with_rsa_encryption) s r e
+    → Refusal SpellsRpkiAlgorithm (algorithm sha256_with_rsa_encryption).fault s r e → Refuses SpellsRpkiAlgorithm s
+algorithm-refused s r e h = refused SpellsRpkiAlgorithm (algorithm sha256_with_rsa_encryption).fault s r e
     (λ k. (algorithm-outer sha256_with_rsa_encryption s OutOfMemory k).other refl) h
 
 pub version-refused : (s r : List ℕ) (e : DecodeError) → Refusal SpellsVersion version.fault s r e

@@ -14,7 +14,7 @@ use Rattle.rpki_der.proofs.LeavesLaws.{contents-no-memory}
 use Rattle.rpki_der.proofs.ComposedLaws.{all-read, nothing-after, nothing-whole}
 use Rattle.rpki_der.proofs.LeafValueLaws.{leaf-shorter}
 use Rattle.rpki.specs.ExtensionValue.{ExtensionParts, SpellsExtension, IsExtensionContents}
-use Rattle.rpki.specs.ExtensionFault.{IsCertExtensionFault}
+use Rattle.rpki.specs.ExtensionFault.{extension}
 use Rattle.rpki.proofs.ExtensionFaultLaws.{extension-outer}
 use Rattle.rpki_cert.specs.declared.read.cert_part.CertPart.{CertPart}
 use Rattle.rpki_cert.specs.Cert.{find, is_there, are_unique}
@@ -29,9 +29,9 @@ pub refused : {V : Type 0} (G : V → List ℕ → Type 0) (K : List ℕ → Dec
     (e : DecodeError) → (K s OutOfMemory → ⊥) → Refusal G K s r e → Refuses G s
 refused G K s r e never h = unless-memory e (λ z. never (subst (K s) z h.kind)) h.refuses
 
-pub extension-refused : (s r : List ℕ) (e : DecodeError) → Refusal SpellsExtension IsCertExtensionFault s r e
+pub extension-refused : (s r : List ℕ) (e : DecodeError) → Refusal SpellsExtension extension.fault s r e
     → Refuses SpellsExtension s
-extension-refused s r e h = refused SpellsExtension IsCertExtensionFault s r e
+extension-refused s r e h = refused SpellsExtension extension.fault s r e
     (λ k. (extension-outer s OutOfMemory k).other refl) h
 
 -- ---- what is left of extensions

@@ -4,7 +4,7 @@ use Rattle.std.proofs.Common.{slice_index_or, Result, Ok, Err, sym, subst}
 use Rattle.std.specs.Prelude.{◌↔◌}
 use Rattle.std.proofs.Math.Seq.{split_at}
 use Rattle.std.proofs.lemmas.List.{take_all}
-use Rattle.std.proofs.lemmas.List.Elements.{All-more, All-head, All-tail, All-from_recursion, recursion_from_All}
+use Rattle.std.proofs.lemmas.List.Elements.{All-more, All-head, All-tail, recursion_from_All}
 use Rattle.rpki.specs.declared.repository.error.ValidationError.{ValidationError}
 use Rattle.rpki_cert.specs.declared.profile.Profile.{Profile}
 use Rattle.rpki_cert.specs.declared.profile.Profile.TheVariants.{Ta}

@@ -1,5 +1,5 @@
 -- Signed data whose signature has no unused bits: the octet that counts them, in front of the signature's.
-use Rattle.std.proofs.Common.{◌≡◌, ◌∙◌, ◌+◌, ◌-◌, ◌↔◌, ℕ, Bool, true, false, inl, inr, List, ◌∷◌, ◌++◌, length, arith}
+use Rattle.std.proofs.Common.{◌≡◌, ◌∙◌, ◌+◌, ◌↔◌, ℕ, Bool, true, false, inl, inr, List, ◌∷◌, ◌++◌, length, arith}
 use Rattle.std.proofs.Common.{refl, sym, ap, append_assoc, length-append, IsTrue}
 use Rattle.std.specs.Prelude.{codes}
 use Rattle.rpki_der.specs.declared.error.DecodeError.{DecodeError}
@@ -8,7 +8,7 @@ use Rattle.rpki_der.specs.Header.{identifier_octets, length_octets}
 use Rattle.rpki_der.specs.Reading.{Spells, Accepts, Refusal}
 use Rattle.rpki_der.proofs.ReadingLaws.{UnlessMemory-weaker, UnlessMemory-from}
 use Rattle.rpki.specs.SignedData.{SignedParts, SpellsSigned}
-use Rattle.rpki.specs.SignedFault.{IsSignedFault}
+use Rattle.rpki.specs.SignedFault.{signed_sequence}
 use Rattle.rpki.specs.UnknownAlgorithm.{IsContentWith}
 use Rattle.rpki_cert.specs.Cert.{SpellsRpkiAlgorithm, SpellsWhole}
 use Rattle.rpki_cert.specs.CertFault.{IsWholeSignedFault}
@@ -57,7 +57,7 @@ abbrev as-signed : (s : List ℕ) (x : SignedParts Bool) (r : List ℕ) → Spel
 as-signed s x r h = record { front = h.front; parts = h.parts; spelled = h.spelled.signed }
 
 pub no-signed : (s r : List ℕ) (e : DecodeError)
-    → Refusal Signed (IsSignedFault SpellsRpkiAlgorithm rpki_algorithm.fault) s r e
+    → Refusal Signed (signed_sequence SpellsRpkiAlgorithm rpki_algorithm.fault).fault s r e
     → Refusal SpellsWhole IsWholeSignedFault s s e
 no-signed s r e h = record {
   unchanged = refl;

@@ -5,7 +5,7 @@ use Rattle.rpki_der.specs.declared.error.DecodeError.{DecodeError}
 use Rattle.rpki_der.specs.Prelude.{Finds, FirstFault, IsEndFault}
 use Rattle.rpki.specs.UnknownAlgorithm.{IsContentWith}
 use Rattle.rpki.specs.SignedData.{SignedParts, SpellsSigned}
-use Rattle.rpki.specs.SignedFault.{IsSignedFault}
+use Rattle.rpki.specs.SignedFault.{signed_sequence}
 use Rattle.rpki_cert.specs.Cert.{TbsParts, SpellsRpkiAlgorithm, SpellsTbs, SpellsWhole, rpki_algorithm, tbs_certificate}
 
 -- two algorithms that differ
@@ -22,7 +22,7 @@ IsInnerFault signed r e =
 -- not signed data; or signed data of whose signature bits are unused
 abbrev pub IsWholeSignedFault : List ℕ → DecodeError → Type 0
 IsWholeSignedFault s e =
-    IsSignedFault SpellsRpkiAlgorithm rpki_algorithm.fault s e
+    (signed_sequence SpellsRpkiAlgorithm rpki_algorithm.fault).fault s e
     ⊎ (Finds (SpellsSigned SpellsRpkiAlgorithm) s × IsContentWith (codes "signature has unused bits") e)
 
 -- the same; or signed data of which what is signed is rejected

@@ -7,7 +7,7 @@ use Rattle.rpki_der.specs.declared.tag.Class.TheVariants.{Context}
 use Rattle.rpki_der.specs.Prelude.{TagName, tag_of, sequence, SpellsEach, SpellsSome, IsEachFault, Format, around, only}
 use Rattle.rpki.specs.UnknownAlgorithm.{IsContentWith}
 use Rattle.rpki.specs.ExtensionValue.{ExtensionParts, SpellsExtension}
-use Rattle.rpki.specs.ExtensionFault.{IsKeptExtensionFault}
+use Rattle.rpki.specs.ExtensionFault.{kept_extension}
 
 -- the explicit tag around them
 abbrev pub extensions_tag : TagName
@@ -35,7 +35,7 @@ pub record AreExtensions (xs : List ExtensionParts) (c : List ℕ) : Type 0 wher
 -- none; or one of them isn't an extension; or all are, and two have the same identifier
 pub data AreExtensionsFault (s : List ℕ) (e : DecodeError) : Type 0 where
   NoExtension : s ≡ [] → IsContentWith (codes "no extensions") e → AreExtensionsFault s e
-  NotExtensions : s ≢ [] → IsEachFault SpellsExtension IsKeptExtensionFault s e → AreExtensionsFault s e
+  NotExtensions : s ≢ [] → IsEachFault SpellsExtension kept_extension.fault s e → AreExtensionsFault s e
   Repeated : (xs : List ExtensionParts) → SpellsEach SpellsExtension xs s → (IsTrue (are_unique xs) → ⊥)
       → IsContentWith (codes "duplicate extension") e → AreExtensionsFault s e
 

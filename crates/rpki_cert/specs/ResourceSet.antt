@@ -1,5 +1,5 @@
 -- The resources that certificates have, down a path of authorities (RFC 6487 7.2, RFC 8360 4.2.4).
-use Rattle.std.specs.Prelude.{◌≡◌, ◌⊎◌, true, List, [], Option, Some, None, IsTrue, codes, Result, MatchResult}
+use Rattle.std.specs.Prelude.{◌≡◌, ◌⊎◌, true, List, Option, Some, None, IsTrue, codes, Result, MatchResult}
 use Rattle.rpki.specs.ExtensionValue.{ExtensionParts}
 use Rattle.rpki.specs.declared.repository.error.ValidationError.{ValidationError}
 use Rattle.rpki_resources.specs.declared.block.Block.{Block}

@@ -1,28 +1,23 @@
 -- What the rules of profiles say of the parts of a certificate (RFC 6487 4, RFC 8209 3.1, RFC 8360 4.2).
-use Rattle.std.specs.Prelude.{◌≡◌, ◌≢◌, ◌<◌, ◌≤ℤ◌, ◌⊎◌, ◌||◌, ◌&&◌, not, ℕ, Bool, true, false, List, [], Option, Some}
+use Rattle.std.specs.Prelude.{◌≡◌, ◌≢◌, ◌≤ℤ◌, ◌⊎◌, ◌||◌, ◌&&◌, not, ℕ, Bool, true, false, List, [], Option, Some}
 use Rattle.std.specs.Prelude.{None, IsTrue}
 use Rattle.jiff.specs.Words.{civil_nanos}
 use Rattle.rpki_time.specs.Validity.{Period}
 use Rattle.rpki.specs.KeyIdentifier.{SpellsKeyIdentifier}
-use Rattle.rpki.specs.StrictName.{IsRpkiName, IsRouterName}
 use Rattle.rpki.specs.ExtensionValue.{ExtensionParts}
-use Rattle.rpki_cert.specs.declared.extension.key_usage.KeyUsage.TheVariants.{Ca, Ee}
 use Rattle.rpki_text.specs.RsyncText.{rsync_refusal, uri_of, relative}
 use Rattle.rpki_cert.specs.declared.extension.access_rule.AccessRule.{AccessRule}
-use Rattle.rpki_cert.specs.declared.extension.access_rule.AccessRule.TheVariants.{EndEntity, Notification}
 use Rattle.rpki_cert.specs.declared.extension.policy.Overclaim.{Overclaim}
 use Rattle.rpki_cert.specs.declared.extension.policy.Overclaim.TheVariants.{Refuse, Trim}
-use Rattle.rpki_cert.specs.Cert.{TbsParts, find, is_there}
-use Rattle.rpki_cert.specs.Keys.{IsRpkiKey, IsRouterKey}
-use Rattle.rpki_cert.specs.Known.{subject_key_identifier, key_usage, basic_constraints, crl_distribution_points}
-use Rattle.rpki_cert.specs.Known.{certificate_policies, authority_key_identifier, extended_key_usage}
-use Rattle.rpki_cert.specs.Known.{authority_info_access, subject_info_access, ip_addr_blocks, ip_addr_blocks_v2}
-use Rattle.rpki_cert.specs.Known.{autonomous_sys_ids, autonomous_sys_ids_v2, Says, HasExtension, are_understood}
-use Rattle.rpki_cert.specs.ExtensionContent.{SpellsConstraints, SpellsAuthority, SpellsUsage, SpellsPurposes}
+use Rattle.rpki_cert.specs.Cert.{find, is_there}
+use Rattle.rpki_cert.specs.Known.{subject_key_identifier}
+use Rattle.rpki_cert.specs.Known.{certificate_policies, authority_key_identifier}
+use Rattle.rpki_cert.specs.Known.{subject_info_access, ip_addr_blocks, ip_addr_blocks_v2}
+use Rattle.rpki_cert.specs.Known.{autonomous_sys_ids, autonomous_sys_ids_v2, Says, HasExtension}
+use Rattle.rpki_cert.specs.ExtensionContent.{SpellsAuthority}
 use Rattle.rpki_cert.specs.ExtensionContent.{SpellsPolicies}
-use Rattle.rpki_cert.specs.ResourceExtensions.{AreWellFormed, AreOwn}
-use Rattle.rpki_cert.specs.Access.{SpellsRsyncAccess, SpellsPoints, SpellsHeldAccess, SaysUri, ca_issuers}
-use Rattle.rpki_cert.specs.Access.{ca_repository, rpki_manifest, signed_object}
+use Rattle.rpki_cert.specs.Access.{SpellsRsyncAccess, SpellsHeldAccess, SaysUri}
+use Rattle.rpki_cert.specs.Access.{ca_repository, rpki_manifest}
 
 -- ---- what is there
 

@@ -8,7 +8,7 @@ use Rattle.rpki.specs.declared.repository.error.ValidationError.{ValidationError
 use Rattle.rpki_cert.specs.declared.profile.Profile.{Profile}
 use Rattle.rpki_cert.specs.declared.profile.Profile.TheVariants.{Ta, Ca}
 use Rattle.rpki_cert.specs.declared.resource.set.ResourceSet.{ResourceSet}
-use Rattle.rpki_cert.specs.Cert.{TbsParts, CertParts}
+use Rattle.rpki_cert.specs.Cert.{CertParts}
 use Rattle.rpki_cert.specs.Known.{UnlessNoMemory}
 use Rattle.rpki_cert.specs.Profile.{rules_of, HasProfile}
 use Rattle.rpki_cert.specs.RuleError.{IsFirstError}

@@ -69,11 +69,6 @@ pub record AreTwo (v : ListExtensions) (c : List ℕ) : Type 0 where
 
 -- ---- TBSCertList
 
--- a reader of a name found s and left r: Some is its section, and None says that there is none
-abbrev pub TakesIssuer : List ℕ → List ℕ → Option Section → Type 0
-TakesIssuer s r (Some p) = (v : List ℕ) × Accepts SpellsNameOctets s v r × IsSection p v r
-TakesIssuer s r None = Refuses SpellsNameOctets s
-
 -- Of a list of entries, which may be left out, and of extensions, that are all of s: the contents of the list, and what
 -- follows it; no octets in front of all where it is left out.
 abbrev pub entries_in_front : (xs : Option (List Entry)) (v : ListExtensions) (s : List ℕ)

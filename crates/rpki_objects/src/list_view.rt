@@ -3,7 +3,7 @@
 ghost use Rattle.std.specs.Prelude.{IfOk, IfErr};
 ghost use Rattle.rpki_der.specs.Prelude.{left};
 ghost use Rattle.rpki_objects.specs.Crl.{ListParts, fields, fields_of, tbs_cert_list};
-ghost use Rattle.rpki_objects.specs.CrlView.{AreFieldsWrong, IsListAt, IsTbsWrong, TakesIssuer};
+ghost use Rattle.rpki_objects.specs.CrlView.{AreFieldsWrong, IsListAt, IsTbsWrong};
 
 use crate::crl_extensions::{CrlExtensions, read_extensions};
 use crate::crl_part::CrlPart;
@@ -31,19 +31,6 @@ pub struct TbsListView<'a> {
     pub extensions: CrlExtensions,
 }
 
-/// A name, as the section of it.
-fn take_issuer<'a>(cons: &mut Constructed<'a>) -> Option<Section<'a>>
-    ensures { TakesIssuer (left cons.old) (left cons.new) result }
-{
-    match take_name(cons) {
-        Some(octets) => Some(Section {
-            octets,
-            following: cons.rest().len(),
-        }),
-        None => None,
-    }
-}
-
 /// The fields, which are all that is left.
 fn read_fields<'a>(contents: Constructed<'a>) -> Result<TbsListView<'a>, CrlPart>
     ensures ok { IfOk result (λ v. (t : ListParts) × (h : fields.spells (fields_of t) (left contents.entry))
@@ -59,7 +46,7 @@ fn read_fields<'a>(contents: Constructed<'a>) -> Result<TbsListView<'a>, CrlPart
         Ok(signature) => signature,
         Err(_) => return Err(CrlPart::TbsAlgorithm),
     };
-    let issuer = match take_issuer(&mut rest) {
+    let issuer = match take_name(&mut rest) {
         Some(issuer) => issuer,
         None => return Err(CrlPart::Issuer),
     };

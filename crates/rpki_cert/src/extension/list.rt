@@ -9,7 +9,7 @@ ghost use Rattle.rpki_der.specs.Each.{SpellsEach};
 ghost use Rattle.rpki.specs.ExtensionValue.{SpellsExtension};
 ghost use Rattle.rpki_cert.specs.Cert.{find, are_unique, AreExtensions, SpellsExtensionList, SpellsExtensions};
 ghost use Rattle.rpki_der.specs.Each.{IsEachFault};
-ghost use Rattle.rpki.specs.ExtensionFault.{IsKeptExtensionFault};
+ghost use Rattle.rpki.specs.ExtensionFault.{kept_extension};
 ghost use Rattle.rpki_cert.specs.Cert.{AreExtensionsFault, extension_list, extensions};
 
 use rpki::der::{Class, Constructed, DecodeError, Keep, Oid, Tag};
@@ -56,7 +56,7 @@ fn take_each<K: Keep>(
 ) -> Result<Vec<CertExtension>, DecodeError>
     requires { K.holds keep (left contents.old) }
     ensures reads { ReadsParts (λ v. v.items) (SpellsEach SpellsExtension) (IsEachFault SpellsExtension
-        IsKeptExtensionFault) (left contents.old) (left contents.new) result }
+        kept_extension.fault) (left contents.old) (left contents.new) result }
     ensures end { IfOk result (λ _. left contents.new ≡ []) }
 {
     contents.take_each_with(

@@ -3,7 +3,7 @@
 ghost use Rattle.std.specs.Prelude.{◌≡◌, IfOk, IfErr};
 ghost use Rattle.rpki_der.specs.Cursor.{left};
 ghost use Rattle.rpki_cert.specs.Cert.{TbsParts, AreFields, fields_of, SpellsTbs};
-ghost use Rattle.rpki_cert.specs.View.{TakesName, IsKeyedAt, IsNamedIn, IsTbsIn, AreNamed, AreKeyedWrong};
+ghost use Rattle.rpki_cert.specs.View.{IsKeyedAt, IsNamedIn, IsTbsIn, AreNamed, AreKeyedWrong};
 ghost use Rattle.rpki_cert.specs.View.{AreNamedWrong, AreFieldsWrong, IsTbsWrong};
 
 use crate::extension::table::ExtensionTable;
@@ -76,19 +76,6 @@ fn read_keyed<'a>(fields: Constructed<'a>) -> Result<Keyed<'a>, CertPart>
     })
 }
 
-/// A name, as the section of it.
-fn take_section<'a>(cons: &mut Constructed<'a>) -> Option<Section<'a>>
-    ensures { TakesName (left cons.old) (left cons.new) result }
-{
-    match take_name(cons) {
-        Some(octets) => Some(Section {
-            octets,
-            following: cons.rest().len(),
-        }),
-        None => None,
-    }
-}
-
 /// The fields from the issuer on, which are all that is left.
 fn read_named<'a>(fields: Constructed<'a>) -> Result<Named<'a>, CertPart>
     ensures ok { IfOk result (λ n. (t : TbsParts) × (h : AreNamed t (left fields.entry))
@@ -96,7 +83,7 @@ fn read_named<'a>(fields: Constructed<'a>) -> Result<Named<'a>, CertPart>
     ensures err { IfErr result (λ q. AreNamedWrong (left fields.entry) q) }
 {
     let mut rest = fields;
-    let issuer = match take_section(&mut rest) {
+    let issuer = match take_name(&mut rest) {
         Some(issuer) => issuer,
         None => return Err(CertPart::Issuer),
     };
@@ -104,7 +91,7 @@ fn read_named<'a>(fields: Constructed<'a>) -> Result<Named<'a>, CertPart>
         Ok(validity) => validity,
         Err(_) => return Err(CertPart::Validity),
     };
-    let subject = match take_section(&mut rest) {
+    let subject = match take_name(&mut rest) {
         Some(subject) => subject,
         None => return Err(CertPart::Subject),
     };

@@ -1,4 +1,5 @@
-use Rattle.rpki_cert.proofs.NestedLaws.{any-refused, value-missing, headed-there}
+use Rattle.rpki_der.proofs.NestedLaws.{any-refused}
+use Rattle.rpki_cert.proofs.NestedLaws.{value-missing, headed-there}
 use Rattle.rpki_cert.proofs.read.nested.take_headed.Goals as goal
 
 pub returns-in-Ok : goal.returns-in-Ok
