@@ -10,12 +10,11 @@
  * with RPKI_TOO_SMALL too, and `*at` of rpki_base64_read with RPKI_INVALID_SYMBOL to RPKI_INVALID_PADDING.
  *
  * What a call takes of memory it frees before it returns. At the peak rpki_walk, rpki_index, rpki_fault and
- * rpki_signed_data take up to 24 octets for each level of nesting, and 64 more; rpki_name_inspect takes the same of a
- * constructed value of an attribute. rpki_signed_data_write and rpki_signed_data_make take that, and once it is freed
- * as many octets as they write. The others that write values, and rpki_base64_read of more than 128 octets, take up to
- * two octets for each that they read or write, and 512 more. All others take none (those on certificates and resources,
- * rpki_hex, rpki_base64_write, rpki_serial_decimal, those that count times on, and the calls on URIs too), and so never
- * return RPKI_OUT_OF_MEMORY.
+ * rpki_signed_data take up to 24 octets for each level of nesting, and 64 more. rpki_signed_data_write and
+ * rpki_signed_data_make take that, and once it is freed as many octets as they write. The others that write values, and
+ * rpki_base64_read of more than 128 octets, take up to two octets for each that they read or write, and 512 more. All
+ * others take none (those on names, certificates and resources, rpki_hex, rpki_base64_write, rpki_serial_decimal, those
+ * that count times on, and the calls on URIs too), and so never return RPKI_OUT_OF_MEMORY.
  * So bound the size of what strangers send before you hand it in.
  *
  * What the caller owes, which no call can check:

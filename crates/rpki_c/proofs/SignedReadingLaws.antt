@@ -5,21 +5,15 @@ use Rattle.rpki_der.specs.declared.error.DecodeError.TheVariants.{Truncated, Bad
 use Rattle.rpki_der.specs.declared.error.DecodeError.TheVariants.{Trailing, OutOfMemory}
 use Rattle.rpki_der.specs.declared.tag.Header.{Header}
 use Rattle.rpki_der.specs.TagName.{sequence, bit_string}
-use Rattle.rpki_der.specs.Reading.{Spells, Accepts, Refuses, Refusal, UnlessMemory, SpellsNothing, OrMemoryWhere}
-use Rattle.rpki_der.specs.Values.{SpellsContents, IsContentsFault, GivesOuterFault, IsValueFault, IsLeafFault}
+use Rattle.rpki_der.specs.Reading.{Spells, Accepts, Refuses, Refusal, UnlessMemory, SpellsNothing}
+use Rattle.rpki_der.specs.Values.{SpellsContents, IsContentsFault, IsValueFault}
 use Rattle.rpki_der.specs.Leaves.{Bits, IsBits, bits_of}
-use Rattle.rpki_der.specs.Walk.{HasConstructed}
-use Rattle.rpki_der.specs.Inside.{HasInside}
 use Rattle.rpki_der.specs.FirstFault.FirstFault.{AtPart, Later}
-use Rattle.rpki_der.proofs.LeavesLaws.{leaf-no-memory}
 use Rattle.rpki_der.proofs.ComposedLaws.{outer-refused, inner-refused}
 use Rattle.rpki.specs.Oids.{sha256_with_rsa_encryption}
 use Rattle.rpki.specs.Algorithm.{SpellsAlgorithm}
-use Rattle.rpki.specs.AlgorithmFault.{IsAlgorithmFault}
 use Rattle.rpki.specs.SignedData.{SignedParts, SpellsSignature, IsSignedContents}
-use Rattle.rpki.proofs.AlgorithmFaultLaws.{algorithm-outer}
-use Rattle.rpki.proofs.SignedFaultLaws.{three-outer}
-use Rattle.rpki_c.specs.Signed.{SpellsRpki, IsWalkedFault, IsAllPartsFault, IsSignedFault}
+use Rattle.rpki_c.specs.Signed.{SpellsRpki, IsAllPartsFault, IsSignedFault}
 
 -- ---- errors that are not allocation failure
 
@@ -70,16 +64,3 @@ pub parts-refused : (s c q : List ℕ) (e : DecodeError) → Accepts (SpellsCont
 parts-refused s c q e a h =
     let k = inner-refused sequence true AreParts s c q s e refl a h.0 in
     record { unchanged = refl; refuses = k.refuses; kind = Later c q a h.1 }
-
--- ---- where allocation may fail, and the error of the SEQUENCE where that isn't there
-
-constructed-memory : (s : List ℕ) → IsWalkedFault s OutOfMemory → HasConstructed s
-constructed-memory s k = k
-
-pub signed-outer : (s : List ℕ) (e : DecodeError) → IsSignedFault s e
-    → OrMemoryWhere (HasInside sequence HasConstructed) (GivesOuterFault sequence true) s e
-signed-outer =
-    three-outer (SpellsAlgorithm sha256_with_rsa_encryption) IsWalkedFault (IsAlgorithmFault sha256_with_rsa_encryption)
-    (IsLeafFault bit_string false IsBits) HasConstructed
-    constructed-memory (λ s k. (algorithm-outer sha256_with_rsa_encryption s OutOfMemory k).other refl)
-    (λ s v m q a k. absurd (leaf-no-memory bit_string false IsBits q OutOfMemory k refl))

@@ -2,14 +2,14 @@
 use Rattle.std.specs.Prelude.{◌≡◌, ◌⊎◌, ◌+◌, ◌++◌, ℕ, List, drop, length}
 use Rattle.rpki_der.specs.declared.error.DecodeError.{DecodeError}
 use Rattle.rpki.specs.ExtensionValue.{ExtensionParts, SpellsExtension}
-use Rattle.rpki.specs.ExtensionFault.{IsCertExtensionFault}
+use Rattle.rpki.specs.ExtensionFault.{extension}
 use Rattle.rpki_c.specs.declared.extensions.ExtensionParts.{ExtensionParts as Parts}
 use Rattle.rpki_c.specs.Place.{IsPlace}
 use Rattle.rpki_c.specs.Whole.{NeverMemory, IsRefused}
 
 -- the error of a reader of one extension and nothing else, which allocates nothing
 abbrev pub IsWholeExtensionFault : List ℕ → DecodeError → Type 0
-IsWholeExtensionFault = NeverMemory SpellsExtension IsCertExtensionFault
+IsWholeExtensionFault = NeverMemory SpellsExtension extension.fault
 
 -- the octets are an extension: the contents of its identifier and the octets of its OCTET STRING stand at these places,
 -- the one right before the two other parts, the other last

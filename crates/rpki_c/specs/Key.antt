@@ -6,7 +6,7 @@ use Rattle.rpki_der.specs.Error.{error_number}
 use Rattle.rpki_der.specs.Reading.{IsWholeFault}
 use Rattle.rpki.specs.PublicKey.{KeyParts, SpellsKey}
 use Rattle.rpki.specs.KeyFormat.{SpellsFormat}
-use Rattle.rpki.specs.KeyFault.{IsKeyFault, IsKeyViewFault}
+use Rattle.rpki.specs.KeyFault.{key, key_view}
 use Rattle.rpki.specs.declared.crypto.keys.PublicKeyFormat.{PublicKeyFormat}
 use Rattle.rpki.specs.declared.crypto.keys.PublicKeyFormat.TheVariants.{Rsa, EcdsaP256}
 use Rattle.rpki_c.specs.declared.keys.KeyParts.{KeyParts as Parts}
@@ -17,11 +17,11 @@ use Rattle.rpki_c.specs.Whole.{IsRefused, NeverMemory}
 
 -- the error of a reader of one public key and of nothing else, which allocates nothing
 abbrev pub IsWholeKeyFault : List ℕ → DecodeError → Type 0
-IsWholeKeyFault = NeverMemory SpellsKey IsKeyViewFault
+IsWholeKeyFault = NeverMemory SpellsKey key_view.fault
 
 -- the same where the bits are kept
 abbrev pub IsKeptKeyFault : List ℕ → DecodeError → Type 0
-IsKeptKeyFault = IsWholeFault SpellsKey IsKeyFault
+IsKeptKeyFault = IsWholeFault SpellsKey key.fault
 
 -- a SEQUENCE that begins with the identifier of another algorithm than those of the formats; whatever follows
 abbrev pub IsOtherKey : List ℕ → Type 0

@@ -1,18 +1,17 @@
 -- What a status says of the octets of a name.
 use Rattle.std.specs.Prelude.{◌≡◌, ◌⊎◌, ◌<◌, ℕ, zero, suc, Bool, List, IsTrue}
 use Rattle.rpki_der.specs.declared.error.DecodeError.{DecodeError}
-use Rattle.rpki_der.specs.Reading.{IsWholeFault}
 use Rattle.rpki.specs.Name.{IsName, SpellsNameOctets}
 use Rattle.rpki.specs.NameFault.{IsWalkedNameFault}
 use Rattle.rpki.specs.StrictName.{IsRpkiName, IsRouterName}
 use Rattle.rpki.specs.NameRule.{BreaksRpkiRule, BreaksRouterRule}
 use Rattle.rpki.specs.declared.repository.x509.name.rule.NameRule.{NameRule}
 use Rattle.rpki_c.specs.Status.{rule_number, no_profile}
-use Rattle.rpki_c.specs.Whole.{IsRefused}
+use Rattle.rpki_c.specs.Whole.{IsRefused, NeverMemory}
 
--- the error of a reader of one name, and of nothing else; allocation may fail where an attribute's value is constructed
+-- the error of a reader of one name, and of nothing else, that allocates nothing
 abbrev pub IsWholeNameFault : List ℕ → DecodeError → Type 0
-IsWholeNameFault = IsWholeFault SpellsNameOctets IsWalkedNameFault
+IsWholeNameFault = NeverMemory SpellsNameOctets IsWalkedNameFault
 
 -- 0 is the profile of the RPKI, and any other number that of routers
 abbrev pub IsOfProfile : ℕ → List ℕ → Type 0

@@ -1,18 +1,17 @@
 -- What a status says of the octets of signed data.
 use Rattle.std.specs.Prelude.{◌≡◌, ◌⊎◌, ◌+◌, ℕ, Bool, false, List, drop, length}
 use Rattle.rpki_der.specs.declared.error.DecodeError.{DecodeError}
-use Rattle.rpki_der.specs.TagName.{bit_string}
 use Rattle.rpki_der.specs.Reading.{OrMemoryWhere, IsWholeFault}
-use Rattle.rpki_der.specs.Values.{IsLeafFault}
-use Rattle.rpki_der.specs.Leaves.{IsBits}
+use Rattle.rpki_der.specs.Members.{SpellsValue}
 use Rattle.rpki_der.specs.Walk.{HasConstructed}
 use Rattle.rpki_der.specs.NestedFault.{IsCaptureFault}
-use Rattle.rpki_der.specs.FirstFault.{FirstFault, IsEndFault}
+use Rattle.rpki_der.specs.Format.{Format, only}
+use Rattle.rpki_der.specs.LeafFormats.{bits_value}
 use Rattle.rpki.specs.Oids.{sha256_with_rsa_encryption}
 use Rattle.rpki.specs.Algorithm.{SpellsAlgorithm}
-use Rattle.rpki.specs.AlgorithmFault.{IsAlgorithmFault}
+use Rattle.rpki.specs.AlgorithmFault.{algorithm}
 use Rattle.rpki.specs.SignedData.{SignedParts, IsSignedContents, SpellsSigned}
-use Rattle.rpki.specs.SignedFault.{IsThreeFault, IsThreeInsideFault}
+use Rattle.rpki.specs.SignedFault.{three, around_three}
 use Rattle.rpki_c.specs.declared.signed.SignedParts.{SignedParts as Parts}
 use Rattle.rpki_c.specs.Place.{IsPlace}
 use Rattle.rpki_c.specs.Status.{other_algorithm}
@@ -31,19 +30,16 @@ AreRpkiParts = IsSignedContents (SpellsAlgorithm sha256_with_rsa_encryption)
 abbrev pub IsWalkedFault : List ℕ → DecodeError → Type 0
 IsWalkedFault = OrMemoryWhere HasConstructed IsCaptureFault
 
--- the error of the three parts, and of a reader of nothing else
-abbrev pub IsPartsFault : List ℕ → DecodeError → Type 0
-IsPartsFault = IsThreeFault (SpellsAlgorithm sha256_with_rsa_encryption) IsWalkedFault
-    (IsAlgorithmFault sha256_with_rsa_encryption) (IsLeafFault bit_string false IsBits)
+abbrev pub walked_value : Format (List ℕ)
+walked_value = record { spells = SpellsValue; fault = IsWalkedFault }
 
+-- the error of the three parts and nothing else
 abbrev pub IsAllPartsFault : List ℕ → DecodeError → Type 0
-IsAllPartsFault =
-    FirstFault (IsSignedContents (SpellsAlgorithm sha256_with_rsa_encryption)) IsPartsFault (λ parts. IsEndFault)
+IsAllPartsFault = (only (three walked_value (algorithm sha256_with_rsa_encryption) bits_value)).fault
 
 -- the error of a reader of signed data, and of a reader of nothing else
 abbrev pub IsSignedFault : List ℕ → DecodeError → Type 0
-IsSignedFault = IsThreeInsideFault (SpellsAlgorithm sha256_with_rsa_encryption) IsWalkedFault
-    (IsAlgorithmFault sha256_with_rsa_encryption) (IsLeafFault bit_string false IsBits)
+IsSignedFault = (around_three walked_value (algorithm sha256_with_rsa_encryption) bits_value).fault
 
 abbrev pub IsWholeSignedFault : List ℕ → DecodeError → Type 0
 IsWholeSignedFault = IsWholeFault SpellsRpki IsSignedFault

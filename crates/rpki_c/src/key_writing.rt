@@ -2,7 +2,7 @@
 
 ghost use Rattle.rpki_der.specs.Prelude.{left, Takes, TakesAll, Decodes};
 ghost use Rattle.rpki_c.specs.Whole.{NeverMemory};
-ghost use Rattle.rpki.specs.KeyFault.{IsRsaBitsFault, rsa_bits, rsa_numbers};
+ghost use Rattle.rpki.specs.KeyFault.{rsa_bits, rsa_numbers};
 ghost use Rattle.rpki.specs.PublicKey.{SpellsKey, SpellsRsaBits};
 ghost use Rattle.rpki_c.specs.Key.{IsKeptKeyFault};
 ghost use Rattle.rpki_c.specs.MadeValues.{IsKeyWritten, IsRsaWritten, IsUncopied, IsBitsWritten, IsNameWritten};
@@ -91,7 +91,7 @@ fn take_rsa_bits(cons: &mut Constructed<'_>) -> Result<(), DecodeError>
 
 /// Tests that all of the octets are the bits of an RSA key. Allocates nothing.
 fn check_rsa_bits(bits: &[u8]) -> Result<(), DecodeError>
-    ensures { Decodes (λ _. tt) SpellsRsaBits (NeverMemory SpellsRsaBits IsRsaBitsFault) bits.now result }
+    ensures { Decodes (λ _. tt) SpellsRsaBits (NeverMemory SpellsRsaBits rsa_bits.fault) bits.now result }
 {
     Constructed::from_slice(bits).whole(take_rsa_bits)
 }

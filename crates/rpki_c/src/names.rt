@@ -12,16 +12,15 @@ use crate::status::{
 };
 use rpki::repository::x509::{NameRule, NameView};
 use rpki_der::{Constructed, DecodeError};
-use std::alloc::Global;
 
 /// A name, and nothing else.
-fn read_name(alloc: Global, octets: &[u8]) -> Result<NameView<'_>, DecodeError>
+fn read_name(octets: &[u8]) -> Result<NameView<'_>, DecodeError>
     ensures name { IfOk result (λ n. (n ≡ octets.now) × IsName octets.now) }
     ensures refused { IfErr result (λ e. UnlessMemory e (SpellsNothing SpellsNameOctets octets.now)
         × IsWholeNameFault octets.now e) }
 {
     let mut cons = Constructed::from_slice(octets);
-    let name = NameView::take_from(alloc, &mut cons)?;
+    let name = NameView::take_from(&mut cons)?;
     cons.finish()?;
     Ok(name)
 }
@@ -56,15 +55,15 @@ fn inspect(name: &NameView<'_>, profile: u8) -> Result<(), NameRule>
 ///
 /// The status is 0; 32 to 37 where the name is not of the profile, and `strict` is true, by the rule that it breaks
 /// first, from the left; 12 for another number of a profile, before the octets are looked at; else the number of the
-/// error. Allocation can fail only if an attribute with a value is there.
+/// error. Allocates nothing.
 #[unsafe(no_mangle)]
-pub extern "C" fn rpki_name_inspect(alloc: Global, octets: &[u8], profile: u8, strict: bool) -> u8
+pub extern "C" fn rpki_name_inspect(octets: &[u8], profile: u8, strict: bool) -> u8
     ensures { IsInspected octets.now profile strict result }
 {
     if profile > 1 {
         return NO_PROFILE;
     }
-    let name = match read_name(alloc, octets) {
+    let name = match read_name(octets) {
         Ok(name) => name,
         Err(e) => return e.number(),
     };
