@@ -4,8 +4,7 @@ use Rattle.std.specs.Prelude.{◌≡◌, ℕ, nat_eq, nat_lt, ◌||◌, ◌&&◌
 use Rattle.std.specs.Prelude.{◌∷◌, ◌++◌, take, drop, codes, bytes_eq, slice_index, Bool}
 use Rattle.std.specs.List.{flat_map}
 use Rattle.rpki_der.specs.Front.{front_contents}
-use Rattle.rpki_der.specs.Reading.{Spells}
-use Rattle.rpki.specs.Name.{Attribute, SpellsSome, SpellsRelative, SpellsName}
+use Rattle.rpki.specs.Name.{Attribute, SpellsName}
 use Rattle.rpki_fields.specs.IdentifierText.{identifier_text}
 use Rattle.rpki_fields.specs.ValueText.{hex_pair, hex_digits}
 
@@ -74,14 +73,13 @@ comma_relative attributes = codes ", " ++ relative_text attributes
 abbrev pub parts_text : List (List Attribute) → List ℕ
 parts_text parts = drop 2 (flat_map comma_relative parts)
 
--- a relative distinguished name in front of r is all that is added to a text
-abbrev pub AddsRelative : (s r old new : List ℕ) → Type 0
-AddsRelative s r old new = (xs : List Attribute) × Spells SpellsRelative s xs r × (new ≡ old ++ comma_relative xs)
+-- what is in front of an attribute: a comma where it begins a relative distinguished name, else a plus sign
+abbrev pub mark_text : Bool → List ℕ
+mark_text true = codes ", "
+mark_text false = codes " + "
 
--- the relative distinguished names that are all of s, each after a comma
-abbrev pub AreRelatives : List ℕ → List ℕ → Type 0
-AreRelatives s text = (parts : List (List Attribute)) × SpellsSome SpellsRelative parts s
-    × (text ≡ flat_map comma_relative parts)
+abbrev pub marked_text : Bool → Attribute → List ℕ
+marked_text begins a = mark_text begins ++ attribute_text a
 
 -- the text of the name that the octets are
 abbrev pub IsNameText : List ℕ → List ℕ → Type 0

@@ -2,13 +2,13 @@
 use Rattle.std.specs.Prelude.{◌≡◌, ◌≢◌, ℕ, Bool, not, ◌&&◌, ◌||◌, bytes_eq, List, [], ◌∷◌, Option, Some}
 use Rattle.std.specs.Prelude.{None, false}
 use Rattle.rpki_der.specs.declared.tag.Class.TheVariants.{Context}
-use Rattle.rpki_der.specs.Prelude.{TagName, tag_of, integer, sequence, SpellsValue, Bits, Format, around, each, end}
+use Rattle.rpki_der.specs.Prelude.{TagName, tag_of, integer, sequence, Bits, Format, around, each, end}
 use Rattle.rpki_der.specs.Prelude.{kept, octets_under, only, optional_then, then, any_oid, bits_value, this_number}
 use Rattle.rpki_time.specs.Validity.{Period}
 use Rattle.rpki_time.specs.PeriodValue.{period}
 use Rattle.rpki.specs.Oids.{rsa_encryption, sha256_with_rsa_encryption, ec_public_key}
 use Rattle.rpki.specs.NameFault.{name}
-use Rattle.rpki.specs.SignedFault.{IsSharedValueFault}
+use Rattle.rpki.specs.SignedFault.{shared_value}
 use Rattle.rpki.specs.ExtensionValue.{ExtensionParts}
 use Rattle.rpki.specs.ExtensionFault.{kept_extension}
 use Rattle.rpki_cert.specs.Cert.{version_tag, extensions_tag}
@@ -22,7 +22,7 @@ pub record AlgorithmParts : Type 0 where
 
 -- one value, with any contents, which stands for its octets
 abbrev pub any_octets : Format (List ℕ)
-any_octets = record { spells = SpellsValue; fault = IsSharedValueFault }
+any_octets = shared_value
 
 -- what fills all that is left, or nothing
 abbrev pub PerhapsSpells : {V : Type 0} → (V → List ℕ → Type 0) → Option V → List ℕ → Type 0

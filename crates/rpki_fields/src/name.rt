@@ -1,19 +1,15 @@
 //! Names as texts (RFC 4514).
 
-ghost use Rattle.std.specs.Prelude.{◌≡◌, ◌++◌, List, take, drop, OnOk, IfOk};
+ghost use Rattle.std.specs.Prelude.{◌≡◌, ◌++◌, take, drop, OnOk, IfOk};
 ghost use Rattle.std.specs.List.{flat_map};
-ghost use Rattle.rpki_der.specs.Cursor.{left};
-ghost use Rattle.rpki_der.specs.Reading.{Spells};
 ghost use Rattle.rpki_der.specs.Front.{front_contents};
-ghost use Rattle.rpki.specs.Name.{Attribute, attribute_of, SpellsAttribute, SpellsSome};
+ghost use Rattle.rpki.specs.Name.{attribute_of};
 ghost use Rattle.rpki_fields.specs.NameText.{attribute_name, is_special, octet_text, rest_text, string_text};
-ghost use Rattle.rpki_fields.specs.NameText.{value_text, plus_attribute, AddsRelative, AreRelatives, IsNameText};
-ghost use Rattle.rpki_fields.specs.ValueText.{hex_digits};
+ghost use Rattle.rpki_fields.specs.NameText.{value_text, mark_text, marked_text, IsNameText};
 
 use crate::identifier::push_identifier;
 use crate::value::{hex_pair, push_digits};
-use rpki::der::{Constructed, DecodeError, Tag};
-use rpki::repository::x509::Name;
+use rpki::repository::x509::{AttributeView, Name};
 use std::alloc::{AllocError, Global};
 
 /// What is after so many octets.
@@ -116,131 +112,41 @@ fn push_string(text: &mut Vec<u8>, string: &[u8]) -> Result<(), AllocError>
     push_rest(text, after(string, 1))
 }
 
-/// Adds the value of an attribute, which is a string.
-fn push_string_value(text: &mut Vec<u8>, value: &[u8], tag: Tag) -> Result<(), DecodeError>
-    ensures { OnOk result (text.new.items ≡ text.old.items ++ string_text (front_contents value.now)) }
+/// Adds what is in front of an attribute: a comma where it begins a relative distinguished name, else a plus sign.
+fn push_mark(text: &mut Vec<u8>, begins: bool) -> Result<(), AllocError>
+    ensures { OnOk result (text.new.items ≡ text.old.items ++ mark_text begins) }
 {
-    let mut cons = Constructed::from_slice(value);
-    let contents = cons.take_primitive_if(tag)?;
-    push_string(text, contents)?;
-    Ok(())
+    if begins {
+        text.extend_from_slice(b", ")
+    } else {
+        text.extend_from_slice(b" + ")
+    }
 }
 
-/// Adds the value of an attribute.
-fn push_value(text: &mut Vec<u8>, value: &[u8]) -> Result<(), DecodeError>
+/// Adds the value of an attribute, whose contents these are.
+fn push_value(text: &mut Vec<u8>, value: &[u8], contents: &[u8]) -> Result<(), AllocError>
+    requires { contents.now ≡ front_contents value.now }
     ensures { OnOk result (text.new.items ≡ text.old.items ++ value_text value.now) }
 {
     match value {
-        [19, ..] => push_string_value(text, value, Tag::PRINTABLE_STRING),
-        [12, ..] => push_string_value(text, value, Tag::UTF8_STRING),
-        [22, ..] => push_string_value(text, value, Tag::IA5_STRING),
+        [19 | 12 | 22, ..] => push_string(text, contents),
         _ => {
             text.push(b'#')?;
-            push_digits(text, value)?;
-            Ok(())
+            push_digits(text, value)
         }
     }
 }
 
-/// The attribute that is next: its identifier, and the octets of its value.
-fn take_attribute<'a>(
-    alloc: Global,
-    cons: &mut Constructed<'a>,
-) -> Result<(&'a [u8], &'a [u8]), DecodeError>
-    ensures { IfOk result (λ a.
-        Spells SpellsAttribute (left cons.old) (attribute_of a.0.now a.1.now) (left cons.new)) }
+/// Adds an attribute: after a comma where it begins a relative distinguished name, else after a plus sign.
+fn push_attribute(text: &mut Vec<u8>, attribute: AttributeView<'_>) -> Result<(), AllocError>
+    requires { attribute.contents.now ≡ front_contents attribute.value.now }
+    ensures { OnOk result (text.new.items ≡ text.old.items ++ marked_text attribute.entry.begins
+        (attribute_of attribute.entry.identifier.0.now attribute.entry.value.now)) }
 {
-    let mut contents = cons.take_sequence()?;
-    let identifier = contents.take_oid()?;
-    let value = contents.rest();
-    match contents.skip_one(alloc)? {
-        Some(()) => {
-            contents.finish()?;
-            Ok((identifier.0, value))
-        }
-        None => Err(DecodeError::Unexpected),
-    }
-}
-
-/// Adds the attribute that is next, after a plus sign.
-fn push_attribute(
-    alloc: Global,
-    text: &mut Vec<u8>,
-    cons: &mut Constructed<'_>,
-) -> Result<(), DecodeError>
-    ensures { OnOk result ((a : Attribute) × Spells SpellsAttribute (left cons.old) a (left cons.new)
-        × (text.new.items ≡ text.old.items ++ plus_attribute a)) }
-{
-    let (identifier, value) = take_attribute(alloc, cons)?;
-    text.extend_from_slice(b" + ")?;
-    push_attribute_name(text, identifier)?;
+    push_mark(text, attribute.begins)?;
+    push_attribute_name(text, attribute.identifier.0)?;
     text.push(b'=')?;
-    push_value(text, value)?;
-    Ok(())
-}
-
-/// The attributes that these contents are, each after a plus sign.
-fn attributes_text(alloc: Global, contents: &mut Constructed<'_>) -> Result<Vec<u8>, DecodeError>
-    ensures { IfOk result (λ text. (xs : List Attribute) × SpellsSome SpellsAttribute xs (left contents.old)
-        × (text.items ≡ flat_map plus_attribute xs)) }
-{
-    if contents.is_empty() {
-        return Err(DecodeError::Unexpected);
-    }
-    let mut text = Vec::new(alloc);
-    'attributes: while !contents.is_empty() {
-        let before = contents.rest().len();
-        push_attribute(alloc, &mut text, contents)?;
-        if contents.rest().len() >= before {
-            return Err(DecodeError::Trailing);
-        }
-    }
-    Ok(text)
-}
-
-/// Adds the relative distinguished name that is next, after a comma.
-fn push_relative(
-    alloc: Global,
-    text: &mut Vec<u8>,
-    cons: &mut Constructed<'_>,
-) -> Result<(), DecodeError>
-    ensures { OnOk result (AddsRelative (left cons.old) (left cons.new) text.old.items text.new.items) }
-{
-    let mut contents = cons.take_set()?;
-    let attributes = attributes_text(alloc, &mut contents)?;
-    text.extend_from_slice(b", ")?;
-    text.extend_from_slice(after(attributes.as_slice(), 3))?;
-    Ok(())
-}
-
-/// The relative distinguished names that these contents are, each after a comma.
-fn relatives_text(alloc: Global, contents: &mut Constructed<'_>) -> Result<Vec<u8>, DecodeError>
-    ensures { IfOk result (λ text. AreRelatives (left contents.old) text.items) }
-{
-    if contents.is_empty() {
-        return Err(DecodeError::Unexpected);
-    }
-    let mut text = Vec::new(alloc);
-    'relatives: while !contents.is_empty() {
-        let before = contents.rest().len();
-        push_relative(alloc, &mut text, contents)?;
-        if contents.rest().len() >= before {
-            return Err(DecodeError::Trailing);
-        }
-    }
-    Ok(text)
-}
-
-/// The text of the name that these octets are.
-fn octets_text(alloc: Global, octets: &[u8]) -> Result<Vec<u8>, DecodeError>
-    ensures { IfOk result (λ text. IsNameText octets.now text.items) }
-{
-    let mut cons = Constructed::from_slice(octets);
-    let mut contents = cons.take_sequence()?;
-    cons.finish()?;
-    let relatives = relatives_text(alloc, &mut contents)?;
-    let text = Vec::from_slice(alloc, after(relatives.as_slice(), 2))?;
-    Ok(text)
+    push_value(text, attribute.value, attribute.contents)
 }
 
 /// The text of a name.
@@ -249,8 +155,12 @@ fn octets_text(alloc: Global, octets: &[u8]) -> Result<Vec<u8>, DecodeError>
 pub fn name_text(alloc: Global, name: &Name) -> Result<Vec<u8>, AllocError>
     ensures { IfOk result (λ text. IsNameText name.now text.items) }
 {
-    match octets_text(alloc, name.encode_ref().as_slice()) {
-        Ok(text) => Ok(text),
-        Err(_) => Err(AllocError),
+    let mut text = Vec::new(alloc);
+    let mut rest = name.view().attributes();
+    'attributes: while let Some(attribute) = rest.next_attribute() {
+        push_attribute(&mut text, attribute)?;
     }
+    // the first mark is left out
+    let text = Vec::from_slice(alloc, after(text.as_slice(), 2))?;
+    Ok(text)
 }
