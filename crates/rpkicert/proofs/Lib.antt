@@ -1,13 +1,15 @@
 -- Which lemma file answers which question.
 --
 -- Texts around certificates, what objects are held to, findings: PemLaws, TermsLaws, FindingLaws. What words ask for,
--- what is seen of a run, and what it is held to: RequestLaws, RunLaws, SettledLaws. That octets have one text, and
--- inputs one answer: OneAnswerLaws.
+-- what is wrong with them, what is seen of a file and of a run, and what it is held to: RequestLaws, ComplaintLaws,
+-- SeenLaws, RunLaws, SettledLaws. That octets have one text, and inputs one answer: OneAnswerLaws.
 
 pub mod PemLaws
 pub mod TermsLaws
 pub mod FindingLaws
 pub mod RunLaws
+pub mod SeenLaws
+pub mod ComplaintLaws
 pub mod SettledLaws
 pub mod RequestLaws
 pub mod OneAnswerLaws

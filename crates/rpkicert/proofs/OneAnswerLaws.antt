@@ -1,5 +1,5 @@
 -- An input has one answer, and a run one output, where the status is 0.
-use Rattle.std.proofs.Common.{◌≡◌, ℕ, List, [], ◌∷◌, refl, sym, ap, subst, ◌∙◌, inl, inr, arith}
+use Rattle.std.proofs.Common.{◌≡◌, ℕ, suc, List, [], ◌∷◌, refl, sym, ap, subst, ◌∙◌, inl, inr, arith}
 use Rattle.std.proofs.lemmas.Bool.{false≢true}
 use Rattle.std.proofs.lemmas.List.Elements.{All-tail}
 use Rattle.std.specs.Io.KnownBytes.{Appends}
@@ -20,6 +20,8 @@ use Rattle.rpkicert.specs.Request.{Asked}
 use Rattle.rpkicert.specs.Terms.{TermParts, term_parts, no_terms, IsVerified}
 use Rattle.rpkicert.specs.Shown.{file_text, marked, IsTextOf, ShownParts, shown_parts, IsShown, IsSeen, LacksMemory}
 use Rattle.rpkicert.specs.Shown.{AreSeen, outputs, faults, worst, IsRun}
+use Rattle.rpkicert.specs.Shown.{joined, numbered, IsSeenIn, AreSeenFrom, IsSeenEach, IsSeenOf}
+use Rattle.rpkicert.specs.Shown.IsSeenOf.{OfAll, OfEach, OfNone}
 use Rattle.rpkicert.specs.Shown.IsRun.{Whole, Cut}
 use Rattle.rpkicert.specs.Run.{Holds, IsMoment, issuer_in, IsIssuerOf, AreTerms, Sees, IsRunOf, AreKnown, IsKnown}
 use Rattle.rpkicert.specs.Run.{EndsWellWith}
@@ -158,13 +160,66 @@ unless-lacking check form issued name s t (inl e) z = e
 unless-lacking check form issued name s t (inr g) z =
     absurd (let e = lacking-status check form issued name t g in omega arith)
 
+-- ---- several certificates
+
+one-inside : (check : Bool) (form : Form) (terms : TermParts) (name input : List ℕ) (f : Finding) (s t : ShownParts)
+    → FindsIn terms input f → IsShown check form (is_some terms.issuer) name f s
+    → IsSeenIn check form terms name input t → s.status ≡ 0 → t.status ≡ 0 → t ≡ s
+one-inside check form terms name input (Err fault) s t g k h y z =
+    absurd (fault-status fault (sym (shown-status check form (is_some terms.issuer) name fault s k) ∙ y))
+one-inside check form terms name input (Ok found) s t g k h y z =
+    unless-lacking check form (is_some terms.issuer) name s t
+    (other-shown check form (is_some terms.issuer) name found h.0 s t (one-found-in terms input found h.0 g h.1) k h.2)
+    z
+
+one-each : (check : Bool) (form : Form) (terms : TermParts) (name : List ℕ) (number : ℕ) (texts : List (List ℕ))
+    (all others : List ShownParts) → AreSeenFrom (IsSeenIn check form terms) name number texts all
+    → AreSeenFrom (IsSeenIn check form terms) name number texts others → worst all ≡ 0 → worst others ≡ 0 → others ≡ all
+one-each check form terms name number [] [] [] g h y z = refl
+one-each check form terms name number [] [] (t ∷ ts) g h y z = absurd h
+one-each check form terms name number [] (s ∷ ss) others g h y z = absurd g
+one-each check form terms name number (text ∷ texts) [] others g h y z = absurd g
+one-each check form terms name number (text ∷ texts) (s ∷ ss) [] g h y z = absurd h
+one-each check form terms name number (text ∷ texts) (s ∷ ss) (t ∷ ts) g h y z =
+    let first = one-inside check form terms (numbered name number) text g.0.0 s t g.0.1 g.0.2 h.0 (omega arith)
+    (omega arith) in
+    let rest = one-each check form terms name (suc number) texts ss ts g.1 h.1 (omega arith) (omega arith) in
+    rw (first, rest) refl
+
+one-joined : (check : Bool) (form : Form) (terms : TermParts) (name : List ℕ) (texts others : List (List ℕ))
+    (s t : ShownParts) → others ≡ texts → IsSeenEach check form terms name texts s
+    → IsSeenEach check form terms name others t → s.status ≡ 0 → t.status ≡ 0 → t ≡ s
+one-joined check form terms name texts others s t e g h y z =
+    let k = subst (λ (w : List (List ℕ)). IsSeenEach check form terms name w t) e h in
+    k.2 ∙ ap joined (one-each check form terms name 1 texts g.0 k.0 g.1 k.1
+    (sym (ap (λ (w : ShownParts). w.status) g.2) ∙ y) (sym (ap (λ (w : ShownParts). w.status) k.2) ∙ z)) ∙ sym g.2
+
+lacks-none : {P : Type 0} (check : Bool) (form : Form) (issued : Bool) (name : List ℕ) (s : ShownParts)
+    → LacksMemory check form issued name s → s.status ≡ 0 → P
+lacks-none check form issued name s g z = absurd (let e = lacking-status check form issued name s g in omega arith)
+
+pub one-of-file : (check : Bool) (form : Form) (terms : TermParts) (name : List ℕ) (source : Option (List ℕ))
+    (s t : ShownParts) → IsSeenOf check form terms name source s → s.status ≡ 0
+    → IsSeenOf check form terms name source t → t.status ≡ 0 → t ≡ s
+one-of-file check form terms name source s t (OfAll e g) y (OfAll f h) z =
+    unless-lacking check form (is_some terms.issuer) name s t (one-seen check form terms name source s t g y h) z
+one-of-file check form terms name source s t (OfAll e g) y (OfEach texts f h) z = absurd cc
+one-of-file check form terms name source s t (OfEach texts e g) y (OfAll f h) z = absurd cc
+one-of-file check form terms name source s t (OfEach texts e g) y (OfEach others f h) z =
+    let same : others ≡ texts = cc in one-joined check form terms name texts others s t same g h y z
+one-of-file check form terms name source s t (OfNone g) y h z =
+    lacks-none check form (is_some terms.issuer) name s g y
+one-of-file check form terms name source s t (OfAll e g) y (OfNone h) z =
+    lacks-none check form (is_some terms.issuer) name t h z
+one-of-file check form terms name source s t (OfEach texts e g) y (OfNone h) z =
+    lacks-none check form (is_some terms.issuer) name t h z
+
 one-sees : (held : Option (Option (List ℕ))) (check : Bool) (form : Form) (terms : TermParts) (name : List ℕ)
     (s t : ShownParts) → IsSome held
-    → IfSome held (λ source. IsSeen check form terms name source s)
-    → IfSome held (λ source. IsSeen check form terms name source t) → s.status ≡ 0 → t.status ≡ 0 → t ≡ s
+    → IfSome held (λ source. IsSeenOf check form terms name source s)
+    → IfSome held (λ source. IsSeenOf check form terms name source t) → s.status ≡ 0 → t.status ≡ 0 → t ≡ s
 one-sees None check form terms name s t known g h y z = absurd cc
-one-sees (Some source) check form terms name s t known g h y z =
-    unless-lacking check form (is_some terms.issuer) name s t (one-seen check form terms name source s t g y h) z
+one-sees (Some source) check form terms name s t known g h y z = one-of-file check form terms name source s t g y h z
 
 one-all : (holds : Holds) (check : Bool) (form : Form) (terms : TermParts) (names : List (List ℕ))
     (all others : List ShownParts) → AreKnown holds names

@@ -1,11 +1,11 @@
--- Where a certificate in the textual encoding begins in a text.
-use Rattle.std.proofs.Common.{◌≡◌, ℕ, suc, ◌<◌, ◌≤◌, true, false, nat_eq, List, [], ◌∷◌, length, get_or, drop, refl}
-use Rattle.std.proofs.Common.{sym, ap, subst, ◌∙◌}
+-- Where certificates in the textual encoding begin in a text.
+use Rattle.std.proofs.Common.{◌≡◌, ℕ, suc, ◌<◌, ◌≤◌, true, false, nat_eq, List, [], ◌∷◌, ◌++◌, length, get_or, drop}
+use Rattle.std.proofs.Common.{map, refl, sym, ap, subst, ◌∙◌, append_assoc, arith}
 use Rattle.std.proofs.Common.{drop-cons}
 use Rattle.std.proofs.lemmas.List.{drop_all}
-use Rattle.std.specs.Prelude.{Some, None}
+use Rattle.std.specs.Prelude.{Bool, Some, None}
 use Rattle.std.specs.List.{starts_with}
-use Rattle.rpkicert.specs.Pem.{begin_line, from_begin}
+use Rattle.rpkicert.specs.Pem.{begin_line, from_begin, begun_in, up_to, certificate_texts}
 
 pub begin-here : (text : List ℕ) → starts_with nat_eq text begin_line ≡ true → from_begin text ≡ Some text
 unfolding from_begin
@@ -29,3 +29,73 @@ begin-later text at next n h none =
 pub begin-nowhere : (text : List ℕ) (at : ℕ) → length text ≤ at → from_begin (drop at text) ≡ None
 unfolding from_begin
 begin-nowhere text at h = rw (drop_all at text h) refl
+
+-- what begins in a text is no longer than it
+begin-size-in : (octet : ℕ) (text rest : List ℕ) (b : Bool) → starts_with nat_eq (octet ∷ text) begin_line ≡ b
+    → from_begin (octet ∷ text) ≡ Some rest → (from_begin text ≡ Some rest → length rest ≤ length text)
+    → length rest ≤ suc (length text)
+unfolding from_begin
+begin-size-in octet text rest true h e k =
+    let f : Some (octet ∷ text) ≡ Some rest = rw h at e in
+    let same : octet ∷ text ≡ rest = cc in
+    let size = ap (length {A = ℕ}) same in
+    omega arith
+begin-size-in octet text rest false h e k =
+    let f : from_begin text ≡ Some rest = rw h at e in
+    let size = k f in
+    omega arith
+
+pub begin-size : (text rest : List ℕ) → from_begin text ≡ Some rest → length rest ≤ length text
+unfolding from_begin
+begin-size [] rest e = absurd cc
+begin-size (octet ∷ text) rest e =
+    begin-size-in octet text rest (starts_with nat_eq (octet ∷ text) begin_line) refl e (begin-size text rest)
+
+-- ---- several certificates
+
+begun : (octet : ℕ) (text : List ℕ) → starts_with nat_eq (octet ∷ text) begin_line ≡ true
+    → begun_in (octet ∷ text) ≡ (octet ∷ text) ∷ begun_in text
+unfolding begun_in
+begun octet text h = rw h refl
+
+passed : (octet : ℕ) (text : List ℕ) → starts_with nat_eq (octet ∷ text) begin_line ≡ false
+    → begun_in (octet ∷ text) ≡ begun_in text
+unfolding begun_in
+passed octet text h = rw h refl
+
+begun-here : (text : List ℕ) (at : ℕ) → at < length text → starts_with nat_eq (drop at text) begin_line ≡ true
+    → begun_in (drop at text) ≡ drop at text ∷ begun_in (drop (suc at) text)
+begun-here text at h is =
+    let parts = drop-cons text at 0 h in
+    let here = begun (get_or text at 0) (drop (suc at) text)
+    (subst (λ (l : List ℕ). starts_with nat_eq l begin_line ≡ true) parts is) in
+    ap begun_in parts ∙ here ∙ ap (λ (l : List ℕ). l ∷ begun_in (drop (suc at) text)) (sym parts)
+
+-- one that begins at this place
+pub cut-here : (text : List ℕ) (at next : ℕ) (texts : List (List ℕ)) (one : List ℕ) → next ≡ suc at → at < length text
+    → starts_with nat_eq (drop at text) begin_line ≡ true
+    → one ≡ up_to (drop at text) (from_begin (drop 1 (drop at text)))
+    → (texts ++ one ∷ []) ++ certificate_texts (drop next text) ≡ texts ++ certificate_texts (drop at text)
+cut-here text at next texts one n h is e =
+    append_assoc texts (one ∷ []) (certificate_texts (drop next text))
+    ∙ ap (λ (w : List ℕ). texts ++ w ∷ certificate_texts (drop next text)) e
+    ∙ ap (λ (k : ℕ). texts ++ up_to (drop at text) (from_begin (drop 1 (drop at text)))
+    ∷ certificate_texts (drop k text)) n
+    ∙ ap (λ (l : List (List ℕ)). texts ++ map (λ begun. up_to begun (from_begin (drop 1 begun))) l)
+    (sym (begun-here text at h is))
+
+-- none that begins at this place
+pub cut-past : (text : List ℕ) (at next : ℕ) → next ≡ suc at → at < length text
+    → starts_with nat_eq (drop at text) begin_line ≡ false
+    → certificate_texts (drop next text) ≡ certificate_texts (drop at text)
+cut-past text at next n h none =
+    let parts = drop-cons text at 0 h in
+    let past = passed (get_or text at 0) (drop (suc at) text)
+    (subst (λ (l : List ℕ). starts_with nat_eq l begin_line ≡ false) parts none) in
+    ap (λ (k : ℕ). certificate_texts (drop k text)) n
+    ∙ ap (λ (l : List (List ℕ)). map (λ begun. up_to begun (from_begin (drop 1 begun))) l)
+    (sym past ∙ sym (ap begun_in parts))
+
+pub cut-nowhere : (text : List ℕ) (at : ℕ) → length text ≤ at → certificate_texts (drop at text) ≡ []
+unfolding begun_in
+cut-nowhere text at h = rw (drop_all at text h) refl

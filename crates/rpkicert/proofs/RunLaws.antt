@@ -18,17 +18,17 @@ seen-more P [] (t ∷ ts) name s h k = absurd h
 seen-more P (n ∷ ns) [] name s h k = absurd h
 seen-more P (n ∷ ns) (t ∷ ts) name s h k = (h.0, seen-more P ns ts name s h.1 k)
 
-outputs-more : (all : List ShownParts) (s : ShownParts) → outputs (all ++ (s ∷ [])) ≡ outputs all ++ s.output
+pub outputs-more : (all : List ShownParts) (s : ShownParts) → outputs (all ++ (s ∷ [])) ≡ outputs all ++ s.output
 outputs-more [] s = append-nil s.output
 outputs-more (t ∷ ts) s = ap (λ (w : List ℕ). t.output ++ w) (outputs-more ts s)
     ∙ sym (append_assoc t.output (outputs ts) s.output)
 
-faults-more : (all : List ShownParts) (s : ShownParts) → faults (all ++ (s ∷ [])) ≡ faults all ++ s.faults
+pub faults-more : (all : List ShownParts) (s : ShownParts) → faults (all ++ (s ∷ [])) ≡ faults all ++ s.faults
 faults-more [] s = append-nil s.faults
 faults-more (t ∷ ts) s = ap (λ (w : List ℕ). t.faults ++ w) (faults-more ts s)
     ∙ sym (append_assoc t.faults (faults ts) s.faults)
 
-worst-more : (all : List ShownParts) (s : ShownParts) → worst (all ++ (s ∷ [])) ≡ max (worst all) s.status
+pub worst-more : (all : List ShownParts) (s : ShownParts) → worst (all ++ (s ∷ [])) ≡ max (worst all) s.status
 worst-more [] s = omega arith
 worst-more (t ∷ ts) s = let e = worst-more ts s in omega (arith, e)
 
@@ -41,7 +41,7 @@ pub record HaveSeen (P : List ℕ → ShownParts → Type 0) (names : List (List
   pub faults_are : Appends was is (faults all)
   pub status_is : status ≡ worst all
 
-names-more : {A : Type 0} (text : A → List ℕ) (files : List A) (i : ℕ) (file : A) → i < length files
+pub names-more : {A : Type 0} (text : A → List ℕ) (files : List A) (i : ℕ) (file : A) → i < length files
     → file ≡ get_or files i file
     → map text (take (i + 1) files) ≡ map text (take i files) ++ (text file ∷ [])
 names-more text files i file h e =

@@ -1,46 +1,21 @@
 -- What is written where the terms of a run are none.
 use Rattle.std.proofs.Common.{◌≡◌, ◌⊎◌, ℕ, List, [], refl, sym, subst, inl, inr}
-use Rattle.std.specs.Prelude.{Bool, Option, Some, None, option_map, is_some, Result, Ok, Err, Vec, IfOk, IfSome}
+use Rattle.std.specs.Prelude.{Option, Some, None, Result, Ok, Err, Vec, IfOk, IfSome}
 use Rattle.std.specs.Io.KnownBytes.{Appends}
 use Rattle.jiff.specs.Types.{DateTime}
 use Rattle.jiff.specs.Words.{civil_nanos}
 use Rattle.rpki_time.specs.MomentText.{moment_of}
-use Rattle.rpki_fields.specs.declared.rendering.Form.{Form}
-use Rattle.rpkicert.specs.declared.shown.Shown.{Shown}
-use Rattle.rpkicert.specs.Shown.{IsShown, IsSeen}
 use Rattle.rpki_cert.specs.Cert.{TbsParts}
 use Rattle.rpkicert.specs.declared.fault.Fault.{Fault}
 use Rattle.rpkicert.specs.Finding.{Finding, Finds}
 use Rattle.rpkicert.specs.Request.{Asked}
 use Rattle.rpkicert.specs.Terms.{TermParts, term_parts, no_terms}
-use Rattle.rpkicert.specs.ShownView.{parts_of, seen_of, text_in}
+use Rattle.rpkicert.specs.ShownView.{text_in}
 use Rattle.rpkicert.specs.Words.{Prints, memory_text}
 use Rattle.rpkicert.specs.Run.{Holds, IsMoment, IsNoMoment, IsIssuer, IsIssuerOf, issuer_in, IsDenied}
 use Rattle.rpkicert.specs.Run.{IsDeniedBy, RunsOver, RunsBy, IsRunOf, wrong_moment_text, wrong_issuer_text}
 use Rattle.rpkicert.specs.Run.IsDenied.{WrongMoment, WrongIssuer, NoMemory}
 use Rattle.rpkicert.specs.Run.IsRunOf.{Held, Denied}
-
--- what is shown of what was found is what is seen
-pub some-mapped : {A B : Type 0} (f : A → B) (o : Option A) → is_some o ≡ is_some (option_map f o)
-some-mapped f None = refl
-some-mapped f (Some x) = refl
-
-shown-seen : {E : Type 0} (check : Bool) (form : Form) (terms : TermParts) (name : List ℕ) (source : Option (List ℕ))
-    (finding : Finding) (r : Result Shown E) → Finds terms source finding
-    → IfOk r (λ s. IsShown check form (is_some terms.issuer) name finding (parts_of s))
-    → IsSeen check form terms name source (seen_of r)
-shown-seen check form terms name source finding (Ok s) h k = inl (finding, h, k)
-shown-seen check form terms name source finding (Err e) h k = inr refl
-
-pub seen-by : {E : Type 0} (held : Option (Option (List ℕ))) (check : Bool) (form : Form) (terms : TermParts)
-    (issued : Bool) (name : List ℕ) (finding : Finding) (r : Result Shown E) → issued ≡ is_some terms.issuer
-    → IfSome held (λ source. Finds terms source finding)
-    → IfOk r (λ s. IsShown check form issued name finding (parts_of s))
-    → IfSome held (λ source. IsSeen check form terms name source (seen_of r))
-seen-by None check form terms issued name finding r e h k = tt
-seen-by (Some source) check form terms issued name finding r e h k =
-    shown-seen check form terms name source finding r h
-    (subst (λ (b : Bool). IfOk r (λ s. IsShown check form b name finding (parts_of s))) e k)
 
 -- the moment that is asked for
 pub no-moment : (word : Option (List ℕ)) → word ≡ None → IsMoment word None

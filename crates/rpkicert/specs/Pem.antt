@@ -1,6 +1,6 @@
 -- Certificates in the textual encoding of RFC 7468.
-use Rattle.std.specs.Prelude.{ℕ, nat_eq, ◌==◌, ◌||◌, ◌&&◌, not, Bool, if◌then◌else◌, List, [], ◌∷◌, length, drop}
-use Rattle.std.specs.Prelude.{filter, take_while, codes, Option, Some, None}
+use Rattle.std.specs.Prelude.{ℕ, nat_eq, nat_lt, ◌-◌, ◌==◌, ◌||◌, ◌&&◌, not, Bool, if◌then◌else◌, List, [], ◌∷◌, length}
+use Rattle.std.specs.Prelude.{take, drop, map, filter, take_while, codes, Option, Some, None}
 use Rattle.std.specs.List.{starts_with}
 use Rattle.std.specs.Option.{is_none}
 use Rattle.std.specs.Result.{result_ok}
@@ -50,3 +50,29 @@ text_octets input None = if starts_with nat_eq input (codes "-----BEGIN") then N
 -- begins as another text of RFC 7468.
 abbrev pub octets_of : List ℕ → Option (List ℕ)
 octets_of input = if starts_with nat_eq input (48 ∷ []) then Some input else text_octets input (from_begin input)
+
+-- ---- several certificates
+
+-- the ends of a text that begin with a first line, in order
+unfoldable pub begun_in : List ℕ → List (List ℕ)
+begun_in [] = []
+begun_in (octet ∷ text) =
+    if starts_with nat_eq (octet ∷ text) begin_line then (octet ∷ text) ∷ begun_in text else begun_in text
+
+-- what a text has in front of this end of it; all of it without one
+abbrev pub up_to : List ℕ → Option (List ℕ) → List ℕ
+up_to text None = text
+up_to text (Some end) = take (length text - length end) text
+
+-- the texts of the certificates in a text: each from its first line to the next first line; text that explains the next
+-- is with the one in front (RFC 7468 2, 5.1)
+abbrev pub certificate_texts : List ℕ → List (List ℕ)
+certificate_texts text = map (λ begun. up_to begun (from_begin (drop 1 begun))) (begun_in text)
+
+-- these texts, if there are several
+abbrev pub several : List (List ℕ) → Option (List (List ℕ))
+several texts = if nat_lt 1 (length texts) then Some texts else None
+
+-- the texts of the certificates in an input that has several; None of octets that begin as a SEQUENCE
+abbrev pub bundle_in : List ℕ → Option (List (List ℕ))
+bundle_in input = if starts_with nat_eq input (48 ∷ []) then None else several (certificate_texts input)

@@ -26,9 +26,9 @@ AskVersion words = wanted_of (map string_bytes words) ≡ Some version
 abbrev pub wanted_by : ArgMatches → Option Wanted
 wanted_by m = wanted_in (rows_in m)
 
--- it asks for files: P of what is asked
-abbrev pub AskedIn : ArgMatches → (Asked → Type 0) → Type 0
-AskedIn m P = (a : Asked) → wanted_by m ≡ Some (files a) → P a
+-- it asks for files, and there is an exit status: P of it and of what is asked
+abbrev pub AskedIn : {E : Type 0} → ArgMatches → Result ℕ E → (ℕ → Asked → Type 0) → Type 0
+AskedIn m r P = (a : Asked) → wanted_by m ≡ Some (files a) → IfOk r (λ status. P status a)
 
 -- the words ask for files, and there is an exit status: P of it and of what is asked
 abbrev pub AskRun : {Z E : Type 0} → List (String Z) → Result ℕ E → (ℕ → Asked → Type 0) → Type 0

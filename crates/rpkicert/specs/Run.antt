@@ -17,7 +17,7 @@ use Rattle.rpkicert.specs.Fault.{fault_text}
 use Rattle.rpkicert.specs.Finding.{Finding, Finds}
 use Rattle.rpkicert.specs.Request.{Asked}
 use Rattle.rpkicert.specs.Terms.{TermParts, term_parts, no_terms}
-use Rattle.rpkicert.specs.Shown.{line, ShownParts, IsSeen, IsRun}
+use Rattle.rpkicert.specs.Shown.{line, ShownParts, IsSeenOf, IsRun}
 use Rattle.rpkicert.specs.Words.{Prints, memory_text, usage_text}
 
 -- what there is by a name: the octets, or None where there is no file; or nothing is known of it
@@ -91,7 +91,7 @@ pub data IsDenied (holds : Holds) (a : Asked) (text : List ℕ) : Type 0 where
 
 -- what is seen of the file of this name, where it is known what files hold
 abbrev pub Sees : Holds → (check : Bool) → Form → TermParts → List ℕ → ShownParts → Type 0
-Sees holds check form terms name s = IfSome (holds name) (λ source. IsSeen check form terms name source s)
+Sees holds check form terms name s = IfSome (holds name) (λ source. IsSeenOf check form terms name source s)
 
 -- The run of what is asked for: of the files, held to the terms; or nothing but why there are none, with the status 2.
 pub data IsRunOf (holds : Holds) (old new was is : Option (List ℕ)) (status : ℕ) (a : Asked) : Type 0 where

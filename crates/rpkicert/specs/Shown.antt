@@ -1,6 +1,6 @@
 -- What is shown of a file, and of a run.
-use Rattle.std.specs.Prelude.{◌≡◌, ◌⊎◌, ℕ, nat_lt, nat_eq, ◌||◌, max, if◌then◌else◌, List, [], ◌∷◌, ◌++◌, codes, Option}
-use Rattle.std.specs.Prelude.{Some, None, Result, Ok, Err, Bool, true, false, is_some}
+use Rattle.std.specs.Prelude.{◌≡◌, ◌⊎◌, ℕ, suc, nat_lt, nat_eq, ◌||◌, max, if◌then◌else◌, List, [], ◌∷◌, ◌++◌, codes}
+use Rattle.std.specs.Prelude.{length, decimal, Option, Some, None, Result, Ok, Err, Bool, true, false, is_some}
 use Rattle.std.specs.Io.KnownBytes.{Appends}
 use Rattle.std.specs.List.{flat_map}
 use Rattle.rpki_der.specs.Written.{AppendsBeginning, AppendsCut}
@@ -14,8 +14,9 @@ use Rattle.rpki_fields.specs.Object.{objection_to}
 use Rattle.rpki_fields.specs.ObjectText.{IsSheet}
 use Rattle.rpki_fields.specs.Sheet.{SheetParts, plain_sheet, sheet_behind}
 use Rattle.rpki_fields.specs.declared.object.Object.{Object}
-use Rattle.rpkicert.specs.Fault.{fault_text, status_of}
-use Rattle.rpkicert.specs.Finding.{Finding, Finds}
+use Rattle.rpkicert.specs.Pem.{bundle_in}
+use Rattle.rpkicert.specs.Fault.{most_octets, fault_text, status_of}
+use Rattle.rpkicert.specs.Finding.{Finding, FindsIn, Finds}
 use Rattle.rpkicert.specs.Terms.{TermParts}
 use Rattle.rpkicert.specs.Words.{memory_text}
 
@@ -97,6 +98,11 @@ IsSeen check form terms name source s =
     ((finding : Finding) × Finds terms source finding × IsShown check form (is_some terms.issuer) name finding s)
     ⊎ (s ≡ shown_parts [] memory_text 2)
 
+-- what is seen of an input that was read, as it is shown
+abbrev pub IsSeenIn : (check : Bool) → Form → TermParts → List ℕ → (input : List ℕ) → ShownParts → Type 0
+IsSeenIn check form terms name input s =
+    (finding : Finding) × FindsIn terms input finding × IsShown check form (is_some terms.issuer) name finding s
+
 -- there was no memory to find what is shown, or to show it
 abbrev pub LacksMemory : (check : Bool) → Form → (issued : Bool) → List ℕ → ShownParts → Type 0
 LacksMemory check form issued name s =
@@ -110,23 +116,63 @@ HasOneGoodAnswer check form terms name source =
 
 -- ---- files
 
--- what is seen of each file, in order
-abbrev pub AreSeen : (List ℕ → ShownParts → Type 0) → List (List ℕ) → List ShownParts → Type 0
-AreSeen P [] [] = Unit {0}
-AreSeen P [] (s ∷ ss) = ⊥
-AreSeen P (name ∷ names) [] = ⊥
-AreSeen P (name ∷ names) (s ∷ ss) = P name s × AreSeen P names ss
-
+-- what was seen, one after the other, and the greatest status
 abbrev pub outputs : List ShownParts → List ℕ
 outputs all = flat_map (λ s. s.output) all
 
 abbrev pub faults : List ShownParts → List ℕ
 faults all = flat_map (λ s. s.faults) all
 
--- the greatest status
 abbrev pub worst : List ShownParts → ℕ
 worst [] = 0
 worst (s ∷ ss) = max s.status (worst ss)
+
+abbrev pub joined : List ShownParts → ShownParts
+joined all = shown_parts (outputs all) (faults all) (worst all)
+
+-- the name of a certificate in a file that has several
+abbrev pub numbered : List ℕ → ℕ → List ℕ
+numbered name number = name ++ codes " (" ++ decimal number ++ codes ")"
+
+-- P of each of these texts, in order, and of the name of the file with the number of the text, from this number on
+abbrev pub AreSeenFrom : (List ℕ → List ℕ → ShownParts → Type 0) → (name : List ℕ) → (number : ℕ)
+    → List (List ℕ) → List ShownParts → Type 0
+AreSeenFrom P name number [] [] = Unit {0}
+AreSeenFrom P name number [] (s ∷ ss) = ⊥
+AreSeenFrom P name number (text ∷ texts) [] = ⊥
+AreSeenFrom P name number (text ∷ texts) (s ∷ ss) =
+    P (numbered name number) text s × AreSeenFrom P name (suc number) texts ss
+
+-- each of the texts of a file is seen as if it were a file of its own
+abbrev pub IsSeenEach : (check : Bool) → Form → TermParts → List ℕ → List (List ℕ) → ShownParts → Type 0
+IsSeenEach check form terms name texts s =
+    (all : List ShownParts) × AreSeenFrom (IsSeenIn check form terms) name 1 texts all × (s ≡ joined all)
+
+-- the texts of the certificates in a file that has several, and isn't too large
+abbrev pub bundle_of : Option (List ℕ) → Option (List (List ℕ))
+bundle_of None = None
+bundle_of (Some input) = if nat_lt most_octets (length input) then None else bundle_in input
+
+-- What is seen of a file: of all of it; of each of the certificates in it, if it has several; or there was no memory.
+pub data IsSeenOf (check : Bool) (form : Form) (terms : TermParts) (name : List ℕ) (source : Option (List ℕ))
+    (s : ShownParts) : Type 0 where
+  OfAll : bundle_of source ≡ None → IsSeen check form terms name source s → IsSeenOf check form terms name source s
+  OfEach : (texts : List (List ℕ)) → bundle_of source ≡ Some texts → IsSeenEach check form terms name texts s
+      → IsSeenOf check form terms name source s
+  OfNone : LacksMemory check form (is_some terms.issuer) name s → IsSeenOf check form terms name source s
+
+-- where a file is seen with the status 0, it is seen alike whenever the status is 0
+abbrev pub HasOneGoodText : (check : Bool) → Form → TermParts → List ℕ → Option (List ℕ) → Type 0
+HasOneGoodText check form terms name source =
+    (s t : ShownParts) → IsSeenOf check form terms name source s → s.status ≡ 0
+    → IsSeenOf check form terms name source t → t.status ≡ 0 → t ≡ s
+
+-- what is seen of each file, in order
+abbrev pub AreSeen : (List ℕ → ShownParts → Type 0) → List (List ℕ) → List ShownParts → Type 0
+AreSeen P [] [] = Unit {0}
+AreSeen P [] (s ∷ ss) = ⊥
+AreSeen P (name ∷ names) [] = ⊥
+AreSeen P (name ∷ names) (s ∷ ss) = P name s × AreSeen P names ss
 
 -- the output or the faults failed: a beginning was written, and not all
 abbrev pub AreCut : (old new was is : Option (List ℕ)) → (output faults : List ℕ) → Type 0

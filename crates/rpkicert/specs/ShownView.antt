@@ -1,7 +1,9 @@
 -- What clauses see of what is shown.
-use Rattle.std.specs.Prelude.{ℕ, List, Result, Ok, Err, Vec, []}
+use Rattle.std.specs.Prelude.{ℕ, Bool, List, ◌++◌, max, Option, Some, None, Result, Ok, Err, Vec, []}
 use Rattle.rpkicert.specs.declared.shown.Shown.{Shown}
-use Rattle.rpkicert.specs.Shown.{ShownParts, shown_parts}
+use Rattle.rpkicert.specs.Shown.{ShownParts, shown_parts, IsSeenIn, IsSeenEach}
+use Rattle.rpkicert.specs.Terms.{TermParts}
+use Rattle.rpki_fields.specs.declared.rendering.Form.{Form}
 use Rattle.rpkicert.specs.Words.{memory_text}
 
 abbrev pub parts_of : Shown → ShownParts
@@ -16,3 +18,13 @@ seen_of (Err e) = shown_parts [] memory_text 2
 abbrev pub text_in : {Z E : Type 0} → Result (Vec ℕ Z) E → List ℕ
 text_in (Ok text) = text.items
 text_in (Err e) = memory_text
+
+-- what was seen before, and one more
+abbrev pub and_also : ShownParts → ShownParts → ShownParts
+and_also all s = shown_parts (all.output ++ s.output) (all.faults ++ s.faults) (max all.status s.status)
+
+-- of each of these texts, or, without them, of all of the input
+abbrev pub IsSeenBy : (check : Bool) → Form → TermParts → List ℕ → (input : List ℕ) → Option (List (List ℕ))
+    → ShownParts → Type 0
+IsSeenBy check form terms name input None s = IsSeenIn check form terms name input s
+IsSeenBy check form terms name input (Some texts) s = IsSeenEach check form terms name texts s

@@ -1,5 +1,5 @@
 -- What an object is held to: a profile, a certificate that has to be its issuer, and a moment.
-use Rattle.std.specs.Prelude.{◌≡◌, ◌⊎◌, ◌≤ℤ◌, true, List, Option, Some, None, option_map, codes}
+use Rattle.std.specs.Prelude.{◌≡◌, ◌⊎◌, ◌≤ℤ◌, true, Option, Some, None, option_map, codes}
 use Rattle.jiff.specs.Types.{DateTime}
 use Rattle.jiff.specs.Words.{civil_nanos}
 use Rattle.sha1.specs.Sha1.{sha1}

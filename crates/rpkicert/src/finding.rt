@@ -83,8 +83,14 @@ fn held(alloc: Global, terms: &Terms<'_>, octets: Vec<u8>) -> Result<Found, Faul
     }
 }
 
-/// The object that an input stands for, where it is what it is held to.
-fn found_in(alloc: Global, terms: &Terms<'_>, input: Vec<u8>) -> Result<Found, Fault>
+/// The object that an input stands for, where it is what it is held to. The profile is that of the certificate: of a
+/// signed object that of its signer; a revocation list has none.
+///
+/// Returns `Malformed` for a text that isn't one certificate; `Refused` for octets that are no object of the kind that
+/// they tell; `Violated` if the certificate violates the profile; `Unverified` as [verify]; `OtherAlgorithm` where it
+/// is held to something, and is a certificate of an algorithm that the RPKI doesn't use; `OutOfMemory` if allocation
+/// fails.
+pub fn found_in(alloc: Global, terms: &Terms<'_>, input: Vec<u8>) -> Result<Found, Fault>
     ensures { FindsIn (terms_of terms.now) input.items (finding_of result) }
 {
     match octets_of(alloc, input)? {
@@ -93,35 +99,18 @@ fn found_in(alloc: Global, terms: &Terms<'_>, input: Vec<u8>) -> Result<Found, F
     }
 }
 
-/// The object in the file of this name, where it is what it is held to. The profile is that of the certificate: of a
-/// signed object that of its signer; a revocation list has none.
-///
-/// Returns `Unreadable` and `TooLarge` as [Sources::read]; `Malformed` for a text that isn't one certificate; `Refused`
-/// for octets that are no object of the kind that they tell; `Violated` if the certificate violates the profile;
-/// `Unverified` as [verify]; `OtherAlgorithm` where it is held to something, and is a certificate of an algorithm that
-/// the RPKI doesn't use; `OutOfMemory` if allocation fails.
-pub fn find<S: Sources>(
-    alloc: Global,
-    sources: &S,
-    terms: &Terms<'_>,
-    name: &str,
-) -> Result<Found, Fault>
-    ensures { IfSome (S.holds sources.now name.now) (λ source. Finds (terms_of terms.now) source (finding_of result)) }
-{
-    let input = sources.read(alloc, name)?;
-    found_in(alloc, terms, input)
-}
-
 /// The object in the file of this name, which is held to nothing, so that it can be an issuer.
 ///
-/// The errors are those of [find], but for `Violated` and `Unverified`.
+/// Returns `Unreadable` and `TooLarge` as [Sources::read]; else the errors of [found_in], but for `Violated`,
+/// `Unverified` and `OtherAlgorithm`.
 pub fn find_issuer<S: Sources>(alloc: Global, sources: &S, name: &str) -> Result<Found, Fault>
     ensures { IfSome (S.holds sources.now name.now) (λ source. Finds no_terms source (finding_of result)) }
 {
+    let input = sources.read(alloc, name)?;
     let terms = Terms {
         inspection: None,
         issuer: None,
         moment: None,
     };
-    find(alloc, sources, &terms, name)
+    found_in(alloc, &terms, input)
 }

@@ -7,7 +7,7 @@ ghost use Rattle.rpki_fields.specs.declared.object.Object.{Object};
 ghost use Rattle.rpkicert.specs.Finding.{IsObject, IsFoundAlone};
 ghost use Rattle.rpkicert.specs.Request.{Asked};
 ghost use Rattle.rpkicert.specs.Terms.{TermParts};
-ghost use Rattle.rpkicert.specs.Shown.{IsTextOf, HasOneGoodAnswer};
+ghost use Rattle.rpkicert.specs.Shown.{IsTextOf, HasOneGoodAnswer, HasOneGoodText};
 ghost use Rattle.rpkicert.specs.Run.{Holds, IsKnown, RunsAlike};
 
 /// Octets are one object at most. With the name of a file it has one text in each form.
@@ -18,12 +18,14 @@ pub fn one_text()
 {}
 
 /// Where an object is found in a file, nothing else is found; and where it is shown, nothing else is seen; unless
-/// allocation fails.
+/// allocation fails. Where all certificates in a file are shown, they are shown alike each time that all are.
 pub fn one_answer()
     ensures found { (terms : TermParts) (source : Option (List ℕ)) (found : List ℕ × Object)
         → IsFoundAlone terms source found }
     ensures seen { (check : Bool) (form : Form) (terms : TermParts) (name : List ℕ) (source : Option (List ℕ))
         → HasOneGoodAnswer check form terms name source }
+    ensures file { (check : Bool) (form : Form) (terms : TermParts) (name : List ℕ) (source : Option (List ℕ))
+        → HasOneGoodText check form terms name source }
 {}
 
 /// Where a run of what is asked for ends with the status 0, each run of it that does writes the same.

@@ -2,6 +2,7 @@
 #![tactic(auto)]
 
 mod arguments;
+mod complaint;
 mod fault;
 mod finding;
 mod input;
@@ -10,6 +11,7 @@ mod pem;
 mod profile;
 mod request;
 mod runs;
+mod seen;
 mod settled;
 mod shown;
 mod sources;
@@ -18,14 +20,14 @@ mod unsigned;
 mod words;
 
 use crate::arguments::words_of;
-use crate::runs::{complain, give_up, run};
+use crate::runs::{give_up, run, say};
 use crate::sources::Host;
 use std::env;
 use std::process::ExitCode;
 
 fn main(rt: HostRuntime) -> ExitCode {
     let status = match words_of(rt.alloc(), env::args(&rt)) {
-        Some(words) => match run(
+        Ok(words) => match run(
             rt.alloc(),
             words.as_slice(),
             &Host { rt: &rt },
@@ -35,7 +37,7 @@ fn main(rt: HostRuntime) -> ExitCode {
             Ok(status) => status,
             Err(_) => give_up(&mut rt.stderr()),
         },
-        None => complain(&mut rt.stderr()),
+        Err(wordless) => say(wordless, &mut rt.stderr()),
     };
     ExitCode::from(status)
 }

@@ -1,8 +1,9 @@
 //! Certificates in the textual encoding of RFC 7468.
 
-ghost use Rattle.std.specs.Prelude.{◌≡◌, drop, IfOk};
+ghost use Rattle.std.specs.Prelude.{◌≡◌, drop, map, IfOk};
 ghost use Rattle.std.specs.Option.{option_map};
 ghost use Rattle.rpkicert.specs.Pem.{is_space, from_begin, before_hyphen, without_space, pem_octets, octets_of};
+ghost use Rattle.rpkicert.specs.Pem.{up_to, certificate_texts, bundle_in};
 
 use base64::DecodeAllocError;
 use base64::engine::general_purpose::STANDARD;
@@ -91,4 +92,44 @@ pub fn octets_of(alloc: Global, input: Vec<u8>) -> Result<Option<Vec<u8>>, Alloc
         return Ok(None);
     }
     Ok(Some(input))
+}
+
+/// From the first line that a text begins with to the next that begins a certificate.
+fn certificate_text(text: &[u8]) -> &[u8]
+    ensures { result.now ≡ up_to text.entry.now (from_begin (drop 1 text.entry.now)) }
+{
+    match from_begin(after(text, 1)) {
+        Some(next) => &text[..text.len() - next.len()],
+        None => text,
+    }
+}
+
+/// The texts of the certificates in a text.
+fn certificate_texts(alloc: Global, text: &[u8]) -> Result<Vec<&[u8]>, AllocError>
+    ensures { IfOk result (λ v. map (λ t. t.now) v.items ≡ certificate_texts text.entry.now) }
+{
+    let mut texts = Vec::new(alloc);
+    for at in 0..text.len() {
+        let rest = after(text, at);
+        if rest.starts_with(BEGIN) {
+            texts.push(certificate_text(rest))?;
+        }
+    }
+    Ok(texts)
+}
+
+/// The texts of the certificates in an input that has several. None of octets that begin as a SEQUENCE.
+///
+/// Returns `AllocError` if allocation fails.
+pub fn bundle_in(alloc: Global, input: &[u8]) -> Result<Option<Vec<&[u8]>>, AllocError>
+    ensures { IfOk result (λ o. option_map (λ v. map (λ t. t.now) v.items) o ≡ bundle_in input.entry.now) }
+{
+    if input.starts_with(b"0") {
+        return Ok(None);
+    }
+    let texts = certificate_texts(alloc, input)?;
+    if texts.len() > 1 {
+        return Ok(Some(texts));
+    }
+    Ok(None)
 }

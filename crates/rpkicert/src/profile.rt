@@ -10,18 +10,18 @@ use rpki::repository::error::ValidationError;
 use rpki_cert::{Profile, TbsCert};
 
 /// The profile of this name.
-pub fn profile_of(word: &str) -> Option<Profile>
+pub fn profile_of(word: &[u8]) -> Option<Profile>
     ensures { result ≡ profile_of word.now }
 {
-    if word == "ta" {
+    if word == b"ta".as_slice() {
         Some(Profile::Ta)
-    } else if word == "ca" {
+    } else if word == b"ca".as_slice() {
         Some(Profile::Ca)
-    } else if word == "ee" {
+    } else if word == b"ee".as_slice() {
         Some(Profile::Ee)
-    } else if word == "detached" {
+    } else if word == b"detached".as_slice() {
         Some(Profile::DetachedEe)
-    } else if word == "router" {
+    } else if word == b"router".as_slice() {
         Some(Profile::Router)
     } else {
         None

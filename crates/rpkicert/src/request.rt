@@ -121,7 +121,7 @@ fn named_inspection(lax: bool, name: Option<&str>) -> Option<Option<Inspection>>
     ensures { result ≡ named_inspection lax (option_map (λ name. name.now) name.entry) }
 {
     match name {
-        Some(name) => match profile_of(name) {
+        Some(name) => match profile_of(name.as_bytes()) {
             Some(profile) => Some(Some(Inspection {
                 profile,
                 strict: !lax,

@@ -4,43 +4,31 @@ ghost use Rattle.std.specs.Prelude.{◌≡◌, Some, None, IfOk, IfErr};
 ghost use Rattle.rpkicert.specs.Request.{help, version};
 ghost use Rattle.rpkicert.specs.RequestView.{asked_of, wanted_by, AskedIn, AskHelp, AskVersion, AskRun, AskNothing};
 ghost use Rattle.std.specs.Option.{option_copied};
-ghost use Rattle.rpkicert.specs.Run.{Sees, IsRunOf};
+ghost use Rattle.rpkicert.specs.Arguments.{wordless_text};
+ghost use Rattle.rpkicert.specs.ComplaintView.{complaint_of};
+ghost use Rattle.rpkicert.specs.Run.{IsRunOf};
 ghost use Rattle.rpkicert.specs.RunView.{RunsAt, RunsTo, RunsOf, RunsOn};
 ghost use Rattle.rpkicert.specs.Shown.{WritesBoth};
 ghost use Rattle.rpkicert.specs.ShownView.{seen_of, text_in};
-ghost use Rattle.rpkicert.specs.TermsView.{terms_of};
 ghost use Rattle.rpkicert.specs.Words.{Prints, PrintsAlone};
 
-use crate::finding::{Found, find, find_issuer};
+use crate::arguments::Wordless;
+use crate::complaint::complaint;
+use crate::finding::{Found, find_issuer};
 use crate::request::{Request, is_given, matched};
+use crate::seen::seen;
 use crate::settled::{issuer_of, wrong_issuer, wrong_moment};
-use crate::shown::{Shown, show};
+use crate::shown::Shown;
 use crate::sources::Sources;
 use crate::terms::Terms;
-use crate::words::{HELP, OUT_OF_MEMORY, USAGE, VERSION};
+use crate::words::{HELP, OUT_OF_MEMORY, VERSION};
 use clap::ArgMatches;
 use rpki::der::write_whole;
 use rpki::repository::x509::Time;
 use rpki_cert::TbsCert;
-use rpki_fields::Form;
 use std::alloc::{AllocError, Global};
 use std::io;
 use std::io::Write;
-
-/// What is shown of the file of this name, whose object is held to these terms.
-fn seen<S: Sources>(
-    alloc: Global,
-    check: bool,
-    form: Form,
-    terms: &Terms<'_>,
-    sources: &S,
-    name: &str,
-) -> Result<Shown, AllocError>
-    ensures { Sees (S.holds sources.now) check form (terms_of terms.now) name.now (seen_of result) }
-{
-    let found = find(alloc, sources, terms, name);
-    show(alloc, check, form, terms.issuer.is_some(), name, found)
-}
 
 /// Writes what is shown of a file: first to the output. Returns the exit status.
 fn write_shown<W: Write, F: Write>(
@@ -98,11 +86,24 @@ fn print<W: Write>(text: &[u8], out: &mut W, status: u8) -> u8
     }
 }
 
-/// Writes the usage line to the faults, and returns the exit status 2.
-pub fn complain<F: Write>(err: &mut F) -> u8
-    ensures { Prints (F.contents err.old) (F.contents err.new) USAGE.now 2 result }
+/// Writes to the faults what is wrong with words that ask for nothing, and how the program is used. Returns the exit
+/// status 2.
+///
+/// Returns `AllocError` if allocation fails; then nothing is written.
+fn complain<F: Write>(alloc: Global, words: &[String], err: &mut F) -> Result<u8, AllocError>
+    ensures said { IfOk result (λ n. Prints (F.contents err.old) (F.contents err.new)
+        (complaint_of words.now) 2 n) }
+    ensures kept { IfErr result (λ _. err.new ≡ err.old) }
 {
-    print(USAGE, err, 2)
+    let text = complaint(alloc, words)?;
+    Ok(print(text.as_slice(), err, 2))
+}
+
+/// Writes to the faults why there are no words, and returns the exit status 2.
+pub fn say<F: Write>(wordless: Wordless, err: &mut F) -> u8
+    ensures { Prints (F.contents err.old) (F.contents err.new) (wordless_text wordless) 2 result }
+{
+    print(wordless.text(), err, 2)
 }
 
 /// Writes to the faults that allocation failed, and returns the exit status 2.
@@ -208,46 +209,51 @@ fn show_all<S: Sources, W: Write, F: Write>(
     }
 }
 
-/// Does what was asked for, and returns the exit status.
+/// Does what was asked for by these words, and returns the exit status.
+///
+/// Returns `AllocError` if there is no memory to say that it is nothing; then nothing is written.
 fn answer<S: Sources, W: Write, F: Write>(
     alloc: Global,
+    words: &[String],
     matches: &ArgMatches<'_>,
     files: &S,
     out: &mut W,
     err: &mut F,
-) -> u8
-    ensures help { wanted_by matches.now ≡ Some help → PrintsAlone (W.contents out.old) (W.contents out.new)
-        HELP.now 0 result (err.new ≡ err.old) }
-    ensures version { wanted_by matches.now ≡ Some version → PrintsAlone (W.contents out.old)
-        (W.contents out.new) VERSION.now 0 result (err.new ≡ err.old) }
-    ensures files { AskedIn matches.now (IsRunOf (S.holds files.now) (W.contents out.old) (W.contents out.new)
-        (F.contents err.old) (F.contents err.new) result) }
-    ensures usage { wanted_by matches.now ≡ None → PrintsAlone (F.contents err.old) (F.contents err.new)
-        USAGE.now 2 result (out.new ≡ out.old) }
+) -> Result<u8, AllocError>
+    ensures help { wanted_by matches.now ≡ Some help → IfOk result (λ n. PrintsAlone (W.contents out.old)
+        (W.contents out.new) HELP.now 0 n (err.new ≡ err.old)) }
+    ensures version { wanted_by matches.now ≡ Some version → IfOk result (λ n. PrintsAlone (W.contents out.old)
+        (W.contents out.new) VERSION.now 0 n (err.new ≡ err.old)) }
+    ensures files { AskedIn matches.now result (IsRunOf (S.holds files.now) (W.contents out.old) (W.contents out.new)
+        (F.contents err.old) (F.contents err.new)) }
+    ensures usage { wanted_by matches.now ≡ None → IfOk result (λ n. PrintsAlone (F.contents err.old)
+        (F.contents err.new) (complaint_of words.now) 2 n (out.new ≡ out.old)) }
+    ensures kept { IfErr result (λ _. (out.new ≡ out.old) × (err.new ≡ err.old)) }
 {
     if is_given(matches, "help") {
-        return print(HELP, out, 0);
+        return Ok(print(HELP, out, 0));
     }
     if is_given(matches, "version") {
-        return print(VERSION, out, 0);
+        return Ok(print(VERSION, out, 0));
     }
     match Request::of(matches) {
-        Some(request) => show_all(alloc, &request, files, out, err),
-        None => complain(err),
+        Some(request) => Ok(show_all(alloc, &request, files, out, err)),
+        None => complain(alloc, words, err),
     }
 }
 
 /// Runs what the words, which are the program's arguments, ask for, and returns the exit status.
 ///
 /// `--help` and `--version` print a text. Else each file that the words name is shown, in order: the object that it is
-/// by its fields and items, and a fault by a line among the faults; with `--check` a line for either to the output. If
-/// the words name an issuer that is no certificate, or a moment that is none, only that is told, among the faults.
-/// Other words get the usage line among the faults.
+/// by its fields and items, and a fault by a line among the faults; with `--check` a line for either to the output. A
+/// text with several certificates is shown as so many files. If the words name an issuer that is no certificate, or a
+/// moment that is none, only that is told, among the faults. Of other words what is wrong with them first, and how the
+/// program is used.
 ///
 /// The status is 0 if all is well; 1 if a file is no such object, violates the profile, is of another issuer, or holds
 /// at another time; 2 if one can't be read, without the issuer or the moment, for other words, if allocation fails, and
 /// if the output or the faults fail; of several the greatest. Returns `AllocError` if there is no memory to read the
-/// words; then nothing is written.
+/// words, or to say what is wrong with them; then nothing is written.
 pub fn run<S: Sources, W: Write, F: Write>(
     alloc: Global,
     words: &[String],
@@ -262,12 +268,12 @@ pub fn run<S: Sources, W: Write, F: Write>(
     ensures files { AskRun words.now result (IsRunOf (S.holds files.now) (W.contents out.old) (W.contents out.new)
         (F.contents err.old) (F.contents err.new)) }
     ensures usage { AskNothing words.now → IfOk result (λ n. PrintsAlone (F.contents err.old) (F.contents err.new)
-        USAGE.now 2 n (out.new ≡ out.old)) }
+        (complaint_of words.now) 2 n (out.new ≡ out.old)) }
     ensures kept { IfErr result (λ _. (out.new ≡ out.old) × (err.new ≡ err.old)) }
 {
     match matched(alloc, words) {
-        Ok(Some(matches)) => Ok(answer(alloc, &matches, files, out, err)),
-        Ok(None) => Ok(complain(err)),
+        Ok(Some(matches)) => answer(alloc, words, &matches, files, out, err),
+        Ok(None) => complain(alloc, words, err),
         Err(e) => Err(e),
     }
 }

@@ -37,8 +37,10 @@ fn push_name_octet(text: &mut Vec<u8>, octet: u8) -> Result<(), AllocError>
     Ok(())
 }
 
-/// Adds a file's name.
-fn push_visible(text: &mut Vec<u8>, name: &[u8]) -> Result<(), AllocError>
+/// Adds a file's name, or another word of a line.
+///
+/// Returns `AllocError` if allocation fails.
+pub fn push_visible(text: &mut Vec<u8>, name: &[u8]) -> Result<(), AllocError>
     ensures { OnOk result (text.new.items ≡ text.old.items ++ visible name.now) }
 {
     'octets: for octet in name {

@@ -11,6 +11,9 @@ pub const VERSION: &[u8] = b"rpkicert 0.1.0\n";
 /// What is said where allocation fails.
 pub const OUT_OF_MEMORY: &[u8] = b"rpkicert: out of memory\n";
 
+/// What is said where an argument is not UTF-8.
+pub const NOT_UTF8: &[u8] = b"rpkicert: an argument is not UTF-8\n";
+
 /// What `--help` prints.
 pub const HELP: &[u8] = b"\
 rpkicert - print the objects of a repository of the RPKI
@@ -25,8 +28,9 @@ of certificates (RFC 5280, in the profiles of RFC 6487 and RFC 8209),
 revocation lists (RFC 6487 5), and signed objects (RFC 6488): manifests (RFC
 9286), route origin attestations (RFC 9582), attestations of providers (ASPA)
 and other contents. Its octets tell which one a FILE has, not its name. It has
-at most 1048576 octets, as DER; a certificate may be in the textual encoding of
-RFC 7468 (PEM) with other text around it. - is standard input.
+at most 1048576 octets, as DER; certificates may be in the textual encoding of
+RFC 7468 (PEM) with other text around them, and of several each is printed as
+of a file of its own: FILE (1), FILE (2) .. - is standard input.
 
   --json       print an object of JSON a line
   --check      print a verdict a line and file: its name, and OK or what is wrong;
@@ -38,8 +42,8 @@ RFC 7468 (PEM) with other text around it. - is standard input.
                (router)
   --lax        with --profile, don't hold the names to the profile
   --issuer F   hold each certificate, that of the signer of each signed object,
-               and each revocation list to its issuer, whose certificate is in
-               F: to the name, the key identifiers, and known extensions, but
+               and each revocation list to its issuer, whose certificate alone
+               is in F: to the name, the key identifiers, and known extensions, but
                not to the signature (RFC 6487 7.2, RFC 5280 6.3.3)
   --at MOMENT  hold periods of certificates, and those between the updates of
                revocation lists and manifests (RFC 9286 6.3), to a moment such

@@ -5,8 +5,8 @@ use Rattle.std.proofs.lemmas.Iterator.Adapters.{YieldsList-from_vec}
 use Rattle.rpkicert.proofs.RequestLaws.{drop-next}
 use Rattle.rpkicert.proofs.arguments.words_of.Goals as goal
 
-pub returns-in-Ok-collect : goal.returns-in-Ok-collect
-returns-in-Ok-collect c =
+pub returns-in-Ok-collect-clause-words : goal.returns-in-Ok-collect-clause-words
+returns-in-Ok-collect-clause-words c =
     let left = c.next-name.new.self in
     let all = c.in-Ok.arguments in
     let rest = items_from_collect {E = Unit {0}} (Ok c.in-Ok-collect.words) c.in-Ok-collect.ensures.ran

@@ -1,8 +1,0 @@
-use Rattle.rpkicert.specs.FindingView.{finding_of}
-use Rattle.rpkicert.specs.TermsView.{terms_of}
-use Rattle.rpkicert.proofs.FindingLaws.{was-read-of}
-use Rattle.rpkicert.proofs.finding.find.Goals as goal
-
-pub returns : goal.returns
-returns g c = was-read-of (terms_of c.args.terms.now) _ c.in_ok-input.input.items (finding_of c.found_in.result)
-    c.in_ok-input.ensures c.found_in.ensures

@@ -1,0 +1,14 @@
+use Rattle.std.proofs.Common.{◌∙◌}
+use Rattle.rpkicert.specs.TermsView.{terms_of}
+use Rattle.rpkicert.proofs.SeenLaws.{some-mapped, was-seen, not-seen}
+use Rattle.rpkicert.proofs.seen.seen.Goals as goal
+
+pub returns-in-Ok : goal.returns-in-Ok
+returns-in-Ok g c =
+    was-seen _ c.args.check c.args.form (terms_of c.args.terms.now) c.args.name.now c.in-Ok.input.items
+    c.seen_input.result c.in-Ok.ensures c.seen_input.ensures
+
+pub returns-in-Err : goal.returns-in-Err
+returns-in-Err g c =
+    not-seen _ c.args.check c.args.form (terms_of c.args.terms.now) c.is_some.result c.args.name.now c.in-Err.fault
+    c.show.result (c.is_some.ensures ∙ some-mapped _ c.args.terms.now.issuer) c.in-Err.ensures c.show.ensures
