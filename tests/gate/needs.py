@@ -18,8 +18,8 @@ PARTS = {
 
 
 class Need(NamedTuple):
-    """A program, or a crate that Debian packages, the package, and the parts that can't do without it. One without
-    parts is used where it is there."""
+    """A program, a file, or a crate that Debian packages, the package, and the parts that can't do without it. One
+    without parts is used where it is there."""
 
     name: str
     package: str
@@ -43,6 +43,7 @@ NEEDS = [
     Need("go", "golang-go", ()),
     Need("qemu-aarch64", "qemu-user", ()),
     Need("aarch64-linux-gnu-gcc", "gcc-aarch64-linux-gnu", ()),
+    Need("/usr/aarch64-linux-gnu/lib/crt1.o", "libc6-dev-arm64-cross", ()),
     Need("clang-format", "clang-format", ()),
     Need("shellcheck", "shellcheck", ()),
     Need("rpki-client", "rpki-client", ()),
@@ -52,6 +53,8 @@ NEEDS = [
 def is_there(need):
     if need.name.startswith("the crate "):
         return bool(glob.glob(f"/usr/share/cargo/registry/{need.name.split()[-1]}-[0-9]*"))
+    if need.name.startswith("/"):
+        return os.path.exists(need.name)
     return shutil.which(need.name) is not None
 
 
