@@ -57,7 +57,8 @@ def issued(program, folder):
                 said = OF_CERTIFICATE + "signature verification failed"  # RFC 7935 3: issuers have keys of RSA
             for ending in (".der", ".pem"):
                 seen = run(program, "--check", "--issuer", of_issuer + ending, path + ".der")
-                yield f"{name} by {issuer}{ending}", seen, (0 if said == UNSIGNED else 1, line(path + ".der", said), b"")
+                status = 0 if said == UNSIGNED else 1
+                yield f"{name} by {issuer}{ending}", seen, (status, line(path + ".der", said), b"")
     with open(paths["ta"] + ".pem", "rb") as file:
         octets = file.read()
     seen = run(program, "--check", "--issuer", "-", paths["ca"] + ".der", octets=octets)
@@ -68,7 +69,8 @@ def issued(program, folder):
         0, plain[:1] + [b"Signature: not checked"] + plain[1:], b"")
     status, output, faults = run(program, "--json", "--issuer", paths["ta"] + ".der", path)
     yield "a member", (status, json.loads(output)["signature"], faults), (0, "not checked", b"")
-    for issuer, told in ("ta", {"signature": "not checked", "validation": "OK"}), ("ca", {"validation": OF_CERTIFICATE + NAME}):
+    verdicts = {"ta": {"signature": "not checked", "validation": "OK"}, "ca": {"validation": OF_CERTIFICATE + NAME}}
+    for issuer, told in verdicts.items():
         status, output, faults = run(program, "--json", "--check", "--issuer", paths[issuer] + ".der", path)
         yield f"a verdict as JSON, {issuer}", (status, json.loads(output), faults), (
             0 if issuer == "ta" else 1, {"file": path, **told}, b"")
@@ -121,12 +123,12 @@ def broken(program, folder):
         seen = run(program, "--check", "--issuer", issuer, path)
         yield f"broken: {name}", seen, (0 if said == UNSIGNED else 1, line(path, said), b"")
     # an anchor of the same name and another key, and one of the same key and another name
-    for name, words, said in [("another key", ["-newkey", "rsa:2048", "-nodes", "-keyout", os.path.join(folder, "new.key"),
-                                              "-subj", "/CN=anchor"], KEY),
-                              ("another name", ["-key", os.path.join(folder, "ta.key"), "-subj", "/CN=Anchor"], NAME)]:
+    new_key = ["-newkey", "rsa:2048", "-nodes", "-keyout", os.path.join(folder, "new.key"), "-subj", "/CN=anchor"]
+    new_name = ["-key", os.path.join(folder, "ta.key"), "-subj", "/CN=Anchor"]
+    for name, words, said in ("another key", new_key, KEY), ("another name", new_name, NAME):
         path, config = os.path.join(folder, "twin.der"), os.path.join(folder, "ta.cnf")
-        openssl("req", "-x509", "-new", "-config", config, "-extensions", "extensions", "-outform", "DER", *words, "-out",
-                path)
+        openssl("req", "-x509", "-new", "-config", config, "-extensions", "extensions", "-outform", "DER", *words,
+                "-out", path)
         certificate = os.path.join(folder, "ca.der")
         yield f"an issuer of {name}", run(program, "--check", "--issuer", path, certificate), (
             1, line(certificate, OF_CERTIFICATE + said), b"")
@@ -158,8 +160,8 @@ def published(program, folder):
     with open(config, "w", encoding="ascii") as file:
         file.write("[req]\ndistinguished_name = name\nstring_mask = nombstr\n[name]\n[extensions]\n")
         file.write((authority.COMMON + authority.AUTHORITY).format(name="ca"))
-    openssl("req", "-x509", "-new", "-newkey", "rsa:2048", "-nodes", "-keyout", os.path.join(folder, "other.key"), "-config",
-            config, "-extensions", "extensions", "-subj", "/CN=ca", "-outform", "DER", "-out", other)
+    openssl("req", "-x509", "-new", "-newkey", "rsa:2048", "-nodes", "-keyout", os.path.join(folder, "other.key"),
+            "-config", config, "-extensions", "extensions", "-subj", "/CN=ca", "-outform", "DER", "-out", other)
     path = rows[1][0]
     yield "a list of another key", run(program, "--check", "--issuer", other, path), (
         1, line(path, fault(path, other, "crl", OF_LIST)), b"")
@@ -186,10 +188,11 @@ def moments(program, folder):
     path = os.path.join(folder, "ca.der")
     first, last = period(path)
     rows = [(at(first - SECOND), EARLY), (at(first), "OK"), (at(last), "OK"), (at(last + SECOND), LATE),
-            (at(first + timedelta(hours=2), "+02:00"), "OK"), (at(first + timedelta(hours=2) - SECOND, "+02:00"), EARLY),
-            (at(last - timedelta(hours=5), "-05:00"), "OK"), (at(last - timedelta(hours=5) + SECOND, "-05:00"), LATE),
-            (at(first - SECOND, ".999999999Z"), EARLY), (at(last, ".000000001Z"), LATE), (at(last, ".0Z"), "OK"),
-            ("0000-01-01T00:00:00Z", EARLY), ("9999-12-31T23:59:59Z", LATE)]
+            (at(first + timedelta(hours=2), "+02:00"), "OK"),
+            (at(first + timedelta(hours=2) - SECOND, "+02:00"), EARLY), (at(last - timedelta(hours=5), "-05:00"), "OK"),
+            (at(last - timedelta(hours=5) + SECOND, "-05:00"), LATE), (at(first - SECOND, ".999999999Z"), EARLY),
+            (at(last, ".000000001Z"), LATE), (at(last, ".0Z"), "OK"), ("0000-01-01T00:00:00Z", EARLY),
+            ("9999-12-31T23:59:59Z", LATE)]
     for moment, said in rows:
         for words in ("--at", moment), (f"--at={moment}",):
             seen = run(program, "--check", *words, path)
@@ -203,11 +206,12 @@ def moments(program, folder):
                       os.path.join(folder, "ta.pem"), os.path.join(folder, "ca.pem"))
     yield "openssl at the first second", checked.decode().strip().endswith(": OK"), True
     for word in ["", "x", "2026-01-01", "2026-01-01T00:00:00", "2026-13-01T00:00:00Z", "2026-02-29T00:00:00Z",
-                 "10000-01-01T00:00:00Z", "2026-01-01T25:00:00Z", "0000-01-01T00:00:00+01:00", "9999-12-31T23:59:59-01:00",
-                 "1767225600", "now", "20260101000000Z"]:
+                 "10000-01-01T00:00:00Z", "2026-01-01T25:00:00Z", "0000-01-01T00:00:00+01:00",
+                 "9999-12-31T23:59:59-01:00", "1767225600", "now", "20260101000000Z"]:
         for order in ["--at", word, path], [path, f"--at={word}"], ["--check", "--at", word, "--issuer", "lost", path]:
             if word or order[0] == "--at":
-                yield f"no moment {order}", run(program, *order), (2, b"", b"rpkicert: " + line(word, "no moment") + USAGE)
+                told = b"rpkicert: " + line(word, "no moment") + USAGE
+                yield f"no moment {order}", run(program, *order), (2, b"", told)
 
 
 def updates(program, folder):

@@ -1,5 +1,5 @@
-"""The objects of a repository beside certificates, as rpkicert prints them: a repository that openssl makes, beside what
-openssl says of its objects and what they were made of; lists, objects and contents that use or break one rule each
+"""The objects of a repository beside certificates, as rpkicert prints them: a repository that openssl makes, beside
+what openssl says of its objects and what they were made of; lists, objects and contents that use or break one rule each
 (tests/hostile); objects of many sizes; and that a name of a file tells nothing."""
 import base64
 import hashlib
@@ -36,7 +36,8 @@ NAMED = ["-nameopt", "sep_comma_plus_space,sname"]
 # What the repository is made of: of each object its folder, its issuer, the name of its certificate, and its type.
 SIGNED = {"ca.mft": ("rpki.example/repo/ca", "ca", "camft", "manifest"),
           "ta.mft": ("rpki.example/repo/ta", "ta", "tamft", "manifest"),
-          "roa.roa": ("rpki.example/repo/ca", "ca", "roa", "roa"), "one.roa": ("rpki.example/repo/ca", "ca", "one", "roa"),
+          "roa.roa": ("rpki.example/repo/ca", "ca", "roa", "roa"),
+          "one.roa": ("rpki.example/repo/ca", "ca", "one", "roa"),
           "aspa.asa": ("work", "ca", "aspa", "aspa"), "gone.roa": ("rpki.example/repo/ca", "ca", "gone", "roa")}
 ORIGINS = {"roa.roa": (64496, [("10.0.0.0/8", 24), ("10.64.0.0/13", 13), ("192.0.2.0/25", 25), ("2001:db8::/32", 48)]),
            "one.roa": (0, [("203.0.113.64/26", 26)]), "gone.roa": (64496, [("10.1.0.0/16", 16)])}
@@ -142,7 +143,8 @@ def as_pairs(fields, listing):
 def made(folder):
     """The repository."""
     repository = os.path.join(folder, "repository")
-    subprocess.run(["sh", os.path.join(TOP, "tests/linked/repository/make"), repository], check=True, capture_output=True)
+    maker = os.path.join(TOP, "tests/linked/repository/make")
+    subprocess.run(["sh", maker, repository], check=True, capture_output=True)
     return repository
 
 
@@ -204,18 +206,20 @@ def kind(octets):
 
 
 # What a person reads of a part, by the number that include/rpki.h gives it.
-PARTS = {64: "", 65: "in what is signed: ", 66: "in its algorithm: ", 67: "in its signature: ", 68: "in what is signed: ",
-         69: "in its version: ", 71: "in the algorithm that is signed: ", 72: "in its issuer: ", 76: "in its extensions: ",
-         79: "in its algorithms: ", 120: "in this update: ", 121: "in the next update: ", 122: "in its entries: ", 123: "",
-         124: "in its type: ", 125: "in the signed data: ", 126: "in the version of the signed data: ",
-         127: "in the digest algorithms: ", 128: "in the content: ", 129: "in the certificates: ", 130: "in the signers: ",
-         131: "in the signer: ", 132: "in the signer's version: ", 133: "in the signer's identifier: ",
+PARTS = {64: "", 65: "in what is signed: ", 66: "in its algorithm: ", 67: "in its signature: ",
+         68: "in what is signed: ", 69: "in its version: ", 71: "in the algorithm that is signed: ",
+         72: "in its issuer: ", 76: "in its extensions: ", 79: "in its algorithms: ", 120: "in this update: ",
+         121: "in the next update: ", 122: "in its entries: ", 123: "", 124: "in its type: ",
+         125: "in the signed data: ", 126: "in the version of the signed data: ", 127: "in the digest algorithms: ",
+         128: "in the content: ", 129: "in the certificates: ", 130: "in the signers: ", 131: "in the signer: ",
+         132: "in the signer's version: ", 133: "in the signer's identifier: ",
          134: "in the signer's digest algorithm: ", 135: "in the signed attributes: ",
          136: "in the algorithm of the signature: ", 137: "in the signature: ", 138: "in the content: ",
-         139: "in the manifest's number: ", 140: "in the manifest's this update: ", 141: "in the manifest's next update: ",
-         142: "in the manifest's algorithm: ", 143: "in the list of files: ", 144: "in the manifest's times: ",
-         145: "in the content: ", 146: "in the AS number: ", 147: "in the prefixes: ", 148: "in the content: ",
-         149: "in the content's version: ", 150: "in the customer: ", 151: "in the providers: "}
+         139: "in the manifest's number: ", 140: "in the manifest's this update: ",
+         141: "in the manifest's next update: ", 142: "in the manifest's algorithm: ", 143: "in the list of files: ",
+         144: "in the manifest's times: ", 145: "in the content: ", 146: "in the AS number: ", 147: "in the prefixes: ",
+         148: "in the content: ", 149: "in the content's version: ", 150: "in the customer: ",
+         151: "in the providers: "}
 
 
 def part_by(reader, call, *words):
@@ -263,7 +267,7 @@ def is_like_a_list(octets):
 
 
 def variants(program, folder):
-    """Lists and objects that use or break one rule each; what is told of an object of another kind is another matter."""
+    """Lists and objects that use or break one rule each; what is told of an object of another kind isn't compared."""
     for text, octets, expected in lists.ACCEPTED + lists.REFUSED:
         yield judged(program, f"a list: {text}", octets, expected if is_like_a_list(octets) else None)
     for text, octets, expected, _ in objects.ACCEPTED:
@@ -305,14 +309,16 @@ CONTENTS = [
     ("a name with a slash", MANIFEST, FILES(entries(b"a/b.roa")), "malformed name of a file"),
     ("a name without an extension", MANIFEST, FILES(entries(b"aroa")), "malformed name of a file"),
     ("an extension of four letters", MANIFEST, FILES(entries(b"a.aroa")), "malformed name of a file"),
-    ("times in reverse", MANIFEST, FILES([], this=payloads.NEXT, until=payloads.THIS), "next update not after this update"),
+    ("times in reverse", MANIFEST, FILES([], this=payloads.NEXT, until=payloads.THIS),
+     "next update not after this update"),
     ("a moment", MANIFEST, FILES([], until=payloads.THIS), "next update not after this update"),
     ("a manifest and a value", MANIFEST, FILES([]) + tlv(5, b""), "trailing data"),
     ("a spelled version", MANIFEST, sequence(tlv(0xA0, unsigned(0)), FILES([])[2:]), "unexpected value"),
     ("a route origin", ROA, payloads.roa(1, payloads.family(4, [("10.0.0.0/8", None)])), GOOD),
-    ("IPv6 first", ROA, payloads.roa(1, payloads.family(6, [("::/0", None)]), payloads.family(4, [("10.0.0.0/8", None)])),
-     GOOD),
-    ("maxLength 33", ROA, payloads.roa(1, payloads.family(4, [("10.0.0.0/8", 33)])), "invalid maximum length of prefixes"),
+    ("IPv6 first", ROA,
+     payloads.roa(1, payloads.family(6, [("::/0", None)]), payloads.family(4, [("10.0.0.0/8", None)])), GOOD),
+    ("maxLength 33", ROA, payloads.roa(1, payloads.family(4, [("10.0.0.0/8", 33)])),
+     "invalid maximum length of prefixes"),
     ("maxLength 129", ROA, payloads.roa(1, payloads.family(6, [("::/0", 129)])), "invalid maximum length of prefixes"),
     ("maxLength below the prefix", ROA, payloads.roa(1, payloads.family(4, [("10.0.0.0/8", 7)])),
      "invalid maximum length of prefixes"),

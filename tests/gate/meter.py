@@ -116,8 +116,8 @@ def above(costs):
     for crate, cost in known.items():
         least = allowed[crate].minutes * factor * GROWTH
         if cost.minutes > least + 0.2:
-            yield (f"{crate} took {cost.minutes:.1f} processor minutes, and a fifth above its line, on this machine, are"
-                   f" {least:.1f}")
+            yield (f"{crate} took {cost.minutes:.1f} processor minutes, and a fifth above its line, on this machine, "
+                   f"are {least:.1f}")
 
 
 def shown(costs):

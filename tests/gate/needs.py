@@ -46,6 +46,8 @@ NEEDS = [
     Need("/usr/aarch64-linux-gnu/lib/crt1.o", "libc6-dev-arm64-cross", ()),
     Need("clang-format", "clang-format", ()),
     Need("shellcheck", "shellcheck", ()),
+    Need("pyflakes3", "pyflakes3", ()),
+    Need("pycodestyle", "pycodestyle", ()),
     Need("rpki-client", "rpki-client", ()),
 ]
 

@@ -86,7 +86,8 @@ class Steps:
                     beside += step.gives_way
                 if not running:
                     for step in left:
-                        print(f"== {step.name}: not run, since {', '.join(set(step.waits) - self.happened)} didn't pass")
+                        lacking = ", ".join(set(step.waits) - self.happened)
+                        print(f"== {step.name}: not run, since {lacking} didn't pass")
                         self.results[step.name] = Result(0, 1, 0)
                     break
                 for future in wait(running, timeout=1, return_when=FIRST_COMPLETED).done:

@@ -8,7 +8,15 @@ import hashlib
 
 import claims
 import names_and_places
-from certificate import *  # noqa: F403
+from certificate import (
+    ADDRESSES, ADDRESSES_V2, AUTHORITY_ACCESS, AUTHORITY_KEY, CA_ISSUERS, CERTIFICATE, CONSTRAINTS, END_ENTITY_USAGE,
+    EXPONENT, MANIFEST, MODULUS, NOTICE, NOTIFY, NUMBERS, NUMBERS_V2, OBJECT, OCSP, POINT, POLICIES, POLICY, POLICY_V2,
+    PURPOSES, REPOSITORY, REVOCATION, ROUTER, SECURE, SERVER, SIGNED, STATEMENT, SUBJECT_ACCESS, SUBJECT_KEY, UNKNOWN,
+    USAGE, Certificate, Value, accesses, add, after_extensions, after_list, anchor, anchor_with, detached, empty_list,
+    end_entity, key_bits, many, named, names, no_extensions, no_version, of_version_2, oid, one_parameter_less,
+    own_issuer_without_identifier, period, point, policies, policy, put, remove, router, router_bits,
+    router_with_addresses, rsa_numbers, serial, turn, uri, values_of, version, version_2,
+)
 from der import sequence, tlv
 from programs import run
 from shim import Shim

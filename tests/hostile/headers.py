@@ -10,7 +10,7 @@ import re
 import shutil
 import tempfile
 
-from certificates import UNKNOWN, Certificate
+from certificate import UNKNOWN, Certificate
 from der import digits_of, nested, sequence
 from programs import run
 

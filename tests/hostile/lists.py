@@ -1,5 +1,5 @@
-"""Revocation lists: variants that use or break one rule of RFC 5280 5 or RFC 6487 5 each, changed octets and beginnings,
-large lists. Lists are made by X.690 alone; what is expected of them is what the RFCs say."""
+"""Revocation lists: variants that use or break one rule of RFC 5280 5 or RFC 6487 5 each, changed octets and
+beginnings, large lists. Lists are made by X.690 alone; what is expected of them is what the RFCs say."""
 import datetime
 import hashlib
 import os
@@ -91,7 +91,8 @@ def of(members):
     return listed(extensions=extensions(members))
 
 
-def lines(issuer=name("A"), this=THIS, next=NEXT, identifier=IDENTIFIER, crl_number=7, entries=((5, REVOKED), (300, REVOKED))):
+def lines(issuer=name("A"), this=THIS, next=NEXT, identifier=IDENTIFIER, crl_number=7,
+          entries=((5, REVOKED), (300, REVOKED))):
     found = [f"issuer {issuer.hex().upper()}", f"this_update {seconds(this)}", f"next_update {seconds(next)}"]
     found += [f"authority_key_identifier {identifier.hex().upper()}", f"crl_number {crl_number:040X}"]
     for serial, date in entries:
@@ -172,8 +173,8 @@ REFUSED = [
     ("an identifier of 21 octets", of([authority(bytes(21)), number()]), OTHERS),
     ("an identifier with the issuer's serial number", of([authority(more=tlv(0x82, b"\x01")), number()]), OTHERS),
     ("an authority key identifier of nothing", of([extension(AUTHORITY_KEY, sequence()), number()]), OTHERS),
-    ("a value after the identifier", of([extension(AUTHORITY_KEY, sequence(tlv(0x80, IDENTIFIER)) + b"\x05\x00"), number()]),
-     OTHERS),
+    ("a value after the identifier",
+     of([extension(AUTHORITY_KEY, sequence(tlv(0x80, IDENTIFIER)) + b"\x05\x00"), number()]), OTHERS),
     ("a number below 0", of([authority(), number(integer(b"\x80"))]), OTHERS),
     ("a number of 21 octets", of([authority(), number(integer(b"\x01" + bytes(20)))]), OTHERS),
     ("a number of nothing", of([authority(), number(b"")]), OTHERS),
@@ -292,8 +293,9 @@ def openssl(folder, *words):
 def told_by_openssl(folder):
     """The lines of the list in a folder, as openssl reads it."""
     said = openssl(folder, "crl", "-inform", "DER", "-in", "list.crl", "-noout", "-text")
-    dates = [int(datetime.datetime.strptime(date, "%b %d %H:%M:%S %Y %Z").replace(tzinfo=datetime.timezone.utc).timestamp())
+    dates = [datetime.datetime.strptime(date, "%b %d %H:%M:%S %Y %Z").replace(tzinfo=datetime.timezone.utc)
              for date in re.findall(r"(?:Update|Revocation Date): (.*)", said)]
+    dates = [int(date.timestamp()) for date in dates]
     identifier = re.search(r"Authority Key Identifier: *\n *(?:keyid:)?([0-9A-F:]+)", said)[1].replace(":", "")
     of_list = int(re.search(r"CRL Number: *\n *(\d+)", said)[1])
     serials = [int(digits, 16) for digits in re.findall(r"Serial Number: ([0-9A-F]+)", said)]
@@ -311,12 +313,13 @@ def lists_of_openssl(programs):
             with open(os.path.join(folder, file), "w", encoding="ascii") as opened:
                 opened.write(text)
         of = ("-config", "configuration")
-        openssl(folder, "req", "-x509", "-newkey", "rsa:2048", "-nodes", "-keyout", "key", "-out", "cert", "-extensions",
-                "root", *of)
+        openssl(folder, "req", "-x509", "-newkey", "rsa:2048", "-nodes", "-keyout", "key", "-out", "cert",
+                "-extensions", "root", *of)
         for count in (0, 1, 40):
             with open(os.path.join(folder, "index"), "w", encoding="ascii") as index:
                 for number in range(count):
-                    index.write(f"R\t360101000000Z\t2601{1 + number % 28:02}000000Z\t{number * 7919 + 16:08X}\tunknown\t/CN=x\n")
+                    date, serial = f"2601{1 + number % 28:02}000000Z", f"{number * 7919 + 16:08X}"
+                    index.write(f"R\t360101000000Z\t{date}\t{serial}\tunknown\t/CN=x\n")
             openssl(folder, "ca", "-gencrl", "-keyfile", "key", "-cert", "cert", "-out", "list", *of)
             openssl(folder, "crl", "-in", "list", "-outform", "DER", "-out", "list.crl")
             with open(os.path.join(folder, "list.crl"), "rb") as file:

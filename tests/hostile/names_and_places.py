@@ -1,6 +1,10 @@
 """Variants of a certificate in its names and places: general names, URIs, where objects lie, and names of issuers and
 subjects (RFC 5280 4.2.1.6 and A.1, RFC 6487 4.4 and 4.8.6 to 4.8.8, RFC 8182 3.2, RFC 8209 3.1.1)."""
-from certificate import *  # noqa: F403
+from certificate import (
+    AUTHORITY_ACCESS, CA_ISSUERS, COMMON, MANIFEST, NOTIFY, OBJECT, ORGANIZATION, POINT, PRINTABLE, REPOSITORY,
+    REVOCATION, SECURE, SERIAL, SIGNED, SUBJECT_ACCESS, UNKNOWN, UTF8, accesses, end_entity, of_names, oid, point, put,
+    router, subject, uri,
+)
 from der import sequence, tlv
 
 NO_NAME = "malformed general name"

@@ -1,8 +1,8 @@
 """Resources down a path (RFC 6487 7.2, RFC 8360 4.2.4): a trust anchor, an authority and an end entity, of which the
 lower two claim what a row says. The trust anchor has 192.0.2.0/24, 198.51.100.0/24, 2001:db8::/32, AS64496-AS64511 and
 AS65551."""
-import certificates
-from certificates import ADDRESSES, NUMBERS, OK_ANCHOR, OK_AUTHORITY, OK_ENTITY, chain, verified
+from certificate import ADDRESSES, ADDRESSES_V2, NUMBERS, NUMBERS_V2, POLICIES, POLICY_V2, oid, policies, policy
+from certificates import OK_ANCHOR, OK_AUTHORITY, OK_ENTITY, chain, verified
 from contents import INHERITED_ADDRESSES, INHERITED_NUMBERS, addresses, family, numbers, prefix
 from der import sequence
 
@@ -25,10 +25,10 @@ def trimmed(ip, numbers_):
     """The same with the policy and the extensions of RFC 8360."""
     def change(it):
         claims(ip, numbers_)(it)
-        it.put(certificates.POLICIES, certificates.policies(certificates.policy(certificates.POLICY_V2)))
-        for old, new in ((ADDRESSES, certificates.ADDRESSES_V2), (NUMBERS, certificates.NUMBERS_V2)):
-            if any(each.inside[0].inside == certificates.oid(old) for each in it.list.inside):
-                it.extension(old).inside[0].inside = certificates.oid(new)
+        it.put(POLICIES, policies(policy(POLICY_V2)))
+        for old, new in ((ADDRESSES, ADDRESSES_V2), (NUMBERS, NUMBERS_V2)):
+            if any(each.inside[0].inside == oid(old) for each in it.list.inside):
+                it.extension(old).inside[0].inside = oid(new)
     return change
 
 
@@ -85,7 +85,8 @@ def certificate_resources(programs):
         lower(third)
         octets = anchor.stamp() + second.stamp() + third.stamp()
         yield name, verified(programs, octets), (0, expected(authority, entity))
-    for name, change in (("addresses", claims(INHERITED_ADDRESSES, None)), ("numbers", claims(None, INHERITED_NUMBERS))):
+    inherited = {"addresses": claims(INHERITED_ADDRESSES, None), "numbers": claims(None, INHERITED_NUMBERS)}
+    for name, change in inherited.items():
         anchor, _, _ = chain()
         change(anchor)
         yield f"a trust anchor that inherits {name}", verified(programs, anchor.stamp()), (0, ["verify_ta error"])

@@ -1,6 +1,6 @@
 """What signed objects contain: manifests (RFC 9286 4.2), route origin attestations (RFC 9582 4) and attestations of
-providers (ASPA, version 1), made by X.690 alone: what they say, beginnings, contents of many sizes, and allocations that
-are refused."""
+providers (ASPA, version 1), made by X.690 alone: what they say, beginnings, contents of many sizes, and allocations
+that are refused."""
 import hashlib
 import ipaddress
 

@@ -8,7 +8,7 @@ from typing import NamedTuple
 TOP = os.path.dirname(os.path.dirname(os.path.dirname(os.path.abspath(__file__))))
 sys.path.append(os.path.join(TOP, "tests", "gate"))
 
-import unproved  # noqa: E402
+import unproved
 
 
 class Seen(NamedTuple):

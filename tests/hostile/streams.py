@@ -5,6 +5,7 @@ import signal
 import socket
 import subprocess
 import tempfile
+from functools import partial
 
 from programs import Seen, run
 from vectors import (
@@ -121,7 +122,7 @@ def unwritten(program, words, source, way):
     if way == "without a reader":
         reader, stream = os.pipe()
         os.close(reader)
-        ignore = lambda: signal.signal(signal.SIGPIPE, signal.SIG_IGN)
+        ignore = partial(signal.signal, signal.SIGPIPE, signal.SIG_IGN)
     else:
         path, flags = ("/dev/full", os.O_WRONLY) if way == "full" else (os.devnull, os.O_RDONLY)
         stream, ignore = os.open(path, flags), None

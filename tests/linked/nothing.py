@@ -66,8 +66,9 @@ def main():
         passed = list(arguments([" ".join(one.split()) for one in told.split(",")]))
         if "octets" in passed or any("room_of_none" in one for one in passed):
             calls.append(name)
-            print(f"static rpki_status make_{name}(const uint8_t *octets, uint8_t *room_of_none, unsigned char *room) {{\n"
-                  f"    (void)octets, (void)room_of_none, (void)room;\n    return {name}({', '.join(passed)});\n}}\n")
+            takes = "const uint8_t *octets, uint8_t *room_of_none, unsigned char *room"
+            print(f"static rpki_status make_{name}({takes}) {{\n    (void)octets, (void)room_of_none, (void)room;\n"
+                  f"    return {name}({', '.join(passed)});\n}}\n")
     print("static const struct {\n    const char *name;\n"
           "    rpki_status (*make)(const uint8_t *octets, uint8_t *room_of_none, unsigned char *room);\n} calls[] = {")
     print("".join(f'    {{"{name}", make_{name}}},\n' for name in calls), end="")

@@ -188,7 +188,7 @@ def time_of(value):
 
 
 def is_own_authority(found):
-    """The authority key identifier of a trust anchor is not there, or is the subject key identifier (RFC 6487 4.8.3)."""
+    """The authority key identifier of a trust anchor isn't there, or is the subject key identifier (RFC 6487 4.8.3)."""
     if not found.has("authority key"):
         return True
     own, subject = found.content("authority key", False), found.content("subject key", False)

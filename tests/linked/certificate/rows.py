@@ -18,8 +18,8 @@ import sys
 TOP = os.path.join(os.path.dirname(os.path.abspath(__file__)), "..", "..", "..")
 sys.path.insert(0, os.path.join(TOP, "tests", "hostile"))
 
-import certificates  # noqa: E402
-import profiles  # noqa: E402
+import certificates
+import profiles
 
 RSA = certificates.oid("1.2.840.113549.1.1.1")
 

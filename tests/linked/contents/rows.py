@@ -24,8 +24,8 @@ import tempfile
 HERE = os.path.dirname(os.path.abspath(__file__))
 sys.path[:0] = [os.path.join(HERE, "..", "resources"), os.path.join(HERE, "..", "..", "hostile")]
 
-import leftmost  # noqa: E402
-from der import bits, sequence, tlv, unsigned  # noqa: E402
+import leftmost
+from der import bits, sequence, tlv, unsigned
 
 (MANIFEST, NUMBER, THIS_UPDATE, NEXT_UPDATE, HASH_ALGORITHM, FILE_LIST, ORDER, ROA, AS_ID, BLOCKS, ASPA, VERSION,
  CUSTOMER, PROVIDERS) = range(138, 152)

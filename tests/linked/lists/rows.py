@@ -16,8 +16,8 @@ import sys
 HERE = os.path.dirname(os.path.abspath(__file__))
 sys.path[:0] = [os.path.join(HERE, "..", "resources"), os.path.join(HERE, "..", "..", "hostile")]
 
-import leftmost  # noqa: E402
-import lists  # noqa: E402
+import leftmost
+import lists
 
 AROUND, SIGNED, ALGORITHM, SIGNATURE, TBS, VERSION, TBS_ALGORITHM, ISSUER = 64, 65, 66, 67, 68, 69, 71, 72
 EXTENSIONS, SAME_ALGORITHM, THIS_UPDATE, NEXT_UPDATE, REVOKED = 76, 79, 120, 121, 122
@@ -206,7 +206,8 @@ def changed(octets, source):
 ONE = lists.entry(1)
 ENTRIES = [
     (b"", 0), (ONE, 0), (ONE + ONE, 0), (ONE + lists.entry(lists.HIGHEST), 0), (ONE[:-1], leftmost.TRUNCATED),
-    (ONE + b"\x30", leftmost.TRUNCATED), (b"\x31" + ONE[1:], leftmost.UNEXPECTED), (ONE + b"\x05\x00", leftmost.UNEXPECTED),
+    (ONE + b"\x30", leftmost.TRUNCATED), (b"\x31" + ONE[1:], leftmost.UNEXPECTED),
+    (ONE + b"\x05\x00", leftmost.UNEXPECTED),
     (b"\x00\x00", leftmost.BAD_TAG), (ONE + b"\x30\x80\x00\x00", leftmost.BAD_LENGTH),
     (lists.sequence(lists.unsigned(1)), leftmost.TRUNCATED), (lists.entry(1, more=b"\x05\x00"), leftmost.TRAILING),
     (lists.sequence(lists.integer(b"\x80"), lists.time(lists.REVOKED)), leftmost.CONTENT),

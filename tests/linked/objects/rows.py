@@ -19,9 +19,9 @@ import tempfile
 HERE = os.path.dirname(os.path.abspath(__file__))
 sys.path[:0] = [os.path.join(HERE, "..", "resources"), os.path.join(HERE, "..", "..", "hostile")]
 
-import leftmost  # noqa: E402
-import lists  # noqa: E402
-import objects  # noqa: E402
+import leftmost
+import lists
+import objects
 
 (OBJECT, TYPE, DATA, VERSION, DIGESTS, CONTENT, CERTIFICATES, SIGNERS, SIGNER, SIGNER_VERSION, IDENTIFIER, DIGEST,
  ATTRIBUTES, ALGORITHM, SIGNATURE) = range(123, 138)

@@ -42,7 +42,8 @@ def contents(folder, extension, lines):
     words = ["openssl", "req", "-x509", "-config", file, "-newkey", "rsa:1024", "-nodes", "-subj", "/CN=a"]
     key = os.path.join(folder, "key")
     made = subprocess.run([*words, "-keyout", key, "-outform", "DER"], capture_output=True, check=True).stdout
-    shown = subprocess.run(["openssl", "asn1parse", "-inform", "DER"], input=made, capture_output=True, check=True).stdout
+    words = ["openssl", "asn1parse", "-inform", "DER"]
+    shown = subprocess.run(words, input=made, capture_output=True, check=True).stdout
     found = re.search(extension.encode() + rb"\n.*OCTET STRING +\[HEX DUMP\]:([0-9A-F]+)", shown)
     return found[1].decode().lower() if found else "no extension"
 

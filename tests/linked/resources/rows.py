@@ -21,10 +21,10 @@ import sys
 TOP = os.path.join(os.path.dirname(os.path.abspath(__file__)), "..", "..", "..")
 sys.path[1:1] = [os.path.join(TOP, "tests", "hostile"), os.path.join(TOP, "tests", "linked", "certificate")]
 
-import leftmost  # noqa: E402
-import rfc3779  # noqa: E402
-from der import sequence, tlv, unsigned  # noqa: E402
-from resources import ADDRESSES, SIZE, STARTS, WIDTHS, block, blocks_of, is_prefix, random_set  # noqa: E402
+import leftmost
+import rfc3779
+from der import sequence, tlv, unsigned
+from resources import ADDRESSES, SIZE, STARTS, WIDTHS, block, blocks_of, is_prefix, random_set
 
 SEED, PAIRS, CHANGES, SETS = 3779, 1000, 4000, 300
 NAMES = {b"\0\1": 4, b"\0\2": 6}
