@@ -1,6 +1,8 @@
 #!/usr/bin/env python3
-"""Counts the instructions of one call of the C library, and of plain C with the same checks, by callgrind: the same on
-a busy machine as on an idle one. The calls are those that bench/linked.c makes on a certificate and its parts.
+"""Counts the instructions of one call of the C library, and of plain C with the same checks, and the branches that
+would be mispredicted, by callgrind and its predictor: the same on a busy machine as on an idle one. The calls are those
+that bench/linked.c makes on a certificate and its parts, and on certificates that differ. Each line has instructions,
+how many times those of plain C they are, mispredicted branches, and how many times those of plain C they are.
 
 usage: bench/instructions.py            (after bindings/archive; needs valgrind)"""
 import os
@@ -28,18 +30,31 @@ BATCH = 100
 
 
 def counted(program, name, count):
-    """The instructions of a run that makes so many of these calls."""
+    """The instructions and the mispredicted branches of a run that makes so many of these calls."""
     batch = os.path.join(os.path.dirname(program), "certificates")
-    words = ["valgrind", "--tool=callgrind", "--callgrind-out-file=/dev/null", program, CERTIFICATE, batch, "--calls"]
-    ran = subprocess.run([*words, name, str(count)], capture_output=True, text=True)
-    found = re.search(r"Collected : (\d+)", ran.stderr)
-    return int(found.group(1)) if ran.returncode == 0 and found else None
+    words = ["valgrind", "--tool=callgrind", "--callgrind-out-file=/dev/null", "--branch-sim=yes", program]
+    words += [CERTIFICATE, batch, "--calls", name, str(count)]
+    ran = subprocess.run(words, capture_output=True, text=True)
+    # instructions; conditional branches, and those mispredicted; indirect ones, and those mispredicted
+    found = re.search(r"Collected : (\d+) \d+ (\d+) \d+ (\d+)", ran.stderr)
+    if ran.returncode != 0 or not found:
+        return None
+    instructions, conditional, indirect = map(int, found.groups())
+    return instructions, conditional + indirect
 
 
 def a_call(program, name):
-    """The instructions of one call, where it can be made here."""
+    """The instructions and the mispredicted branches of one call, where it can be made here."""
     few, many = (counted(program, name, count) for count in (FEW, MANY))
-    return None if few is None or many is None else (many - few) / (MANY - FEW)
+    if few is None or many is None:
+        return None
+    return [(more - less) / (MANY - FEW) for less, more in zip(few, many)]
+
+
+def shown(name, took, least):
+    """A line: what a call takes, and how many times what plain C takes."""
+    times = [one / other if other else float("nan") for one, other in zip(took, least)]
+    return f"{name:<34}{took[0]:>12.0f}{times[0]:>10.2f}{took[1]:>12.1f}{times[1]:>10.2f}"
 
 
 def main():
@@ -55,10 +70,9 @@ def main():
             least = a_call(program, plain)
             if least is None:
                 continue
-            print(f"{plain:<34}{least:>12.0f}")
+            print(shown(plain, least, least))
             for name in calls:
-                took = a_call(program, name)
-                print(f"{name:<34}{took:>12.0f}{took / least:>10.2f}", flush=True)
+                print(shown(name, a_call(program, name), least), flush=True)
 
 
 if __name__ == "__main__":
