@@ -5,6 +5,8 @@
 #   make install      header, archive, shared library, rpki.pc, the page rpki(3)
 #                     [PREFIX=/usr/local] [LIBDIR=PREFIX/lib] [MANDIR=PREFIX/share/man] [DESTDIR=]
 #   make uninstall    removes these, by the same variables
+#   make install-program     in a clone: rpkicert and the page rpkicert(1) [PROGRAM=where it was built, BINDIR=PREFIX/bin]
+#   make uninstall-program
 #   make dist         in a clone: the package, in bindings/out/dist [ARCHIVES=FOLDER of archives that were made]
 #
 # In a clone bindings/archive makes the archive, which needs the toolchain; a package has it, in lib/TARGET, and needs a
@@ -17,6 +19,8 @@ PREFIX ?= /usr/local
 INCLUDEDIR ?= $(PREFIX)/include
 LIBDIR ?= $(PREFIX)/lib
 MANDIR ?= $(PREFIX)/share/man
+BINDIR ?= $(PREFIX)/bin
+PROGRAM ?= crates/rpkicert/out/rpkicert
 RUN ?=
 
 VERSION := $(shell sed -n 's/^.define RPKI_VERSION_[A-Z]* \([0-9]*\)$$/\1/p' include/rpki.h | paste -s -d .)
@@ -35,7 +39,7 @@ PAGE := $(if $(wildcard bindings/page),$(BUILD)/rpki.3,man/rpki.3)
 COMPILE := $(CC) -std=c99 -Wall -Wextra -O1 -Iinclude
 WRAPS := -Wl,--wrap=malloc,--wrap=realloc,--wrap=free
 
-.PHONY: all check install uninstall dist clean
+.PHONY: all check install uninstall install-program uninstall-program dist clean
 .DELETE_ON_ERROR:
 
 all: $(ARCHIVE) $(SHARED) $(PAGE)
@@ -88,6 +92,15 @@ uninstall:
 	rm -f $(DESTDIR)$(INCLUDEDIR)/rpki.h $(INSTALLED)/pkgconfig/rpki.pc $(INSTALLED)/librpki.a
 	rm -f $(INSTALLED)/librpki.so $(INSTALLED)/librpki.so.$(MAJOR) $(INSTALLED)/librpki.so.$(VERSION)
 	rm -f $(DESTDIR)$(MANDIR)/man3/rpki.3
+
+# `rt run` in crates/rpkicert proves and builds it, tests/gate/unproved.py builds it without proof.
+install-program:
+	install -d $(DESTDIR)$(BINDIR) $(DESTDIR)$(MANDIR)/man1
+	install -m 755 $(PROGRAM) $(DESTDIR)$(BINDIR)/rpkicert
+	install -m 644 crates/rpkicert/rpkicert.1 $(DESTDIR)$(MANDIR)/man1/rpkicert.1
+
+uninstall-program:
+	rm -f $(DESTDIR)$(BINDIR)/rpkicert $(DESTDIR)$(MANDIR)/man1/rpkicert.1
 
 dist:
 	bindings/package $(ARCHIVES)

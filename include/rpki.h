@@ -807,7 +807,7 @@ rpki_status rpki_certificate_inspect(const uint8_t *octets, size_t size, uint8_t
 /*
  * Reads a resource certificate once for all that the three calls above say: writes what rpki_certificate writes to
  * `parts` and what rpki_certificate_extensions writes to `extensions`, and holds the certificate to the profile of this
- * number. Takes no memory.
+ * number, an RPKI_CERTIFICATE_ constant. Takes no memory.
  *
  * RPKI_NO_PROFILE: no profile has the number; then the octets are not looked at. Else, where the status is not 0, it is
  * the first that rpki_certificate, rpki_certificate_extensions and rpki_certificate_inspect have, in this order. Where
