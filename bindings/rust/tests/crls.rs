@@ -16,11 +16,11 @@ const LIST: &str =
 const ERRORS: [(usize, CrlError, &str); 13] = [
     (64, CrlError::List, "not a revocation list"),
     (65, CrlError::Signed, "malformed signed data"),
-    (66, CrlError::Algorithm, "malformed signature algorithm"),
+    (66, CrlError::Algorithm, "signature algorithm is not the RPKI's"),
     (67, CrlError::Signature, "malformed signature"),
     (68, CrlError::Tbs, "malformed revocation list"),
     (69, CrlError::Version, "other version"),
-    (71, CrlError::TbsAlgorithm, "malformed algorithm"),
+    (71, CrlError::TbsAlgorithm, "signed algorithm is not the RPKI's"),
     (72, CrlError::Issuer, "malformed issuer"),
     (76, CrlError::Extensions, "malformed extensions"),
     (79, CrlError::SameAlgorithm, "signature algorithms differ"),

@@ -71,11 +71,11 @@ impl fmt::Display for CrlError {
         f.write_str(match self {
             CrlError::List => "not a revocation list",
             CrlError::Signed => "malformed signed data",
-            CrlError::Algorithm => "malformed signature algorithm",
+            CrlError::Algorithm => "signature algorithm is not the RPKI's",
             CrlError::Signature => "malformed signature",
             CrlError::Tbs => "malformed revocation list",
             CrlError::Version => "other version",
-            CrlError::TbsAlgorithm => "malformed algorithm",
+            CrlError::TbsAlgorithm => "signed algorithm is not the RPKI's",
             CrlError::Issuer => "malformed issuer",
             CrlError::ThisUpdate => "malformed time of issue",
             CrlError::NextUpdate => "malformed time of the next list",
