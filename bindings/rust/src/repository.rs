@@ -9,3 +9,6 @@ pub mod resources;
 pub mod roa;
 pub mod sigobj;
 pub mod x509;
+
+pub use self::cert::Cert;
+pub use self::crl::Crl;
