@@ -6,7 +6,7 @@ pub const USAGE: &[u8] =
 [--issuer FILE] [--at MOMENT] FILE..\n";
 
 /// The program's name and version.
-pub const VERSION: &[u8] = b"rpkicert 0.1.0\n";
+pub const VERSION: &[u8] = b"rpkicert 0.2.0\n";
 
 /// What is said where allocation fails.
 pub const OUT_OF_MEMORY: &[u8] = b"rpkicert: out of memory\n";
