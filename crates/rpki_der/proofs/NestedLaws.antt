@@ -14,6 +14,7 @@ use Rattle.rpki_der.specs.Each.{SpellsEach}
 use Rattle.rpki_der.specs.Members.{Members, Empty, Primitive, Constructed, spell, HaveHeaders, count}
 use Rattle.rpki_der.specs.Members.{IsValue, IsValueList}
 use Rattle.rpki_der.specs.Members.{SpellsValue}
+use Rattle.rpki_der.specs.ValueListLaws.{primitive_value_list}
 use Rattle.rpki_der.specs.Walk.{SpellsAnyValue}
 use Rattle.rpki_der.specs.NestedFault.{IsNestedFault, AtHeader, AtContents, Inside}
 use Rattle.rpki_der.specs.Headed.{AreHeaded, StopsBefore, HasNestedFault}
@@ -426,6 +427,13 @@ nested-found s q v x a is list =
     let one = one-value x a.spells.front a.spells.spelled (subst IsValueList is list) in
     any-accepted (subst (λ (y : List ℕ). Accepts SpellsValue y a.spells.front q) (sym a.spells.parts)
     (value-accepted a.spells.front q one))
+
+-- a primitive value has nothing nested in it
+pub primitive-found : (s q c : List ℕ) (t : TagName) → Accepts Any s (t, false, c) q → Accepts SpellsAnyValue s tt q
+primitive-found s q c t a =
+    let v = a.spells.spelled.value in
+    nested-found s q a.spells.front (t, false, c) a refl
+    (subst IsValueList (sym v.octets) (primitive_value_list t c v.tag v.fits))
 
 pub nested-missed : (s q v : List ℕ) (x : Parts) (e : DecodeError) (a : Accepts Any s x q) → v ≡ a.spells.front
     → HasNestedFault v e → IsNestedFault s e

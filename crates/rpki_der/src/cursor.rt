@@ -196,9 +196,12 @@ impl<'a> Constructed<'a> {
         self.rest() == expected
     }
 
-    /// Keeps a part of the octets that are left: that which stands before what is left of another cursor.
+    /// Keeps a part of the octets that are left: that which stands before what is left of another cursor. An allocator
+    /// copies it, and [Shared](crate::Shared) shares it; requires that `keep` can keep parts of what is left.
+    ///
+    /// Returns `AllocError` if allocation fails.
     #[tactic(auto, unfolding(crate::specs::Cursor::left))]
-    pub(crate) fn keep_part<K: Keep>(
+    pub fn keep_part<K: Keep>(
         &self,
         keep: K,
         part: &[u8],

@@ -2,7 +2,7 @@
 //!
 //! Headers are visited from the left, each once, and nothing is kept of the values that are open: at the header of a
 //! constructed value its contents are tiled first, which are values one after another by their headers alone. So each
-//! header is read twice at most. Where the tiles end early there is a fault: the headers before it are visited all the
+//! header is read twice at most, and that of a primitive value alone once. Where the tiles end early there is a fault: the headers before it are visited all the
 //! same, and none after it, so that the last fault that is found is the leftmost.
 
 ghost use Rattle.std.specs.Prelude.{IfOk, IfErr, IfSome, IfNone};
@@ -73,7 +73,11 @@ impl<'a> Constructed<'a> {
         }
         let mut after = *self;
         match after.take_value() {
-            Ok(_) => {}
+            Ok((_, Content::Primitive(_))) => {
+                *self = after;
+                return Ok(Some(()));
+            }
+            Ok((_, Content::Constructed(_))) => {}
             Err(e) => return Err(e),
         }
         let (value, following) = self.split_at(self.len() - after.len());
