@@ -4,6 +4,7 @@ use Rattle.std.proofs.Common.{take, length, refl, sym, ap, subst, ◌∙◌, app
 use Rattle.std.proofs.lemmas.List.{append-nil, take_at, append_cancel_right}
 use Rattle.rpki_der.specs.Prelude.{TagName, sequence, set, oid, Spells, Accepts, Refuses, SpellsNothing}
 use Rattle.rpki_der.specs.Prelude.{SpellsLeaf, IsOidOf, IsValue, IsValueList}
+use Rattle.rpki_der.specs.Standing.{StandsBefore}
 use Rattle.rpki_der.proofs.MembersLaws.{value-some}
 use Rattle.rpki_der.specs.Prelude.{SpellsAnyValue, values_append, no_values}
 use Rattle.rpki_der.proofs.LeafValueLaws.{leaf-value-alone, composed-value-alone, leaf-nowhere}
@@ -238,6 +239,13 @@ name-borrowed s r o p a x y =
           in
           (sym h.spelled.same ∙ append_cancel_right h.front f r whole, g.1);
     })
+
+-- they stand before what is left
+pub name-stands : {s v r : List ℕ} → Spells SpellsNameOctets s v r → StandsBefore s v r
+name-stands {s} {v} {r} h = record {
+  before = [];
+  parts = h.parts ∙ ap (λ (f : List ℕ). f ++ r) h.spelled.same;
+}
 
 -- a name has an attribute, which has a value
 

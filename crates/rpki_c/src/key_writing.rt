@@ -151,7 +151,7 @@ pub extern "C" fn rpki_name_of_key(
         Err(e) => return key_status(octets, e),
     };
     match Name::from_pub_key(alloc, &Digests, &key) {
-        Ok(name) => store(name.encode_ref().as_slice(), out, written),
+        Ok(name) => store(name.view().octets(), out, written),
         Err(_) => OUT_OF_MEMORY,
     }
 }

@@ -69,8 +69,8 @@ impl TbsCert {
         let extensions = ExtensionSource::Kept(self.extensions());
         Inspected {
             serial_number: self.serial_number(),
-            issuer: NameView::new(self.issuer().encode_ref().as_slice()),
-            subject: NameView::new(self.subject().encode_ref().as_slice()),
+            issuer: self.issuer().view(),
+            subject: self.subject().view(),
             validity: self.validity(),
             key: kept_key(self.subject_public_key_info()),
             values: ExtensionValues::of(&extensions),

@@ -356,7 +356,7 @@ fn subject(alloc: Global) -> Result<Name, Fail> {
 #[test]
 fn names_of_keys_are_strict(rt: HostRuntime) -> Result<(), Fail> {
     let name = subject(rt.alloc())?;
-    assert_eq!(rt; name.encode_ref().as_slice(), SUBJECT);
+    assert_eq!(rt; name.view().octets(), SUBJECT);
     assert!(rt; name.inspect_rpki(true).is_ok(), "a name of the RPKI");
     assert!(rt; name.inspect_router(true).is_ok(), "a name of a router");
     Ok(())

@@ -370,7 +370,7 @@ fn names_are_read_one_by_one(rt: HostRuntime) -> Result<(), Fail> {
     ]);
     let mut cons = Constructed::new(&source);
     match Name::take_from(rt.alloc(), &mut cons) {
-        Ok(name) => assert_eq!(rt; name.encode_ref().as_slice(), NAME.as_slice()),
+        Ok(name) => assert_eq!(rt; name.view().octets(), NAME.as_slice()),
         Err(_) => return Err("refused".into()),
     }
     assert_eq!(rt; cons.rest(), [0x05, 0x00].as_slice());

@@ -13,6 +13,7 @@ ghost use Rattle.rpki.specs.StrictNameWithoutOrganization.{IsRpkiNameWithoutOrga
 ghost use Rattle.rpki.specs.StrictNameWithoutOrganization.{IsRouterNameWithoutOrganization};
 
 mod attributes;
+mod encoder;
 mod grammar;
 mod inspection;
 mod rule;
@@ -25,14 +26,14 @@ pub use self::rule::NameRule;
 pub use self::view::NameView;
 use crate::repository::error::InspectionError;
 use bytes::Bytes;
-use rpki_der::{Captured, Constructed, DecodeError, Keep, Shared};
+use rpki_der::{Constructed, DecodeError, Keep, Shared};
 use std::alloc::{AllocError, Global};
 use std::marker::Model;
 
 /// A name, as the octets that it was read from.
 #[derive(Debug, Drop)]
 pub struct Name {
-    captured: Captured,
+    octets: Bytes,
 }
 
 impl Model for Name {
@@ -41,18 +42,18 @@ impl Model for Name {
 
     ghost Value = { List ℕ };
 
-    ghost view = { λ x. x.captured };
+    ghost view = { λ x. x.octets };
 
-    ghost invariant = { λ x. IsName x.captured };
+    ghost invariant = { λ x. IsName x.octets };
 }
 
 impl Name {
     /// The name that these octets are.
-    pub(super) fn of_captured(captured: Captured) -> Name
-        requires { IsName captured }
-        ensures { result ≡ captured }
+    pub(super) fn of_octets(octets: Bytes) -> Name
+        requires { IsName octets }
+        ensures { result ≡ octets }
     {
-        Name { captured }
+        Name { octets }
     }
 
     /// A name, and nothing else. It shares the octets.
@@ -90,15 +91,18 @@ impl Name {
         requires { K.holds keep (left cons.old) }
         ensures { Takes (λ n. n) name (left cons.old) (left cons.new) result }
     {
-        let captured = cons.capture(keep, |cons| skip_name(cons))?;
-        Ok(Name { captured })
+        let mut after = *cons;
+        let name = NameView::take_from(&mut after)?;
+        let octets = cons.keep_part(keep, name.octets(), &after)?;
+        *cons = after;
+        Ok(name.kept(octets))
     }
 
     /// The name in place, which borrows its octets.
     pub fn view(&self) -> NameView<'_>
         ensures { result ≡ self.now }
     {
-        NameView::new(self.captured.as_slice())
+        NameView::new(self.octets.as_slice())
     }
 
     /// Tests that the name is one of a certificate of the RPKI, as [Name::inspect_rpki] does; returns the rule that it
@@ -165,27 +169,29 @@ impl Name {
     }
 
     /// An encoder for the name: its original octets.
-    pub fn encode_ref(&self) -> &Captured
-        ensures octets { result.now ≡ self.now }
-        ensures named { IsName result.now }
-        ensures one { IsValue result.now }
+    pub fn encode_ref(&self) -> NameView<'_>
+        ensures octets { result ≡ self.now }
+        ensures named { IsName result }
+        ensures one { IsValue result }
         // The encoding is read as the same name.
-        ensures read_back { SpellsNameOctets self.now result.now }
+        ensures read_back { SpellsNameOctets self.now result }
         // They have one reading.
-        ensures one_reading { (x y : List (List Attribute)) → SpellsName x result.now → SpellsName y result.now
-            → x ≡ y }
+        ensures one_reading { (x y : List (List Attribute)) → SpellsName x result → SpellsName y result → x ≡ y }
     {
-        &self.captured
+        let name = self.view();
+        // its clauses say that these are a name, and one value
+        let _ = name.octets();
+        name
     }
 
-    /// Returns a copy of the name that shares its octets and copies the index of their headers.
+    /// Returns a copy of the name that shares its octets.
     ///
     /// Returns `AllocError` if allocation fails.
     pub fn clone(&self) -> Result<Name, AllocError>
         ensures { IfOk result (λ n. n ≡ self.now) }
     {
-        let captured = self.captured.clone()?;
-        Ok(Name { captured })
+        let octets = self.octets.clone()?;
+        Ok(Name { octets })
     }
 }
 
@@ -201,7 +207,7 @@ impl PartialEq for Name {
     ghost laws = { partial_equiv_from_equiv nat_list_eq_equiv };
 
     fn eq(&self, other: &Self) -> bool {
-        self.captured.as_slice() == other.captured.as_slice()
+        self.octets.as_slice() == other.octets.as_slice()
     }
 }
 

@@ -60,8 +60,8 @@ impl Name {
         ensures strict { IfOk result (λ n. IsRpkiName n × IsRouterName n) }
     {
         let written = key.encode_subject_name(provider);
-        let captured = Captured::from_values(alloc, &written)?;
-        Ok(Name::of_captured(captured))
+        let name = Captured::from_values(alloc, &written)?;
+        Ok(Name::of_octets(name.into_bytes()))
     }
 }
 

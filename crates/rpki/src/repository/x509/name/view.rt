@@ -1,17 +1,19 @@
 //! Names, read in place (RFC 5280 4.1.2.4, RFC 6487 4.4).
 
 ghost use Rattle.std.specs.Prelude.{◌≡◌, List, MatchResult};
-ghost use Rattle.rpki_der.specs.Prelude.{left, Takes};
+ghost use Rattle.rpki_der.specs.Prelude.{left, Takes, IsValue};
 ghost use Rattle.rpki.specs.Name.{Attribute, IsName, SpellsName};
 ghost use Rattle.rpki.specs.NameAttributes.{marked_attributes, AreLeft};
 ghost use Rattle.rpki.specs.NameFault.{borrowed_name};
 ghost use Rattle.rpki.specs.NameRule.{BreaksRpkiRule, BreaksRouterRule};
 ghost use Rattle.rpki.specs.StrictName.{IsRpkiName, IsRouterName};
 
+use super::Name;
 use super::attributes::Attributes;
 use super::grammar::skip_name;
 use super::inspection::Profile;
 use super::rule::NameRule;
+use bytes::Bytes;
 use rpki_der::{Constructed, DecodeError};
 use std::marker::Model;
 
@@ -60,8 +62,19 @@ impl<'a> NameView<'a> {
     pub fn octets(&self) -> &'a [u8]
         ensures octets { result.now ≡ self.now }
         ensures named { IsName result.now }
+        ensures one { IsValue result.now }
     {
         self.octets
+    }
+
+    /// The name, of octets that were kept. Requires that they are those of the name.
+    pub fn kept(&self, octets: Bytes) -> Name
+        requires { octets ≡ self.now }
+        ensures { result ≡ self.now }
+    {
+        // its clause says that these are a name
+        let _ = self.octets();
+        Name::of_octets(octets)
     }
 
     /// The attributes of the name, in order: those of each relative distinguished name, of which the first is marked.

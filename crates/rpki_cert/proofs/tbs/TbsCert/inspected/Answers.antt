@@ -4,8 +4,8 @@ use Rattle.rpki_cert.proofs.tbs.TbsCert.inspected.Goals as goal
 pub returns : goal.returns
 returns c = record {
   serial = c.serial_number.ensures;
-  issuer = c.new.ensures ∙ c.as_slice.ensures ∙ c.encode_ref.ensures.octets ∙ c.issuer.ensures;
-  subject = c.new-2.ensures ∙ c.as_slice-2.ensures ∙ c.encode_ref-2.ensures.octets ∙ c.subject.ensures;
+  issuer = c.view.ensures ∙ c.issuer.ensures;
+  subject = c.view-2.ensures ∙ c.subject.ensures;
   validity = c.validity.ensures;
   key = c.kept_key.ensures ∙ c.subject_public_key_info.ensures;
   extensions = c.extensions.ensures;
