@@ -1,12 +1,14 @@
 -- Public keys that are written, and the bits of RSA keys.
 use Rattle.std.proofs.Common.{◌≡◌, ◌↔◌, ℕ, ◌+◌, ◌<◌, ◌≤◌, ◌^◌, true, false, List, [], ◌∷◌, ◌++◌, length, refl, sym}
 use Rattle.std.proofs.Common.{Result, ap}
-use Rattle.std.proofs.Common.{◌∙◌, arith, lit<, length-append}
+use Rattle.std.proofs.Common.{◌∙◌, arith, lit<, length-append, append-nil}
 use Rattle.rpki_der.specs.declared.error.DecodeError.{DecodeError}
 use Rattle.rpki_der.specs.Prelude.{IsTag, oid, null, sequence, bit_string, integer, tlv, Spells, SpellsNothing}
 use Rattle.rpki_der.specs.Prelude.{UnlessMemory, TakesNoMemory, IsWholeFault, Bits}
 use Rattle.rpki_der.specs.Prelude.{bits_of, bits_contents, IsUnsigned, IsMagnitude, unsigned_contents, number_of}
-use Rattle.rpki_der.specs.Prelude.{AreOctets, sequence_legal}
+use Rattle.rpki_der.specs.Prelude.{AreOctets, sequence_legal, SpellsContents}
+use Rattle.rpki_der.specs.Standing.{StandsBefore}
+use Rattle.rpki_der.proofs.KeepLaws.{contents-stand, inner-stands}
 use Rattle.rpki_der.proofs.ReadingLaws.{UnlessMemory-weaker}
 use Rattle.rpki_der.proofs.EncodeLaws.{leaf-legal, tlv-same, tlv-same-then, tlv-at-least, tlv_at_most, bits-same}
 use Rattle.rpki_der.proofs.UnsignedLaws.{unsigned-spelled, unsigned-at-most, magnitude-at-most}
@@ -18,7 +20,7 @@ use Rattle.rpki_der.proofs.FormatLaws.{takes-said}
 use Rattle.rpki.specs.AlgorithmFault.{key_format}
 use Rattle.rpki.specs.KeyFormat.{format_contents, format_octets}
 use Rattle.rpki.specs.PublicKey.{KeyParts, key_of, key_contents, key_octets, AreRsaNumbers}
-use Rattle.rpki.specs.PublicKey.{SpellsRsaNumbers, SpellsRsaBits, IsRsaKey}
+use Rattle.rpki.specs.PublicKey.{SpellsKey, SpellsRsaNumbers, SpellsRsaBits, IsRsaKey}
 use Rattle.rpki.specs.KeyFault.{rsa_bits}
 use Rattle.rpki.proofs.FormatLaws.{format-short}
 
@@ -84,6 +86,20 @@ key-said B =
     takes-said (λ k. k) (λ k. (then key_format B).spells (key_pair k)) (then key_format (only B)) key_pair
     (λ k s h. h) (λ k s h. h)
     (λ k l e. same-key k l (ap (λ (p : PublicKeyFormat × Bits). p.0) e) (ap (λ (p : PublicKeyFormat × Bits). p.1) e))
+
+-- its bits end where it ends
+pub bits-stand : {s r : List ℕ} {k : KeyParts} → Spells SpellsKey s k r → StandsBefore s k.bits.octets r
+bits-stand {s} {r} {k} h =
+    let c = h.spelled.contents in
+    let pair = h.spelled.spelled in
+    let bits = pair.two in
+    let whole : Spells (SpellsContents sequence true) s c r = record
+    { front = h.front; parts = h.parts; spelled = h.spelled.value } in
+    let last : Spells (SpellsContents bit_string false) pair.second bits.contents [] = record
+    { front = pair.second; parts = sym (append-nil pair.second); spelled = bits.value } in
+    inner-stands (contents-stand sequence true s c r pair.first pair.second whole pair.parts)
+    (contents-stand bit_string false pair.second bits.contents [] (k.bits.unused ∷ []) k.bits.octets last
+    bits.spelled.contents)
 
 -- ---- the bits of RSA keys
 

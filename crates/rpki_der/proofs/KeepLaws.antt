@@ -103,6 +103,19 @@ contents-stand t f s c r first part h is =
           append_assoc (head ++ first) part r;
     }
 
+-- a part of a part
+pub inner-stands : {s part rest inner more : List ℕ} → StandsBefore s part rest → StandsBefore part inner more
+    → StandsBefore s inner (more ++ rest)
+inner-stands {s} {part} {rest} {inner} {more} h k =
+    let front : List ℕ = k.before in
+    let split : (front ++ (inner ++ more)) ++ rest ≡ front ++ (inner ++ (more ++ rest)) =
+    append_assoc front (inner ++ more) rest ∙ ap (λ (x : List ℕ). front ++ x) (append_assoc inner more rest) in
+    record {
+      before = h.before ++ front;
+      parts = h.parts ∙ ap (λ (x : List ℕ). h.before ++ (x ++ rest)) k.parts
+          ∙ ap (λ (x : List ℕ). h.before ++ x) split ∙ sym (append_assoc h.before front (inner ++ (more ++ rest)));
+    }
+
 -- what follows the first octet of a list
 pub tail-of : (s c : List ℕ) → s ≡ c → take (length s - 1) (drop 1 s) ≡ drop 1 c
 tail-of s c is = take_all (length s - 1) (drop 1 s) (omega (arith, length-drop 1 s)) ∙ ap (drop 1) is

@@ -80,7 +80,7 @@ module _ {A B : Type 0} (F : Format A) (P : Format B) (l : IsLawful F) (p : IsLa
 -- ---- values
 
 -- a value of a tag and form has one header, and so one end
-contents-one : (t : TagName) (f : Bool) (s c d r q : List ℕ) → Spells (SpellsContents t f) s c r
+pub contents-one : (t : TagName) (f : Bool) (s c d r q : List ℕ) → Spells (SpellsContents t f) s c r
     → Spells (SpellsContents t f) s d q → (c ≡ d) × (r ≡ q)
 contents-one t f s c d r q g h =
     let i = one-header s _ _ (c ++ r) (d ++ q) (value-header t f s c r g) (value-header t f s d q h) in

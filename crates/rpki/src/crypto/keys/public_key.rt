@@ -1,11 +1,11 @@
 //! Public keys: a format, and bits.
 
 ghost use Rattle.std.specs.Prelude.{◌≡◌, ◌↔◌, ◌<◌, ◌^◌, length, IsTrue, IfOk};
-ghost use Rattle.rpki_der.specs.Prelude.{left, Takes, TakesAll, TakesWhole, CanShare, AreBits, bits_of};
+ghost use Rattle.rpki_der.specs.Prelude.{left, Takes, TakesWhole, CanShare, AreBits, bits_of};
 ghost use Rattle.rpki.specs.PublicKey.{KeyParts, key_of, SpellsKey, key_octets, IsShortKey, IsKeyApart};
-ghost use Rattle.rpki.specs.KeyFault.{key, key_parts};
+ghost use Rattle.rpki.specs.KeyFault.{key};
 
-use super::{KeyIdentifier, PublicKeyFormat, PublicKeyFormatEncoder};
+use super::{KeyIdentifier, PublicKeyFormat, PublicKeyFormatEncoder, PublicKeyView};
 use crate::crypto::Provider;
 use crate::crypto::digest::sha1_digest;
 use bytes::Bytes;
@@ -40,14 +40,22 @@ impl Model for PublicKey {
 }
 
 impl PublicKey {
+    /// The key of this format with these octets as its bits, of whose last this many are not used.
+    pub(super) fn of_parts(algorithm: PublicKeyFormat, unused: u8, octets: Bytes) -> PublicKey
+        requires { AreBits (bits_of unused octets) }
+        ensures { result ≡ key_of algorithm (bits_of unused octets) }
+    {
+        PublicKey {
+            algorithm,
+            bits: BitString::new(unused, octets),
+        }
+    }
+
     /// The RSA key with these octets as its bits, all of which are used.
     pub(super) fn of_bits(bytes: Bytes) -> PublicKey
         ensures { result ≡ key_of PublicKeyFormat.Rsa (bits_of 0 bytes) }
     {
-        PublicKey {
-            algorithm: PublicKeyFormat::Rsa,
-            bits: BitString::new(0, bytes),
-        }
+        PublicKey::of_parts(PublicKeyFormat::Rsa, 0, bytes)
     }
 
     /// The format.
@@ -141,17 +149,11 @@ impl PublicKey {
         requires { K.holds keep (left cons.old) }
         ensures { Takes (λ k. k) key (left cons.old) (left cons.new) result }
     {
-        cons.in_sequence_with(
-            keep,
-            |contents, keep|
-                requires { K.holds keep (left contents.old) }
-                ensures { TakesAll (λ k. k) key_parts (left contents.old) (left contents.new) result }
-            {
-                let algorithm = PublicKeyFormat::take_from(contents)?;
-                let bits = contents.take_bit_string(keep)?;
-                Ok(PublicKey { algorithm, bits })
-            },
-        )
+        let mut after = *cons;
+        let key = PublicKeyView::take_from(&mut after)?;
+        let octets = cons.keep_part(keep, key.bits(), &after)?;
+        *cons = after;
+        Ok(key.kept(octets))
     }
 
     /// An encoder for the key (SubjectPublicKeyInfo, RFC 5280 4.1), which it owns.

@@ -4,9 +4,10 @@ ghost use Rattle.std.specs.Prelude.{◌≡◌, length};
 ghost use Rattle.rpki_der.specs.Prelude.{left, Takes, TakesAll, AreBits};
 ghost use Rattle.rpki.specs.KeyFault.{key_view, key_view_parts};
 
-use super::{KeyIdentifier, PublicKeyFormat};
+use super::{KeyIdentifier, PublicKey, PublicKeyFormat};
 use crate::crypto::Provider;
 use crate::crypto::digest::sha1_digest;
+use bytes::Bytes;
 use rpki_der::{BitSlice, Constructed, DecodeError};
 use std::marker::Model;
 
@@ -66,6 +67,14 @@ impl<'a> PublicKeyView<'a> {
         ensures { result.now ≡ self.now.bits.octets }
     {
         self.bits.octet_slice()
+    }
+
+    /// The key, of octets that were kept. Requires that they are those of its bits.
+    pub fn kept(&self, octets: Bytes) -> PublicKey
+        requires { octets ≡ self.now.bits.octets }
+        ensures { result ≡ self.now }
+    {
+        PublicKey::of_parts(self.algorithm, self.unused(), octets)
     }
 
     /// The key identifier, as that of [PublicKey::key_identifier](crate::crypto::PublicKey::key_identifier).
