@@ -1,20 +1,18 @@
 -- The errors of extensions, from what the readers of their parts return.
-use Rattle.std.proofs.Common.{◌⊎◌, ℕ, true, false, Option, Some, None, Ok, List, inl, inr, refl, subst}
+use Rattle.std.proofs.Common.{ℕ, true, false, Option, Some, None, Ok, List, inl, inr, refl, subst}
 use Rattle.rpki_der.specs.declared.error.DecodeError.{DecodeError}
 use Rattle.rpki_der.specs.declared.error.DecodeError.TheVariants.{OutOfMemory}
 use Rattle.rpki_der.specs.Prelude.{oid, boolean, octet_string, sequence, Accepts, Refusal, ReadsWhere, SpellsNothing}
 use Rattle.rpki_der.specs.Prelude.{UnlessMemory, Finds, SpellsContents, SpellsLeaf, HasTag}
 use Rattle.rpki_der.specs.Prelude.{IsContentsFault, IsLeafFault, IsOuterFault, IsOidOf, IsBoolean}
-use Rattle.rpki_der.specs.Prelude.{SpellsKept, IsCapturedFault, OptionalFault, IsEndFault, AtPart, Later}
-use Rattle.rpki_der.proofs.ReadingLaws.{Refusal-weaker}
-use Rattle.rpki_der.proofs.CaptureLaws.{or-memory-from}
+use Rattle.rpki_der.specs.Prelude.{OptionalFault, IsEndFault, AtPart, Later}
+use Rattle.rpki_der.proofs.ReadingLaws.{Refusal-or-memory-where}
 use Rattle.rpki_der.proofs.LeavesLaws.{leaf-no-memory, contents-no-memory}
 use Rattle.rpki_der.proofs.ComposedLaws.{outer-refused, inner-refused}
 use Rattle.rpki_der.proofs.FirstFaultLaws.{first-no-memory, optional-no-memory, end-no-memory}
 use Rattle.rpki_der.proofs.FirstFaultLaws.{inside-outer-exactly}
 use Rattle.rpki.specs.ExtensionValue.{IsExtensionContents, SpellsExtension}
 use Rattle.rpki.specs.ExtensionFault.{content, extension_fields, extension, kept_extension}
-use Rattle.rpki.proofs.ExtensionLaws.{AnyExtension}
 
 -- what follows an optional part has the error
 pub behind-optional : {X V : Type 0} (B : List ℕ → Type 0) (view : X → V) (G : V → List ℕ → Type 0)
@@ -64,26 +62,10 @@ no-parts s c q e a h = record {
   kind = Later c q a h.1;
 }
 
--- it isn't there
-pub passed-refused : (s q : List ℕ) (e : DecodeError) → Refusal SpellsExtension extension.fault s q e
-    → Refusal AnyExtension extension.fault s q e
-passed-refused s q e h = Refusal-weaker (λ none u r k. none k.spelled.0 r
-    (record { front = k.front; parts = k.parts; spelled = k.spelled.1 })) (λ k. k) h
-
--- it isn't there, or could not be kept
-pub extension-unkept : (s r : List ℕ) (e : DecodeError)
-    → Refusal (SpellsKept AnyExtension) (IsCapturedFault AnyExtension extension.fault) s r e
-    → Refusal SpellsExtension kept_extension.fault s r e
-extension-unkept s r e h =
-    Refusal-weaker (λ none w q k. none k.front q
-    (record {
-      front = k.front;
-      parts = k.parts;
-      spelled = record
-          { same = refl; value = tt; spelled = (w, k.spelled) };
-    }))
-    (or-memory-from (λ p. extension.fault p OutOfMemory ⊎ Finds AnyExtension p) (Finds SpellsExtension)
-    extension.fault s e (λ m. elim m [
-      | inl k ↦ absurd ((extension-outer s OutOfMemory k).other refl)
-      | inr (u, q, k) ↦ (k.spelled.0, q, record { front = k.front; parts = k.parts; spelled = k.spelled.1 })
-    ])) h
+-- it isn't there, for a reader that keeps it
+pub extension-refused : (s r : List ℕ) (e : DecodeError) → Refusal SpellsExtension extension.fault s r e
+    → Refusal SpellsExtension kept_extension.fault s s e
+extension-refused s r e h =
+    Refusal-or-memory-where (Finds SpellsExtension) extension.fault s s e
+    (λ k. absurd ((extension-outer s OutOfMemory k).other refl))
+    (record { unchanged = refl; refuses = h.refuses; kind = h.kind })

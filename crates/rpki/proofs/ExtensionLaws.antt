@@ -2,7 +2,7 @@
 use Rattle.std.proofs.Common.{◌≡◌, ◌↔◌, ℕ, ◌+◌, ◌<◌, ◌≤◌, ◌^◌, Bool, true, false, Option, Some, None, Ok, List, [], ◌∷◌}
 use Rattle.std.proofs.Common.{◌++◌, length, inl, inr, refl, sym, ap, subst, ◌∙◌, arith, lit<, append_assoc, append-nil}
 use Rattle.std.proofs.Common.{length-append}
-use Rattle.std.specs.Prelude.{nat_eq, bytes_eq, unwrap_or}
+use Rattle.std.specs.Prelude.{nat_eq, bytes_eq, unwrap_or, if◌then◌else◌}
 use Rattle.std.proofs.lemmas.Bool.{false_from_ne_true, eqb-true}
 use Rattle.rpki_der.specs.Prelude.{TagName, oid, boolean, octet_string, sequence, tlv, Spells, Accepts, Refuses}
 use Rattle.rpki_der.specs.Prelude.{SpellsNothing, ReadsWhere, SpellsContents, SpellsLeaf, HasTag, IsLeafFault, IsOid}
@@ -14,13 +14,24 @@ use Rattle.rpki_der.proofs.LeavesLaws.{leaf-tag}
 use Rattle.rpki_der.proofs.ComposedLaws.{all-read}
 use Rattle.rpki_der.proofs.FrontLaws.{front_contents_of, after_front-of, contents-alone, nothing-after, one-tag}
 use Rattle.rpki_der.proofs.FrontLaws.{contents-tag}
-use Rattle.rpki_der.specs.Capture.{SpellsKept}
-use Rattle.rpki.specs.AnyValue.{SpellsAny}
 use Rattle.rpki.specs.Extension.{critical_octets, extension_contents}
 use Rattle.rpki.specs.ExtensionValue.{ExtensionParts, extension_parts, SpellsCritical, IsExtensionContents}
-use Rattle.rpki.specs.ExtensionValue.{SpellsExtension, written_extension, CanBeWritten, parts_in, parts_of_extension}
+use Rattle.rpki.specs.ExtensionValue.{SpellsExtension, written_extension, CanBeWritten}
 
 -- ---- one value
+
+-- The parts that stand in octets, as a function of them: of the contents of an extension, and of a whole extension.
+-- Nothing follows an OCTET STRING; one follows a BOOLEAN.
+parts_in : List ℕ → ExtensionParts
+parts_in c =
+    let rest = after_front c in
+    let following = after_front rest in
+    if nat_eq (length following) 0
+    then extension_parts (front_contents c) false (front_contents rest)
+    else extension_parts (front_contents c) (bytes_eq (front_contents rest) (255 ∷ [])) (front_contents following)
+
+parts_of_extension : List ℕ → ExtensionParts
+parts_of_extension octets = parts_in (front_contents octets)
 
 -- a BOOLEAN has the contents FF where it is true
 is-true : (b : Bool) → bytes_eq (boolean_contents b) (255 ∷ []) ≡ b
@@ -59,7 +70,7 @@ parts-are x c h = go h.critical
         rw (f.1, f.0, following, some-length h.third size, flag, last, is-true x.critical) refl
 
 -- octets that are an extension stand for its parts
-pub extension-is : (x : ExtensionParts) (p : List ℕ) → SpellsExtension x p → parts_of_extension p ≡ x
+extension-is : (x : ExtensionParts) (p : List ℕ) → SpellsExtension x p → parts_of_extension p ≡ x
 unfolding parts_of_extension
 extension-is x p h = ap parts_in (contents-alone sequence true h.contents p h.value) ∙ parts-are x h.contents h.spelled
 
@@ -194,48 +205,6 @@ contents-values x c h =
 
 pub extension-value : (x : ExtensionParts) (p : List ℕ) → SpellsExtension x p → IsValue p
 extension-value x p h = composed-value-alone sequence IsExtensionContents x p (contents-values x) h
-
--- ---- an extension, captured
-
--- ---- an extension whose octets are kept
-
-abbrev pub AnyExtension : Unit {0} → List ℕ → Type 0
-AnyExtension = SpellsAny SpellsExtension
-
--- one that is passed over
-pub passed-extension : (s r : List ℕ) (x : ExtensionParts) → Accepts SpellsExtension s x r → Accepts AnyExtension s tt r
-passed-extension s r x a = record {
-  spells = record { front = a.spells.front; parts = a.spells.parts; spelled = (x, a.spells.spelled) };
-  only = λ w q k. (refl, (a.only k.spelled.0 q (record { front = k.front; parts = k.parts; spelled = k.spelled.1 })).1);
-}
-
-pub extension-values : (u : Unit {0}) (p : List ℕ) → AnyExtension u p → IsValueList p
-extension-values u p h = (1, extension-value h.0 p h.1)
-
-pub kept-extension : (s r c : List ℕ) → Accepts (SpellsKept AnyExtension) s c r
-    → SpellsExtension (parts_of_extension c) c
-kept-extension s r c h =
-    let k = h.spells.spelled.spelled in
-    subst (λ (y : ExtensionParts). SpellsExtension y c) (sym (extension-is k.0 c k.1)) k.1
-
-pub extension-kept : (s r c : List ℕ) → Accepts (SpellsKept AnyExtension) s c r
-    → Accepts SpellsExtension s (parts_of_extension c) r
-extension-kept s r c h = record {
-  spells = record {
-    front = h.spells.front;
-    parts = h.spells.parts;
-    spelled = subst (SpellsExtension (parts_of_extension c)) (sym h.spells.spelled.same) (kept-extension s r c h);
-  };
-  only = λ w q k.
-      let e = h.only k.front q
-      (record {
-        front = k.front;
-        parts = k.parts;
-        spelled = record
-            { same = refl; value = tt; spelled = (w, k.spelled) };
-      }) in
-      (sym (extension-is w c (subst (SpellsExtension w) e.0 k.spelled)), e.1);
-}
 
 -- ---- what is written
 

@@ -4,7 +4,7 @@
 -- Algorithms, formats, digests; their errors: AlgorithmLaws, FormatLaws, DigestLaws, AlgorithmFaultLaws.
 -- Signed data: SigningLaws, SignedLaws, EqualLaws.
 -- Keys and key identifiers; errors of keys: PublicKeyLaws, KeyIdentifierLaws, KeyFaultLaws.
--- Extensions; their errors: ExtensionLaws, ExtensionIndexLaws, ExtensionFaultLaws.
+-- Extensions; their errors; where their parts stand: ExtensionLaws, ExtensionFaultLaws, ExtensionPlaceLaws.
 -- Names; their errors, and their attributes: NameLaws, OneNameLaws, NameFaultLaws, NameAttributeLaws.
 -- The rules of profiles of names: RuleLaws, InspectionLaws, NameTableLaws, WithoutOrganizationLaws, SubjectLaws,
 --   StrictSubjectLaws.
@@ -34,4 +34,4 @@ pub mod OneNameLaws
 pub mod RuleLaws
 pub mod ExtensionLaws
 pub mod ExtensionFaultLaws
-pub mod ExtensionIndexLaws
+pub mod ExtensionPlaceLaws

@@ -18,6 +18,7 @@ pub mod SignedData
 pub mod SignedEqual
 pub mod Extension
 pub mod ExtensionValue
+pub mod ExtensionPlace
 pub mod ExtensionEqual
 pub mod Name
 pub mod NameAttributes

@@ -8,7 +8,9 @@ pub use Rattle.rpki.specs.ErrorContent.{content_of, validation_text, verificatio
 pub use Rattle.rpki.specs.ErrorTexts.{period_text, verification_text}
 pub use Rattle.rpki.specs.Extension.{extension_contents, extension_octets}
 pub use Rattle.rpki.specs.ExtensionFault.{extension, kept_extension, extension_fields}
-pub use Rattle.rpki.specs.ExtensionValue.{ExtensionParts, IsExtensionContents, SpellsExtension, written_extension}
+pub use Rattle.rpki.specs.ExtensionPlace.{IsBehindIdentifier}
+pub use Rattle.rpki.specs.ExtensionValue.{CanBeWritten, ExtensionParts, IsExtensionContents, SpellsExtension}
+pub use Rattle.rpki.specs.ExtensionValue.{written_extension}
 pub use Rattle.rpki.specs.KeyFault.{key, key_view, rsa_bits}
 pub use Rattle.rpki.specs.KeyFormat.{IsFormatContents, SpellsFormat}
 pub use Rattle.rpki.specs.KeyIdentifier.{IsHexOf, IsIdentifierFault, IsKeyIdentifier, SpellsKeyIdentifier}

@@ -1,5 +1,5 @@
 -- The error of the leftmost part that isn't there: how a composed reader shows it, and what follows from it.
-use Rattle.std.proofs.Common.{◌≡◌, ◌≢◌, inl, inr, ℕ, Bool, true, List, [], Option, Some, None, Result, Ok, Err}
+use Rattle.std.proofs.Common.{◌≡◌, ◌≢◌, inl, inr, ℕ, Bool, List, [], Option, Some, None, Result, Ok, Err}
 use Rattle.std.proofs.Common.{refl, sym, subst, ◌∙◌}
 use Rattle.std.specs.Prelude.{IsErr, IsErrAnd}
 use Rattle.rpki_der.specs.declared.error.DecodeError.{DecodeError}
@@ -12,7 +12,6 @@ use Rattle.rpki_der.specs.TagName.{TagName}
 use Rattle.rpki_der.specs.Reading.{Spells, Accepts, Refuses, Refusal, Reads, ReadsWhere, SpellsNothing, UnlessMemory}
 use Rattle.rpki_der.specs.Reading.{OrMemoryWhere, IsWholeFault}
 use Rattle.rpki_der.specs.Values.{SpellsContents, SpellsLeaf, IsContentsFault, GivesOuterFault, IsOuterFault}
-use Rattle.rpki_der.specs.Inside.{HasInside}
 use Rattle.rpki_der.specs.Composed.{NotInside, ReadsInside, ReadsAll}
 use Rattle.rpki_der.specs.Composed.NotInside.{Outside, Refused, More}
 use Rattle.rpki_der.specs.FirstFault.{FirstFault, OptionalFault, IsEndFault, RepeatedFault, IsInsideFault, ReadsParts}
@@ -20,7 +19,7 @@ use Rattle.rpki_der.specs.FirstFault.FirstFault.{AtPart, Later}
 use Rattle.rpki_der.specs.FirstFault.RepeatedFault.{AtMember, AfterMember}
 use Rattle.rpki_der.proofs.ReadingLaws.{UnlessMemory-weaker}
 use Rattle.rpki_der.proofs.LeavesLaws.{contents-no-memory}
-use Rattle.rpki_der.proofs.InsideLaws.{Same, no-memory, unless-memory, read-inside}
+use Rattle.rpki_der.proofs.InsideLaws.{Same, unless-memory, read-inside}
 use Rattle.rpki_der.proofs.ComposedLaws.{all-read, nothing-after, nothing-whole}
 
 abbrev Kind : Type 1

@@ -13,10 +13,10 @@ use Rattle.rpki_der.specs.Composed.{Inside, NotInside, ReadsInside, ReadsAll, No
 use Rattle.rpki_der.specs.Composed.NotWhole.{RefusedAll, Left}
 use Rattle.rpki_der.specs.Reading.{SpellsNothing, Decodes, IsWholeFault, NeverMemory}
 use Rattle.rpki_der.specs.Composed.NotInside.{Outside, Refused, More}
-use Rattle.rpki_der.proofs.ReadingLaws.{UnlessMemory-weaker, UnlessMemory-from}
+use Rattle.rpki_der.proofs.ReadingLaws.{UnlessMemory-from}
 use Rattle.rpki_der.proofs.LeavesLaws.{contents-no-memory}
-use Rattle.rpki_der.proofs.ComposedLaws.{outer-refused, inner-refused, inner-accepted, without-memory, nothing-whole}
-use Rattle.rpki_der.proofs.ComposedLaws.{nothing-after, all-read, more-left, not-read}
+use Rattle.rpki_der.proofs.ComposedLaws.{outer-refused, inner-refused, inner-accepted, without-memory}
+use Rattle.rpki_der.proofs.ComposedLaws.{all-read, more-left, not-read}
 
 -- ---- where allocation fails
 

@@ -7,6 +7,7 @@ mod extension_encoders;
 mod extensions;
 mod identifiers;
 mod inner_errors;
+mod kept;
 mod keys;
 mod name_attributes;
 mod names;

@@ -7,7 +7,7 @@ mod signed_data;
 mod subject_name;
 mod update;
 
-pub use cert_extension::{CertExtension, ExtensionBytes, ExtensionView};
+pub use cert_extension::{CertExtension, ExtensionBytes, ExtensionView, PlacedExtension};
 pub use extension::{Extension, encode_extension};
 pub use name::{AttributeView, Attributes, Name, NameRule, NameView};
 pub use rpki_time::{

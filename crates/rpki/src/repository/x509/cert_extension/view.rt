@@ -1,11 +1,15 @@
 //! Extensions of certificates, read in place (RFC 5280 4.1, 4.2).
 
-ghost use Rattle.std.specs.Prelude.{◌≡◌};
+ghost use Rattle.std.specs.Prelude.{◌≡◌, IfOk};
 ghost use Rattle.rpki_der.specs.Prelude.{left, Takes};
-ghost use Rattle.rpki.specs.ExtensionValue.{extension_parts};
+ghost use Rattle.rpki_der.specs.Standing.{StandsBefore};
+ghost use Rattle.rpki.specs.ExtensionValue.{extension_parts, CanBeWritten};
 ghost use Rattle.rpki.specs.ExtensionFault.{extension};
+ghost use Rattle.rpki.specs.ExtensionPlace.{IsBehindIdentifier};
 
-use super::grammar::take_extension;
+use super::CertExtension;
+use super::grammar::take_parts;
+use bytes::Bytes;
 use rpki_der::{Constructed, DecodeError, Oid};
 use std::marker::Model;
 
@@ -26,6 +30,16 @@ impl<'a> Model for ExtensionView<'a> {
     ghost view = { λ x. extension_parts x.id.0.now x.critical x.octets.now };
 }
 
+/// An extension that was read, and where its parts stand: its identifier before what follows that, and its octets
+/// before what is left.
+#[derive(Drop)]
+pub struct PlacedExtension<'a> {
+    /// The extension.
+    pub extension: ExtensionView<'a>,
+    /// What follows the identifier, of all the octets that were left.
+    pub following: Constructed<'a>,
+}
+
 impl<'a> ExtensionView<'a> {
     /// An extension, with the grammar and the errors of
     /// [CertExtension::take_from](crate::repository::x509::CertExtension::take_from), but for `OutOfMemory`. Allocates
@@ -33,11 +47,36 @@ impl<'a> ExtensionView<'a> {
     pub fn take_from(cons: &mut Constructed<'a>) -> Result<ExtensionView<'a>, DecodeError>
         ensures { Takes (λ x. x) extension (left cons.old) (left cons.new) result }
     {
-        let (id, critical, octets) = take_extension(cons)?;
-        Ok(ExtensionView {
-            id,
-            critical,
-            octets,
+        let placed = ExtensionView::take_placed(cons)?;
+        Ok(placed.extension)
+    }
+
+    /// As [ExtensionView::take_from], with the same errors, and tells where the parts stand: for a reader that keeps
+    /// them.
+    #[inline(always)]
+    pub fn take_placed(cons: &mut Constructed<'a>) -> Result<PlacedExtension<'a>, DecodeError>
+        ensures reads { Takes (λ x. x.extension) extension (left cons.old) (left cons.new) result }
+        ensures place { IfOk result (λ x. IsBehindIdentifier (left cons.old) (left cons.new) x.extension.identifier
+            (left x.following)) }
+        ensures identifier { IfOk result (λ x. StandsBefore (left cons.old) x.extension.identifier
+            (left x.following)) }
+        ensures content { IfOk result (λ x. StandsBefore (left cons.old) x.extension.content (left cons.new)) }
+        ensures writable { IfOk result (λ x. CanBeWritten x.extension) }
+    {
+        let all = cons.rest();
+        let mut after = *cons;
+        let contents = after.take_sequence()?;
+        let (id, critical, octets, others) = take_parts(contents)?;
+        let place = all.len() - (others.rest().len() + after.rest().len());
+        let following = Constructed::from_slice(&all[place..]);
+        *cons = after;
+        Ok(PlacedExtension {
+            extension: ExtensionView {
+                id,
+                critical,
+                octets,
+            },
+            following,
         })
     }
 
@@ -49,6 +88,21 @@ impl<'a> ExtensionView<'a> {
             id,
             critical,
             octets,
+        }
+    }
+
+    /// The extension, of octets that were kept. Requires that they are those of its identifier and of its OCTET STRING,
+    /// and that it can be written, as one that was read can.
+    pub fn kept(&self, identifier: Bytes, content: Bytes) -> CertExtension
+        requires same_identifier { identifier ≡ self.now.identifier }
+        requires same_content { content ≡ self.now.content }
+        requires writable { CanBeWritten self.now }
+        ensures { result ≡ self.now }
+    {
+        CertExtension {
+            identifier,
+            critical: self.critical,
+            content,
         }
     }
 

@@ -18,16 +18,16 @@ F = SpellsLeaf boolean false IsBoolean
 abbrev N : List ℕ → DecodeError → Type 0
 N = IsLeafFault boolean false IsBoolean
 
-pub returns-in_err-identifier : goal.returns-in_err-identifier
-returns-in_err-identifier c =
+pub returns-in_err-identifier-clause-reads : goal.returns-in_err-identifier-clause-reads
+returns-in_err-identifier-clause-reads c =
     let s = left c.args.contents in
     let e = c.in_err-identifier.field-0.0 in
     let h = c.in_err-identifier.ensures in
     tried-nothing _ IsExtensionContents extension_fields.fault s e _ c.from_residual.ensures
     (UnlessMemory-weaker e (no-identifier s) h.refuses, AtPart h.refuses h.kind)
 
-pub returns-in_err-take_opt_bool : goal.returns-in_err-take_opt_bool
-returns-in_err-take_opt_bool c =
+pub returns-in_err-take_opt_bool-clause-reads : goal.returns-in_err-take_opt_bool-clause-reads
+returns-in_err-take_opt_bool-clause-reads c =
     let s = left c.args.contents in
     let e = c.in_err-take_opt_bool.field-0.0 in
     let h = c.in_err-take_opt_bool.ensures in
@@ -37,8 +37,8 @@ returns-in_err-take_opt_bool c =
           c.in_ok-identifier.identifier.0.now _ c.in_ok-identifier.ensures (inr (h.0, AtPart h.1.refuses h.1.kind)),
     )
 
-pub returns-in_err-octets : goal.returns-in_err-octets
-returns-in_err-octets c =
+pub returns-in_err-octets-clause-reads : goal.returns-in_err-octets-clause-reads
+returns-in_err-octets-clause-reads c =
     let s = left c.args.contents in
     let e = c.in_err-octets.field-0.0 in
     let h = c.in_err-octets.ensures in
@@ -50,8 +50,8 @@ returns-in_err-octets c =
           c.in_ok-take_opt_bool.ensures (AtPart h.refuses h.kind)),
     )
 
-pub returns : goal.returns
-returns c =
+pub returns-clause-reads : goal.returns-clause-reads
+returns-clause-reads c =
     let s = left c.args.contents in
     let o = c.in_ok-octets in
     let read = parts-read s _ _ _ _ _ c.in_ok-take_opt_bool.field-0 c.in_ok-identifier.ensures
@@ -60,8 +60,8 @@ returns c =
     (extension_parts c.in_ok-identifier.identifier.0.now b o.octets.now) s) (sym c.unwrap_or-critical.ensures) read in
     (h, λ w k. one-contents _ w s h k)
 
-pub returns-in_err-finish : goal.returns-in_err-finish
-returns-in_err-finish c =
+pub returns-in_err-finish-clause-reads : goal.returns-in_err-finish-clause-reads
+returns-in_err-finish-clause-reads c =
     let s = left c.args.contents in
     let e = c.in_err-finish.field-0.0 in
     let h = c.in_err-finish.ensures in
