@@ -3,11 +3,10 @@ use Rattle.std.proofs.Common.{◌≡◌, ◌≤◌, ◌-◌, ◌⊎◌, inl, inr
 use Rattle.std.proofs.Common.{length-drop, Result, Ok, Err, refl, sym, ap, subst, ◌∙◌, arith}
 use Rattle.std.proofs.lemmas.List.{append_cancel_right, take-append-drop}
 use Rattle.rpki_der.specs.declared.error.DecodeError.{DecodeError}
-use Rattle.rpki_der.specs.declared.error.DecodeError.TheVariants.{Truncated, BadTag, BadLength, Unexpected, Content}
-use Rattle.rpki_der.specs.declared.error.DecodeError.TheVariants.{Trailing, OutOfMemory}
+use Rattle.rpki_der.specs.declared.error.DecodeError.TheVariants.{OutOfMemory}
 use Rattle.rpki_der.specs.declared.cursor.Constructed.{Constructed}
 use Rattle.rpki_der.specs.Cursor.{left}
-use Rattle.rpki_der.specs.Reading.{Spells, Accepts, Refuses, Refusal, Reads, Finds, OrMemoryWhere, UnlessMemory}
+use Rattle.rpki_der.specs.Reading.{Spells, Accepts, Refuses, Refusal, Reads, Finds, UnlessMemory}
 use Rattle.rpki_der.specs.Members.{IsValueList}
 use Rattle.rpki_der.specs.Composed.{Whole}
 use Rattle.rpki_der.specs.Capture.{NotCaptured, Captures, SpellsKept, IsCapturedFault}
@@ -121,14 +120,3 @@ pub reads-as : {X V : Type 0} (view : X → V) (G H : V → List ℕ → Type 0)
 reads-as view G H K L s r (Ok x) f g k h =
     record { spells = spells-as s (view x) r f h.spells; only = λ w q l. h.only w q (spells-as s w q g l) }
 reads-as view G H K L s r (Err e) f g k h = Refusal-weaker (λ none v q l. none v q (spells-as s v q g l)) (k e) h
-
--- where allocation fails, said in other words
-pub or-memory-from : (P Q : List ℕ → Type 0) (K : List ℕ → DecodeError → Type 0) (s : List ℕ) (e : DecodeError)
-    → (P s → Q s) → OrMemoryWhere P K s e → OrMemoryWhere Q K s e
-or-memory-from P Q K s Truncated f h = h
-or-memory-from P Q K s BadTag f h = h
-or-memory-from P Q K s BadLength f h = h
-or-memory-from P Q K s Unexpected f h = h
-or-memory-from P Q K s (Content x) f h = h
-or-memory-from P Q K s Trailing f h = h
-or-memory-from P Q K s OutOfMemory f h = f h

@@ -1,4 +1,4 @@
-//! Captured values from encoders.
+//! Octets and captured values from encoders.
 
 ghost use Rattle.std.specs.Prelude.{◌≡◌, ◌<◌, ◌^◌, length, IfOk, IfErr};
 ghost use Rattle.rpki_der.specs.Members.{IsValueList};
@@ -13,6 +13,21 @@ use crate::walk::walk_value;
 use bytes::Bytes;
 use std::alloc::{AllocError, Global};
 
+/// The octets that are written of the values, alone: no index of them is made.
+///
+/// Requires that the values fit, as [Values::fits] tests. Returns `AllocError` if allocation fails.
+pub fn write_to_bytes<V: Values>(alloc: Global, values: &V) -> Result<Bytes, AllocError>
+    requires { V.is_short values.now × (length (V.encoded values.now) < 2 ^ 63) }
+    ensures { IfOk result (λ b. b ≡ V.encoded values.now) }
+{
+    let mut octets = Vec::with_capacity(alloc, values.encoded_len() as usize)?;
+    match values.write_encoded(&mut octets) {
+        Ok(()) => {}
+        Err(_) => return Err(AllocError),
+    }
+    Ok(Bytes::from_vec(octets)?)
+}
+
 impl Captured {
     /// Captures the values: the result holds the octets that are written.
     ///
@@ -21,16 +36,12 @@ impl Captured {
         requires { V.is_short values.now × (length (V.encoded values.now) < 2 ^ 63) }
         ensures { IfOk result (λ c. c ≡ V.encoded values.now) }
     {
-        let mut octets = Vec::with_capacity(alloc, values.encoded_len() as usize)?;
-        match values.write_encoded(&mut octets) {
-            Ok(()) => {}
-            Err(_) => return Err(AllocError),
-        }
-        let index = match index_values(alloc, &octets) {
+        let octets = write_to_bytes(alloc, values)?;
+        let index = match index_values(alloc, octets.as_slice()) {
             Ok(index) => index,
             Err(_) => return Err(AllocError),
         };
-        Ok(Captured::of_index(Bytes::from_vec(octets)?, index))
+        Ok(Captured::of_index(octets, index))
     }
 }
 

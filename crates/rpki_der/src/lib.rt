@@ -47,6 +47,7 @@ pub use encode::{
     SetFrame, Values, Wrapped, write_whole,
 };
 pub use error::{ContentError, DecodeError};
+pub use from_values::write_to_bytes;
 pub use front::{index_octets, read_header, walk_octets};
 pub use index::HeaderEntry;
 pub use indexed::IndexedCursor;

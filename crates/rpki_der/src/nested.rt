@@ -2,8 +2,9 @@
 //!
 //! Headers are visited from the left, each once, and nothing is kept of the values that are open: at the header of a
 //! constructed value its contents are tiled first, which are values one after another by their headers alone. So each
-//! header is read twice at most, and that of a primitive value alone once. Where the tiles end early there is a fault: the headers before it are visited all the
-//! same, and none after it, so that the last fault that is found is the leftmost.
+//! header is read twice at most; that of a primitive value which isn't nested, once. Where the tiles end early there is
+//! a fault: the headers before it are visited all the same, and none after it, so that the last fault that is found is
+//! the leftmost.
 
 ghost use Rattle.std.specs.Prelude.{IfOk, IfErr, IfSome, IfNone};
 ghost use Rattle.rpki_der.specs.Cursor.{left};

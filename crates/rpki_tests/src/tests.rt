@@ -20,7 +20,7 @@ mod writers;
 
 use bytes::Bytes;
 use rpki::crypto::Provider;
-use rpki_der::{Captured, Values};
+use rpki_der::{Values, write_to_bytes};
 use std::alloc::{AllocError, Global};
 
 /// The values that are written, where they fit.
@@ -28,7 +28,7 @@ fn written<V: Values>(alloc: Global, values: &V) -> Result<Option<Bytes>, AllocE
     if !values.fits() {
         return Ok(None);
     }
-    Ok(Some(Captured::from_values(alloc, values)?.into_bytes()))
+    Ok(Some(write_to_bytes(alloc, values)?))
 }
 
 /// The digest by SHA-1 of `abc` (FIPS 180-4).

@@ -10,8 +10,8 @@ use crate::crypto::Provider;
 use crate::crypto::digest::sha1_digest;
 use bytes::Bytes;
 use rpki_der::{
-    BitString, Captured, Constructed, DecodeError, Keep, Primitive, PrimitiveContent, Sequence,
-    Shared, Values,
+    BitString, Constructed, DecodeError, Keep, Primitive, PrimitiveContent, Sequence, Shared,
+    Values, write_to_bytes,
 };
 use std::alloc::{AllocError, Global};
 use std::marker::Model;
@@ -190,7 +190,6 @@ impl PublicKey {
         requires { IsShortKey self.now }
         ensures { IfOk result (λ b. b ≡ key_octets self.now) }
     {
-        let key = Captured::from_values(alloc, &self.encode_ref())?;
-        Ok(key.into_bytes())
+        write_to_bytes(alloc, &self.encode_ref())
     }
 }

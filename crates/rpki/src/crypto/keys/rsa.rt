@@ -9,7 +9,7 @@ ghost use Rattle.rpki.specs.KeyFault.{rsa_bits, rsa_numbers};
 use super::PublicKey;
 use bytes::Bytes;
 use rpki_der::{
-    Captured, Constructed, DecodeError, InvalidInteger, PrimitiveContent, Sequence, Unsigned,
+    Constructed, DecodeError, InvalidInteger, PrimitiveContent, Sequence, Unsigned, write_to_bytes,
 };
 use std::alloc::Global;
 
@@ -35,8 +35,8 @@ impl PublicKey {
         let modulus = Unsigned::from_slice(modulus)?;
         let exponent = Unsigned::from_slice(exponent)?;
         let numbers = Sequence::new((modulus.encode(), exponent.encode()));
-        match Captured::from_values(alloc, &numbers) {
-            Ok(octets) => Ok(PublicKey::of_bits(octets.into_bytes())),
+        match write_to_bytes(alloc, &numbers) {
+            Ok(octets) => Ok(PublicKey::of_bits(octets)),
             Err(_) => Err(InvalidInteger::OutOfMemory),
         }
     }

@@ -92,7 +92,7 @@ impl<'a> ExtensionView<'a> {
     }
 
     /// The extension, of octets that were kept. Requires that they are those of its identifier and of its OCTET STRING,
-    /// and that it can be written, as one that was read can.
+    /// and that it can be written, as one that was read can: one of [ExtensionView::of_parts] may have any octets.
     pub fn kept(&self, identifier: Bytes, content: Bytes) -> CertExtension
         requires same_identifier { identifier ≡ self.now.identifier }
         requires same_content { content ≡ self.now.content }

@@ -7,8 +7,8 @@ use Rattle.rpki.specs.PublicKey.{KeyParts}
 use Rattle.rpki.proofs.PublicKeyLaws.{numbers-short, some-numbers, shorter, two_integers, rsa-bits}
 use Rattle.rpki.proofs.crypto.keys.public_key.PublicKey.rsa_from_components.Goals as goal
 
-pub from_values-requires : goal.from_values-requires
-from_values-requires c =
+pub write_to_bytes-requires : goal.write_to_bytes-requires
+write_to_bytes-requires c =
     let m = c.in_ok-modulus.modulus in
     let n = c.in_ok-exponent.exponent in
     let lm : length m ≤ length c.args.modulus.now = shorter m c.args.modulus.now c.in_ok-modulus.ensures.magnitude
@@ -40,7 +40,7 @@ returns-in-Ok-clause-bits c =
     (octets-fit c.args.exponent.now c.type_inv.exponent) c.in_ok-exponent.ensures.some c.in_ok-exponent.ensures.value in
     let small : length m + length n ≤ 2 ^ 31 = omega (arith, c.requires) in
     let is : c.of_bits.result.bits.octets ≡ tlv sequence true (two_integers m n) =
-    ap (λ (k : KeyParts). k.bits.octets) c.of_bits.ensures ∙ c.into_bytes.ensures ∙ c.in-Ok.ensures ∙
+    ap (λ (k : KeyParts). k.bits.octets) c.of_bits.ensures ∙ c.in-Ok.ensures ∙
     (rw (c.new-numbers.ensures, c.encode.ensures.encoded, c.encode-2.ensures.encoded) refl) in
     rsa-bits c.args.modulus.now c.args.exponent.now m n c.of_bits.result.bits.octets c.in_ok-modulus.ensures.magnitude
     c.in_ok-exponent.ensures.magnitude small c.in_ok-modulus.ensures.value c.in_ok-exponent.ensures.value is

@@ -4,8 +4,8 @@ use Rattle.rpki_der.proofs.EncodeLaws.{tlv_at_most}
 use Rattle.rpki.specs.PublicKey.{key_contents}
 use Rattle.rpki.proofs.crypto.keys.public_key.PublicKey.to_info_bytes.Goals as goal
 
-pub from_values-requires : goal.from_values-requires
-from_values-requires c = (
+pub write_to_bytes-requires : goal.write_to_bytes-requires
+write_to_bytes-requires c = (
   c.encode_ref.ensures.short.1 c.requires,
   rw c.encode_ref.ensures.octets
       (omega (arith, tlv_at_most sequence true (key_contents c.args.self.now))),
