@@ -79,15 +79,15 @@ READERS = [
     on_cursor("skip_nested", DEEP, b"done", grows=False),
     on_cursor("walk", SIGNED + b"\x00", b"done", b"\x00", counts=range(7)),
     on_cursor("walk", DEEP, b"done", counts=range(302)),
-    on_cursor("take_name", NAME + b"\x00", made(NAME), b"\x00"),
-    on_cursor("take_name", SUBJECT, made(SUBJECT)),
+    on_cursor("take_name", NAME + b"\x00", made(NAME), b"\x00", grows=False),
+    on_cursor("take_name", SUBJECT, made(SUBJECT), grows=False),
 ]
 
 VALUES = [
     on_octets("whole", "decode_signed", SIGNED, made(SIGNED)),
     on_octets("whole", "decode_signed", DEEP_SIGNED, made(DEEP_SIGNED)),
     on_octets("whole", "decode_key", KEY, made(KEY), grows=False),
-    on_octets("whole", "decode_name", SUBJECT, made(SUBJECT)),
+    on_octets("whole", "decode_name", SUBJECT, made(SUBJECT), grows=False),
     on_octets("whole", "rsa_from_components", b"\x00\x80", made(RSA_OF_NUMBERS)),
     on_value("captured", "clone", SIGNED, made(SIGNED), False),
     on_value("captured", "from_values", SIGNED, made(sequence(SIGNED)), True),
