@@ -4,7 +4,6 @@ pub mod Place
 pub mod Uri
 pub mod Stored
 pub mod RsyncPlaces
-pub mod RsyncCut
 pub mod Whole
 pub mod Identifier
 pub mod Key
@@ -20,7 +19,6 @@ pub mod Base64
 pub mod Names
 pub mod HttpsUri
 pub mod HttpsPlaces
-pub mod HttpsCut
 pub mod Header
 pub mod Walk
 pub mod Fault

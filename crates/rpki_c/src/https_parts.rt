@@ -1,30 +1,19 @@
 //! Https URIs that were read before: a text, and where its parts stand. No text is read again.
 
-ghost use Rattle.std.specs.Prelude.{◌≡◌, ◌↔◌, IsTrue, length, bytes_eq, IfSome, IfNone};
-ghost use Rattle.rpki_text.specs.Segments.{is_dir};
-ghost use Rattle.rpki_text.specs.UriText.{lowercase};
-ghost use Rattle.rpki_text.specs.HttpsText.{https_uri_of, same_https, ends_in_slash};
-ghost use Rattle.rpki_c.specs.HttpsCut.{IsHttpsCutAt, IsOwnHttps};
-ghost use Rattle.rpki_c.specs.HttpsPlaces.{AreHttpsLaidOut, IsToldByHttpsParts, IsHttpsCanonicalByParts};
+ghost use Rattle.std.specs.Prelude.{◌≡◌, ◌↔◌, IsTrue, length, IfSome, IfNone};
+ghost use Rattle.rpki_text.specs.HttpsText.{https_uri_of, same_https};
+ghost use Rattle.rpki_text.specs.Cuts.{https_cut_text, IsOwnHttps};
+ghost use Rattle.rpki_c.specs.HttpsPlaces.{AreHttpsParts, AreHttpsLaidOut, IsToldByHttpsParts, IsHttpsCanonicalByParts};
 ghost use Rattle.rpki_c.specs.HttpsPlaces.{IsHttpsParentByParts, IsHttpsJoinedByParts, IsHttpsDirByParts};
 
 use crate::https::HttpsParts;
 use crate::rsync::uri_fault;
 use crate::status::{NO_ANSWER, OTHER_PARTS};
 use crate::stored::{store_joined, store_lower};
-use rpki_text::uri::path::len_above;
-use rpki_text::uri::{check_uri_ascii, eq_ignore_case};
+use rpki_text::uri::HttpsCut;
 
 /// The length of the scheme and the slashes after it.
 const SCHEME_LEN: usize = 8;
-
-/// The parts of the text of an https URI.
-#[derive(Clone, Copy)]
-pub(crate) struct ParsedHttps<'a> {
-    text: &'a [u8],
-    authority: &'a [u8],
-    path: &'a [u8],
-}
 
 /// Whether the places are laid out as those of a text of this length.
 fn are_laid_out(len: usize, parts: &HttpsParts) -> bool
@@ -37,56 +26,17 @@ fn are_laid_out(len: usize, parts: &HttpsParts) -> bool
     parts.authority.length == path - SCHEME_LEN && parts.path.length == len - path
 }
 
-/// The parts of the text at these places; `None` where the places are not laid out as those of a text of this length.
-fn cut<'a>(text: &'a [u8], parts: &HttpsParts) -> Option<ParsedHttps<'a>>
-    ensures some { IfSome result (λ u. AreHttpsLaidOut (length text.now) parts.now
-        × IsHttpsCutAt text.now parts.now u) }
+/// The text with these places; `None` where they are not laid out as those of a text of this length.
+fn cut<'a>(text: &'a [u8], parts: &HttpsParts) -> Option<HttpsCut<'a>>
+    ensures text { IfSome result (λ u. https_cut_text u ≡ text.now) }
+    ensures laid_out { IfSome result (λ _. AreHttpsLaidOut (length text.now) parts.now) }
+    ensures own { IfSome result (λ u. AreHttpsParts text.now parts.now → IsOwnHttps u) }
     ensures none { IfNone result (AreHttpsLaidOut (length text.now) parts.now → ⊥) }
 {
     if !are_laid_out(text.len(), parts) {
         return None;
     }
-    let path = parts.path.start;
-    Some(ParsedHttps {
-        text,
-        authority: &text[SCHEME_LEN..path],
-        path: &text[path..],
-    })
-}
-
-/// Whether both have the same authority, ignoring case.
-fn are_of_one_authority(u: &ParsedHttps<'_>, v: &ParsedHttps<'_>) -> bool
-    ensures { result ≡ bytes_eq (lowercase u.now.authority.now) (lowercase v.now.authority.now) }
-{
-    eq_ignore_case(u.authority, v.authority)
-}
-
-/// Whether both are the same URI.
-fn are_same(u: &ParsedHttps<'_>, v: &ParsedHttps<'_>) -> bool
-    ensures { IsOwnHttps u.now → IsOwnHttps v.now
-        → result ≡ same_https (https_uri_of u.now.text.now) (https_uri_of v.now.text.now) }
-{
-    are_of_one_authority(u, v) && u.path == v.path
-}
-
-/// Whether the path ends with a slash.
-fn has_slash_last(path: &[u8]) -> bool
-    ensures { result ≡ ends_in_slash path.now }
-{
-    match path.last() {
-        None => false,
-        Some(last) => *last == b'/',
-    }
-}
-
-/// Whether the path is empty or ends with a slash.
-fn is_closed(path: &[u8]) -> bool
-    ensures { result ≡ is_dir path.now }
-{
-    match path.last() {
-        None => true,
-        Some(last) => *last == b'/',
-    }
+    HttpsCut::at(text, parts.path.start)
 }
 
 /// Tells whether both are the same URI: the same parts, the authority in any case.
@@ -110,7 +60,7 @@ pub extern "C" fn rpki_https_parts_equal(
     let Some(v) = cut(other, other_parts) else {
         return OTHER_PARTS;
     };
-    *out = are_same(&u, &v);
+    *out = u.is_equal_to(&v);
     0
 }
 
@@ -147,10 +97,10 @@ pub extern "C" fn rpki_https_parts_parent(text: &[u8], parts: &HttpsParts, out: 
     let Some(uri) = cut(text, parts) else {
         return OTHER_PARTS;
     };
-    let Some(len) = len_above(uri.path) else {
+    let Some(len) = uri.parent_len() else {
         return NO_ANSWER;
     };
-    *out = parts.path.start + len;
+    *out = len;
     0
 }
 
@@ -173,8 +123,8 @@ pub extern "C" fn rpki_https_parts_join(
     let Some(uri) = cut(base, parts) else {
         return OTHER_PARTS;
     };
-    match check_uri_ascii(path) {
-        Ok(()) => store_joined(base, !has_slash_last(uri.path), path, out, written),
+    match uri.joined(path) {
+        Ok(joined) => store_joined(&joined, out, written),
         Err(e) => uri_fault(e),
     }
 }
@@ -195,5 +145,5 @@ pub extern "C" fn rpki_https_parts_into_dir(
     let Some(uri) = cut(text, parts) else {
         return OTHER_PARTS;
     };
-    store_joined(text, !is_closed(uri.path), b"", out, written)
+    store_joined(&uri.as_dir(), out, written)
 }

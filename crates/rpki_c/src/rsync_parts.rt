@@ -1,37 +1,20 @@
 //! Rsync URIs that were read before: a text, and where its parts stand. No text is read again.
 
-ghost use Rattle.std.specs.Prelude.{◌≡◌, ◌≢◌, ◌↔◌, ℕ, ◌&&◌, ◌++◌, ◌∷◌, [], IsTrue, length, drop, bytes_eq, Some, None};
-ghost use Rattle.std.specs.Prelude.{IfSome, IfNone, IfOk, OnOk, IfErr, if◌then◌else◌};
-ghost use Rattle.std.specs.Option.{option_copied};
-ghost use Rattle.rpki_text.specs.Segments.{is_dir, IsParentLen, with_slash};
-ghost use Rattle.rpki_text.specs.UriText.{lowercase};
-ghost use Rattle.rpki_text.specs.ErrorText.{error_number};
-ghost use Rattle.rpki_text.specs.RsyncText.{uri_of, relative, same_uri, is_parent, is_identical, join_refusal, joined};
-ghost use Rattle.rpki_c.specs.RsyncCut.{IsCutAt, IsOwn};
-ghost use Rattle.rpki_c.specs.RsyncPlaces.{AreLaidOut, IsRelativeByParts, IsToldByParts, IsCanonicalByParts};
+ghost use Rattle.std.specs.Prelude.{◌≡◌, ◌↔◌, IsTrue, length, IfSome, IfNone};
+ghost use Rattle.rpki_text.specs.RsyncText.{uri_of, same_uri, is_parent, is_identical};
+ghost use Rattle.rpki_text.specs.Cuts.{cut_text, IsOwn};
+ghost use Rattle.rpki_c.specs.RsyncPlaces.{AreParts, AreLaidOut, IsRelativeByParts, IsToldByParts, IsCanonicalByParts};
 ghost use Rattle.rpki_c.specs.RsyncPlaces.{IsParentByParts, IsJoinedByParts, IsDirByParts};
 
 use crate::place::Place;
+use crate::ranges::place_of;
 use crate::rsync::{RsyncParts, uri_fault};
 use crate::status::{NO_ANSWER, OTHER_PARTS};
 use crate::stored::{store_joined, store_lower};
-use rpki_text::uri::path::{check_path, parent_len, path_below};
-use rpki_text::uri::{Error, check_uri_ascii, eq_ignore_case};
+use rpki_text::uri::RsyncCut;
 
 /// The length of the scheme and the slashes after it.
 const SCHEME_LEN: usize = 8;
-
-/// A text to which a path is joined has fewer octets than this.
-const LEN_LIMIT: usize = 3072;
-
-/// The parts of the text of an rsync URI.
-#[derive(Clone, Copy)]
-pub(crate) struct Parsed<'a> {
-    text: &'a [u8],
-    authority: &'a [u8],
-    module_name: &'a [u8],
-    path: &'a [u8],
-}
 
 /// Whether the places are laid out as those of a text of this length.
 fn are_laid_out(len: usize, parts: &RsyncParts) -> bool
@@ -47,99 +30,17 @@ fn are_laid_out(len: usize, parts: &RsyncParts) -> bool
         && parts.path.length == len - path
 }
 
-/// The parts of the text at these places; `None` where the places are not laid out as those of a text of this length.
-fn cut<'a>(text: &'a [u8], parts: &RsyncParts) -> Option<Parsed<'a>>
-    ensures some { IfSome result (λ u. AreLaidOut (length text.now) parts.now × IsCutAt text.now parts.now u) }
+/// The text with these places; `None` where they are not laid out as those of a text of this length.
+fn cut<'a>(text: &'a [u8], parts: &RsyncParts) -> Option<RsyncCut<'a>>
+    ensures text { IfSome result (λ u. cut_text u ≡ text.now) }
+    ensures laid_out { IfSome result (λ _. AreLaidOut (length text.now) parts.now) }
+    ensures own { IfSome result (λ u. AreParts text.now parts.now → IsOwn u) }
     ensures none { IfNone result (AreLaidOut (length text.now) parts.now → ⊥) }
 {
     if !are_laid_out(text.len(), parts) {
         return None;
     }
-    let module = parts.module_name.start;
-    let path = parts.path.start;
-    Some(Parsed {
-        text,
-        authority: &text[SCHEME_LEN..module - 1],
-        module_name: &text[module..path - 1],
-        path: &text[path..],
-    })
-}
-
-/// Whether both have the same authority, ignoring case, and the same module.
-fn are_of_one_module(u: &Parsed<'_>, v: &Parsed<'_>) -> bool
-    ensures { result ≡ (bytes_eq (lowercase u.now.authority.now) (lowercase v.now.authority.now)
-        && bytes_eq u.now.module_name.now v.now.module_name.now) }
-{
-    eq_ignore_case(u.authority, v.authority) && u.module_name == v.module_name
-}
-
-/// The path from the second to the first, which ends the first's text.
-fn path_from<'a>(u: &Parsed<'a>, v: &Parsed<'_>) -> Option<&'a [u8]>
-    ensures path { IsOwn u.now → IsOwn v.now
-        → option_copied result ≡ relative (uri_of u.now.text.now) (uri_of v.now.text.now) }
-    ensures tail { IfSome result (λ p. (n : ℕ) × (p.now ≡ drop n u.now.path.now)) }
-{
-    if !are_of_one_module(u, v) {
-        return None;
-    }
-    path_below(u.path, v.path)
-}
-
-/// Whether the path is empty or ends with a slash.
-fn is_closed(path: &[u8]) -> bool
-    ensures { result ≡ is_dir path.now }
-{
-    match path.last() {
-        None => true,
-        Some(last) => *last == b'/',
-    }
-}
-
-/// Whether both are the same URI.
-fn are_same(u: &Parsed<'_>, v: &Parsed<'_>) -> bool
-    ensures { IsOwn u.now → IsOwn v.now → result ≡ same_uri (uri_of u.now.text.now) (uri_of v.now.text.now) }
-{
-    are_of_one_module(u, v) && u.path == v.path
-}
-
-/// Whether the second lies below the first.
-fn is_above(u: &Parsed<'_>, v: &Parsed<'_>) -> bool
-    ensures { IsOwn u.now → IsOwn v.now → result ≡ is_parent (uri_of u.now.text.now) (uri_of v.now.text.now) }
-{
-    match path_from(v, u) {
-        Some(path) => !path.is_empty(),
-        None => false,
-    }
-}
-
-/// Whether both have the same authority, module and segments.
-fn are_identical(u: &Parsed<'_>, v: &Parsed<'_>) -> bool
-    ensures { IsOwn u.now → IsOwn v.now → result ≡ is_identical (uri_of u.now.text.now) (uri_of v.now.text.now) }
-{
-    match path_from(u, v) {
-        Some(path) => path.is_empty(),
-        None => false,
-    }
-}
-
-/// Whether a slash stands between the text and a path that is joined to it, where the path can be joined.
-fn joining(u: &Parsed<'_>, path: &[u8]) -> Result<bool, Error>
-    ensures text { IfOk result (λ slash. IsOwn u.now
-        → (if slash then u.now.text.now ++ 47 ∷ [] else u.now.text.now) ++ path.now ≡ joined u.now.text.now path.now) }
-    ensures ok { OnOk result (IsOwn u.now → join_refusal u.now.text.now path.now ≡ None) }
-    ensures err { IfErr result (λ e. IsOwn u.now → join_refusal u.now.text.now path.now ≡ Some e) }
-    ensures memory { IfErr result (λ e. e ≢ Error.OutOfMemory) }
-{
-    if path.is_empty() {
-        return Ok(false);
-    }
-    check_uri_ascii(path)?;
-    check_path(path)?;
-    let slash = !is_closed(u.path);
-    if u.text.len() + usize::from(slash) + path.len() >= LEN_LIMIT {
-        return Err(Error::LongUri);
-    }
-    Ok(slash)
+    RsyncCut::at(text, parts.module_name.start, parts.path.start)
 }
 
 /// Says where in the text of `uri` the path stands that leads from `base` to it.
@@ -162,13 +63,10 @@ pub extern "C" fn rpki_rsync_parts_relative_to(
     let Some(origin) = cut(base, base_parts) else {
         return OTHER_PARTS;
     };
-    let Some(path) = path_from(&target, &origin) else {
+    let Some(range) = target.relative_range(&origin) else {
         return NO_ANSWER;
     };
-    *out = Place {
-        start: uri.len() - path.len(),
-        length: path.len(),
-    };
+    *out = place_of(range);
     0
 }
 
@@ -192,7 +90,7 @@ pub extern "C" fn rpki_rsync_parts_equal(
     let Some(v) = cut(other, other_parts) else {
         return OTHER_PARTS;
     };
-    *out = are_same(&u, &v);
+    *out = u.is_equal_to(&v);
     0
 }
 
@@ -217,7 +115,7 @@ pub extern "C" fn rpki_rsync_parts_is_parent_of(
     let Some(v) = cut(other, other_parts) else {
         return OTHER_PARTS;
     };
-    *out = is_above(&u, &v);
+    *out = u.is_parent_of(&v);
     0
 }
 
@@ -241,7 +139,7 @@ pub extern "C" fn rpki_rsync_parts_is_identical_to(
     let Some(v) = cut(other, other_parts) else {
         return OTHER_PARTS;
     };
-    *out = are_identical(&u, &v);
+    *out = u.is_identical_to(&v);
     0
 }
 
@@ -278,10 +176,10 @@ pub extern "C" fn rpki_rsync_parts_parent(text: &[u8], parts: &RsyncParts, out: 
     let Some(uri) = cut(text, parts) else {
         return OTHER_PARTS;
     };
-    let Some(len) = parent_len(uri.path) else {
+    let Some(len) = uri.parent_len() else {
         return NO_ANSWER;
     };
-    *out = parts.path.start + len;
+    *out = len;
     0
 }
 
@@ -304,8 +202,8 @@ pub extern "C" fn rpki_rsync_parts_join(
     let Some(uri) = cut(base, parts) else {
         return OTHER_PARTS;
     };
-    match joining(&uri, path) {
-        Ok(slash) => store_joined(base, slash, path, out, written),
+    match uri.joined(path) {
+        Ok(joined) => store_joined(&joined, out, written),
         Err(e) => uri_fault(e),
     }
 }
@@ -326,5 +224,5 @@ pub extern "C" fn rpki_rsync_parts_into_dir(
     let Some(uri) = cut(text, parts) else {
         return OTHER_PARTS;
     };
-    store_joined(text, !is_closed(uri.path), b"", out, written)
+    store_joined(&uri.as_dir(), out, written)
 }

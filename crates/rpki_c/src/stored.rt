@@ -1,36 +1,28 @@
 //! What is written to the front of the caller's buffer.
 
-ghost use Rattle.std.specs.Prelude.{◌≡◌, ◌≤◌, ◌<◌, ◌^◌, ◌++◌, ◌∷◌, [], IfSome, length, take, drop, if◌then◌else◌};
+ghost use Rattle.std.specs.Prelude.{◌≡◌, ◌≤◌, ◌<◌, ◌^◌, ◌++◌, IfSome, length, take, drop};
 ghost use Rattle.rpki_text.specs.UriText.{lowercase};
+ghost use Rattle.rpki_text.specs.Cuts.{joined_text};
 ghost use Rattle.rpki_c.specs.Stored.{IsStored};
 ghost use Rattle.rpki_c.specs.Made.{IsMade};
 ghost use Rattle.rpki_c.specs.MadeValues.{IsMadeIf};
 
 use crate::status::{OUT_OF_MEMORY, TOO_LONG, TOO_SMALL};
 use rpki_der::Values;
-use rpki_text::uri::write_joined;
+use rpki_text::uri::Joined;
 use std::alloc::Global;
 
-/// Writes the octets, perhaps a slash, and the end to the front of the buffer, and tells how many octets these are.
+/// Writes the text with what is joined to it to the front of the buffer, and tells how many octets these are.
 ///
 /// The status is 0, or `TOO_SMALL` where the buffer is shorter; then nothing is written to it.
-pub(crate) fn store_joined(
-    octets: &[u8],
-    slash: bool,
-    end: &[u8],
-    out: &mut [u8],
-    written: &mut usize,
-) -> u8
-    ensures { IsStored ((if slash then octets.now ++ 47 ∷ [] else octets.now) ++ end.now) result
-        out.old out.new written.new }
+pub(crate) fn store_joined(joined: &Joined<'_>, out: &mut [u8], written: &mut usize) -> u8
+    ensures { IsStored (joined_text joined.now) result out.old out.new written.new }
 {
-    let len = octets.len() + usize::from(slash) + end.len();
-    *written = len;
-    if out.len() < len {
-        return TOO_SMALL;
+    *written = joined.len();
+    match joined.write_to(out) {
+        Some(_) => 0,
+        None => TOO_SMALL,
     }
-    write_joined(octets, slash, end, out);
-    0
 }
 
 /// Writes the octets, the first of them in lower case, to the front of the buffer, and tells how many octets these are.

@@ -325,6 +325,13 @@ into_dir-is t n c = ap (λ s. s ++ codes "/") (https-whole t n c) ∙ append_ass
 pub into_dir-cut : (t : List ℕ) (n : ℕ) → IsHttpsCut t n → IsHttpsCut (t ++ codes "/") n
 into_dir-cut t n c = subst (λ (s : List ℕ). IsHttpsCut s n) (sym (into_dir-is t n c)) (into_dir-changed t n c).cut
 
+-- the text as a directory is cut at the same place
+pub https_dir-cut : (t : List ℕ) (n : ℕ) → IsHttpsCut t n → IsHttpsCut (https_into_dir t) n
+https_dir-cut t n c = by_cases (is_dir (https_path t)) refl where
+  by_cases : (b : Bool) → is_dir (https_path t) ≡ b → IsHttpsCut (https_into_dir t) n
+  by_cases true h = subst (λ (x : List ℕ). IsHttpsCut x n) (sym (https_into_dir-dir t h)) c
+  by_cases false h = subst (λ (x : List ℕ). IsHttpsCut x n) (sym (https_into_dir-open t h)) (into_dir-cut t n c)
+
 pub https_into_dir-meaning : (t : List ℕ) (n : ℕ) → IsHttpsCut t n → is_dir (https_path t) ≡ false
     → https_uri_of (t ++ codes "/") ≡ record (https_uri_of t) { path = with_slash (https_path t) }
 unfolding https_uri_of with_slash
@@ -350,11 +357,6 @@ https-parent-text t n c k h =
 pub https-parent-none : (t : List ℕ) → path_above (https_path t) ≡ None → https_parent_of t ≡ None
 unfolding https_parent_of
 https-parent-none t h = ap (option_map (λ path. take (8 + length (https_authority t)) t ++ path)) h
-
-pub https_parent_uri-none : (t : List ℕ) → path_above (https_path t) ≡ None → https_parent_uri (https_uri_of t) ≡ None
-unfolding https_parent_uri https_uri_of
-https_parent_uri-none t h = let made : List ℕ → HttpsUri = λ path. record
-    { authority = lowercase (https_authority t); path = path } in ap (option_map made) h
 
 pub https-parent-meaning : (t : List ℕ) (n : ℕ) → IsHttpsCut t n → (k : ℕ)
     → path_above (https_path t) ≡ Some (take k (https_path t))

@@ -608,6 +608,3 @@ parent-meaning t m p c n k =
 pub cut-dir : (t : List ℕ) (m n : ℕ) → IsCut t m n → IsCut (with_slash t) m n
 cut-dir t m n c = subst (λ (s : List ℕ). IsCut s m n) (append-nil (with_slash t))
     (cut-joined t m n c [] refl (ap names_refusal segments-empty))
-
-pub dir_text-open : (t : List ℕ) (m n : ℕ) → IsCut t m n → is_dir (path_of t) ≡ false → with_slash t ≡ t ++ 47 ∷ []
-dir_text-open t m n c h = with_slash-open t (is_dir-text t m n c ∙ h)

@@ -1,11 +1,11 @@
 -- Which lemma file answers which question.
 --
--- A text, its parts and its places: UriLaws, CutLaws, PartLaws, PlaceLaws, TextLaws, CaseLaws.
+-- A text, its parts and its places: UriLaws, CutLaws, PartLaws, PlaceLaws, OwnLaws, TextLaws, CaseLaws.
 -- That no text has an allocation failure: MemoryLaws.
 -- Paths and segments: SegmentLaws, OrdinaryLaws.
 -- `join`, `parent`, `relative_to`: JoinLaws, JoinedLaws, ParentLaws, ParentEndLaws, BelowLaws.
 -- That `join` is undone: BackLaws, RelativeLaws, MeaningLaws.
--- Equality and laws; https: EqualLaws, EqBytesLaws, ModuleLaws, LawLaws, HttpsPartLaws, HttpsLaws.
+-- Equality and laws; https: EqualLaws, EqBytesLaws, ModuleLaws, LawLaws, HttpsPartLaws, HttpsLaws, HttpsParentEndLaws.
 -- Digits: HexLaws, Base64Laws.
 
 pub mod SegmentLaws
@@ -29,7 +29,9 @@ pub mod HttpsPartLaws
 pub mod HexLaws
 pub mod Base64Laws
 pub mod HttpsLaws
+pub mod HttpsParentEndLaws
 pub mod CaseLaws
 pub mod PlaceLaws
+pub mod OwnLaws
 pub mod JoinedLaws
 pub mod MemoryLaws

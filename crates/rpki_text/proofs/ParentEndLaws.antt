@@ -9,7 +9,7 @@ use Rattle.rpki_text.specs.RsyncText.{RsyncUri, authority_of, module_name_of, pa
 use Rattle.rpki_text.specs.RsyncText.{uri_of, without_last, IsCut, IsParentEnd}
 use Rattle.rpki_text.proofs.CutLaws.{cut-facts}
 use Rattle.rpki_text.proofs.ModuleLaws.{module-is}
-use Rattle.rpki_text.proofs.JoinLaws.{parent-cut, parent-meaning}
+use Rattle.rpki_text.proofs.JoinLaws.{parent-cut, parent-is, parent-meaning}
 
 module-long : (t : List ℕ) (m p : ℕ) → IsCut t m p → length (module_of t) ≡ p
 module-long t m p c = let facts = cut-facts t m p c in ap length (module-is t m p c) ∙ length-take-le p t facts.fits
@@ -23,6 +23,9 @@ end-at t m p n c k = ap (λ j. j + k.len) (sym (module-long t m p c)) ∙ sym k.
 pub parent_end-cut : (t : List ℕ) (m p n : ℕ) → IsCut t m p → IsParentEnd t n → IsCut (take n t) m p
 parent_end-cut t m p n c k =
     subst (λ (j : ℕ). IsCut (take j t) m p) (end-at t m p n c k) (parent-cut t m p c k.len k.path)
+
+pub parent_end-text : (t : List ℕ) (m p n : ℕ) → IsCut t m p → IsParentEnd t n → parent_of t ≡ Some (take n t)
+parent_end-text t m p n c k = parent-is t m p c k.len k.path ∙ ap (λ j. Some (take j t)) (end-at t m p n c k)
 
 pub parent_end-meaning : (t : List ℕ) (m p n : ℕ) → IsCut t m p → IsParentEnd t n
     → Some (uri_of (take n t)) ≡ parent_uri (uri_of t)

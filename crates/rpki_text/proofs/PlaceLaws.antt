@@ -5,11 +5,10 @@ use Rattle.std.specs.List.{list_all}
 use Rattle.std.proofs.lemmas.List.{length-drop, length-take-le, length-append, take-append-drop}
 use Rattle.std.proofs.Math.Seq.{drop-append_seam}
 use Rattle.rpki_text.specs.UriText.{is_uri_byte}
-use Rattle.rpki_text.specs.RsyncText.{IsCut, authority_of, module_name_of, module_of, path_of}
+use Rattle.rpki_text.specs.RsyncText.{IsCut, authority_of, module_name_of, path_of}
 use Rattle.rpki_text.specs.HttpsText.{IsHttpsCut, https_authority, https_path}
 use Rattle.rpki_text.specs.Places.{IsPartAt}
 use Rattle.rpki_text.proofs.CutLaws.{cut-facts, list-all-take, list-all-drop}
-use Rattle.rpki_text.proofs.ModuleLaws.{module-is}
 use Rattle.rpki_text.proofs.HttpsPartLaws.{authority-long, https-halves}
 
 -- the octets of any range are characters of a URI where all are
@@ -45,15 +44,6 @@ module_name-first t m p c =
     length-take-le (m - 9) (drop 8 t) (omega (arith, facts.authority, facts.module_name, facts.fits, length-drop 8 t))
     in
     omega (arith, facts.authority, size, ap length facts.authority_is)
-
-pub module-at : (t : List ℕ) (m p : ℕ) → IsCut t m p → IsPartAt t (record { start = 0; end = p }) (module_of t)
-module-at t m p c =
-    let facts = cut-facts t m p c in
-    record {
-      ordered = omega arith;
-      within = facts.fits;
-      octets = ap (λ n. take n t) (omega arith) ∙ sym (module-is t m p c);
-    }
 
 -- what follows a place, to the end
 pub rest-at : (t part : List ℕ) (n : ℕ) → n ≤ length t → part ≡ drop n t

@@ -1,6 +1,6 @@
 -- A path cut at its slashes, and put together again.
 use Rattle.std.proofs.Common.{◌≡◌, ℕ, ◌+◌, ◌-◌, ◌<◌, Bool, true, false, cond, eqb, List, [], ◌∷◌, ◌++◌, length, take}
-use Rattle.std.proofs.Common.{drop, get_or, sym, refl, ap, None, Some, ◌⊎◌, inl, inr, ◌∙◌, arith}
+use Rattle.std.proofs.Common.{drop, get_or, sym, refl, ap, None, Some, ◌∙◌, arith}
 use Rattle.std.specs.List.{onto_first, before_first, after_first, position_or_len, slice_get}
 use Rattle.std.proofs.lemmas.List.Splits.{slice_split_first, slice_split_none}
 use Rattle.std.proofs.lemmas.List.{drop_all, take_all, take_more}
@@ -8,7 +8,7 @@ use Rattle.std.proofs.lemmas.Option.{slice_get-get_or, slice_get_within, get_or_
 use borrow.Author.Tests.{eqb-true}
 use Rattle.std.proofs.lemmas.List.Sums.{fails_before_first}
 use Rattle.std.proofs.lemmas.Grind.{common_steps}
-use Rattle.rpki_text.specs.SegmentLaws.{IsFilled, pieces-filled, path_text-segments}
+use Rattle.rpki_text.specs.SegmentLaws.{IsFilled, pieces-filled}
 use Rattle.rpki_text.specs.Segments.{is_slash, pieces, names_of, has_empty_last, segments, is_dir, path_text}
 
 onto-first-append : (b : ℕ) (ps qs : List (List ℕ)) → IsFilled ps → onto_first b (ps ++ qs) ≡ onto_first b ps ++ qs

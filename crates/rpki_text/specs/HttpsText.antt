@@ -109,3 +109,9 @@ https_parent_uri u = option_map (λ path. record { authority = u.authority; path
 unfoldable pub https_parent_of : List ℕ → Option (List ℕ)
 https_parent_of text = option_map (λ path. take (8 + length (https_authority text)) text ++ path)
     (path_above (https_path text))
+
+-- the parent of a text ends there: what stands before the path, and so much of the path as is above it
+pub record IsHttpsParentEnd (text : List ℕ) (end : ℕ) : Type 0 where
+  pub len : ℕ
+  pub at : end ≡ 8 + length (https_authority text) + len
+  pub path : path_above (https_path text) ≡ Some (take len (https_path text))

@@ -5,6 +5,7 @@ pub mod RsyncText
 pub mod HttpsText
 pub mod Places
 pub mod Buffer
+pub mod Cuts
 pub mod Views
 pub mod SchemeText
 pub mod GeneralName

@@ -1,5 +1,5 @@
 -- Where the parts of a text stand in it.
-use Rattle.std.specs.Prelude.{◌≡◌, ◌≤◌, ℕ, List, length, slice_range, Some}
+use Rattle.std.specs.Prelude.{◌≡◌, ◌≤◌, ◌<◌, ℕ, List, length, slice_range, Some}
 use Rattle.std.specs.declared.ops.Range.{Range}
 use Rattle.rpki_text.specs.RsyncText.{uri_of, relative}
 
@@ -15,3 +15,15 @@ pub record IsRelativeAt (u v : List ℕ) (range : Range ℕ) : Type 0 where
   pub leads : relative (uri_of u) (uri_of v) ≡ Some path
   pub stands : IsPartAt u range path
   pub last : range.end ≡ length u
+
+-- in a text of this length a module name and a path may begin there: the first after `rsync://` and a slash, the second
+-- after another slash
+pub record AreStarts (size module_start path_start : ℕ) : Type 0 where
+  pub authority : 8 < module_start
+  pub module_name : module_start < path_start
+  pub path : path_start ≤ size
+
+-- in a text of this length a path may begin there, after `https://`
+pub record IsHttpsStart (size path_start : ℕ) : Type 0 where
+  pub authority : 8 ≤ path_start
+  pub path : path_start ≤ size

@@ -4,7 +4,7 @@ use Rattle.rpki_text.specs.declared.uri.rsync_view.RsyncView.{RsyncView}
 use Rattle.rpki_text.specs.declared.uri.https_view.HttpsView.{HttpsView}
 
 abbrev pub rsync_text : RsyncView → List ℕ
-rsync_text u = u.text.now
+rsync_text u = u.cut.text.now
 
 abbrev pub https_text : HttpsView → List ℕ
-https_text u = u.text.now
+https_text u = u.cut.text.now

@@ -2,6 +2,7 @@
 //! the one call.
 
 mod base_64;
+mod cuts;
 mod failing;
 mod general_name;
 mod hex;

@@ -61,7 +61,7 @@ pub fn starts_with_ignore_case(s: &[u8], expected: &[u8]) -> bool
 }
 
 /// Whether both are the same, without regard to the case of ASCII letters. Those that are spelled alike take less time.
-pub fn eq_ignore_case(s: &[u8], other: &[u8]) -> bool
+pub(super) fn eq_ignore_case(s: &[u8], other: &[u8]) -> bool
     ensures { result ≡ bytes_eq (lowercase s.now) (lowercase other.now) }
 {
     s == other || (s.len() == other.len() && are_alike(s, other))

@@ -1,27 +1,24 @@
 //! Https URIs (RFC 9110 section 4.2.2).
 
-ghost use Rattle.std.specs.Prelude.{◌≡◌, ◌≤◌, true, false, length, take, bytes_eq, codes, Some, None, MatchResult, ◌+◌};
+ghost use Rattle.std.specs.Prelude.{◌≡◌, false, length, take, bytes_eq, codes, Some, None, MatchResult, ◌+◌};
 ghost use Rattle.std.specs.Prelude.{◌++◌, IfSome, IsOk, IfOk, OnOk, OnErr, IfErr, string_bytes};
 ghost use Rattle.std.specs.Cow.{cow_str_bytes};
-ghost use Rattle.std.specs.List.{list_all};
 ghost use Rattle.std.specs.Option.{option_map, unwrap_or};
 ghost use Rattle.std.specs.Ordering.{on};
 ghost use Rattle.rpki_text.specs.SameHttpsLaws.{same_https-hashed, https_equiv, https_per};
 ghost use Rattle.rpki_text.specs.Segments.{is_dir, with_slash};
-ghost use Rattle.rpki_text.specs.UriText.{lowercase, is_uri_byte};
+ghost use Rattle.rpki_text.specs.UriText.{lowercase};
 ghost use Rattle.rpki_text.specs.Views.{https_text};
+ghost use Rattle.rpki_text.specs.Cuts.{https_cut_text, IsOwnHttps};
 ghost use Rattle.rpki_text.specs.HttpsText.{https_refusal, IsHttpsCut, https_authority, https_path, https_uri_of};
 ghost use Rattle.rpki_text.specs.HttpsText.{IsHttpsUri, SpellsHttps, same_https, https_hashed, eq_https_bytes};
-ghost use Rattle.rpki_text.specs.HttpsText.{ends_in_slash, https_joined, https_joined_uri, https_join_refusal};
+ghost use Rattle.rpki_text.specs.HttpsText.{https_joined, https_joined_uri, https_join_refusal};
 ghost use Rattle.rpki_text.specs.HttpsText.{https_into_dir, https_parent_of, https_parent_uri};
 
-use super::characters::{
-    check_uri_ascii, eq_ignore_case, hash_in_lower_case, in_lower_case, same_but_case, uri_text,
-};
+use super::characters::{hash_in_lower_case, in_lower_case, same_but_case, uri_text};
 use super::error::Error;
+use super::https_cut::HttpsCut;
 use super::https_view::{HttpsView, check_https};
-use super::joined::joined_bytes;
-use super::path::len_above;
 use super::scheme::Scheme;
 use bytes::Bytes;
 use std::alloc::{AllocError, Global};
@@ -151,7 +148,15 @@ impl Https {
     pub fn view(&self) -> HttpsView<'_>
         ensures { https_text result ≡ self.now }
     {
-        HttpsView::at(self.bytes.as_slice(), self.path_start)
+        HttpsView::of(self.cut())
+    }
+
+    /// The text with the place of its path.
+    fn cut(&self) -> HttpsCut<'_>
+        ensures text { https_cut_text result ≡ self.now }
+        ensures own { IsOwnHttps result }
+    {
+        HttpsCut::of(self.bytes.as_slice(), self.path_start)
     }
 
     /// The text as it was spelled, in the memory that this URI shares.
@@ -196,10 +201,7 @@ impl Https {
     pub fn path_is_dir(&self) -> bool
         ensures { result ≡ is_dir (https_path self.now) }
     {
-        match self.path().as_bytes().last() {
-            None => true,
-            Some(last) => *last == b'/',
-        }
+        self.cut().path_is_dir()
     }
 
     /// The scheme and the authority.
@@ -208,15 +210,6 @@ impl Https {
     {
         let (front, _) = self.bytes.as_slice().split_at(self.path_start);
         front
-    }
-
-    fn path_ends_in_slash(&self) -> bool
-        ensures { result ≡ ends_in_slash (https_path self.now) }
-    {
-        match self.path().as_bytes().last() {
-            None => false,
-            Some(last) => *last == b'/',
-        }
     }
 }
 
@@ -237,7 +230,7 @@ impl Https {
         if self.path_is_dir() {
             return Ok(());
         }
-        let bytes = joined_bytes(alloc, self.bytes.as_slice(), true, b"")?;
+        let bytes = self.cut().as_dir().to_bytes(alloc)?;
         self.bytes = bytes;
         Ok(())
     }
@@ -253,11 +246,10 @@ impl Https {
         ensures none { https_parent_of self.now ≡ None → result ≡ Ok None }
     {
         let path_start = self.path_start;
-        let path = self.path().as_bytes();
-        let Some(len) = len_above(path) else {
+        let Some(len) = self.cut().parent_len() else {
             return Ok(None);
         };
-        let bytes = self.bytes.slice(0..self.bytes.len() - (path.len() - len))?;
+        let bytes = self.bytes.slice(0..len)?;
         Ok(Some(Https { bytes, path_start }))
     }
 
@@ -274,13 +266,7 @@ impl Https {
         ensures err { IfErr result (λ e. e ≡ unwrap_or (https_join_refusal path.now) Error.OutOfMemory) }
     {
         let path_start = self.path_start;
-        check_uri_ascii(path)?;
-        let bytes = joined_bytes(
-            alloc,
-            self.bytes.as_slice(),
-            !self.path_ends_in_slash(),
-            path,
-        )?;
+        let bytes = self.cut().joined(path)?.to_bytes(alloc)?;
         Ok(Https { bytes, path_start })
     }
 }
@@ -291,7 +277,7 @@ impl Https {
     pub fn eq_authority(&self, other: &Https) -> bool
         ensures { result ≡ bytes_eq (lowercase (https_authority self.now)) (lowercase (https_authority other.now)) }
     {
-        eq_ignore_case(self.authority().as_bytes(), other.authority().as_bytes())
+        self.cut().has_authority_of(&other.cut())
     }
 
     /// Whether these octets are the text but for the case of its scheme and its authority. For octets that are read as
@@ -311,7 +297,7 @@ impl PartialEq for Https {
     ghost laws = { https_per };
 
     fn eq(&self, other: &Https) -> bool {
-        self.eq_authority(other) && self.path() == other.path()
+        self.cut().is_equal_to(&other.cut())
     }
 }
 

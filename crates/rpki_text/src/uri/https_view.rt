@@ -1,15 +1,14 @@
 //! Https URIs in borrowed octets (RFC 9110 section 4.2.2).
 
-ghost use Rattle.std.specs.Prelude.{◌≡◌, ◌≢◌, ◌≤◌, length, None, Some, MatchResult, IfOk, OnOk, IfErr, slice_range};
+ghost use Rattle.std.specs.Prelude.{◌≡◌, ◌≢◌, length, None, Some, MatchResult, IfOk, OnOk, IfErr};
 ghost use Rattle.rpki_text.specs.HttpsText.{https_refusal, IsHttpsCut, https_authority, https_path};
 ghost use Rattle.rpki_text.specs.Places.{IsPartAt};
+ghost use Rattle.rpki_text.specs.Cuts.{IsOwnHttps};
 
 use super::characters::{check_uri_ascii, slash_at, starts_with_ignore_case, uri_text};
 use super::error::Error;
+use super::https_cut::{HttpsCut, SCHEME_LEN};
 use std::ops::Range;
-
-/// The length of the scheme and the slashes after it.
-const SCHEME_LEN: usize = 8;
 
 /// An authority has fewer octets than this.
 const AUTHORITY_LIMIT: usize = 256;
@@ -19,13 +18,13 @@ const AUTHORITY_LIMIT: usize = 256;
 /// Each part is a part of these octets, and has its range in them.
 #[derive(Clone, Copy)]
 pub struct HttpsView<'a> {
-    text: &'a [u8],
-    path_start: usize,
-    ghost cut: { IsHttpsCut text.now path_start },
+    cut: HttpsCut<'a>,
+    ghost own: { IsOwnHttps cut },
 }
 
 impl<'a> HttpsView<'a> {
     ghost use Rattle.rpki_text.specs.Views.{https_text};
+    ghost use Rattle.rpki_text.specs.Cuts.{https_cut_text};
 
     /// Reads a URI, whose text is then exactly these octets. Allocates nothing.
     ///
@@ -37,17 +36,24 @@ impl<'a> HttpsView<'a> {
     {
         let path_start = check_https(slice)?;
         Ok(HttpsView {
-            text: slice,
-            path_start,
+            cut: HttpsCut::of(slice, path_start),
         })
     }
 
     /// A view of a text that was read already.
-    pub(super) fn at(text: &'a [u8], path_start: usize) -> HttpsView<'a>
-        requires { IsHttpsCut text.now path_start }
-        ensures { https_text result ≡ text.now }
+    pub(super) fn of(cut: HttpsCut<'a>) -> HttpsView<'a>
+        requires { IsOwnHttps cut }
+        ensures { https_text result ≡ https_cut_text cut.entry }
     {
-        HttpsView { text, path_start }
+        HttpsView { cut }
+    }
+
+    /// The text with the place of its path.
+    pub fn cut(&self) -> HttpsCut<'a>
+        ensures text { https_cut_text result ≡ https_text self.now }
+        ensures own { IsOwnHttps result }
+    {
+        self.cut
     }
 
     /// The text as it was spelled, in octets. It is accepted when it is read again.
@@ -55,21 +61,21 @@ impl<'a> HttpsView<'a> {
         ensures text { result.now ≡ https_text self.now }
         ensures parses_again { https_refusal (https_text self.now) ≡ None }
     {
-        self.text
+        self.cut.as_slice()
     }
 
     /// The text as it was spelled.
     pub fn as_str(&self) -> &'a str
         ensures { result.now ≡ https_text self.now }
     {
-        uri_text(self.text)
+        uri_text(self.as_slice())
     }
 
     /// The authority as it was spelled, which may be empty.
     pub fn authority(&self) -> &'a str
         ensures { result.now ≡ https_authority (https_text self.now) }
     {
-        self.part(self.authority_range())
+        uri_text(self.cut.authority())
     }
 
     /// Where the authority stands in the text: after `https://`.
@@ -77,14 +83,14 @@ impl<'a> HttpsView<'a> {
         ensures part { IsPartAt (https_text self.now) result (https_authority (https_text self.now)) }
         ensures first { result.start ≡ 8 }
     {
-        SCHEME_LEN..self.path_start
+        SCHEME_LEN..self.cut.path_start
     }
 
     /// The path: empty, or everything from the first slash after `https://`.
     pub fn path(&self) -> &'a str
         ensures { result.now ≡ https_path (https_text self.now) }
     {
-        self.part(self.path_range())
+        uri_text(self.cut.path())
     }
 
     /// Where the path stands in the text: from its start to the end of the text.
@@ -92,16 +98,7 @@ impl<'a> HttpsView<'a> {
         ensures path { IsPartAt (https_text self.now) result (https_path (https_text self.now)) }
         ensures last { result.end ≡ length (https_text self.now) }
     {
-        self.path_start..self.text.len()
-    }
-
-    /// The octets of the text in this range, as text.
-    fn part(&self, range: Range<usize>) -> &'a str
-        requires ordered { range.start ≤ range.end }
-        requires within { range.end ≤ length (https_text self.now) }
-        ensures { result.now ≡ slice_range (https_text self.now) range.start range.end }
-    {
-        uri_text(&self.text[range.start..range.end])
+        self.cut.path_start..self.cut.text.len()
     }
 }
 

@@ -7,7 +7,7 @@ ghost use Rattle.std.specs.List.{suffix_len};
 ghost use Rattle.std.specs.Option.{option_copied};
 ghost use Rattle.rpki_text.specs.Segments.{is_slash, pieces, segments, is_dir, IsParentLen};
 ghost use Rattle.rpki_text.specs.RsyncText.{piece_refusal, names_refusal, path_refusal, path_left};
-ghost use Rattle.rpki_text.specs.HttpsText.{without_slash, path_above};
+ghost use Rattle.rpki_text.specs.HttpsText.{ends_in_slash, without_slash, path_above};
 
 use super::characters::slash_at;
 use super::error::Error;
@@ -116,7 +116,7 @@ fn after_ordinary(path: &[u8]) -> &[u8]
 /// Returns the first of these errors that applies: `Error::LongUri` for 3,072 octets or more; then, of the pieces
 /// between slashes from the left, the first that is `.` or `..` (`Error::DotSegments`), has 256 octets or more
 /// (`Error::LongSegments`), or is empty and not the last (`Error::EmptySegments`).
-pub fn check_path(path: &[u8]) -> Result<(), Error>
+pub(super) fn check_path(path: &[u8]) -> Result<(), Error>
     ensures { MatchResult result (λ _. path_refusal path.now ≡ None)
         (λ e. path_refusal path.now ≡ Some e) }
 {
@@ -133,7 +133,7 @@ pub fn check_path(path: &[u8]) -> Result<(), Error>
 
 /// The rest of a path that is the base or lies below it: what comes after the base's octets and a slash. A slash at the
 /// end of the base doesn't count, and every path lies below an empty one. The base is the path of a URI.
-pub fn path_below<'a>(path: &'a [u8], base: &[u8]) -> Option<&'a [u8]>
+pub(super) fn path_below<'a>(path: &'a [u8], base: &[u8]) -> Option<&'a [u8]>
     ensures below { names_refusal (segments base.now) ≡ None
         → option_copied result ≡ path_left path.now (segments base.now) }
     ensures tail { IfSome result (λ p. (n : ℕ) × (p.now ≡ drop n path.now)) }
@@ -146,6 +146,26 @@ pub fn path_below<'a>(path: &'a [u8], base: &[u8]) -> Option<&'a [u8]>
         return Some(rest);
     };
     if *first == b'/' { Some(below) } else { None }
+}
+
+/// Whether the path is empty or ends with a slash.
+pub(super) fn is_closed(path: &[u8]) -> bool
+    ensures { result ≡ is_dir path.now }
+{
+    match path.last() {
+        None => true,
+        Some(last) => *last == b'/',
+    }
+}
+
+/// Whether the path ends with a slash.
+pub(super) fn ends_in_slash(path: &[u8]) -> bool
+    ensures { result ≡ ends_in_slash path.now }
+{
+    match path.last() {
+        None => false,
+        Some(last) => *last == b'/',
+    }
 }
 
 /// How much of the text stands up to its last slash, with it.
@@ -163,7 +183,7 @@ fn after_last_slash(text: &[u8]) -> usize
 }
 
 /// How much of the path of an rsync URI stands before its last segment; `None` if the path is empty.
-pub fn parent_len(path: &[u8]) -> Option<usize>
+pub(super) fn parent_len(path: &[u8]) -> Option<usize>
     ensures none { IfNone result (path.now ≡ []) }
     ensures some { IfSome result (λ n. IsParentLen path.now n) }
 {
@@ -188,7 +208,7 @@ fn without_last_slash(path: &[u8]) -> &[u8]
 
 /// How much of the path of an https URI stands above it, if anything does: one last slash dropped, and then everything
 /// after the last slash that is left.
-pub fn len_above(path: &[u8]) -> Option<usize>
+pub(super) fn len_above(path: &[u8]) -> Option<usize>
     ensures none { IfNone result (path_above path.now ≡ None) }
     ensures some { IfSome result (λ n. path_above path.now ≡ Some (take n path.now)) }
     ensures within { IfSome result (λ n. n ≤ length path.now) }

@@ -1,17 +1,18 @@
 //! Rsync URIs (RFC 5781).
 
-ghost use Rattle.std.specs.Prelude.{◌≡◌, ◌≤◌, ◌<◌, not, true, false, length, take, drop, bytes_eq, nat_eq, nat_lt};
-ghost use Rattle.std.specs.Prelude.{codes, Some, None, MatchResult, ◌+◌, ◌-◌, ◌&&◌, ◌++◌, ◌^◌, IfSome, IsOk, IfOk};
+ghost use Rattle.std.specs.Prelude.{◌≡◌, ◌<◌, not, true, false, length, take, nat_eq, nat_lt};
+ghost use Rattle.std.specs.Prelude.{codes, Some, None, MatchResult, ◌+◌, ◌-◌, ◌++◌, IfSome, IsOk, IfOk};
 ghost use Rattle.std.specs.Prelude.{OnOk, OnErr, IfErr, is_some, [], string_bytes};
 ghost use Rattle.std.specs.Cow.{cow_str_bytes};
-ghost use Rattle.std.specs.List.{list_all, position_or_len, ends_with};
+ghost use Rattle.std.specs.List.{list_all, ends_with};
 ghost use Rattle.std.specs.Option.{option_copied, option_map, unwrap_or};
 ghost use Rattle.std.specs.Ordering.{on};
 ghost use Rattle.rpki_text.specs.SameUriLaws.{same_uri-hashed, texts_equiv, texts_per};
-ghost use Rattle.rpki_text.specs.Segments.{is_slash, is_dir, with_slash};
+ghost use Rattle.rpki_text.specs.Segments.{is_dir, with_slash};
 ghost use Rattle.rpki_text.specs.UriText.{lowercase, is_uri_byte};
 ghost use Rattle.rpki_text.specs.Views.{rsync_text};
-ghost use Rattle.rpki_text.specs.RsyncText.{rsync_refusal, has_module, RsyncUri, IsRsyncUri, uri_of, Spells, relative};
+ghost use Rattle.rpki_text.specs.Cuts.{cut_text, IsOwn};
+ghost use Rattle.rpki_text.specs.RsyncText.{rsync_refusal, IsRsyncUri, uri_of, Spells, relative};
 ghost use Rattle.rpki_text.specs.RsyncText.{is_parent, is_identical, IsWayBack, IsParentText, IsRsync, parent_uri};
 ghost use Rattle.rpki_text.specs.RsyncText.{parent_of, joined, joined_uri, join_refusal, same_uri, hashed, IsCut};
 ghost use Rattle.rpki_text.specs.RsyncText.{authority_of, module_name_of, module_of, IsAboveAllBelow};
@@ -21,8 +22,8 @@ use super::characters::{
     has_no_capital, hash_in_lower_case, in_lower_case, same_but_case, uri_text,
 };
 use super::error::Error;
-use super::joined::joined_bytes;
-use super::rsync_view::{Places, RsyncView, check_rsync};
+use super::rsync_cut::{Places, RsyncCut};
+use super::rsync_view::{RsyncView, check_rsync};
 use bytes::Bytes;
 use std::alloc::{AllocError, Global};
 use std::borrow::CowStr;
@@ -154,7 +155,15 @@ impl Rsync {
     pub fn view(&self) -> RsyncView<'_>
         ensures { rsync_text result ≡ self.now }
     {
-        RsyncView::at(self.bytes.as_slice(), self.places)
+        RsyncView::of(self.cut())
+    }
+
+    /// The text with the places of its parts.
+    fn cut(&self) -> RsyncCut<'_>
+        ensures text { cut_text result ≡ self.now }
+        ensures own { IsOwn result }
+    {
+        RsyncCut::of(self.bytes.as_slice(), self.places)
     }
 
     /// The text as it was spelled, in the memory that this URI shares.
@@ -227,14 +236,14 @@ impl Rsync {
     pub fn path_bytes(&self) -> &[u8]
         ensures { result.now ≡ path_of self.now }
     {
-        self.view().path().as_bytes()
+        self.cut().path()
     }
 
     /// Whether the path is empty or ends with a slash.
     pub fn path_is_dir(&self) -> bool
         ensures { result ≡ is_dir (path_of self.now) }
     {
-        self.view().path_is_dir()
+        self.cut().path_is_dir()
     }
 
     /// Whether the path, in octets, ends with `end`.
@@ -280,7 +289,7 @@ impl Rsync {
         if self.path_is_dir() {
             return Ok(());
         }
-        let bytes = self.dir_text(alloc)?;
+        let bytes = self.cut().as_dir().to_bytes(alloc)?;
         self.bytes = bytes;
         Ok(())
     }
@@ -344,42 +353,28 @@ impl Rsync {
         ensures irreflexive { is_parent (uri_of self.now) (uri_of self.now) ≡ false }
         ensures transitive { IsAboveAllBelow (uri_of self.now) (uri_of other.now) }
     {
-        match other.view().path_from(&self.view()) {
-            Some(path) => !path.is_empty(),
-            None => false,
-        }
+        self.cut().is_parent_of(&other.cut())
     }
 
     /// Whether both have the same authority, module and segments, with or without a slash last. Allocates nothing.
     pub fn is_identical_to(&self, other: &Rsync) -> bool
         ensures { result ≡ is_identical (uri_of self.now) (uri_of other.now) }
     {
-        match self.view().path_from(&other.view()) {
-            Some(path) => path.is_empty(),
-            None => false,
-        }
+        self.cut().is_identical_to(&other.cut())
     }
 
-    /// The text with a slash last, where the path has none.
-    fn dir_text(&self, alloc: Global) -> Result<Bytes, AllocError>
-        requires { is_dir (path_of self.now) ≡ false }
-        ensures { IfOk result (λ b. b ≡ with_slash self.now) }
-    {
-        joined_bytes(alloc, self.bytes.as_slice(), true, b"")
-    }
-
+    /// The text with the path joined to it.
     fn joined_text(&self, alloc: Global, path: &[u8]) -> Result<Bytes, Error>
         ensures text { IfOk result (λ b. b ≡ joined self.now path.now) }
         ensures ok { OnOk result (join_refusal self.now path.now ≡ None) }
         ensures err { IfErr result (λ e. e ≡ unwrap_or (join_refusal self.now path.now) Error.OutOfMemory) }
     {
-        let view = self.view();
-        view.joined_len(path)?;
+        let cut = self.cut();
+        let joined = cut.joined(path)?;
         if path.is_empty() {
             return Ok(self.bytes.clone()?);
         }
-        let slash = view.needs_slash(path);
-        Ok(joined_bytes(alloc, view.as_slice(), slash, path)?)
+        Ok(joined.to_bytes(alloc)?)
     }
 }
 
@@ -401,7 +396,7 @@ impl PartialEq for Rsync {
     ghost laws = { texts_per };
 
     fn eq(&self, other: &Rsync) -> bool {
-        self.view().has_module_of(&other.view()) && self.path_bytes() == other.path_bytes()
+        self.cut().is_equal_to(&other.cut())
     }
 }
 

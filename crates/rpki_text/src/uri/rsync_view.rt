@@ -1,47 +1,35 @@
 //! Rsync URIs in borrowed octets (RFC 5781).
 
-ghost use Rattle.std.specs.Prelude.{◌≡◌, ◌≢◌, ◌≤◌, ◌<◌, ◌+◌, [], ℕ, true, length, take, drop, Some, None, MatchResult};
-ghost use Rattle.std.specs.Prelude.{IfSome, IfNone, IfOk, OnOk, OnErr, IfErr, is_some, slice_range};
+ghost use Rattle.std.specs.Prelude.{◌≡◌, ◌≢◌, ◌≤◌, ◌<◌, ◌+◌, [], true, length, take, Some, None, MatchResult};
+ghost use Rattle.std.specs.Prelude.{IfSome, IfNone, IfOk, OnOk, OnErr, IfErr, is_some};
 ghost use Rattle.std.specs.Option.{option_copied};
 ghost use Rattle.rpki_text.specs.Segments.{is_dir};
 ghost use Rattle.rpki_text.specs.RsyncText.{rsync_refusal, has_module, uri_of, relative, is_identical, IsWayBack};
 ghost use Rattle.rpki_text.specs.RsyncText.{IsRsync, IsCut, authority_of, module_name_of, module_of, path_of};
-ghost use Rattle.rpki_text.specs.RsyncText.{parent_of, joined, join_refusal, joined_by, same_module_of, StartAt};
-ghost use Rattle.rpki_text.specs.RsyncText.{IsParentEnd};
+ghost use Rattle.rpki_text.specs.RsyncText.{parent_of, joined, join_refusal, StartAt, IsParentEnd};
 ghost use Rattle.rpki_text.specs.Places.{IsPartAt, IsRelativeAt};
 ghost use Rattle.rpki_text.specs.Buffer.{IsWritten};
+ghost use Rattle.rpki_text.specs.Cuts.{IsOwn};
 
-use super::characters::{
-    check_uri_ascii, eq_ignore_case, slash_at, starts_with_ignore_case, uri_text,
-};
+use super::characters::{check_uri_ascii, slash_at, starts_with_ignore_case, uri_text};
 use super::error::Error;
-use super::joined::write_joined;
-use super::path::{LEN_LIMIT, check_path, parent_len, path_below};
+use super::path::check_path;
+use super::rsync_cut::{Places, RsyncCut, SCHEME_LEN};
 use std::ops::Range;
-
-/// The length of the scheme and the slashes after it.
-const SCHEME_LEN: usize = 8;
-
-/// Where the name of the module and the path begin in the text.
-#[derive(Clone, Copy, Debug)]
-pub(super) struct Places {
-    pub(super) module_start: usize,
-    pub(super) path_start: usize,
-}
 
 /// An rsync URI in borrowed octets: what `Rsync` says of its text, without a copy and without an allocation.
 ///
 /// Each part is a part of these octets, and has its range in them.
 #[derive(Clone, Copy)]
 pub struct RsyncView<'a> {
-    text: &'a [u8],
-    places: Places,
-    ghost cut: { IsCut text.now places.module_start places.path_start },
+    cut: RsyncCut<'a>,
+    ghost own: { IsOwn cut },
 }
 
 /// # The text and its parts
 impl<'a> RsyncView<'a> {
     ghost use Rattle.rpki_text.specs.Views.{rsync_text};
+    ghost use Rattle.rpki_text.specs.Cuts.{cut_text};
 
     /// Reads a URI, whose text is then exactly these octets. Allocates nothing.
     ///
@@ -53,17 +41,24 @@ impl<'a> RsyncView<'a> {
     {
         let places = check_rsync(slice)?;
         Ok(RsyncView {
-            text: slice,
-            places,
+            cut: RsyncCut::of(slice, places),
         })
     }
 
     /// A view of a text that was read already.
-    pub(super) fn at(text: &'a [u8], places: Places) -> RsyncView<'a>
-        requires { IsCut text.now places.module_start places.path_start }
-        ensures { rsync_text result ≡ text.now }
+    pub(super) fn of(cut: RsyncCut<'a>) -> RsyncView<'a>
+        requires { IsOwn cut }
+        ensures { rsync_text result ≡ cut_text cut.entry }
     {
-        RsyncView { text, places }
+        RsyncView { cut }
+    }
+
+    /// The text with the places of its parts.
+    pub fn cut(&self) -> RsyncCut<'a>
+        ensures text { cut_text result ≡ rsync_text self.now }
+        ensures own { IsOwn result }
+    {
+        self.cut
     }
 
     /// The text as it was spelled, in octets. Nothing is wrong with it except perhaps its length.
@@ -71,21 +66,21 @@ impl<'a> RsyncView<'a> {
         ensures text { result.now ≡ rsync_text self.now }
         ensures form { IsRsync (rsync_text self.now) }
     {
-        self.text
+        self.cut.as_slice()
     }
 
     /// The text as it was spelled.
     pub fn as_str(&self) -> &'a str
         ensures { result.now ≡ rsync_text self.now }
     {
-        uri_text(self.text)
+        uri_text(self.as_slice())
     }
 
     /// The authority as it was spelled.
     pub fn authority(&self) -> &'a str
         ensures { result.now ≡ authority_of (rsync_text self.now) }
     {
-        self.part(self.authority_range())
+        uri_text(self.cut.authority())
     }
 
     /// Where the authority stands in the text: after `rsync://`.
@@ -93,14 +88,14 @@ impl<'a> RsyncView<'a> {
         ensures part { IsPartAt (rsync_text self.now) result (authority_of (rsync_text self.now)) }
         ensures first { result.start ≡ 8 }
     {
-        SCHEME_LEN..self.places.module_start - 1
+        SCHEME_LEN..self.cut.places.module_start - 1
     }
 
     /// The module's name, without slashes.
     pub fn module_name(&self) -> &'a str
         ensures { result.now ≡ module_name_of (rsync_text self.now) }
     {
-        self.part(self.module_name_range())
+        uri_text(self.cut.module_name())
     }
 
     /// Where the module's name stands in the text: after the authority and a slash.
@@ -108,21 +103,21 @@ impl<'a> RsyncView<'a> {
         ensures part { IsPartAt (rsync_text self.now) result (module_name_of (rsync_text self.now)) }
         ensures first { result.start ≡ 9 + length (authority_of (rsync_text self.now)) }
     {
-        self.places.module_start..self.places.path_start - 1
+        self.cut.places.module_start..self.cut.places.path_start - 1
     }
 
     /// Everything up to the path as it was spelled: the scheme, the authority and the module, with the slash after it.
     pub fn module(&self) -> &'a str
         ensures { result.now ≡ module_of (rsync_text self.now) }
     {
-        self.part(0..self.places.path_start)
+        uri_text(self.cut.module())
     }
 
     /// The path, without a slash before it.
     pub fn path(&self) -> &'a str
         ensures { result.now ≡ path_of (rsync_text self.now) }
     {
-        self.part(self.path_range())
+        uri_text(self.cut.path())
     }
 
     /// Where the path stands in the text: from its start to the end of the text.
@@ -130,26 +125,14 @@ impl<'a> RsyncView<'a> {
         ensures path { IsPartAt (rsync_text self.now) result (path_of (rsync_text self.now)) }
         ensures last { result.end ≡ length (rsync_text self.now) }
     {
-        self.places.path_start..self.text.len()
+        self.cut.places.path_start..self.cut.text.len()
     }
 
     /// Whether the path is empty or ends with a slash.
     pub fn path_is_dir(&self) -> bool
         ensures { result ≡ is_dir (path_of (rsync_text self.now)) }
     {
-        match self.path().as_bytes().last() {
-            None => true,
-            Some(last) => *last == b'/',
-        }
-    }
-
-    /// The octets of the text in this range, as text.
-    fn part(&self, range: Range<usize>) -> &'a str
-        requires ordered { range.start ≤ range.end }
-        requires within { range.end ≤ length (rsync_text self.now) }
-        ensures { result.now ≡ slice_range (rsync_text self.now) range.start range.end }
-    {
-        uri_text(&self.text[range.start..range.end])
+        self.cut.path_is_dir()
     }
 }
 
@@ -166,7 +149,7 @@ impl<'a> RsyncView<'a> {
         ensures same { IfSome result (λ p. p.now ≡ []
             → is_identical (uri_of (rsync_text self.now)) (uri_of (rsync_text base.now)) ≡ true) }
     {
-        let path = self.path_from(base)?;
+        let path = self.cut.relative_to(&base.cut)?;
         Some(uri_text(path))
     }
 
@@ -175,8 +158,7 @@ impl<'a> RsyncView<'a> {
         ensures some { IfSome result (λ r. IsRelativeAt (rsync_text self.now) (rsync_text base.now) r) }
         ensures none { IfNone result (relative (uri_of (rsync_text self.now)) (uri_of (rsync_text base.now)) ≡ None) }
     {
-        let path = self.path_from(base)?;
-        Some(self.text.len() - path.len()..self.text.len())
+        self.cut.relative_range(&base.cut)
     }
 
     /// The length of the parent's text, which is the beginning of this one: this text up to its last segment. `None` if
@@ -187,8 +169,7 @@ impl<'a> RsyncView<'a> {
         ensures segments { IfSome result (λ n. IsParentEnd (rsync_text self.now) n) }
         ensures none { IfNone result (parent_of (rsync_text self.now) ≡ None) }
     {
-        let len = parent_len(self.path().as_bytes())?;
-        Some(self.places.path_start + len)
+        self.cut.parent_len()
     }
 
     /// The length of the text that `Rsync::join` makes of this URI and the path. Allocates nothing.
@@ -200,16 +181,8 @@ impl<'a> RsyncView<'a> {
         ensures err { IfErr result (λ e. join_refusal (rsync_text self.now) path.now ≡ Some e) }
         ensures memory { IfErr result (λ e. e ≢ Error.OutOfMemory) }
     {
-        if path.is_empty() {
-            return Ok(self.text.len());
-        }
-        check_uri_ascii(path)?;
-        check_path(path)?;
-        let len = self.text.len() + usize::from(self.needs_slash(path)) + path.len();
-        if len >= LEN_LIMIT {
-            return Err(Error::LongUri);
-        }
-        Ok(len)
+        let joined = self.cut.joined(path)?;
+        Ok(joined.len())
     }
 
     /// Writes the text that `Rsync::join` makes of this URI and the path to the front of the buffer, and returns its
@@ -226,39 +199,8 @@ impl<'a> RsyncView<'a> {
         ensures kept { OnErr result (buffer.new ≡ buffer.old) }
         ensures memory { IfErr result (λ e. e ≢ Error.OutOfMemory) }
     {
-        let len = self.joined_len(path)?;
-        if buffer.len() < len {
-            return Ok(None);
-        }
-        write_joined(self.text, self.needs_slash(path), path, buffer);
-        Ok(Some(len))
-    }
-
-    /// Whether a slash stands between this text and a path that is joined to it.
-    pub(super) fn needs_slash(&self, path: &[u8]) -> bool
-        ensures { joined_by result (rsync_text self.now) path.now ≡ joined (rsync_text self.now) path.now }
-    {
-        !path.is_empty() && !self.path_is_dir()
-    }
-
-    /// The path from the base to this URI in octets, which is empty if the segments are the same.
-    pub(super) fn path_from(&self, base: &RsyncView<'_>) -> Option<&'a [u8]>
-        ensures path { option_copied result ≡ relative (uri_of (rsync_text self.now)) (uri_of (rsync_text base.now)) }
-        ensures tail { IfSome result (λ p. (n : ℕ) × (p.now ≡ drop n (rsync_text self.now))) }
-        ensures forms { IfSome result (λ _. IsRsync (rsync_text self.now) × IsRsync (rsync_text base.now)) }
-    {
-        if !self.has_module_of(base) {
-            return None;
-        }
-        path_below(self.path().as_bytes(), base.path().as_bytes())
-    }
-
-    /// Whether both have the same authority, ignoring case, and the same module.
-    pub(super) fn has_module_of(&self, other: &RsyncView<'_>) -> bool
-        ensures { result ≡ same_module_of (rsync_text self.now) (rsync_text other.now) }
-    {
-        eq_ignore_case(self.authority().as_bytes(), other.authority().as_bytes())
-            && self.module_name() == other.module_name()
+        let joined = self.cut.joined(path)?;
+        Ok(joined.write_to(buffer))
     }
 }
 

@@ -1,8 +1,8 @@
-use Rattle.std.proofs.Common.{◌≡◌, ◌++◌, ◌∷◌, [], cond, None, inl, inr, subst, List, ℕ}
+use Rattle.std.proofs.Common.{◌≡◌, List, ℕ, None, inl, inr, ap, ◌∙◌, subst}
 use Rattle.rpki_text.specs.RsyncText.{joined, join_refusal}
 use Rattle.rpki_text.proofs.JoinLaws.{cut-joined-any}
 use Rattle.rpki_c.specs.Stored.{IsStored}
-use Rattle.rpki_c.proofs.RsyncPlacesLaws.{parts-cut, cut-own, end-parts}
+use Rattle.rpki_c.proofs.RsyncPlacesLaws.{parts-cut, end-parts}
 use Rattle.rpki_c.proofs.rsync_parts.rpki_rsync_parts_join.Goals as goal
 
 pub returns-in-Ok : goal.returns-in-Ok
@@ -10,17 +10,14 @@ returns-in-Ok c =
     let t = c.args.base.now in
     let p = c.args.parts.now in
     let path = c.args.path.now in
-    let laid = c.in-Some.ensures.some.0 in
-    let at = c.in-Some.ensures.some.1 in
+    let laid = c.in-Some.ensures.laid_out in
     inr (
       laid,
       λ a.
-          let own = cut-own t p c.in-Some.uri at a in
-          let ok : join_refusal t path ≡ None =
-          subst (λ (x : List ℕ). join_refusal x path ≡ None) at.whole (c.in-Ok.ensures.ok own) in
-          let text : cond c.in-Ok.slash (t ++ 47 ∷ []) t ++ path ≡ joined t path =
-          subst (λ (x : List ℕ). cond c.in-Ok.slash (x ++ 47 ∷ []) x ++ path ≡ joined x path) at.whole
-          (c.in-Ok.ensures.text own) in
+          let own = c.in-Some.ensures.own a in
+          let ok = subst (λ (x : List ℕ). join_refusal x path ≡ None) c.in-Some.ensures.text
+          (c.in-Ok.ensures.ok own) in
+          let text = c.in-Ok.ensures.text own ∙ ap (λ x. joined x path) c.in-Some.ensures.text in
           inl (
             ok,
             subst (λ (s : List ℕ). IsStored s c.store_joined.result c.args.out.now c.store_joined.new.out

@@ -5,11 +5,17 @@ use Rattle.rpki_text.proofs.JoinLaws.{cut-dir, is_dir-text, with_slash-dir}
 use Rattle.rpki_text.proofs.MeaningLaws.{into_dir-begins, into_dir-meaning, into_dir-same}
 use Rattle.rpki_text.proofs.uri.rsync.Rsync.path_into_dir.Goals as goal
 
+whole : (c : goal.Joined-self-bytes) → c.in_ok-bytes.bytes ≡ with_slash c.args.self.now
+whole c = c.in_ok-bytes.ensures ∙ c.as_dir.ensures c.cut.ensures.own ∙ ap with_slash c.cut.ensures.text
+
 pub invariant_of-self : goal.invariant_of-self
 invariant_of-self c =
     let d = cut-dir c.self.inside.bytes _ _ c.self.invariant in
     subst (λ (b : List ℕ). IsCut b c.self.inside.places.module_start c.self.inside.places.path_start)
-    (sym (c.in_ok-bytes.ensures ∙ ap with_slash (sym c.self.view_is))) d
+    (sym (whole c ∙ ap with_slash (sym c.self.view_is))) d
+
+pub returns-clause-ok : goal.returns-clause-ok
+returns-clause-ok c = whole c
 
 pub returns-then-path_is_dir-clause-ok : goal.returns-then-path_is_dir-clause-ok
 returns-then-path_is_dir-clause-ok c =
@@ -27,8 +33,8 @@ pub returns-clause-meaning : goal.returns-clause-meaning
 returns-clause-meaning c =
     let mine : IsCut c.args.self.now c.self.inside.places.module_start c.self.inside.places.path_start = rw
     (← c.self.view_is) c.self.invariant in
-    rw c.in_ok-bytes.ensures (into_dir-meaning c.args.self.now _ _ mine
+    rw (whole c) (into_dir-meaning c.args.self.now _ _ mine
     (sym c.path_is_dir.ensures ∙ c.if-path_is_dir.false))
 
 pub returns-clause-begins : goal.returns-clause-begins
-returns-clause-begins c = rw c.in_ok-bytes.ensures (into_dir-begins c.args.self.now)
+returns-clause-begins c = rw (whole c) (into_dir-begins c.args.self.now)

@@ -1,9 +1,9 @@
-use Rattle.std.proofs.Common.{◌∙◌}
-use Rattle.rpki_text.proofs.PlaceLaws.{module-at}
+use Rattle.rpki_text.specs.UriText.{is_uri_byte}
+use Rattle.rpki_text.proofs.CutLaws.{list-all-take}
+use Rattle.rpki_text.proofs.ModuleLaws.{module-is}
 use Rattle.rpki_text.proofs.uri.rsync_view.RsyncView.module.Goals as goal
 
-pub part-requires-clause-within : goal.part-requires-clause-within
-part-requires-clause-within c = let at = module-at _ _ _ c.args.self.now.cut in at.within
-
-pub returns : goal.returns
-returns c = let at = module-at _ _ _ c.args.self.now.cut in c.part.ensures ∙ at.octets
+pub uri_text-requires : goal.uri_text-requires
+uri_text-requires c =
+    let own = c.args.self.now.own in
+    rw (c.module.ensures own, module-is _ _ _ own) (list-all-take is_uri_byte _ _ own.form.characters)
