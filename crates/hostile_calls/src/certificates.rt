@@ -125,15 +125,20 @@ fn tell_read(alloc: Global, report: Report, octets: Vec<u8>) -> Result<(), Failu
             tell_located(alloc, report, tbs)?;
             tell_inspections(report, tbs)?;
         }
-        Err(DecodeError::OutOfMemory) => report.words("out of memory")?,
-        Err(e) => report.shown("rejected", &e)?,
+        Err(wrong) => match wrong.error {
+            DecodeError::OutOfMemory => report.words("out of memory")?,
+            e => report.shown("rejected", &e)?,
+        },
     }
     Ok(())
 }
 
 /// The first of the certificates that are left.
 fn next(alloc: Global, cursor: &mut Constructed<'_>) -> Result<Cert, Refusal> {
-    Ok(Cert::take_from(alloc, cursor)?)
+    match Cert::take_from(alloc, cursor) {
+        Ok(cert) => Ok(cert),
+        Err(wrong) => Err(Refusal::from(wrong.error)),
+    }
 }
 
 /// Whether the certificate is one of a certification authority.

@@ -1,7 +1,7 @@
 //! Calls on revocation lists.
 
 use crate::provider::Stamps;
-use crate::refusal::Failure;
+use crate::refusal::{Failure, Refusal};
 use crate::report::Report;
 use bytes::Bytes;
 use rpki::repository::x509::{Serial, Time};
@@ -56,7 +56,10 @@ fn tell_issued(
         return Err(Failure::Usage);
     };
     let mut cursor = Constructed::from_slice(octets.as_slice());
-    let anchor = Cert::take_from(alloc, &mut cursor)?;
+    let anchor = match Cert::take_from(alloc, &mut cursor) {
+        Ok(anchor) => anchor,
+        Err(wrong) => return Err(Failure::from(Refusal::from(wrong.error))),
+    };
     let list = Crl::take_from(alloc, &mut cursor)?;
     match anchor.verify_ta(alloc, &Stamps, true, at) {
         Ok(issuer) => match list.verify(&issuer, at) {

@@ -1,7 +1,7 @@
 //! Calls on signed objects.
 
 use crate::provider::Stamps;
-use crate::refusal::Failure;
+use crate::refusal::{Failure, Refusal};
 use crate::report::Report;
 use bytes::Bytes;
 use rpki::repository::x509::Time;
@@ -42,7 +42,10 @@ fn tell_valid(alloc: Global, report: Report, moment: &str, octets: Vec<u8>) -> R
         return Err(Failure::Usage);
     };
     let mut cursor = Constructed::from_slice(octets.as_slice());
-    let anchor = Cert::take_from(alloc, &mut cursor)?;
+    let anchor = match Cert::take_from(alloc, &mut cursor) {
+        Ok(anchor) => anchor,
+        Err(wrong) => return Err(Failure::from(Refusal::from(wrong.error))),
+    };
     let object = SignedObject::take_from(alloc, false, &mut cursor)?;
     match anchor.verify_ta(alloc, &Stamps, true, at) {
         Ok(issuer) => match object.verify(alloc, &issuer, true, at) {

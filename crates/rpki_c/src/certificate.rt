@@ -124,6 +124,6 @@ pub extern "C" fn rpki_certificate(octets: &[u8], out: &mut CertificateParts) ->
             *out = parts_of(octets, &found);
             0
         }
-        Err(part) => part_number(part),
+        Err(wrong) => part_number(wrong.part),
     }
 }

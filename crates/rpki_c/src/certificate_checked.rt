@@ -31,7 +31,7 @@ fn check(
 {
     let found = match CertView::read(octets) {
         Ok(found) => found,
-        Err(part) => return part_number(part),
+        Err(wrong) => return part_number(wrong.part),
     };
     match found.check(profile, strict) {
         Ok(known) => {

@@ -40,7 +40,7 @@ fn find(octets: &[u8], kind: ExtensionKind, out: &mut KnownExtension) -> u8
             *out = extension_at(octets, &found, kind);
             0
         }
-        Err(part) => part_number(part),
+        Err(wrong) => part_number(wrong.part),
     }
 }
 

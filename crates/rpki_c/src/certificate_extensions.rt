@@ -188,7 +188,7 @@ pub extern "C" fn rpki_certificate_extensions(octets: &[u8], out: &mut KnownExte
 {
     let found = match CertView::read(octets) {
         Ok(found) => found,
-        Err(part) => return part_number(part),
+        Err(wrong) => return part_number(wrong.part),
     };
     match found.tbs.named.keyed.known() {
         Ok(known) => {

@@ -75,7 +75,7 @@ fn inspect(octets: &[u8], profile: Profile, strict: bool) -> u8
             Ok(()) => 0,
             Err(rule) => cert_rule_number(rule),
         },
-        Err(part) => part_number(part),
+        Err(wrong) => part_number(wrong.part),
     }
 }
 

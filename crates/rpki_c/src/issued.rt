@@ -52,7 +52,7 @@ pub extern "C" fn rpki_certificate_issued_by(octets: &[u8], issuer: &[u8]) -> u8
 {
     let found = match CertView::read(octets) {
         Ok(found) => found,
-        Err(part) => return part_number(part),
+        Err(wrong) => return part_number(wrong.part),
     };
     let known = match found.tbs.named.keyed.known() {
         Ok(known) => known,

@@ -1,177 +1,132 @@
--- What is signed of a certificate, and a certificate around it.
-use Rattle.std.proofs.Common.{◌≡◌, ◌≢◌, inl, inr, ℕ, Bool, true, List, [], Result, Ok, Err, refl, sym, ap, subst, ◌∙◌}
-use Rattle.std.specs.Prelude.{codes}
+-- A certificate that was read in place and kept; and one that wasn't read.
+use Rattle.std.proofs.Common.{◌≡◌, ◌≢◌, ◌∙◌, ℕ, Bool, true, List, [], ◌∷◌, ◌++◌, Result, Ok, Err, refl, sym, ap, subst}
+use Rattle.std.proofs.Common.{◌⊎◌, inl, inr}
 use Rattle.rpki_der.specs.declared.error.DecodeError.{DecodeError}
-use Rattle.rpki_der.specs.declared.error.DecodeError.TheVariants.{Trailing}
+use Rattle.rpki_der.specs.declared.error.DecodeError.TheVariants.{Truncated, BadTag, BadLength, Unexpected, Content}
+use Rattle.rpki_der.specs.declared.error.DecodeError.TheVariants.{Trailing, OutOfMemory}
 use Rattle.rpki_der.specs.TagName.{sequence}
-use Rattle.rpki_der.specs.Reading.{Spells, Accepts, Refusal, Reads, SpellsNothing}
-use Rattle.rpki_der.specs.Values.{SpellsLeaf}
-use Rattle.rpki_der.specs.Parts.{Then}
-use Rattle.rpki_der.specs.FirstFault.FirstFault.{AtPart, Later}
-use Rattle.rpki_der.proofs.ReadingLaws.{UnlessMemory-weaker, UnlessMemory-from}
-use Rattle.rpki_der.proofs.ComposedLaws.{all-read, nothing-whole, nothing-after}
-use Rattle.rpki_der.proofs.PartsLaws.{IsOnly}
-use Rattle.rpki_time.specs.Serial.{SpellsSerial}
-use Rattle.rpki_time.specs.Validity.{Period}
-use Rattle.rpki_time.specs.PeriodValue.{SpellsPeriod}
-use Rattle.rpki.specs.Name.{SpellsNameOctets}
-use Rattle.rpki.specs.PublicKey.{KeyParts, SpellsKey}
-use Rattle.rpki.specs.ExtensionValue.{ExtensionParts}
-use Rattle.rpki.specs.SignedData.{SignedParts}
-use Rattle.rpki.specs.UnknownAlgorithm.{IsContentWith}
-use Rattle.rpki_cert.specs.Cert.{TbsParts, CertParts, cert_parts, SpellsExtensions, SpellsRpkiAlgorithm, Fields}
-use Rattle.rpki_cert.specs.Cert.{fields_of, AreFields, SpellsTbs, SpellsWhole, SpellsCert}
-use Rattle.rpki_cert.specs.CertFault.{IsWholeSignedFault, IsCertFault}
-use Rattle.rpki_cert.specs.Cert.{tbs_certificate}
+use Rattle.rpki_der.specs.Header.{tlv}
+use Rattle.rpki_der.specs.Reading.{Spells, Accepts, Refuses, Refusal, UnlessMemory, SpellsNothing, Finds}
+use Rattle.rpki_der.specs.Standing.{StandsBefore}
+use Rattle.rpki_der.specs.Values.{SpellsContents, IsContentsFault}
+use Rattle.rpki_der.proofs.InsideLaws.{unless-memory}
+use Rattle.rpki_der.proofs.LeavesLaws.{contents-no-memory}
+use Rattle.rpki_cert.specs.declared.read.cert_part.CertPart.{CertPart}
+use Rattle.rpki_cert.specs.declared.read.cert_error.CertError.{CertError}
+use Rattle.rpki_cert.specs.declared.read.fields.TbsView.{TbsView}
+use Rattle.rpki_cert.specs.declared.read.view.CertView.{CertView}
+use Rattle.rpki_cert.specs.Cert.{TbsParts, CertParts, AreFields, fields_of, SpellsTbs, SpellsCert}
+use Rattle.rpki_cert.specs.CertError.{cert_error}
+use Rattle.rpki_cert.specs.CertFault.{IsFrontError, IsCertFault, IsFrontTbsError, IsTbsFault}
+use Rattle.rpki_cert.specs.Kept.{IsTbsAt, IsCertOf}
+use Rattle.rpki_cert.specs.View.{frame, FirstWrong, HasOne, AreFieldsWrong, AreContentsWrong, AreContentsOf, IsTbsIn}
+use Rattle.rpki_cert.specs.View.FirstWrong.{AtPart, Later}
+use Rattle.rpki_cert.proofs.WrongLaws.{front-wrong, front-tbs-wrong}
 
--- ---- what follows each field
+unless-other : (e : DecodeError) {P : Type 0} → (e ≢ OutOfMemory → P) → UnlessMemory e P
+unless-other Truncated h = h (λ z. cc)
+unless-other BadTag h = h (λ z. cc)
+unless-other BadLength h = h (λ z. cc)
+unless-other Unexpected h = h (λ z. cc)
+unless-other (Content x) h = h (λ z. cc)
+unless-other Trailing h = h (λ z. cc)
+unless-other OutOfMemory h = tt
 
-abbrev pub AfterSubject : KeyParts × List ExtensionParts → List ℕ → Type 0
-AfterSubject = Then SpellsKey SpellsExtensions
+-- ---- the SEQUENCE around all
 
-abbrev pub AfterValidity : List ℕ × (KeyParts × List ExtensionParts) → List ℕ → Type 0
-AfterValidity = Then SpellsNameOctets AfterSubject
+abbrev Frame : List ℕ → List ℕ → Type 0
+Frame = SpellsContents sequence true
 
-abbrev pub AfterIssuer : Period × (List ℕ × (KeyParts × List ExtensionParts)) → List ℕ → Type 0
-AfterIssuer = Then SpellsPeriod AfterValidity
+-- it isn't there
+pub unframed : (part : CertPart) (L : List ℕ → List ℕ → CertError → Type 0) (s r : List ℕ) (e : DecodeError)
+    → Refusal Frame (IsContentsFault sequence true) s r e → FirstWrong (frame sequence) part L s (cert_error part e)
+unframed part L s r e h =
+    AtPart (unless-memory e (λ z. contents-no-memory sequence true s e h.kind z) h.refuses) h.kind refl
 
-abbrev pub AfterAlgorithm : List ℕ × (Period × (List ℕ × (KeyParts × List ExtensionParts))) → List ℕ → Type 0
-AfterAlgorithm = Then SpellsNameOctets AfterIssuer
-
-abbrev pub AfterSerial : Bool × (List ℕ × (Period × (List ℕ × (KeyParts × List ExtensionParts)))) → List ℕ → Type 0
-AfterSerial = Then SpellsRpkiAlgorithm AfterAlgorithm
-
-abbrev pub AfterVersion : ℕ × (Bool × (List ℕ × (Period × (List ℕ × (KeyParts × List ExtensionParts))))) → List ℕ
-    → Type 0
-AfterVersion = Then SpellsSerial AfterSerial
-
--- ---- the fields as a record
-
-abbrev tbs_of : Fields → TbsParts
-tbs_of f =
-    record {
-      serial = f.1.0;
-      algorithm = f.1.1.0;
-      issuer = f.1.1.1.0;
-      validity = f.1.1.1.1.0;
-      subject = f.1.1.1.1.1.0;
-      key = f.1.1.1.1.1.1.0;
-      extensions = f.1.1.1.1.1.1.1;
-    }
-
-abbrev SpellsFields : Fields → List ℕ → Type 0
-SpellsFields = SpellsLeaf sequence true AreFields
-
-as-fields : (s : List ℕ) (x : TbsParts) (r : List ℕ) → Spells SpellsTbs s x r → Spells SpellsFields s (fields_of x) r
-as-fields s x r h = record { front = h.front; parts = h.parts; spelled = h.spelled }
-
-pub reads-tbs : (K : List ℕ → DecodeError → Type 0) (s r : List ℕ) (x : Result TbsParts DecodeError)
-    → Reads fields_of SpellsFields K s r x → Reads (λ x. x) SpellsTbs K s r x
-reads-tbs K s r (Ok x) h = record {
-  spells = record { front = h.spells.front; parts = h.spells.parts; spelled = h.spells.spelled };
-  only = λ w q k. let e = h.only (fields_of w) q (as-fields s w q k) in (ap tbs_of e.0, e.1);
-}
-reads-tbs K s r (Err e) h = record {
-  unchanged = h.unchanged;
-  refuses =
-      UnlessMemory-weaker e (λ none x q k. none (fields_of x) q (as-fields s x q k)) h.refuses;
-  kind = h.kind;
-}
-
--- the same of any reader of a grammar whose values are others by another name
-module _ {V W : Type 0} (f : V → W) (back : W → V) (same : (v : V) → back (f v) ≡ v) (G : W → List ℕ → Type 0) where
-  spelled-as : (s : List ℕ) (v : V) (r : List ℕ) → Spells (λ (v : V). G (f v)) s v r → Spells G s (f v) r
-  spelled-as s v r h = record { front = h.front; parts = h.parts; spelled = h.spelled }
-
-  pub reads-as : (K : List ℕ → DecodeError → Type 0) (s r : List ℕ) (x : Result V DecodeError) → Reads f G K s r x
-      → Reads (λ v. v) (λ (v : V). G (f v)) K s r x
-  reads-as K s r (Ok x) h = record {
-    spells = record { front = h.spells.front; parts = h.spells.parts; spelled = h.spells.spelled };
-    only = λ w q k. let e = h.only (f w) q (spelled-as s w q k) in (sym (same w) ∙ ap back e.0 ∙ same x, e.1);
-  }
-  reads-as K s r (Err e) h = record {
-    unchanged = h.unchanged;
-    refuses =
-        UnlessMemory-weaker e (λ none x q k. none (f x) q (spelled-as s x q k)) h.refuses;
-    kind = h.kind;
+-- values whose contents are in a SEQUENCE
+module _ {V : Type 0} (G : V → List ℕ → Type 0) (around : (v : V) (p : List ℕ) → G v p → (c : List ℕ) × Frame c p) where
+  -- the octets in front are a value, and no other
+  pub framed-accepted : (s c r : List ℕ) (v : V) (a : Accepts Frame s c r) → G v a.spells.front
+      → HasOne G a.spells.front → Accepts G s v r
+  framed-accepted s c r v a here one = record {
+    spells = record { front = a.spells.front; parts = a.spells.parts; spelled = here };
+    only = λ w q h.
+        let (d, k) = around w h.front h.spelled in
+        let e = a.only d q (record { front = h.front; parts = h.parts; spelled = k }) in
+        let same : h.front ≡ a.spells.front =
+        k.octets ∙ ap (λ (x : List ℕ). tlv sequence true x) e.0 ∙ sym a.spells.spelled.octets in
+        (one w v (subst (G w) same h.spelled) here, e.1);
   }
 
--- ---- a certificate
+-- ---- errors
 
-as-signed : (s : List ℕ) (x : CertParts) (r : List ℕ) → Spells SpellsCert s x r → Spells SpellsWhole s x.signed r
-as-signed s x r h = record {
-  front = h.front;
-  parts = h.parts;
-  spelled =
-      record { signed = h.spelled.signed; used = h.spelled.used };
-}
+module _ {V : Type 0} (G : V → List ℕ → Type 0) (F : List ℕ → CertError → Type 0)
+    (wrong : (s : List ℕ) (q : CertError) → q.error ≢ OutOfMemory → F s q → Refuses G s) where
+  abbrev Fault : List ℕ → DecodeError → Type 0
+  Fault s e = ((part : CertPart) × F s (cert_error part e)) ⊎ ((e ≡ OutOfMemory) × Finds G s)
 
--- there is no signed data
-pub unsigned : (s r : List ℕ) (e : DecodeError) → Refusal SpellsWhole IsWholeSignedFault s r e
-    → Refusal SpellsCert IsCertFault s s e
-unsigned s r e h = record {
-  unchanged = refl;
-  refuses =
-      UnlessMemory-weaker e (λ none x q k. none x.signed q (as-signed s x q k)) h.refuses;
-  kind =
-      AtPart h.refuses h.kind;
-}
-
-module _ (s r : List ℕ) (d : SignedParts Bool) (a : Accepts SpellsWhole s d r) where
-  not-inside : SpellsNothing SpellsTbs d.signed → (x : CertParts) (q : List ℕ) → Spells SpellsCert s x q → ⊥
-  not-inside none x q k =
-      let one = a.only x.signed q (as-signed s x q k) in
-      none x.tbs (subst (λ (y : SignedParts Bool). SpellsTbs x.tbs y.signed) one.0 k.spelled.tbs)
-
-  -- what is signed isn't a TBSCertificate
-  pub not-tbs : (q : List ℕ) (e : DecodeError) → Refusal SpellsTbs tbs_certificate.fault d.signed q e
-      → Refusal SpellsCert IsCertFault s s e
-  not-tbs q e h = record {
+  pub refused-front : (s : List ℕ) (q : CertError) → F s q → Refusal G Fault s s q.error
+  refused-front s q h = record {
     unchanged = refl;
-    refuses = UnlessMemory-weaker e (λ none. not-inside (nothing-whole SpellsTbs d.signed none)) h.refuses;
-    kind = Later d r a (AtPart h.refuses h.kind);
+    refuses = unless-other q.error (λ other. wrong s q other h);
+    kind = inl (q.part, h);
   }
 
-  module _ (t : TbsParts) (q : List ℕ) (b : Accepts SpellsTbs d.signed t q) where
-    -- something follows a TBSCertificate
-    pub more-signed : q ≢ [] → Refusal SpellsCert IsCertFault s s Trailing
-    more-signed some = record {
-      unchanged = refl;
-      refuses = not-inside (nothing-after SpellsTbs d.signed q t b some);
-      kind = Later d r a (Later t q b (inl (some, refl)));
-    }
+  pub unkept-front : (s r : List ℕ) (v : V) (e : DecodeError) → Spells G s v r → e ≡ OutOfMemory
+      → Refusal G Fault s s e
+  unkept-front s r v e h out = record {
+    unchanged = refl;
+    refuses = subst (λ (d : DecodeError). UnlessMemory d (Refuses G s)) (sym out) tt;
+    kind = inr (out, (v, r, h));
+  }
 
-    module _ (end : q ≡ []) where
-      one : IsOnly SpellsTbs t d.signed
-      one = all-read SpellsTbs d.signed t q b end
+-- ---- what was read and kept
 
-      -- the algorithms differ
-      pub differ : (e : DecodeError) → (t.algorithm ≡ d.algorithm → ⊥)
-          → IsContentWith (codes "signature algorithms differ") e → Refusal SpellsCert IsCertFault s s e
-      differ e other text = record {
-        unchanged = refl;
-        refuses = UnlessMemory-from e (λ x p k.
-            let f = a.only x.signed p (as-signed s x p k) in
-            let g = one.1 x.tbs (subst (λ (y : SignedParts Bool). SpellsTbs x.tbs y.signed) f.0 k.spelled.tbs) in
-            other (sym (ap (λ (y : TbsParts). y.algorithm) g) ∙ k.spelled.same
-            ∙ ap (λ (y : SignedParts Bool). y.algorithm) f.0));
-        kind = Later d r a (Later t q b (inr (other, text)));
-      }
+tbs-framed : (t : TbsParts) (p : List ℕ) → SpellsTbs t p → (c : List ℕ) × Frame c p
+tbs-framed t p h = (h.contents, h.value)
 
-      same-cert : (x : CertParts) → x.signed ≡ d → x.tbs ≡ t → x ≡ cert_parts d t
-      same-cert x p e = ap (λ (y : SignedParts Bool). cert_parts y x.tbs) p ∙ ap (λ (u : TbsParts). cert_parts d u) e
+cert-framed : (x : CertParts) (p : List ℕ) → SpellsCert x p → (c : List ℕ) × Frame c p
+cert-framed x p h = (h.signed.contents, h.signed.value)
 
-      -- they are the same
-      pub is-cert : t.algorithm ≡ d.algorithm → Accepts SpellsCert s (cert_parts d t) r
-      is-cert same = record {
-        spells = record {
-          front = a.spells.front;
-          parts = a.spells.parts;
-          spelled =
-              record { signed = a.spells.spelled.signed; used = a.spells.spelled.used; tbs = one.0; same = same };
-        };
-        only = λ x p k.
-            let f = a.only x.signed p (as-signed s x p k) in
-            let g = one.1 x.tbs (subst (λ (y : SignedParts Bool). SpellsTbs x.tbs y.signed) f.0 k.spelled.tbs) in
-            (same-cert x f.0 g, f.1);
-      }
+pub tbs-accepted : (s c r : List ℕ) (t : TbsParts) (a : Accepts Frame s c r) → AreFields (fields_of t) c
+    → HasOne SpellsTbs a.spells.front → Accepts SpellsTbs s t r
+tbs-accepted s c r t a h one = framed-accepted SpellsTbs tbs-framed s c r t a
+    (record { contents = c; value = a.spells.spelled; spelled = h }) one
+
+module _ (s c r : List ℕ) (v : TbsView) (t : TbsParts) (a : Accepts Frame s c r) (h : AreFields (fields_of t) c)
+    (k : IsTbsIn t c h v) (w : List ℕ) (is : w ≡ a.spells.front) where
+  pub tbs-at : IsTbsAt w v t
+  tbs-at = subst (λ (d : List ℕ). IsTbsAt d v t) (sym is)
+      (record { contents = c; value = a.spells.spelled; spelled = h }, k)
+
+pub tbs-found : (s c r : List ℕ) (t : TbsParts) (a : Accepts Frame s c r) → AreFields (fields_of t) c
+    → Spells SpellsTbs s t r
+tbs-found s c r t a h = record {
+  front = a.spells.front;
+  parts = a.spells.parts;
+  spelled = record { contents = c; value = a.spells.spelled; spelled = h };
+}
+
+pub front-alone : (s p r o q w : List ℕ) → s ≡ p ++ r → o ≡ s → q ≡ r → w ≡ p → StandsBefore o w q
+front-alone s p r o q w parts a b is = record {
+  before = [];
+  parts = a ∙ parts ∙ ap (λ (x : List ℕ). x ++ r) (sym is) ∙ ap (λ (x : List ℕ). w ++ x) (sym b);
+}
+
+pub cert-of : (s c r : List ℕ) (v : CertView) → Accepts Frame s c r → AreContentsOf c v
+    → (x : CertParts) × IsCertOf c v x
+cert-of s c r v a h = let k = (h a.spells.front a.spells.spelled).0 in (k.0, (a.spells.front, a.spells.spelled, k.1))
+
+pub cert-accepted : (s c r : List ℕ) (v : CertView) (x : CertParts) → (a : Accepts Frame s c r) → AreContentsOf c v
+    → ((y : CertParts) → IsCertOf c v y → x ≡ y) → Accepts SpellsCert s x r
+cert-accepted s c r v x a h kept =
+    let k = h a.spells.front a.spells.spelled in
+    let same : x ≡ k.0.0 = kept k.0.0 (a.spells.front, a.spells.spelled, k.0.1) in
+    framed-accepted SpellsCert cert-framed s c r x a
+    (subst (λ (y : CertParts). SpellsCert y a.spells.front) (sym same) k.0.1.spelled) k.1
+
+pub cert-found : (s c r : List ℕ) (v : CertView) (a : Accepts Frame s c r) → AreContentsOf c v
+    → (x : CertParts) × Spells SpellsCert s x r
+cert-found s c r v a h =
+    let k = h a.spells.front a.spells.spelled in
+    (k.0.0, record { front = a.spells.front; parts = a.spells.parts; spelled = k.0.1.spelled })

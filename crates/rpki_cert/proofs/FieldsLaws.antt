@@ -25,16 +25,17 @@ use Rattle.rpki_cert.specs.declared.read.fields.Named.{Named}
 use Rattle.rpki_cert.specs.declared.read.fields.TbsView.{TbsView}
 use Rattle.rpki_cert.specs.Cert.{TbsParts, SpellsVersion, SpellsRpkiAlgorithm, AreFields, fields_of, SpellsTbs}
 use Rattle.rpki_cert.specs.Cert.{version_tag, SpellsTwo}
-use Rattle.rpki_cert.specs.declared.read.cert_part.CertPart.{CertPart}
+use Rattle.rpki_cert.specs.declared.read.cert_error.CertError.{CertError}
 use Rattle.rpki_cert.specs.View.{IsSection, AreExtensionsAt, IsKeyedAt, IsNamedIn, IsTbsIn, AreNamed, AreFieldsWrong}
-use Rattle.rpki_cert.specs.View.{IsTbsWrong}
-use Rattle.rpki_cert.specs.View.IsTbsWrong.{InTbs}
+use Rattle.rpki_cert.specs.View.{IsTbsWrong, HasOne}
+use Rattle.rpki_cert.specs.View.WholeWrong.{InFrame}
 use Rattle.rpki_der.specs.Leaves.{IsOnly}
 use Rattle.rpki_cert.specs.Cert.{two}
 use Rattle.rpki_der.specs.FirstFault.{FirstFault, IsEndFault}
 use Rattle.rpki_der.proofs.FirstFaultLaws.{inside-no-memory, first-no-memory, end-no-memory}
 use Rattle.rpki_cert.proofs.NestedLaws.{front-octets}
 use Rattle.rpki_cert.proofs.ListedLaws.{refused}
+use Rattle.rpki_cert.proofs.OneLaws.{tbs-one}
 use Rattle.rpki_cert.specs.Cert.{two_value, version}
 
 -- ---- readers that take no memory
@@ -187,13 +188,19 @@ pub tbs-read : (s c : List ℕ) (v : TbsView) → SpellsContents sequence true c
 tbs-read s c v h k = let (t, spelled, there) = k in (t, record { contents = c; value = h; spelled = spelled }, there)
 
 -- the reader of the fields, whose result is handed on
-pub tbs-handed : (s c : List ℕ) (x : Result TbsView CertPart) → SpellsContents sequence true c s
+pub tbs-handed : (s c : List ℕ) (x : Result TbsView CertError) → SpellsContents sequence true c s
     → IfOk x (λ v. (t : TbsParts) × (h : AreFields (fields_of t) c) × IsTbsIn t c h v)
     → IfOk x (λ v. (t : TbsParts) × (h : SpellsTbs t s) × IsTbsIn t h.contents h.spelled v)
 tbs-handed s c (Ok v) h k = tbs-read s c v h k
 tbs-handed s c (Err q) h k = k
 
-pub tbs-handed-wrong : (s c : List ℕ) (x : Result TbsView CertPart) → SpellsContents sequence true c s
-    → IfErr x (λ q. AreFieldsWrong c q) → IfErr x (λ q. IsTbsWrong s q)
-tbs-handed-wrong s c (Ok v) h k = k
-tbs-handed-wrong s c (Err q) h k = InTbs c h k
+pub tbs-handed-one : (s c : List ℕ) (x : Result TbsView CertError) → SpellsContents sequence true c s
+    → IfOk x (λ v. HasOne AreFields c) → IfOk x (λ v. HasOne SpellsTbs s)
+tbs-handed-one s c (Ok v) h k = tbs-one s c h k
+tbs-handed-one s c (Err q) h k = k
+
+pub tbs-handed-wrong : (allocates : Bool) (s c : List ℕ) (x : Result TbsView CertError)
+    → SpellsContents sequence true c s → IfErr x (λ q. AreFieldsWrong allocates c q)
+    → IfErr x (λ q. IsTbsWrong allocates s q)
+tbs-handed-wrong allocates s c (Ok v) h k = k
+tbs-handed-wrong allocates s c (Err q) h k = InFrame c h k

@@ -1,27 +1,32 @@
 -- Extensions that are read in place, one after another.
-use Rattle.std.proofs.Common.{◌≡◌, ◌≢◌, ◌∙◌, ◌≤◌, ◌<◌, ℕ, true, false, List, [], ◌∷◌, length, Option, Some, None}
-use Rattle.std.proofs.Common.{IsTrue, refl, sym, ap, subst, arith}
-use Rattle.std.specs.Prelude.{bytes_eq}
+use Rattle.std.proofs.Common.{◌≡◌, ◌≢◌, ◌∙◌, ◌<◌, ℕ, Bool, true, false, List, [], ◌∷◌, length, Option, Some, None}
+use Rattle.std.proofs.Common.{Result, Ok, Err, IsTrue, refl, sym, ap, subst, arith}
+use Rattle.std.specs.Prelude.{bytes_eq, codes, IfOk, IfErr}
 use Rattle.std.proofs.lemmas.Bool.{false≢true}
 use Rattle.rpki_der.specs.declared.error.DecodeError.{DecodeError}
-use Rattle.rpki_der.specs.declared.error.DecodeError.TheVariants.{OutOfMemory}
+use Rattle.rpki_der.specs.declared.error.DecodeError.TheVariants.{Trailing, OutOfMemory}
 use Rattle.rpki_der.specs.TagName.{TagName, sequence}
 use Rattle.rpki_der.specs.Reading.{Accepts, Refuses, Refusal, SpellsNothing}
 use Rattle.rpki_der.specs.Values.{SpellsContents, IsContentsFault}
 use Rattle.rpki_der.specs.Each.{SpellsEach, SpellsSome}
+use Rattle.rpki_der.specs.FirstFault.{RepeatedFault}
+use Rattle.rpki_der.specs.FirstFault.RepeatedFault.{AfterMember}
 use Rattle.rpki_der.proofs.InsideLaws.{unless-memory}
 use Rattle.rpki_der.proofs.LeavesLaws.{contents-no-memory}
-use Rattle.rpki_der.proofs.ComposedLaws.{all-read, nothing-after, nothing-whole}
+use Rattle.rpki_der.proofs.ComposedLaws.{all-read, nothing-after, nothing-whole, not-read, more-left}
 use Rattle.rpki_der.proofs.LeafValueLaws.{leaf-shorter}
 use Rattle.rpki.specs.ExtensionValue.{ExtensionParts, SpellsExtension, IsExtensionContents}
 use Rattle.rpki.specs.ExtensionFault.{extension}
 use Rattle.rpki.proofs.ExtensionFaultLaws.{extension-outer}
+use Rattle.rpki.specs.UnknownAlgorithm.{IsContentWith}
 use Rattle.rpki_cert.specs.declared.read.cert_part.CertPart.{CertPart}
-use Rattle.rpki_cert.specs.Cert.{find, is_there, are_unique}
+use Rattle.rpki_cert.specs.declared.read.cert_error.CertError.{CertError}
+use Rattle.rpki_cert.specs.Cert.{find, is_there, are_unique, extensions_tag}
 use Rattle.rpki_cert.specs.ExtensionTable.{OfListed}
-use Rattle.rpki_cert.specs.View.{SpellsListed, SpellsFrame, AreExtensionsWrong, AreExtensionsAt, HasCount}
-use Rattle.rpki_cert.specs.View.{most_extensions}
-use Rattle.rpki_cert.specs.View.AreExtensionsWrong.{NotListed, TooMany, Repeated}
+use Rattle.rpki_cert.specs.View.{IsFrameFault, IsListWrong, AreExtensionsWrong, AreExtensionsAt, HasCount, IsApart}
+use Rattle.rpki_cert.specs.View.{most_extensions, AreListedAt}
+use Rattle.rpki_cert.specs.View.IsListWrong.{TooMany, Repeated, NoRoom}
+use Rattle.rpki_cert.specs.View.WholeWrong.{InFrame}
 use Rattle.rpki_cert.proofs.GatherLaws.{Gathers, gathers-on}
 
 -- an error of a reader that takes no memory
@@ -131,6 +136,22 @@ unique-end s r end h xs k = let (ys, each, e) = h.same xs k in sym (e ∙ ap are
 pub nothing-there : (s : List ℕ) → s ≡ [] → (xs : List ExtensionParts) → SpellsSome SpellsExtension xs s → ⊥
 nothing-there s e xs k = k.some (each-end s xs e k.each)
 
+-- ---- the first that isn't one
+
+abbrev Fault : List ℕ → DecodeError → Type 0
+Fault = RepeatedFault SpellsExtension extension.fault
+
+-- what is wrong in r is wrong in s
+pub record KeepsFault (s r : List ℕ) : Type 0 where
+  pub kept : (e : DecodeError) → Fault r e → Fault s e
+
+pub faults-all : (s : List ℕ) → KeepsFault s s
+faults-all s = record { kept = λ e h. h }
+
+pub faults-on : (s r q : List ℕ) (x : ExtensionParts) → r ≢ [] → Accepts SpellsExtension r x q → KeepsFault s r
+    → KeepsFault s q
+faults-on s r q x some a k = record { kept = λ e h. k.kept e (AfterMember x q a h) }
+
 -- ---- the value that is all
 
 pub only-all : (t : TagName) (s c r : List ℕ) → Accepts (SpellsContents t true) s c r → r ≡ []
@@ -146,55 +167,67 @@ pub only-none : (t : TagName) (s r : List ℕ) (e : DecodeError)
 only-none t s r e h = nothing-whole (SpellsContents t true) s
     (unless-memory e (λ z. contents-no-memory t true s e h.kind z) h.refuses)
 
+-- the errors
+pub frame-none : (t : TagName) (s r : List ℕ) (e : DecodeError)
+    → Refusal (SpellsContents t true) (IsContentsFault t true) s r e → IsFrameFault t s e
+frame-none t s r e h = (not-read (SpellsContents t true) (IsContentsFault t true) s r e h).1
+
+pub frame-more : (t : TagName) (s c r : List ℕ) → Accepts (SpellsContents t true) s c r → (r ≡ [] → ⊥)
+    → (e : DecodeError) → e ≡ Trailing → IsFrameFault t s e
+frame-more t s c r a some e is = subst (IsFrameFault t s) (sym is)
+    (more-left (SpellsContents t true) (IsContentsFault t true) s c r a some).1
+
 -- ---- the list of extensions
 
 abbrev IsAll : {V : Type 0} → (V → List ℕ → Type 0) → V → List ℕ → Type 0
 IsAll {V} G v s = G v s × ((w : V) → G w s → w ≡ v)
 
-listed-frame : (xs : List ExtensionParts) (s : List ℕ) (g : SpellsListed xs s) → SpellsFrame g.spelled.contents s
-listed-frame xs s g = record { contents = g.contents; value = g.value; spelled = g.spelled.value }
+module _ (s : List ℕ) (n : ℕ) (h : HasCount s n) where
+  -- two have one identifier
+  pub twice : (allocates unique : Bool) (q : CertError) → IsApart allocates s n unique → unique ≡ false
+      → q.part ≡ CertPart.ExtensionIdentifiers → IsContentWith (codes "duplicate extension") q.error
+      → IsListWrong allocates s q
+  twice allocates unique q a two part text =
+      Repeated h.extensions h.some (λ z. let k = a.few z in omega (arith, h.count, k))
+      (λ z. false≢true (sym two ∙ a.answer h.extensions h.some.each ∙ z)) part text
 
-pub unframed : (s : List ℕ) (q : CertPart) → SpellsNothing SpellsFrame s → q ≡ CertPart.Extensions
-    → AreExtensionsWrong s q
-unframed s q none is = NotListed (λ xs g. none g.spelled.contents (listed-frame xs s g)) is
+  pub too-many : (allocates : Bool) (q : CertError) → allocates ≡ false → most_extensions < n
+      → q.part ≡ CertPart.ExtensionCount → IsContentWith (codes "too many extensions") q.error
+      → IsListWrong allocates s q
+  too-many allocates q other many part text =
+      TooMany h.extensions h.some other (omega (arith, h.count, many)) part text
 
-module _ (s l : List ℕ) (f : IsAll SpellsFrame l s) where
-  listed : (xs : List ExtensionParts) → SpellsSome SpellsExtension xs l → SpellsListed xs s
-  listed xs k = record {
-    contents = f.0.contents;
-    value = f.0.value;
-    spelled =
-        record { contents = l; value = f.0.spelled; spelled = k };
-  }
+  pub no-room : (allocates : Bool) (q : CertError) → allocates ≡ true → most_extensions < n
+      → q.part ≡ CertPart.Extensions → q.error ≡ OutOfMemory → IsListWrong allocates s q
+  no-room allocates q is many part out = NoRoom h.extensions h.some is (omega (arith, h.count, many)) part out
 
-  pub uncounted : (q : CertPart) → ((xs : List ExtensionParts) → SpellsSome SpellsExtension xs l → ⊥)
-      → q ≡ CertPart.Extensions → AreExtensionsWrong s q
-  uncounted q none is = NotListed (λ xs g. none xs
-      (subst (SpellsSome SpellsExtension xs) (f.1 g.spelled.contents (listed-frame xs s g)) g.spelled.spelled)) is
-
-  pub too-many : (q : CertPart) (n : ℕ) → HasCount l n → most_extensions < n → q ≡ CertPart.ExtensionCount
-      → AreExtensionsWrong s q
-  too-many q n h many is = TooMany h.extensions (listed h.extensions h.some) (omega (arith, h.count, many)) is
-
-  pub twice : (q : CertPart) (n : ℕ) → HasCount l n → n ≤ most_extensions → OfListed l (λ xs. false ≡ are_unique xs)
-      → q ≡ CertPart.ExtensionIdentifiers → AreExtensionsWrong s q
-  twice q n h few two is =
-      Repeated h.extensions (listed h.extensions h.some) (omega (arith, h.count, few))
-      (λ z. false≢true (two h.extensions h.some.each ∙ z)) is
-
-  pub extensions-at : (t : List ℕ) (n : ℕ) → HasCount l n → n ≤ most_extensions
-      → OfListed l (λ xs. IsTrue (are_unique xs)) → t ≡ l → AreExtensionsAt s t
-  extensions-at t n h few once same = record {
+  pub listed-at : (t : List ℕ) → OfListed s (λ xs. IsTrue (are_unique xs)) → t ≡ s → AreListedAt s t
+  listed-at t once same = record {
     extensions = h.extensions;
-    spelled = record {
-      contents = f.0.contents;
-      value = f.0.value;
-      spelled = record {
-        contents = l;
-        value = f.0.spelled;
-        spelled = record { some = h.some; unique = once h.extensions h.some.each };
-      };
-    };
-    few = omega (arith, h.count, few);
+    spelled = record { some = h.some; unique = once h.extensions h.some.each };
     list = same;
   }
+
+pub extensions-at : (s c l t : List ℕ) → IsAll (SpellsContents extensions_tag true) c s
+    → IsAll (SpellsContents sequence true) l c → AreListedAt l t → AreExtensionsAt s t
+extensions-at s c l t a b k = record {
+  extensions = k.extensions;
+  spelled = record {
+    contents = c;
+    value = a.0;
+    spelled = record { contents = l; value = b.0; spelled = k.spelled };
+  };
+  list = k.list;
+}
+
+-- the reader of the list, whose result is handed on
+pub list-handed : (s c l : List ℕ) (x : Result (List ℕ) CertError) → IsAll (SpellsContents extensions_tag true) c s
+    → IsAll (SpellsContents sequence true) l c → IfOk x (λ t. AreListedAt l t) → IfOk x (λ t. AreExtensionsAt s t)
+list-handed s c l (Ok t) a b k = extensions-at s c l t a b k
+list-handed s c l (Err q) a b k = k
+
+pub list-handed-wrong : (allocates : Bool) (s c l : List ℕ) (x : Result (List ℕ) CertError)
+    → IsAll (SpellsContents extensions_tag true) c s → IsAll (SpellsContents sequence true) l c
+    → IfErr x (λ q. IsListWrong allocates l q) → IfErr x (λ q. AreExtensionsWrong allocates s q)
+list-handed-wrong allocates s c l (Ok t) a b k = k
+list-handed-wrong allocates s c l (Err q) a b k = InFrame c a.0 (InFrame l b.0 k)

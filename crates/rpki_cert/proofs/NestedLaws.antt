@@ -1,17 +1,19 @@
 -- Values with everything nested in them, and values by their headers.
 use Rattle.std.proofs.Common.{◌≡◌, ◌≢◌, ◌↔◌, ◌∙◌, ℕ, ◌-◌, ◌<◌, Bool, true, false, List, [], ◌∷◌, ◌++◌, length}
-use Rattle.std.proofs.Common.{take, refl, sym, ap, subst, arith, append_assoc, length-append}
+use Rattle.std.proofs.Common.{Option, None, Some, Ok, inl, take, refl, sym, ap, subst, arith, append_assoc}
+use Rattle.std.proofs.Common.{length-append}
 use Rattle.std.proofs.lemmas.Bool.{false≢true}
 use Rattle.std.proofs.lemmas.List.{take_at}
 use Rattle.rpki_der.specs.declared.error.DecodeError.{DecodeError}
+use Rattle.rpki_der.specs.declared.error.DecodeError.TheVariants.{Truncated}
 use Rattle.rpki_der.specs.TagName.{TagName}
 use Rattle.rpki_der.specs.Header.{tlv}
-use Rattle.rpki_der.specs.Reading.{Spells, Accepts, Refuses, Refusal}
+use Rattle.rpki_der.specs.Reading.{Spells, Accepts, Refuses, Refusal, ReadsWhere}
 use Rattle.rpki_der.specs.WantedValue.{SpellsWanted, IsAnyTag}
 use Rattle.rpki_der.specs.Members.{Members, Empty, Primitive, Constructed, spell, HaveHeaders, count, IsValue}
 use Rattle.rpki_der.specs.Members.{IsValueList, SpellsValue}
-use Rattle.rpki_der.specs.NestedFault.{IsNestedFault}
-use Rattle.rpki_der.specs.Walk.{SpellsAnyValue}
+use Rattle.rpki_der.specs.NestedFault.{IsNestedFault, IsCaptureFault}
+use Rattle.rpki_der.specs.Walk.{IsNotEmpty, SpellsAnyValue}
 use Rattle.rpki_der.specs.ValueListLaws.{value_lists_append, no_value_list, primitive_value, constructed_value}
 use Rattle.rpki_der.proofs.ComposedLaws.{all-read, nothing-whole, spelled-whole}
 use Rattle.rpki_der.proofs.InsideLaws.{unless-memory}
@@ -178,3 +180,18 @@ value-nowhere s none one = nothing-whole SpellsAnyValue s none tt one
 
 pub value-nothing : (s : List ℕ) → ((s ≡ [] → ⊥) → ⊥) → IsValue s → ⊥
 value-nothing s h one = h (λ e. omega (arith, value-some one, ap length e))
+
+nowhere : (s : List ℕ) → ((s ≡ [] → ⊥) → ⊥) → s ≡ []
+nowhere [] h = refl
+nowhere (x ∷ s) h = absurd (h (λ e. cc))
+
+-- a reader of any value returned where none is: nothing is left
+pub no-value : (s r : List ℕ) (o : Option (Unit {0})) → Refuses SpellsValue s
+    → ReadsWhere IsNotEmpty (λ _. tt) SpellsAnyValue IsNestedFault s r (Ok o) → IsCaptureFault s Truncated
+no-value s r None none h = inl (nowhere s h.0, refl)
+no-value s r (Some u) none h = absurd (none h.1.spells.front r
+    (record {
+      front = h.1.spells.front;
+      parts = h.1.spells.parts;
+      spelled = record { same = refl; value = h.1.spells.spelled };
+    }))

@@ -1,14 +1,24 @@
--- Extensions, each identifier once, looked at from the last.
-use Rattle.std.proofs.Common.{◌≡◌, ◌<◌, ◌≤◌, ◌-◌, ◌∙◌, ℕ, zero, suc, Bool, true, false, List, [], ◌∷◌, drop, length}
-use Rattle.std.proofs.Common.{Option, Some, refl, sym, ap, arith}
+-- Extensions, each identifier once, looked at from the first: a set has the identifiers of those that were seen.
+use Rattle.std.proofs.Common.{◌≡◌, ◌≢◌, ◌∙◌, ℕ, Bool, true, false, List, [], ◌∷◌, Option, Some, refl, sym, ap}
 use Rattle.std.specs.Prelude.{◌&&◌, not, cond, if◌then◌else◌, bytes_eq}
 use Rattle.std.specs.Ordering.{nat_cmp, is_eq}
 use Rattle.std.specs.Cmp.Lexicographic.{slice_cmp}
-use Rattle.std.proofs.Math.Seq.{drop-cons}
-use lib.ListN.{get_or}
 use Rattle.std.proofs.lemmas.Map.Text.{is_eq-slice_cmp}
-use Rattle.rpki.specs.ExtensionValue.{ExtensionParts}
+use Rattle.std.proofs.lemmas.Bool.{false_from_ne_true}
+use Rattle.std.proofs.lemmas.Slice.Eq.{bytes_eq-Decides}
+use Rattle.rpki_der.specs.Reading.{Accepts, Refuses}
+use Rattle.rpki.specs.ExtensionValue.{ExtensionParts, SpellsExtension}
 use Rattle.rpki_cert.specs.Cert.{find, is_there, are_unique}
+use Rattle.rpki_cert.specs.ExtensionTable.{OfListed}
+use Rattle.rpki_cert.proofs.ListedLaws.{Each, each-rest, each-none, each-end}
+
+-- ---- tests
+
+eq-turned : (a b : List ℕ) (e f : Bool) → bytes_eq a b ≡ e → bytes_eq b a ≡ f → e ≡ f
+eq-turned a b true true h k = refl
+eq-turned a b false false h k = refl
+eq-turned a b true false h k = sym ((bytes_eq-Decides b a).1 (sym ((bytes_eq-Decides a b).0 h))) ∙ k
+eq-turned a b false true h k = sym h ∙ (bytes_eq-Decides a b).1 (sym ((bytes_eq-Decides b a).0 k))
 
 there-if : (b : Bool) (x : ExtensionParts) (o : Option ExtensionParts)
     → cond b true (is_there o) ≡ is_there (if b then Some x else o)
@@ -24,66 +34,117 @@ seen-more x xs q old new before step =
     ∙ ap (λ (o : Bool). cond (bytes_eq x.identifier q) true o) before
     ∙ there-if (bytes_eq x.identifier q) x (find q xs)
 
-and-false : (b : Bool) → b && false ≡ false
-and-false true = refl
-and-false false = refl
+-- ---- extensions that are apart from those that were seen
+
+abbrev pub apart : List ExtensionParts → List ExtensionParts → Bool
+apart seen [] = true
+apart seen (y ∷ ys) = not (is_there (find y.identifier seen)) && apart seen ys
+
+regroup : (e f t a u : Bool) → e ≡ f → not (cond e true t) && (a && not u) ≡ (not t && a) && not (cond f true u)
+regroup true true t a u same = sym (nothing (not t && a)) where
+  nothing : (b : Bool) → b && false ≡ false
+  nothing true = refl
+  nothing false = refl
+regroup false false true a u same = refl
+regroup false false false a u same = refl
+regroup true false t a u same = cc
+regroup false true t a u same = cc
+
+apart-more : (y : ExtensionParts) (seen zs : List ExtensionParts)
+    → apart (y ∷ seen) zs ≡ (apart seen zs && not (is_there (find y.identifier zs)))
+apart-more y seen [] = refl
+apart-more y seen (z ∷ zs) =
+    let e = bytes_eq y.identifier z.identifier in
+    let f = bytes_eq z.identifier y.identifier in
+    let t = is_there (find z.identifier seen) in
+    let u = is_there (find y.identifier zs) in
+    let left : apart (y ∷ seen) (z ∷ zs) ≡ (not (cond e true t) && (apart seen zs && not u)) =
+    ap (λ (b : Bool). not b && apart (y ∷ seen) zs) (sym (there-if e y (find z.identifier seen)))
+    ∙ ap (λ (b : Bool). not (cond e true t) && b) (apart-more y seen zs) in
+    left ∙ regroup e f t (apart seen zs) u (eq-turned y.identifier z.identifier e f refl refl)
+    ∙ ap (λ (b : Bool). (not t && apart seen zs) && not b) (there-if f z (find y.identifier zs))
+
+-- ---- one step
+
+-- what is unique in s is unique in r, and apart from those that were seen
+pub record KeepsApart (seen : List ExtensionParts) (s r : List ℕ) : Type 0 where
+  pub same : (xs : List ExtensionParts) → Each xs s
+      → (ys : List ExtensionParts) × Each ys r × (are_unique xs ≡ (apart seen ys && are_unique ys))
+
+nothing-seen : (ys : List ExtensionParts) → apart [] ys ≡ true
+nothing-seen [] = refl
+nothing-seen (y ∷ ys) = nothing-seen ys
+
+pub apart-first : (s : List ℕ) → KeepsApart [] s s
+apart-first s = record {
+  same = λ xs h. (xs, h, sym (ap (λ (b : Bool). b && are_unique xs) (nothing-seen xs)));
+}
+
+new-one : (seen a u w : Bool) → seen ≡ false → ((not seen && a) && (not u && w)) ≡ ((a && not u) && w)
+new-one false true u w h = refl
+new-one false false u w h = refl
+new-one true a u w h = cc
+
+pub apart-on : (seen : List ExtensionParts) (s r q : List ℕ) (y : ExtensionParts) → r ≢ [] → KeepsApart seen s r
+    → Accepts SpellsExtension r y q → is_there (find y.identifier seen) ≡ false → KeepsApart (y ∷ seen) s q
+apart-on seen s r q y some h a new = record {
+  same = λ xs k.
+      let (ys, each, e) = h.same xs k in
+      let (zs, is, rest) = each-rest r q y ys some a each in
+      let u = is_there (find y.identifier zs) in (
+        zs,
+        rest,
+        e ∙ ap (λ (ws : List ExtensionParts). apart seen ws && are_unique ws) is
+            ∙ new-one (is_there (find y.identifier seen)) (apart seen zs) u (are_unique zs) new
+            ∙ ap (λ (b : Bool). b && are_unique zs) (sym (apart-more y seen zs)),
+      );
+}
+
+pub apart-twice : (seen : List ExtensionParts) (s r q : List ℕ) (y : ExtensionParts) → r ≢ [] → KeepsApart seen s r
+    → Accepts SpellsExtension r y q → is_there (find y.identifier seen) ≡ true
+    → OfListed s (λ xs. false ≡ are_unique xs)
+apart-twice seen s r q y some h a old xs k =
+    let (ys, each, e) = h.same xs k in
+    let (zs, is, rest) = each-rest r q y ys some a each in
+    sym (e ∙ ap (λ (ws : List ExtensionParts). apart seen ws && are_unique ws) is
+    ∙ ap (λ (b : Bool). (not b && apart seen zs) && are_unique (y ∷ zs)) old)
+
+pub apart-none : (seen : List ExtensionParts) (s r : List ℕ) → r ≢ [] → KeepsApart seen s r → Refuses SpellsExtension r
+    → OfListed s (λ xs. false ≡ are_unique xs)
+apart-none seen s r some h none xs k = let (ys, each, e) = h.same xs k in absurd (each-none r ys some none each)
+
+pub apart-end : (seen : List ExtensionParts) (s r : List ℕ) → r ≡ [] → KeepsApart seen s r
+    → OfListed s (λ xs. true ≡ are_unique xs)
+apart-end seen s r end h xs k =
+    let (ys, each, e) = h.same xs k in
+    sym (e ∙ ap (λ (ws : List ExtensionParts). apart seen ws && are_unique ws) (each-end r ys end each))
+
+-- ---- the set
 
 not-false : (b : Bool) → not b ≡ false → b ≡ true
 not-false true h = refl
 not-false false h = sym h
 
--- the identifier is new, or isn't
-pub unique-more : (x : ExtensionParts) (xs : List ExtensionParts) → not (is_there (find x.identifier xs)) ≡ true
-    → are_unique xs ≡ true → are_unique (x ∷ xs) ≡ true
-unique-more x xs new unique = ap (λ (b : Bool). b && are_unique xs) new ∙ unique
+not-true : (b : Bool) → not b ≡ true → b ≡ false
+not-true true h = sym h
+not-true false h = refl
 
-pub not-unique : (x : ExtensionParts) (xs : List ExtensionParts) → not (is_there (find x.identifier xs)) ≡ false
-    → are_unique (x ∷ xs) ≡ false
-not-unique x xs seen = ap (λ (b : Bool). b && are_unique xs) seen
+-- the set has one identifier more
+pub seen-on : (y : ExtensionParts) (seen : List ExtensionParts) (q id : List ℕ) → id ≡ y.identifier
+    → (old new : Bool) → old ≡ is_there (find q seen) → new ≡ cond (is_eq (slice_cmp nat_cmp id q)) true old
+    → new ≡ is_there (find q (y ∷ seen))
+seen-on y seen q id same old new before step =
+    seen-more y seen q old new before (step ∙ ap (λ (i : List ℕ). cond (is_eq (slice_cmp nat_cmp i q)) true old) same)
 
--- what is not unique among the last is not unique among all
-pub not-unique-all : (n : ℕ) (xs : List ExtensionParts) → are_unique (drop n xs) ≡ false → are_unique xs ≡ false
-not-unique-all zero xs h = h
-not-unique-all (suc n) [] h = h
-not-unique-all (suc n) (x ∷ xs) h = ap (λ (b : Bool). not (is_there (find x.identifier xs)) && b)
-    (not-unique-all n xs h) ∙ and-false (not (is_there (find x.identifier xs)))
+module _ (seen : List ExtensionParts) (s r q : List ℕ) (y : ExtensionParts) (some : r ≢ []) (h : KeepsApart seen s r)
+    (a : Accepts SpellsExtension r y q) (id : List ℕ) (same : id ≡ y.identifier) (old : Bool)
+    (is : old ≡ is_there (find id seen)) (new : Bool) (told : new ≡ not old) where
+  there : old ≡ is_there (find y.identifier seen)
+  there = is ∙ ap (λ (i : List ℕ). is_there (find i seen)) same
 
--- ---- one step: the extension before the n that were looked at
+  -- the identifier is new, or isn't
+  pub seen-apart : new ≡ true → KeepsApart (y ∷ seen) s q
+  seen-apart first = apart-on seen s r q y some h a (sym there ∙ not-true old (sym told ∙ first))
 
-module _ (xs : List ExtensionParts) (x : ExtensionParts) where
-  at-last : (n : ℕ) → 0 < n → n ≤ length xs → x ≡ get_or xs (n - 1) x → drop (n - 1) xs ≡ x ∷ drop n xs
-  at-last n some within is =
-      let low : n - 1 < length xs = omega (arith, some, within) in
-      let up : suc (n - 1) ≡ n = omega (arith, some) in
-      drop-cons xs (n - 1) x low ∙ ap (λ (y : ExtensionParts). y ∷ drop (suc (n - 1)) xs) (sym is)
-      ∙ ap (λ (k : ℕ). x ∷ drop k xs) up
-
-  module _ (n : ℕ) (some : 0 < n) (within : n ≤ length xs) (is : x ≡ get_or xs (n - 1) x) (id : List ℕ)
-      (same : id ≡ x.identifier) where
-    there : (seen : Bool) → seen ≡ is_there (find id (drop n xs)) → seen ≡ is_there (find x.identifier (drop n xs))
-    there seen h = h ∙ ap (λ (i : List ℕ). is_there (find i (drop n xs))) same
-
-    -- its identifier was seen
-    pub twice : (new seen : Bool) → new ≡ false → new ≡ not seen → seen ≡ is_there (find id (drop n xs))
-        → false ≡ are_unique xs
-    twice new seen other told h =
-        let again : not (is_there (find x.identifier (drop n xs))) ≡ false =
-        sym (ap (λ (b : Bool). not b) (there seen h)) ∙ sym told ∙ other in
-        sym (not-unique-all (n - 1) xs (ap (λ (ys : List ExtensionParts). are_unique ys) (at-last n some within is)
-        ∙ not-unique x (drop n xs) again))
-
-    -- it was not
-    pub still-unique : (new seen : Bool) → new ≡ true → new ≡ not seen → seen ≡ is_there (find id (drop n xs))
-        → are_unique (drop n xs) ≡ true → are_unique (drop (n - 1) xs) ≡ true
-    still-unique new seen first told h unique =
-        let fresh : not (is_there (find x.identifier (drop n xs))) ≡ true =
-        sym (ap (λ (b : Bool). not b) (there seen h)) ∙ sym told ∙ first in
-        ap (λ (ys : List ExtensionParts). are_unique ys) (at-last n some within is)
-        ∙ unique-more x (drop n xs) fresh unique
-
-    pub still-seen : (q : List ℕ) (now old : Bool) → now ≡ cond (is_eq (slice_cmp nat_cmp id q)) true old
-        → old ≡ is_there (find q (drop n xs)) → now ≡ is_there (find q (drop (n - 1) xs))
-    still-seen q now old step before =
-        seen-more x (drop n xs) q old now before
-        (step ∙ ap (λ (i : List ℕ). cond (is_eq (slice_cmp nat_cmp i q)) true old) same)
-        ∙ sym (ap (λ (ys : List ExtensionParts). is_there (find q ys)) (at-last n some within is))
+  pub seen-twice : new ≡ false → OfListed s (λ xs. false ≡ are_unique xs)
+  seen-twice again = apart-twice seen s r q y some h a (sym there ∙ not-false old (sym told ∙ again))

@@ -1,7 +1,10 @@
 -- Certificates that are read in place.
-use Rattle.std.proofs.Common.{◌≡◌, ◌∙◌, ◌-◌, ℕ, Bool, true, false, List, [], ◌++◌, length, take, refl, sym, ap, subst}
-use Rattle.std.proofs.Common.{append_assoc}
+use Rattle.std.proofs.Common.{◌≡◌, ◌∙◌, ◌-◌, ◌<◌, ℕ, Bool, true, false, List, [], ◌++◌, length, take, refl, sym, ap}
+use Rattle.std.proofs.Common.{subst, append_assoc, inl, inr, Result, Ok, Err}
+use Rattle.std.specs.Prelude.{codes, IfOk, IfErr}
 use Rattle.rpki_der.specs.declared.error.DecodeError.{DecodeError}
+use Rattle.rpki_der.specs.declared.error.DecodeError.TheVariants.{Trailing}
+use Rattle.rpki_der.specs.FirstFault.FirstFault.{AtPart, Later}
 use Rattle.rpki_der.specs.TagName.{sequence, bit_string}
 use Rattle.rpki_der.specs.Reading.{Accepts, Refusal, SpellsNothing}
 use Rattle.rpki_der.specs.Values.{SpellsContents, SpellsLeaf, IsLeafFault}
@@ -11,14 +14,20 @@ use Rattle.rpki_der.proofs.InsideLaws.{unless-memory}
 use Rattle.rpki_der.proofs.LeavesLaws.{leaf-no-memory}
 use Rattle.rpki_der.proofs.ComposedLaws.{all-read, nothing-after, nothing-whole, spelled-whole}
 use Rattle.rpki.specs.SignedData.{SignedParts, parts_of, IsSignedContents}
+use Rattle.rpki.specs.UnknownAlgorithm.{IsContentWith}
 use Rattle.rpki_cert.specs.declared.read.cert_part.CertPart.{CertPart}
+use Rattle.rpki_cert.specs.declared.read.cert_error.CertError.{CertError}
 use Rattle.rpki_cert.specs.declared.read.fields.TbsView.{TbsView}
 use Rattle.rpki_cert.specs.declared.read.view.Parts.{Parts}
 use Rattle.rpki_cert.specs.declared.read.view.CertView.{CertView}
-use Rattle.rpki_cert.specs.Cert.{TbsParts, CertParts, cert_parts, SpellsRpkiAlgorithm, SpellsTbs}
-use Rattle.rpki_cert.specs.View.{SpellsUsed, ArePartsIn, IsTbsIn, IsCertAt, IsTbsWrong, IsCertWrong}
-use Rattle.rpki_cert.specs.View.IsCertWrong.{InSigned, Differ}
+use Rattle.rpki_cert.specs.Cert.{TbsParts, CertParts, cert_parts, SpellsRpkiAlgorithm, SpellsTbs, SpellsCert}
+use Rattle.rpki_cert.specs.View.{SpellsUsed, IsSignatureFault, HasOne, ArePartsIn, IsTbsIn, IsCertAt, IsTbsWrong}
+use Rattle.rpki_cert.specs.View.{AreContentsOf, AreContentsWrong, IsCertErrorOf, most_extensions}
+use Rattle.rpki_cert.specs.View.AreContentsWrong.{InSigned, Differ}
+use Rattle.rpki_cert.specs.View.WholeWrong.{InFrame}
 use Rattle.rpki_cert.proofs.FieldsLaws.{section-front}
+use Rattle.rpki_cert.proofs.OneLaws.{cert-one}
+use Rattle.rpki_cert.proofs.WrongLaws.{cert-wrong}
 
 -- ---- the signature
 
@@ -78,6 +87,19 @@ parts-read s m n d w o p b v a is i size c same j text long g sign last =
       },
     )
 
+-- ---- the error of the signature
+
+pub bits-none : (s r : List ℕ) (e : DecodeError) → Refusal SpellsBits (IsLeafFault bit_string false IsBits) s r e
+    → IsSignatureFault s e
+bits-none s r e h = inl (AtPart h.refuses h.kind)
+
+pub bits-more : (s r : List ℕ) (b : Bits) → Accepts SpellsBits s b r → (r ≡ [] → ⊥) → IsSignatureFault s Trailing
+bits-more s r b a some = inl (Later b r a (some, refl))
+
+pub bits-unused : (s r : List ℕ) (b : Bits) (e : DecodeError) → Accepts SpellsBits s b r → r ≡ [] → (b.unused ≡ 0 → ⊥)
+    → IsContentWith (codes "signature has unused bits") e → IsSignatureFault s e
+bits-unused s r b e a end some text = inr (b, (all-read SpellsBits s b r a end).0, some, text)
+
 -- ---- a certificate
 
 abbrev IsTbsAt : TbsView → TbsParts → List ℕ → Type 0
@@ -86,41 +108,62 @@ IsTbsAt v t d = (h : SpellsTbs t d) × IsTbsIn t h.contents h.spelled v
 pub cert-read : (s c d : List ℕ) (v : CertView) → SpellsContents sequence true c s
     → (k : (x : SignedParts Bool) × (h : IsSignedContents SpellsRpkiAlgorithm x c) × ArePartsIn x c h v.parts)
     → d ≡ v.parts.«data».octets.now → ((t : TbsParts) × (h : SpellsTbs t d) × IsTbsIn t h.contents h.spelled v.tbs)
-    → v.tbs.signature ≡ v.parts.kind → (x : CertParts) × IsCertAt s v x
-cert-read s c d v h k is l same =
+    → HasOne SpellsTbs d → v.tbs.signature ≡ v.parts.kind → ((x : CertParts) × IsCertAt s v x) × HasOne SpellsCert s
+cert-read s c d v h k is l one same =
     let (x, spelled, stand) = k in
     let (t, tbs, there) = l in
     let signed : IsTbsAt v.tbs t x.signed = subst (IsTbsAt v.tbs t) (is ∙ stand.signed.octets) (tbs, there) in (
-      cert_parts x t,
-      record {
-        spelled = record {
-          signed = record { contents = c; value = h; spelled = spelled };
-          used = stand.used;
-          tbs =
-              signed.0;
-          same = sym there.algorithm ∙ same ∙ stand.same;
-        };
-        parts = stand;
-        tbs = signed.1;
-      },
+      (
+        cert_parts x t,
+        record {
+          spelled = record {
+            signed = record { contents = c; value = h; spelled = spelled };
+            used = stand.used;
+            tbs =
+                signed.0;
+            same = sym there.algorithm ∙ same ∙ stand.same;
+          };
+          parts = stand;
+          tbs = signed.1;
+        },
+      ),
+      cert-one s c d x h spelled (is ∙ stand.signed.octets) one,
     )
 
 -- ---- what is wrong with it
 
-pub in-signed : (s c d : List ℕ) (v : Parts) (q : CertPart) → SpellsContents sequence true c s
-    → (x : SignedParts Bool) × (h : IsSignedContents SpellsRpkiAlgorithm x c) × ArePartsIn x c h v
-    → d ≡ v.«data».octets.now → IsTbsWrong d q → IsCertWrong s q
-in-signed s c d v q h k is wrong =
-    let (x, spelled, stand) = k in
-    InSigned c x h spelled stand.used (subst (λ (y : List ℕ). IsTbsWrong y q) (is ∙ stand.signed.octets) wrong)
+module _ (allocates : Bool) (c d : List ℕ) (v : Parts) (q : CertError)
+    (k : (x : SignedParts Bool) × (h : IsSignedContents SpellsRpkiAlgorithm x c) × ArePartsIn x c h v)
+    (is : d ≡ v.«data».octets.now) where
+  pub in-signed : IsTbsWrong allocates d q → AreContentsWrong allocates c q
+  in-signed wrong =
+      let (x, spelled, stand) = k in
+      InSigned x spelled stand.used
+      (subst (λ (y : List ℕ). IsTbsWrong allocates y q) (is ∙ stand.signed.octets) wrong)
 
-pub differ : (s c d : List ℕ) (v : Parts) (u : TbsView) (q : CertPart) → SpellsContents sequence true c s
-    → (x : SignedParts Bool) × (h : IsSignedContents SpellsRpkiAlgorithm x c) × ArePartsIn x c h v
-    → d ≡ v.«data».octets.now
-    → (t : TbsParts) × (h : SpellsTbs t d) × IsTbsIn t h.contents h.spelled u → (u.signature ≡ v.kind → ⊥)
-    → q ≡ CertPart.SameAlgorithm → IsCertWrong s q
-differ s c d v u q h k is l other named =
-    let (x, spelled, stand) = k in
-    let (t, tbs, there) = l in
-    Differ c x t h spelled stand.used (subst (SpellsTbs t) (is ∙ stand.signed.octets) tbs)
-    (λ e. other (there.algorithm ∙ e ∙ sym stand.same)) named
+  pub differ : (u : TbsView) → (t : TbsParts) × (h : SpellsTbs t d) × IsTbsIn t h.contents h.spelled u
+      → (u.signature ≡ v.kind → ⊥) → q.part ≡ CertPart.SameAlgorithm
+      → IsContentWith (codes "signature algorithms differ") q.error → AreContentsWrong allocates c q
+  differ u l other part text =
+      let (x, spelled, stand) = k in
+      let (t, tbs, there) = l in
+      Differ x t spelled stand.used (subst (SpellsTbs t) (is ∙ stand.signed.octets) tbs)
+      (λ e. other (there.algorithm ∙ e ∙ sym stand.same)) part text
+
+-- the reader of the contents, whose result is handed on
+pub contents-handed : (s c : List ℕ) (x : Result CertView CertError) → SpellsContents sequence true c s
+    → IfOk x (λ v. AreContentsOf c v) → IfOk x (λ v. (y : CertParts) × IsCertAt s v y)
+contents-handed s c (Ok v) h k = (k s h).0
+contents-handed s c (Err q) h k = k
+
+pub contents-handed-wrong : (allocates : Bool) (s c : List ℕ) (x : Result CertView CertError)
+    → SpellsContents sequence true c s → IfErr x (λ q. AreContentsWrong allocates c q)
+    → IfErr x (λ q. IsCertErrorOf allocates s q)
+contents-handed-wrong allocates s c (Ok v) h k = k
+contents-handed-wrong allocates s c (Err q) h k = InFrame c h k
+
+pub wrong-handed : (allocates : Bool) (s : List ℕ) (x : Result CertView CertError)
+    → IfErr x (λ q. IsCertErrorOf allocates s q)
+    → IfErr x (λ q. (y : CertParts) → SpellsCert y s → most_extensions < length y.tbs.extensions)
+wrong-handed allocates s (Ok v) k = k
+wrong-handed allocates s (Err q) k = λ y h. (cert-wrong allocates q s k y h).many

@@ -2,21 +2,19 @@
 use Rattle.std.specs.Prelude.{◌≡◌, ℕ, Bool, true, List, [], ◌∷◌}
 use Rattle.rpki_der.specs.declared.tag.Class.TheVariants.{Context}
 use Rattle.rpki_der.specs.Prelude.{TagName, tag_of, integer, sequence, SpellsLeaf, IsOnly}
-use Rattle.rpki_der.specs.Prelude.{Format, leaf, around, only, then, said_by}
-use Rattle.rpki_time.specs.Serial.{serial_number}
+use Rattle.rpki_der.specs.Prelude.{Format, leaf, around, only, Then}
+use Rattle.rpki_time.specs.Serial.{SpellsSerial}
 use Rattle.rpki_time.specs.Validity.{Period}
-use Rattle.rpki_time.specs.PeriodValue.{period}
+use Rattle.rpki_time.specs.PeriodValue.{SpellsPeriod}
 use Rattle.rpki.specs.Oids.{sha256_with_rsa_encryption}
 use Rattle.rpki.specs.Algorithm.{SpellsAlgorithm}
 use Rattle.rpki.specs.AlgorithmFault.{algorithm}
-use Rattle.rpki.specs.NameFault.{name}
-use Rattle.rpki.specs.PublicKey.{KeyParts}
-use Rattle.rpki.specs.KeyFault.{key}
+use Rattle.rpki.specs.Name.{SpellsNameOctets}
+use Rattle.rpki.specs.PublicKey.{KeyParts, SpellsKey}
 use Rattle.rpki.specs.ExtensionValue.{ExtensionParts}
 use Rattle.rpki.specs.SignedData.{SignedParts, SpellsSigned}
 pub use Rattle.rpki_cert.specs.ExtensionList.{extensions_tag, find, is_there, are_unique, AreExtensions}
-pub use Rattle.rpki_cert.specs.ExtensionList.{AreExtensionsFault}
-pub use Rattle.rpki_cert.specs.ExtensionList.{extension_list, SpellsExtensionList, extensions, SpellsExtensions}
+pub use Rattle.rpki_cert.specs.ExtensionList.{SpellsExtensionList, SpellsExtensions}
 
 -- what is signed of a certificate; of the algorithm, whether its parameters are there
 pub record TbsParts : Type 0 where
@@ -63,23 +61,17 @@ rpki_algorithm = algorithm sha256_with_rsa_encryption
 abbrev pub Fields : Type 0
 Fields = Unit {0} × (ℕ × (Bool × (List ℕ × (Period × (List ℕ × (KeyParts × List ExtensionParts))))))
 
-abbrev pub fields : Format Fields
-fields =
-    then version (then serial_number (then rpki_algorithm (then name (then period (then name (then key
-    (only extensions)))))))
+abbrev pub AreFields : Fields → List ℕ → Type 0
+AreFields =
+    Then SpellsVersion (Then SpellsSerial (Then SpellsRpkiAlgorithm (Then SpellsNameOctets (Then SpellsPeriod
+    (Then SpellsNameOctets (Then SpellsKey SpellsExtensions))))))
 
 abbrev pub fields_of : TbsParts → Fields
 fields_of x = (tt, (x.serial, (x.algorithm, (x.issuer, (x.validity, (x.subject, (x.key, x.extensions)))))))
 
-abbrev pub AreFields : Fields → List ℕ → Type 0
-AreFields = fields.spells
-
 -- a SEQUENCE of the fields, and nothing after them; neither issuerUniqueID nor subjectUniqueID (RFC 6487 4)
 abbrev pub SpellsTbs : TbsParts → List ℕ → Type 0
 SpellsTbs x p = SpellsLeaf sequence true AreFields (fields_of x) p
-
-abbrev pub tbs_certificate : Format TbsParts
-tbs_certificate = said_by SpellsTbs (around sequence fields)
 
 -- ---- a certificate
 

@@ -1,13 +1,9 @@
 -- The extensions of a certificate, each identifier once (RFC 5280 4.1.2.9, 4.2).
-use Rattle.std.specs.Prelude.{◌≡◌, ◌≢◌, ℕ, Bool, true, false, not, ◌&&◌, codes, List, [], ◌∷◌, Option, Some, None}
-use Rattle.std.specs.Prelude.{IsTrue}
+use Rattle.std.specs.Prelude.{ℕ, Bool, true, false, not, ◌&&◌, List, [], ◌∷◌, Option, Some, None, IsTrue}
 use Rattle.std.specs.Prelude.{bytes_eq, if◌then◌else◌}
-use Rattle.rpki_der.specs.declared.error.DecodeError.{DecodeError}
 use Rattle.rpki_der.specs.declared.tag.Class.TheVariants.{Context}
-use Rattle.rpki_der.specs.Prelude.{TagName, tag_of, sequence, SpellsEach, SpellsSome, IsEachFault, Format, around, only}
-use Rattle.rpki.specs.UnknownAlgorithm.{IsContentWith}
+use Rattle.rpki_der.specs.Prelude.{TagName, tag_of, sequence, SpellsLeaf, SpellsSome}
 use Rattle.rpki.specs.ExtensionValue.{ExtensionParts, SpellsExtension}
-use Rattle.rpki.specs.ExtensionFault.{kept_extension}
 
 -- the explicit tag around them
 abbrev pub extensions_tag : TagName
@@ -32,21 +28,8 @@ pub record AreExtensions (xs : List ExtensionParts) (c : List ℕ) : Type 0 wher
   pub some : SpellsSome SpellsExtension xs c
   pub unique : IsTrue (are_unique xs)
 
--- none; or one of them isn't an extension; or all are, and two have the same identifier
-pub data AreExtensionsFault (s : List ℕ) (e : DecodeError) : Type 0 where
-  NoExtension : s ≡ [] → IsContentWith (codes "no extensions") e → AreExtensionsFault s e
-  NotExtensions : s ≢ [] → IsEachFault SpellsExtension kept_extension.fault s e → AreExtensionsFault s e
-  Repeated : (xs : List ExtensionParts) → SpellsEach SpellsExtension xs s → (IsTrue (are_unique xs) → ⊥)
-      → IsContentWith (codes "duplicate extension") e → AreExtensionsFault s e
-
-abbrev pub extension_list : Format (List ExtensionParts)
-extension_list = around sequence (record { spells = AreExtensions; fault = AreExtensionsFault })
-
 abbrev pub SpellsExtensionList : List ExtensionParts → List ℕ → Type 0
-SpellsExtensionList = extension_list.spells
-
-abbrev pub extensions : Format (List ExtensionParts)
-extensions = around extensions_tag (only extension_list)
+SpellsExtensionList = SpellsLeaf sequence true AreExtensions
 
 abbrev pub SpellsExtensions : List ExtensionParts → List ℕ → Type 0
-SpellsExtensions = extensions.spells
+SpellsExtensions = SpellsLeaf extensions_tag true SpellsExtensionList

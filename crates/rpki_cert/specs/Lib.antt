@@ -1,7 +1,6 @@
 -- Definitions: what the contracts say. They are trusted, and read against the standards.
 pub mod ExtensionList
 pub mod Cert
-pub mod CertFault
 pub mod Known
 pub mod ExtensionContent
 pub mod GeneralName
@@ -9,7 +8,10 @@ pub mod Access
 pub mod AccessDescription
 pub mod AccessInformation
 pub mod InPlace
+pub mod CertError
 pub mod View
+pub mod CertFault
+pub mod Kept
 pub mod ExtensionTable
 pub mod KnownView
 pub mod Inspected

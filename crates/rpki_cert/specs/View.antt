@@ -1,25 +1,30 @@
--- Certificates that are read in place: what stands where, and which part is wrong (RFC 5280 4.1).
-use Rattle.std.specs.Prelude.{◌≡◌, ◌≤◌, ◌<◌, ◌++◌, ℕ, Bool, true, false, List, Option, Some, None, IsTrue, length}
-use Rattle.std.specs.Prelude.{[]}
-use Rattle.rpki_der.specs.TagName.{sequence, bit_string}
-use Rattle.rpki_der.specs.Reading.{Accepts, Refuses, SpellsNothing}
-use Rattle.rpki_der.specs.Values.{SpellsContents, SpellsLeaf}
-use Rattle.rpki_der.specs.Leaves.{IsBits, bits_of}
-use Rattle.rpki_der.specs.Each.{SpellsSome}
-use Rattle.rpki_der.specs.Members.{SpellsValue, IsValue}
-use Rattle.rpki_der.specs.Parts.{Then, SpellsBoth}
-use Rattle.rpki_time.specs.Serial.{SpellsSerial}
-use Rattle.rpki_time.specs.PeriodValue.{SpellsPeriod}
+-- Certificates that are read in place: what stands where, and which part is wrong, and why (RFC 5280 4.1).
+use Rattle.std.specs.Prelude.{◌≡◌, ◌≢◌, ◌⊎◌, ◌≤◌, ◌<◌, ◌++◌, ℕ, Bool, true, false, List, [], codes, length, IsTrue}
+use Rattle.std.specs.Prelude.{Result, Ok, Err}
+use Rattle.rpki_der.specs.declared.error.DecodeError.{DecodeError}
+use Rattle.rpki_der.specs.declared.error.DecodeError.TheVariants.{OutOfMemory}
+use Rattle.rpki_der.specs.Prelude.{TagName, sequence, bit_string, Accepts, Refuses, Refusal, SpellsNothing}
+use Rattle.rpki_der.specs.Prelude.{IsWholeFault, SpellsBoth, Format}
+use Rattle.rpki_der.specs.Prelude.{SpellsContents, SpellsLeaf, IsContentsFault, IsBits, Bits, bits_of, bits_value, only}
+use Rattle.rpki_der.specs.Prelude.{SpellsSome, RepeatedFault, SpellsValue, IsValue, IsCaptureFault, Then}
+use Rattle.rpki_time.specs.Serial.{serial_number}
+use Rattle.rpki_time.specs.Validity.{Period}
+use Rattle.rpki_time.specs.PeriodValue.{SpellsPeriod, period}
 use Rattle.rpki.specs.Name.{SpellsNameOctets}
+use Rattle.rpki.specs.NameFault.{borrowed_name}
 use Rattle.rpki.specs.PublicKey.{KeyParts, SpellsKey}
+use Rattle.rpki.specs.KeyFault.{key_view}
 use Rattle.rpki.specs.SignedData.{SignedParts, IsSignedContents}
 use Rattle.rpki.specs.ExtensionValue.{ExtensionParts, SpellsExtension}
+use Rattle.rpki.specs.ExtensionFault.{extension}
+use Rattle.rpki.specs.UnknownAlgorithm.{IsContentWith}
 use Rattle.rpki_cert.specs.declared.read.cert_part.CertPart.{CertPart}
 use Rattle.rpki_cert.specs.declared.read.cert_part.CertPart.TheVariants.{Certificate, Signed, Algorithm, Signature, Tbs}
 use Rattle.rpki_cert.specs.declared.read.cert_part.CertPart.TheVariants.{Version, SerialNumber, TbsAlgorithm, Issuer}
 use Rattle.rpki_cert.specs.declared.read.cert_part.CertPart.TheVariants.{Validity, Subject, PublicKey, Extensions}
 use Rattle.rpki_cert.specs.declared.read.cert_part.CertPart.TheVariants.{ExtensionCount, ExtensionIdentifiers}
 use Rattle.rpki_cert.specs.declared.read.cert_part.CertPart.TheVariants.{SameAlgorithm}
+use Rattle.rpki_cert.specs.declared.read.cert_error.CertError.{CertError}
 use Rattle.rpki_cert.specs.declared.read.section.Section.{Section}
 use Rattle.rpki_cert.specs.declared.extension.table.Passed.{Passed}
 pub use Rattle.rpki_cert.specs.ExtensionTable.{behind_first}
@@ -29,8 +34,10 @@ use Rattle.rpki_cert.specs.declared.read.fields.Named.{Named}
 use Rattle.rpki_cert.specs.declared.read.fields.TbsView.{TbsView}
 use Rattle.rpki_cert.specs.declared.read.view.Parts.{Parts}
 use Rattle.rpki_cert.specs.declared.read.view.CertView.{CertView}
-use Rattle.rpki_cert.specs.Cert.{TbsParts, CertParts, extensions_tag, are_unique, SpellsExtensions, SpellsVersion}
-use Rattle.rpki_cert.specs.Cert.{SpellsRpkiAlgorithm, AreFields, fields_of, SpellsTbs, SpellsCert}
+use Rattle.rpki_cert.specs.Cert.{TbsParts, CertParts, are_unique, AreExtensions, SpellsExtensions, version}
+use Rattle.rpki_cert.specs.Cert.{extensions_tag, SpellsRpkiAlgorithm, rpki_algorithm, AreFields, fields_of, SpellsTbs}
+use Rattle.rpki_cert.specs.Cert.{SpellsCert}
+pub use Rattle.rpki_cert.specs.CertError.{cert_error}
 
 -- ---- where octets stand
 
@@ -41,17 +48,31 @@ pub record IsSection (p : Section) (part behind : List ℕ) : Type 0 where
 
 -- ---- a part, or that it is wrong
 
--- a reader of all of s: Some is its value, and None says that it has none
-abbrev pub IsWholeOf : {X V : Type 0} → (X → V) → (V → List ℕ → Type 0) → List ℕ → Option X → Type 0
-IsWholeOf {X} {V} view G s (Some x) = G (view x) s × ((w : V) → G w s → w ≡ view x)
-IsWholeOf view G s None = SpellsNothing G s
+-- what is spelled has one value
+abbrev pub HasOne : {V : Type 0} → (V → List ℕ → Type 0) → List ℕ → Type 0
+HasOne {V} G s = (v w : V) → G v s → G w s → v ≡ w
 
--- q is wrong in s, which a value of G should begin: it doesn't, and q is this part; or it does, and L says it of the
--- value and of what follows
-pub data FirstWrong {V : Type 0} (G : V → List ℕ → Type 0) (part : CertPart) (L : V → List ℕ → CertPart → Type 0)
-    (s : List ℕ) (q : CertPart) : Type 0 where
-  AtPart : Refuses G s → q ≡ part → FirstWrong G part L s q
-  Later : (v : V) (r : List ℕ) → Accepts G s v r → L v r q → FirstWrong G part L s q
+-- q is wrong in s, which a value of F should begin: it doesn't, and q is this part, with the error of F; or it does,
+-- and L says it of the value and of what follows
+pub data FirstWrong {V : Type 0} (F : Format V) (part : CertPart) (L : V → List ℕ → CertError → Type 0)
+    (s : List ℕ) (q : CertError) : Type 0 where
+  AtPart : Refuses F.spells s → F.fault s q.error → q.part ≡ part → FirstWrong F part L s q
+  Later : (v : V) (r : List ℕ) → Accepts F.spells s v r → L v r q → FirstWrong F part L s q
+
+-- the contents of a value of this tag in constructed form, which begins the octets; and of one that is all of them
+abbrev pub frame : TagName → Format (List ℕ)
+frame t = record { spells = SpellsContents t true; fault = IsContentsFault t true }
+
+abbrev pub IsFrameFault : TagName → List ℕ → DecodeError → Type 0
+IsFrameFault t = IsWholeFault (SpellsContents t true) (IsContentsFault t true)
+
+-- q is wrong in s, all of which should be such a value: it isn't, and q is this part; or it is, and L says it of the
+-- contents
+pub data WholeWrong (t : TagName) (part : CertPart) (L : List ℕ → CertError → Type 0) (s : List ℕ) (q : CertError)
+    : Type 0 where
+  NoFrame : SpellsNothing (SpellsContents t true) s → IsFrameFault t s q.error → q.part ≡ part
+      → WholeWrong t part L s q
+  InFrame : (c : List ℕ) → SpellsContents t true c s → L c q → WholeWrong t part L s q
 
 -- ---- extensions
 
@@ -61,27 +82,49 @@ pub data FirstWrong {V : Type 0} (G : V → List ℕ → Type 0) (part : CertPar
 abbrev pub most_extensions : ℕ
 most_extensions = 64
 
--- extensions, one at least, of which some may have the same identifier
-abbrev pub SpellsListed : List ExtensionParts → List ℕ → Type 0
-SpellsListed = SpellsLeaf extensions_tag true (SpellsLeaf sequence true (SpellsSome SpellsExtension))
+-- extensions, one at least, aren't there: there is none; or the first that isn't one
+abbrev pub IsSomeFault : List ℕ → DecodeError → Type 0
+IsSomeFault s e =
+    ((s ≡ []) × IsContentWith (codes "no extensions") e)
+    ⊎ ((s ≢ []) × RepeatedFault SpellsExtension extension.fault s e)
 
--- the extensions are refused: they are no such list, or they are more than are compared, or two have one identifier
-pub data AreExtensionsWrong (s : List ℕ) (q : CertPart) : Type 0 where
-  NotListed : SpellsNothing SpellsListed s → q ≡ Extensions → AreExtensionsWrong s q
-  TooMany : (xs : List ExtensionParts) → SpellsListed xs s → most_extensions < length xs → q ≡ ExtensionCount
-      → AreExtensionsWrong s q
-  Repeated : (xs : List ExtensionParts) → SpellsListed xs s → length xs ≤ most_extensions
-      → (IsTrue (are_unique xs) → ⊥) → q ≡ ExtensionIdentifiers → AreExtensionsWrong s q
+-- s is no such extensions, and this is its error
+abbrev pub IsNotListed : List ℕ → DecodeError → Type 0
+IsNotListed s e = SpellsNothing (SpellsSome SpellsExtension) s × IsSomeFault s e
 
--- the contents of the list of extensions
-abbrev pub SpellsFrame : List ℕ → List ℕ → Type 0
-SpellsFrame = SpellsLeaf extensions_tag true (SpellsContents sequence true)
+-- The list is refused: it is of no extensions; or two have one identifier. Where nothing is allocated (the first
+-- argument is false), more than are compared are refused too; where it is, allocation may fail for more than these.
+pub data IsListWrong (allocates : Bool) (s : List ℕ) (q : CertError) : Type 0 where
+  NotListed : IsNotListed s q.error → q.part ≡ Extensions → IsListWrong allocates s q
+  TooMany : (xs : List ExtensionParts) → SpellsSome SpellsExtension xs s → allocates ≡ false
+      → most_extensions < length xs → q.part ≡ ExtensionCount → IsContentWith (codes "too many extensions") q.error
+      → IsListWrong allocates s q
+  Repeated : (xs : List ExtensionParts) → SpellsSome SpellsExtension xs s
+      → (allocates ≡ false → length xs ≤ most_extensions) → (IsTrue (are_unique xs) → ⊥)
+      → q.part ≡ ExtensionIdentifiers → IsContentWith (codes "duplicate extension") q.error → IsListWrong allocates s q
+  NoRoom : (xs : List ExtensionParts) → SpellsSome SpellsExtension xs s → allocates ≡ true
+      → most_extensions < length xs → q.part ≡ Extensions → q.error ≡ OutOfMemory → IsListWrong allocates s q
+
+-- all of s is to be the explicit tag around a SEQUENCE of them
+abbrev pub AreExtensionsWrong : Bool → List ℕ → CertError → Type 0
+AreExtensionsWrong allocates =
+    WholeWrong extensions_tag Extensions (WholeWrong sequence Extensions (IsListWrong allocates))
+
+-- so many extensions were told apart: no two have one identifier, or two have; where nothing is allocated they are few
+pub record IsApart (allocates : Bool) (s : List ℕ) (count : ℕ) (unique : Bool) : Type 0 where
+  pub answer : OfListed s (λ xs. unique ≡ are_unique xs)
+  pub few : allocates ≡ false → count ≤ most_extensions
+
+-- s is the extensions of the list, and these are its octets
+pub record AreListedAt (s l : List ℕ) : Type 0 where
+  pub extensions : List ExtensionParts
+  pub spelled : AreExtensions extensions s
+  pub list : l ≡ s
 
 -- all of s is the extensions, and these octets are the contents of their list
 pub record AreExtensionsAt (s l : List ℕ) : Type 0 where
   pub extensions : List ExtensionParts
   pub spelled : SpellsExtensions extensions s
-  pub few : length extensions ≤ most_extensions
   pub list : l ≡ spelled.spelled.contents
 
 -- these octets are extensions, so many
@@ -98,10 +141,10 @@ pub record IsPassed (s : List ℕ) (p : Passed) : Type 0 where
 
 -- ---- TBSCertificate
 
--- a reader of a name found s and left r: Some is its section, and None says that there is none
-abbrev pub TakesName : List ℕ → List ℕ → Option Section → Type 0
-TakesName s r (Some p) = (v : List ℕ) × Accepts SpellsNameOctets s v r × IsSection p v r
-TakesName s r None = Refuses SpellsNameOctets s
+-- a reader of a name found s and left r: Ok is its section; and an error says that there is none, and why
+abbrev pub TakesName : List ℕ → List ℕ → Result Section DecodeError → Type 0
+TakesName s r (Ok p) = (v : List ℕ) × Accepts SpellsNameOctets s v r × IsSection p v r
+TakesName s r (Err e) = Refusal SpellsNameOctets borrowed_name.fault s r e
 
 -- The section is that of a key, and the list that of extensions. Here and below, h says which octets spell which part,
 -- and so what follows each.
@@ -118,10 +161,11 @@ IsKeyedAt s k =
     × IsKeyedIn key xs s h k
 
 -- the fields from the issuer on
+abbrev pub SpellsNamed : List ℕ × (Period × (List ℕ × (KeyParts × List ExtensionParts))) → List ℕ → Type 0
+SpellsNamed = Then SpellsNameOctets (Then SpellsPeriod (Then SpellsNameOctets (Then SpellsKey SpellsExtensions)))
+
 abbrev pub AreNamed : TbsParts → List ℕ → Type 0
-AreNamed t =
-    Then SpellsNameOctets (Then SpellsPeriod (Then SpellsNameOctets (Then SpellsKey SpellsExtensions)))
-    (t.issuer, (t.validity, (t.subject, (t.key, t.extensions))))
+AreNamed t = SpellsNamed (t.issuer, (t.validity, (t.subject, (t.key, t.extensions))))
 
 -- the sections are those of the fields from the issuer on
 pub record IsNamedIn (t : TbsParts) (s : List ℕ) (h : AreNamed t s) (n : Named) : Type 0 where
@@ -135,23 +179,22 @@ pub record IsTbsIn (t : TbsParts) (s : List ℕ) (h : AreFields (fields_of t) s)
   pub algorithm : v.signature ≡ t.algorithm
   pub named : IsNamedIn t h.two.two.second h.two.two.two v.named
 
-abbrev pub AreKeyedWrong : List ℕ → CertPart → Type 0
-AreKeyedWrong = FirstWrong SpellsKey PublicKey (λ key. AreExtensionsWrong)
+abbrev pub AreKeyedWrong : Bool → List ℕ → CertError → Type 0
+AreKeyedWrong allocates = FirstWrong key_view PublicKey (λ key. AreExtensionsWrong allocates)
 
-abbrev pub AreNamedWrong : List ℕ → CertPart → Type 0
-AreNamedWrong =
-    FirstWrong SpellsNameOctets Issuer (λ issuer. FirstWrong SpellsPeriod Validity (λ validity.
-    FirstWrong SpellsNameOctets Subject (λ subject. AreKeyedWrong)))
+abbrev pub AreNamedWrong : Bool → List ℕ → CertError → Type 0
+AreNamedWrong allocates =
+    FirstWrong borrowed_name Issuer (λ issuer. FirstWrong period Validity (λ validity.
+    FirstWrong borrowed_name Subject (λ subject. AreKeyedWrong allocates)))
 
-abbrev pub AreFieldsWrong : List ℕ → CertPart → Type 0
-AreFieldsWrong =
-    FirstWrong SpellsVersion Version (λ version. FirstWrong SpellsSerial SerialNumber (λ serial.
-    FirstWrong SpellsRpkiAlgorithm TbsAlgorithm (λ algorithm. AreNamedWrong)))
+abbrev pub AreFieldsWrong : Bool → List ℕ → CertError → Type 0
+AreFieldsWrong allocates =
+    FirstWrong version Version (λ version. FirstWrong serial_number SerialNumber (λ serial.
+    FirstWrong rpki_algorithm TbsAlgorithm (λ algorithm. AreNamedWrong allocates)))
 
 -- all of d is to be a TBSCertificate
-pub data IsTbsWrong (d : List ℕ) (q : CertPart) : Type 0 where
-  NoTbs : SpellsNothing (SpellsContents sequence true) d → q ≡ Tbs → IsTbsWrong d q
-  InTbs : (c : List ℕ) → SpellsContents sequence true c d → AreFieldsWrong c q → IsTbsWrong d q
+abbrev pub IsTbsWrong : Bool → List ℕ → CertError → Type 0
+IsTbsWrong allocates = WholeWrong sequence Tbs (AreFieldsWrong allocates)
 
 -- ---- a certificate
 
@@ -179,31 +222,49 @@ pub record IsCertAt (s : List ℕ) (v : CertView) (x : CertParts) : Type 0 where
   pub parts : ArePartsIn x.signed spelled.signed.contents spelled.signed.spelled v.parts
   pub tbs : IsTbsIn x.tbs spelled.tbs.contents spelled.tbs.spelled v.tbs
 
+-- all of s is to be a BIT STRING: it isn't; or bits of it are unused
+abbrev pub IsSignatureFault : List ℕ → DecodeError → Type 0
+IsSignatureFault s e =
+    (only bits_value).fault s e
+    ⊎ ((b : Bits) × SpellsLeaf bit_string false IsBits b s × (b.unused ≡ 0 → ⊥)
+    × IsContentWith (codes "signature has unused bits") e)
+
 -- all of the rest is to be a signature without unused bits
-pub data IsSignatureWrong (s : List ℕ) (q : CertPart) : Type 0 where
-  NoSignature : SpellsNothing SpellsUsed s → q ≡ Signature → IsSignatureWrong s q
+pub data IsSignatureWrong (s : List ℕ) (q : CertError) : Type 0 where
+  NoSignature : SpellsNothing SpellsUsed s → IsSignatureFault s q.error → q.part ≡ Signature → IsSignatureWrong s q
 
 -- the algorithm and the signature
-abbrev pub AreBehindWrong : List ℕ → CertPart → Type 0
-AreBehindWrong = FirstWrong SpellsRpkiAlgorithm Algorithm (λ algorithm. IsSignatureWrong)
+abbrev pub AreBehindWrong : List ℕ → CertError → Type 0
+AreBehindWrong = FirstWrong rpki_algorithm Algorithm (λ algorithm. IsSignatureWrong)
+
+-- the value that is signed, with everything nested in it
+abbrev pub signed_value : Format (List ℕ)
+signed_value = record { spells = SpellsValue; fault = IsCaptureFault }
 
 -- the parts of signed data
-abbrev pub ArePartsWrong : List ℕ → CertPart → Type 0
-ArePartsWrong =
-    FirstWrong SpellsValue Signed (λ signed. AreBehindWrong)
+abbrev pub ArePartsWrong : List ℕ → CertError → Type 0
+ArePartsWrong = FirstWrong signed_value Signed (λ signed. AreBehindWrong)
 
--- all of s is to be a certificate: the SEQUENCE around all; then the parts of signed data; then what is signed; then
--- that the algorithms are the same
-pub data IsCertWrong (s : List ℕ) (q : CertPart) : Type 0 where
-  NoCert : SpellsNothing (SpellsContents sequence true) s → q ≡ Certificate → IsCertWrong s q
-  InParts : (c : List ℕ) → SpellsContents sequence true c s → ArePartsWrong c q → IsCertWrong s q
-  InSigned : (c : List ℕ) (x : SignedParts Bool) → SpellsContents sequence true c s
-      → (h : IsSignedContents SpellsRpkiAlgorithm x c) → h.signature.unused ≡ 0 → IsTbsWrong x.signed q
-      → IsCertWrong s q
-  Differ : (c : List ℕ) (x : SignedParts Bool) (t : TbsParts) → SpellsContents sequence true c s
-      → (h : IsSignedContents SpellsRpkiAlgorithm x c) → h.signature.unused ≡ 0 → SpellsTbs t x.signed
-      → (t.algorithm ≡ x.algorithm → ⊥)
-      → q ≡ SameAlgorithm → IsCertWrong s q
+-- the contents of a certificate: the parts of signed data; then what is signed; then that the algorithms are the same
+pub data AreContentsWrong (allocates : Bool) (c : List ℕ) (q : CertError) : Type 0 where
+  InParts : ArePartsWrong c q → AreContentsWrong allocates c q
+  InSigned : (x : SignedParts Bool) (h : IsSignedContents SpellsRpkiAlgorithm x c) → h.signature.unused ≡ 0
+      → IsTbsWrong allocates x.signed q → AreContentsWrong allocates c q
+  Differ : (x : SignedParts Bool) (t : TbsParts) (h : IsSignedContents SpellsRpkiAlgorithm x c)
+      → h.signature.unused ≡ 0 → SpellsTbs t x.signed → (t.algorithm ≡ x.algorithm → ⊥) → q.part ≡ SameAlgorithm
+      → IsContentWith (codes "signature algorithms differ") q.error → AreContentsWrong allocates c q
+
+-- all of s is to be a certificate: the SEQUENCE around all; then its contents
+abbrev pub IsCertErrorOf : Bool → List ℕ → CertError → Type 0
+IsCertErrorOf allocates = WholeWrong sequence Certificate (AreContentsWrong allocates)
+
+-- the same of a reader that allocates nothing
+abbrev pub IsCertError : List ℕ → CertError → Type 0
+IsCertError = IsCertErrorOf false
+
+-- this part is wrong, whatever the error
+abbrev pub IsCertWrong : List ℕ → CertPart → Type 0
+IsCertWrong s part = (e : DecodeError) × IsCertError s (cert_error part e)
 
 -- ---- a certificate, of whose signed part the header alone was read
 
@@ -211,10 +272,11 @@ pub data IsCertWrong (s : List ℕ) (q : CertPart) : Type 0 where
 abbrev pub ArePartsBehind : List ℕ → List ℕ → Parts → Type 0
 ArePartsBehind d m v = IsValue d → ArePartsAt (d ++ m) v
 
--- a SEQUENCE of d, and of m behind it, is a certificate of these parts
-abbrev pub IsCertBehind : List ℕ → List ℕ → CertView → Type 0
-IsCertBehind d m v = (s : List ℕ) → SpellsContents sequence true (d ++ m) s → (x : CertParts) × IsCertAt s v x
+-- a SEQUENCE of these contents is a certificate of these parts, and of no others
+abbrev pub AreContentsOf : List ℕ → CertView → Type 0
+AreContentsOf c v =
+    (s : List ℕ) → SpellsContents sequence true c s → ((x : CertParts) × IsCertAt s v x) × HasOne SpellsCert s
 
 -- where d is a value, this is wrong in it
-abbrev pub IsWrongBehind : List ℕ → List ℕ → CertPart → Type 0
-IsWrongBehind d m q = (s : List ℕ) → SpellsContents sequence true (d ++ m) s → IsValue d → IsCertWrong s q
+abbrev pub IsWrongBehind : Bool → List ℕ → List ℕ → CertError → Type 0
+IsWrongBehind allocates d m q = IsValue d → AreContentsWrong allocates (d ++ m) q

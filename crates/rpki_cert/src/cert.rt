@@ -1,15 +1,20 @@
 //! Certificates.
 
-ghost use Rattle.std.specs.Prelude.{◌≡◌, ◌↔◌, ◌∷◌, ◌++◌, ℕ, List, length, IsTrue};
-ghost use Rattle.rpki_der.specs.Cursor.{left};
-ghost use Rattle.rpki_der.specs.Sharing.{CanShare};
-ghost use Rattle.rpki_der.specs.Reading.{Reads, Decodes, IsWholeFault};
-ghost use Rattle.rpki_cert.specs.Cert.{SpellsWhole, SpellsCert};
-ghost use Rattle.rpki_cert.specs.CertFault.{IsWholeSignedFault, IsCertFault};
+ghost use Rattle.std.specs.Prelude.{◌≡◌, ◌↔◌, ◌∷◌, ◌++◌, ℕ, List, length, IsTrue, IfOk, IfErr};
+ghost use Rattle.rpki_der.specs.Prelude.{left, Reads, Decodes, IsWholeFault};
+ghost use Rattle.rpki_cert.specs.Cert.{CertParts, SpellsWhole, SpellsCert};
+ghost use Rattle.rpki_cert.specs.CertError.{without_part};
+ghost use Rattle.rpki_cert.specs.CertFault.{IsWholeSignedFault, IsCertFault, IsFrontError, UnlessUnkept, IsDecodedPart};
+ghost use Rattle.rpki_cert.specs.View.{ArePartsAt};
+ghost use Rattle.rpki_cert.specs.Kept.{IsSignedOf, IsCertOf};
 
+use crate::keep::keep_section;
+use crate::read::cert_error::CertError;
+use crate::read::cert_part::CertPart;
+use crate::read::view::{CertView, Parts, read_contents};
 use crate::tbs::TbsCert;
 use bytes::Bytes;
-use rpki::crypto::RpkiSignatureAlgorithm;
+use rpki::crypto::{RpkiSignatureAlgorithm, Signature};
 use rpki::der::{Constructed, DecodeError, Keep, Shared};
 use rpki::repository::x509::SignedData;
 use std::alloc::Global;
@@ -71,44 +76,108 @@ pub fn take_signed<K: Keep>(keep: K, cons: &mut Constructed<'_>) -> Result<Signe
     Ok(signed_data)
 }
 
+/// Keeps the signed data whose parts were read in place of these contents. Requires that they were, and that `keep` can
+/// keep parts of the contents.
+///
+/// The error is `OutOfMemory`, if allocation fails.
+fn keep_signed<K: Keep>(
+    keep: K,
+    contents: Constructed<'_>,
+    parts: &Parts<'_>,
+) -> Result<SignedData, DecodeError>
+    requires held { K.holds keep (left contents) }
+    requires stands { ArePartsAt (left contents) parts.now }
+    ensures ok { IfOk result (λ d. IsSignedOf (left contents.entry) parts.now d) }
+    ensures err { IfErr result (λ e. e ≡ DecodeError.OutOfMemory) }
+{
+    let mut rest = contents;
+    let signed = rest.capture_one(keep)?;
+    let value = keep_section(keep, contents.rest(), parts.signature)?;
+    Ok(SignedData::new(signed, Signature::new(parts.kind, value)))
+}
+
+/// Keeps the certificate that was read in place of these contents. Requires that it was, and that `keep` can keep parts
+/// of the contents.
+///
+/// The error is `OutOfMemory`, if allocation fails.
+fn keep_cert<K: Keep>(
+    keep: K,
+    contents: Constructed<'_>,
+    view: &CertView<'_>,
+) -> Result<Cert, DecodeError>
+    requires held { K.holds keep (left contents) }
+    requires stands { (x : CertParts) × IsCertOf (left contents) view.now x }
+    ensures ok { IfOk result (λ c. (x : CertParts) → IsCertOf (left contents.entry) view.now x → c ≡ x) }
+    ensures err { IfErr result (λ e. e ≡ DecodeError.OutOfMemory) }
+{
+    let signed_data = keep_signed(keep, contents, &view.parts)?;
+    let data = signed_data.data();
+    let tbs = TbsCert::keep(data.shared(keep.allocator()), data.as_slice(), &view.tbs)?;
+    Ok(Cert { signed_data, tbs })
+}
+
 impl Cert {
     /// A certificate: signed data whose signed value is a [TbsCert] that names the same algorithm (RFC 5280 4.1.1.2).
-    /// No bit of the signature is unused.
+    /// No bit of the signature is unused. It is read in place, as by [CertView::read], but with any number of
+    /// extensions; and then kept.
     /// An allocator copies the signed value and the signature, and [Shared](rpki::der::Shared) shares them; requires
     /// that `keep` can keep parts of what is left. The parts of the signed value share its octets.
     ///
-    /// The errors are those of signed data; then `Content` with the text `signature has unused bits`; then those of
-    /// [TbsCert::take_from] for what is signed; then `Content` with the text `signature algorithms differ`; and
-    /// `OutOfMemory` if allocation fails, where the parts say so.
-    pub fn take_from<K: Keep>(keep: K, cons: &mut Constructed<'_>) -> Result<Cert, DecodeError>
+    /// The error is of the leftmost part that is wrong: of the SEQUENCE; of the signed data; then of what is signed;
+    /// then that both algorithm identifiers are the same. It is `OutOfMemory` of the certificate if allocation fails
+    /// where one is there, or of its extensions where they are more than 64. An error leaves the cursor where it was.
+    pub fn take_from<K: Keep>(keep: K, cons: &mut Constructed<'_>) -> Result<Cert, CertError>
         requires { K.holds keep (left cons.old) }
-        ensures { Reads (λ x. x) SpellsCert IsCertFault (left cons.old) (left cons.new) result }
+        ensures reads { Reads (λ x. x) SpellsCert IsCertFault (left cons.old) (left cons.new) (without_part result) }
+        ensures part { IfErr result (λ q. UnlessUnkept IsFrontError (left cons.old) q) }
     {
         let mut after = *cons;
-        let signed_data = take_signed(keep, &mut after)?;
-        let data = signed_data.data();
-        let mut signed = data.cursor();
-        let tbs = TbsCert::take_from(data.shared(keep.allocator()), &mut signed)?;
-        signed.finish()?;
-        if !is_same(tbs.signature(), *signed_data.signature().algorithm()) {
-            return Err(DecodeError::content("signature algorithms differ"));
+        let contents = match after.take_sequence() {
+            Ok(contents) => contents,
+            Err(error) => {
+                return Err(CertError {
+                    part: CertPart::Certificate,
+                    error,
+                });
+            }
+        };
+        let view = match read_contents(Some(keep.allocator()), contents) {
+            Ok(view) => view,
+            Err(wrong) => return Err(wrong),
+        };
+        let within = keep.before(cons.rest(), contents.rest(), after.rest());
+        match keep_cert(within, contents, &view) {
+            Ok(cert) => {
+                *cons = after;
+                Ok(cert)
+            }
+            Err(error) => Err(CertError {
+                part: CertPart::Certificate,
+                error,
+            }),
         }
-        *cons = after;
-        Ok(Cert { signed_data, tbs })
     }
 
     /// A certificate, and nothing else. It shares the octets.
     ///
-    /// The errors are those of [Cert::take_from]; then `Trailing` if something follows the certificate.
-    pub fn decode(alloc: Global, bytes: Bytes) -> Result<Cert, DecodeError>
-        ensures { Decodes (λ x. x) SpellsCert (IsWholeFault SpellsCert IsCertFault) bytes result }
+    /// The errors are those of [Cert::take_from]; then `Trailing`, of the certificate, if something follows it.
+    pub fn decode(alloc: Global, bytes: Bytes) -> Result<Cert, CertError>
+        ensures decodes { Decodes (λ x. x) SpellsCert (IsWholeFault SpellsCert IsCertFault) bytes
+            (without_part result) }
+        ensures part { IfErr result (λ q. IsDecodedPart bytes q) }
     {
-        Constructed::new(&bytes).whole_with(
-            Shared::new(alloc, &bytes),
-            |cons, keep|
-                requires { CanShare keep (left cons.old) }
-            { Cert::take_from(keep, cons) },
-        )
+        let mut cons = Constructed::new(&bytes);
+        let cert = match Cert::take_from(Shared::new(alloc, &bytes), &mut cons) {
+            Ok(cert) => cert,
+            Err(wrong) => return Err(wrong),
+        };
+        match cons.finish() {
+            Ok(()) => Ok(cert),
+            Err(error) => Err(CertError {
+                part: CertPart::Certificate,
+                error,
+            }),
+        }
     }
 
     /// The signed data: the signed octets as they came, and the signature.

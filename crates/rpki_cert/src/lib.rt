@@ -7,6 +7,7 @@
 
 mod cert;
 mod extension;
+mod keep;
 pub mod laws;
 pub mod objects;
 mod profile;
@@ -28,6 +29,7 @@ pub use extension::policy::Overclaim;
 pub use extension::table::ExtensionTable;
 pub use profile::rule::CertRule;
 pub use profile::{CheckError, Profile};
+pub use read::cert_error::CertError;
 pub use read::cert_part::CertPart;
 pub use read::fields::{Keyed, Named, TbsView};
 pub use read::section::Section;

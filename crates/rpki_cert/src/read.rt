@@ -1,5 +1,6 @@
 //! Reading certificates in place: a pass over the octets, without memory (RFC 5280 4.1).
 
+pub mod cert_error;
 pub mod cert_part;
 pub mod fields;
 pub mod listed;

@@ -1,15 +1,18 @@
 //! What is signed of a certificate.
 
-ghost use Rattle.std.specs.Prelude.{◌≡◌};
-ghost use Rattle.rpki_der.specs.Cursor.{left};
-ghost use Rattle.rpki_der.specs.Reading.{Reads};
-ghost use Rattle.rpki_der.specs.FirstFault.{ReadsParts};
-ghost use Rattle.rpki_cert.specs.Cert.{fields_of, AreFields, SpellsTbs};
-ghost use Rattle.rpki_cert.specs.Cert.{fields, tbs_certificate};
+ghost use Rattle.std.specs.Prelude.{◌≡◌, IfOk, IfErr};
+ghost use Rattle.rpki_der.specs.Prelude.{left, Reads};
+ghost use Rattle.rpki_cert.specs.Cert.{TbsParts, SpellsTbs};
+ghost use Rattle.rpki_cert.specs.CertError.{without_part};
+ghost use Rattle.rpki_cert.specs.CertFault.{IsTbsFault, IsFrontTbsError, UnlessUnkept};
+ghost use Rattle.rpki_cert.specs.Kept.{IsTbsAt};
 
-use crate::extension::list::take_extensions;
-use crate::read::version::skip_version;
-use rpki::crypto::{PublicKey, RpkiSignatureAlgorithm, SignatureAlgorithm};
+use crate::keep::{keep_extensions, keep_key, keep_name};
+use crate::read::cert_error::CertError;
+use crate::read::cert_part::CertPart;
+use crate::read::fields::{TbsView, read_fields};
+use crate::read::nested::front_of;
+use rpki::crypto::{PublicKey, RpkiSignatureAlgorithm};
 use rpki::der::{Constructed, DecodeError, Keep};
 use rpki::repository::x509::{CertExtension, Name, Serial, Validity};
 use std::marker::Model;
@@ -43,50 +46,74 @@ impl Model for TbsCert {
 }
 
 impl TbsCert {
+    /// Keeps what was read in place of these octets. Requires that it was, and that `keep` can keep parts of them.
+    ///
+    /// The error is `OutOfMemory`, if allocation fails.
+    pub(crate) fn keep<K: Keep>(
+        keep: K,
+        octets: &[u8],
+        view: &TbsView<'_>,
+    ) -> Result<TbsCert, DecodeError>
+        requires held { K.holds keep octets.now }
+        requires stands { (t : TbsParts) × IsTbsAt octets.now view.now t }
+        ensures ok { IfOk result (λ x. (t : TbsParts) → IsTbsAt octets.now view.now t → x ≡ t) }
+        ensures err { IfErr result (λ e. e ≡ DecodeError.OutOfMemory) }
+    {
+        let named = &view.named;
+        let issuer = keep_name(keep, octets, named.issuer)?;
+        let subject = keep_name(keep, octets, named.subject)?;
+        let subject_public_key_info = keep_key(keep, octets, &named.keyed)?;
+        let extensions = keep_extensions(keep, &named.keyed.extensions)?;
+        Ok(TbsCert {
+            serial_number: view.serial_number,
+            signature: view.signature,
+            issuer,
+            validity: named.validity,
+            subject,
+            subject_public_key_info,
+            extensions,
+        })
+    }
+
     /// The signed part: a SEQUENCE of the version v3(2), the serial number, the algorithm, the issuer, the validity
     /// period, the subject, its key and the extensions, and nothing after them. An allocator copies what is kept of
     /// them, and [Shared](rpki::der::Shared) shares it; requires that `keep` can keep parts of what is left.
     ///
-    /// The errors are those of a SEQUENCE; then that of the first part that could not be read, `Trailing` for octets
-    /// that follow them, and `OutOfMemory` if allocation fails, only in a name, the key or the extensions.
-    pub fn take_from<K: Keep>(keep: K, cons: &mut Constructed<'_>) -> Result<TbsCert, DecodeError>
+    /// The errors are those of a SEQUENCE; then that of the first part that could not be read; and `OutOfMemory` if
+    /// allocation fails, only where all parts are there, or in the extensions.
+    pub fn take_from<K: Keep>(keep: K, cons: &mut Constructed<'_>) -> Result<TbsCert, CertError>
         requires { K.holds keep (left cons.old) }
-        ensures { Reads (λ x. x) SpellsTbs tbs_certificate.fault (left cons.old) (left cons.new) result }
+        ensures reads { Reads (λ x. x) SpellsTbs IsTbsFault (left cons.old) (left cons.new) (without_part result) }
+        ensures part { IfErr result (λ q. UnlessUnkept IsFrontTbsError (left cons.old) q) }
     {
-        cons.in_sequence_with(
-            keep,
-            |contents, keep|
-                requires { K.holds keep (left contents.old) }
-                ensures { ReadsParts fields_of AreFields fields.fault (left contents.old) (left contents.new) result }
-            {
-                skip_version(contents)?;
-                let serial_number = match Serial::take_from(contents) {
-                    Ok(serial) => serial,
-                    Err(e) => return Err(e),
-                };
-                let signature = match RpkiSignatureAlgorithm::x509_take_from(contents) {
-                    Ok(signature) => signature,
-                    Err(e) => return Err(e),
-                };
-                let issuer = Name::take_from(keep, contents)?;
-                let validity = match Validity::take_from(contents) {
-                    Ok(validity) => validity,
-                    Err(e) => return Err(e),
-                };
-                let subject = Name::take_from(keep, contents)?;
-                let subject_public_key_info = PublicKey::take_from(keep, contents)?;
-                let extensions = take_extensions(keep, contents)?;
-                Ok(TbsCert {
-                    serial_number,
-                    signature,
-                    issuer,
-                    validity,
-                    subject,
-                    subject_public_key_info,
-                    extensions,
-                })
-            },
-        )
+        let mut after = *cons;
+        let fields = match after.take_sequence() {
+            Ok(fields) => fields,
+            Err(error) => {
+                return Err(CertError {
+                    part: CertPart::Tbs,
+                    error,
+                });
+            }
+        };
+        let view = match read_fields(Some(keep.allocator()), fields) {
+            Ok(view) => view,
+            Err(wrong) => return Err(wrong),
+        };
+        let all = cons.rest();
+        let following = after.rest();
+        let octets = front_of(all, following);
+        let within = keep.before(all, octets, following);
+        match TbsCert::keep(within, octets, &view) {
+            Ok(tbs) => {
+                *cons = after;
+                Ok(tbs)
+            }
+            Err(error) => Err(CertError {
+                part: CertPart::Tbs,
+                error,
+            }),
+        }
     }
 
     /// The serial number. It may be 0, which no certificate should have (RFC 5280 4.1.2.2): the inspections reject it.

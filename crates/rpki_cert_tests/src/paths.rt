@@ -101,7 +101,7 @@ fn cert(alloc: Global, octets: &[u8]) -> Result<Cert, ValidationError> {
     match Bytes::copy_from_slice(alloc, octets) {
         Ok(octets) => match Cert::decode(alloc, octets) {
             Ok(cert) => Ok(cert),
-            Err(e) => Err(ValidationError::Decoding(e)),
+            Err(wrong) => Err(ValidationError::Decoding(wrong.error)),
         },
         Err(_) => Err(ValidationError::Decoding(DecodeError::OutOfMemory)),
     }

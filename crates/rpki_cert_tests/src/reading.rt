@@ -4,9 +4,11 @@ use crate::certificates::{ANCHOR, AUTHORITY, DETACHED, ROUTER, SIGNER};
 use crate::changed::changed;
 use crate::hexadecimal::octets_of;
 use bytes::Bytes;
+use rpki::der::DecodeError;
 use rpki::repository::x509::Serial;
-use rpki_cert::{Cert, CertPart, CertView, KeyUsage, Overclaim, TbsCert};
+use rpki_cert::{Cert, CertError, CertPart, CertView, KeyUsage, Overclaim, TbsCert};
 use rpki_der_tests::kinds::{Outcome, outcome_of};
+use std::alloc::{AllocError, Global};
 use std::test::Fail;
 
 /// A name; a certificate; its serial number, how many extensions it has, whether it is an authority, and the use of its
@@ -41,6 +43,12 @@ fn says(tbs: &TbsCert, row: &Row) -> bool {
         && tbs.overclaim() == Ok(Some(Overclaim::Refuse))
 }
 
+/// The certificate that the octets are.
+fn decode(alloc: Global, octets: &[u8]) -> Result<Cert, DecodeError> {
+    let bytes = Bytes::copy_from_slice(alloc, octets)?;
+    Ok(Cert::decode(alloc, bytes)?)
+}
+
 /// Whether it says this in place, too.
 fn says_in_place(octets: &[u8], row: &Row) -> bool {
     match CertView::read(octets) {
@@ -61,10 +69,7 @@ fn says_in_place(octets: &[u8], row: &Row) -> bool {
 fn certificates_are_read(rt: HostRuntime) -> Result<(), Fail> {
     for row in rows() {
         let octets = octets_of(rt.alloc(), row.1)?;
-        let cert = Cert::decode(
-            rt.alloc(),
-            Bytes::copy_from_slice(rt.alloc(), octets.as_slice())?,
-        )?;
+        let cert = decode(rt.alloc(), octets.as_slice())?;
         assert!(rt; says(cert.tbs(), row), "{}", row.0);
         assert!(rt;
             says_in_place(octets.as_slice(), row),
@@ -162,12 +167,21 @@ fn wrong() -> &'static [Wrong] {
     WRONG
 }
 
-/// The part that is wrong in place, if there is one.
-fn wrong_part(octets: &[u8]) -> Option<CertPart> {
-    match CertView::read(octets) {
-        Ok(_) => None,
-        Err(part) => Some(part),
+/// How reading ends, and the part that is wrong.
+fn told<T: Drop>(answer: Result<T, CertError>) -> (Outcome, Option<CertPart>) {
+    match answer {
+        Ok(_) => (Outcome::Read, None),
+        Err(wrong) => (outcome_of::<()>(Err(wrong.error)), Some(wrong.part)),
     }
+}
+
+/// How octets are decoded, and read in place.
+fn both(alloc: Global, octets: &[u8]) -> Result<[(Outcome, Option<CertPart>); 2], AllocError> {
+    let bytes = Bytes::copy_from_slice(alloc, octets)?;
+    Ok([
+        told(Cert::decode(alloc, bytes)),
+        told(CertView::read(octets)),
+    ])
 }
 
 #[test]
@@ -177,17 +191,10 @@ fn others_are_rejected(rt: HostRuntime) -> Result<(), Fail> {
             Some(octets) => octets,
             None => Vec::new(rt.alloc()),
         };
-        let bytes = Bytes::copy_from_slice(rt.alloc(), octets.as_slice())?;
-        assert_eq!(rt;
-            outcome_of(Cert::decode(rt.alloc(), bytes)),
-            *outcome,
-            "{name}"
-        );
-        assert_eq!(rt;
-            wrong_part(octets.as_slice()),
-            Some(*part),
-            "{name}, in place"
-        );
+        let wanted = (*outcome, Some(*part));
+        let [decoded, viewed] = both(rt.alloc(), octets.as_slice())?;
+        assert_eq!(rt; decoded, wanted, "{name}");
+        assert_eq!(rt; viewed, wanted, "{name}, in place");
     }
     Ok(())
 }
@@ -198,17 +205,10 @@ fn beginnings_are_rejected(rt: HostRuntime) -> Result<(), Fail> {
     let octets = octets_of(rt.alloc(), AUTHORITY)?;
     for size in 0..octets.len() {
         let front = &octets.as_slice()[..size];
-        let bytes = Bytes::copy_from_slice(rt.alloc(), front)?;
-        assert_eq!(rt;
-            outcome_of(Cert::decode(rt.alloc(), bytes)),
-            Outcome::Truncated,
-            "{size}"
-        );
-        assert_eq!(rt;
-            wrong_part(front),
-            Some(CertPart::Certificate),
-            "{size}, in place"
-        );
+        let wanted = (Outcome::Truncated, Some(CertPart::Certificate));
+        let [decoded, viewed] = both(rt.alloc(), front)?;
+        assert_eq!(rt; decoded, wanted, "{size}");
+        assert_eq!(rt; viewed, wanted, "{size}, in place");
     }
     Ok(())
 }

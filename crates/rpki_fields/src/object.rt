@@ -2,7 +2,7 @@
 
 ghost use Rattle.std.specs.Prelude.{◌≡◌, IfOk, MatchResult, is_some};
 ghost use Rattle.std.specs.Option.{option_map};
-ghost use Rattle.rpki_der.specs.Prelude.{left, CanShare, Decodes, IsWholeFault};
+ghost use Rattle.rpki_der.specs.Prelude.{left, CanShare, Reads, Decodes, IsWholeFault};
 ghost use Rattle.rpki_cert.specs.Cert.{SpellsCert};
 ghost use Rattle.rpki_cert.specs.CertFault.{IsCertFault};
 ghost use Rattle.rpki_fields.specs.declared.kind.Kind.TheVariants as K;
@@ -55,7 +55,8 @@ fn rpki_certificate(alloc: Global, octets: &Bytes) -> Result<Cert, DecodeError>
         Shared::new(alloc, octets),
         |cons, keep|
             requires { CanShare keep (left cons.old) }
-        { Cert::take_from(keep, cons) },
+            ensures { Reads (λ x. x) SpellsCert IsCertFault (left cons.old) (left cons.new) result }
+        { Ok(Cert::take_from(keep, cons)?) },
     )
 }
 

@@ -31,7 +31,7 @@ fn cert_place(octets: &[u8]) -> Option<Place>
 {
     match CertView::read(octets) {
         Ok(_) => None,
-        Err(part) => Some(Place::Cert(part)),
+        Err(wrong) => Some(Place::Cert(wrong.part)),
     }
 }
 

@@ -8,14 +8,13 @@ use Rattle.rpki_der.specs.Format.{Format}
 use Rattle.rpki_der.specs.LeafFormats.{any_oid}
 use Rattle.rpki_der.proofs.LeafValueLaws.{leaf-nowhere}
 use Rattle.rpki_time.specs.TimeValue.{time}
-use Rattle.rpki_cert.specs.View.{IsWholeOf}
 use Rattle.rpki_objects.specs.declared.known_attributes.KnownAttributes.{KnownAttributes}
 use Rattle.rpki_objects.specs.SignedAttributes.{Attribute, AttributeValues, AreSigned, FindsOne, values_known}
 use Rattle.rpki_objects.specs.SignedAttributes.{values_of}
 use Rattle.rpki_objects.specs.SignedAttributes.{attribute, attribute_parts, each_attribute, is_known, are_known}
 use Rattle.rpki_objects.specs.SignedAttributes.{content_type, message_digest, signing_time, binary_signing_time}
 use Rattle.rpki_objects.specs.SignedAttributes.{digest_value, binary_time, IsOnce, IsAtMostOnce}
-use Rattle.rpki_objects.specs.SignedObjectView.{AreTogether}
+use Rattle.rpki_objects.specs.SignedObjectView.{AreTogether, IsWholeOf}
 
 abbrev Each : List Attribute → List ℕ → Type 0
 Each = each_attribute.spells

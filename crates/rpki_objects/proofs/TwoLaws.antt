@@ -6,7 +6,7 @@ use Rattle.rpki_der.specs.Reading.{Spells, Accepts, Refuses, SpellsNothing}
 use Rattle.rpki_der.specs.Values.{SpellsContents}
 use Rattle.rpki_der.specs.Each.{SpellsEach}
 use Rattle.rpki.specs.ExtensionValue.{ExtensionParts, SpellsExtension}
-use Rattle.rpki_cert.specs.View.{IsWholeOf}
+use Rattle.rpki_objects.specs.SignedObjectView.{IsWholeOf}
 use Rattle.rpki_objects.specs.declared.crl_extensions.CrlExtensions.{CrlExtensions}
 use Rattle.rpki_objects.specs.Crl.{ListExtensions, AreExtensions, extensions_of, extensions_tag, extensions}
 use Rattle.rpki_objects.specs.CrlView.{AreTwo}

@@ -3,7 +3,7 @@ use Rattle.std.specs.Prelude.{◌≡◌, ◌⊎◌, ◌++◌, ◌||◌, ℕ, Boo
 use Rattle.std.specs.Prelude.{nat_eq}
 use Rattle.rpki_der.specs.declared.error.DecodeError.{DecodeError}
 use Rattle.rpki_der.specs.Prelude.{sequence, Accepts, Refuses, Spells, SpellsNothing, SpellsContents, SpellsEach}
-use Rattle.rpki_der.specs.Prelude.{HasTag, IsValue, TakesNoMemory, this_number, only}
+use Rattle.rpki_der.specs.Prelude.{HasTag, IsValue, SpellsValue, TakesNoMemory, this_number, only}
 use Rattle.rpki_der.specs.Parts.{OptionalThen}
 use Rattle.rpki_der.specs.FirstFault.{RepeatedFault}
 use Rattle.rpki_time.specs.TimeValue.{time}
@@ -13,7 +13,8 @@ use Rattle.rpki_cert.specs.declared.read.cert_part.CertPart.TheVariants.{Algorit
 use Rattle.rpki_cert.specs.declared.read.section.Section.{Section}
 use Rattle.rpki_cert.specs.declared.read.view.Parts.{Parts}
 use Rattle.rpki_cert.specs.Cert.{SpellsRpkiAlgorithm}
-use Rattle.rpki_cert.specs.View.{IsSection, ArePartsIn, ArePartsWrong}
+use Rattle.rpki_cert.specs.declared.read.cert_error.CertError.{CertError}
+use Rattle.rpki_cert.specs.View.{IsSection, ArePartsIn, AreBehindWrong}
 use Rattle.rpki_objects.specs.declared.crl_part.CrlPart.{CrlPart}
 use Rattle.rpki_objects.specs.declared.crl_part.CrlPart.TheVariants as P
 use Rattle.rpki_objects.specs.declared.crl_view.CrlView.{CrlView}
@@ -142,8 +143,9 @@ signed_part q = P.Signed
 -- then that the algorithms are the same
 pub data IsCrlWrong (s : List ℕ) (q : CrlPart) : Type 0 where
   NoList : SpellsNothing (SpellsContents sequence true) s → q ≡ P.List → IsCrlWrong s q
-  InParts : (c : List ℕ) (p : CertPart) → SpellsContents sequence true c s → ArePartsWrong c p → q ≡ signed_part p
-      → IsCrlWrong s q
+  NoSigned : (c : List ℕ) → SpellsContents sequence true c s → Refuses SpellsValue c → q ≡ P.Signed → IsCrlWrong s q
+  BehindSigned : (c v r : List ℕ) (p : CertError) → SpellsContents sequence true c s → Accepts SpellsValue c v r
+      → AreBehindWrong r p → q ≡ signed_part p.part → IsCrlWrong s q
   InSigned : (c : List ℕ) (x : SignedParts Bool) → SpellsContents sequence true c s
       → (h : IsSignedContents SpellsRpkiAlgorithm x c) → h.signature.unused ≡ 0 → IsTbsWrong x.signed q
       → IsCrlWrong s q

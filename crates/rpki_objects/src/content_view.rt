@@ -1,9 +1,8 @@
 //! The content of a signed object, read in place without memory (RFC 5652 5.2, RFC 6488 2.1.3).
 
 ghost use Rattle.rpki_der.specs.Prelude.{left};
-ghost use Rattle.rpki_cert.specs.View.{IsWholeOf};
 ghost use Rattle.rpki_objects.specs.SignedObject.{kept_octets, explicit_content};
-ghost use Rattle.rpki_objects.specs.SignedObjectView.{TakesContent};
+ghost use Rattle.rpki_objects.specs.SignedObjectView.{IsWholeOf, TakesContent};
 
 use rpki::der::{Class, Constructed, Tag};
 use rpki_cert::Section;

@@ -6,7 +6,7 @@ ghost use Rattle.rpki_cert.specs.ExtensionContent.{SpellsAuthority};
 ghost use Rattle.rpki_objects.specs.Crl.{AreExtensions, IsAuthority, IsCrlNumber, ListExtensions, extensions_of};
 ghost use Rattle.rpki_objects.specs.Crl.{each_extension, extension_list, known_extensions, extensions};
 ghost use Rattle.rpki_objects.specs.CrlView.{AreTwo};
-ghost use Rattle.rpki_cert.specs.View.{IsWholeOf};
+ghost use Rattle.rpki_objects.specs.SignedObjectView.{IsWholeOf};
 ghost use Rattle.rpki_cert.specs.ExtensionContent.{WholeFault, authority_content};
 
 use rpki::crypto::KeyIdentifier;

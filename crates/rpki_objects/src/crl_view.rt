@@ -46,7 +46,7 @@ fn read_behind<'a>(signed: &'a [u8], behind: Constructed<'a>) -> Result<CrlView<
 {
     let parts = match read_parts(signed, behind) {
         Ok(parts) => parts,
-        Err(part) => return Err(signed_part(part)),
+        Err(wrong) => return Err(signed_part(wrong.part)),
     };
     let tbs = match read_tbs(Constructed::from_slice(signed)) {
         Ok(tbs) => tbs,

@@ -47,8 +47,8 @@ fn read_fields<'a>(contents: Constructed<'a>) -> Result<TbsListView<'a>, CrlPart
         Err(_) => return Err(CrlPart::TbsAlgorithm),
     };
     let issuer = match take_name(&mut rest) {
-        Some(issuer) => issuer,
-        None => return Err(CrlPart::Issuer),
+        Ok(issuer) => issuer,
+        Err(_) => return Err(CrlPart::Issuer),
     };
     let this_update = match Time::take_from(&mut rest) {
         Ok(time) => time,

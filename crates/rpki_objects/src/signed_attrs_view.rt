@@ -1,9 +1,8 @@
 //! The signed attributes of a signer, read in place without memory (RFC 5652 5.3, 5.4; RFC 6488 2.1.6.4).
 
 ghost use Rattle.rpki_der.specs.Prelude.{left};
-ghost use Rattle.rpki_cert.specs.View.{IsWholeOf};
 ghost use Rattle.rpki_objects.specs.SignedAttributes.{values_known};
-ghost use Rattle.rpki_objects.specs.SignedObjectView.{AreTogether, TakesAttributes};
+ghost use Rattle.rpki_objects.specs.SignedObjectView.{AreTogether, IsWholeOf, TakesAttributes};
 
 use crate::attribute::AttributeView;
 use crate::known_attributes::KnownAttributes;

@@ -10,7 +10,8 @@
 //! ```
 
 ghost use Rattle.rpki_der.specs.Prelude.{left, Takes, TakesAll};
-ghost use Rattle.rpki_objects.specs.SignedObject.{object_of, data_fields_of, data_fields, signed_data, certificates};
+ghost use Rattle.rpki_objects.specs.SignedObject.{object_of, data_fields_of, data_fields, signed_data, certificate};
+ghost use Rattle.rpki_objects.specs.SignedObject.{certificates};
 ghost use Rattle.rpki_objects.specs.SignedObject.{signer_of, signer_fields_of, signer_infos};
 
 use crate::encapsulated::EncapsulatedContent;
@@ -37,7 +38,8 @@ fn take_certificates<K: Keep>(keep: K, cons: &mut Constructed<'_>) -> Result<Cer
         keep,
         |contents, keep|
             requires { K.holds keep (left contents.old) }
-        { Cert::take_from(keep, contents) },
+            ensures { Takes (λ x. x) certificate (left contents.old) (left contents.new) result }
+        { Ok(Cert::take_from(keep, contents)?) },
     )
 }
 

@@ -39,7 +39,7 @@ fn take_certificate<'a>(cons: &mut Constructed<'a>) -> Result<Section<'a>, Objec
             octets,
             following: cons.rest().len(),
         }),
-        Err(part) => Err(ObjectPart::Certificate(part)),
+        Err(wrong) => Err(ObjectPart::Certificate(wrong.part)),
     }
 }
 

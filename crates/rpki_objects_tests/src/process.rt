@@ -221,7 +221,7 @@ fn anchor<'p>(
     };
     match Cert::decode(alloc, octets) {
         Ok(cert) => cert.verify_ta(alloc, provider, true, at),
-        Err(e) => Err(ValidationError::Decoding(e)),
+        Err(wrong) => Err(ValidationError::Decoding(wrong.error)),
     }
 }
 

@@ -1,18 +1,16 @@
 //! The extensions of a certificate, read once, in place without memory (RFC 5280 4.1.2.9, 4.2).
 
-ghost use Rattle.std.specs.Prelude.{◌≡◌, List, IfSome, IfNone};
+ghost use Rattle.std.specs.Prelude.{◌≡◌, IfOk, IfErr};
 ghost use Rattle.rpki_der.specs.Cursor.{left};
-ghost use Rattle.rpki_der.specs.Each.{SpellsSome};
-ghost use Rattle.rpki.specs.ExtensionValue.{ExtensionParts, SpellsExtension};
 ghost use Rattle.rpki_cert.specs.Cert.{find};
 ghost use Rattle.rpki_cert.specs.Known.{are_understood};
 ghost use Rattle.rpki_cert.specs.ExtensionTable.{OfListed, identifier_of, FindsListed, IsListed};
-ghost use Rattle.rpki_cert.specs.View.{IsPassed};
+ghost use Rattle.rpki_cert.specs.View.{IsPassed, IsNotListed};
 
 use crate::extension::kind::{ExtensionKind, is_understood, slot_of};
 use crate::extension::listed_extension::ListedExtension;
 use crate::read::section::Section;
-use rpki::der::Constructed;
+use rpki::der::{Constructed, DecodeError};
 use rpki::repository::x509::ExtensionView;
 use std::marker::Model;
 
@@ -59,13 +57,15 @@ fn listed_of<'a>(extension: &ExtensionView<'a>, rest: Constructed<'a>) -> Listed
     }
 }
 
-/// Reads extensions, one after another, and one at least; None where the octets are something else.
-pub fn pass<'a>(list: Constructed<'a>) -> Option<Passed<'a>>
-    ensures some { IfSome result (λ p. IsPassed (left list.entry) p) }
-    ensures none { IfNone result ((xs : List ExtensionParts) → SpellsSome SpellsExtension xs (left list.entry) → ⊥) }
+/// Reads extensions, one after another, and one at least.
+///
+/// The error is `Content` with the text `no extensions` where there is none; else that of the first that isn't one.
+pub fn pass<'a>(list: Constructed<'a>) -> Result<Passed<'a>, DecodeError>
+    ensures ok { IfOk result (λ p. IsPassed (left list.entry) p) }
+    ensures err { IfErr result (λ e. IsNotListed (left list.entry) e) }
 {
     if list.is_empty() {
-        return None;
+        return Err(DecodeError::content("no extensions"));
     }
     let mut slots = [None; 14];
     let mut understood = true;
@@ -85,10 +85,10 @@ pub fn pass<'a>(list: Constructed<'a>) -> Option<Passed<'a>>
                     slots[slot] = Some(listed_of(&extension, rest));
                 }
             }
-            Err(_) => return None,
+            Err(e) => return Err(e),
         }
     }
-    Some(Passed {
+    Ok(Passed {
         table: ExtensionTable {
             list: list.rest(),
             slots,

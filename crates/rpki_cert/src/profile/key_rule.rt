@@ -8,8 +8,7 @@ ghost use Rattle.rpki.specs.PublicKey.{key_of};
 ghost use Rattle.rpki_der.specs.Leaves.{bits_of};
 ghost use Rattle.rpki_cert.specs.Keys.{IsModulus, SpellsExponent, AreRsaParts, SpellsRsaKey, IsRpkiKey, IsRouterKey};
 
-use crate::read::listed::only_in;
-use crate::read::part::skip_primitive;
+use crate::read::part::{inside, skip_primitive};
 use rpki::crypto::PublicKeyFormat;
 use rpki::der::{Constructed, Tag, Unsigned};
 
@@ -64,9 +63,9 @@ fn are_rsa_parts(contents: Constructed<'_>) -> bool
 fn is_rsa_key(octets: &[u8]) -> bool
     ensures { IsTrue result ↔ SpellsAny SpellsRsaKey tt octets.now }
 {
-    match only_in(Constructed::from_slice(octets), Tag::SEQUENCE) {
-        Some(contents) => are_rsa_parts(contents),
-        None => false,
+    match inside(Constructed::from_slice(octets), Tag::SEQUENCE) {
+        Ok(contents) => are_rsa_parts(contents),
+        Err(_) => false,
     }
 }
 

@@ -1,21 +1,25 @@
-//! What is signed of a certificate, read in place without memory (RFC 5280 4.1.2).
+//! What is signed of a certificate, read in place (RFC 5280 4.1.2).
 
-ghost use Rattle.std.specs.Prelude.{◌≡◌, IfOk, IfErr};
-ghost use Rattle.rpki_der.specs.Cursor.{left};
-ghost use Rattle.rpki_cert.specs.Cert.{TbsParts, AreFields, fields_of, SpellsTbs};
-ghost use Rattle.rpki_cert.specs.View.{IsKeyedAt, IsNamedIn, IsTbsIn, AreNamed, AreKeyedWrong};
+ghost use Rattle.std.specs.Prelude.{◌≡◌, IfOk, IfErr, is_some};
+ghost use Rattle.rpki_der.specs.Prelude.{left, Then};
+ghost use Rattle.rpki.specs.PublicKey.{SpellsKey};
+ghost use Rattle.rpki_cert.specs.Cert.{TbsParts, AreFields, fields_of, SpellsTbs, SpellsExtensions};
+ghost use Rattle.rpki_cert.specs.View.{HasOne, IsKeyedAt, IsNamedIn, IsTbsIn, SpellsNamed, AreNamed, AreKeyedWrong};
 ghost use Rattle.rpki_cert.specs.View.{AreNamedWrong, AreFieldsWrong, IsTbsWrong};
 
 use crate::extension::table::ExtensionTable;
+use crate::read::cert_error::CertError;
 use crate::read::cert_part::CertPart;
-use crate::read::listed::{only_in, read_extensions};
+use crate::read::listed::read_extensions;
 use crate::read::names::take_name;
 use crate::read::nested::front_of;
+use crate::read::part::inside;
 use crate::read::section::Section;
 use crate::read::version::skip_version;
 use rpki::crypto::{PublicKeyView, RpkiSignatureAlgorithm, SignatureAlgorithm};
 use rpki::der::{Constructed, Tag};
 use rpki::repository::x509::{Serial, Validity};
+use std::alloc::Global;
 
 /// The subject's key, and the extensions.
 #[derive(Drop)]
@@ -53,17 +57,21 @@ pub struct TbsView<'a> {
 }
 
 /// The key and the extensions, which are all that is left.
-fn read_keyed<'a>(fields: Constructed<'a>) -> Result<Keyed<'a>, CertPart>
+fn read_keyed<'a>(room: Option<Global>, fields: Constructed<'a>) -> Result<Keyed<'a>, CertError>
     ensures ok { IfOk result (λ k. IsKeyedAt (left fields.entry) k) }
-    ensures err { IfErr result (λ q. AreKeyedWrong (left fields.entry) q) }
+    ensures one { IfOk result (λ _. HasOne (Then SpellsKey SpellsExtensions) (left fields.entry)) }
+    ensures err { IfErr result (λ q. AreKeyedWrong (is_some room) (left fields.entry) q) }
 {
     let octets = fields.rest();
     let mut rest = fields;
     let key = match PublicKeyView::take_from(&mut rest) {
         Ok(key) => key,
-        Err(_) => return Err(CertPart::PublicKey),
+        Err(e) => return Err(CertError {
+            part: CertPart::PublicKey,
+            error: e,
+        }),
     };
-    let extensions = read_extensions(rest)?;
+    let extensions = read_extensions(room, rest)?;
     let following = rest.rest();
     let octets = Section {
         octets: front_of(octets, following),
@@ -77,25 +85,35 @@ fn read_keyed<'a>(fields: Constructed<'a>) -> Result<Keyed<'a>, CertPart>
 }
 
 /// The fields from the issuer on, which are all that is left.
-fn read_named<'a>(fields: Constructed<'a>) -> Result<Named<'a>, CertPart>
+fn read_named<'a>(room: Option<Global>, fields: Constructed<'a>) -> Result<Named<'a>, CertError>
     ensures ok { IfOk result (λ n. (t : TbsParts) × (h : AreNamed t (left fields.entry))
         × IsNamedIn t (left fields.entry) h n) }
-    ensures err { IfErr result (λ q. AreNamedWrong (left fields.entry) q) }
+    ensures one { IfOk result (λ _. HasOne SpellsNamed (left fields.entry)) }
+    ensures err { IfErr result (λ q. AreNamedWrong (is_some room) (left fields.entry) q) }
 {
     let mut rest = fields;
     let issuer = match take_name(&mut rest) {
-        Some(issuer) => issuer,
-        None => return Err(CertPart::Issuer),
+        Ok(issuer) => issuer,
+        Err(e) => return Err(CertError {
+            part: CertPart::Issuer,
+            error: e,
+        }),
     };
     let validity = match Validity::take_from(&mut rest) {
         Ok(validity) => validity,
-        Err(_) => return Err(CertPart::Validity),
+        Err(e) => return Err(CertError {
+            part: CertPart::Validity,
+            error: e,
+        }),
     };
     let subject = match take_name(&mut rest) {
-        Some(subject) => subject,
-        None => return Err(CertPart::Subject),
+        Ok(subject) => subject,
+        Err(e) => return Err(CertError {
+            part: CertPart::Subject,
+            error: e,
+        }),
     };
-    let keyed = read_keyed(rest)?;
+    let keyed = read_keyed(room, rest)?;
     Ok(Named {
         issuer,
         validity,
@@ -105,25 +123,38 @@ fn read_named<'a>(fields: Constructed<'a>) -> Result<Named<'a>, CertPart>
 }
 
 /// The fields, which are all that is left.
-fn read_fields<'a>(fields: Constructed<'a>) -> Result<TbsView<'a>, CertPart>
+pub fn read_fields<'a>(
+    room: Option<Global>,
+    fields: Constructed<'a>,
+) -> Result<TbsView<'a>, CertError>
     ensures ok { IfOk result (λ v. (t : TbsParts) × (h : AreFields (fields_of t) (left fields.entry))
         × IsTbsIn t (left fields.entry) h v) }
-    ensures err { IfErr result (λ q. AreFieldsWrong (left fields.entry) q) }
+    ensures one { IfOk result (λ _. HasOne AreFields (left fields.entry)) }
+    ensures err { IfErr result (λ q. AreFieldsWrong (is_some room) (left fields.entry) q) }
 {
     let mut rest = fields;
     match skip_version(&mut rest) {
         Ok(()) => {}
-        Err(_) => return Err(CertPart::Version),
+        Err(e) => return Err(CertError {
+            part: CertPart::Version,
+            error: e,
+        }),
     }
     let serial_number = match Serial::take_from(&mut rest) {
         Ok(serial) => serial,
-        Err(_) => return Err(CertPart::SerialNumber),
+        Err(e) => return Err(CertError {
+            part: CertPart::SerialNumber,
+            error: e,
+        }),
     };
     let signature = match RpkiSignatureAlgorithm::x509_take_from(&mut rest) {
         Ok(signature) => signature,
-        Err(_) => return Err(CertPart::TbsAlgorithm),
+        Err(e) => return Err(CertError {
+            part: CertPart::TbsAlgorithm,
+            error: e,
+        }),
     };
-    let named = read_named(rest)?;
+    let named = read_named(room, rest)?;
     Ok(TbsView {
         serial_number,
         signature,
@@ -132,13 +163,17 @@ fn read_fields<'a>(fields: Constructed<'a>) -> Result<TbsView<'a>, CertPart>
 }
 
 /// The TBSCertificate that these octets are; the sections stand in them.
-pub fn read_tbs<'a>(signed: Constructed<'a>) -> Result<TbsView<'a>, CertPart>
+pub fn read_tbs<'a>(room: Option<Global>, signed: Constructed<'a>) -> Result<TbsView<'a>, CertError>
     ensures ok { IfOk result (λ v. (t : TbsParts) × (h : SpellsTbs t (left signed.entry))
         × IsTbsIn t h.contents h.spelled v) }
-    ensures err { IfErr result (λ q. IsTbsWrong (left signed.entry) q) }
+    ensures one { IfOk result (λ _. HasOne SpellsTbs (left signed.entry)) }
+    ensures err { IfErr result (λ q. IsTbsWrong (is_some room) (left signed.entry) q) }
 {
-    match only_in(signed, Tag::SEQUENCE) {
-        Some(fields) => read_fields(fields),
-        None => Err(CertPart::Tbs),
+    match inside(signed, Tag::SEQUENCE) {
+        Ok(fields) => read_fields(room, fields),
+        Err(e) => Err(CertError {
+            part: CertPart::Tbs,
+            error: e,
+        }),
     }
 }

@@ -4,18 +4,20 @@ ghost use Rattle.rpki_der.specs.Cursor.{left};
 ghost use Rattle.rpki_cert.specs.View.{TakesName};
 
 use crate::read::section::Section;
-use rpki::der::Constructed;
+use rpki::der::{Constructed, DecodeError};
 use rpki::repository::x509::NameView;
 
-/// A name, as the section of it; moves past it. None where no name begins what is left.
-pub fn take_name<'a>(cons: &mut Constructed<'a>) -> Option<Section<'a>>
+/// A name, as the section of it; moves past it. Allocates nothing.
+///
+/// The errors are those of [NameView::take_from], with the cursor where it was.
+pub fn take_name<'a>(cons: &mut Constructed<'a>) -> Result<Section<'a>, DecodeError>
     ensures { TakesName (left cons.old) (left cons.new) result }
 {
     match NameView::take_from(cons) {
-        Ok(name) => Some(Section {
+        Ok(name) => Ok(Section {
             octets: name.octets(),
             following: cons.rest().len(),
         }),
-        Err(_) => None,
+        Err(e) => Err(e),
     }
 }

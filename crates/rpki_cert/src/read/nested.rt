@@ -1,11 +1,10 @@
 //! Values with everything nested in them, and values by their headers alone.
 
 ghost use Rattle.std.specs.Prelude.{◌≡◌, ◌≤◌, ◌-◌, ◌↔◌, length, take, IsTrue};
-ghost use Rattle.rpki_der.specs.Cursor.{left};
-ghost use Rattle.rpki_der.specs.Members.{IsValue, IsValueList};
+ghost use Rattle.rpki_der.specs.Prelude.{left, Refuses, SpellsValue, IsValue, IsValueList, IsCaptureFault};
 ghost use Rattle.rpki_cert.specs.InPlace.{TakesHeaded};
 
-use rpki::der::Constructed;
+use rpki::der::{Constructed, DecodeError};
 
 /// Whether what is left is values, one after another, with everything nested in them.
 pub fn are_values(contents: Constructed<'_>) -> bool
@@ -42,6 +41,18 @@ pub fn is_value(octets: &[u8]) -> bool
         Ok(Some(())) => rest.is_empty(),
         Ok(None) => false,
         Err(_) => false,
+    }
+}
+
+/// The leftmost error of octets that no value begins, with everything nested in it. Requires that none does.
+pub fn value_fault(octets: Constructed<'_>) -> DecodeError
+    requires { Refuses SpellsValue (left octets) }
+    ensures { IsCaptureFault (left octets.entry) result }
+{
+    let mut rest = octets;
+    match rest.skip_nested() {
+        Err(e) => e,
+        Ok(_) => DecodeError::Truncated,
     }
 }
 

@@ -5,8 +5,9 @@ ghost use Rattle.rpki_der.specs.Cursor.{left};
 ghost use Rattle.rpki_der.specs.Reading.{Reads};
 ghost use Rattle.rpki_der.specs.Values.{SpellsContents, SpellsLeaf, IsLeafFault};
 ghost use Rattle.rpki_der.specs.Leaves.{IsOnly};
-ghost use Rattle.rpki_cert.specs.InPlace.{GivesAll};
 ghost use Rattle.rpki_cert.specs.Access.{SpellsOidAs, IsOidAsFault};
+ghost use Rattle.rpki_cert.specs.InPlace.{GivesAll};
+ghost use Rattle.rpki_cert.specs.View.{IsFrameFault};
 
 use rpki::der::{ConstOid, Constructed, DecodeError, Oid, Tag};
 
@@ -18,8 +19,11 @@ pub fn are_same(one: &[u8], other: &[u8]) -> bool
 }
 
 /// A cursor on the contents, where all that is left is a constructed value of this tag.
+///
+/// The errors are those of the value; then `Trailing` if something follows it.
 pub fn inside<'a>(octets: Constructed<'a>, tag: Tag) -> Result<Constructed<'a>, DecodeError>
     ensures gives { GivesAll left (SpellsContents tag true) (left octets.entry) result }
+    ensures fault { IfErr result (λ e. IsFrameFault tag (left octets.entry) e) }
     ensures kind { IfErr result (λ e. e ≢ DecodeError.OutOfMemory) }
 {
     let mut rest = octets;

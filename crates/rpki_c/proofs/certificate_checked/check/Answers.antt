@@ -39,4 +39,6 @@ returns-in-Err-check c =
     )
 
 pub returns-in-Err : goal.returns-in-Err
-returns-in-Err c = inr (WrongPart c.in-Err.part c.part_number.ensures c.in-Err.ensures.err, refl, refl)
+returns-in-Err c =
+    let q = c.in-Err.wrong in
+    inr (WrongPart q.part c.part_number.ensures (q.error, c.in-Err.ensures.err), refl, refl)

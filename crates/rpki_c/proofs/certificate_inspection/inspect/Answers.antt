@@ -25,4 +25,6 @@ returns-in-Err-test c =
     ))
 
 pub returns-in-Err : goal.returns-in-Err
-returns-in-Err c = inr (inr (c.in-Err.part, c.part_number.ensures, c.in-Err.ensures.err))
+returns-in-Err c =
+    let q = c.in-Err.wrong in
+    inr (inr (q.part, c.part_number.ensures, (q.error, c.in-Err.ensures.err)))

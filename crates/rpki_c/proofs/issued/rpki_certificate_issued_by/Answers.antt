@@ -18,7 +18,7 @@ returns-in-Err-read c =
       x,
       c.in-Ok-known.known,
       record { spelled = h.spelled; says = known },
-      inl (refl, c.in-Err-read.field-0, c.in-Err-read.ensures.err),
+      inl (refl, c.in-Err-read.field-0.part, (c.in-Err-read.field-0.error, c.in-Err-read.ensures.err)),
     )
     )
 

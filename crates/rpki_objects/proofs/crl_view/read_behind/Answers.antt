@@ -2,15 +2,15 @@ use Rattle.std.proofs.Common.{◌∙◌, sym, subst}
 use Rattle.std.proofs.lemmas.Bool.{iff_false}
 use Rattle.rpki_der.specs.Members.{IsValue}
 use Rattle.rpki_der.proofs.MembersLaws.{value-accepted}
-use Rattle.rpki_cert.specs.View.FirstWrong.{Later}
-use Rattle.rpki_objects.specs.CrlView.IsCrlWrong.{InParts}
+use Rattle.rpki_objects.specs.CrlView.IsCrlWrong.{BehindSigned}
 use Rattle.rpki_objects.proofs.ListValueLaws.{list-value}
 use Rattle.rpki_objects.proofs.CrlViewLaws.{in-signed, differ, list-read}
 use Rattle.rpki_objects.proofs.crl_view.read_behind.Goals as goal
 
 pub returns-in-Err-clause-err : goal.returns-in-Err-clause-err
 returns-in-Err-clause-err c = λ s h one.
-    InParts _ _ h (Later _ _ (value-accepted c.args.signed.now _ one) c.in-Err.ensures.err) c.signed_part.ensures
+    BehindSigned _ _ _ c.in-Err.wrong h (value-accepted c.args.signed.now _ one) c.in-Err.ensures.err
+    c.signed_part.ensures
 
 pub returns-in-Err-read_tbs-clause-err : goal.returns-in-Err-read_tbs-clause-err
 returns-in-Err-read_tbs-clause-err c = λ s h one.

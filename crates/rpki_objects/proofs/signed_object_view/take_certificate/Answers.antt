@@ -19,4 +19,4 @@ returns-in-Err-read c =
     let a = rw c.new.ensures at c.in-Ok.ensures in
     let wrong = rw c.rest-octets.ensures at c.in-Err-read.ensures.err in
     let more = rw c.rest-octets.ensures at c.in-Err-read.ensures.none in
-    NoCert _ _ _ a wrong more refl
+    NoCert _ _ _ a (c.in-Err-read.wrong.error, wrong) more refl

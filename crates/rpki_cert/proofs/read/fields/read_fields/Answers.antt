@@ -2,24 +2,33 @@ use Rattle.std.proofs.Common.{refl}
 use Rattle.rpki_der.proofs.TriedLaws.{tried-error}
 use Rattle.rpki_cert.specs.View.FirstWrong.{AtPart, Later}
 use Rattle.rpki_cert.proofs.FieldsLaws.{version-refused, serial-refused, algorithm-refused, fields-read}
+use Rattle.rpki_cert.proofs.OneLaws.{has-then}
 use Rattle.rpki_cert.proofs.read.fields.read_fields.Goals as goal
 
 pub returns-in-Err-clause-err : goal.returns-in-Err-clause-err
-returns-in-Err-clause-err c = AtPart (version-refused _ _ c.in-Err.field-0 c.in-Err.ensures) refl
+returns-in-Err-clause-err c =
+    AtPart (version-refused _ _ c.in-Err.e c.in-Err.ensures) c.in-Err.ensures.kind refl
 
 pub returns-in-Err-take_from-clause-err : goal.returns-in-Err-take_from-clause-err
-returns-in-Err-take_from-clause-err c = Later _ _ c.in-Ok.ensures
-    (AtPart (serial-refused _ _ c.in-Err-take_from.field-0 c.in-Err-take_from.ensures) refl)
+returns-in-Err-take_from-clause-err c =
+    let h = c.in-Err-take_from.ensures in
+    Later _ _ c.in-Ok.ensures (AtPart (serial-refused _ _ c.in-Err-take_from.e h) h.kind refl)
 
 pub returns-in-Err-x509_take_from-clause-err : goal.returns-in-Err-x509_take_from-clause-err
 returns-in-Err-x509_take_from-clause-err c =
+    let h = c.in-Err-x509_take_from.ensures in
     Later _ _ c.in-Ok.ensures (Later _ _ c.in-Ok-take_from.ensures
-    (AtPart (algorithm-refused _ _ c.in-Err-x509_take_from.field-0 c.in-Err-x509_take_from.ensures) refl))
+    (AtPart (algorithm-refused _ _ c.in-Err-x509_take_from.e h) h.kind refl))
 
 pub returns-clause-ok : goal.returns-clause-ok
 returns-clause-ok c =
     fields-read _ _ _ _ _ _ _ c.in-Ok.ensures c.in-Ok-take_from.ensures refl c.in-Ok-x509_take_from.ensures refl
     c.in_ok-named.ensures.ok
+
+pub returns-clause-one : goal.returns-clause-one
+returns-clause-one c =
+    has-then _ _ _ _ _ c.in-Ok.ensures (has-then _ _ _ _ _ c.in-Ok-take_from.ensures
+    (has-then _ _ _ _ _ c.in-Ok-x509_take_from.ensures c.in_ok-named.ensures.one))
 
 pub returns-in_err-named-clause-err : goal.returns-in_err-named-clause-err
 returns-in_err-named-clause-err c =

@@ -1,10 +1,6 @@
 use Rattle.std.proofs.Common.{ap, length}
-use Rattle.rpki_cert.proofs.NameViewLaws.{name-refused}
 use Rattle.rpki_cert.proofs.read.names.take_name.Goals as goal
 
 pub returns-in-Ok : goal.returns-in-Ok
 returns-in-Ok c =
     (_, c.in-Ok.ensures, record { octets = c.octets.ensures.octets; following = ap length c.rest.ensures })
-
-pub returns-in-Err : goal.returns-in-Err
-returns-in-Err c = name-refused _ _ c.in-Err.field-0 c.in-Err.ensures

@@ -7,12 +7,15 @@ use Rattle.rpki_cert.proofs.ViewLaws.{parts-read}
 use Rattle.rpki_cert.proofs.read.view.read_parts.Goals as goal
 
 pub returns-in-Err-clause-err : goal.returns-in-Err-clause-err
-returns-in-Err-clause-err c = AtPart (algorithm-refused _ _ c.in-Err.field-0 c.in-Err.ensures) refl
+returns-in-Err-clause-err c =
+    AtPart (algorithm-refused _ _ c.in-Err.e c.in-Err.ensures) c.in-Err.ensures.kind refl
 
-pub returns-in-None-clause-err : goal.returns-in-None-clause-err
-returns-in-None-clause-err c = Later _ _ c.in-Ok.ensures (NoSignature c.in-None.ensures refl)
+pub returns-in-Err-read_signature-clause-err : goal.returns-in-Err-read_signature-clause-err
+returns-in-Err-read_signature-clause-err c =
+    let h = c.in-Err-read_signature.ensures in
+    Later _ _ c.in-Ok.ensures (NoSignature h.gives h.fault refl)
 
-pub returns-in-Some-clause-ok : goal.returns-in-Some-clause-ok
-returns-in-Some-clause-ok c = λ one.
+pub returns-in-Ok-read_signature-clause-ok : goal.returns-in-Ok-read_signature-clause-ok
+returns-in-Ok-read_signature-clause-ok c = λ one.
     parts-read _ _ _ _ _ _ _ _ _ (value-accepted c.args.signed.now _ one) refl c.rest-octets.ensures refl
-    c.in-Ok.ensures refl c.rest-last.ensures c.front_of.ensures refl c.in-Some.ensures.0 refl refl
+    c.in-Ok.ensures refl c.rest-last.ensures c.front_of.ensures refl c.in-Ok-read_signature.ensures.gives.0 refl refl

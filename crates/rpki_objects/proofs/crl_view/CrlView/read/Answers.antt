@@ -1,8 +1,6 @@
 use Rattle.std.proofs.Common.{refl}
 use Rattle.std.proofs.lemmas.Bool.{iff_false}
-use Rattle.rpki_cert.specs.declared.read.cert_part.CertPart.TheVariants.{Signed}
-use Rattle.rpki_cert.specs.View.FirstWrong.{AtPart}
-use Rattle.rpki_objects.specs.CrlView.IsCrlWrong.{NoList, InParts}
+use Rattle.rpki_objects.specs.CrlView.IsCrlWrong.{NoList, NoSigned}
 use Rattle.rpki_objects.proofs.crl_view.CrlView.read.Goals as goal
 
 pub returns-in-Err-clause-err : goal.returns-in-Err-clause-err
@@ -11,7 +9,7 @@ returns-in-Err-clause-err c = let h = rw c.from_slice.ensures at c.in-Err.ensure
 pub returns-in-None-clause-err : goal.returns-in-None-clause-err
 returns-in-None-clause-err c =
     let h = rw c.from_slice.ensures at c.in-Ok.ensures.gives in
-    InParts _ Signed h.0 (AtPart c.in-None.ensures refl) refl
+    NoSigned _ h.0 c.in-None.ensures refl
 
 pub returns-in-Ok-read_behind-clause-ok : goal.returns-in-Ok-read_behind-clause-ok
 returns-in-Ok-read_behind-clause-ok c =
@@ -28,5 +26,4 @@ returns-then-is_value-clause-err c =
 pub returns-else-is_value-clause-err : goal.returns-else-is_value-clause-err
 returns-else-is_value-clause-err c =
     let h = rw c.from_slice.ensures at c.in-Ok.ensures.gives in
-    InParts _ Signed h.0
-    (AtPart (c.in-Some.ensures.1 (iff_false c.is_value.ensures c.if-is_value.false)) refl) refl
+    NoSigned _ h.0 (c.in-Some.ensures.1 (iff_false c.is_value.ensures c.if-is_value.false)) refl

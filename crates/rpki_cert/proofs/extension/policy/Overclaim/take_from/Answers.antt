@@ -4,7 +4,7 @@ use Rattle.rpki_der.specs.Values.{SpellsLeaf}
 use Rattle.rpki_der.specs.FirstFault.{FirstFault, IsEndFault}
 use Rattle.rpki_der.proofs.FirstFaultLaws.{read-parts-inside, reads-one-part}
 use Rattle.rpki_cert.specs.ExtensionContent.{SpellsPolicy}
-use Rattle.rpki_cert.proofs.CertLaws.{reads-as}
+use Rattle.rpki_cert.proofs.PolicyLaws.{reads-as}
 use Rattle.rpki_cert.proofs.extension.policy.Overclaim.take_from.Goals as goal
 use Rattle.rpki_cert.specs.ExtensionContent.{policies_content, policy_value}
 

@@ -1,0 +1,80 @@
+//! Keeping what was read in place of a certificate.
+
+ghost use Rattle.std.specs.Prelude.{◌≡◌, List, IfOk, IfErr};
+ghost use Rattle.rpki_der.specs.Prelude.{SpellsEach};
+ghost use Rattle.rpki_der.specs.declared.error.DecodeError.{DecodeError};
+ghost use Rattle.rpki.specs.ExtensionValue.{ExtensionParts, SpellsExtension};
+ghost use Rattle.rpki.specs.Name.{IsName};
+ghost use Rattle.rpki_cert.specs.ExtensionTable.{OfListed};
+ghost use Rattle.rpki_cert.specs.Kept.{IsSectionOf};
+
+use crate::extension::list::take_each;
+use crate::extension::table::ExtensionTable;
+use crate::read::fields::Keyed;
+use crate::read::section::Section;
+use bytes::Bytes;
+use rpki::crypto::PublicKey;
+use rpki::der::{Constructed, DecodeError, Keep};
+use rpki::repository::x509::{CertExtension, Name, NameView};
+use std::alloc::AllocError;
+
+/// Keeps a section of the octets. Requires that it is one, and that `keep` can keep parts of them.
+///
+/// Returns `AllocError` if allocation fails.
+pub fn keep_section<K: Keep>(
+    keep: K,
+    octets: &[u8],
+    section: Section<'_>,
+) -> Result<Bytes, AllocError>
+    requires held { K.holds keep octets.now }
+    requires stands { IsSectionOf octets.now section.octets.now section.following }
+    ensures { IfOk result (λ b. b ≡ section.entry.octets.now) }
+{
+    let end = octets.len() - section.following;
+    keep.keep(octets, end - section.octets.len(), end)
+}
+
+/// Keeps the name that is a section of the octets.
+///
+/// Returns `AllocError` if allocation fails.
+pub fn keep_name<K: Keep>(keep: K, octets: &[u8], section: Section<'_>) -> Result<Name, AllocError>
+    requires held { K.holds keep octets.now }
+    requires stands { IsSectionOf octets.now section.octets.now section.following }
+    requires named { IsName section.octets.now }
+    ensures { IfOk result (λ n. n ≡ section.entry.octets.now) }
+{
+    let kept = keep_section(keep, octets, section)?;
+    Ok(NameView::new(section.octets).kept(kept))
+}
+
+/// Keeps the key, whose bits are the last octets of it.
+///
+/// Returns `AllocError` if allocation fails.
+pub fn keep_key<K: Keep>(keep: K, octets: &[u8], keyed: &Keyed<'_>) -> Result<PublicKey, AllocError>
+    requires held { K.holds keep octets.now }
+    requires stands { IsSectionOf octets.now keyed.now.key.bits.octets keyed.now.octets.following }
+    ensures { IfOk result (λ k. k ≡ keyed.now.key) }
+{
+    let bits = Section {
+        octets: keyed.key.bits(),
+        following: keyed.octets.following,
+    };
+    let kept = keep_section(keep, octets, bits)?;
+    Ok(keyed.key.kept(kept))
+}
+
+/// Keeps the extensions of a table, in order.
+///
+/// The error is `OutOfMemory`, if allocation fails.
+pub fn keep_extensions<K: Keep>(
+    keep: K,
+    table: &ExtensionTable<'_>,
+) -> Result<Vec<CertExtension>, DecodeError>
+    requires held { K.holds keep table.now }
+    requires listed { (xs : List ExtensionParts) × SpellsEach SpellsExtension xs table.now }
+    ensures ok { IfOk result (λ all. OfListed table.now (λ xs. all.items ≡ xs)) }
+    ensures err { IfErr result (λ e. e ≡ DecodeError.OutOfMemory) }
+{
+    let mut list = Constructed::from_slice(table.octets());
+    take_each(keep, &mut list)
+}
