@@ -7,7 +7,8 @@
  * (struct rpki_place): where they start, counted from the first octet that was passed, and how many octets they have.
  *
  * Where the status is not 0, `out` is left as it was; only `*count` and `*written` of the calls that say so are written
- * with RPKI_TOO_SMALL too, and `*at` of rpki_base64_read with RPKI_INVALID_SYMBOL to RPKI_INVALID_PADDING.
+ * with RPKI_TOO_SMALL too, `*at` of rpki_base64_read with RPKI_INVALID_SYMBOL to RPKI_INVALID_PADDING, and `*error` of
+ * rpki_certificate_error with each status but RPKI_OK.
  *
  * What a call takes of memory it frees before it returns. At the peak rpki_walk, rpki_index, rpki_fault and
  * rpki_signed_data take up to 24 octets for each level of nesting, and 64 more. rpki_signed_data_write and
@@ -765,6 +766,14 @@ rpki_status rpki_extension(const uint8_t *octets, size_t size, struct rpki_exten
  * certificate may be well-formed. No certificate of the RPKI has so many.
  */
 rpki_status rpki_certificate(const uint8_t *octets, size_t size, struct rpki_certificate_parts *out) RPKI_CHECKED;
+
+/*
+ * What is wrong with the part that is wrong. The status is that of rpki_certificate. Where it is an RPKI_PART_ number,
+ * `*error` becomes one of RPKI_TRUNCATED to RPKI_TRAILING, as a reader of that part returns it; RPKI_CONTENT of
+ * RPKI_PART_EXTENSION_COUNT, RPKI_PART_EXTENSION_IDENTIFIERS and RPKI_PART_SAME_ALGORITHM. RPKI_OK: the octets are a
+ * certificate, and `*error` is left as it was. Takes no memory.
+ */
+rpki_status rpki_certificate_error(const uint8_t *octets, size_t size, rpki_status *error) RPKI_CHECKED;
 
 /*
  * Reads a resource certificate, as rpki_certificate does, and says where its extensions stand (RFC 6487 4.8), and what

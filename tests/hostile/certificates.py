@@ -191,21 +191,25 @@ VARIANTS = [
 
 VARIANTS += names_and_places.VARIANTS + claims.VARIANTS
 
-# The status of rpki_certificate (include/rpki.h) for the variants of which a part is wrong; it is 0 for the others.
+# Numbers of errors (include/rpki.h).
+TRUNCATED, UNEXPECTED, CONTENT, TRAILING = 1, 4, 5, 6
+
+# The status of rpki_certificate (include/rpki.h) for the variants of which a part is wrong, and the number of the
+# error; the status is 0 for the others.
 WRONG_PARTS = {
-    "version 2": 69,
-    "version 1": 69,
-    "no version": 69,
-    "serial number below 0": 70,
-    "serial number of 21 octets": 70,
-    "algorithms that differ": 79,
-    "an empty list of extensions": 76,
-    "no extensions": 76,
-    "a known extension twice": 78,
-    "an unknown extension twice": 78,
-    "a value after the extensions": 76,
-    "a value after their list": 76,
-    "a signature with unused bits": 67,
+    "version 2": (69, CONTENT),
+    "version 1": (69, CONTENT),
+    "no version": (69, UNEXPECTED),
+    "serial number below 0": (70, CONTENT),
+    "serial number of 21 octets": (70, CONTENT),
+    "algorithms that differ": (79, CONTENT),
+    "an empty list of extensions": (76, CONTENT),
+    "no extensions": (76, TRUNCATED),
+    "a known extension twice": (78, CONTENT),
+    "an unknown extension twice": (78, CONTENT),
+    "a value after the extensions": (76, TRAILING),
+    "a value after their list": (76, TRAILING),
+    "a signature with unused bits": (67, CONTENT),
 }
 
 
@@ -247,26 +251,27 @@ def cut_inside(it):
     it.tbs.inside[5] = Value(0x30, with_attribute(tlv(0x30, b"\x30\x05"))[2:])
 
 
-# Changes that only rpki_certificate is asked about, and its status: a part that is wrong, or 0.
+# Changes that only rpki_certificate is asked about, its status, a part that is wrong or 0, and the number of the error.
 OTHER_PARTS = [
-    ("another algorithm", other_algorithm, 66),
-    ("a signature with a count of 8", other_signature(bytes.fromhex("030208aa")), 67),
-    ("a value after the signature", after_signature, 67),
-    ("a signature with one unused bit", other_signature(tlv(3, b"\1" + bytes(256))), 67),
-    ("a signature with seven unused bits", other_signature(tlv(3, b"\7" + bytes(256))), 67),
-    ("a SET in place of what is signed", no_sequence, 68),
-    ("another algorithm in what is signed", other_inner_algorithm, 71),
-    ("an empty issuer", in_place(3, sequence()), 72),
-    ("an attribute without a value", in_place(3, with_attribute(b"")), 72),
-    ("an attribute with two values", in_place(3, with_attribute(tlv(5, b"") * 2)), 72),
-    ("one time", in_place(4, sequence(tlv(0x17, b"270101000000Z"))), 73),
-    ("an empty subject", in_place(5, sequence()), 74),
-    ("an empty key", in_place(6, sequence()), 75),
-    ("an attribute whose value is nested", in_place(5, with_attribute(sequence(sequence(), tlv(5, b"")))), 0),
-    ("an attribute whose value is nested and cut", cut_inside, 65),
-    ("64 extensions", many(64), 0),
-    ("65 extensions", many(65), 77),
+    ("another algorithm", other_algorithm, 66, CONTENT),
+    ("a signature with a count of 8", other_signature(bytes.fromhex("030208aa")), 67, CONTENT),
+    ("a value after the signature", after_signature, 67, TRAILING),
+    ("a signature with one unused bit", other_signature(tlv(3, b"\1" + bytes(256))), 67, CONTENT),
+    ("a signature with seven unused bits", other_signature(tlv(3, b"\7" + bytes(256))), 67, CONTENT),
+    ("a SET in place of what is signed", no_sequence, 68, UNEXPECTED),
+    ("another algorithm in what is signed", other_inner_algorithm, 71, CONTENT),
+    ("an empty issuer", in_place(3, sequence()), 72, CONTENT),
+    ("an attribute without a value", in_place(3, with_attribute(b"")), 72, CONTENT),
+    ("an attribute with two values", in_place(3, with_attribute(tlv(5, b"") * 2)), 72, TRAILING),
+    ("one time", in_place(4, sequence(tlv(0x17, b"270101000000Z"))), 73, TRUNCATED),
+    ("an empty subject", in_place(5, sequence()), 74, CONTENT),
+    ("an empty key", in_place(6, sequence()), 75, TRUNCATED),
+    ("an attribute whose value is nested", in_place(5, with_attribute(sequence(sequence(), tlv(5, b"")))), 0, 0),
+    ("an attribute whose value is nested and cut", cut_inside, 65, TRUNCATED),
+    ("64 extensions", many(64), 0, 0),
+    ("65 extensions", many(65), 77, CONTENT),
 ]
+
 
 def told(octets, programs):
     """The lines that are told of a certificate, by their first words."""

@@ -1,6 +1,8 @@
 -- What a status says of the octets of a certificate.
 use Rattle.std.specs.Prelude.{◌≡◌, ◌⊎◌, ◌++◌, ℕ, List, []}
+use Rattle.rpki_der.specs.Error.{error_number}
 use Rattle.rpki_der.specs.Number.{number_of}
+use Rattle.rpki_cert.specs.declared.read.cert_error.CertError.{CertError}
 use Rattle.rpki_cert.specs.declared.read.cert_part.CertPart.{CertPart}
 use Rattle.rpki_cert.specs.declared.read.cert_part.CertPart.TheVariants.{Certificate, Signed, Algorithm, Signature, Tbs}
 use Rattle.rpki_cert.specs.declared.read.cert_part.CertPart.TheVariants.{Version, SerialNumber, TbsAlgorithm, Issuer}
@@ -8,7 +10,7 @@ use Rattle.rpki_cert.specs.declared.read.cert_part.CertPart.TheVariants.{Validit
 use Rattle.rpki_cert.specs.declared.read.cert_part.CertPart.TheVariants.{ExtensionCount, ExtensionIdentifiers}
 use Rattle.rpki_cert.specs.declared.read.cert_part.CertPart.TheVariants.{SameAlgorithm}
 use Rattle.rpki_cert.specs.Cert.{TbsParts, CertParts, SpellsCert}
-use Rattle.rpki_cert.specs.View.{AreNamed, IsCertWrong}
+use Rattle.rpki_cert.specs.View.{AreNamed, IsCertError, IsCertWrong}
 use Rattle.rpki_c.specs.declared.certificate.CertificateParts.{CertificateParts as Parts}
 use Rattle.rpki_c.specs.Place.{StandsBefore}
 use Rattle.rpki_c.specs.Key.{format_number}
@@ -66,3 +68,10 @@ abbrev pub IsCertificateRead : List ℕ → ℕ → Parts → Parts → Type 0
 IsCertificateRead s status old new =
     ((status ≡ 0) × HasCertificate s new)
     ⊎ ((q : CertPart) × (status ≡ part_number q) × IsCertWrong s q × (new ≡ old))
+
+-- Status 0: the octets are a certificate, and nothing is written. Else the number of the part that is wrong, and the
+-- number of the error, as a reader of that part returns it, is written.
+abbrev pub IsCertificateErrorRead : List ℕ → ℕ → ℕ → ℕ → Type 0
+IsCertificateErrorRead s status old new =
+    ((status ≡ 0) × ((x : CertParts) × SpellsCert x s) × (new ≡ old))
+    ⊎ ((q : CertError) × IsCertError s q × (status ≡ part_number q.part) × (new ≡ error_number q.error))

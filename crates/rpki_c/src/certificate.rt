@@ -3,7 +3,7 @@
 ghost use Rattle.std.specs.Prelude.{◌≡◌, ◌-◌, length};
 ghost use Rattle.rpki_cert.specs.Cert.{CertParts};
 ghost use Rattle.rpki_cert.specs.View.{IsCertAt};
-ghost use Rattle.rpki_c.specs.Certificate.{part_number, HasCertificate, IsCertificateRead};
+ghost use Rattle.rpki_c.specs.Certificate.{part_number, HasCertificate, IsCertificateRead, IsCertificateErrorRead};
 
 use crate::keys::format_number;
 use crate::place::Place;
@@ -125,5 +125,22 @@ pub extern "C" fn rpki_certificate(octets: &[u8], out: &mut CertificateParts) ->
             0
         }
         Err(wrong) => part_number(wrong.part),
+    }
+}
+
+/// Reads a resource certificate, as [rpki_certificate] does, and says what is wrong with the part that is wrong.
+///
+/// The status is that of [rpki_certificate]. Where it is a part, 64 to 79, `error` is the number of the error, that of
+/// `DecodeError`, as a reader of that part returns it; where it is 0, `error` is unchanged. Nothing is allocated.
+#[unsafe(no_mangle)]
+pub extern "C" fn rpki_certificate_error(octets: &[u8], error: &mut u8) -> u8
+    ensures { IsCertificateErrorRead octets.now result error.old error.new }
+{
+    match CertView::read(octets) {
+        Ok(_) => 0,
+        Err(wrong) => {
+            *error = wrong.error.number();
+            part_number(wrong.part)
+        }
     }
 }

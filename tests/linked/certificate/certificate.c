@@ -1,8 +1,8 @@
 /*
  * Reads certificates with rpki_certificate and rpki_certificate_extensions, and compares statuses and places with those
- * of rows that rows.py writes. What a call refuses leaves `out` as it was. Each beginning of a certificate is none, nor
- * is one with an octet more. Then holds them to each profile with rpki_certificate_inspect, and asks for all of this at
- * once with rpki_certificate_checked. No call allocates.
+ * of rows that rows.py writes, and what rpki_certificate_error writes. What a call refuses leaves `out` as it was. Each
+ * beginning of a certificate is none, nor is one with an octet more. Then holds them to each profile with
+ * rpki_certificate_inspect, and asks for all of this at once with rpki_certificate_checked. No call allocates.
  *
  * usage: certificate ROWS
  */
@@ -103,16 +103,36 @@ static void tell_extensions(const struct rpki_known_extensions *found, char *tex
     sprintf(text, " %d %u %u", found->is_ca, found->usage, found->policy);
 }
 
+/* Asks what is wrong with a copy of exactly these octets, where no allocation succeeds. Status 0 writes nothing. */
+static bool is_wrong(const uint8_t *octets, size_t size, unsigned wanted, unsigned error) {
+    uint8_t *copy = malloc(size + 1);
+    rpki_status status, written;
+    bool clean;
+    if (!copy) exit(2);
+    memcpy(copy, octets, size);
+    memset(&written, FILL, sizeof written);
+    count_allocations(0);
+    status = rpki_certificate_error(copy, size, &written);
+    clean = allocations(&clean) == 0;
+    count_allocations(NONE_REFUSED);
+    free(copy);
+    if (status == RPKI_OK) return clean && wanted == RPKI_OK && untouched(&written, sizeof written);
+    if (written != error) printf("error %u, not %u\n", written, error);
+    return clean && status == wanted && written == error;
+}
+
 static void beginnings(unsigned line, bool extensions, uint8_t *octets, size_t size) {
     union found out;
     size_t count;
     bool clean, well = true;
     for (count = 0; count < size; count++) {
         well = made(extensions, octets, count, &out, &clean) == RPKI_PART_CERTIFICATE && clean && well;
+        well = is_wrong(octets, count, RPKI_PART_CERTIFICATE, RPKI_TRUNCATED) && well;
     }
     judge(line, "each beginning", well);
     octets[size] = 0;
-    judge(line, "an octet more", made(extensions, octets, size + 1, &out, &clean) == RPKI_PART_CERTIFICATE && clean);
+    well = made(extensions, octets, size + 1, &out, &clean) == RPKI_PART_CERTIFICATE && clean;
+    judge(line, "an octet more", well && is_wrong(octets, size + 1, RPKI_PART_CERTIFICATE, RPKI_TRAILING));
 }
 
 /* Makes one of the calls, of which the words are a status and what is found. */
@@ -154,7 +174,11 @@ static void compare(unsigned line, bool extensions, uint8_t *octets, size_t size
     judge(line, "allocates, or writes what it refuses", clean);
     if (status != wanted) printf("status %u, not %u\n", status, wanted);
     judge(line, "the status", status == wanted);
-    if (extensions) alone(line, octets, size);
+    if (extensions) {
+        alone(line, octets, size);
+    } else {
+        judge(line, "the error", is_wrong(octets, size, wanted, (unsigned)strtoul(words, NULL, 10)));
+    }
     if (wanted != RPKI_OK || status != RPKI_OK) return;
     if (extensions) {
         tell_extensions(&out.extensions, told);

@@ -1,13 +1,14 @@
 """Writes the rows of certificates that the tests in C and in Rust read: the variants of tests/hostile/certificates.py,
-each with the status of rpki_certificate, and where that is 0 with the places of its parts, and the same of
-rpki_certificate_extensions. The places are found here by the lengths of the values, and what the extensions say by the
-octets that RFC 6487 4.8 has them be.
+each with the status of rpki_certificate, and where that is 0 with the places of its parts, else with what
+rpki_certificate_error writes, and the same of rpki_certificate_extensions. The places are found here by the lengths of
+the values, and what the extensions say by the octets that RFC 6487 4.8 has them be.
 
 usage: rows.py > FILE
 
 A row is the octets in hexadecimal digits, the status, and for status 0 the places of the signed part, the algorithm,
 the signature, the issuer, the subject, the key and the extensions, each as START LENGTH; the serial number in twenty
-octets; the format of the key, its unused bits, and whether there are parameters. Behind a bar stand the status of the
+octets; the format of the key, its unused bits, and whether there are parameters; for another status the number of the
+error. Behind a bar stand the status of the
 other call and, for status 0, of each known extension whether it is there and critical, and its place as START LENGTH;
 both key identifiers; whether the subject is an authority; the numbers of the use of the key and of the policy. Behind a
 second bar stand the statuses of rpki_certificate_inspect: of the first four profiles, strict; then the same not
@@ -129,10 +130,10 @@ def extension_row(octets):
     return " ".join(map(str, [0, *words, *keys, int(is_ca), usage, policy]))
 
 
-def line(it, status, expected=()):
+def line(it, status, error, expected=()):
     octets = it.octets()
     if status:
-        return f"{octets.hex()} {status} | {status} | {' '.join([str(status)] * 10)}"
+        return f"{octets.hex()} {status} {error} | {status} | {' '.join([str(status)] * 10)}"
     told = profiles.statuses(octets)
     assert profiles.agrees(told, dict(expected)), expected
     return f"{row(it)} | {extension_row(octets)} | {' '.join(map(str, told))}"
@@ -166,15 +167,13 @@ def changed(*changes):
 
 def main():
     for name, change, expected in certificates.VARIANTS:
-        print(line(changed(change), certificates.WRONG_PARTS.get(name, 0), expected))
-    for name, change, status in certificates.OTHER_PARTS:
-        it = certificates.Certificate()
-        change(it)
-        print(line(it, status))
+        print(line(changed(change), *certificates.WRONG_PARTS.get(name, (0, 0)), expected))
+    for _, change, status, error in certificates.OTHER_PARTS:
+        print(line(changed(change), status, error))
     for name, change in OTHER_NAMES:
-        print(line(changed(change), 0))
-        print(line(changed(certificates.router, change), 0))
-    print(line(changed(without_parameters), 0))
+        print(line(changed(change), 0, 0))
+        print(line(changed(certificates.router, change), 0, 0))
+    print(line(changed(without_parameters), 0, 0))
 
 
 main()

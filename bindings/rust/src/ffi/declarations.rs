@@ -526,6 +526,7 @@ extern "C" {
     pub(super) fn rpki_validity(octets: *const u8, size: usize, out: *mut Period) -> Status;
     pub(super) fn rpki_extension(octets: *const u8, size: usize, out: *mut ExtensionParts) -> Status;
     pub(super) fn rpki_certificate(octets: *const u8, size: usize, out: *mut CertificateParts) -> Status;
+    pub(super) fn rpki_certificate_error(octets: *const u8, size: usize, error: *mut Status) -> Status;
     pub(super) fn rpki_certificate_extensions(octets: *const u8, size: usize, out: *mut KnownExtensions) -> Status;
     pub(super) fn rpki_certificate_extension(
         octets: *const u8,
