@@ -225,6 +225,14 @@ pub(crate) fn certificate_inspect(octets: &[u8], profile: u8, strict: bool) -> R
     done(unsafe { rpki_certificate_inspect(octets.as_ptr(), octets.len(), profile, strict) })
 }
 
+/// The part of a certificate that is wrong, and what is wrong with it, as statuses.
+pub(crate) fn certificate_error(octets: &[u8]) -> Result<(), (Status, Status)> {
+    compared();
+    let mut error = OK;
+    // SAFETY: pointer and size are those of one slice, which is borrowed for the call.
+    done(unsafe { rpki_certificate_error(octets.as_ptr(), octets.len(), &mut error) }).map_err(|part| (part, error))
+}
+
 pub(crate) fn signed_object(octets: &[u8], strict: bool) -> Result<SignedObjectParts, Status> {
     // SAFETY: pointer and size are those of one slice, which is borrowed for the call.
     told(|out| unsafe { rpki_signed_object(octets.as_ptr(), octets.len(), strict, out) })

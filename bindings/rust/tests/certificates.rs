@@ -2,25 +2,36 @@
 //! `RPKI_CERTIFICATE_ROWS` names their file; without it the certificate of examples/ alone is read.
 
 use rpki_proved::crypto::{RpkiSignatureAlgorithm, SignatureAlgorithm};
-use rpki_proved::repository::cert::{Cert, CertError, CertRule, ExtensionError, KeyUsage, Overclaim};
+use rpki_proved::repository::cert::{Cert, CertPart, CertRule, ExtensionError, KeyUsage, Overclaim};
+use rpki_proved::view::DecodeError;
 
-const ERRORS: [CertError; 16] = [
-    CertError::Certificate,
-    CertError::Signed,
-    CertError::Algorithm,
-    CertError::Signature,
-    CertError::Tbs,
-    CertError::Version,
-    CertError::SerialNumber,
-    CertError::TbsAlgorithm,
-    CertError::Issuer,
-    CertError::Validity,
-    CertError::Subject,
-    CertError::PublicKey,
-    CertError::Extensions,
-    CertError::ExtensionCount,
-    CertError::ExtensionIdentifiers,
-    CertError::SameAlgorithm,
+const PARTS: [CertPart; 16] = [
+    CertPart::Certificate,
+    CertPart::Signed,
+    CertPart::Algorithm,
+    CertPart::Signature,
+    CertPart::Tbs,
+    CertPart::Version,
+    CertPart::SerialNumber,
+    CertPart::TbsAlgorithm,
+    CertPart::Issuer,
+    CertPart::Validity,
+    CertPart::Subject,
+    CertPart::PublicKey,
+    CertPart::Extensions,
+    CertPart::ExtensionCount,
+    CertPart::ExtensionIdentifiers,
+    CertPart::SameAlgorithm,
+];
+
+/// What is wrong with a part, by its number.
+const REASONS: [DecodeError; 6] = [
+    DecodeError::Truncated,
+    DecodeError::BadTag,
+    DecodeError::BadLength,
+    DecodeError::Unexpected,
+    DecodeError::Content,
+    DecodeError::Trailing,
 ];
 
 const EXTENSION_ERRORS: [ExtensionError; 5] = [
@@ -169,7 +180,10 @@ fn certificates() {
                 compare_extensions(number, &octets, &cert, &extensions.split(' ').collect::<Vec<_>>());
                 compare_inspections(number, &cert, &inspections.split(' ').collect::<Vec<_>>());
             }
-            (Err(error), status) if status >= 64 => assert_eq!(error, ERRORS[status - 64], "row {number}"),
+            (Err(error), status) if status >= 64 => {
+                let reason = REASONS[words[2].parse::<usize>().unwrap() - 1];
+                assert_eq!((error.part(), error.reason()), (PARTS[status - 64], reason), "row {number}");
+            }
             (found, status) => panic!("row {number}: {found:?} and not {status}"),
         }
     }

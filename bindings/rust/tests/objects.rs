@@ -90,7 +90,8 @@ fn expected<'a>(all: &[u8], words: &'a [&'a str]) -> Result<&'a [&'a str], Signe
     if words[2] != "0" {
         return Err(error(words[2]));
     }
-    Cert::decode(part(all, &words[3..5]).to_vec()).map_err(SignedObjectError::Certificate)?;
+    let cert = Cert::decode(part(all, &words[3..5]).to_vec());
+    cert.map_err(|error| SignedObjectError::Certificate(error.part()))?;
     match words[5] {
         "0" => Ok(&words[6..]),
         status => Err(error(status)),

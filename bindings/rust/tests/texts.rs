@@ -1,7 +1,7 @@
 //! The texts of errors that a reader of logs meets: of certificates, as include/rpki.h has them, and of names, as the
 //! crate rpki 0.20.1 has them.
 
-use rpki_proved::repository::cert::{CertError, CertRule, ExtensionError};
+use rpki_proved::repository::cert::{Cert, CertPart, CertRule, ExtensionError};
 use rpki_proved::repository::error::{ContentError, InspectionError, VerificationError};
 use rpki_proved::repository::x509::Name;
 use rpki_proved::util::base64::{DecodeError, DecodeSliceError, Serde, Slurm, Xml, XmlDecodeError};
@@ -10,25 +10,34 @@ use std::error::Error;
 #[test]
 fn errors_of_certificates() {
     let parts = [
-        (CertError::Certificate, "not a certificate"),
-        (CertError::Signed, "malformed signed data"),
-        (CertError::Algorithm, "signature algorithm is not the RPKI's"),
-        (CertError::Signature, "malformed signature"),
-        (CertError::Tbs, "malformed certificate"),
-        (CertError::Version, "other version"),
-        (CertError::SerialNumber, "malformed serial number"),
-        (CertError::TbsAlgorithm, "signed algorithm is not the RPKI's"),
-        (CertError::Issuer, "malformed issuer"),
-        (CertError::Validity, "malformed validity"),
-        (CertError::Subject, "malformed subject"),
-        (CertError::PublicKey, "public key is not one of the RPKI's"),
-        (CertError::Extensions, "malformed extensions"),
-        (CertError::ExtensionCount, "too many extensions"),
-        (CertError::ExtensionIdentifiers, "duplicate extension"),
-        (CertError::SameAlgorithm, "signature algorithms differ"),
+        (CertPart::Certificate, "not a certificate"),
+        (CertPart::Signed, "malformed signed data"),
+        (CertPart::Algorithm, "signature algorithm is not the RPKI's"),
+        (CertPart::Signature, "malformed signature"),
+        (CertPart::Tbs, "malformed certificate"),
+        (CertPart::Version, "other version"),
+        (CertPart::SerialNumber, "malformed serial number"),
+        (CertPart::TbsAlgorithm, "signed algorithm is not the RPKI's"),
+        (CertPart::Issuer, "malformed issuer"),
+        (CertPart::Validity, "malformed validity"),
+        (CertPart::Subject, "malformed subject"),
+        (CertPart::PublicKey, "public key is not one of the RPKI's"),
+        (CertPart::Extensions, "malformed extensions"),
+        (CertPart::ExtensionCount, "too many extensions"),
+        (CertPart::ExtensionIdentifiers, "duplicate extension"),
+        (CertPart::SameAlgorithm, "signature algorithms differ"),
     ];
     for (error, text) in parts {
         assert_eq!(error.to_string(), text);
+    }
+    let whole = [
+        (&b"\x30"[..], "not a certificate: truncated value"),
+        (&b"\x31\x00"[..], "not a certificate: unexpected value"),
+        (&b"\x30\x00\x00"[..], "not a certificate: octets after the value"),
+        (&b"\x30\x02\x30\x80"[..], "malformed signed data: malformed length"),
+    ];
+    for (octets, text) in whole {
+        assert_eq!(Cert::decode(octets).unwrap_err().to_string(), text);
     }
     let extensions = [
         (ExtensionError::BasicConstraints, "wrong basic constraints"),

@@ -19,7 +19,7 @@ pub use rule::CertRule;
 /// that both algorithm identifiers are the same.
 #[derive(Clone, Copy, Debug, PartialEq, Eq, Hash)]
 #[non_exhaustive]
-pub enum CertError {
+pub enum CertPart {
     /// The SEQUENCE around all isn't there, or something follows it.
     Certificate,
     /// What is signed is no value, with everything nested in it.
@@ -54,50 +54,82 @@ pub enum CertError {
     SameAlgorithm,
 }
 
-impl CertError {
-    pub(crate) fn from_status(status: Status) -> CertError {
+impl CertPart {
+    pub(crate) fn from_status(status: Status) -> CertPart {
         match status {
-            64 => CertError::Certificate,
-            65 => CertError::Signed,
-            66 => CertError::Algorithm,
-            67 => CertError::Signature,
-            68 => CertError::Tbs,
-            69 => CertError::Version,
-            70 => CertError::SerialNumber,
-            71 => CertError::TbsAlgorithm,
-            72 => CertError::Issuer,
-            73 => CertError::Validity,
-            74 => CertError::Subject,
-            75 => CertError::PublicKey,
-            76 => CertError::Extensions,
-            77 => CertError::ExtensionCount,
-            78 => CertError::ExtensionIdentifiers,
-            79 => CertError::SameAlgorithm,
+            64 => CertPart::Certificate,
+            65 => CertPart::Signed,
+            66 => CertPart::Algorithm,
+            67 => CertPart::Signature,
+            68 => CertPart::Tbs,
+            69 => CertPart::Version,
+            70 => CertPart::SerialNumber,
+            71 => CertPart::TbsAlgorithm,
+            72 => CertPart::Issuer,
+            73 => CertPart::Validity,
+            74 => CertPart::Subject,
+            75 => CertPart::PublicKey,
+            76 => CertPart::Extensions,
+            77 => CertPart::ExtensionCount,
+            78 => CertPart::ExtensionIdentifiers,
+            79 => CertPart::SameAlgorithm,
             _ => unreachable!("{status} is no status of a certificate"),
         }
     }
 }
 
-impl fmt::Display for CertError {
+/// What is said of a certificate of which this part is wrong.
+impl fmt::Display for CertPart {
     fn fmt(&self, f: &mut fmt::Formatter) -> fmt::Result {
         f.write_str(match self {
-            CertError::Certificate => "not a certificate",
-            CertError::Signed => "malformed signed data",
-            CertError::Algorithm => "signature algorithm is not the RPKI's",
-            CertError::Signature => "malformed signature",
-            CertError::Tbs => "malformed certificate",
-            CertError::Version => "other version",
-            CertError::SerialNumber => "malformed serial number",
-            CertError::TbsAlgorithm => "signed algorithm is not the RPKI's",
-            CertError::Issuer => "malformed issuer",
-            CertError::Validity => "malformed validity",
-            CertError::Subject => "malformed subject",
-            CertError::PublicKey => "public key is not one of the RPKI's",
-            CertError::Extensions => "malformed extensions",
-            CertError::ExtensionCount => "too many extensions",
-            CertError::ExtensionIdentifiers => "duplicate extension",
-            CertError::SameAlgorithm => "signature algorithms differ",
+            CertPart::Certificate => "not a certificate",
+            CertPart::Signed => "malformed signed data",
+            CertPart::Algorithm => "signature algorithm is not the RPKI's",
+            CertPart::Signature => "malformed signature",
+            CertPart::Tbs => "malformed certificate",
+            CertPart::Version => "other version",
+            CertPart::SerialNumber => "malformed serial number",
+            CertPart::TbsAlgorithm => "signed algorithm is not the RPKI's",
+            CertPart::Issuer => "malformed issuer",
+            CertPart::Validity => "malformed validity",
+            CertPart::Subject => "malformed subject",
+            CertPart::PublicKey => "public key is not one of the RPKI's",
+            CertPart::Extensions => "malformed extensions",
+            CertPart::ExtensionCount => "too many extensions",
+            CertPart::ExtensionIdentifiers => "duplicate extension",
+            CertPart::SameAlgorithm => "signature algorithms differ",
         })
+    }
+}
+
+/// Why octets are no certificate: the part that is wrong, and what is wrong with it.
+#[derive(Clone, Copy, Debug, PartialEq, Eq, Hash)]
+pub struct CertError {
+    part: CertPart,
+    reason: DecodeError,
+}
+
+impl CertError {
+    /// Why these octets are no certificate; none where they are one.
+    fn of(octets: &[u8]) -> Option<CertError> {
+        let (part, reason) = ffi::certificate_error(octets).err()?;
+        Some(CertError { part: CertPart::from_status(part), reason: DecodeError::from_status(reason) })
+    }
+
+    /// The part that is wrong.
+    pub fn part(&self) -> CertPart {
+        self.part
+    }
+
+    /// What is wrong with it, as a reader of that part returns it.
+    pub fn reason(&self) -> DecodeError {
+        self.reason
+    }
+}
+
+impl fmt::Display for CertError {
+    fn fmt(&self, f: &mut fmt::Formatter) -> fmt::Result {
+        write!(f, "{}: {}", self.part, self.reason)
     }
 }
 
@@ -108,10 +140,14 @@ impl Error for CertError {}
 /// key is not looked at.
 ///
 /// ```
-/// use rpki_proved::repository::cert::{Cert, CertError};
+/// use rpki_proved::repository::cert::{Cert, CertPart};
+/// use rpki_proved::view::DecodeError;
 ///
-/// assert_eq!(Cert::decode(&b"\x30\x00\x30\x00"[..]).unwrap_err(), CertError::Certificate);
-/// assert_eq!(Cert::decode(&b"\x30\x00"[..]).unwrap_err(), CertError::Signed);
+/// let error = Cert::decode(&b"\x30\x00\x30\x00"[..]).unwrap_err();
+/// assert_eq!((error.part(), error.reason()), (CertPart::Certificate, DecodeError::Trailing));
+/// let error = Cert::decode(&b"\x30\x00"[..]).unwrap_err();
+/// assert_eq!((error.part(), error.reason()), (CertPart::Signed, DecodeError::Truncated));
+/// assert_eq!(error.to_string(), "malformed signed data: truncated value");
 /// ```
 #[derive(Clone, Debug)]
 pub struct Cert {
@@ -130,10 +166,11 @@ impl Cert {
     /// Reads a certificate that is all of the octets.
     ///
     /// # Errors
-    /// The part that is wrong.
+    /// The part that is wrong, and what is wrong with it.
     pub fn decode(octets: impl Into<Bytes>) -> Result<Self, CertError> {
         let octets = octets.into();
-        let found = ffi::certificate(&octets).map_err(CertError::from_status)?;
+        let found =
+            ffi::certificate(&octets).map_err(|_| CertError::of(&octets).expect("octets that were rejected"))?;
         // What the call has found to be names and a key is that.
         let name = |place: ffi::Place| Name::read(octets.slice(place.range()));
         let key = PublicKey::decode(octets.slice(found.public_key.range())).expect("a key that was read");

@@ -4,7 +4,7 @@ use crate::crypto::keys::KeyIdentifier;
 use crate::crypto::signature::{Provider, RpkiSignature, RpkiSignatureAlgorithm, Signature};
 use crate::ffi::{self, Status};
 use crate::oid::Oid;
-use crate::repository::cert::{Cert, CertError};
+use crate::repository::cert::{Cert, CertPart};
 use crate::repository::x509::Time;
 use bytes::Bytes;
 use std::error::Error;
@@ -29,7 +29,7 @@ pub enum SignedObjectError {
     /// There is no set of certificates.
     Certificates,
     /// The set has something else than one certificate, or one of which this part is wrong.
-    Certificate(CertError),
+    Certificate(CertPart),
     /// There is no set of signers behind the certificate, or something follows it.
     Signers,
     /// The set has something else than one signer.
@@ -66,7 +66,7 @@ impl SignedObjectError {
             ffi::PART_SIGNED_ATTRIBUTES => SignedObjectError::SignedAttrs,
             ffi::PART_SIGNATURE_ALGORITHM => SignedObjectError::SignatureAlgorithm,
             ffi::PART_OBJECT_SIGNATURE => SignedObjectError::Signature,
-            part => SignedObjectError::Certificate(CertError::from_status(part)),
+            part => SignedObjectError::Certificate(CertPart::from_status(part)),
         }
     }
 }
@@ -81,7 +81,7 @@ impl fmt::Display for SignedObjectError {
             SignedObjectError::DigestAlgorithms => "digest algorithms are not SHA-256 alone",
             SignedObjectError::Content => "malformed content",
             SignedObjectError::Certificates => "missing certificate",
-            SignedObjectError::Certificate(error) => return error.fmt(f),
+            SignedObjectError::Certificate(part) => return part.fmt(f),
             SignedObjectError::Signers => "no signers, or more than these",
             SignedObjectError::Signer => "not one signer",
             SignedObjectError::SignerVersion => "other version of the signer",
@@ -214,7 +214,8 @@ impl SignedObject {
         Ok(SignedObject {
             content_type: Oid(part(found.content_type)),
             content: part(found.content),
-            cert: Cert::decode(part(found.certificate)).map_err(SignedObjectError::Certificate)?,
+            cert: Cert::decode(part(found.certificate))
+                .map_err(|error| SignedObjectError::Certificate(error.part()))?,
             sid: KeyIdentifier::from(found.signer_identifier),
             signed_attrs: SignedAttrs {
                 octets: part(found.signed_attributes),
