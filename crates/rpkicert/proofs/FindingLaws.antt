@@ -18,7 +18,7 @@ use Rattle.rpkicert.specs.declared.fault.Fault.TheVariants.{Unreadable, TooLarge
 use Rattle.rpkicert.specs.declared.fault.Fault.TheVariants.{Violated, Unverified, NoCertificate, OtherAlgorithm}
 use Rattle.rpkicert.specs.Fault.{refusal}
 use Rattle.rpki_cert.specs.Cert.{TbsParts}
-use Rattle.rpki.specs.declared.repository.error.ValidationError.{ValidationError}
+use Rattle.rpkicert.specs.declared.violation.Violation.{Violation}
 use Rattle.rpkicert.specs.Terms.{TermParts, IsUnverifiedBy}
 use Rattle.rpkicert.specs.Finding.{Finding, IsObject, IsRefusal, HoldsTo, FindsIn, Finds, IsRead, Meets, IsViolation}
 use Rattle.rpkicert.specs.Finding.{is_outside}
@@ -48,7 +48,7 @@ refused-holds terms octets OutOfMemory h = tt
 refused-holds terms octets (Unreadable cause) h = absurd h
 refused-holds terms octets TooLarge h = absurd h
 refused-holds terms octets Malformed h = absurd h
-refused-holds terms octets (Violated e) h = absurd h
+refused-holds terms octets (Violated v) h = absurd h
 refused-holds terms octets (Unverified clause e) h = absurd h
 refused-holds terms octets NoCertificate h = absurd h
 refused-holds terms octets OtherAlgorithm h = absurd h
@@ -82,9 +82,9 @@ pub breaks-of : (inspection : Option Inspection) (t u : Option TbsParts) → t �
     → Meets inspection u → ⊥
 breaks-of inspection t u same h = subst (λ (v : Option TbsParts). Meets inspection v → ⊥) same h
 
-pub violates-of : (inspection : Option Inspection) (t u : Option TbsParts) (e : ValidationError) → t ≡ u
-    → IsViolation inspection t e → IsViolation inspection u e
-violates-of inspection t u e same h = subst (λ (v : Option TbsParts). IsViolation inspection v e) same h
+pub violates-of : (inspection : Option Inspection) (t u : Option TbsParts) (v : Violation) → t ≡ u
+    → IsViolation inspection t v → IsViolation inspection u v
+violates-of inspection t u v same h = subst (λ (c : Option TbsParts). IsViolation inspection c v) same h
 
 pub outside-of : (terms : TermParts) (x y : Object) (b : Bool) → x ≡ y → is_outside terms x ≡ b
     → is_outside terms y ≡ b
@@ -98,7 +98,7 @@ not-read terms (Some octets) TooLarge h = inr (inl (h, refl))
 not-read terms (Some octets) OutOfMemory h = inr (inr refl)
 not-read terms (Some octets) Malformed h = absurd h
 not-read terms (Some octets) (Refused kind place e) h = absurd h
-not-read terms (Some octets) (Violated e) h = absurd h
+not-read terms (Some octets) (Violated v) h = absurd h
 not-read terms (Some octets) (Unverified clause e) h = absurd h
 not-read terms (Some octets) NoCertificate h = absurd h
 not-read terms (Some octets) OtherAlgorithm h = absurd h
@@ -107,7 +107,7 @@ not-read terms None TooLarge h = absurd h
 not-read terms None OutOfMemory h = inr refl
 not-read terms None Malformed h = absurd h
 not-read terms None (Refused kind place e) h = absurd h
-not-read terms None (Violated e) h = absurd h
+not-read terms None (Violated v) h = absurd h
 not-read terms None (Unverified clause e) h = absurd h
 not-read terms None NoCertificate h = absurd h
 not-read terms None OtherAlgorithm h = absurd h

@@ -19,6 +19,7 @@ use Rattle.rpkicert.specs.declared.fault.Fault.TheVariants.{Unreadable, TooLarge
 use Rattle.rpkicert.specs.declared.fault.Fault.TheVariants.{Violated, Unverified, NoCertificate, OtherAlgorithm}
 use Rattle.rpkicert.specs.declared.fault.Clause.{Clause}
 use Rattle.rpkicert.specs.declared.fault.Clause.TheVariants as C
+use Rattle.rpkicert.specs.Violation.{violation_text}
 
 -- a file has at most so many octets
 abbrev pub most_octets : ℕ
@@ -50,7 +51,7 @@ fault_text TooLarge = codes "larger than 1048576 octets"
 fault_text OutOfMemory = codes "out of memory"
 fault_text Malformed = codes "malformed PEM"
 fault_text (Refused kind place e) = codes "not a " ++ kind_text kind ++ codes ": " ++ place_text place ++ error_text e
-fault_text (Violated e) = codes "violates the profile: " ++ unwrap_or (validation_text e) (codes "")
+fault_text (Violated v) = codes "violates the profile: " ++ violation_text v
 fault_text (Unverified clause e) = clause_text clause ++ codes ": " ++ unwrap_or (validation_text e) (codes "")
 fault_text NoCertificate = codes "not a certificate"
 fault_text OtherAlgorithm = codes "RFC 7935 2, 3: of an algorithm that the RPKI doesn't use"
@@ -62,7 +63,7 @@ status_of TooLarge = 2
 status_of OutOfMemory = 2
 status_of Malformed = 1
 status_of (Refused kind place e) = 1
-status_of (Violated e) = 1
+status_of (Violated v) = 1
 status_of (Unverified clause e) = 1
 status_of NoCertificate = 2
 status_of OtherAlgorithm = 1

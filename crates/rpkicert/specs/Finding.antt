@@ -1,12 +1,11 @@
 -- What is found of a file.
 use Rattle.std.specs.Prelude.{◌≡◌, ◌≢◌, ◌⊎◌, ◌<◌, ◌≤◌, ◌&&◌, ◌||◌, ℕ, Bool, true, false, List, length, Option}
-use Rattle.std.specs.Prelude.{Some, None, is_some, Result, Ok, Err}
+use Rattle.std.specs.Prelude.{Some, None, is_some, Result, Ok, Err, MatchResult}
 use Rattle.rpki_der.specs.declared.error.DecodeError.{DecodeError}
 use Rattle.rpki_der.specs.declared.error.DecodeError.TheVariants as der
 use Rattle.rpki_cert.specs.Cert.{TbsParts}
 use Rattle.rpki_cert.specs.Profile.{rules_of, HasProfile}
-use Rattle.rpki_cert.specs.RuleError.{IsFirstError}
-use Rattle.rpki.specs.declared.repository.error.ValidationError.{ValidationError}
+use Rattle.rpki_cert.specs.RuleError.{BreaksWith}
 use Rattle.rpki_fields.specs.Kind.{kind_of}
 use Rattle.rpki_fields.specs.Object.{IsOf, IsNone, cert_of, objection_to}
 use Rattle.rpki_fields.specs.Place.{IsPlace}
@@ -14,6 +13,7 @@ use Rattle.rpki_fields.specs.declared.kind.Kind.{Kind}
 use Rattle.rpki_fields.specs.declared.object.Object.{Object}
 use Rattle.rpki_fields.specs.declared.place.Place.{Place}
 use Rattle.rpkicert.specs.declared.profile.Inspection.{Inspection}
+use Rattle.rpkicert.specs.declared.violation.Violation.{Violation}
 use Rattle.rpkicert.specs.declared.fault.Cause.{Cause}
 use Rattle.rpkicert.specs.declared.fault.Fault.{Fault}
 use Rattle.rpkicert.specs.declared.fault.Fault.TheVariants.{Unreadable, TooLarge, OutOfMemory, Malformed, Refused}
@@ -33,11 +33,17 @@ abbrev pub is_outside : TermParts → Object → Bool
 is_outside terms x =
     (is_some terms.inspection || is_some terms.issuer || is_some terms.moment) && is_some (objection_to x)
 
--- the error is that of the first of the rules that the certificate breaks
-abbrev pub IsViolation : Option Inspection → Option TbsParts → ValidationError → Type 0
-IsViolation None cert e = ⊥
-IsViolation (Some inspection) None e = ⊥
-IsViolation (Some inspection) (Some t) e = IsFirstError inspection.strict t (rules_of inspection.profile) e
+-- this is the first of the rules that the certificate breaks, and its error
+abbrev pub IsViolation : Option Inspection → Option TbsParts → Violation → Type 0
+IsViolation None cert v = ⊥
+IsViolation (Some inspection) None v = ⊥
+IsViolation (Some inspection) (Some t) v =
+    BreaksWith inspection.strict t (rules_of inspection.profile) v.rule v.error
+
+-- Ok where it has the profile; else its violation
+abbrev pub Inspects : Option Inspection → Option TbsParts → Result (Unit {0}) Violation → Type 0
+Inspects inspection cert r =
+    MatchResult r (λ _. Meets inspection cert) (λ v. (Meets inspection cert → ⊥) × IsViolation inspection cert v)
 
 -- an object and its octets, or a fault
 abbrev pub Finding : Type 0
@@ -61,7 +67,7 @@ IsRefusal octets OutOfMemory = Unit {0}
 IsRefusal octets (Unreadable cause) = ⊥
 IsRefusal octets TooLarge = ⊥
 IsRefusal octets Malformed = ⊥
-IsRefusal octets (Violated e) = ⊥
+IsRefusal octets (Violated v) = ⊥
 IsRefusal octets (Unverified clause e) = ⊥
 IsRefusal octets NoCertificate = ⊥
 IsRefusal octets OtherAlgorithm = ⊥
@@ -72,9 +78,9 @@ abbrev pub HoldsTo : TermParts → List ℕ → Finding → Type 0
 HoldsTo terms octets (Ok found) =
     (found.0 ≡ octets) × IsObject octets found.1 × Meets terms.inspection (cert_of found.1) × IsVerified terms found.1
     × (is_outside terms found.1 ≡ false)
-HoldsTo terms octets (Err (Violated e)) =
+HoldsTo terms octets (Err (Violated v)) =
     (x : Object) × IsObject octets x × (Meets terms.inspection (cert_of x) → ⊥)
-    × IsViolation terms.inspection (cert_of x) e
+    × IsViolation terms.inspection (cert_of x) v
 HoldsTo terms octets (Err (Unverified clause e)) =
     (x : Object) × IsObject octets x × Meets terms.inspection (cert_of x) × IsUnverified terms x clause e
 HoldsTo terms octets (Err OtherAlgorithm) = (x : Object) × IsObject octets x × (is_outside terms x ≡ true)
@@ -112,7 +118,7 @@ IsRead (Some octets) (Err TooLarge) = most_octets < length octets
 IsRead (Some octets) (Err OutOfMemory) = Unit {0}
 IsRead (Some octets) (Err Malformed) = ⊥
 IsRead (Some octets) (Err (Refused kind place e)) = ⊥
-IsRead (Some octets) (Err (Violated e)) = ⊥
+IsRead (Some octets) (Err (Violated v)) = ⊥
 IsRead (Some octets) (Err (Unverified clause e)) = ⊥
 IsRead (Some octets) (Err NoCertificate) = ⊥
 IsRead (Some octets) (Err OtherAlgorithm) = ⊥
@@ -122,7 +128,7 @@ IsRead None (Err TooLarge) = ⊥
 IsRead None (Err OutOfMemory) = Unit {0}
 IsRead None (Err Malformed) = ⊥
 IsRead None (Err (Refused kind place e)) = ⊥
-IsRead None (Err (Violated e)) = ⊥
+IsRead None (Err (Violated v)) = ⊥
 IsRead None (Err (Unverified clause e)) = ⊥
 IsRead None (Err NoCertificate) = ⊥
 IsRead None (Err OtherAlgorithm) = ⊥
@@ -135,7 +141,7 @@ IsReadFrom octets (Err TooLarge) = most_octets < length octets
 IsReadFrom octets (Err OutOfMemory) = Unit {0}
 IsReadFrom octets (Err Malformed) = ⊥
 IsReadFrom octets (Err (Refused kind place e)) = ⊥
-IsReadFrom octets (Err (Violated e)) = ⊥
+IsReadFrom octets (Err (Violated v)) = ⊥
 IsReadFrom octets (Err (Unverified clause e)) = ⊥
 IsReadFrom octets (Err NoCertificate) = ⊥
 IsReadFrom octets (Err OtherAlgorithm) = ⊥

@@ -1,5 +1,6 @@
 -- Definitions: what the contracts say. They are trusted, and read against the standards.
 pub mod Pem
+pub mod Violation
 pub mod Fault
 pub mod Terms
 pub mod Finding

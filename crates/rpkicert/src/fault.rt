@@ -6,7 +6,9 @@ ghost use Rattle.rpki_der.specs.ErrorText.{error_text};
 ghost use Rattle.rpki_fields.specs.Kind.{kind_text};
 ghost use Rattle.rpki_fields.specs.PlaceText.{place_text};
 ghost use Rattle.rpkicert.specs.Fault.{cause_of, unreadable_text, clause_text, fault_text, status_of, refusal};
+ghost use Rattle.rpkicert.specs.Violation.{violation_text};
 
+use crate::violation::Violation;
 use rpki::der::DecodeError;
 use rpki::repository::error::ValidationError;
 use rpki_fields::{Kind, Place, text_of_place};
@@ -93,7 +95,7 @@ pub enum Fault {
     /// Its octets are of this kind, and no such object: wrong in this place, where one is known.
     Refused(Kind, Option<Place>, DecodeError),
     /// The certificate in it violates the profile.
-    Violated(ValidationError),
+    Violated(Violation),
     /// The object is not of the issuer that is asked for, all but the signature, or doesn't hold at the moment.
     Unverified(Clause, ValidationError),
     /// The issuer that is asked for is an object of another kind.
@@ -115,6 +117,14 @@ fn refused_text(
     let name = kind.text();
     let place = text_of_place(place);
     format!(in alloc; "not a {name}: {place}{e}")
+}
+
+/// That the profile is violated, and how.
+fn violated_text(alloc: Global, violation: Violation) -> Result<String, AllocError>
+    ensures { IfOk result (λ text. string_bytes text ≡ codes "violates the profile: " ++ violation_text violation) }
+{
+    let said = violation.text(alloc)?;
+    format!(in alloc; "violates the profile: {said}")
 }
 
 /// That the clause is broken, and how.
@@ -151,7 +161,7 @@ impl Fault {
             Fault::OutOfMemory => String::from_str(alloc, "out of memory"),
             Fault::Malformed => String::from_str(alloc, "malformed PEM"),
             Fault::Refused(kind, place, e) => refused_text(alloc, kind, place, e),
-            Fault::Violated(e) => format!(in alloc; "violates the profile: {e}"),
+            Fault::Violated(violation) => violated_text(alloc, violation),
             Fault::Unverified(clause, e) => unverified_text(alloc, clause, e),
             Fault::NoCertificate => String::from_str(alloc, "not a certificate"),
             Fault::OtherAlgorithm => String::from_str(alloc, OTHER_ALGORITHM),

@@ -79,7 +79,7 @@ fn held(alloc: Global, terms: &Terms<'_>, octets: Vec<u8>) -> Result<Found, Faul
             Ok(()) => Ok(Found { octets, object }),
             Err(fault) => Err(fault),
         },
-        Err(e) => Err(Fault::Violated(e)),
+        Err(violation) => Err(Fault::Violated(violation)),
     }
 }
 

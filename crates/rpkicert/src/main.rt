@@ -17,6 +17,7 @@ mod shown;
 mod sources;
 mod terms;
 mod unsigned;
+mod violation;
 mod words;
 
 use crate::arguments::words_of;

@@ -1,12 +1,11 @@
 //! The profiles of certificates (RFC 6487 4, RFC 9323 2, RFC 8209 3.1).
 
-ghost use Rattle.std.specs.Prelude.{◌≡◌};
+ghost use Rattle.std.specs.Prelude.{◌≡◌, Some};
 ghost use Rattle.std.specs.Option.{option_copied};
-ghost use Rattle.rpki_cert.specs.RuleError.{ChecksBy};
-ghost use Rattle.rpkicert.specs.Finding.{Meets, IsViolation};
+ghost use Rattle.rpkicert.specs.Finding.{Inspects};
 ghost use Rattle.rpkicert.specs.Request.{profile_of};
 
-use rpki::repository::error::ValidationError;
+use crate::violation::Violation;
 use rpki_cert::{Profile, TbsCert};
 
 /// The profile of this name.
@@ -37,20 +36,29 @@ pub struct Inspection {
     pub strict: bool,
 }
 
-/// Whether the certificate, where there is one, has the profile that is asked for, if one is; the error is that of the
+/// Whether the certificate has the profile; the violation is of the rule that is broken first.
+fn inspect_by(inspection: Inspection, tbs: &TbsCert) -> Result<(), Violation>
+    ensures { Inspects (Some inspection) (Some tbs.now) result }
+{
+    match tbs.test(inspection.profile, inspection.strict) {
+        Ok(()) => Ok(()),
+        Err(rule) => match tbs.inspect(inspection.profile, inspection.strict) {
+            Ok(()) => Ok(()),
+            Err(error) => Err(Violation { rule, error }),
+        },
+    }
+}
+
+/// Whether the certificate, where there is one, has the profile that is asked for, if one is; the violation is of the
 /// rule of the profile that is broken first.
-pub fn inspect(
-    inspection: Option<Inspection>,
-    cert: Option<&TbsCert>,
-) -> Result<(), ValidationError>
-    ensures { ChecksBy (Meets inspection (option_copied cert.entry)) (IsViolation inspection (option_copied cert.entry))
-        result }
+pub fn inspect(inspection: Option<Inspection>, cert: Option<&TbsCert>) -> Result<(), Violation>
+    ensures { Inspects inspection (option_copied cert.entry) result }
 {
     match inspection {
         None => Ok(()),
         Some(inspection) => match cert {
             None => Ok(()),
-            Some(tbs) => tbs.inspect(inspection.profile, inspection.strict),
+            Some(tbs) => inspect_by(inspection, tbs),
         },
     }
 }

@@ -51,6 +51,6 @@ returns-in-Err c = (
   breaks-of c.args.terms.now.inspection (option_copied c.cert.result) (cert_of c.in_ok-object.object.value)
       (c.cert.ensures ∙ ap cert_of c.as_ref-2.ensures)
       c.in-Err.ensures.0,
-  violates-of c.args.terms.now.inspection (option_copied c.cert.result) (cert_of c.in_ok-object.object.value) c.in-Err.e
-      (c.cert.ensures ∙ ap cert_of c.as_ref-2.ensures) c.in-Err.ensures.1,
+  violates-of c.args.terms.now.inspection (option_copied c.cert.result) (cert_of c.in_ok-object.object.value)
+      c.in-Err.violation (c.cert.ensures ∙ ap cert_of c.as_ref-2.ensures) c.in-Err.ensures.1,
 )

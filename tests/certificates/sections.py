@@ -1,0 +1,76 @@
+"""What is said of a certificate whose name or extension breaks a rule of its profile: the section of the rule, which
+name or extension it is, and what is wrong with it (RFC 6487 4.4 to 4.8.9, RFC 8209 3.1)."""
+import certificate as made
+
+# The sections, and what each is of.
+ISSUER, SUBJECT = "RFC 6487 4.4: issuer: ", "RFC 6487 4.5: subject: "
+ROUTER_SUBJECT = "RFC 8209 3.1.1: subject: "
+CONSTRAINTS = "RFC 6487 4.8.1: basic constraints: "
+SUBJECT_KEY = "RFC 6487 4.8.2: subject key identifier: "
+AUTHORITY_KEY = "RFC 6487 4.8.3: authority key identifier: "
+USAGE = "RFC 6487 4.8.4: key usage: "
+PURPOSES = "RFC 8209 3.1.3.2: extended key usage: "
+POINTS = "RFC 6487 4.8.6: CRL distribution points: "
+AUTHORITY_ACCESS = "RFC 6487 4.8.7: authority information access: "
+PUBLICATION = "RFC 6487 4.8.8.1: subject information access: "
+SIGNED_OBJECT = "RFC 6487 4.8.8.2: subject information access: "
+POLICIES = "RFC 6487 4.8.9: certificate policies: "
+# Of the variants that break a rule on a name or an extension, how their names begin, and the section.
+SECTIONS = [
+    ("basic constraints, not critical", CONSTRAINTS), ("empty basic constraints", CONSTRAINTS),
+    ("a path length", CONSTRAINTS), ("FALSE, spelled", CONSTRAINTS),
+    ("an authority key identifier with a serial number", AUTHORITY_KEY),
+    ("a trust anchor with a critical authority key identifier", AUTHORITY_KEY),
+    ("a trust anchor with a malformed authority key identifier", AUTHORITY_KEY),
+    ("the issuer by ", AUTHORITY_ACCESS), ("a point beyond ASCII", POINTS),
+    ("a repository beside a name of tag 9", PUBLICATION), ("an end entity beside a name of tag 9", SIGNED_OBJECT),
+    ("an empty common name", SUBJECT), ("a common name of 65 letters", SUBJECT),
+    ("a serial number of 65 digits", SUBJECT), ("a router's ", ROUTER_SUBJECT),
+]
+
+
+def violated(text, expected):
+    """What is said of a variant that violates a profile: the section of the rule, and what is wrong."""
+    if expected.startswith("RFC "):
+        return f"violates the profile: {expected}"
+    section, = [section for front, section in SECTIONS if text.startswith(front)]
+    return f"violates the profile: {section}{expected}"
+
+
+def both(first, second):
+    """The one change, and then the other."""
+    def change(it):
+        first(it)
+        second(it)
+    return change
+
+
+# Extensions that are malformed, or not as critical as they have to be, and names; the profile, and what is said.
+CRITICAL, WRONG = "extension is not as critical as it has to be", b"\5\0"
+BY_UTF8 = (made.COMMON, made.UTF8, b"a")
+ROWS = [
+    ("an issuer of UTF-8", lambda it: it.tbs.inside.__setitem__(3, made.values_of(made.of_names(BY_UTF8))[0]), "ca",
+     ISSUER + "invalid name"),
+    ("a subject of UTF-8", made.subject(BY_UTF8), "ca", SUBJECT + "invalid name"),
+    ("a subject of two names", made.subject((made.COMMON, made.PRINTABLE, b"a"), (made.COMMON, made.PRINTABLE, b"b")),
+     "ca", SUBJECT + "multiple common names"),
+    ("a subject without a common name", made.subject((made.SERIAL, made.PRINTABLE, b"1")), "ca",
+     SUBJECT + "missing common name"),
+    ("constraints", made.put(made.CONSTRAINTS, WRONG), "ca", CONSTRAINTS + "unexpected value"),
+    ("a critical subject key identifier", made.turn(made.SUBJECT_KEY), "ca", SUBJECT_KEY + CRITICAL),
+    ("a subject key identifier", made.put(made.SUBJECT_KEY, WRONG), "ca", SUBJECT_KEY + "unexpected value"),
+    ("a critical authority key identifier", made.turn(made.AUTHORITY_KEY), "ca", AUTHORITY_KEY + CRITICAL),
+    ("uses that aren't critical", made.turn(made.USAGE), "ca", USAGE + CRITICAL),
+    ("uses", made.put(made.USAGE, WRONG), "ca", USAGE + "unexpected value"),
+    ("uses of an end entity", both(made.end_entity(made.SIGNED), made.put(made.USAGE, WRONG)), "ee",
+     USAGE + "unexpected value"),
+    ("a router's purposes", both(made.router, made.put(made.PURPOSES, WRONG)), "router", PURPOSES + "unexpected value"),
+    ("a router's critical purposes", both(made.router, made.turn(made.PURPOSES)), "router", PURPOSES + CRITICAL),
+    ("critical points", made.turn(made.REVOCATION), "ca", POINTS + CRITICAL),
+    ("critical access to the issuer", made.turn(made.AUTHORITY_ACCESS), "ca", AUTHORITY_ACCESS + CRITICAL),
+    ("critical access to the subject", made.turn(made.SUBJECT_ACCESS), "ca", PUBLICATION + CRITICAL),
+    ("critical access to the object", both(made.end_entity(made.SIGNED), made.turn(made.SUBJECT_ACCESS)), "ee",
+     SIGNED_OBJECT + CRITICAL),
+    ("policies that aren't critical", made.turn(made.POLICIES), "ca", POLICIES + CRITICAL),
+    ("policies", made.put(made.POLICIES, WRONG), "ca", POLICIES + "unexpected value"),
+]
