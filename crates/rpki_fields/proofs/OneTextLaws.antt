@@ -33,6 +33,7 @@ use Rattle.rpki_fields.specs.KeySize.{number_bits, IsRsaSize, IsSizeOf}
 use Rattle.rpki_fields.specs.ResourceText.{IsListText, IsChoiceText, AreKind, AreFamilies, AreAsNumbers, AreAddresses}
 use Rattle.rpki_fields.specs.ResourceText.{AreNumbers, AreResources}
 use Rattle.rpki_fields.specs.CertText.{authority_text, usage_text, purposes_text, policy_text, AreHead, AreMiddle}
+use Rattle.rpki_fields.specs.CertText.{section_of}
 use Rattle.rpki_fields.specs.CertText.{AreKey, Says, SaysOnly, SaysUri, AreIdentifiers, AreUses, AreIssuerPlaces}
 use Rattle.rpki_fields.specs.CertText.{AreSubjectPlaces, AreFields}
 
@@ -68,25 +69,25 @@ one-size-of EcdsaP256 bits text other g h = g ∙ sym h
 
 -- ---- what extensions say
 
-one-said : {V : Type 0} (Has : Option V → Type 0) (Not : Type 0) (show : V → List ℕ)
+one-said : {V : Type 0} (section : List ℕ) (Has : Option V → Type 0) (Not : Type 0) (show : V → List ℕ)
     → ((v w : Option V) → Has v → Has w → v ≡ w) → ((v : Option V) → Has v → Not → ⊥)
-    → (o p : Option (List ℕ)) → Says Has Not show o → Says Has Not show p → o ≡ p
-one-said Has Not show one apart o p (inl g) (inl h) = g.2 ∙ ap (option_map show) (one g.0 h.0 g.1 h.1) ∙ sym h.2
-one-said Has Not show one apart o p (inl g) (inr h) = absurd (apart g.0 g.1 h.0)
-one-said Has Not show one apart o p (inr g) (inl h) = absurd (apart h.0 h.1 g.0)
-one-said Has Not show one apart o p (inr g) (inr h) = g.1 ∙ sym h.1
+    → (o p : Option (List ℕ)) → Says section Has Not show o → Says section Has Not show p → o ≡ p
+one-said section Has Not show one apart o p (inl g) (inl h) = g.2 ∙ ap (option_map show) (one g.0 h.0 g.1 h.1) ∙ sym h.2
+one-said section Has Not show one apart o p (inl g) (inr h) = absurd (apart g.0 g.1 h.0)
+one-said section Has Not show one apart o p (inr g) (inl h) = absurd (apart h.0 h.1 g.0)
+one-said section Has Not show one apart o p (inr g) (inr h) = g.1 ∙ sym h.1
 
 pub one-only : {V : Type 0} (id : List ℕ) (critical : Bool) (G : V → List ℕ → Type 0) (show : V → List ℕ)
     (xs : List ExtensionParts) (o p : Option (List ℕ))
     → SaysOnly id critical G show xs o → SaysOnly id critical G show xs p → o ≡ p
 one-only id critical G show xs o p =
-    one-said (HasOnly id critical G xs) (HasNone id critical G xs) show (λ v w g h. h.1 v g.0) (λ v g none. none v g.0)
-    o p
+    one-said (section_of id) (HasOnly id critical G xs) (HasNone id critical G xs) show (λ v w g h. h.1 v g.0)
+    (λ v g none. none v g.0) o p
 
 pub one-uri : (id : List ℕ) (G : Option (List ℕ) → List ℕ → Type 0) (xs : List ExtensionParts) (o p : Option (List ℕ))
     → SaysUri id G xs o → SaysUri id G xs p → o ≡ p
 one-uri id G xs o p =
-    one-said (HasUri id G xs) (HasNone id false G xs) (λ uri. uri)
+    one-said (section_of id) (HasUri id G xs) (HasNone id false G xs) (λ uri. uri)
     (λ v w g h. g.2 ∙ ap flat (h.1.1 g.0 g.1.0) ∙ sym h.2) (λ v g none. none g.0 g.1.0) o p
 
 -- ---- fields

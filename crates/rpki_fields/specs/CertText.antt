@@ -64,11 +64,25 @@ AreKey k fields = (size : List ℕ) × IsSizeText k size × (fields ≡ key_fiel
 
 -- ---- what the extensions say (RFC 6487 4.8)
 
--- What is shown of an extension: nothing where it isn't there; what its value is shown as; or that it is not as the
--- profile has it.
-abbrev pub Says : {V : Type 0} → (Option V → Type 0) → Type 0 → (V → List ℕ) → Option (List ℕ) → Type 0
-Says {V} Has Not show o =
-    ((v : Option V) × Has v × (o ≡ option_map show v)) ⊎ (Not × (o ≡ Some other_text))
+-- the section on the extension of this identifier
+abbrev pub section_of : List ℕ → List ℕ
+section_of id =
+    if bytes_eq id basic_constraints then codes "RFC 6487 4.8.1"
+    else if bytes_eq id subject_key_identifier then codes "RFC 6487 4.8.2"
+    else if bytes_eq id authority_key_identifier then codes "RFC 6487 4.8.3"
+    else if bytes_eq id key_usage then codes "RFC 6487 4.8.4"
+    else if bytes_eq id extended_key_usage then codes "RFC 6487 4.8.5"
+    else if bytes_eq id crl_distribution_points then codes "RFC 6487 4.8.6"
+    else if bytes_eq id authority_info_access then codes "RFC 6487 4.8.7"
+    else if bytes_eq id subject_info_access then codes "RFC 6487 4.8.8"
+    else codes "RFC 6487 4.8.9"
+
+-- What is shown of an extension: nothing where it isn't there; what its value is shown as; or that it is not as this
+-- section has it.
+abbrev pub Says : {V : Type 0} → (section : List ℕ) → (Option V → Type 0) → Type 0 → (V → List ℕ)
+    → Option (List ℕ) → Type 0
+Says {V} section Has Not show o =
+    ((v : Option V) × Has v × (o ≡ option_map show v)) ⊎ (Not × (o ≡ Some (other_text section)))
 
 abbrev pub authority_text : Unit {0} → List ℕ
 authority_text u = codes "CA:TRUE"
@@ -88,7 +102,7 @@ policy_text Trim = codes "ipAddr-asNumber-v2"
 -- the same of the one extension of this identifier and criticality, whose value is spelled like this
 abbrev pub SaysOnly : {V : Type 0} → List ℕ → Bool → (V → List ℕ → Type 0) → (V → List ℕ) → List ExtensionParts
     → Option (List ℕ) → Type 0
-SaysOnly id critical G show xs o = Says (HasOnly id critical G xs) (HasNone id critical G xs) show o
+SaysOnly id critical G show xs o = Says (section_of id) (HasOnly id critical G xs) (HasNone id critical G xs) show o
 
 -- an extension, and what is shown of it
 abbrev pub IsSubjectText : List ExtensionParts → Option (List ℕ) → Type 0
@@ -129,7 +143,7 @@ AreUses xs fields =
 
 -- a URI as it is
 abbrev pub SaysUri : List ℕ → (Option (List ℕ) → List ℕ → Type 0) → List ExtensionParts → Option (List ℕ) → Type 0
-SaysUri id G xs o = Says (HasUri id G xs) (HasNone id false G xs) (λ uri. uri) o
+SaysUri id G xs o = Says (section_of id) (HasUri id G xs) (HasNone id false G xs) (λ uri. uri) o
 
 -- where the revocation list and the issuer's certificate are
 abbrev pub AreIssuerPlaces : List ExtensionParts → List FieldParts → Type 0

@@ -1,5 +1,5 @@
 -- Fields: what is shown of an object, each a label and a value.
-use Rattle.std.specs.Prelude.{ℕ, Bool, true, false, List, [], ◌∷◌, codes, decimal, Option, Some, None}
+use Rattle.std.specs.Prelude.{ℕ, Bool, true, false, List, [], ◌∷◌, ◌++◌, codes, decimal, Option, Some, None}
 
 -- the label; the value, as a text; and whether that is a number
 pub record FieldParts : Type 0 where
@@ -23,6 +23,6 @@ abbrev pub field_if : List ℕ → Option (List ℕ) → List FieldParts
 field_if label None = []
 field_if label (Some value) = field_parts label value ∷ []
 
--- what is shown of an extension that is not as the profile has it: of another value, or not as critical
-abbrev pub other_text : List ℕ
-other_text = codes "not of the RPKI's profile"
+-- what is shown of an extension that is not as this section of the profile has it: of another value, or not as critical
+abbrev pub other_text : (section : List ℕ) → List ℕ
+other_text section = codes "not of the RPKI's profile (" ++ section ++ codes ")"

@@ -37,21 +37,28 @@ abbrev pub AreAsNumbers : Option ChoiceView → List FieldParts → Type 0
 AreAsNumbers None fields = fields ≡ []
 AreAsNumbers (Some v) fields = AreKind (codes "AS") v fields
 
-abbrev pub other_field : List ℕ → FieldParts
-other_field label = field_parts label other_text
+-- that a kind is not as this section has it
+abbrev pub other_field : (label section : List ℕ) → FieldParts
+other_field label section = field_parts label (other_text section)
+
+abbrev pub other_addresses : List FieldParts
+other_addresses =
+    other_field (codes "IPv4") (codes "RFC 6487 4.8.10") ∷ other_field (codes "IPv6") (codes "RFC 6487 4.8.10") ∷ []
+
+abbrev pub other_numbers : List FieldParts
+other_numbers = other_field (codes "AS") (codes "RFC 6487 4.8.11") ∷ []
 
 -- the addresses; or that they are not as the profile has them
 abbrev pub AreAddresses : List ExtensionParts → List FieldParts → Type 0
 AreAddresses xs fields =
     ((v : Option IpResourcesView) × SaysOnly true SpellsIpResources (addresses_of xs) v × AreFamilies v fields)
-    ⊎ (SaysNone true SpellsIpResources (addresses_of xs)
-    × (fields ≡ other_field (codes "IPv4") ∷ other_field (codes "IPv6") ∷ []))
+    ⊎ (SaysNone true SpellsIpResources (addresses_of xs) × (fields ≡ other_addresses))
 
 -- the AS numbers, in the same way
 abbrev pub AreNumbers : List ExtensionParts → List FieldParts → Type 0
 AreNumbers xs fields =
     ((v : Option ChoiceView) × SaysOnly true SpellsAsResources (numbers_of xs) v × AreAsNumbers v fields)
-    ⊎ (SaysNone true SpellsAsResources (numbers_of xs) × (fields ≡ other_field (codes "AS") ∷ []))
+    ⊎ (SaysNone true SpellsAsResources (numbers_of xs) × (fields ≡ other_numbers))
 
 abbrev pub AreResources : List ExtensionParts → List FieldParts → Type 0
 AreResources xs fields =

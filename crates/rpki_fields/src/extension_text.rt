@@ -7,17 +7,18 @@ ghost use Rattle.rpki_fields.specs.CertText.{usage_text, purposes_text, policy_t
 ghost use Rattle.rpki_fields.specs.CertText.{IsConstraintsText, IsUsageText, IsPurposesText, IsPolicyText};
 ghost use Rattle.rpki_fields.specs.CertText.{AreIdentifiers, AreUses};
 
-use crate::field::{Field, OTHER, push_field_if};
+use crate::field::{Field, other_text, push_field_if};
 use crate::memory::is_memory;
 use crate::value::colon_digits;
 use rpki_cert::{KeyUsage, Overclaim, TbsCert};
 use std::alloc::{AllocError, Global};
 
-/// What is shown of an extension that is not as the profile has it: of another value, or not as critical.
-pub fn not_of_profile(alloc: Global) -> Result<Option<Vec<u8>>, AllocError>
-    ensures { IfOk result (λ o. option_map (λ v. v.items) o ≡ Some other_text) }
+/// What is shown of an extension that is not as this section of the profile has it: of another value, or not as
+/// critical.
+pub fn not_of_profile(alloc: Global, section: &[u8]) -> Result<Option<Vec<u8>>, AllocError>
+    ensures { IfOk result (λ o. option_map (λ v. v.items) o ≡ Some (other_text section.now)) }
 {
-    let text = Vec::from_slice(alloc, OTHER)?;
+    let text = other_text(alloc, section)?;
     Ok(Some(text))
 }
 
@@ -31,7 +32,7 @@ pub fn subject_identifier(alloc: Global, tbs: &TbsCert) -> Result<Option<Vec<u8>
             Ok(Some(text))
         }
         Ok(None) => Ok(None),
-        Err(_) => not_of_profile(alloc),
+        Err(_) => not_of_profile(alloc, b"RFC 6487 4.8.2"),
     }
 }
 
@@ -45,7 +46,7 @@ pub fn authority_identifier(alloc: Global, tbs: &TbsCert) -> Result<Option<Vec<u
             Ok(Some(text))
         }
         Ok(None) => Ok(None),
-        Err(_) => not_of_profile(alloc),
+        Err(_) => not_of_profile(alloc, b"RFC 6487 4.8.3"),
     }
 }
 
@@ -71,7 +72,7 @@ fn constraints(alloc: Global, tbs: &TbsCert) -> Result<Option<Vec<u8>>, AllocErr
             Ok(Some(text))
         }
         Ok(false) => Ok(None),
-        Err(_) => not_of_profile(alloc),
+        Err(_) => not_of_profile(alloc, b"RFC 6487 4.8.1"),
     }
 }
 
@@ -95,7 +96,7 @@ fn usage(alloc: Global, tbs: &TbsCert) -> Result<Option<Vec<u8>>, AllocError>
             Ok(Some(text))
         }
         Ok(None) => Ok(None),
-        Err(_) => not_of_profile(alloc),
+        Err(_) => not_of_profile(alloc, b"RFC 6487 4.8.4"),
     }
 }
 
@@ -120,7 +121,7 @@ fn purposes(alloc: Global, tbs: &TbsCert) -> Result<Option<Vec<u8>>, AllocError>
             if is_memory(e) {
                 return Err(AllocError);
             }
-            not_of_profile(alloc)
+            not_of_profile(alloc, b"RFC 6487 4.8.5")
         }
     }
 }
@@ -145,7 +146,7 @@ fn policies(alloc: Global, tbs: &TbsCert) -> Result<Option<Vec<u8>>, AllocError>
             Ok(Some(text))
         }
         Ok(None) => Ok(None),
-        Err(_) => not_of_profile(alloc),
+        Err(_) => not_of_profile(alloc, b"RFC 6487 4.8.9"),
     }
 }
 

@@ -2,13 +2,21 @@
 
 ghost use Rattle.std.specs.Prelude.{◌≡◌, ◌++◌, ◌∷◌, [], OnOk, IfOk, decimal};
 ghost use Rattle.std.specs.Option.{option_map};
-ghost use Rattle.rpki_fields.specs.Field.{field_parts, number_parts, field_if};
+ghost use Rattle.rpki_fields.specs.Field.{field_parts, number_parts, field_if, other_text};
 
 use std::alloc::{AllocError, Global};
 use std::marker::Model;
 
-/// What is shown of an extension that is not as the profile has it: of another value, or not as critical.
-pub const OTHER: &[u8] = b"not of the RPKI's profile";
+/// What is shown of an extension that is not as this section of the profile has it: of another value, or not as
+/// critical.
+pub fn other_text(alloc: Global, section: &[u8]) -> Result<Vec<u8>, AllocError>
+    ensures { IfOk result (λ text. text.items ≡ other_text section.now) }
+{
+    let mut text = Vec::from_slice(alloc, b"not of the RPKI's profile (")?;
+    text.extend_from_slice(section)?;
+    text.push(b')')?;
+    Ok(text)
+}
 
 /// A label and a value, which is a text or a number.
 #[derive(Drop)]

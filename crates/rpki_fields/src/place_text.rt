@@ -16,12 +16,13 @@ use rpki::uri::{Https, Rsync};
 use rpki_cert::TbsCert;
 use std::alloc::{AllocError, Global};
 
-/// What is shown of an rsync URI that was looked for.
+/// What is shown of an rsync URI that was looked for, in the extension that this section is of.
 fn rsync_text(
     alloc: Global,
+    section: &[u8],
     found: Result<Option<Rsync>, ValidationError>,
 ) -> Result<Option<Vec<u8>>, AllocError>
-    ensures { IfOk result (λ o. Shows (λ u. u) found (option_map (λ v. v.items) o)) }
+    ensures { IfOk result (λ o. Shows section.now (λ u. u) found (option_map (λ v. v.items) o)) }
 {
     match found {
         Ok(Some(uri)) => {
@@ -33,17 +34,18 @@ fn rsync_text(
             if is_memory(e) {
                 return Err(AllocError);
             }
-            not_of_profile(alloc)
+            not_of_profile(alloc, section)
         }
     }
 }
 
-/// What is shown of an https URI that was looked for.
+/// What is shown of an https URI that was looked for, in the extension that this section is of.
 fn https_text(
     alloc: Global,
+    section: &[u8],
     found: Result<Option<Https>, ValidationError>,
 ) -> Result<Option<Vec<u8>>, AllocError>
-    ensures { IfOk result (λ o. Shows (λ u. u) found (option_map (λ v. v.items) o)) }
+    ensures { IfOk result (λ o. Shows section.now (λ u. u) found (option_map (λ v. v.items) o)) }
 {
     match found {
         Ok(Some(uri)) => {
@@ -55,7 +57,7 @@ fn https_text(
             if is_memory(e) {
                 return Err(AllocError);
             }
-            not_of_profile(alloc)
+            not_of_profile(alloc, section)
         }
     }
 }
@@ -65,7 +67,7 @@ fn revocation(alloc: Global, tbs: &TbsCert) -> Result<Option<Vec<u8>>, AllocErro
     ensures { IfOk result (λ o. SaysUri crl_distribution_points SpellsPoints tbs.now.extensions
         (option_map (λ v. v.items) o)) }
 {
-    rsync_text(alloc, tbs.crl_uri(alloc))
+    rsync_text(alloc, b"RFC 6487 4.8.6", tbs.crl_uri(alloc))
 }
 
 /// Where the issuer's certificate is, as it is shown.
@@ -73,7 +75,7 @@ pub fn issuer(alloc: Global, tbs: &TbsCert) -> Result<Option<Vec<u8>>, AllocErro
     ensures { IfOk result (λ o. SaysUri authority_info_access (SpellsRsyncAccess ca_issuers) tbs.now.extensions
         (option_map (λ v. v.items) o)) }
 {
-    rsync_text(alloc, tbs.ca_issuer(alloc))
+    rsync_text(alloc, b"RFC 6487 4.8.7", tbs.ca_issuer(alloc))
 }
 
 /// Where the subject publishes, as it is shown.
@@ -81,7 +83,7 @@ fn repository(alloc: Global, tbs: &TbsCert) -> Result<Option<Vec<u8>>, AllocErro
     ensures { IfOk result (λ o. SaysUri subject_info_access (SpellsRsyncAccess ca_repository) tbs.now.extensions
         (option_map (λ v. v.items) o)) }
 {
-    rsync_text(alloc, tbs.ca_repository(alloc))
+    rsync_text(alloc, b"RFC 6487 4.8.8", tbs.ca_repository(alloc))
 }
 
 /// Where its manifest is, as it is shown.
@@ -89,7 +91,7 @@ fn manifest(alloc: Global, tbs: &TbsCert) -> Result<Option<Vec<u8>>, AllocError>
     ensures { IfOk result (λ o. SaysUri subject_info_access (SpellsRsyncAccess rpki_manifest) tbs.now.extensions
         (option_map (λ v. v.items) o)) }
 {
-    rsync_text(alloc, tbs.rpki_manifest(alloc))
+    rsync_text(alloc, b"RFC 6487 4.8.8", tbs.rpki_manifest(alloc))
 }
 
 /// Where the object is that its key signs, as it is shown.
@@ -97,7 +99,7 @@ pub fn object(alloc: Global, tbs: &TbsCert) -> Result<Option<Vec<u8>>, AllocErro
     ensures { IfOk result (λ o. SaysUri subject_info_access (SpellsRsyncAccess signed_object) tbs.now.extensions
         (option_map (λ v. v.items) o)) }
 {
-    rsync_text(alloc, tbs.signed_object(alloc))
+    rsync_text(alloc, b"RFC 6487 4.8.8", tbs.signed_object(alloc))
 }
 
 /// Where changes are notified, as it is shown.
@@ -105,7 +107,7 @@ fn notify(alloc: Global, tbs: &TbsCert) -> Result<Option<Vec<u8>>, AllocError>
     ensures { IfOk result (λ o. SaysUri subject_info_access (SpellsHttpsAccess rpki_notify) tbs.now.extensions
         (option_map (λ v. v.items) o)) }
 {
-    https_text(alloc, tbs.rpki_notify(alloc))
+    https_text(alloc, b"RFC 6487 4.8.8", tbs.rpki_notify(alloc))
 }
 
 /// Where the revocation list and the issuer's certificate are.

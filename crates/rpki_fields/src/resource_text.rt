@@ -1,11 +1,12 @@
 //! What is shown of resources: addresses of both families, and AS numbers (RFC 6487 4.8.10, 4.8.11).
 
-ghost use Rattle.std.specs.Prelude.{◌≡◌, ◌∷◌, [], codes, IfOk};
+ghost use Rattle.std.specs.Prelude.{◌≡◌, codes, IfOk};
 ghost use Rattle.std.specs.Option.{option_map};
 ghost use Rattle.rpki_fields.specs.ResourceText.{IsListText, IsChoiceText, AreKind, AreFamilies, AreAsNumbers};
-ghost use Rattle.rpki_fields.specs.ResourceText.{other_field, AreAddresses, AreNumbers, AreResources};
+ghost use Rattle.rpki_fields.specs.ResourceText.{other_addresses, other_numbers};
+ghost use Rattle.rpki_fields.specs.ResourceText.{AreAddresses, AreNumbers, AreResources};
 
-use crate::field::{Field, OTHER, push_field, push_field_if};
+use crate::field::{Field, other_text, push_field, push_field_if};
 use rpki_cert::TbsCert;
 use rpki_resources::{Blocks, BlocksView, ChoiceView, IpResourcesView};
 use std::alloc::{AllocError, Global};
@@ -61,22 +62,24 @@ fn families(alloc: Global, found: &IpResourcesView<'_>) -> Result<Vec<Field>, Al
     Ok(fields)
 }
 
-/// That a kind is not as the profile has it.
-fn other_kind(alloc: Global, label: &[u8]) -> Result<Vec<Field>, AllocError>
-    ensures { IfOk result (λ fields. fields.items ≡ other_field label.now ∷ []) }
+/// That the addresses of both families are not as the profile has them.
+fn other_addresses(alloc: Global) -> Result<Vec<Field>, AllocError>
+    ensures { IfOk result (λ fields. fields.items ≡ other_addresses) }
 {
+    let text = other_text(alloc, b"RFC 6487 4.8.10")?;
     let mut fields = Vec::new(alloc);
-    push_field(&mut fields, label, OTHER)?;
+    push_field(&mut fields, b"IPv4", text.as_slice())?;
+    push_field(&mut fields, b"IPv6", text.as_slice())?;
     Ok(fields)
 }
 
-/// That both families are not.
-fn other_families(alloc: Global) -> Result<Vec<Field>, AllocError>
-    ensures { IfOk result (λ fields. fields.items
-        ≡ other_field (codes "IPv4") ∷ other_field (codes "IPv6") ∷ []) }
+/// That the AS numbers are not as the profile has them.
+fn other_numbers(alloc: Global) -> Result<Vec<Field>, AllocError>
+    ensures { IfOk result (λ fields. fields.items ≡ other_numbers) }
 {
-    let mut fields = other_kind(alloc, b"IPv4")?;
-    push_field(&mut fields, b"IPv6", OTHER)?;
+    let text = other_text(alloc, b"RFC 6487 4.8.11")?;
+    let mut fields = Vec::new(alloc);
+    push_field(&mut fields, b"AS", text.as_slice())?;
     Ok(fields)
 }
 
@@ -87,7 +90,7 @@ fn addresses(alloc: Global, tbs: &TbsCert) -> Result<Vec<Field>, AllocError>
     match tbs.ip_resources() {
         Ok(Some(found)) => families(alloc, &found),
         Ok(None) => Ok(Vec::new(alloc)),
-        Err(_) => other_families(alloc),
+        Err(_) => other_addresses(alloc),
     }
 }
 
@@ -98,7 +101,7 @@ fn numbers(alloc: Global, tbs: &TbsCert) -> Result<Vec<Field>, AllocError>
     match tbs.as_resources() {
         Ok(Some(found)) => kind(alloc, b"AS", &found),
         Ok(None) => Ok(Vec::new(alloc)),
-        Err(_) => other_kind(alloc, b"AS"),
+        Err(_) => other_numbers(alloc),
     }
 }
 
