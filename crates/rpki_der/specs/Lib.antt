@@ -10,6 +10,7 @@ pub mod Reading
 pub mod Values
 pub mod Cursor
 pub mod Standing
+pub mod Section
 pub mod IndexedCursor
 pub mod Leaves
 pub mod WantedValue

@@ -35,6 +35,7 @@ pub use Rattle.rpki_der.specs.NumberLaws.{low_octets-full, number-lt, power}
 pub use Rattle.rpki_der.specs.Parts.{SpellsBoth, Then, optional_of}
 pub use Rattle.rpki_der.specs.Reading.{Accepts, AnyFault, Decodes, Finds, IsCut, IsWholeFault, OrMemoryWhere, Reads}
 pub use Rattle.rpki_der.specs.Reading.{ReadsWhere, Refusal, Refuses, Spells, SpellsNothing, TakesNoMemory, UnlessMemory}
+pub use Rattle.rpki_der.specs.Section.{IsSection, IsSectionOf}
 pub use Rattle.rpki_der.specs.Sharing.{CanShare}
 pub use Rattle.rpki_der.specs.StandingLaws.{rest-stands}
 pub use Rattle.rpki_der.specs.TagName.{IsTag, TagName, bit_string, boolean, context_6, generalized_time, ia5_string}

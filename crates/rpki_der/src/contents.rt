@@ -10,7 +10,7 @@ use crate::cursor::Cursor;
 use crate::error::DecodeError;
 use crate::oid::is_oid;
 use crate::tag::Tag;
-use crate::text::{ia5_of, printable_of, utf8_of};
+use crate::text::{ia5_of, is_printable_string, utf8_of};
 
 /// The contents of an object identifier (X.690 8.19), with the errors of
 /// [Constructed::take_oid](crate::Constructed::take_oid).
@@ -34,13 +34,11 @@ pub fn take_printable_contents<C: Cursor>(cursor: &mut C) -> Result<C, DecodeErr
 {
     let mut after = *cursor;
     let contents = after.take_value_contents(Tag::PRINTABLE_STRING, false)?;
-    match printable_of(contents.octets()) {
-        Some(_) => {
-            *cursor = after;
-            Ok(contents)
-        }
-        None => Err(DecodeError::content("malformed PrintableString")),
+    if !is_printable_string(contents.octets()) {
+        return Err(DecodeError::content("malformed PrintableString"));
     }
+    *cursor = after;
+    Ok(contents)
 }
 
 /// The contents of a UTF8String (X.690 8.23), with the errors of

@@ -6,6 +6,7 @@ mod contents;
 mod header;
 mod lists;
 mod primitive;
+mod standing;
 mod unsigned;
 mod values;
 mod whole;
@@ -14,5 +15,6 @@ pub use constructed::{
     Around, Frame, OctetStringFrame, Sequence, SequenceFrame, Set, SetFrame, Wrapped,
 };
 pub use primitive::{Primitive, PrimitiveContent};
+pub use standing::StandingValue;
 pub use values::Values;
 pub use whole::write_whole;

@@ -31,6 +31,7 @@ mod leaf;
 mod members;
 mod nested;
 mod oid;
+mod section;
 mod tag;
 mod text;
 mod value;
@@ -44,7 +45,7 @@ pub use contents::{
 pub use cursor::{Constructed, Cursor};
 pub use encode::{
     Around, Frame, OctetStringFrame, Primitive, PrimitiveContent, Sequence, SequenceFrame, Set,
-    SetFrame, Values, Wrapped, write_whole,
+    SetFrame, StandingValue, Values, Wrapped, write_whole,
 };
 pub use error::{ContentError, DecodeError};
 pub use from_values::write_to_bytes;
@@ -55,6 +56,7 @@ pub use integer::{InvalidInteger, Unsigned};
 pub use keep::{Keep, Shared};
 pub use members::Members;
 pub use oid::{ConstOid, Oid};
+pub use section::Section;
 pub use tag::{Class, Header, Steps, Tag};
 pub use text::{Ia5String, PrintableString, Utf8String};
 pub use value::Content;

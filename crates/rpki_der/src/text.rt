@@ -105,6 +105,13 @@ fn are_printable(contents: &[u8]) -> bool
     contents.iter().all(|octet| is_printable(*octet))
 }
 
+/// Whether these are the contents of a PrintableString.
+pub(crate) fn is_printable_string(contents: &[u8]) -> bool
+    ensures { IsTrue result ↔ IsPrintableText contents.now contents.now }
+{
+    are_printable(contents)
+}
+
 /// The string with these contents, if each of them is a character of a PrintableString.
 pub(crate) fn printable_of(contents: &[u8]) -> Option<PrintableString<'_>>
     ensures value { IfSome result (λ p. IsPrintableText p contents.now) }

@@ -57,7 +57,7 @@ pub fn check_uri_ascii(text: &[u8]) -> Result<(), Error>
 pub fn starts_with_ignore_case(s: &[u8], expected: &[u8]) -> bool
     ensures { result ≡ bytes_eq (lowercase (take (length expected.now) s.now)) (lowercase expected.now) }
 {
-    s.len() >= expected.len() && s[..expected.len()].eq_ignore_ascii_case(expected)
+    s.len() >= expected.len() && eq_ignore_case(&s[..expected.len()], expected)
 }
 
 /// Whether both are the same, without regard to the case of ASCII letters. Those that are spelled alike take less time.
