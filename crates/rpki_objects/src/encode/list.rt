@@ -14,9 +14,11 @@ use crate::crl_entry::CrlEntry;
 use crate::crl_extensions::CrlExtensions;
 use crate::tbs_cert_list::TbsCertList;
 use rpki::crypto::{KeyIdentifier, RpkiSignatureAlgorithm, SignatureAlgorithm};
-use rpki::der::{Around, Class, ConstOid, Primitive, PrimitiveContent, Sequence, Tag, Values};
+use rpki::der::{
+    Around, Class, ConstOid, Primitive, PrimitiveContent, Sequence, StandingValue, Tag, Values,
+};
 use rpki::oid;
-use rpki::repository::x509::{Extension, NameView, Serial, VariedTime, encode_extension};
+use rpki::repository::x509::{Extension, Serial, VariedTime, encode_extension};
 use rpki_contents::Each;
 
 /// An encoder for the authority key identifier, as an extension.
@@ -47,7 +49,7 @@ pub type TbsCertListEncoder<'a> = Sequence<
         Primitive<Serial>,
         (
             Sequence<(Primitive<ConstOid>, Primitive<()>)>,
-            (NameView<'a>, BehindIssuerEncoder<'a>),
+            (StandingValue<'a>, BehindIssuerEncoder<'a>),
         ),
     ),
 >;

@@ -13,7 +13,6 @@ ghost use Rattle.rpki.specs.StrictNameWithoutOrganization.{IsRpkiNameWithoutOrga
 ghost use Rattle.rpki.specs.StrictNameWithoutOrganization.{IsRouterNameWithoutOrganization};
 
 mod attributes;
-mod encoder;
 mod grammar;
 mod inspection;
 mod rule;
@@ -26,7 +25,7 @@ pub use self::rule::NameRule;
 pub use self::view::NameView;
 use crate::repository::error::InspectionError;
 use bytes::Bytes;
-use rpki_der::{Constructed, DecodeError, Keep, Shared};
+use rpki_der::{Constructed, DecodeError, Keep, Shared, StandingValue};
 use std::alloc::{AllocError, Global};
 use std::marker::Model;
 
@@ -169,7 +168,7 @@ impl Name {
     }
 
     /// An encoder for the name: its original octets.
-    pub fn encode_ref(&self) -> NameView<'_>
+    pub fn encode_ref(&self) -> StandingValue<'_>
         ensures octets { result ≡ self.now }
         ensures named { IsName result }
         ensures one { IsValue result }
@@ -178,10 +177,7 @@ impl Name {
         // They have one reading.
         ensures one_reading { (x y : List (List Attribute)) → SpellsName x result → SpellsName y result → x ≡ y }
     {
-        let name = self.view();
-        // its clauses say that these are a name, and one value
-        let _ = name.octets();
-        name
+        self.view().encode_ref()
     }
 
     /// Returns a copy of the name that shares its octets.

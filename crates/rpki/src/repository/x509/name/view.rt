@@ -2,7 +2,7 @@
 
 ghost use Rattle.std.specs.Prelude.{◌≡◌, List, MatchResult};
 ghost use Rattle.rpki_der.specs.Prelude.{left, Takes, IsValue};
-ghost use Rattle.rpki.specs.Name.{Attribute, IsName, SpellsName};
+ghost use Rattle.rpki.specs.Name.{Attribute, IsName, SpellsName, SpellsNameOctets};
 ghost use Rattle.rpki.specs.NameAttributes.{marked_attributes, AreLeft};
 ghost use Rattle.rpki.specs.NameFault.{borrowed_name};
 ghost use Rattle.rpki.specs.NameRule.{BreaksRpkiRule, BreaksRouterRule};
@@ -14,7 +14,7 @@ use super::grammar::skip_name;
 use super::inspection::Profile;
 use super::rule::NameRule;
 use bytes::Bytes;
-use rpki_der::{Constructed, DecodeError};
+use rpki_der::{Constructed, DecodeError, StandingValue};
 use std::marker::Model;
 
 /// A name, as [Name](crate::repository::x509::Name), whose octets are borrowed from those that it was read from.
@@ -65,6 +65,20 @@ impl<'a> NameView<'a> {
         ensures one { IsValue result.now }
     {
         self.octets
+    }
+
+    /// An encoder for the name: its original octets.
+    pub fn encode_ref(&self) -> StandingValue<'a>
+        ensures octets { result ≡ self.now }
+        ensures named { IsName result }
+        ensures one { IsValue result }
+        // The encoding is read as the same name.
+        ensures read_back { SpellsNameOctets self.now result }
+        // They have one reading.
+        ensures one_reading { (x y : List (List Attribute)) → SpellsName x result → SpellsName y result → x ≡ y }
+    {
+        // its clauses say that these are a name, and one value
+        StandingValue::new(self.octets())
     }
 
     /// The name, of octets that were kept. Requires that they are those of the name.
