@@ -20,8 +20,7 @@ use Rattle.rpki_contents.specs.declared.family_view.FamilyView.{FamilyView}
 use Rattle.rpki_contents.specs.InPlace.{IsSequenceOf}
 use Rattle.rpki_contents.specs.RoaAddress.{address, max_length, address_parts, roa_address, each_address, addresses}
 use Rattle.rpki_contents.specs.RoaAddress.{family, family_parts, roa_family}
-use Rattle.rpki_contents.specs.RoaView.{IsOfPrefixes, AreAddressesAt, GivesAddress, IsFamilyIn}
-use Rattle.rpki_contents.specs.RoaView.{TakesFamily}
+use Rattle.rpki_contents.specs.RoaView.{IsOnly, IsOfPrefixes, AreAddressesAt, GivesAddress, IsFamilyIn, TakesFamily}
 use Rattle.rpki_resources.proofs.ThenByLaws.{behind}
 use Rattle.rpki_contents.proofs.InPlaceLaws.{refused, leaf-missing}
 
@@ -110,7 +109,8 @@ module _ (w : ℕ) (s c : List ℕ) (q : IsSequenceOf s c) where
   pub list-not : SpellsNothing (each_address w).spells c → SpellsNothing (addresses w).spells s
   list-not none xs h = none h.value (inside-is xs h)
 
-  pub list-read : (n : ℕ) → c ≢ [] → IsOfPrefixes w c n → AreAddressesAt w s c n
+  pub list-read : (n : ℕ) → c ≢ [] → IsOfPrefixes w c n
+      → (xs : List RoaIpAddress) × IsOnly (addresses w).spells xs s × (each_address w).spells xs c × (length xs ≡ n)
   list-read n some h = (h.0, (is, one), h.1.0, h.2) where
     there : h.0 ≢ []
     there e = some (subst (λ (xs : List RoaIpAddress). (each_address w).spells xs c) e h.1.0)
@@ -142,15 +142,14 @@ module _ (c m : List ℕ) (f : AddressFamily) (a : Accepts family.spells c f m) 
   pub no-addresses : SpellsNothing (addresses (width f)).spells m → SpellsNothing family_parts.spells c
   no-addresses none x k = none x.1 (behind family following a x k).1
 
-  pub family-read : (v : FamilyView) → v.family ≡ f
-      → AreAddressesAt (width f) m v.addresses.octets.now v.addresses.count → IsFamilyIn c v
-  family-read v e h = (
+  pub family-read : (v : FamilyView) → AreAddressesAt f m v → IsFamilyIn c v
+  family-read v h = (
     (f, h.0),
     (
       record { first = a.spells.front; second = m; parts = a.spells.parts; one = a.spells.spelled; two = h.1.0 },
       λ x k. let q = behind family following a x k in pair-is x f h.0 q.0 (h.1.1 x.1 q.1),
     ),
-    record { family = e; addresses = h.2; count = h.3 },
+    h.2,
   )
 
 pub family-taken : (s c r : List ℕ) (x : Option FamilyView) → Accepts (SpellsContents sequence true) s c r

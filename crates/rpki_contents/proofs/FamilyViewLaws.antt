@@ -18,8 +18,8 @@ abbrev both_view : FamilyView → FamilyView → BothView
 both_view v u = record {
   v4 = v.addresses;
   v6 = u.addresses;
-  v4_following = v.following;
-  v6_following = u.following;
+  v4_count = v.count;
+  v6_count = u.count;
 }
 
 module _ (v u : FamilyView) (strict : Bool) where

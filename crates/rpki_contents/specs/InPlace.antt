@@ -1,5 +1,5 @@
 -- Values that are all of some octets, in place.
-use Rattle.std.specs.Prelude.{◌≡◌, ◌++◌, ℕ, List, true, length}
+use Rattle.std.specs.Prelude.{◌≡◌, ℕ, List, true}
 use Rattle.rpki_der.specs.Prelude.{sequence, Accepts, SpellsContents}
 
 -- all of s is a SEQUENCE of these contents, and of no others
@@ -10,10 +10,3 @@ pub record IsSequenceOf (s contents : List ℕ) : Type 0 where
 -- a value of the grammar stands at the front of s, and r follows it
 abbrev pub Follows : {V : Type 0} → (V → List ℕ → Type 0) → List ℕ → List ℕ → Type 0
 Follows {V} G s r = (v : V) × Accepts G s v r
-
--- the part stands somewhere in s, and so many octets follow it
-pub record StandsIn (s part : List ℕ) (following : ℕ) : Type 0 where
-  pub front : List ℕ
-  pub behind : List ℕ
-  pub parts : s ≡ front ++ (part ++ behind)
-  pub size : following ≡ length behind

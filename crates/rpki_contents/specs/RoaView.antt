@@ -1,6 +1,8 @@
 -- Route origin attestations that are read in place: what stands where, and which part is wrong.
 use Rattle.std.specs.Prelude.{◌≡◌, ℕ, Bool, true, List, [], ◌∷◌, Option, None, Some, length}
-use Rattle.rpki_der.specs.Prelude.{sequence, Accepts, Refuses, Spells, SpellsNothing, SpellsContents}
+use Rattle.rpki_der.specs.declared.section.Section.{Section}
+use Rattle.rpki_der.specs.Prelude.{sequence, Accepts, Refuses, Spells, SpellsNothing, SpellsContents, IsSectionOf}
+use Rattle.rpki_resources.specs.declared.family.AddressFamily.{AddressFamily}
 use Rattle.rpki_resources.specs.Address.{width}
 use Rattle.rpki_contents.specs.declared.roa_address.RoaIpAddress.{RoaIpAddress}
 use Rattle.rpki_contents.specs.declared.family_view.BothView.{BothView}
@@ -8,7 +10,6 @@ use Rattle.rpki_contents.specs.declared.family_view.FamilyView.{FamilyView}
 use Rattle.rpki_contents.specs.declared.roa_view.RoaPart.{RoaPart}
 use Rattle.rpki_contents.specs.declared.roa_view.RoaPart.TheVariants as P
 use Rattle.rpki_contents.specs.declared.roa_view.RoaView.{RoaView}
-use Rattle.rpki_contents.specs.InPlace.{StandsIn}
 use Rattle.rpki_contents.specs.RoaAddress.{Family, each_address, addresses, family_parts, roa_family}
 use Rattle.rpki_contents.specs.Roa.{Both, together, each_family, AreFamilies, families, as_number, AttestationParts}
 use Rattle.rpki_contents.specs.Roa.{fields, fields_of, roa}
@@ -23,11 +24,6 @@ IsOnly {V} G v s = G v s × ((w : V) → G w s → w ≡ v)
 abbrev pub IsOfPrefixes : ℕ → List ℕ → ℕ → Type 0
 IsOfPrefixes w s n = (xs : List RoaIpAddress) × IsOnly (each_address w).spells xs s × (length xs ≡ n)
 
--- all of s is a list of prefixes, one at least; p are the octets of these, and they are so many
-abbrev pub AreAddressesAt : ℕ → List ℕ → List ℕ → ℕ → Type 0
-AreAddressesAt w s p n =
-    (xs : List RoaIpAddress) × IsOnly (addresses w).spells xs s × (each_address w).spells xs p × (length xs ≡ n)
-
 -- of the prefixes that were left the first was given, and the others are left now
 abbrev pub GivesAddress : ℕ → List RoaIpAddress → Option RoaIpAddress → List ℕ → Type 0
 GivesAddress w [] found s = (found ≡ None) × (each_address w).spells [] s
@@ -41,7 +37,11 @@ GivesNext w s found r = (xs : List RoaIpAddress) → (each_address w).spells xs 
 pub record IsFamilyAt (v : FamilyView) (x : Family) : Type 0 where
   pub family : v.family ≡ x.0
   pub addresses : (each_address (width x.0)).spells x.1 v.addresses.octets.now
-  pub count : length x.1 ≡ v.addresses.count
+  pub count : length x.1 ≡ v.count
+
+-- all of s is a list of prefixes of the family f, one at least, and of no others; v has these
+abbrev pub AreAddressesAt : AddressFamily → List ℕ → FamilyView → Type 0
+AreAddressesAt f s v = (xs : List RoaIpAddress) × IsOnly (addresses (width f)).spells xs s × IsFamilyAt v (f, xs)
 
 -- all of c is the parts of one family
 abbrev pub IsFamilyIn : List ℕ → FamilyView → Type 0
@@ -52,24 +52,25 @@ abbrev pub TakesFamily : List ℕ → List ℕ → Option FamilyView → Type 0
 TakesFamily s r (Some v) = (x : Family) × Accepts roa_family.spells s x r × IsFamilyAt v x
 TakesFamily s r None = Refuses roa_family.spells s
 
--- the prefixes of the family at the front of s stand in it, and what is left follows them
-abbrev pub FamilyStands : List ℕ → List ℕ → FamilyView → Type 0
-FamilyStands s r v = StandsIn s v.addresses.octets.now v.following × (v.following ≡ length r)
+-- wherever m stands, followed by so many octets, the section stands
+abbrev pub StandsWith : List ℕ → ℕ → Section → Type 0
+StandsWith m following p = (s : List ℕ) → IsSectionOf s m following → IsSectionOf s p.octets.now p.following
 
 -- ---- the whole
 
 -- the prefixes of both families stand in s
 abbrev pub BothStand : List ℕ → BothView → Type 0
-BothStand s v = StandsIn s v.v4.octets.now v.v4_following × StandsIn s v.v6.octets.now v.v6_following
+BothStand s v = IsSectionOf s v.v4.octets.now v.v4.following × IsSectionOf s v.v6.octets.now v.v6.following
 
 -- the same, where the prefixes of each of two families stand in s
 abbrev pub StandTogether : FamilyView → FamilyView → BothView → Type 0
 StandTogether first second v =
-    (s : List ℕ) → StandsIn s first.addresses.octets.now first.following
-    → StandsIn s second.addresses.octets.now second.following → BothStand s v
+    (s : List ℕ) → IsSectionOf s first.addresses.octets.now first.addresses.following
+    → IsSectionOf s second.addresses.octets.now second.addresses.following → BothStand s v
 
+-- the prefixes of an attestation stand in s
 abbrev pub PrefixesStand : List ℕ → RoaView → Type 0
-PrefixesStand s v = StandsIn s v.v4.now v.v4_following × StandsIn s v.v6.now v.v6_following
+PrefixesStand s v = IsSectionOf s v.v4.octets.now v.v4.following × IsSectionOf s v.v6.octets.now v.v6.following
 
 -- the octets of the prefixes of both families, and how many they are
 pub record AreBothAt (x : Both) (v4 v6 : List ℕ) (n4 n6 : ℕ) : Type 0 where
@@ -80,7 +81,7 @@ pub record AreBothAt (x : Both) (v4 v6 : List ℕ) (n4 n6 : ℕ) : Type 0 where
 
 -- those of v
 abbrev pub AreIn : Both → BothView → Type 0
-AreIn x v = AreBothAt x v.v4.octets.now v.v6.octets.now v.v4.count v.v6.count
+AreIn x v = AreBothAt x v.v4.octets.now v.v6.octets.now v.v4_count v.v6_count
 
 -- v has those of the families of c, of which this is taken
 abbrev pub AreFamiliesIn : Bool → List ℕ → BothView → Type 0
@@ -105,13 +106,13 @@ AreTogetherAt strict first second v =
 pub record IsRoaAt (strict : Bool) (s : List ℕ) (v : RoaView) (x : AttestationParts) : Type 0 where
   pub spelled : (roa strict).spells (fields_of x) s
   pub as_id : v.as_id ≡ x.as_id
-  pub prefixes : AreBothAt (x.v4, x.v6) v.v4.now v.v6.now v.v4_count v.v6_count
+  pub prefixes : AreBothAt (x.v4, x.v6) v.v4.octets.now v.v6.octets.now v.v4_count v.v6_count
 
 -- the same of the parts, which are all of c
 abbrev pub AreRoaParts : Bool → List ℕ → RoaView → Type 0
 AreRoaParts strict c v =
     (x : Both) × (fields strict).spells (v.as_id, x) c
-    × AreBothAt x v.v4.now v.v6.now v.v4_count v.v6_count
+    × AreBothAt x v.v4.octets.now v.v6.octets.now v.v4_count v.v6_count
 
 -- all of c is to be the parts: the leftmost that is wrong
 pub data AreRoaPartsWrong (strict : Bool) (c : List ℕ) (q : RoaPart) : Type 0 where

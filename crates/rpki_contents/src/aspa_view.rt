@@ -8,7 +8,6 @@ ghost use Rattle.rpki_contents.specs.AspaView.{HasNoProviders, IsAfter, IsAspaAt
 ghost use Rattle.rpki_contents.specs.AspaView.{SpellsBehind};
 
 use crate::aspa::take_version;
-use crate::counted::Counted;
 use crate::inside::inside;
 use crate::short::short_number;
 use rpki_der::Constructed;
@@ -110,16 +109,21 @@ fn count_providers(octets: &[u8], customer: u32) -> Option<usize>
     }
 }
 
-/// The octets of the providers of the customer, whose list is all that is left.
-fn read_providers<'a>(rest: Constructed<'a>, customer: u32) -> Option<Counted<'a>>
-    ensures some { IfSome result (λ v. AreProvidersAt customer (left rest.entry) v.octets.now v.count) }
+/// The attestation of the customer, the list of whose providers is all that is left.
+fn read_providers<'a>(rest: Constructed<'a>, customer: u32) -> Option<AspaView<'a>>
+    ensures customer { IfSome result (λ v. v.customer ≡ customer) }
+    ensures some { IfSome result (λ v. AreProvidersAt customer (left rest.entry) v.providers.now v.count) }
     ensures none { IfNone result (HasNoProviders customer (left rest.entry)) }
 {
     match inside(rest) {
         Some(contents) => {
-            let octets = contents.rest();
-            match count_providers(octets, customer) {
-                Some(count) => Some(Counted { octets, count }),
+            let providers = contents.rest();
+            match count_providers(providers, customer) {
+                Some(count) => Some(AspaView {
+                    customer,
+                    providers,
+                    count,
+                }),
                 None => None,
             }
         }
@@ -142,11 +146,7 @@ fn read_parts<'a>(contents: Constructed<'a>) -> Result<AspaView<'a>, AspaPart>
         Err(_) => return Err(AspaPart::Customer),
     };
     match read_providers(rest, customer) {
-        Some(providers) => Ok(AspaView {
-            customer,
-            providers: providers.octets,
-            count: providers.count,
-        }),
+        Some(found) => Ok(found),
         None => Err(AspaPart::Providers),
     }
 }

@@ -1,19 +1,17 @@
 //! The prefixes of route origin attestations by family, read in place without memory (RFC 9582 4.3).
 
 ghost use Rattle.std.specs.Prelude.{◌≡◌, List, None, ℕ, IfSome, IfNone};
-ghost use Rattle.rpki_der.specs.Prelude.{left, SpellsNothing};
+ghost use Rattle.rpki_der.specs.Prelude.{left, SpellsNothing, IsSectionOf};
 ghost use Rattle.rpki_resources.specs.Address.{width};
 ghost use Rattle.rpki_contents.specs.RoaAddress.{Family, addresses, family_parts};
 ghost use Rattle.rpki_contents.specs.Roa.{alone, families, together};
 ghost use Rattle.rpki_contents.specs.RoaView.{AreAddressesAt, AreBlocksAt, AreFamiliesIn, AreIn, AreTogetherAt};
 ghost use Rattle.rpki_contents.specs.RoaView.{HasNoFamilies, IsFamilyAt, IsFamilyIn, TakesFamily};
-ghost use Rattle.rpki_contents.specs.InPlace.{StandsIn};
-ghost use Rattle.rpki_contents.specs.RoaView.{BothStand, FamilyStands, StandTogether};
+ghost use Rattle.rpki_contents.specs.RoaView.{BothStand, StandsWith, StandTogether};
 
 use crate::addresses::count_addresses;
-use crate::counted::Counted;
 use crate::inside::inside;
-use rpki_der::Constructed;
+use rpki_der::{Constructed, Section};
 use rpki_resources::{AddressFamily, take_family};
 
 /// One family, whose prefixes are borrowed from the octets that they were read from.
@@ -22,28 +20,32 @@ pub(crate) struct FamilyView<'a> {
     /// The family.
     pub(crate) family: AddressFamily,
     /// The prefixes, one after another.
-    pub(crate) addresses: Counted<'a>,
-    /// How many octets follow the family.
-    pub(crate) following: usize,
+    pub(crate) addresses: Section<'a>,
+    /// How many prefixes there are.
+    pub(crate) count: usize,
 }
 
 /// The prefixes of both families, one after another; no octets for a family that isn't there.
 #[derive(Clone, Copy)]
 pub(crate) struct BothView<'a> {
     /// Those of IP version 4.
-    pub(crate) v4: Counted<'a>,
+    pub(crate) v4: Section<'a>,
     /// Those of IP version 6.
-    pub(crate) v6: Counted<'a>,
-    /// How many octets follow those of IP version 4.
-    pub(crate) v4_following: usize,
-    /// How many octets follow those of IP version 6.
-    pub(crate) v6_following: usize,
+    pub(crate) v6: Section<'a>,
+    /// How many prefixes of IP version 4 there are.
+    pub(crate) v4_count: usize,
+    /// How many prefixes of IP version 6 there are.
+    pub(crate) v6_count: usize,
 }
 
-/// The octets of the prefixes of the family, whose list is all that is left: one at least.
-fn read_addresses<'a>(rest: Constructed<'a>, family: AddressFamily) -> Option<Counted<'a>>
-    ensures some { IfSome result (λ v. AreAddressesAt (width family) (left rest.entry) v.octets.now v.count) }
-    ensures stand { IfSome result (λ v. StandsIn (left rest.entry) v.octets.now 0) }
+/// The prefixes of the family, whose list is all that is left: one at least; so many octets follow them.
+fn read_addresses<'a>(
+    rest: Constructed<'a>,
+    family: AddressFamily,
+    following: usize,
+) -> Option<FamilyView<'a>>
+    ensures some { IfSome result (λ v. AreAddressesAt family (left rest.entry) v) }
+    ensures stand { IfSome result (λ v. StandsWith (left rest.entry) following v.addresses) }
     ensures none { IfNone result (SpellsNothing (addresses (width family)).spells (left rest.entry)) }
 {
     match inside(rest) {
@@ -53,7 +55,11 @@ fn read_addresses<'a>(rest: Constructed<'a>, family: AddressFamily) -> Option<Co
             }
             let octets = contents.rest();
             match count_addresses(octets, family) {
-                Some(count) => Some(Counted { octets, count }),
+                Some(count) => Some(FamilyView {
+                    family,
+                    addresses: Section { octets, following },
+                    count,
+                }),
                 None => None,
             }
         }
@@ -64,8 +70,7 @@ fn read_addresses<'a>(rest: Constructed<'a>, family: AddressFamily) -> Option<Co
 /// The name of a family and its prefixes, which are all that is left; so many octets follow them.
 fn read_family<'a>(contents: Constructed<'a>, following: usize) -> Option<FamilyView<'a>>
     ensures some { IfSome result (λ v. IsFamilyIn (left contents.entry) v) }
-    ensures stand { IfSome result (λ v. StandsIn (left contents.entry) v.addresses.octets.now 0) }
-    ensures following { IfSome result (λ v. v.following ≡ following) }
+    ensures stand { IfSome result (λ v. StandsWith (left contents.entry) following v.addresses) }
     ensures none { IfNone result (SpellsNothing family_parts.spells (left contents.entry)) }
 {
     let mut rest = contents;
@@ -73,20 +78,13 @@ fn read_family<'a>(contents: Constructed<'a>, following: usize) -> Option<Family
         Ok(family) => family,
         Err(_) => return None,
     };
-    match read_addresses(rest, family) {
-        Some(addresses) => Some(FamilyView {
-            family,
-            addresses,
-            following,
-        }),
-        None => None,
-    }
+    read_addresses(rest, family, following)
 }
 
 /// A SEQUENCE of the name of a family and of its prefixes.
 fn take_family_view<'a>(cons: &mut Constructed<'a>) -> Option<FamilyView<'a>>
     ensures taken { TakesFamily (left cons.old) (left cons.new) result }
-    ensures stand { IfSome result (λ v. FamilyStands (left cons.old) (left cons.new) v) }
+    ensures stand { IfSome result (λ v. IsSectionOf (left cons.old) v.addresses.octets.now v.addresses.following) }
 {
     match cons.take_sequence() {
         Ok(contents) => read_family(contents, cons.rest().len()),
@@ -97,25 +95,25 @@ fn take_family_view<'a>(cons: &mut Constructed<'a>) -> Option<FamilyView<'a>>
 /// The prefixes of the one family that there is.
 fn alone_view<'a>(only: FamilyView<'a>) -> BothView<'a>
     ensures both { (x : Family) → IsFamilyAt only.entry x → AreIn (alone x) result }
-    ensures stand { (s : List ℕ) → StandsIn s only.entry.addresses.octets.now only.entry.following
+    ensures stand { (s : List ℕ) → IsSectionOf s only.entry.addresses.octets.now only.entry.addresses.following
         → BothStand s result }
 {
-    let nothing = Counted {
+    let nothing = Section {
         octets: &[],
-        count: 0,
+        following: 0,
     };
     match only.family {
         AddressFamily::Ipv4 => BothView {
             v4: only.addresses,
             v6: nothing,
-            v4_following: only.following,
-            v6_following: 0,
+            v4_count: only.count,
+            v6_count: 0,
         },
         AddressFamily::Ipv6 => BothView {
             v4: nothing,
             v6: only.addresses,
-            v4_following: 0,
-            v6_following: only.following,
+            v4_count: 0,
+            v6_count: only.count,
         },
     }
 }
@@ -137,8 +135,8 @@ fn together_view<'a>(
             AddressFamily::Ipv6 => Some(BothView {
                 v4: first.addresses,
                 v6: second.addresses,
-                v4_following: first.following,
-                v6_following: second.following,
+                v4_count: first.count,
+                v6_count: second.count,
             }),
         },
         AddressFamily::Ipv6 => match second.family {
@@ -149,8 +147,8 @@ fn together_view<'a>(
                 Some(BothView {
                     v4: second.addresses,
                     v6: first.addresses,
-                    v4_following: second.following,
-                    v6_following: first.following,
+                    v4_count: second.count,
+                    v6_count: first.count,
                 })
             }
             AddressFamily::Ipv6 => None,

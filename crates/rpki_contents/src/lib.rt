@@ -14,7 +14,6 @@ mod addresses;
 mod aspa;
 mod aspa_encoder;
 mod aspa_view;
-mod counted;
 mod each;
 mod encode;
 mod family_view;

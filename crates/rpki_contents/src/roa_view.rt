@@ -11,7 +11,7 @@ ghost use Rattle.rpki_resources.specs.declared.family.AddressFamily.TheVariants.
 use crate::family_view::read_blocks;
 use crate::inside::inside;
 use crate::roa_address::RoaIpAddress;
-use rpki_der::Constructed;
+use rpki_der::{Constructed, Section};
 use rpki_resources::{AddressFamily, take_as_number};
 
 /// The part of an attestation that is wrong.
@@ -31,17 +31,13 @@ pub struct RoaView<'a> {
     /// The AS number that may announce the prefixes.
     pub as_id: u32,
     /// The prefixes of IP version 4, one after another; no octets where that family isn't there.
-    pub v4: &'a [u8],
+    pub v4: Section<'a>,
     /// The prefixes of IP version 6, one after another; no octets where that family isn't there.
-    pub v6: &'a [u8],
+    pub v6: Section<'a>,
     /// How many prefixes of IP version 4 there are.
     pub v4_count: usize,
     /// How many prefixes of IP version 6 there are.
     pub v6_count: usize,
-    /// How many octets follow the prefixes of IP version 4.
-    pub v4_following: usize,
-    /// How many octets follow the prefixes of IP version 6.
-    pub v6_following: usize,
 }
 
 /// The prefixes of one family in place that have yet to be given, in order.
@@ -67,12 +63,10 @@ fn read_parts<'a>(contents: Constructed<'a>, strict: bool) -> Result<RoaView<'a>
     match read_blocks(rest, strict) {
         Some(both) => Ok(RoaView {
             as_id,
-            v4: both.v4.octets,
-            v6: both.v6.octets,
-            v4_count: both.v4.count,
-            v6_count: both.v6.count,
-            v4_following: both.v4_following,
-            v6_following: both.v6_following,
+            v4: both.v4,
+            v6: both.v6,
+            v4_count: both.v4_count,
+            v6_count: both.v6_count,
         }),
         None => Err(RoaPart::AddressBlocks),
     }
@@ -97,22 +91,22 @@ impl<'a> RoaView<'a> {
     /// A cursor over the prefixes of IP version 4, in their order.
     pub fn v4_addrs(self) -> AddressCursor<'a>
         ensures family { result.family ≡ Ipv4 }
-        ensures octets { left result.rest ≡ self.entry.v4.now }
+        ensures octets { left result.rest ≡ self.entry.v4.octets.now }
     {
         AddressCursor {
             family: AddressFamily::Ipv4,
-            rest: Constructed::from_slice(self.v4),
+            rest: Constructed::from_slice(self.v4.octets),
         }
     }
 
     /// A cursor over the prefixes of IP version 6, in their order.
     pub fn v6_addrs(self) -> AddressCursor<'a>
         ensures family { result.family ≡ Ipv6 }
-        ensures octets { left result.rest ≡ self.entry.v6.now }
+        ensures octets { left result.rest ≡ self.entry.v6.octets.now }
     {
         AddressCursor {
             family: AddressFamily::Ipv6,
-            rest: Constructed::from_slice(self.v6),
+            rest: Constructed::from_slice(self.v6.octets),
         }
     }
 }

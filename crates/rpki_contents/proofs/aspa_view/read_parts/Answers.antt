@@ -17,4 +17,5 @@ returns-in-None-clause-err c =
 
 pub returns-in-Some-clause-ok : goal.returns-in-Some-clause-ok
 returns-in-Some-clause-ok c =
-    parts-read _ _ _ _ _ c.in-Ok.ensures c.in-Ok-take_as_number.ensures refl c.in-Some.ensures.some
+    parts-read _ _ _ _ _ c.in-Ok.ensures c.in-Ok-take_as_number.ensures c.in-Some.ensures.customer
+    c.in-Some.ensures.some

@@ -47,11 +47,11 @@ returns-clause-none c =
     c.together_view.ensures.none
 
 pub returns-then-is_empty-clause-stand : goal.returns-then-is_empty-clause-stand
-returns-then-is_empty-clause-stand c = c.alone_view.ensures.stand _ c.in-Some.ensures.stand.0
+returns-then-is_empty-clause-stand c = c.alone_view.ensures.stand _ c.in-Some.ensures.stand
 
 pub returns-clause-stand : goal.returns-clause-stand
 returns-clause-stand c =
     let a = c.in-Some.ensures.taken.1.spells in
     some-weaker c.together_view.result
-    (λ v both. both _ c.in-Some.ensures.stand.0
-    (after-front _ a.front _ _ _ a.parts c.in-Some-take_family_view.ensures.stand.0)) c.together_view.ensures.stand
+    (λ v both. both _ c.in-Some.ensures.stand
+    (after-front _ a.front _ _ _ a.parts c.in-Some-take_family_view.ensures.stand)) c.together_view.ensures.stand

@@ -1,17 +1,20 @@
-use Rattle.std.proofs.Common.{refl}
+use Rattle.rpki_contents.proofs.InPlaceLaws.{some-weaker, none-weaker}
 use Rattle.rpki_contents.proofs.AddressViewLaws.{no-name, no-addresses, family-read}
-use Rattle.rpki_contents.proofs.StandsLaws.{after-front}
+use Rattle.rpki_contents.proofs.StandsLaws.{at-end}
 use Rattle.rpki_contents.proofs.family_view.read_family.Goals as goal
 
 pub returns-in-Err-clause-none : goal.returns-in-Err-clause-none
 returns-in-Err-clause-none c = no-name _ _ c.in-Err.field-0 c.in-Err.ensures
 
-pub returns-in-None-clause-none : goal.returns-in-None-clause-none
-returns-in-None-clause-none c = no-addresses _ _ _ c.in-Ok.ensures c.in-None.ensures.none
+pub returns-clause-none : goal.returns-clause-none
+returns-clause-none c =
+    none-weaker c.read_addresses.result (no-addresses _ _ _ c.in-Ok.ensures) c.read_addresses.ensures.none
 
-pub returns-in-Some-clause-some : goal.returns-in-Some-clause-some
-returns-in-Some-clause-some c = family-read _ _ _ c.in-Ok.ensures _ refl c.in-Some.ensures.some
+pub returns-clause-some : goal.returns-clause-some
+returns-clause-some c =
+    some-weaker c.read_addresses.result (family-read _ _ _ c.in-Ok.ensures) c.read_addresses.ensures.some
 
-pub returns-in-Some-clause-stand : goal.returns-in-Some-clause-stand
-returns-in-Some-clause-stand c =
-    let a = c.in-Ok.ensures.spells in after-front _ a.front _ _ 0 a.parts c.in-Some.ensures.stand
+pub returns-clause-stand : goal.returns-clause-stand
+returns-clause-stand c =
+    some-weaker c.read_addresses.result (λ v h s k. h s (at-end s _ _ _ _ c.in-Ok.ensures.spells.parts k))
+    c.read_addresses.ensures.stand
