@@ -1,5 +1,5 @@
 -- The fields of a TBSCertificate that is read in place.
-use Rattle.std.proofs.Common.{◌≡◌, ◌∙◌, ◌-◌, ℕ, Bool, true, false, List, ◌++◌, length, take, Result, Ok, Err, refl, ap}
+use Rattle.std.proofs.Common.{◌≡◌, ◌∙◌, ℕ, Bool, true, false, List, ◌++◌, length, Result, Ok, Err, refl, ap}
 use Rattle.std.specs.Prelude.{IfOk, IfErr}
 use Rattle.rpki_der.specs.declared.error.DecodeError.{DecodeError}
 use Rattle.rpki_der.specs.declared.error.DecodeError.TheVariants.{OutOfMemory}
@@ -19,21 +19,22 @@ use Rattle.rpki.specs.PublicKey.{KeyParts, SpellsKey}
 use Rattle.rpki.specs.KeyFault.{key_view}
 use Rattle.rpki.proofs.KeyFaultLaws.{view-outer}
 use Rattle.rpki.specs.ExtensionValue.{ExtensionParts}
-use Rattle.rpki_cert.specs.declared.read.section.Section.{Section}
+use Rattle.rpki_der.specs.declared.section.Section.{Section}
 use Rattle.rpki_cert.specs.declared.read.fields.Keyed.{Keyed}
 use Rattle.rpki_cert.specs.declared.read.fields.Named.{Named}
 use Rattle.rpki_cert.specs.declared.read.fields.TbsView.{TbsView}
 use Rattle.rpki_cert.specs.Cert.{TbsParts, SpellsVersion, SpellsRpkiAlgorithm, AreFields, fields_of, SpellsTbs}
 use Rattle.rpki_cert.specs.Cert.{version_tag, SpellsTwo}
 use Rattle.rpki_cert.specs.declared.read.cert_error.CertError.{CertError}
-use Rattle.rpki_cert.specs.View.{IsSection, AreExtensionsAt, IsKeyedAt, IsNamedIn, IsTbsIn, AreNamed, AreFieldsWrong}
+use Rattle.rpki_der.specs.Section.{IsSection}
+use Rattle.rpki_cert.specs.View.{AreExtensionsAt, IsKeyedAt, IsNamedIn, IsTbsIn, AreNamed, AreFieldsWrong}
 use Rattle.rpki_cert.specs.View.{IsTbsWrong, HasOne}
 use Rattle.rpki_cert.specs.View.WholeWrong.{InFrame}
 use Rattle.rpki_der.specs.Leaves.{IsOnly}
 use Rattle.rpki_cert.specs.Cert.{two}
 use Rattle.rpki_der.specs.FirstFault.{FirstFault, IsEndFault}
 use Rattle.rpki_der.proofs.FirstFaultLaws.{inside-no-memory, first-no-memory, end-no-memory}
-use Rattle.rpki_cert.proofs.NestedLaws.{front-octets}
+use Rattle.rpki_cert.proofs.NestedLaws.{StandsBefore, front-section}
 use Rattle.rpki_cert.proofs.ListedLaws.{refused}
 use Rattle.rpki_cert.proofs.OneLaws.{tbs-one}
 use Rattle.rpki_cert.specs.Cert.{two_value, version}
@@ -68,23 +69,23 @@ version-refused s r e h =
 
 -- ---- sections
 
-pub section-front : (s f r o p behind : List ℕ) (q : Section) → s ≡ f ++ r → o ≡ s → p ≡ r
-    → q.octets.now ≡ take (length o - length p) o → q.following ≡ length p → r ≡ behind → IsSection q f behind
-section-front s f r o p behind q e a b is size last =
-    record { octets = front-octets s f r o p q.octets.now e a b is; following = size ∙ ap length (b ∙ last) }
+pub section-front : (s f r o p behind : List ℕ) (q : Section) → s ≡ f ++ r → o ≡ s → p ≡ r → StandsBefore o p q
+    → r ≡ behind → IsSection q f behind
+section-front s f r o p behind q e a b is last =
+    let h = front-section s f r o p q e a b is in
+    record { octets = h.octets; following = h.following ∙ ap length (b ∙ last) }
 
 -- ---- what was read
 
 pub keyed-read : (s m o p : List ℕ) (key : KeyParts) (k : Keyed) → Accepts SpellsKey s key m
-    → AreExtensionsAt m k.extensions → k.key ≡ key → o ≡ s → p ≡ m → k.octets.octets.now ≡ take (length o - length p) o
-    → k.octets.following ≡ length p → IsKeyedAt s k
-keyed-read s m o p key k a x same i j is size = (
+    → AreExtensionsAt m k.extensions → k.key ≡ key → o ≡ s → p ≡ m → StandsBefore o p k.octets → IsKeyedAt s k
+keyed-read s m o p key k a x same i j is = (
   key,
   x.extensions,
   record { first = a.spells.front; second = m; parts = a.spells.parts; one = a.spells.spelled; two = x.spelled },
   record {
     same = same;
-    key_at = section-front s a.spells.front m o p m k.octets a.spells.parts i j is size refl;
+    key_at = section-front s a.spells.front m o p m k.octets a.spells.parts i j is refl;
     list_at = x.list;
   },
 )

@@ -1,19 +1,13 @@
 -- Parts that were read in place, where they stand; and keeping them.
-use Rattle.std.proofs.Common.{◌≡◌, ◌∙◌, ◌+◌, ◌-◌, ◌≤◌, ℕ, Bool, true, false, List, [], ◌∷◌, ◌++◌, length, refl, sym, ap}
-use Rattle.std.proofs.Common.{subst, append_assoc, append-nil, Result, Ok, Err, arith}
-use Rattle.std.specs.Prelude.{IfOk, IfErr, slice_range}
-use Rattle.rpki_der.specs.declared.error.DecodeError.{DecodeError}
-use Rattle.rpki_der.specs.declared.error.DecodeError.TheVariants.{Truncated, BadTag, BadLength, Unexpected, Content}
-use Rattle.rpki_der.specs.declared.error.DecodeError.TheVariants.{Trailing, OutOfMemory}
+use Rattle.std.proofs.Common.{◌≡◌, ◌∙◌, ℕ, Bool, true, false, List, [], ◌∷◌, ◌++◌, length, refl, sym, ap}
+use Rattle.std.proofs.Common.{subst, append_assoc, append-nil}
 use Rattle.rpki_der.specs.TagName.{TagName, sequence, bit_string}
 use Rattle.rpki_der.specs.Header.{identifier_octets, length_octets}
-use Rattle.rpki_der.specs.Reading.{Spells, Accepts, Refuses, Refusal, UnlessMemory}
-use Rattle.rpki_der.specs.Values.{SpellsContents, SpellsLeaf}
-use Rattle.rpki_der.specs.Leaves.{Bits, IsBits}
-use Rattle.rpki_der.specs.Members.{SpellsValue}
+use Rattle.rpki_der.specs.Values.{SpellsLeaf}
+use Rattle.rpki_der.specs.Leaves.{IsBits}
 use Rattle.rpki_der.specs.Each.{SpellsEach}
-use Rattle.rpki_der.specs.Standing.{StandsBefore}
-use Rattle.rpki_der.proofs.KeepLaws.{stands-at, all-stands, no-longer}
+use Rattle.rpki_der.specs.declared.section.Section.{Section}
+use Rattle.rpki_der.specs.Section.{IsSection, IsSectionOf}
 use Rattle.rpki.specs.PublicKey.{KeyParts, SpellsKey}
 use Rattle.rpki_time.specs.Validity.{Period}
 use Rattle.rpki.specs.ExtensionValue.{ExtensionParts, SpellsExtension}
@@ -22,20 +16,9 @@ use Rattle.rpki_cert.specs.declared.read.fields.TbsView.{TbsView}
 use Rattle.rpki_cert.specs.declared.read.view.Parts.{Parts}
 use Rattle.rpki_cert.specs.declared.read.view.CertView.{CertView}
 use Rattle.rpki_cert.specs.Cert.{TbsParts, CertParts, cert_parts, SpellsRpkiAlgorithm, SpellsTbs}
-use Rattle.rpki_cert.specs.View.{ArePartsIn, IsCertAt}
-use Rattle.rpki_cert.specs.Kept.{IsSectionOf, IsTbsAt, IsCertOf}
+use Rattle.rpki_cert.specs.View.{ArePartsIn}
+use Rattle.rpki_cert.specs.Kept.{IsTbsAt, IsCertOf}
 use Rattle.rpki_cert.proofs.OneLaws.{contents-same}
-
--- ---- errors
-
-pub only-memory : (e : DecodeError) → UnlessMemory e ⊥ → e ≡ OutOfMemory
-only-memory Truncated h = absurd h
-only-memory BadTag h = absurd h
-only-memory BadLength h = absurd h
-only-memory Unexpected h = absurd h
-only-memory (Content x) h = absurd h
-only-memory Trailing h = absurd h
-only-memory OutOfMemory h = refl
 
 -- ---- octets at the end of others
 
@@ -57,8 +40,15 @@ ends-contents : {V : Type 0} (t : TagName) (f : Bool) (C : V → List ℕ → Ty
 ends-contents t f C v s r h k =
     ends-on s r (identifier_octets t f ++ length_octets (length k.contents)) k.contents h k.value.octets
 
-stands : (s r a b : List ℕ) → Ends s r → r ≡ a ++ b → StandsBefore s a b
-stands s r a b h e = record { before = h.front; parts = h.parts ∙ ap (λ (x : List ℕ). h.front ++ x) e }
+-- the section that ends them, but for what follows it
+section-at : (s r a b : List ℕ) (p : Section) → Ends s r → r ≡ a ++ b → IsSection p a b
+    → IsSectionOf s p.octets.now p.following
+section-at s r a b p h e is = record {
+  front = h.front;
+  behind = b;
+  parts = h.parts ∙ ap (λ (x : List ℕ). h.front ++ x) (e ∙ ap (λ (x : List ℕ). x ++ b) (sym is.octets));
+  size = is.following;
+}
 
 -- ---- the fields
 
@@ -85,22 +75,14 @@ module _ (s : List ℕ) (v : TbsView) (t : TbsParts) (h : IsTbsAt s v t) where
   pub issuer-stands : IsSectionOf s v.named.issuer.octets.now v.named.issuer.following
   issuer-stands =
       let f = h.0.spelled.two.two.two in
-      let i = h.1.named.issuer in (
-        f.second,
-        subst (λ (p : List ℕ). StandsBefore s p f.second) (f.one.same ∙ sym i.octets)
-            (stands s _ f.first f.second issuers f.parts),
-        i.following,
-      )
+      section-at s _ t.issuer f.second v.named.issuer issuers
+      (f.parts ∙ ap (λ (x : List ℕ). x ++ f.second) f.one.same) h.1.named.issuer
 
   pub subject-stands : IsSectionOf s v.named.subject.octets.now v.named.subject.following
   subject-stands =
       let f = h.0.spelled.two.two.two.two.two in
-      let i = h.1.named.subject in (
-        f.second,
-        subst (λ (p : List ℕ). StandsBefore s p f.second) (f.one.same ∙ sym i.octets)
-            (stands s _ f.first f.second subjects f.parts),
-        i.following,
-      )
+      section-at s _ t.subject f.second v.named.subject subjects
+      (f.parts ∙ ap (λ (x : List ℕ). x ++ f.second) f.one.same) h.1.named.subject
 
   -- the last octets of a key are its bits
   bits-in : (k : KeyParts) (p : List ℕ) → SpellsKey k p → (front : List ℕ) × (p ≡ front ++ k.bits.octets)
@@ -117,14 +99,10 @@ module _ (s : List ℕ) (v : TbsView) (t : TbsParts) (h : IsTbsAt s v t) where
       let f = h.0.spelled.two.two.two.two.two.two in
       let i = h.1.named.keyed in
       let (front, e) = bits-in t.key f.first f.one in
-      let is : f.second ≡ f.second = refl in
       let whole = ends-on s _ front (t.key.bits.octets ++ f.second) keys
-      (f.parts ∙ ap (λ (x : List ℕ). x ++ f.second) e ∙ append_assoc front t.key.bits.octets f.second) in (
-        f.second,
-        subst (λ (k : KeyParts). StandsBefore s k.bits.octets f.second) (sym i.same)
-            (record { before = whole.front; parts = whole.parts }),
-        i.key_at.following,
-      )
+      (f.parts ∙ ap (λ (x : List ℕ). x ++ f.second) e ∙ append_assoc front t.key.bits.octets f.second) in
+      subst (λ (k : KeyParts). IsSectionOf s k.bits.octets v.named.keyed.octets.following) (sym i.same)
+      (record { front = whole.front; behind = f.second; parts = whole.parts; size = i.key_at.following })
 
   pub extensions-listed : SpellsEach SpellsExtension t.extensions v.named.keyed.extensions
   extensions-listed = subst (SpellsEach SpellsExtension t.extensions) (sym h.1.named.keyed.list_at)
@@ -146,27 +124,18 @@ record_of n b i p s k xs =
 
 module _ (c : List ℕ) (v : Parts) (x : SignedParts Bool) (h : IsSignedContents SpellsRpkiAlgorithm x c)
     (p : ArePartsIn x c h v) where
+  pub data-stands : IsSectionOf c v.«data».octets.now v.«data».following
+  data-stands =
+      section-at c c x.signed (h.text ++ h.bits) v.«data» (ends-all c)
+      (h.parts ∙ append_assoc x.signed h.text h.bits) p.signed
+
   pub signature-stands : IsSectionOf c v.signature.octets.now v.signature.following
   signature-stands =
       let string = h.signature.string in
       let a = ends-on c c (x.signed ++ h.text) h.bits (ends-all c) h.parts in
       let b = ends-contents bit_string false IsBits _ c h.bits a string in
-      let last = ends-on c _ (h.signature.unused ∷ []) x.value b string.spelled.contents in (
-        [],
-        subst (λ (w : List ℕ). StandsBefore c w []) (sym p.signature.octets)
-            (record {
-              before = last.front;
-              parts = last.parts ∙ ap (λ (w : List ℕ). last.front ++ w) (sym (append-nil x.value));
-            }),
-        p.signature.following,
-      )
-
-  pub value-front : Spells SpellsValue c x.signed (h.text ++ h.bits)
-  value-front = record {
-    front = x.signed;
-    parts = h.parts ∙ append_assoc x.signed h.text h.bits;
-    spelled = record { same = refl; value = h.one };
-  }
+      let last = ends-on c _ (h.signature.unused ∷ []) x.value b string.spelled.contents in
+      section-at c _ x.value [] v.signature last (sym (append-nil x.value)) p.signature
 
 -- it is kept as it was read
 pub signed-is : (x : SignedParts Bool) (d v : List ℕ) (b : Bool) → d ≡ x.signed → b ≡ x.algorithm → v ≡ x.value

@@ -44,19 +44,13 @@ module _ {V : Type 0} (critical : Bool) (G : V → List ℕ → Type 0) (found :
   no-value x (one, same) none (Some v) (y, two, other, k) =
       none v (subst (λ (z : ExtensionParts). G v z.content) (one-of y x (sym two ∙ one)) k)
 
-  -- the same, as a reader that takes no memory says it
-  pub not-read : (K : List ℕ → DecodeError → Type 0) (x : ExtensionParts) (e : DecodeError)
-      → (found ≡ Some x) × (x.critical ≡ critical) → (K x.content OutOfMemory → ⊥)
-      → UnlessMemory e (SpellsNothing G x.content) × IsWholeFault G K x.content e → SaysNone critical G found
-  not-read K x e is never h = no-value x is (unless-memory e (whole-no-memory G K x.content e never h.1) h.0)
-
   -- it is, and a reader that takes no memory says which error its octets have
   pub read-wrong : (K : List ℕ → DecodeError → Type 0) (x : ExtensionParts) (e : DecodeError)
       → (found ≡ Some x) × (x.critical ≡ critical) → (K x.content OutOfMemory → ⊥)
       → UnlessMemory e (SpellsNothing G x.content) × IsWholeFault G K x.content e
       → IsFoundWrong critical G (IsWholeFault G K) found (Decoding e)
   read-wrong K x e is never h = (
-    not-read K x e is never h,
+    no-value x is (unless-memory e (whole-no-memory G K x.content e never h.1) h.0),
     (
       x,
       is.0,

@@ -1,9 +1,9 @@
 -- Which lemma file answers which question.
 --
 -- Values, one at least: SomeLaws. Signed data without unused bits: WholeLaws. What an extension says: KnownLaws,
---   PolicyLaws, GeneralNameLaws, AccessLaws, AccessDescriptionLaws.
--- Keys: KeyLaws. Checks of profiles: ProfileLaws. Their rules: RuleLaws. What is verified: VerifiedLaws. What is
---   claimed of resources, and what is settled: ResourceSetLaws.
+--   GeneralNameLaws, AccessLaws.
+-- Keys: KeyLaws. Checks of profiles: ProfileLaws, BelowLaws. Their rules: RuleLaws. What is verified: VerifiedLaws.
+--   What is claimed of resources, and what is settled: ResourceSetLaws.
 -- Read in place: values, names, access information, lists of extensions, each identifier once, their table, fields,
 --   certificates: NestedLaws, NameViewLaws, InformationLaws, ListedLaws, UniqueLaws, TableLaws, FieldsLaws, ViewLaws.
 --   That what is signed is one value: TbsValueLaws. That what is spelled has one value: OneLaws. That what is wrong is
@@ -15,12 +15,11 @@
 pub mod SomeLaws
 pub mod WholeLaws
 pub mod KnownLaws
-pub mod PolicyLaws
 pub mod GeneralNameLaws
 pub mod AccessLaws
-pub mod AccessDescriptionLaws
 pub mod KeyLaws
 pub mod ProfileLaws
+pub mod BelowLaws
 pub mod RuleLaws
 pub mod ResourceSetLaws
 pub mod VerifiedLaws

@@ -1,14 +1,14 @@
 -- Values with everything nested in them, and values by their headers.
-use Rattle.std.proofs.Common.{◌≡◌, ◌≢◌, ◌↔◌, ◌∙◌, ℕ, ◌-◌, ◌<◌, Bool, true, false, List, [], ◌∷◌, ◌++◌, length}
-use Rattle.std.proofs.Common.{Option, None, Some, Ok, inl, take, refl, sym, ap, subst, arith, append_assoc}
-use Rattle.std.proofs.Common.{length-append}
+use Rattle.std.proofs.Common.{◌≡◌, ◌≢◌, ◌↔◌, ◌∙◌, ℕ, ◌<◌, Bool, true, false, List, [], ◌∷◌, ◌++◌, length}
+use Rattle.std.proofs.Common.{Option, None, Some, Ok, inl, refl, sym, ap, subst, arith, append_assoc, length-append}
 use Rattle.std.proofs.lemmas.Bool.{false≢true}
-use Rattle.std.proofs.lemmas.List.{take_at}
 use Rattle.rpki_der.specs.declared.error.DecodeError.{DecodeError}
 use Rattle.rpki_der.specs.declared.error.DecodeError.TheVariants.{Truncated}
+use Rattle.rpki_der.specs.declared.section.Section.{Section}
 use Rattle.rpki_der.specs.TagName.{TagName}
 use Rattle.rpki_der.specs.Header.{tlv}
 use Rattle.rpki_der.specs.Reading.{Spells, Accepts, Refuses, Refusal, ReadsWhere}
+use Rattle.rpki_der.specs.Section.{IsSection}
 use Rattle.rpki_der.specs.WantedValue.{SpellsWanted, IsAnyTag}
 use Rattle.rpki_der.specs.Members.{Members, Empty, Primitive, Constructed, spell, HaveHeaders, count, IsValue}
 use Rattle.rpki_der.specs.Members.{IsValueList, SpellsValue}
@@ -147,21 +147,23 @@ value-missing s none v r h = go k.members k.legal k.spelled k.counted
     })
 
 -- the octets in front of what is left
-pub front-octets : (s f r o p w : List ℕ) → s ≡ f ++ r → o ≡ s → p ≡ r → w ≡ take (length o - length p) o → w ≡ f
-front-octets s f r o p w parts a b is =
-    let n : length o - length p ≡ length f = omega
-    (arith, ap length a, ap length b, ap length parts, length-append f r) in
-    is ∙ rw n (rw a (rw parts (take_at f r (length f) refl)))
+abbrev pub StandsBefore : List ℕ → List ℕ → Section → Type 0
+StandsBefore o p q = (front : List ℕ) → o ≡ front ++ p → IsSection q front p
+
+pub front-section : (s f r o p : List ℕ) (q : Section) → s ≡ f ++ r → o ≡ s → p ≡ r → StandsBefore o p q
+    → IsSection q f p
+front-section s f r o p q parts a b is = is f (a ∙ parts ∙ ap (λ (y : List ℕ). f ++ y) (sym b))
 
 -- a value by its header alone
-pub headed-there : (s q o p w : List ℕ) (x : Parts) → Accepts Any s x q → o ≡ s → p ≡ q
-    → w ≡ take (length o - length p) o → (s ≡ w ++ q) × ((IsValue w → ⊥) → Refuses SpellsValue s)
-headed-there s q o p w x a i j k = (a.spells.parts ∙ ap (λ (y : List ℕ). y ++ q) (sym e), refused x a e)
+pub headed-there : (s q o p : List ℕ) (z : Section) (x : Parts) → Accepts Any s x q → o ≡ s → p ≡ q
+    → StandsBefore o p z → (s ≡ z.octets.now ++ q) × ((IsValue z.octets.now → ⊥) → Refuses SpellsValue s)
+headed-there s q o p z x a i j k = (a.spells.parts ∙ ap (λ (y : List ℕ). y ++ q) (sym e), refused x a e)
   where
-    e : w ≡ a.spells.front
-    e = front-octets s a.spells.front q o p w a.spells.parts i j k
+    e : z.octets.now ≡ a.spells.front
+    e = (front-section s a.spells.front q o p z a.spells.parts i j k).octets
 
-    refused : (y : Parts) (b : Accepts Any s y q) → w ≡ b.spells.front → (IsValue w → ⊥) → Refuses SpellsValue s
+    refused : (y : Parts) (b : Accepts Any s y q) → z.octets.now ≡ b.spells.front → (IsValue z.octets.now → ⊥)
+        → Refuses SpellsValue s
     refused (t, false, d) b is none = λ v r h. none
         (subst IsValue (sym is) (primitive-one t d b.spells.front b.spells.spelled))
     refused (t, true, d) b is none = value-not s d q t b

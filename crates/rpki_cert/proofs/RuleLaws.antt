@@ -1,6 +1,6 @@
 -- The rules of profiles: which is broken first.
-use Rattle.std.proofs.Common.{◌≡◌, ◌+◌, ◌<◌, ◌≤◌, ℕ, suc, Bool, true, List, [], ◌∷◌, ◌++◌, All, take, drop, length}
-use Rattle.std.proofs.Common.{slice_index_or, Result, Ok, Err, sym, subst}
+use Rattle.std.proofs.Common.{◌+◌, ◌<◌, ◌≤◌, ℕ, suc, Bool, true, List, [], ◌∷◌, ◌++◌, All, take, drop, length}
+use Rattle.std.proofs.Common.{slice_index_or, Result, Ok, Err, subst}
 use Rattle.std.specs.Prelude.{◌↔◌}
 use Rattle.std.proofs.Math.Seq.{split_at}
 use Rattle.std.proofs.lemmas.List.{take_all}
@@ -20,7 +20,7 @@ use Rattle.rpki_cert.specs.Profile.{HasProfile}
 use Rattle.rpki_cert.specs.ResourceExtensions.{AreWellFormed, AreOwn}
 use Rattle.rpki_cert.specs.RuleWords.{HasSome}
 use Rattle.rpki_cert.specs.Rule.{Obeys, IsFirstBroken}
-use Rattle.rpki_cert.specs.RuleError.{ChecksBy, IsRuleError}
+use Rattle.rpki_cert.specs.RuleError.{ChecksBy}
 
 -- a test that says whether P holds
 pub by-test : (P Q : Type 0) (E : ValidationError → Type 0) (r : Result (Unit {0}) ValidationError) → Q ↔ P
@@ -29,11 +29,6 @@ by-test P Q E (Ok u) same h = same.0 h
 by-test P Q E (Err e) same h = (λ p. h.0 (same.1 p), h.1)
 
 module _ (strict : Bool) (t : TbsParts) where
-  -- the rule that is tested
-  pub obeys-at : (rule other : CertRule) (r : Result (Unit {0}) ValidationError) → rule ≡ other
-      → ChecksBy (Obeys strict t other) (IsRuleError t other) r → ChecksBy (Obeys strict t rule) (IsRuleError t rule) r
-  obeys-at rule other r e h = subst (λ (x : CertRule). ChecksBy (Obeys strict t x) (IsRuleError t x) r) (sym e) h
-
   -- a loop over the rules
   pub first-broken : (rules : List CertRule) (i : ℕ) (d : CertRule) → i < length rules
       → All (Obeys strict t) (take i rules) → (Obeys strict t (slice_index_or rules i d) → ⊥)

@@ -1,24 +1,12 @@
 -- Values of one type, one at least.
-use Rattle.std.proofs.Common.{◌≡◌, ◌≢◌, ◌∙◌, ℕ, Bool, false, List, [], ◌∷◌, ◌++◌, refl, sym, subst, IsTrue, Result, Ok}
-use Rattle.std.proofs.Common.{Err}
-use Rattle.std.specs.Prelude.{IfOk}
+use Rattle.std.proofs.Common.{◌≡◌, ◌≢◌, ◌∙◌, ℕ, Bool, false, List, [], ◌∷◌, ◌++◌, refl, sym, subst, IsTrue}
 use Rattle.std.proofs.lemmas.Bool.{false≢true}
-use Rattle.rpki_der.specs.declared.error.DecodeError.{DecodeError}
-use Rattle.rpki_der.specs.declared.cursor.Constructed.{Constructed}
 use Rattle.rpki_der.specs.Reading.{Spells}
-use Rattle.rpki_der.specs.Each.{SpellsEach, SpellsSome, ReadsEach}
-use Rattle.rpki_der.proofs.InsideLaws.{Same}
+use Rattle.rpki_der.specs.Each.{SpellsEach, SpellsSome}
 
 none-of-nothing : (p q : List ℕ) → [] ≡ p ++ q → p ≡ []
 none-of-nothing [] q e = refl
 none-of-nothing (y ∷ ys) q e = absurd (cc)
-
--- what was read in a loop was read to its end
-pub each-end : {U X : Type 0} (items : U → List X) (reads : Constructed → Result X DecodeError → Constructed → Type 0)
-    (s r : List ℕ) (x : Result U DecodeError)
-    → ReadsEach items Same reads s r x → IfOk x (λ u. r ≡ [])
-each-end items reads s r (Ok u) h = h.0
-each-end items reads s r (Err e) h = tt
 
 module _ {V : Type 0} (G : V → List ℕ → Type 0) where
   -- nothing is there, and no value is written in no octets

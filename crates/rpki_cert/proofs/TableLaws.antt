@@ -5,7 +5,7 @@ use Rattle.std.specs.Prelude.{bytes_eq, not, ◌||◌, ◌&&◌, if◌then◌els
 use Rattle.std.specs.Option.{is_some}
 use Rattle.std.proofs.Math.Dec.{eqb}
 use Rattle.std.proofs.lemmas.List.{length-set, get_or-set_same, get_or-set_other, get_or-replicate}
-use Rattle.std.proofs.lemmas.Bool.{false≢true, false_from_ne_true}
+use Rattle.std.proofs.lemmas.Bool.{false≢true, false_from_ne_true, ne_eqb}
 use Rattle.std.proofs.lemmas.Bool.Decides.{eqb_tells}
 use Rattle.std.proofs.lemmas.Slice.Eq.{bytes_eq-Decides}
 use Rattle.rpki_der.specs.TagName.{sequence}
@@ -53,7 +53,7 @@ kind_in n = get_or (
     ∷ ExtensionKind.SubjectInfoAccess ∷
     ExtensionKind.IpResourcesV2 ∷ ExtensionKind.AsResourcesV2 ∷ []) n ExtensionKind.KeyUsage
 
--- it is known, and is found by its last octet and by its slot
+-- it is found by its last octet and by its slot
 record IsFound (k : ExtensionKind) : Type 0 where
   ended : kind_with (ending (identifier_of k)) ≡ k
   slotted : kind_in (slot_of k) ≡ k
@@ -79,10 +79,7 @@ found ExtensionKind.AsResourcesV2 = record { ended = refl; slotted = refl; few =
 pub one-ending : (k j : ExtensionKind) → ending (identifier_of k) ≡ ending (identifier_of j) → k ≡ j
 one-ending k j e = sym (found k).ended ∙ ap kind_with e ∙ (found j).ended
 
-pub known-of : (id : List ℕ) (k : ExtensionKind) → id ≡ identifier_of k → true ≡ is_known id
-known-of id k e = sym (ap is_known e ∙ (found k).known)
-
-pub unknown : (id : List ℕ) → ((k : ExtensionKind) → id ≢ identifier_of k) → false ≡ is_known id
+unknown : (id : List ℕ) → ((k : ExtensionKind) → id ≢ identifier_of k) → false ≡ is_known id
 unknown id h =
     let no : (k : ExtensionKind) → bytes_eq id (identifier_of k) ≡ false = λ k.
     false_from_ne_true (bytes_eq id (identifier_of k)) (λ e. h k ((bytes_eq-Decides id (identifier_of k)).0 e)) in
@@ -273,6 +270,13 @@ both-known u k v b e t is = is ∙ e ∙ sym (ap (λ (w : Bool). w && k) t)
 
 pub one-unknown : (u k v : Bool) → u ≡ false → v ≡ false → v ≡ (u && k)
 one-unknown u k v f is = is ∙ sym (ap (λ (w : Bool). w && k) f)
+
+-- the last slot has none that is known
+pub slot-known : (id : List ℕ) (n : ℕ) → IsSlot id n → not (eqb n 13) ≡ is_known id
+slot-known id n (inl (k, named, is)) =
+    let other = ne_eqb (slot_of k) 13 (λ (e : slot_of k ≡ 13). omega (arith, (found k).few, e)) in
+    ap (λ (m : ℕ). not (eqb m 13)) is ∙ ap not other ∙ sym (ap is_known named ∙ (found k).known)
+slot-known id n (inr (none, is)) = ap (λ (m : ℕ). not (eqb m 13)) is ∙ unknown id none
 
 pub record Passing (s r : List ℕ) (slots : List (Option ListedExtension)) (understood : Bool) (count : ℕ)
     (apart : Bool) : Type 0 where

@@ -1,5 +1,5 @@
 -- Certificates that are read in place.
-use Rattle.std.proofs.Common.{◌≡◌, ◌∙◌, ◌-◌, ◌<◌, ℕ, Bool, true, false, List, [], ◌++◌, length, take, refl, sym, ap}
+use Rattle.std.proofs.Common.{◌≡◌, ◌∙◌, ◌<◌, ℕ, Bool, true, false, List, [], ◌++◌, length, refl, sym, ap}
 use Rattle.std.proofs.Common.{subst, append_assoc, inl, inr, Result, Ok, Err}
 use Rattle.std.specs.Prelude.{codes, IfOk, IfErr}
 use Rattle.rpki_der.specs.declared.error.DecodeError.{DecodeError}
@@ -26,6 +26,7 @@ use Rattle.rpki_cert.specs.View.{AreContentsOf, AreContentsWrong, IsCertErrorOf,
 use Rattle.rpki_cert.specs.View.AreContentsWrong.{InSigned, Differ}
 use Rattle.rpki_cert.specs.View.WholeWrong.{InFrame}
 use Rattle.rpki_cert.proofs.FieldsLaws.{section-front}
+use Rattle.rpki_cert.proofs.NestedLaws.{StandsBefore}
 use Rattle.rpki_cert.proofs.OneLaws.{cert-one}
 use Rattle.rpki_cert.proofs.WrongLaws.{cert-wrong}
 
@@ -60,11 +61,10 @@ signature-none s r e h v k = nothing-whole SpellsBits s
 
 pub parts-read : (s m n d w o p : List ℕ) (b : Bool) (v : Parts) → Accepts SpellsValue s d m → v.«data».octets.now ≡ d
     → o ≡ m → v.«data».following ≡ length o
-    → Accepts SpellsRpkiAlgorithm m b n → v.kind ≡ b → p ≡ n → v.algorithm.octets.now ≡ take (length o - length p) o
-    → v.algorithm.following ≡ length p
+    → Accepts SpellsRpkiAlgorithm m b n → v.kind ≡ b → p ≡ n → StandsBefore o p v.algorithm
     → SpellsUsed w n → v.signature.octets.now ≡ w → v.signature.following ≡ 0
     → (x : SignedParts Bool) × (h : IsSignedContents SpellsRpkiAlgorithm x s) × ArePartsIn x s h v
-parts-read s m n d w o p b v a is i size c same j text long g sign last =
+parts-read s m n d w o p b v a is i size c same j text g sign last =
     let whole : s ≡ d ++ m = a.spells.parts ∙ ap (λ (x : List ℕ). x ++ m) a.spells.spelled.same in
     let third : s ≡ (d ++ c.spells.front) ++ n =
     whole ∙ ap (λ (x : List ℕ). d ++ x) c.spells.parts ∙ sym (append_assoc d c.spells.front n) in (
@@ -81,7 +81,7 @@ parts-read s m n d w o p b v a is i size c same j text long g sign last =
       record {
         signed = record { octets = is; following = size ∙ ap length (i ∙ c.spells.parts) };
         same = same;
-        algorithm = section-front m c.spells.front n o p n v.algorithm c.spells.parts i j text long refl;
+        algorithm = section-front m c.spells.front n o p n v.algorithm c.spells.parts i j text refl;
         signature = record { octets = sign; following = last };
         used = refl;
       },

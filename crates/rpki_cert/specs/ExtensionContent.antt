@@ -107,9 +107,6 @@ statement_name = 43 ∷ 6 ∷ 1 ∷ 5 ∷ 5 ∷ 7 ∷ 2 ∷ 1 ∷ []
 abbrev pub IsAnyIa5 : Unit {0} → List ℕ → Type 0
 IsAnyIa5 v c = IsAscii c
 
-abbrev pub SpellsStatementName : Unit {0} → List ℕ → Type 0
-SpellsStatementName = (this_oid statement_name).spells
-
 abbrev pub statement_value : Format (Unit {0})
 statement_value = leaf ia5_string IsAnyIa5
 

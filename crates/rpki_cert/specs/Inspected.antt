@@ -1,6 +1,7 @@
 -- What the rules of profiles read of a certificate.
 use Rattle.std.specs.Prelude.{◌≡◌, ℕ, Bool, true, false, List, Option, Result}
 use Rattle.rpki_der.specs.Each.{SpellsEach}
+use Rattle.rpki_der.specs.Format.{Format}
 use Rattle.rpki_der.specs.Leaves.{bits_of}
 use Rattle.rpki.specs.PublicKey.{KeyParts, key_of}
 use Rattle.rpki_cert.specs.declared.profile.key_rule.KeyBits.{KeyBits}
@@ -30,7 +31,12 @@ AreIn xs (Listed table) = SpellsEach SpellsExtension xs table.now
 abbrev pub IsKeyOf : KeyParts → KeyBits → Type 0
 IsKeyOf k b = key_of b.format (bits_of b.unused b.octets.now) ≡ k
 
--- what is found of each says this; or this is the error of what is another
+-- what is found says a value of this format; or this is the error of what is another
+abbrev pub IsSaidBy : {V : Type 0} → Bool → Format V → Option ExtensionParts → Result (Option V) ValidationError
+    → Type 0
+IsSaidBy critical F = IsSaid critical F.spells (WholeFault F)
+
+-- the same of each
 abbrev pub AreConstraintsSaid : Option ExtensionParts → Result Bool ValidationError → Type 0
 AreConstraintsSaid = IsSaidThere true SpellsConstraints (WholeFault constraints_content)
 

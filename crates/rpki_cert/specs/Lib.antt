@@ -24,3 +24,5 @@ pub mod Profile
 pub mod Valid
 pub mod ResourceSet
 pub mod Verified
+-- Lemmas that an `impl` cites.
+pub mod ContentLaws

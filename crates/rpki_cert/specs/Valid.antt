@@ -13,7 +13,8 @@ use Rattle.rpki.specs.declared.crypto.keys.PublicKeyFormat.TheVariants.{Rsa}
 use Rattle.rpki.specs.Provider.{Check, Verifies}
 use Rattle.rpki.specs.PublicKey.{KeyParts}
 use Rattle.rpki.specs.KeyIdentifier.{SpellsKeyIdentifier}
-use Rattle.rpki.specs.SignedData.{SignedParts}
+use Rattle.rpki.specs.Signature.{SignatureParts}
+use Rattle.rpki.specs.SignedData.{SignedParts, parts_of}
 use Rattle.rpki_cert.specs.Cert.{TbsParts, CertParts, find}
 use Rattle.rpki_cert.specs.Known.{subject_key_identifier, authority_key_identifier, HasExtension, are_understood}
 use Rattle.rpki_cert.specs.Known.{IsOtherwise}
@@ -44,6 +45,11 @@ Unless P E F e = ((P → ⊥) × E e) ⊎ (P × F e)
 -- the key, of RSA, has signed the signed octets
 abbrev pub IsSignedBy : {A : Type 0} → Check → Check → KeyParts → SignedParts A → Type 0
 IsSignedBy rsa ecdsa key signed = Verifies rsa ecdsa Rsa key.format key.bits.octets signed.signed signed.value
+
+-- the same of octets and their signature
+abbrev pub HasSigned : {A : Type 0} → Check → Check → KeyParts → List ℕ → SignatureParts A → Type 0
+HasSigned rsa ecdsa key octets signature =
+    IsSignedBy rsa ecdsa key (parts_of octets signature.algorithm signature.value)
 
 -- The key has signed the signed octets, the period holds, the issuer has this name, no unknown extension is critical
 -- (RFC 5280 4.2), and the subject key identifier is that of the subject's key (RFC 6487 4.8.2).

@@ -4,7 +4,7 @@ use Rattle.std.specs.Prelude.{Result, Ok, Err}
 use Rattle.rpki_der.specs.declared.error.DecodeError.{DecodeError}
 use Rattle.rpki_der.specs.declared.error.DecodeError.TheVariants.{OutOfMemory}
 use Rattle.rpki_der.specs.Prelude.{TagName, sequence, bit_string, Accepts, Refuses, Refusal, SpellsNothing}
-use Rattle.rpki_der.specs.Prelude.{IsWholeFault, SpellsBoth, Format}
+use Rattle.rpki_der.specs.Prelude.{IsWholeFault, SpellsBoth, Format, IsSection}
 use Rattle.rpki_der.specs.Prelude.{SpellsContents, SpellsLeaf, IsContentsFault, IsBits, Bits, bits_of, bits_value, only}
 use Rattle.rpki_der.specs.Prelude.{SpellsSome, RepeatedFault, SpellsValue, IsValue, IsCaptureFault, Then}
 use Rattle.rpki_time.specs.Serial.{serial_number}
@@ -25,7 +25,7 @@ use Rattle.rpki_cert.specs.declared.read.cert_part.CertPart.TheVariants.{Validit
 use Rattle.rpki_cert.specs.declared.read.cert_part.CertPart.TheVariants.{ExtensionCount, ExtensionIdentifiers}
 use Rattle.rpki_cert.specs.declared.read.cert_part.CertPart.TheVariants.{SameAlgorithm}
 use Rattle.rpki_cert.specs.declared.read.cert_error.CertError.{CertError}
-use Rattle.rpki_cert.specs.declared.read.section.Section.{Section}
+use Rattle.rpki_der.specs.declared.section.Section.{Section}
 use Rattle.rpki_cert.specs.declared.extension.table.Passed.{Passed}
 pub use Rattle.rpki_cert.specs.ExtensionTable.{behind_first}
 use Rattle.rpki_cert.specs.ExtensionTable.{OfListed}
@@ -38,13 +38,6 @@ use Rattle.rpki_cert.specs.Cert.{TbsParts, CertParts, are_unique, AreExtensions,
 use Rattle.rpki_cert.specs.Cert.{extensions_tag, SpellsRpkiAlgorithm, rpki_algorithm, AreFields, fields_of, SpellsTbs}
 use Rattle.rpki_cert.specs.Cert.{SpellsCert}
 pub use Rattle.rpki_cert.specs.CertError.{cert_error}
-
--- ---- where octets stand
-
--- the section is the part, and these octets follow it
-pub record IsSection (p : Section) (part behind : List ℕ) : Type 0 where
-  pub octets : p.octets.now ≡ part
-  pub following : p.following ≡ length behind
 
 -- ---- a part, or that it is wrong
 

@@ -5,13 +5,12 @@ ghost use Rattle.rpki_der.specs.Prelude.{left, Reads, Decodes, IsWholeFault};
 ghost use Rattle.rpki_cert.specs.Cert.{CertParts, SpellsWhole, SpellsCert};
 ghost use Rattle.rpki_cert.specs.CertError.{without_part};
 ghost use Rattle.rpki_cert.specs.CertFault.{IsWholeSignedFault, IsCertFault, IsFrontError, UnlessUnkept, IsDecodedPart};
-ghost use Rattle.rpki_cert.specs.View.{ArePartsAt};
-ghost use Rattle.rpki_cert.specs.Kept.{IsSignedOf, IsCertOf};
+ghost use Rattle.rpki_cert.specs.Kept.{IsCertOf};
 
-use crate::keep::keep_section;
 use crate::read::cert_error::CertError;
 use crate::read::cert_part::CertPart;
-use crate::read::view::{CertView, Parts, read_contents};
+use crate::read::view::{CertView, read_contents};
+use crate::signed::SignedOctets;
 use crate::tbs::TbsCert;
 use bytes::Bytes;
 use rpki::crypto::{RpkiSignatureAlgorithm, Signature};
@@ -23,7 +22,7 @@ use std::marker::Model;
 /// A certificate: the signed octets as they came, the signature, and what the signed octets are.
 #[derive(Drop)]
 pub struct Cert {
-    signed_data: SignedData,
+    signed_data: SignedOctets,
     tbs: TbsCert,
 }
 
@@ -76,26 +75,6 @@ pub fn take_signed<K: Keep>(keep: K, cons: &mut Constructed<'_>) -> Result<Signe
     Ok(signed_data)
 }
 
-/// Keeps the signed data whose parts were read in place of these contents. Requires that they were, and that `keep` can
-/// keep parts of the contents.
-///
-/// The error is `OutOfMemory`, if allocation fails.
-fn keep_signed<K: Keep>(
-    keep: K,
-    contents: Constructed<'_>,
-    parts: &Parts<'_>,
-) -> Result<SignedData, DecodeError>
-    requires held { K.holds keep (left contents) }
-    requires stands { ArePartsAt (left contents) parts.now }
-    ensures ok { IfOk result (λ d. IsSignedOf (left contents.entry) parts.now d) }
-    ensures err { IfErr result (λ e. e ≡ DecodeError.OutOfMemory) }
-{
-    let mut rest = contents;
-    let signed = rest.capture_one(keep)?;
-    let value = keep_section(keep, contents.rest(), parts.signature)?;
-    Ok(SignedData::new(signed, Signature::new(parts.kind, value)))
-}
-
 /// Keeps the certificate that was read in place of these contents. Requires that it was, and that `keep` can keep parts
 /// of the contents.
 ///
@@ -110,9 +89,13 @@ fn keep_cert<K: Keep>(
     ensures ok { IfOk result (λ c. (x : CertParts) → IsCertOf (left contents.entry) view.now x → c ≡ x) }
     ensures err { IfErr result (λ e. e ≡ DecodeError.OutOfMemory) }
 {
-    let signed_data = keep_signed(keep, contents, &view.parts)?;
-    let data = signed_data.data();
-    let tbs = TbsCert::keep(data.shared(keep.allocator()), data.as_slice(), &view.tbs)?;
+    let parts = &view.parts;
+    let octets = contents.rest();
+    let signed = parts.data.kept(keep, octets)?;
+    let value = parts.signature.kept(keep, octets)?;
+    let within = Shared::new(keep.allocator(), &signed);
+    let tbs = TbsCert::keep(within, signed.as_slice(), &view.tbs)?;
+    let signed_data = SignedOctets::new(signed, Signature::new(parts.kind, value));
     Ok(Cert { signed_data, tbs })
 }
 
@@ -181,7 +164,7 @@ impl Cert {
     }
 
     /// The signed data: the signed octets as they came, and the signature.
-    pub fn signed_data(&self) -> &SignedData
+    pub fn signed_data(&self) -> &SignedOctets
         ensures { result.now ≡ self.now.signed }
     {
         &self.signed_data

@@ -1,38 +1,19 @@
 //! Keeping what was read in place of a certificate.
 
 ghost use Rattle.std.specs.Prelude.{◌≡◌, List, IfOk, IfErr};
-ghost use Rattle.rpki_der.specs.Prelude.{SpellsEach};
+ghost use Rattle.rpki_der.specs.Prelude.{SpellsEach, IsSectionOf};
 ghost use Rattle.rpki_der.specs.declared.error.DecodeError.{DecodeError};
 ghost use Rattle.rpki.specs.ExtensionValue.{ExtensionParts, SpellsExtension};
 ghost use Rattle.rpki.specs.Name.{IsName};
 ghost use Rattle.rpki_cert.specs.ExtensionTable.{OfListed};
-ghost use Rattle.rpki_cert.specs.Kept.{IsSectionOf};
 
 use crate::extension::list::take_each;
 use crate::extension::table::ExtensionTable;
 use crate::read::fields::Keyed;
-use crate::read::section::Section;
-use bytes::Bytes;
 use rpki::crypto::PublicKey;
-use rpki::der::{Constructed, DecodeError, Keep};
+use rpki::der::{Constructed, DecodeError, Keep, Section};
 use rpki::repository::x509::{CertExtension, Name, NameView};
 use std::alloc::AllocError;
-
-/// Keeps a section of the octets. Requires that it is one, and that `keep` can keep parts of them.
-///
-/// Returns `AllocError` if allocation fails.
-pub fn keep_section<K: Keep>(
-    keep: K,
-    octets: &[u8],
-    section: Section<'_>,
-) -> Result<Bytes, AllocError>
-    requires held { K.holds keep octets.now }
-    requires stands { IsSectionOf octets.now section.octets.now section.following }
-    ensures { IfOk result (λ b. b ≡ section.entry.octets.now) }
-{
-    let end = octets.len() - section.following;
-    keep.keep(octets, end - section.octets.len(), end)
-}
 
 /// Keeps the name that is a section of the octets.
 ///
@@ -43,7 +24,7 @@ pub fn keep_name<K: Keep>(keep: K, octets: &[u8], section: Section<'_>) -> Resul
     requires named { IsName section.octets.now }
     ensures { IfOk result (λ n. n ≡ section.entry.octets.now) }
 {
-    let kept = keep_section(keep, octets, section)?;
+    let kept = section.kept(keep, octets)?;
     Ok(NameView::new(section.octets).kept(kept))
 }
 
@@ -59,7 +40,7 @@ pub fn keep_key<K: Keep>(keep: K, octets: &[u8], keyed: &Keyed<'_>) -> Result<Pu
         octets: keyed.key.bits(),
         following: keyed.octets.following,
     };
-    let kept = keep_section(keep, octets, bits)?;
+    let kept = bits.kept(keep, octets)?;
     Ok(keyed.key.kept(kept))
 }
 

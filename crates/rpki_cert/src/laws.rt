@@ -8,6 +8,7 @@ ghost use Rattle.rpki_cert.specs.declared.extension.known_part.KnownPart.{KnownP
 ghost use Rattle.rpki_cert.specs.declared.extension.policy.Overclaim.{Overclaim as Policy};
 ghost use Rattle.rpki_cert.specs.declared.profile.Profile.{Profile as HeldProfile};
 ghost use Rattle.rpki_cert.specs.declared.profile.rule.CertRule.{CertRule as BrokenRule};
+ghost use Rattle.rpki_cert.specs.declared.read.cert_error.CertError.{CertError as WrongCert};
 ghost use Rattle.rpki_cert.specs.declared.read.cert_part.CertPart.{CertPart as WrongPart};
 ghost use Rattle.rpki_cert.specs.Verified.{Checkers, Holder, DescendsFrom, HoldsWithin};
 
@@ -17,7 +18,9 @@ use crate::extension::known_part::KnownPart;
 use crate::extension::policy::Overclaim;
 use crate::profile::Profile;
 use crate::profile::rule::CertRule;
+use crate::read::cert_error::CertError;
 use crate::read::cert_part::CertPart;
+use rpki::der::DecodeError;
 
 /// Down a path nobody has more than an authority above: what a certificate has is within what each above it has.
 pub fn paths_settle_within()
@@ -35,6 +38,12 @@ pub fn equal_extensions_are_one()
 pub fn equal_parts_are_one()
     ensures part { (p q : WrongPart) → IsTrue (⟦<CertPart as PartialEq>⟧.eq p q) ↔ (p ≡ q) }
     ensures extension { (p q : WrongExtension) → IsTrue (⟦<KnownPart as PartialEq>⟧.eq p q) ↔ (p ≡ q) }
+{}
+
+/// Errors of certificates are equal exactly where their parts are one and the errors of these are equal.
+pub fn equal_errors_have_equal_parts()
+    ensures { (p q : WrongCert) → IsTrue (⟦<CertError as PartialEq>⟧.eq p q)
+        ↔ ((p.part ≡ q.part) × IsTrue (⟦<DecodeError as PartialEq>⟧.eq p.error q.error)) }
 {}
 
 /// Profiles, and their rules, are equal exactly where they are one.

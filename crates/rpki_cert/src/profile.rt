@@ -10,6 +10,7 @@ ghost use Rattle.rpki_cert.specs.Profile.{rules_of, HasProfile, TestsProfile, In
 ghost use Rattle.rpki_cert.specs.Rule.{Obeys};
 ghost use Rattle.rpki_cert.specs.RuleError.{BreaksWith};
 
+pub mod below;
 pub mod checks;
 pub mod inspected;
 pub mod key_rule;

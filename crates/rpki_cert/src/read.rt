@@ -7,6 +7,5 @@ pub mod listed;
 pub mod names;
 pub mod nested;
 pub mod part;
-pub mod section;
 pub mod version;
 pub mod view;

@@ -11,9 +11,8 @@ use crate::keep::{keep_extensions, keep_key, keep_name};
 use crate::read::cert_error::CertError;
 use crate::read::cert_part::CertPart;
 use crate::read::fields::{TbsView, read_fields};
-use crate::read::nested::front_of;
 use rpki::crypto::{PublicKey, RpkiSignatureAlgorithm};
-use rpki::der::{Constructed, DecodeError, Keep};
+use rpki::der::{Constructed, DecodeError, Keep, Section};
 use rpki::repository::x509::{CertExtension, Name, Serial, Validity};
 use std::marker::Model;
 
@@ -102,9 +101,9 @@ impl TbsCert {
         };
         let all = cons.rest();
         let following = after.rest();
-        let octets = front_of(all, following);
-        let within = keep.before(all, octets, following);
-        match TbsCert::keep(within, octets, &view) {
+        let value = Section::before(all, following);
+        let within = keep.before(all, value.octets, following);
+        match TbsCert::keep(within, value.octets, &view) {
             Ok(tbs) => {
                 *cons = after;
                 Ok(tbs)

@@ -6,18 +6,18 @@ ghost use Rattle.rpki_time.specs.Validity.{HoldsAt};
 ghost use Rattle.rpki_cert.specs.Cert.{find};
 ghost use Rattle.rpki_cert.specs.Known.{authority_key_identifier, are_understood};
 ghost use Rattle.rpki_cert.specs.RuleError.{ChecksBy};
-ghost use Rattle.rpki_cert.specs.Valid.{HasReason, IsPeriodError, IsSignedBy, HasSubject, IsOtherSubject, ChecksSigned};
+ghost use Rattle.rpki_cert.specs.Valid.{HasReason, IsPeriodError, HasSigned, HasSubject, IsOtherSubject, ChecksSigned};
 ghost use Rattle.rpki_cert.specs.Valid.{HasAuthority, IsOtherAuthority, ChecksIssued, ChecksAnchor};
 
 use crate::cert::Cert;
 use crate::extension::list::find;
 use crate::extension::source::are_understood;
 use crate::tbs::TbsCert;
-use rpki::crypto::{KeyIdentifier, Provider, PublicKey, PublicKeyFormat};
+use rpki::crypto::{KeyIdentifier, Provider, PublicKey, PublicKeyFormat, RpkiSignature};
 use rpki::der::ContentError;
 use rpki::oid;
 use rpki::repository::error::{ValidationError, VerificationError};
-use rpki::repository::x509::{Name, SignedData, Time, Validity};
+use rpki::repository::x509::{Name, Time, Validity};
 
 /// The error of this text.
 pub fn unverified(text: &'static str) -> ValidationError
@@ -117,16 +117,17 @@ impl TbsCert {
     }
 }
 
-/// Whether the key has signed the data.
+/// Whether the key has signed the octets: this is the signature.
 pub fn verify_signature<P: Provider>(
-    signed: &SignedData,
+    octets: &[u8],
+    signature: &RpkiSignature,
     provider: &P,
     key: &PublicKey,
 ) -> Result<(), ValidationError>
-    ensures { ChecksBy (IsSignedBy (P.rsa_of provider.now) (P.ecdsa_of provider.now) key.now signed.now)
+    ensures { ChecksBy (HasSigned (P.rsa_of provider.now) (P.ecdsa_of provider.now) key.now octets.now signature.now)
         (HasReason verification_text) result }
 {
-    match signed.verify_signature(provider, key) {
+    match key.verify(provider, octets, signature) {
         Ok(()) => Ok(()),
         Err(_) => Err(unverified("signature verification failed")),
     }
@@ -146,7 +147,13 @@ impl Cert {
             issuer_key.now at self.now result }
     {
         let own = self.tbs();
-        verify_signature(self.signed_data(), provider, issuer_key)?;
+        let signed = self.signed_data();
+        verify_signature(
+            signed.data().as_slice(),
+            signed.signature(),
+            provider,
+            issuer_key,
+        )?;
         verify_period(own.validity(), at)?;
         own.verify_issuer(issuer)?;
         own.verify_critical()?;

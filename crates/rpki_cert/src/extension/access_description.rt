@@ -92,8 +92,13 @@ fn take_points<'a>(cons: &mut Constructed<'a>) -> Result<Constructed<'a>, Decode
 pub fn point_names<'a>(octets: &'a [u8]) -> Result<&'a [u8], DecodeError>
     ensures { TakesWholeInPlace (λ names. names.now) points octets.now result }
 {
-    let mut rest = Constructed::from_slice(octets);
-    let names = take_points(&mut rest)?;
-    rest.finish()?;
-    Ok(names.rest())
+    let found = Constructed::from_slice(octets).whole(
+        |cons|
+            ensures { Takes left points (left cons.old) (left cons.new) result }
+        { take_points(cons) },
+    );
+    match found {
+        Ok(names) => Ok(names.rest()),
+        Err(e) => Err(e),
+    }
 }

@@ -1,6 +1,6 @@
 //! The extensions of certificates of the RPKI (RFC 6487 4.8, RFC 8360 4.2).
 
-ghost use Rattle.std.specs.Prelude.{◌≡◌, ◌≢◌, ◌<◌, ◌||◌, not, IfSome, IfNone};
+ghost use Rattle.std.specs.Prelude.{◌≡◌, ◌≢◌, ◌<◌, ◌||◌, ℕ, List, not, IfSome, IfNone};
 ghost use Rattle.rpki_cert.specs.declared.extension.kind.ExtensionKind.{ExtensionKind};
 ghost use Rattle.rpki_cert.specs.Known.{is_known};
 ghost use Rattle.rpki_cert.specs.ExtensionTable.{identifier_of, slot_of, ending, IsSlot};
@@ -144,19 +144,16 @@ pub fn slot_of(id: Oid<&[u8]>) -> usize
     }
 }
 
-/// Whether certificates of the RPKI have extensions of this identifier (RFC 6487 4.8, RFC 8360 4.2).
-fn is_known(id: Oid<&[u8]>) -> bool
-    ensures { result ≡ is_known id.entry.0.now }
+/// Whether an extension in this slot is known or not critical.
+pub fn is_understood_in(critical: bool, slot: usize) -> bool
+    ensures { (id : List ℕ) → IsSlot id slot → result ≡ (not critical || is_known id) }
 {
-    match kind_of(id) {
-        Some(_) => true,
-        None => false,
-    }
+    !critical || slot != OTHER
 }
 
-/// Whether an extension is known or not critical.
+/// Whether an extension is known or not critical (RFC 6487 4.8, RFC 8360 4.2).
 pub fn is_understood(critical: bool, id: Oid<&[u8]>) -> bool
     ensures { result ≡ (not critical || is_known id.entry.0.now) }
 {
-    !critical || is_known(id)
+    is_understood_in(critical, slot_of(id))
 }

@@ -21,7 +21,10 @@ ghost use Rattle.rpki_cert.specs.ExtensionContent.{policies_content, subject_con
 use crate::extension::access_information::AccessInformation;
 use crate::extension::access_method::AccessMethod;
 use crate::extension::access_view::read_points;
-use crate::extension::contents::{skip_constraints, take_authority};
+use crate::extension::contents::{
+    AuthorityContent, ConstraintsContent, ExtensionContent, PoliciesContent, SubjectContent,
+    UsageContent,
+};
 use crate::extension::key_usage::KeyUsage;
 use crate::extension::policy::Overclaim;
 use crate::extension::purposes::read_purposes;
@@ -60,68 +63,29 @@ pub fn wanted<'a>(
     }
 }
 
-/// The key identifier that the octets are.
-fn identifier_of(octets: Constructed<'_>) -> Result<KeyIdentifier, DecodeError>
-    ensures { Decodes (λ k. k) SpellsKeyIdentifier (WholeFault subject_content) (left octets.entry) result }
+/// The value that the octets are.
+fn value_of<T: ExtensionContent>(octets: Constructed<'_>) -> Result<T::Value, DecodeError>
+    ensures { Decodes (λ v. v) T.content.spells (WholeFault T.content) (left octets.entry) result }
 {
-    octets.whole(|cons| KeyIdentifier::take_from(cons))
-}
-
-/// The key identifier of an issuer that the octets are.
-fn authority_of(octets: Constructed<'_>) -> Result<KeyIdentifier, DecodeError>
-    ensures { Decodes (λ k. k) SpellsAuthority (WholeFault authority_content) (left octets.entry) result }
-{
-    octets.whole(|cons| take_authority(cons))
-}
-
-/// Whether the octets are the basic constraints of a certification authority.
-fn constraints_of(octets: Constructed<'_>) -> Result<(), DecodeError>
-    ensures { Decodes (λ _. tt) SpellsConstraints (WholeFault constraints_content)
-        (left octets.entry) result }
-{
-    octets.whole(|cons| skip_constraints(cons))
-}
-
-/// The use that the octets name.
-fn usage_of(octets: Constructed<'_>) -> Result<KeyUsage, DecodeError>
-    ensures { Decodes (λ u. u) SpellsUsage (WholeFault usage_content) (left octets.entry) result }
-{
-    octets.whole(|cons| KeyUsage::take_from(cons))
-}
-
-/// The policy that the octets name.
-fn overclaim_of(octets: Constructed<'_>) -> Result<Overclaim, DecodeError>
-    ensures { Decodes (λ p. p) SpellsPolicies (WholeFault policies_content) (left octets.entry)
-        result }
-{
-    octets.whole(|cons| Overclaim::take_from(cons))
-}
-
-/// The identifier of the subject's key, as the extension that was found says it (RFC 6487 4.8.2).
-pub fn subject_in(
-    found: Option<ExtensionView<'_>>,
-) -> Result<Option<KeyIdentifier>, ValidationError>
-    ensures { IsSaid false SpellsKeyIdentifier (WholeFault subject_content) found.entry result }
-{
-    match wanted(found, false) {
-        Ok(Some(extension)) => match identifier_of(Constructed::from_slice(extension.octets())) {
-            Ok(found) => Ok(Some(found)),
-            Err(e) => Err(ValidationError::Decoding(e)),
+    let mut rest = octets;
+    match T::take_from(&mut rest) {
+        Ok(value) => match rest.finish() {
+            Ok(()) => Ok(value),
+            Err(e) => Err(e),
         },
-        Ok(None) => Ok(None),
-        Err(e) => Err(ValidationError::Inspection(e)),
+        Err(e) => Err(e),
     }
 }
 
-/// The identifier of the issuer's key, as the extension that was found says it (RFC 6487 4.8.3).
-pub fn authority_in(
+/// What the extension says that was found (RFC 6487 4.8).
+pub fn said<T: ExtensionContent>(
     found: Option<ExtensionView<'_>>,
-) -> Result<Option<KeyIdentifier>, ValidationError>
-    ensures { IsSaid false SpellsAuthority (WholeFault authority_content) found.entry result }
+) -> Result<Option<T::Value>, ValidationError>
+    ensures { IsSaid T.CRITICAL T.content.spells (WholeFault T.content) found.entry result }
 {
-    match wanted(found, false) {
-        Ok(Some(extension)) => match authority_of(Constructed::from_slice(extension.octets())) {
-            Ok(found) => Ok(Some(found)),
+    match wanted(found, T::CRITICAL) {
+        Ok(Some(extension)) => match value_of::<T>(Constructed::from_slice(extension.octets())) {
+            Ok(value) => Ok(Some(value)),
             Err(e) => Err(ValidationError::Decoding(e)),
         },
         Ok(None) => Ok(None),
@@ -133,41 +97,10 @@ pub fn authority_in(
 pub fn constraints_in(found: Option<ExtensionView<'_>>) -> Result<bool, ValidationError>
     ensures { IsSaidThere true SpellsConstraints (WholeFault constraints_content) found.entry result }
 {
-    match wanted(found, true) {
-        Ok(Some(extension)) => match constraints_of(Constructed::from_slice(extension.octets())) {
-            Ok(()) => Ok(true),
-            Err(e) => Err(ValidationError::Decoding(e)),
-        },
+    match said::<ConstraintsContent>(found) {
+        Ok(Some(())) => Ok(true),
         Ok(None) => Ok(false),
-        Err(e) => Err(ValidationError::Inspection(e)),
-    }
-}
-
-/// The use of the key, as the extension that was found says it (RFC 6487 4.8.4).
-pub fn usage_in(found: Option<ExtensionView<'_>>) -> Result<Option<KeyUsage>, ValidationError>
-    ensures { IsSaid true SpellsUsage (WholeFault usage_content) found.entry result }
-{
-    match wanted(found, true) {
-        Ok(Some(extension)) => match usage_of(Constructed::from_slice(extension.octets())) {
-            Ok(found) => Ok(Some(found)),
-            Err(e) => Err(ValidationError::Decoding(e)),
-        },
-        Ok(None) => Ok(None),
-        Err(e) => Err(ValidationError::Inspection(e)),
-    }
-}
-
-/// The policy, as the extension that was found says it (RFC 6487 4.8.9).
-pub fn overclaim_in(found: Option<ExtensionView<'_>>) -> Result<Option<Overclaim>, ValidationError>
-    ensures { IsSaid true SpellsPolicies (WholeFault policies_content) found.entry result }
-{
-    match wanted(found, true) {
-        Ok(Some(extension)) => match overclaim_of(Constructed::from_slice(extension.octets())) {
-            Ok(found) => Ok(Some(found)),
-            Err(e) => Err(ValidationError::Decoding(e)),
-        },
-        Ok(None) => Ok(None),
-        Err(e) => Err(ValidationError::Inspection(e)),
+        Err(e) => Err(e),
     }
 }
 
@@ -241,7 +174,7 @@ impl TbsCert {
         ensures { FindsOnly subject_key_identifier false SpellsKeyIdentifier (WholeFault subject_content)
             self.now.extensions result }
     {
-        subject_in(find_kept(self.extensions(), oid::CE_SUBJECT_KEY_IDENTIFIER))
+        said::<SubjectContent>(find_kept(self.extensions(), oid::CE_SUBJECT_KEY_IDENTIFIER))
     }
 
     /// The identifier of the issuer's key, where the extension is there: the key identifier alone, and not critical
@@ -252,7 +185,7 @@ impl TbsCert {
         ensures { FindsOnly authority_key_identifier false SpellsAuthority (WholeFault authority_content)
             self.now.extensions result }
     {
-        authority_in(find_kept(self.extensions(), oid::CE_AUTHORITY_KEY_IDENTIFIER))
+        said::<AuthorityContent>(find_kept(self.extensions(), oid::CE_AUTHORITY_KEY_IDENTIFIER))
     }
 
     /// Whether the subject is a certification authority: the basic constraints are there, critical, with cA TRUE and
@@ -273,7 +206,7 @@ impl TbsCert {
     pub fn key_usage(&self) -> Result<Option<KeyUsage>, ValidationError>
         ensures { FindsOnly key_usage true SpellsUsage (WholeFault usage_content) self.now.extensions result }
     {
-        usage_in(find_kept(self.extensions(), oid::CE_KEY_USAGE))
+        said::<UsageContent>(find_kept(self.extensions(), oid::CE_KEY_USAGE))
     }
 
     /// Whether the purpose of a BGPsec router is among those of the subject's key, where the extension is there: one
@@ -294,6 +227,6 @@ impl TbsCert {
         ensures { FindsOnly certificate_policies true SpellsPolicies (WholeFault policies_content)
             self.now.extensions result }
     {
-        overclaim_in(find_kept(self.extensions(), oid::CE_CERTIFICATE_POLICIES))
+        said::<PoliciesContent>(find_kept(self.extensions(), oid::CE_CERTIFICATE_POLICIES))
     }
 }

@@ -4,9 +4,10 @@ ghost use Rattle.std.specs.Prelude.{IfOk, IfErr};
 ghost use Rattle.rpki_cert.specs.ExtensionTable.{OfListed};
 ghost use Rattle.rpki_cert.specs.KnownView.{AreKnown, IsFirstWrong};
 
+use crate::extension::contents::{AuthorityContent, PoliciesContent, SubjectContent, UsageContent};
 use crate::extension::key_usage::KeyUsage;
 use crate::extension::kind::ExtensionKind;
-use crate::extension::known::{authority_in, constraints_in, overclaim_in, subject_in, usage_in};
+use crate::extension::known::{constraints_in, said};
 use crate::extension::known_part::KnownPart;
 use crate::extension::policy::Overclaim;
 use crate::extension::table::ExtensionTable;
@@ -42,12 +43,14 @@ impl ExtensionTable<'_> {
     {
         let values = ExtensionValues {
             ca: constraints_in(self.find(ExtensionKind::BasicConstraints)),
-            subject_key_identifier: subject_in(self.find(ExtensionKind::SubjectKeyIdentifier)),
-            authority_key_identifier: authority_in(self.find(
+            subject_key_identifier: said::<SubjectContent>(self.find(
+                ExtensionKind::SubjectKeyIdentifier,
+            )),
+            authority_key_identifier: said::<AuthorityContent>(self.find(
                 ExtensionKind::AuthorityKeyIdentifier,
             )),
-            key_usage: usage_in(self.find(ExtensionKind::KeyUsage)),
-            overclaim: overclaim_in(self.find(ExtensionKind::CertificatePolicies)),
+            key_usage: said::<UsageContent>(self.find(ExtensionKind::KeyUsage)),
+            overclaim: said::<PoliciesContent>(self.find(ExtensionKind::CertificatePolicies)),
         };
         values.known()
     }

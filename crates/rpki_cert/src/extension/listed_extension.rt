@@ -1,6 +1,6 @@
 //! An extension of a list, and where it stands.
 
-use crate::read::section::Section;
+use rpki::der::Section;
 
 /// What is read of an extension of a list.
 #[derive(Clone, Copy)]

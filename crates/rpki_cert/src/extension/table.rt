@@ -7,10 +7,9 @@ ghost use Rattle.rpki_cert.specs.Known.{are_understood};
 ghost use Rattle.rpki_cert.specs.ExtensionTable.{OfListed, identifier_of, FindsListed, IsListed};
 ghost use Rattle.rpki_cert.specs.View.{IsPassed, IsNotListed};
 
-use crate::extension::kind::{ExtensionKind, is_understood, slot_of};
+use crate::extension::kind::{ExtensionKind, is_understood_in, slot_of};
 use crate::extension::listed_extension::ListedExtension;
-use crate::read::section::Section;
-use rpki::der::{Constructed, DecodeError};
+use rpki::der::{Constructed, DecodeError, Section};
 use rpki::repository::x509::ExtensionView;
 use std::marker::Model;
 
@@ -76,9 +75,9 @@ pub fn pass<'a>(list: Constructed<'a>) -> Result<Passed<'a>, DecodeError>
         match ExtensionView::take_from(&mut rest) {
             Ok(extension) => {
                 count += 1;
-                let known = is_understood(extension.critical(), extension.id());
-                understood = understood && known;
                 let slot = slot_of(extension.id());
+                let known = is_understood_in(extension.critical(), slot);
+                understood = understood && known;
                 if slots[slot].is_some() {
                     apart = false;
                 } else {

@@ -5,9 +5,10 @@ ghost use Rattle.rpki.specs.ExtensionValue.{ExtensionParts};
 ghost use Rattle.rpki_cert.specs.Inspected.{AreIn, AreValues};
 ghost use Rattle.rpki_cert.specs.KnownView.{AreKnown, IsFirstWrong};
 
+use crate::extension::contents::{AuthorityContent, PoliciesContent, SubjectContent, UsageContent};
 use crate::extension::key_usage::KeyUsage;
 use crate::extension::kind::ExtensionKind;
-use crate::extension::known::{authority_in, constraints_in, overclaim_in, subject_in, usage_in};
+use crate::extension::known::{constraints_in, said};
 use crate::extension::known_part::KnownPart;
 use crate::extension::known_view::KnownView;
 use crate::extension::policy::Overclaim;
@@ -38,10 +39,14 @@ impl ExtensionValues {
     {
         ExtensionValues {
             ca: constraints_in(all.find(ExtensionKind::BasicConstraints)),
-            subject_key_identifier: subject_in(all.find(ExtensionKind::SubjectKeyIdentifier)),
-            authority_key_identifier: authority_in(all.find(ExtensionKind::AuthorityKeyIdentifier)),
-            key_usage: usage_in(all.find(ExtensionKind::KeyUsage)),
-            overclaim: overclaim_in(all.find(ExtensionKind::CertificatePolicies)),
+            subject_key_identifier: said::<SubjectContent>(all.find(
+                ExtensionKind::SubjectKeyIdentifier,
+            )),
+            authority_key_identifier: said::<AuthorityContent>(all.find(
+                ExtensionKind::AuthorityKeyIdentifier,
+            )),
+            key_usage: said::<UsageContent>(all.find(ExtensionKind::KeyUsage)),
+            overclaim: said::<PoliciesContent>(all.find(ExtensionKind::CertificatePolicies)),
         }
     }
 

@@ -11,30 +11,32 @@ ghost use Rattle.rpki.specs.ExtensionValue.{ExtensionParts};
 ghost use Rattle.rpki_cert.specs.Cert.{TbsParts, find};
 ghost use Rattle.rpki_cert.specs.ExtensionTable.{identifier_of};
 ghost use Rattle.rpki_cert.specs.Known.{certificate_policies, Says};
-ghost use Rattle.rpki_cert.specs.ExtensionContent.{SpellsConstraints, SpellsAuthority, SpellsUsage, SpellsPurposes};
-ghost use Rattle.rpki_cert.specs.ExtensionContent.{SpellsPolicies};
+ghost use Rattle.rpki_cert.specs.ExtensionContent.{SpellsConstraints, SpellsUsage, SpellsPurposes, WholeFault};
+ghost use Rattle.rpki_cert.specs.ExtensionContent.{constraints_content, usage_content};
 ghost use Rattle.rpki_cert.specs.Access.{SpellsPoints, SpellsHeldAccess};
 ghost use Rattle.rpki_cert.specs.AccessInformation.{SpellsUriOf, IsTold};
 ghost use Rattle.rpki_cert.specs.Keys.{IsRpkiKey, IsRouterKey};
-ghost use Rattle.rpki_cert.specs.RuleWords.{SaysSome, IsBelow, SaysManifestBelow, IsOrdered, has_addresses};
+ghost use Rattle.rpki_cert.specs.RuleWords.{SaysSome, SaysManifestBelow, IsOrdered, has_addresses};
 ghost use Rattle.rpki_cert.specs.RuleWords.{has_numbers};
 ghost use Rattle.rpki_cert.specs.RuleWords.{is_critical, has_resources, is_of_version};
 ghost use Rattle.rpki_cert.specs.Inspected.{AreConstraintsSaid, AreIn, IsAuthoritySaid, IsPolicySaid, IsReadOf};
-ghost use Rattle.rpki_cert.specs.Inspected.{IsSubjectSaid, IsUsageSaid};
+ghost use Rattle.rpki_cert.specs.Inspected.{IsSaidBy, IsSubjectSaid, IsUsageSaid};
 ghost use Rattle.rpki_cert.specs.Rule.{Obeys};
 ghost use Rattle.rpki_cert.specs.RuleError.{ChecksBy, SaysRule, SaysName, ChecksSome, ChecksValue, ChecksUri};
 ghost use Rattle.rpki_cert.specs.RuleError.{ChecksVersion, ChecksOwn, IsRuleError};
-ghost use Rattle.rpki_cert.specs.ExtensionContent.{WholeFault, authority_content, constraints_content};
-ghost use Rattle.rpki_cert.specs.ExtensionContent.{policies_content, subject_content, usage_content};
 
 use crate::extension::access_information::AccessInformation;
 use crate::extension::access_method::AccessMethod;
 use crate::extension::access_rule::AccessRule;
+use crate::extension::contents::{
+    AuthorityContent, ExtensionContent, PoliciesContent, SubjectContent,
+};
 use crate::extension::key_usage::KeyUsage;
 use crate::extension::kind::ExtensionKind;
 use crate::extension::known::{information_in, points_in, purposes_in, uri_in};
 use crate::extension::policy::Overclaim;
 use crate::extension::source::ExtensionSource;
+use crate::profile::below::lies_below;
 use crate::profile::inspected::Inspected;
 use crate::profile::key_rule::KeyBits;
 use crate::profile::rule::CertRule;
@@ -44,7 +46,6 @@ use crate::verify::is_identifier;
 use rpki::crypto::KeyIdentifier;
 use rpki::repository::error::ValidationError;
 use rpki::repository::x509::{ExtensionView, NameView, Serial, Validity};
-use rpki::uri::RsyncView;
 
 /// The error of a certificate that breaks the rule.
 fn rejected(rule: CertRule) -> ValidationError
@@ -176,22 +177,6 @@ fn has_held_access(
     }
 }
 
-/// Whether these are two rsync URIs, the second below the first.
-fn is_below(base: &[u8], text: &[u8]) -> bool
-    ensures { IsTrue result ↔ IsBelow base.now text.now }
-{
-    match RsyncView::from_slice(base) {
-        Ok(base) => match RsyncView::from_slice(text) {
-            Ok(uri) => match uri.relative_to(&base) {
-                Some(path) => !path.is_empty(),
-                None => false,
-            },
-            Err(_) => false,
-        },
-        Err(_) => false,
-    }
-}
-
 /// Whether access information was found that has the URI of a manifest below that of its repository.
 fn has_manifest_below(told: &Result<Option<AccessInformation<'_>>, ValidationError>) -> bool
     ensures { (found : Option ExtensionParts) → IsTold found told.now
@@ -199,7 +184,7 @@ fn has_manifest_below(told: &Result<Option<AccessInformation<'_>>, ValidationErr
 {
     match uri_in(told, AccessMethod::CaRepository) {
         Ok(Some(base)) => match uri_in(told, AccessMethod::RpkiManifest) {
-            Ok(Some(text)) => is_below(base, text),
+            Ok(Some(text)) => lies_below(base, text),
             Ok(None) => false,
             Err(_) => false,
         },
@@ -303,32 +288,17 @@ fn inspect_router_name(name: &NameView<'_>, strict: bool) -> Result<(), Validati
     }
 }
 
-/// Whether a subject key identifier was found.
-fn inspect_identifier(
-    said: &Result<Option<KeyIdentifier>, ValidationError>,
+/// Whether a value of the extension was found; where none was, this rule is broken.
+fn inspect_said<T: ExtensionContent>(
+    said: &Result<Option<T::Value>, ValidationError>,
+    broken: CertRule,
 ) -> Result<(), ValidationError>
-    ensures { (x : Option ExtensionParts) → IsSubjectSaid x said.now
-        → ChecksSome false SpellsKeyIdentifier (WholeFault subject_content)
-        CertRule.SubjectKeyIdentifier x result }
+    ensures { (x : Option ExtensionParts) → IsSaidBy T.CRITICAL T.content x said.now
+        → ChecksSome T.CRITICAL T.content.spells (WholeFault T.content) broken x result }
 {
     match said {
         Ok(Some(_)) => Ok(()),
-        Ok(None) => Err(rejected(CertRule::SubjectKeyIdentifier)),
-        Err(e) => Err(*e),
-    }
-}
-
-/// Whether an authority key identifier was found.
-fn inspect_authority(
-    said: &Result<Option<KeyIdentifier>, ValidationError>,
-) -> Result<(), ValidationError>
-    ensures { (x : Option ExtensionParts) → IsAuthoritySaid x said.now
-        → ChecksSome false SpellsAuthority (WholeFault authority_content)
-        CertRule.AuthorityKeyIdentifier x result }
-{
-    match said {
-        Ok(Some(_)) => Ok(()),
-        Ok(None) => Err(rejected(CertRule::AuthorityKeyIdentifier)),
+        Ok(None) => Err(rejected(broken)),
         Err(e) => Err(*e),
     }
 }
@@ -365,19 +335,6 @@ fn inspect_own_authority(
             Err(rejected(CertRule::OwnAuthority))
         }
         Ok(None) => Ok(()),
-        Err(e) => Err(*e),
-    }
-}
-
-/// Whether a policy was found.
-fn inspect_policy(said: &Result<Option<Overclaim>, ValidationError>) -> Result<(), ValidationError>
-    ensures { (x : Option ExtensionParts) → IsPolicySaid x said.now
-        → ChecksSome true SpellsPolicies (WholeFault policies_content)
-        CertRule.CertificatePolicies x result }
-{
-    match said {
-        Ok(Some(_)) => Ok(()),
-        Ok(None) => Err(rejected(CertRule::CertificatePolicies)),
         Err(e) => Err(*e),
     }
 }
@@ -509,8 +466,14 @@ impl Inspected<'_> {
                 all.find(ExtensionKind::BasicConstraints),
                 CertRule::NoBasicConstraints,
             ),
-            CertRule::SubjectKeyIdentifier => inspect_identifier(&values.subject_key_identifier),
-            CertRule::AuthorityKeyIdentifier => inspect_authority(&values.authority_key_identifier),
+            CertRule::SubjectKeyIdentifier => inspect_said::<SubjectContent>(
+                &values.subject_key_identifier,
+                CertRule::SubjectKeyIdentifier,
+            ),
+            CertRule::AuthorityKeyIdentifier => inspect_said::<AuthorityContent>(
+                &values.authority_key_identifier,
+                CertRule::AuthorityKeyIdentifier,
+            ),
             CertRule::OwnAuthority => inspect_own_authority(
                 &values.authority_key_identifier,
                 &values.subject_key_identifier,
@@ -577,7 +540,10 @@ impl Inspected<'_> {
                 all.find(ExtensionKind::SubjectInfoAccess),
                 CertRule::NoSubjectAccess,
             ),
-            CertRule::CertificatePolicies => inspect_policy(&values.overclaim),
+            CertRule::CertificatePolicies => inspect_said::<PoliciesContent>(
+                &values.overclaim,
+                CertRule::CertificatePolicies,
+            ),
             CertRule::Resources => inspect_that(has_resources(all), CertRule::Resources),
             CertRule::ResourceVersion => inspect_version(&values.overclaim, all),
             CertRule::ResourceBlocks => inspect_that(

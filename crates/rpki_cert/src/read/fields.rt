@@ -1,6 +1,6 @@
 //! What is signed of a certificate, read in place (RFC 5280 4.1.2).
 
-ghost use Rattle.std.specs.Prelude.{◌≡◌, IfOk, IfErr, is_some};
+ghost use Rattle.std.specs.Prelude.{IfOk, IfErr, is_some};
 ghost use Rattle.rpki_der.specs.Prelude.{left, Then};
 ghost use Rattle.rpki.specs.PublicKey.{SpellsKey};
 ghost use Rattle.rpki_cert.specs.Cert.{TbsParts, AreFields, fields_of, SpellsTbs, SpellsExtensions};
@@ -12,12 +12,10 @@ use crate::read::cert_error::CertError;
 use crate::read::cert_part::CertPart;
 use crate::read::listed::read_extensions;
 use crate::read::names::take_name;
-use crate::read::nested::front_of;
 use crate::read::part::inside;
-use crate::read::section::Section;
 use crate::read::version::skip_version;
 use rpki::crypto::{PublicKeyView, RpkiSignatureAlgorithm, SignatureAlgorithm};
-use rpki::der::{Constructed, Tag};
+use rpki::der::{Constructed, Section, Tag};
 use rpki::repository::x509::{Serial, Validity};
 use std::alloc::Global;
 
@@ -71,17 +69,14 @@ fn read_keyed<'a>(room: Option<Global>, fields: Constructed<'a>) -> Result<Keyed
             error: e,
         }),
     };
-    let extensions = read_extensions(room, rest)?;
-    let following = rest.rest();
-    let octets = Section {
-        octets: front_of(octets, following),
-        following: following.len(),
-    };
-    Ok(Keyed {
-        key,
-        octets,
-        extensions,
-    })
+    match read_extensions(room, rest) {
+        Ok(extensions) => Ok(Keyed {
+            key,
+            octets: Section::before(octets, rest.rest()),
+            extensions,
+        }),
+        Err(wrong) => Err(wrong),
+    }
 }
 
 /// The fields from the issuer on, which are all that is left.
@@ -113,13 +108,15 @@ fn read_named<'a>(room: Option<Global>, fields: Constructed<'a>) -> Result<Named
             error: e,
         }),
     };
-    let keyed = read_keyed(room, rest)?;
-    Ok(Named {
-        issuer,
-        validity,
-        subject,
-        keyed,
-    })
+    match read_keyed(room, rest) {
+        Ok(keyed) => Ok(Named {
+            issuer,
+            validity,
+            subject,
+            keyed,
+        }),
+        Err(wrong) => Err(wrong),
+    }
 }
 
 /// The fields, which are all that is left.
@@ -154,12 +151,14 @@ pub fn read_fields<'a>(
             error: e,
         }),
     };
-    let named = read_named(room, rest)?;
-    Ok(TbsView {
-        serial_number,
-        signature,
-        named,
-    })
+    match read_named(room, rest) {
+        Ok(named) => Ok(TbsView {
+            serial_number,
+            signature,
+            named,
+        }),
+        Err(wrong) => Err(wrong),
+    }
 }
 
 /// The TBSCertificate that these octets are; the sections stand in them.

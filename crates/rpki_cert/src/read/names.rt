@@ -3,8 +3,7 @@
 ghost use Rattle.rpki_der.specs.Cursor.{left};
 ghost use Rattle.rpki_cert.specs.View.{TakesName};
 
-use crate::read::section::Section;
-use rpki::der::{Constructed, DecodeError};
+use rpki::der::{Constructed, DecodeError, Section};
 use rpki::repository::x509::NameView;
 
 /// A name, as the section of it; moves past it. Allocates nothing.

@@ -1,10 +1,10 @@
 //! Values with everything nested in them, and values by their headers alone.
 
-ghost use Rattle.std.specs.Prelude.{◌≡◌, ◌≤◌, ◌-◌, ◌↔◌, length, take, IsTrue};
+ghost use Rattle.std.specs.Prelude.{◌↔◌, IsTrue};
 ghost use Rattle.rpki_der.specs.Prelude.{left, Refuses, SpellsValue, IsValue, IsValueList, IsCaptureFault};
 ghost use Rattle.rpki_cert.specs.InPlace.{TakesHeaded};
 
-use rpki::der::{Constructed, DecodeError};
+use rpki::der::{Constructed, DecodeError, Section};
 
 /// Whether what is left is values, one after another, with everything nested in them.
 pub fn are_values(contents: Constructed<'_>) -> bool
@@ -27,7 +27,7 @@ pub fn take_headed<'a>(cons: &mut Constructed<'a>) -> Option<&'a [u8]>
 {
     let octets = cons.rest();
     match cons.take_value() {
-        Ok(_) => Some(front_of(octets, cons.rest())),
+        Ok(_) => Some(Section::before(octets, cons.rest()).octets),
         Err(_) => None,
     }
 }
@@ -54,12 +54,4 @@ pub fn value_fault(octets: Constructed<'_>) -> DecodeError
         Err(e) => e,
         Ok(_) => DecodeError::Truncated,
     }
-}
-
-/// The octets in front of those that are left.
-pub fn front_of<'a>(octets: &'a [u8], rest: &[u8]) -> &'a [u8]
-    requires { length rest.now ≤ length octets.now }
-    ensures { result.now ≡ take (length octets.now - length rest.now) octets.now }
-{
-    &octets[..octets.len() - rest.len()]
 }

@@ -12,11 +12,10 @@ use crate::cert::is_same;
 use crate::read::cert_error::CertError;
 use crate::read::cert_part::CertPart;
 use crate::read::fields::{TbsView, read_tbs};
-use crate::read::nested::{front_of, is_value, take_headed, value_fault};
+use crate::read::nested::{is_value, take_headed, value_fault};
 use crate::read::part::inside;
-use crate::read::section::Section;
 use rpki::crypto::{RpkiSignatureAlgorithm, SignatureAlgorithm};
-use rpki::der::{Constructed, DecodeError, Tag};
+use rpki::der::{Constructed, DecodeError, Section, Tag};
 use std::alloc::Global;
 
 /// The parts of signed data.
@@ -87,10 +86,7 @@ pub fn read_parts<'a>(signed: &'a [u8], behind: Constructed<'a>) -> Result<Parts
                 following: octets.len(),
             },
             kind,
-            algorithm: Section {
-                octets: front_of(octets, last),
-                following: last.len(),
-            },
+            algorithm: Section::before(octets, last),
             signature: Section {
                 octets: signature,
                 following: 0,
@@ -117,14 +113,18 @@ fn read_behind<'a>(
         Ok(parts) => parts,
         Err(wrong) => return Err(wrong),
     };
-    let tbs = read_tbs(room, Constructed::from_slice(signed))?;
-    if !is_same(tbs.signature, parts.kind) {
-        return Err(CertError {
-            part: CertPart::SameAlgorithm,
-            error: DecodeError::content("signature algorithms differ"),
-        });
+    match read_tbs(room, Constructed::from_slice(signed)) {
+        Ok(tbs) => {
+            if !is_same(tbs.signature, parts.kind) {
+                return Err(CertError {
+                    part: CertPart::SameAlgorithm,
+                    error: DecodeError::content("signature algorithms differ"),
+                });
+            }
+            Ok(CertView { parts, tbs })
+        }
+        Err(wrong) => Err(wrong),
     }
-    Ok(CertView { parts, tbs })
 }
 
 /// The certificate whose contents these are. Where there is an allocator, it may have any number of extensions.

@@ -2,7 +2,7 @@
 
 ghost use Rattle.std.specs.Prelude.{◌≡◌, ◌↔◌, List, true, IsTrue};
 ghost use Rattle.rpki_der.specs.Cursor.{left};
-ghost use Rattle.rpki_der.specs.Reading.{Reads, Decodes};
+ghost use Rattle.rpki_der.specs.Reading.{Reads};
 ghost use Rattle.rpki.specs.ExtensionValue.{ExtensionParts};
 ghost use Rattle.rpki_resources.specs.Extension.{SpellsIpResources, IsIpResourcesFault, SpellsAsResources};
 ghost use Rattle.rpki_resources.specs.Extension.{IsAsResourcesFault};
@@ -18,7 +18,7 @@ use crate::extension::known::wanted;
 use crate::extension::source::ExtensionSource;
 use crate::read::fields::Keyed;
 use crate::tbs::TbsCert;
-use rpki::der::{Constructed, DecodeError};
+use rpki::der::Constructed;
 use rpki::repository::error::ValidationError;
 use rpki::repository::x509::ExtensionView;
 use rpki_resources::{ChoiceView, IpResourcesView, take_as_resources, take_ip_resources};
@@ -56,28 +56,6 @@ fn numbers_of<'a>(all: &ExtensionSource<'a>) -> Option<ExtensionView<'a>>
     )
 }
 
-/// The addresses that the octets are.
-fn ip_resources_of<'a>(octets: Constructed<'a>) -> Result<IpResourcesView<'a>, DecodeError>
-    ensures { Decodes (λ x. x) SpellsIpResources IsWholeIpFault (left octets.entry) result }
-{
-    octets.whole(
-        |cons|
-            ensures { Reads (λ x. x) SpellsIpResources IsIpResourcesFault (left cons.old) (left cons.new) result }
-        { take_ip_resources(cons) },
-    )
-}
-
-/// The numbers that the octets are.
-fn as_resources_of<'a>(octets: Constructed<'a>) -> Result<ChoiceView<'a>, DecodeError>
-    ensures { Decodes (λ x. x) SpellsAsResources IsWholeAsFault (left octets.entry) result }
-{
-    octets.whole(
-        |cons|
-            ensures { Reads (λ x. x) SpellsAsResources IsAsResourcesFault (left cons.old) (left cons.new) result }
-        { take_as_resources(cons) },
-    )
-}
-
 /// The addresses, as the extension that was found says them (RFC 6487 4.8.10).
 fn ip_resources_in<'a>(
     found: Option<ExtensionView<'a>>,
@@ -85,10 +63,18 @@ fn ip_resources_in<'a>(
     ensures { IsSaid true SpellsIpResources IsWholeIpFault found.entry result }
 {
     match wanted(found, true) {
-        Ok(Some(extension)) => match ip_resources_of(Constructed::from_slice(extension.octets())) {
-            Ok(found) => Ok(Some(found)),
-            Err(e) => Err(ValidationError::Decoding(e)),
-        },
+        Ok(Some(extension)) => {
+            let value = Constructed::from_slice(extension.octets()).whole(
+                |cons|
+                    ensures { Reads (λ x. x) SpellsIpResources IsIpResourcesFault (left cons.old) (left cons.new)
+                        result }
+                { take_ip_resources(cons) },
+            );
+            match value {
+                Ok(found) => Ok(Some(found)),
+                Err(e) => Err(ValidationError::Decoding(e)),
+            }
+        }
         Ok(None) => Ok(None),
         Err(e) => Err(ValidationError::Inspection(e)),
     }
@@ -101,10 +87,18 @@ fn as_resources_in<'a>(
     ensures { IsSaid true SpellsAsResources IsWholeAsFault found.entry result }
 {
     match wanted(found, true) {
-        Ok(Some(extension)) => match as_resources_of(Constructed::from_slice(extension.octets())) {
-            Ok(found) => Ok(Some(found)),
-            Err(e) => Err(ValidationError::Decoding(e)),
-        },
+        Ok(Some(extension)) => {
+            let value = Constructed::from_slice(extension.octets()).whole(
+                |cons|
+                    ensures { Reads (λ x. x) SpellsAsResources IsAsResourcesFault (left cons.old) (left cons.new)
+                        result }
+                { take_as_resources(cons) },
+            );
+            match value {
+                Ok(found) => Ok(Some(found)),
+                Err(e) => Err(ValidationError::Decoding(e)),
+            }
+        }
         Ok(None) => Ok(None),
         Err(e) => Err(ValidationError::Inspection(e)),
     }

@@ -1,27 +1,19 @@
-use Rattle.std.proofs.lemmas.Result.{err_from_is_err_and}
-use Rattle.rpki_der.proofs.ComposedLaws.{all-read, more-left, not-read}
-use Rattle.rpki_der.proofs.InsideLaws.{exactly, trailing-exactly}
+use Rattle.std.proofs.Common.{◌≢◌, ℕ, List, Ok, Err, rules, subst}
+use Rattle.rpki_der.specs.declared.error.DecodeError.{DecodeError}
+use Rattle.rpki_der.specs.declared.error.DecodeError.TheVariants.{OutOfMemory}
+use Rattle.rpki_der.specs.Cursor.{left}
+use Rattle.rpki_der.proofs.InsideLaws.{read-whole-exactly}
 use Rattle.rpki_cert.specs.AccessDescription.{points}
-use Rattle.rpki_cert.proofs.AccessDescriptionLaws.{points-no-memory}
+use Rattle.rpki_cert.specs.ContentLaws.{points-never}
 use Rattle.rpki_cert.proofs.extension.access_description.point_names.Goals as goal
 
-pub returns-in_err-names : goal.returns-in_err-names
-returns-in_err-names c =
-    let s = c.args.octets.now in
-    let h = rw c.from_slice-rest.ensures at c.in_err-names.ensures in
-    let p = err_from_is_err_and c.from_residual.result c.from_residual.ensures.1 in
-    rw (p.1, p.2) (exactly points.spells points.fault s c.in_err-names.field-0.0 (points-no-memory s _ h.kind)
-    (not-read points.spells points.fault s _ c.in_err-names.field-0.0 h))
+never : (s : List ℕ) (e : DecodeError) → points.fault s e → e ≢ OutOfMemory
+never s e h z = points-never s (subst (points.fault s) z h)
 
-pub returns-in_err-finish : goal.returns-in_err-finish
-returns-in_err-finish c =
-    let s = c.args.octets.now in
-    let h = rw c.from_slice-rest.ensures at c.in_ok-names.ensures in
-    let p = err_from_is_err_and c.from_residual-in_err-finish.result c.from_residual-in_err-finish.ensures.1 in
-    rw (p.1, p.2) (rw c.in_err-finish.ensures.0 (trailing-exactly points.spells points.fault s
-    (more-left points.spells points.fault s _ _ h c.in_err-finish.ensures.1)))
+pub returns-in-Ok : goal.returns-in-Ok
+returns-in-Ok c = rw c.rest.ensures (read-whole-exactly left points.spells points.fault never _
+    (λ b a x h. search rules) _ (Ok c.in-Ok.names) (rw c.from_slice.ensures at c.in-Ok.ensures))
 
-pub returns : goal.returns
-returns c =
-    let h = rw c.from_slice-rest.ensures at c.in_ok-names.ensures in
-    rw c.rest.ensures (all-read points.spells c.args.octets.now _ _ h c.in_ok-finish.ensures)
+pub returns-in-Err : goal.returns-in-Err
+returns-in-Err c = read-whole-exactly left points.spells points.fault never _ (λ b a x h. search rules) _
+    (Err c.in-Err.e) (rw c.from_slice.ensures at c.in-Err.ensures)

@@ -3,13 +3,8 @@ use Rattle.rpki_der.specs.TagName.{sequence}
 use Rattle.rpki_der.proofs.EachLaws.{read-each-itself, leaf-some}
 use Rattle.rpki.specs.ExtensionValue.{IsExtensionContents, SpellsExtension}
 use Rattle.rpki.specs.ExtensionFault.{kept_extension}
-use Rattle.rpki_cert.proofs.SomeLaws.{each-end}
 use Rattle.rpki_cert.proofs.extension.list.take_each.Goals as goal
 
-pub returns : goal.returns
-returns g c = record {
-  reads =
-      read-each-itself SpellsExtension kept_extension.fault _ (λ b a x h. search rules)
-      (leaf-some sequence true IsExtensionContents) (λ v. v.items) _ _ _ c.take_each_with.ensures;
-  end = each-end (λ v. v.items) _ _ _ _ c.take_each_with.ensures;
-}
+pub returns-clause-reads : goal.returns-clause-reads
+returns-clause-reads g c = read-each-itself SpellsExtension kept_extension.fault _ (λ b a x h. search rules)
+    (leaf-some sequence true IsExtensionContents) (λ v. v.items) _ _ _ c.take_each_with.ensures

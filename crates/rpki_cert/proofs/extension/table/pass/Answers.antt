@@ -32,14 +32,14 @@ pub extensions-preserved-then-is_some : goal.extensions-preserved-then-is_some
 extensions-preserved-then-is_some c =
     let x = c.in-Ok.extension in
     let some = iff_false c.is_empty-in-extensions.ensures c.extensions-test.true in
-    let known : c.is_understood-known.result ≡ (not x.critical || is_known x.identifier) =
-    rw (c.critical.ensures, c.id.ensures) at c.is_understood-known.ensures in
+    let here = rw c.id.ensures at c.slot_of-slot.ensures.slot in
+    let known : c.is_understood_in-known.result ≡ (not x.critical || is_known x.identifier) =
+    rw c.critical.ensures at (c.is_understood_in-known.ensures _ here) in
     let is : c.if-understood.understood ≡ (c.extensions.understood && (not x.critical || is_known x.identifier)) =
     elim c.if-understood.branch [
       | then-understood w ↦ both-known _ _ _ _ known w.if-understood.true w.understood-is
       | else-understood w ↦ one-unknown _ _ _ w.if-understood.false (w.understood-is ∙ w.if-understood.false)
     ] in
-    let here = rw c.id-in-Ok.ensures at c.slot_of-slot.ensures.slot in
     let full = full-slot _ (sym c.is_some.ensures ∙ c.if-is_some.true) in (
       passing-again _ _ _ x _ _ _ _ some c.in-Ok.ensures c.extensions.invariant.0 _ _ is here full,
       faults-on _ _ _ x some c.in-Ok.ensures c.extensions.invariant.1,
@@ -49,14 +49,14 @@ pub extensions-preserved : goal.extensions-preserved
 extensions-preserved c =
     let x = c.in-Ok.extension in
     let some = iff_false c.is_empty-in-extensions.ensures c.extensions-test.true in
-    let known : c.is_understood-known.result ≡ (not x.critical || is_known x.identifier) =
-    rw (c.critical.ensures, c.id.ensures) at c.is_understood-known.ensures in
+    let here = rw c.id.ensures at c.slot_of-slot.ensures.slot in
+    let known : c.is_understood_in-known.result ≡ (not x.critical || is_known x.identifier) =
+    rw c.critical.ensures at (c.is_understood_in-known.ensures _ here) in
     let is : c.if-understood.understood ≡ (c.extensions.understood && (not x.critical || is_known x.identifier)) =
     elim c.if-understood.branch [
       | then-understood w ↦ both-known _ _ _ _ known w.if-understood.true w.understood-is
       | else-understood w ↦ one-unknown _ _ _ w.if-understood.false (w.understood-is ∙ w.if-understood.false)
     ] in
-    let here = rw c.id-in-Ok.ensures at c.slot_of-slot.ensures.slot in
     let free = free-slot _ (sym c.is_some.ensures ∙ c.if-is_some.false) in (
       passing-first _ _ _ x _ _ _ _ some c.in-Ok.ensures c.extensions.invariant.0 _ _ is here _
           c.slot_of-slot.ensures.few free c.listed_of.ensures,

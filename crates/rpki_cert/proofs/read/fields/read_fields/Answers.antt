@@ -1,5 +1,4 @@
 use Rattle.std.proofs.Common.{refl}
-use Rattle.rpki_der.proofs.TriedLaws.{tried-error}
 use Rattle.rpki_cert.specs.View.FirstWrong.{AtPart, Later}
 use Rattle.rpki_cert.proofs.FieldsLaws.{version-refused, serial-refused, algorithm-refused, fields-read}
 use Rattle.rpki_cert.proofs.OneLaws.{has-then}
@@ -20,18 +19,17 @@ returns-in-Err-x509_take_from-clause-err c =
     Later _ _ c.in-Ok.ensures (Later _ _ c.in-Ok-take_from.ensures
     (AtPart (algorithm-refused _ _ c.in-Err-x509_take_from.e h) h.kind refl))
 
-pub returns-clause-ok : goal.returns-clause-ok
-returns-clause-ok c =
+pub returns-in-Err-read_named-clause-err : goal.returns-in-Err-read_named-clause-err
+returns-in-Err-read_named-clause-err c =
+    Later _ _ c.in-Ok.ensures (Later _ _ c.in-Ok-take_from.ensures
+    (Later _ _ c.in-Ok-x509_take_from.ensures c.in-Err-read_named.ensures.err))
+
+pub returns-in-Ok-read_named-clause-ok : goal.returns-in-Ok-read_named-clause-ok
+returns-in-Ok-read_named-clause-ok c =
     fields-read _ _ _ _ _ _ _ c.in-Ok.ensures c.in-Ok-take_from.ensures refl c.in-Ok-x509_take_from.ensures refl
-    c.in_ok-named.ensures.ok
+    c.in-Ok-read_named.ensures.ok
 
-pub returns-clause-one : goal.returns-clause-one
-returns-clause-one c =
+pub returns-in-Ok-read_named-clause-one : goal.returns-in-Ok-read_named-clause-one
+returns-in-Ok-read_named-clause-one c =
     has-then _ _ _ _ _ c.in-Ok.ensures (has-then _ _ _ _ _ c.in-Ok-take_from.ensures
-    (has-then _ _ _ _ _ c.in-Ok-x509_take_from.ensures c.in_ok-named.ensures.one))
-
-pub returns-in_err-named-clause-err : goal.returns-in_err-named-clause-err
-returns-in_err-named-clause-err c =
-    tried-error _ _ _ c.from_residual.ensures
-    (Later _ _ c.in-Ok.ensures (Later _ _ c.in-Ok-take_from.ensures
-    (Later _ _ c.in-Ok-x509_take_from.ensures c.in_err-named.ensures.err)))
+    (has-then _ _ _ _ _ c.in-Ok-x509_take_from.ensures c.in-Ok-read_named.ensures.one))

@@ -1,5 +1,4 @@
 use Rattle.std.proofs.Common.{refl}
-use Rattle.rpki_der.proofs.TriedLaws.{tried-error}
 use Rattle.rpki_cert.specs.View.FirstWrong.{AtPart, Later}
 use Rattle.rpki_cert.proofs.FieldsLaws.{period-refused, named-read}
 use Rattle.rpki_cert.proofs.NameViewLaws.{name-refused}
@@ -20,18 +19,17 @@ returns-in-Err-take_name-clause-err c =
     Later _ _ c.in-Ok.ensures.1 (Later _ _ c.in-Ok-take_from.ensures
     (AtPart (name-refused _ _ c.in-Err-take_name.e h) h.kind refl))
 
-pub returns-clause-ok : goal.returns-clause-ok
-returns-clause-ok c =
+pub returns-in-Err-read_keyed-clause-err : goal.returns-in-Err-read_keyed-clause-err
+returns-in-Err-read_keyed-clause-err c =
+    Later _ _ c.in-Ok.ensures.1 (Later _ _ c.in-Ok-take_from.ensures
+    (Later _ _ c.in-Ok-take_name.ensures.1 c.in-Err-read_keyed.ensures.err))
+
+pub returns-in-Ok-read_keyed-clause-ok : goal.returns-in-Ok-read_keyed-clause-ok
+returns-in-Ok-read_keyed-clause-ok c =
     named-read _ _ _ _ _ _ _ _ c.in-Ok.ensures.1 c.in-Ok.ensures.2 c.in-Ok-take_from.ensures refl
-    c.in-Ok-take_name.ensures.1 c.in-Ok-take_name.ensures.2 c.in_ok-keyed.ensures.ok
+    c.in-Ok-take_name.ensures.1 c.in-Ok-take_name.ensures.2 c.in-Ok-read_keyed.ensures.ok
 
-pub returns-clause-one : goal.returns-clause-one
-returns-clause-one c =
+pub returns-in-Ok-read_keyed-clause-one : goal.returns-in-Ok-read_keyed-clause-one
+returns-in-Ok-read_keyed-clause-one c =
     has-then _ _ _ _ _ c.in-Ok.ensures.1 (has-then _ _ _ _ _ c.in-Ok-take_from.ensures
-    (has-then _ _ _ _ _ c.in-Ok-take_name.ensures.1 c.in_ok-keyed.ensures.one))
-
-pub returns-in_err-keyed-clause-err : goal.returns-in_err-keyed-clause-err
-returns-in_err-keyed-clause-err c =
-    tried-error _ _ _ c.from_residual.ensures
-    (Later _ _ c.in-Ok.ensures.1 (Later _ _ c.in-Ok-take_from.ensures
-    (Later _ _ c.in-Ok-take_name.ensures.1 c.in_err-keyed.ensures.err)))
+    (has-then _ _ _ _ _ c.in-Ok-take_name.ensures.1 c.in-Ok-read_keyed.ensures.one))

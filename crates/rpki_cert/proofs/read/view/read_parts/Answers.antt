@@ -18,4 +18,5 @@ returns-in-Err-read_signature-clause-err c =
 pub returns-in-Ok-read_signature-clause-ok : goal.returns-in-Ok-read_signature-clause-ok
 returns-in-Ok-read_signature-clause-ok c = λ one.
     parts-read _ _ _ _ _ _ _ _ _ (value-accepted c.args.signed.now _ one) refl c.rest-octets.ensures refl
-    c.in-Ok.ensures refl c.rest-last.ensures c.front_of.ensures refl c.in-Ok-read_signature.ensures.gives.0 refl refl
+    c.in-Ok.ensures refl c.rest-last.ensures c.before-in-Ok-read_signature.ensures
+    c.in-Ok-read_signature.ensures.gives.0 refl refl

@@ -8,7 +8,7 @@ use Rattle.rpki_cert.specs.CertFault.{IsFrontTbsError}
 use Rattle.rpki_cert.specs.View.FirstWrong.{Later}
 use Rattle.rpki_cert.proofs.CertLaws.{unframed, refused-front, unkept-front, tbs-at, tbs-accepted, tbs-found}
 use Rattle.rpki_cert.proofs.CertLaws.{front-alone}
-use Rattle.rpki_cert.proofs.NestedLaws.{front-octets}
+use Rattle.rpki_cert.proofs.NestedLaws.{front-section}
 use Rattle.rpki_cert.proofs.OneLaws.{tbs-one}
 use Rattle.rpki_cert.proofs.WrongLaws.{front-tbs-wrong}
 use Rattle.rpki_cert.proofs.tbs.TbsCert.take_from.Goals as goal
@@ -30,24 +30,25 @@ pub before-within-requires-clause-stands : goal.before-within-requires-clause-st
 before-within-requires-clause-stands g c =
     let a = c.in-Ok.ensures in
     front-alone _ a.spells.front _ _ _ _ a.spells.parts c.rest-all.ensures c.rest-following.ensures
-    (front-octets _ a.spells.front _ _ _ _ a.spells.parts c.rest-all.ensures c.rest-following.ensures
-    c.front_of-octets.ensures)
+    (front-section _ a.spells.front _ _ _ _ a.spells.parts c.rest-all.ensures c.rest-following.ensures
+    c.before-value.ensures).octets
 
 pub keep-requires-clause-stands : goal.keep-requires-clause-stands
 keep-requires-clause-stands g c =
     let a = c.in-Ok.ensures in
     let (t, h, k) = c.in-Ok-read_fields.ensures.ok in (
       t,
-      tbs-at _ _ _ _ t a h k _ (front-octets _ a.spells.front _ _ _ _ a.spells.parts c.rest-all.ensures
-          c.rest-following.ensures c.front_of-octets.ensures),
+      tbs-at _ _ _ _ t a h k _ (front-section _ a.spells.front _ _ _ _ a.spells.parts c.rest-all.ensures
+          c.rest-following.ensures c.before-value.ensures).octets,
     )
 
 pub returns-in-Ok-keep-clause-reads : goal.returns-in-Ok-keep-clause-reads
 returns-in-Ok-keep-clause-reads g c =
     let a = c.in-Ok.ensures in
     let (t, h, k) = c.in-Ok-read_fields.ensures.ok in
-    let same = c.in-Ok-keep.ensures.ok t (tbs-at _ _ _ _ t a h k _ (front-octets _ a.spells.front _ _ _ _ a.spells.parts
-    c.rest-all.ensures c.rest-following.ensures c.front_of-octets.ensures)) in
+    let front = front-section _ a.spells.front _ _ _ _ a.spells.parts c.rest-all.ensures c.rest-following.ensures
+    c.before-value.ensures in
+    let same = c.in-Ok-keep.ensures.ok t (tbs-at _ _ _ _ t a h k _ front.octets) in
     subst (λ (u : TbsParts). Accepts SpellsTbs (left c.args.cons.now) u (left c.take_sequence.new.self)) (sym same)
     (tbs-accepted _ _ _ t a h (tbs-one _ _ a.spells.spelled c.in-Ok-read_fields.ensures.one))
 

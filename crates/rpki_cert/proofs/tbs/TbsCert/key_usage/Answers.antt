@@ -1,4 +1,0 @@
-use Rattle.rpki_cert.proofs.tbs.TbsCert.key_usage.Goals as goal
-
-pub returns : goal.returns
-returns c = rw (c.find_kept.ensures, c.extensions.ensures) at c.usage_in.ensures

@@ -1,4 +1,0 @@
-use Rattle.rpki_cert.proofs.tbs.TbsCert.subject_key_identifier.Goals as goal
-
-pub returns : goal.returns
-returns c = rw (c.find_kept.ensures, c.extensions.ensures) at c.subject_in.ensures
