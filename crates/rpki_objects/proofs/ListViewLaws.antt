@@ -15,8 +15,8 @@ use Rattle.rpki_der.proofs.LeavesLaws.{leaf-no-memory}
 use Rattle.rpki_der.proofs.InsideLaws.{unless-memory}
 use Rattle.rpki_time.specs.TimeValue.{time}
 use Rattle.rpki.specs.Name.{SpellsNameOctets}
-use Rattle.rpki_cert.specs.declared.read.section.Section.{Section}
-use Rattle.rpki_cert.specs.View.{IsSection}
+use Rattle.rpki_der.specs.declared.section.Section.{Section}
+use Rattle.rpki_der.specs.Section.{IsSection}
 use Rattle.rpki_objects.specs.declared.crl_part.CrlPart.{CrlPart}
 use Rattle.rpki_objects.specs.declared.list_view.TbsListView.{TbsListView}
 use Rattle.rpki_objects.specs.Crl.{Entry, entries, ListExtensions, extensions_of, extensions, ListParts, fields_of}

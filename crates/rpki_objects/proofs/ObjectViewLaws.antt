@@ -8,7 +8,7 @@ use Rattle.rpki_der.specs.Reading.{Spells, Accepts, Refuses, SpellsNothing}
 use Rattle.rpki_der.specs.Values.{SpellsContents}
 use Rattle.rpki_der.specs.LeafFormats.{any_oid, this_number, this_oid}
 use Rattle.rpki.specs.AlgorithmFault.{cms, digest, digest_set}
-use Rattle.rpki_cert.specs.View.{IsSection}
+use Rattle.rpki_der.specs.Section.{IsSection}
 use Rattle.rpki_objects.specs.declared.object_part.ObjectPart.{ObjectPart}
 use Rattle.rpki_objects.specs.declared.content_view.ContentView.{ContentView}
 use Rattle.rpki_objects.specs.declared.signed_attrs_view.SignedAttrsView.{SignedAttrsView}

@@ -10,11 +10,12 @@ use Rattle.rpki_time.specs.TimeValue.{time}
 use Rattle.rpki.specs.Prelude.{ExtensionParts, SignedParts, SpellsExtension, SpellsNameOctets, IsSignedContents}
 use Rattle.rpki_cert.specs.declared.read.cert_part.CertPart.{CertPart}
 use Rattle.rpki_cert.specs.declared.read.cert_part.CertPart.TheVariants.{Algorithm, Signature}
-use Rattle.rpki_cert.specs.declared.read.section.Section.{Section}
+use Rattle.rpki_der.specs.declared.section.Section.{Section}
 use Rattle.rpki_cert.specs.declared.read.view.Parts.{Parts}
 use Rattle.rpki_cert.specs.Cert.{SpellsRpkiAlgorithm}
 use Rattle.rpki_cert.specs.declared.read.cert_error.CertError.{CertError}
-use Rattle.rpki_cert.specs.View.{IsSection, ArePartsIn, AreBehindWrong}
+use Rattle.rpki_der.specs.Section.{IsSection}
+use Rattle.rpki_cert.specs.View.{ArePartsIn, AreBehindWrong}
 use Rattle.rpki_objects.specs.declared.crl_part.CrlPart.{CrlPart}
 use Rattle.rpki_objects.specs.declared.crl_part.CrlPart.TheVariants as P
 use Rattle.rpki_objects.specs.declared.crl_view.CrlView.{CrlView}

@@ -5,9 +5,10 @@ use Rattle.rpki_der.specs.Prelude.{sequence, set, Accepts, Refuses, SpellsNothin
 use Rattle.rpki_der.specs.Prelude.{this_oid}
 use Rattle.rpki.specs.AlgorithmFault.{cms, digest, digest_set}
 use Rattle.rpki_cert.specs.declared.read.cert_part.CertPart.{CertPart}
-use Rattle.rpki_cert.specs.declared.read.section.Section.{Section}
+use Rattle.rpki_der.specs.declared.section.Section.{Section}
 use Rattle.rpki_cert.specs.Cert.{CertParts, SpellsCert}
-use Rattle.rpki_cert.specs.View.{IsSection, IsCertWrong, most_extensions}
+use Rattle.rpki_der.specs.Section.{IsSection}
+use Rattle.rpki_cert.specs.View.{IsCertWrong, most_extensions}
 use Rattle.rpki_objects.specs.declared.object_part.ObjectPart.{ObjectPart}
 use Rattle.rpki_objects.specs.declared.object_part.ObjectPart.TheVariants as P
 use Rattle.rpki_objects.specs.declared.content_view.ContentView.{ContentView}

@@ -4,8 +4,7 @@ ghost use Rattle.rpki_der.specs.Prelude.{left};
 ghost use Rattle.rpki_objects.specs.SignedObject.{kept_octets, explicit_content};
 ghost use Rattle.rpki_objects.specs.SignedObjectView.{IsWholeOf, TakesContent};
 
-use rpki::der::{Class, Constructed, Tag};
-use rpki_cert::Section;
+use rpki::der::{Class, Constructed, Section, Tag};
 use rpki_cert::objects::inside;
 
 /// A content, and its type.

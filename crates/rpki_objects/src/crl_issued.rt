@@ -64,7 +64,13 @@ impl Crl {
         verify_period(issuer.period(), at)?;
         let authority = issuer.cert().tbs();
         let key = authority.subject_public_key_info();
-        verify_signature(self.signed_data(), issuer.provider(), key)?;
+        let signed = self.signed_data();
+        verify_signature(
+            signed.data().as_slice(),
+            signed.signature(),
+            issuer.provider(),
+            key,
+        )?;
         self.verify_issuer(authority.subject())?;
         self.verify_authority(key.key_identifier(issuer.provider()))?;
         self.verify_out(at)

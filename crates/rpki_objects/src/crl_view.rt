@@ -8,9 +8,9 @@ ghost use Rattle.rpki_objects.specs.CrlView.{signed_part, IsCrlAt, IsCrlBehind, 
 use crate::crl_part::CrlPart;
 use crate::list_view::{TbsListView, read_tbs};
 use rpki::crypto::RpkiSignatureAlgorithm;
-use rpki::der::{Constructed, Tag};
+use rpki::der::{Constructed, Section, Tag};
+use rpki_cert::CertPart;
 use rpki_cert::objects::{inside, is_same, is_value, read_parts, take_headed};
-use rpki_cert::{CertPart, Section};
 
 /// A revocation list whose parts are borrowed from the octets that it was read from.
 #[derive(Clone, Copy)]

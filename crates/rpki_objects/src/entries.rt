@@ -8,9 +8,8 @@ ghost use Rattle.rpki_objects.specs.Crl.{entry, each_entry};
 ghost use Rattle.rpki_objects.specs.CrlView.{FindsSerial, Keeps, Looks, TakesRevoked};
 
 use crate::crl_entry::CrlEntry;
-use rpki::der::{Constructed, DecodeError, Tag};
+use rpki::der::{Constructed, DecodeError, Section, Tag};
 use rpki::repository::x509::Serial;
-use rpki_cert::Section;
 
 /// Whether what is left is entries, one after another.
 fn are_entries(contents: Constructed<'_>) -> bool

@@ -9,9 +9,8 @@ use crate::crl_extensions::{CrlExtensions, read_extensions};
 use crate::crl_part::CrlPart;
 use crate::entries::take_revoked;
 use rpki::crypto::{RpkiSignatureAlgorithm, SignatureAlgorithm};
-use rpki::der::{Constructed, Tag};
+use rpki::der::{Constructed, Section, Tag};
 use rpki::repository::x509::Time;
-use rpki_cert::Section;
 use rpki_cert::objects::{inside, take_name};
 
 /// The fields of a TBSCertList.

@@ -6,8 +6,7 @@ ghost use Rattle.rpki_objects.specs.SignedObjectView.{AreTogether, IsWholeOf, Ta
 
 use crate::attribute::AttributeView;
 use crate::known_attributes::KnownAttributes;
-use rpki::der::{Class, Constructed, Tag};
-use rpki_cert::Section;
+use rpki::der::{Class, Constructed, Section, Tag};
 
 /// The attributes that a signer signs.
 #[derive(Clone, Copy)]
@@ -66,13 +65,9 @@ impl<'a> SignedAttrsView<'a> {
             Ok(contents) => contents,
             Err(_) => return None,
         };
-        let following = cons.rest().len();
         match read_known(contents, strict) {
             Some(values) => Some(SignedAttrsView {
-                octets: Section {
-                    octets: &octets[..octets.len() - following],
-                    following,
-                },
+                octets: Section::before(octets, cons.rest()),
                 values,
             }),
             None => None,

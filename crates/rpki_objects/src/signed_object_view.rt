@@ -10,10 +10,10 @@ use crate::content_view::ContentView;
 use crate::object_part::ObjectPart;
 use crate::signer_view::{SignerView, read_signers};
 use rpki::crypto::DigestAlgorithm;
-use rpki::der::{Class, Constructed, Tag};
+use rpki::der::{Class, Constructed, Section, Tag};
 use rpki::oid;
+use rpki_cert::CertView;
 use rpki_cert::objects::inside;
-use rpki_cert::{CertView, Section};
 
 /// A signed object whose parts are borrowed from the octets that it was read from. Nothing of it is verified.
 #[derive(Clone, Copy)]

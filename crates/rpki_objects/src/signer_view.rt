@@ -9,8 +9,7 @@ use crate::object_part::ObjectPart;
 use crate::signed_attrs_view::SignedAttrsView;
 use crate::signer_info::take_identifier;
 use rpki::crypto::{DigestAlgorithm, KeyIdentifier, RpkiSignatureAlgorithm};
-use rpki::der::{Constructed, Tag};
-use rpki_cert::Section;
+use rpki::der::{Constructed, Section, Tag};
 use rpki_cert::objects::inside;
 
 /// A signer.

@@ -9,7 +9,10 @@ returns-in_err-verify_signature-clause-exactly g c =
     let holds = rw c.period.ensures at c.in_ok-verify_period.ensures in
     let signed = rw (
       c.provider.ensures,
-      c.signed_data.ensures,
+      c.as_slice.ensures,
+      c.data.ensures.slice,
+      c.signature.ensures,
+      c.signed_data-signed.ensures,
       c.subject_public_key_info-key.ensures,
       c.tbs-authority.ensures,
       c.cert.ensures.value,

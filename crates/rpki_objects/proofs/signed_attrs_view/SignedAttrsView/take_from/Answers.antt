@@ -14,8 +14,8 @@ pub returns-in-Some : goal.returns-in-Some
 returns-in-Some c =
     let a = rw c.new.ensures at c.in-Ok.ensures in
     attributes-taken c.args.strict _ _ _ a _
-    (section-front _ a.spells.front _ _ _ _ _ a.spells.parts c.rest-octets.ensures c.rest-following.ensures refl
-    refl refl)
+    (section-front _ a.spells.front _ _ _ _ _ a.spells.parts c.rest-octets.ensures c.rest.ensures
+    c.before-in-Some.ensures refl)
     c.in-Some.ensures
 
 pub returns-in-None : goal.returns-in-None
