@@ -14,10 +14,9 @@ use Rattle.rpki_cert.specs.AccessDescription.{Description, description, descript
 use Rattle.rpki_cert.proofs.GeneralNameLaws.{name-no-memory}
 use Rattle.rpki_c.specs.declared.place.Place.{Place}
 use Rattle.rpki_c.specs.Access.{IsUriAt}
-use Rattle.rpki_c.specs.Place.{ContentsStand}
+use Rattle.rpki_c.specs.Place.{StandsBefore}
 use Rattle.rpki_c.proofs.CertificateLaws.{ends-inside, ends-next}
-use Rattle.rpki_c.proofs.PartLaws.{EndsWith, ends-contents, ends-more}
-use Rattle.rpki_c.proofs.SuffixLaws.{suffix}
+use Rattle.rpki_c.proofs.PartLaws.{EndsWith, ends-contents, ends-more, stands-before}
 
 -- ---- errors
 
@@ -30,19 +29,6 @@ description-no-memory s h =
     (λ t q. end-no-memory q) l) k) h
 
 -- ---- places
-
--- a part that stands before the end of the octets
-pub stands-before : (s part behind : List ℕ) (p : Place) → EndsWith s (part ++ behind)
-    → p.start + (length part + length behind) ≡ length s → p.length ≡ length part → ContentsStand s p part behind
-stands-before s part behind p h start size =
-    let whole = ap length h.parts ∙ length-append h.front (part ++ behind) in
-    let joined = length-append part behind in
-    let from : p.start ≡ length s - length (part ++ behind) = omega (arith, start, joined) in
-    record {
-      within = omega (arith, start, size);
-      size = size;
-      octets = ap (λ n. drop n s) from ∙ suffix s h.front (part ++ behind) h.parts;
-    }
 
 -- the text of a URI ends its name
 pub text-ends : (s text q behind : List ℕ) → SpellsText text q → EndsWith s (q ++ behind) → EndsWith s (text ++ behind)
@@ -82,7 +68,7 @@ module _ (s r : List ℕ) (d : Description) (a : Accepts description.spells s d 
       (ends-contents sequence true l.contents a.spells.front l.value) b.parts)
 
   -- the identifier, in the octets from the contents on
-  pub method-front : (t : List ℕ) (p : Place) → ContentsStand s p a.spells.spelled.contents r → t ≡ drop p.start s
+  pub method-front : (t : List ℕ) (p : Place) → StandsBefore s p a.spells.spelled.contents r → t ≡ drop p.start s
       → Spells (SpellsContents oid false) t a.spells.spelled.spelled.one.contents
       (a.spells.spelled.spelled.second ++ r)
   method-front t p st e =

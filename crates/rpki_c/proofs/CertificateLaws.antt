@@ -14,7 +14,7 @@ use Rattle.rpki_c.specs.declared.place.Place.{Place}
 use Rattle.rpki_c.specs.Place.{StandsBefore}
 use Rattle.rpki_c.specs.Certificate.{behind_signed}
 use Rattle.rpki_c.specs.CertificateExtensions.{list_in}
-use Rattle.rpki_c.proofs.PartLaws.{EndsWith, ends-more, ends-contents, signature-end, content-end}
+use Rattle.rpki_c.proofs.PartLaws.{EndsWith, ends-more, ends-contents, stands-before, signature-end, content-end}
 
 -- ---- places
 
@@ -24,20 +24,9 @@ pub stands : (s m part behind w : List ℕ) (n k : ℕ) (p : Place) → EndsWith
 stands s m part behind w n k p h e is room first size =
     let whole : s ≡ h.front ++ (part ++ behind) = h.parts ∙ ap (λ (x : List ℕ). h.front ++ x) e in
     let same = ap length is in
-    record {
-      front = h.front;
-      parts = whole;
-      start = omega (
-        arith,
-        first,
-        same,
-        room,
-        ap length whole,
-        length-append h.front (part ++ behind),
-        length-append part behind,
-      );
-      size = size ∙ same;
-    }
+    let all = ap length whole ∙ length-append h.front (part ++ behind) in
+    let ends : EndsWith s (part ++ behind) = record { front = h.front; parts = whole } in
+    stands-before s part behind p ends (omega (arith, first, same, room, all, length-append part behind)) (size ∙ same)
 
 -- the end of an end
 pub ends-next : (s m a b : List ℕ) → EndsWith s m → m ≡ a ++ b → EndsWith s b

@@ -7,7 +7,7 @@ use Rattle.rpki_der.specs.Header.{identifier_octets, length_octets}
 use Rattle.rpki_der.specs.Reading.{Spells, Accepts}
 use Rattle.rpki_der.specs.Values.{SpellsContents, SpellsHeader}
 use Rattle.rpki_c.specs.declared.place.Place.{Place}
-use Rattle.rpki_c.specs.Place.{ContentsStand}
+use Rattle.rpki_c.specs.Place.{StandsBefore}
 
 -- the header of a value of this tag, form and contents
 abbrev pub front_header : TagName → Bool → List ℕ → Header
@@ -27,7 +27,7 @@ header_of s t f c r h =
 
 pub stand : (s : List ℕ) (header : Header) (p : Place) (t : TagName) (f : Bool) (c r : List ℕ) → p.start ≤ length s
     → p.length ≡ header.length
-    → Accepts SpellsHeader s header (drop p.start s) → Spells (SpellsContents t f) s c r → ContentsStand s p c r
+    → Accepts SpellsHeader s header (drop p.start s) → Spells (SpellsContents t f) s c r → StandsBefore s p c r
 stand s header p t f c r low size a h =
     let g = a.only (front_header t f c) (c ++ r) (header_of s t f c r h) in
     let long : p.length ≡ length c = size ∙ sym (ap (λ (x : Header). x.length) g.0) in

@@ -12,7 +12,7 @@ use Rattle.rpki_der.proofs.ComposedLaws.{spelled-whole}
 use Rattle.rpki.specs.SignedData.{SignedParts}
 use Rattle.rpki.specs.ExtensionValue.{ExtensionParts, SpellsExtension}
 use Rattle.rpki_c.specs.declared.place.Place.{Place}
-use Rattle.rpki_c.specs.Place.{IsPlace, ContentsStand}
+use Rattle.rpki_c.specs.Place.{IsPlace, StandsBefore}
 use Rattle.rpki_c.specs.Signed.{SpellsRpki}
 use Rattle.rpki_c.proofs.SuffixLaws.{suffix}
 
@@ -39,22 +39,22 @@ slice-from s n = take_all (length s - n) (drop n s) (omega (arith, length-drop n
 
 -- contents that stand within what follows a place
 pub stand-in : (s r : List ℕ) (start : ℕ) (p : Place) (contents rest : List ℕ) → start ≤ length s → r ≡ drop start s
-    → ContentsStand r p contents rest
-    → ContentsStand s (record { start = start + p.start; length = p.length }) contents rest
+    → StandsBefore r p contents rest
+    → StandsBefore s (record { start = start + p.start; length = p.length }) contents rest
 stand-in s r start p contents rest low e h = record {
   within = omega (arith, low, h.within, ap length e, length-drop start s);
   size = h.size;
   octets = sym (drop-drop p.start start s) ∙ ap (λ (x : List ℕ). drop p.start x) (sym e) ∙ h.octets;
 }
 
-pub stand-place : (s : List ℕ) (p : Place) (contents rest : List ℕ) → ContentsStand s p contents rest
+pub stand-place : (s : List ℕ) (p : Place) (contents rest : List ℕ) → StandsBefore s p contents rest
     → IsPlace s p contents
 stand-place s p contents rest h = record {
   within = h.within;
   octets = rw (h.size, h.octets) (take-append_seam contents rest);
 }
 
-pub stand-behind : (s : List ℕ) (p : Place) (contents rest : List ℕ) → ContentsStand s p contents rest
+pub stand-behind : (s : List ℕ) (p : Place) (contents rest : List ℕ) → StandsBefore s p contents rest
     → drop (p.start + p.length) s ≡ rest
 stand-behind s p contents rest h = rw h.size (drop-part s p.start contents rest h.octets)
 
@@ -86,6 +86,19 @@ ends-more s front b part e h = record {
 pub ends-contents : (t : TagName) (f : Bool) (c s : List ℕ) → SpellsContents t f c s → EndsWith s c
 ends-contents t f c s h = record { front = identifier_octets t f ++ length_octets (length c); parts = h.octets }
 
+-- a part with which the end of the octets begins
+pub stands-before : (s part behind : List ℕ) (p : Place) → EndsWith s (part ++ behind)
+    → p.start + (length part + length behind) ≡ length s → p.length ≡ length part → StandsBefore s p part behind
+stands-before s part behind p h start size =
+    let whole = ap length h.parts ∙ length-append h.front (part ++ behind) in
+    let joined = length-append part behind in
+    let from : p.start ≡ length s - length (part ++ behind) = omega (arith, start, joined) in
+    record {
+      within = omega (arith, start, size);
+      size = size;
+      octets = ap (λ n. drop n s) from ∙ suffix s h.front (part ++ behind) h.parts;
+    }
+
 -- ---- signed data
 
 pub all-signed : (s : List ℕ) (v : SignedParts Bool) (h : SpellsRpki v s)
@@ -93,13 +106,13 @@ pub all-signed : (s : List ℕ) (v : SignedParts Bool) (h : SpellsRpki v s)
 all-signed s v h = spelled-whole (SpellsContents sequence true) s h.contents h.value
 
 -- what stands from the data on, and from the algorithm on
-pub from-data : (s : List ℕ) (v : SignedParts Bool) (h : SpellsRpki v s) (p : Place) → ContentsStand s p h.contents []
+pub from-data : (s : List ℕ) (v : SignedParts Bool) (h : SpellsRpki v s) (p : Place) → StandsBefore s p h.contents []
     → drop p.start s ≡ v.signed ++ (h.spelled.text ++ h.spelled.bits)
 from-data s v h p st = st.octets ∙ append-nil h.contents ∙ h.spelled.parts
     ∙ append_assoc v.signed h.spelled.text h.spelled.bits
 
 pub from-algorithm : (s : List ℕ) (v : SignedParts Bool) (h : SpellsRpki v s) (p : Place) (n : ℕ) → n ≡ length v.signed
-    → ContentsStand s p h.contents []
+    → StandsBefore s p h.contents []
     → drop (p.start + n) s ≡ h.spelled.text ++ h.spelled.bits
 from-algorithm s v h p n is st = rw is (drop-part s p.start v.signed (h.spelled.text ++ h.spelled.bits)
     (from-data s v h p st))
@@ -147,7 +160,7 @@ pub all-extension : (s : List ℕ) (x : ExtensionParts) (h : SpellsExtension x s
 all-extension s x h = spelled-whole (SpellsContents sequence true) s h.contents h.value
 
 pub identifier-spelled : (s r : List ℕ) (x : ExtensionParts) (h : SpellsExtension x s) (p : Place)
-    → ContentsStand s p h.contents [] → r ≡ drop p.start s
+    → StandsBefore s p h.contents [] → r ≡ drop p.start s
     → Spells (SpellsContents oid false) r h.spelled.identifier.contents (h.spelled.second ++ h.spelled.third)
 identifier-spelled s r x h p st e = record {
   front = h.spelled.first;

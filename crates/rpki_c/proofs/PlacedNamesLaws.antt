@@ -1,14 +1,13 @@
 -- The names of the files of a manifest, by the places where they stand.
-use Rattle.std.proofs.Common.{◌≡◌, ◌≢◌, ◌∙◌, ◌+◌, ◌<◌, ◌≤◌, ◌++◌, ℕ, true, false, List, [], ◌∷◌, length, take, drop}
-use Rattle.std.proofs.Common.{get_or}
-use Rattle.std.proofs.Common.{refl, sym, ap, subst, arith, length-append, append_assoc}
+use Rattle.std.proofs.Common.{◌≡◌, ◌≢◌, ◌∙◌, ◌+◌, ◌<◌, ◌≤◌, ◌++◌, ℕ, true, false, List, [], ◌∷◌, length, take}
+use Rattle.std.proofs.Common.{get_or, refl, sym, ap, subst, arith, length-append, append_assoc}
 use Rattle.std.specs.Prelude.{◌↔◌, map, bytes_eq}
 use Rattle.std.specs.Cmp.Lexicographic.{slice_cmp}
 use Rattle.std.specs.List.{IsDistinct}
 use Rattle.std.specs.List.Sorted.{IsPermutation, IsSortedBy}
 use Rattle.std.specs.Ordering.{is_lt, nat_cmp}
 use Rattle.std.proofs.Math.ListN.{set}
-use Rattle.std.proofs.lemmas.List.{take_at, drop_at, take_more_set, map-append, get_or-map, length-map}
+use Rattle.std.proofs.lemmas.List.{take_more_set, map-append, get_or-map, length-map}
 use Rattle.std.proofs.lemmas.List.Sorted.{IsPermutation-map}
 use denote.Bor.{Bor}
 use Rattle.rpki_der.specs.Prelude.{Accepts}
@@ -16,17 +15,7 @@ use Rattle.rpki_contents.specs.ListedFile.{ListedFile, file, AreDistinct}
 use Rattle.rpki_contents.proofs.FilesLaws.{Behind, at-start, one-more}
 use Rattle.rpki_contents.proofs.NamesLaws.{all-differ, two-are-same, names-there, names-back, octets_of}
 use Rattle.rpki_c.specs.declared.place.Place.{Place}
-use Rattle.rpki_c.specs.Place.{StandsBefore}
 use Rattle.rpki_c.specs.ManifestNames.{part_at, parts_at, PartsDiffer, name_of}
-
--- what stands at a place is the part that stands there
-pub part-is : (s : List ℕ) (p : Place) (part behind : List ℕ) → StandsBefore s p part behind → part_at s p ≡ part
-part-is s p part behind h =
-    ap (λ (w : List ℕ). take p.length (drop p.start w)) h.parts
-    ∙ ap (λ (n : ℕ). take p.length (drop n (h.front ++ (part ++ behind)))) h.start
-    ∙ ap (take p.length) (drop_at h.front (part ++ behind) (length h.front) refl)
-    ∙ ap (λ (n : ℕ). take n (part ++ behind)) h.size
-    ∙ take_at part behind (length part) refl
 
 -- ---- places that are sorted by what stands there
 

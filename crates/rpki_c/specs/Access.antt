@@ -7,7 +7,7 @@ use Rattle.rpki_cert.specs.AccessDescription.{Description, description, general_
 use Rattle.rpki_c.specs.declared.access.AccessParts.{AccessParts}
 use Rattle.rpki_c.specs.declared.access.GeneralNameParts.{GeneralNameParts}
 use Rattle.rpki_c.specs.declared.place.Place.{Place}
-use Rattle.rpki_c.specs.Place.{ContentsStand}
+use Rattle.rpki_c.specs.Place.{StandsBefore}
 use Rattle.rpki_c.specs.Whole.{NeverMemory, IsRefused, IsFrontRefused}
 
 -- how a method is passed, by the contents octets of its identifier (RFC 5280 4.2.2, RFC 6487 4.8.8, RFC 8182 3.2)
@@ -23,7 +23,7 @@ method_number id =
 -- the text of a name that is a URI stands at the place, and exactly these octets of s follow it; a name of another form
 -- has none
 abbrev pub IsUriAt : List ℕ → Option (List ℕ) → List ℕ → Place → Bool → Type 0
-IsUriAt s (Some text) behind p is_uri = ContentsStand s p text behind × (is_uri ≡ true)
+IsUriAt s (Some text) behind p is_uri = StandsBefore s p text behind × (is_uri ≡ true)
 IsUriAt s None behind p is_uri = (p.start ≡ 0) × (p.length ≡ 0) × (is_uri ≡ false)
 
 -- an access description begins the octets: the identifier of its method stands right before its name, and the name's
@@ -32,7 +32,7 @@ pub record HasAccess (s : List ℕ) (p : AccessParts) : Type 0 where
   pub found : Description
   pub rest : List ℕ
   pub accepted : Accepts description.spells s found rest
-  pub id : ContentsStand s p.id found.0 (accepted.spells.spelled.spelled.second ++ rest)
+  pub id : StandsBefore s p.id found.0 (accepted.spells.spelled.spelled.second ++ rest)
   pub uri : IsUriAt s found.1 rest p.uri p.is_uri
   pub method : p.method ≡ method_number found.0
   pub size : p.size + length rest ≡ length s
@@ -61,7 +61,7 @@ IsNameRead s status old new =
 pub record HasPoint (s : List ℕ) (p : Place) : Type 0 where
   pub names : List ℕ
   pub spelled : points.spells names s
-  pub place : ContentsStand s p names []
+  pub place : StandsBefore s p names []
 
 -- Status 0: the octets are one distribution point. Else the number of the error, and nothing is written.
 abbrev pub IsPointRead : List ℕ → ℕ → Place → Place → Type 0

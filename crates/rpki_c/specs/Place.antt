@@ -9,13 +9,6 @@ pub record IsPlace (s : List ℕ) (p : Place) (part : List ℕ) : Type 0 where
 
 -- the part stands at the place, and exactly these octets of s follow it
 pub record StandsBefore (s : List ℕ) (p : Place) (part behind : List ℕ) : Type 0 where
-  pub front : List ℕ
-  pub parts : s ≡ front ++ (part ++ behind)
-  pub start : p.start ≡ length front
-  pub size : p.length ≡ length part
-
--- the contents stand at the place, and the rest follows them
-pub record ContentsStand (s : List ℕ) (p : Place) (contents rest : List ℕ) : Type 0 where
   pub within : p.start + p.length ≤ length s
-  pub size : p.length ≡ length contents
-  pub octets : drop p.start s ≡ contents ++ rest
+  pub size : p.length ≡ length part
+  pub octets : drop p.start s ≡ part ++ behind

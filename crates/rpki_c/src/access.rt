@@ -6,7 +6,7 @@ ghost use Rattle.rpki_der.specs.Prelude.{Accepts};
 ghost use Rattle.rpki_cert.specs.AccessDescription.{description_of, description};
 ghost use Rattle.rpki_c.specs.Access.{method_number, HasAccess, IsAccessRead, IsNameRead, IsPointRead};
 
-use crate::place::{Place, contents_of};
+use crate::place::Place;
 use rpki::der::Oid;
 use rpki::oid;
 use rpki_cert::{AccessDescription, point_names, take_general_name};
@@ -90,8 +90,8 @@ fn access_of(octets: &[u8], following: usize, found: &AccessDescription<'_>) -> 
         × (following ≡ length r) }
     ensures { HasAccess octets.now result }
 {
-    let outer = contents_of(octets);
-    let inner = contents_of(&octets[outer.start..]);
+    let outer = Place::of_contents(octets);
+    let inner = Place::of_contents(&octets[outer.start..]);
     let size = octets.len() - following;
     AccessParts {
         id: Place {

@@ -5,11 +5,9 @@ ghost use Rattle.rpki_contents.specs.Aspa.{AspaParts as Attestation};
 ghost use Rattle.rpki_contents.specs.AspaView.{IsAspaAt};
 ghost use Rattle.rpki_c.specs.Aspa.{aspa_part_number, HasAspa, IsAspaRead, IsProviderRead};
 
-use crate::certificate::place_of;
 use crate::place::Place;
-use rpki_cert::Section;
 use rpki_contents::{AspaPart, AspaView};
-use rpki_der::Constructed;
+use rpki_der::{Constructed, Section};
 use rpki_resources::take_as_number;
 
 /// The parts of an attestation of providers.
@@ -46,7 +44,7 @@ fn aspa_of(octets: &[u8], found: AspaView<'_>) -> AspaParts
         following: 0,
     };
     AspaParts {
-        providers: place_of(octets.len(), 0, providers),
+        providers: Place::of_section(octets.len(), 0, providers),
         count: found.count,
         customer: found.customer,
     }

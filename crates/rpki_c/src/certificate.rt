@@ -1,6 +1,6 @@
 //! Certificates.
 
-ghost use Rattle.std.specs.Prelude.{◌≡◌, ◌-◌, length};
+ghost use Rattle.std.specs.Prelude.{◌≡◌};
 ghost use Rattle.rpki_cert.specs.Cert.{CertParts};
 ghost use Rattle.rpki_cert.specs.View.{IsCertAt};
 ghost use Rattle.rpki_c.specs.Certificate.{part_number, HasCertificate, IsCertificateRead, IsCertificateErrorRead};
@@ -9,7 +9,8 @@ use crate::keys::format_number;
 use crate::place::Place;
 use crate::times::{Period, moment_of};
 use rpki::crypto::RpkiSignatureAlgorithm;
-use rpki_cert::{CertPart, CertView, Section};
+use rpki_cert::{CertPart, CertView};
+use rpki_der::Section;
 
 /// The parts of a certificate.
 #[repr(C)]
@@ -65,20 +66,6 @@ pub(crate) fn part_number(part: CertPart) -> u8
     }
 }
 
-/// Where a section stands, of octets behind which so many follow, of so many in all.
-pub(crate) fn place_of(total: usize, behind: usize, section: Section<'_>) -> Place
-    ensures start { result.start ≡ total - behind - section.entry.following - length section.entry.octets.now }
-    ensures size { result.length ≡ length section.entry.octets.now }
-{
-    let end = total
-        .saturating_sub(behind)
-        .saturating_sub(section.following);
-    Place {
-        start: end.saturating_sub(section.octets.len()),
-        length: section.octets.len(),
-    }
-}
-
 /// The parts of the certificate that the octets are.
 pub(crate) fn parts_of(octets: &[u8], found: &CertView<'_>) -> CertificateParts
     requires { (x : CertParts) × IsCertAt octets.now found.now x }
@@ -92,13 +79,13 @@ pub(crate) fn parts_of(octets: &[u8], found: &CertView<'_>) -> CertificateParts
         following: 0,
     };
     CertificateParts {
-        data: place_of(total, 0, found.parts.data),
-        algorithm: place_of(total, 0, found.parts.algorithm),
-        signature: place_of(total, 0, found.parts.signature),
-        issuer: place_of(total, behind, named.issuer),
-        subject: place_of(total, behind, named.subject),
-        public_key: place_of(total, behind, named.keyed.octets),
-        extensions: place_of(total, behind, extensions),
+        data: Place::of_section(total, 0, found.parts.data),
+        algorithm: Place::of_section(total, 0, found.parts.algorithm),
+        signature: Place::of_section(total, 0, found.parts.signature),
+        issuer: Place::of_section(total, behind, named.issuer),
+        subject: Place::of_section(total, behind, named.subject),
+        public_key: Place::of_section(total, behind, named.keyed.octets),
+        extensions: Place::of_section(total, behind, extensions),
         validity: Period {
             not_before: moment_of(named.validity.not_before()),
             not_after: moment_of(named.validity.not_after()),

@@ -8,7 +8,7 @@ ghost use Rattle.rpki_cert.specs.KnownView.{AreKnown};
 ghost use Rattle.rpki_c.specs.CertificateExtensions.{known_number, usage_number, policy_number, IsIdentifierOf};
 ghost use Rattle.rpki_c.specs.CertificateExtensions.{IsFoundAt, HasExtensions, AreExtensionsRead};
 
-use crate::certificate::{part_number, place_of};
+use crate::certificate::part_number;
 use crate::place::Place;
 use rpki::crypto::KeyIdentifier;
 use rpki_cert::{CertView, ExtensionKind, KeyUsage, KnownPart, KnownView, Overclaim};
@@ -126,7 +126,7 @@ pub(crate) fn extension_at(
     let end = octets.len().saturating_sub(found.parts.data.following);
     match found.tbs.named.keyed.extensions.listed(kind) {
         Some(listed) => KnownExtension {
-            octets: place_of(end, 0, listed.contents),
+            octets: Place::of_section(end, 0, listed.contents),
             is_there: true,
             critical: listed.critical,
         },

@@ -5,7 +5,6 @@ ghost use Rattle.rpki_objects.specs.Crl.{CrlParts};
 ghost use Rattle.rpki_objects.specs.CrlView.{IsCrlAt};
 ghost use Rattle.rpki_c.specs.Crl.{crl_part_number, HasCrl, IsCrlRead, IsCrlSearched, IsEntryRead};
 
-use crate::certificate::place_of;
 use crate::place::Place;
 use crate::status::CONTENT;
 use crate::times::{Moment, moment_of};
@@ -70,11 +69,11 @@ fn list_of(octets: &[u8], found: &CrlView<'_>) -> RevocationList
     let behind = found.data.following;
     let tbs = &found.tbs;
     RevocationList {
-        data: place_of(total, 0, found.data),
-        algorithm: place_of(total, 0, found.algorithm),
-        signature: place_of(total, 0, found.signature),
-        issuer: place_of(total, behind, tbs.issuer),
-        revoked_certs: place_of(total, behind, tbs.revoked_certs),
+        data: Place::of_section(total, 0, found.data),
+        algorithm: Place::of_section(total, 0, found.algorithm),
+        signature: Place::of_section(total, 0, found.signature),
+        issuer: Place::of_section(total, behind, tbs.issuer),
+        revoked_certs: Place::of_section(total, behind, tbs.revoked_certs),
         this_update: moment_of(tbs.this_update),
         next_update: moment_of(tbs.next_update),
         crl_number: tbs.extensions.crl_number.into_array(),

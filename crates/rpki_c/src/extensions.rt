@@ -1,11 +1,10 @@
 //! Extensions of certificates.
 
-ghost use Rattle.std.specs.Prelude.{◌≡◌};
 ghost use Rattle.rpki_der.specs.Reading.{Decodes};
 ghost use Rattle.rpki.specs.ExtensionValue.{SpellsExtension};
 ghost use Rattle.rpki_c.specs.Extension.{IsWholeExtensionFault, HasExtension, IsExtensionRead};
 
-use crate::place::{Place, contents_of};
+use crate::place::Place;
 use rpki::repository::x509::ExtensionView;
 use rpki_der::{Constructed, DecodeError};
 
@@ -36,8 +35,8 @@ fn places_of(octets: &[u8], found: &ExtensionView<'_>) -> ExtensionParts
     requires { SpellsExtension found.now octets.now }
     ensures { HasExtension octets.now result }
 {
-    let outer = contents_of(octets);
-    let inner = contents_of(&octets[outer.start..]);
+    let outer = Place::of_contents(octets);
+    let inner = Place::of_contents(&octets[outer.start..]);
     let value = found.octets().len();
     ExtensionParts {
         id: Place {

@@ -4,7 +4,6 @@ ghost use Rattle.rpki_text.specs.Views.{https_text};
 ghost use Rattle.rpki_c.specs.HttpsUri.{HasHttpsParts, IsHttpsParsed};
 
 use crate::place::Place;
-use crate::ranges::place_of;
 use crate::rsync::uri_fault;
 use rpki_text::uri::HttpsView;
 
@@ -22,8 +21,8 @@ fn parts_of(uri: &HttpsView<'_>) -> HttpsParts
     ensures { HasHttpsParts (https_text uri.now) result }
 {
     HttpsParts {
-        authority: place_of(uri.authority_range()),
-        path: place_of(uri.path_range()),
+        authority: Place::of_range(uri.authority_range()),
+        path: Place::of_range(uri.path_range()),
     }
 }
 

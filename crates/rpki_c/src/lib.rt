@@ -40,7 +40,6 @@ mod moments;
 mod names;
 mod periods;
 mod place;
-mod ranges;
 mod resources;
 mod roa;
 mod rsync;

@@ -5,12 +5,10 @@ ghost use Rattle.rpki_contents.specs.ListedFile.{ListedFile};
 ghost use Rattle.rpki_contents.specs.ManifestView.{IsManifestAt};
 ghost use Rattle.rpki_c.specs.Manifest.{manifest_part_number, HasManifest, IsManifestRead, IsFileRead};
 
-use crate::certificate::place_of;
 use crate::place::Place;
 use crate::times::{Moment, moment_of};
-use rpki_cert::Section;
 use rpki_contents::{FileView, ManifestPart, ManifestView};
-use rpki_der::Constructed;
+use rpki_der::{Constructed, Section};
 
 /// The parts of a manifest.
 #[repr(C)]
@@ -53,7 +51,7 @@ fn manifest_of(octets: &[u8], found: &ManifestView<'_>) -> ManifestParts
         following: 0,
     };
     ManifestParts {
-        files: place_of(octets.len(), 0, files),
+        files: Place::of_section(octets.len(), 0, files),
         count: found.files.count(),
         this_update: moment_of(found.this_update),
         next_update: moment_of(found.next_update),
@@ -111,7 +109,7 @@ pub extern "C" fn rpki_manifest_file(octets: &[u8], out: &mut ManifestFile) -> u
                 following,
             };
             *out = ManifestFile {
-                name: place_of(octets.len(), DIGEST_SIZE, name),
+                name: Place::of_section(octets.len(), DIGEST_SIZE, name),
                 size: octets.len() - following,
                 digest: file.hash.into_array(),
             };

@@ -5,13 +5,11 @@ ghost use Rattle.std.specs.Cmp.Lexicographic.{slice_cmp};
 ghost use Rattle.std.specs.Ordering.{nat_cmp};
 ghost use Rattle.rpki_c.specs.ManifestNames.{AreNamesCompared, PartsDiffer, WritesNames, part_at};
 
-use crate::certificate::place_of;
 use crate::manifest::{DIGEST_SIZE, manifest_part_number};
 use crate::place::Place;
 use crate::status::TOO_SMALL;
-use rpki_cert::Section;
 use rpki_contents::{FileView, ManifestPart};
-use rpki_der::Constructed;
+use rpki_der::{Constructed, Section};
 use std::cmp::Ordering;
 
 /// What stands at the place, as far as the octets go.
@@ -62,7 +60,7 @@ fn write_names(octets: &[u8], room: &mut [Place]) -> Option<usize>
                 octets: file.name,
                 following: rest.rest().len(),
             };
-            room[count] = place_of(octets.len(), DIGEST_SIZE, name);
+            room[count] = Place::of_section(octets.len(), DIGEST_SIZE, name);
         }
         count += 1;
     }

@@ -6,11 +6,9 @@ ghost use Rattle.rpki_contents.specs.RoaView.{IsRoaAt, PrefixesStand};
 ghost use Rattle.rpki_c.specs.Roa.{roa_part_number, HasRoa, IsRoaRead, IsAddressRead};
 
 use crate::block_texts::family_of;
-use crate::certificate::place_of;
 use crate::ip_blocks::octets_of;
 use crate::place::Place;
 use crate::status::CONTENT;
-use rpki_cert::Section;
 use rpki_contents::{RoaIpAddress, RoaPart, RoaView};
 use rpki_der::Constructed;
 
@@ -48,17 +46,9 @@ fn roa_of(octets: &[u8], strict: bool, found: RoaView<'_>) -> RoaParts
     ensures { HasRoa strict octets.now result }
 {
     let total = octets.len();
-    let v4 = Section {
-        octets: found.v4,
-        following: found.v4_following,
-    };
-    let v6 = Section {
-        octets: found.v6,
-        following: found.v6_following,
-    };
     RoaParts {
-        v4: place_of(total, 0, v4),
-        v6: place_of(total, 0, v6),
+        v4: Place::of_section(total, 0, found.v4),
+        v6: Place::of_section(total, 0, found.v6),
         v4_count: found.v4_count,
         v6_count: found.v6_count,
         as_id: found.as_id,

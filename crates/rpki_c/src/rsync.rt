@@ -7,7 +7,6 @@ ghost use Rattle.rpki_c.specs.Status.{second, uri};
 ghost use Rattle.rpki_c.specs.Uri.{HasRsyncParts, IsRsyncParsed, IsJoined, IsRelative, IsParent};
 
 use crate::place::Place;
-use crate::ranges::place_of;
 use crate::status::{NO_ANSWER, SECOND, TOO_SMALL, URI};
 use rpki_text::uri::{Error, RsyncView};
 
@@ -27,9 +26,9 @@ fn parts_of(uri: &RsyncView<'_>) -> RsyncParts
     ensures { HasRsyncParts (rsync_text uri.now) result }
 {
     RsyncParts {
-        authority: place_of(uri.authority_range()),
-        module_name: place_of(uri.module_name_range()),
-        path: place_of(uri.path_range()),
+        authority: Place::of_range(uri.authority_range()),
+        module_name: Place::of_range(uri.module_name_range()),
+        path: Place::of_range(uri.path_range()),
     }
 }
 
@@ -67,7 +66,7 @@ pub extern "C" fn rpki_rsync_relative_to(uri: &[u8], base: &[u8], out: &mut Plac
     };
     match target.relative_range(&origin) {
         Some(range) => {
-            *out = place_of(range);
+            *out = Place::of_range(range);
             0
         }
         None => NO_ANSWER,

@@ -7,7 +7,6 @@ ghost use Rattle.rpki_c.specs.RsyncPlaces.{AreParts, AreLaidOut, IsRelativeByPar
 ghost use Rattle.rpki_c.specs.RsyncPlaces.{IsParentByParts, IsJoinedByParts, IsDirByParts};
 
 use crate::place::Place;
-use crate::ranges::place_of;
 use crate::rsync::{RsyncParts, uri_fault};
 use crate::status::{NO_ANSWER, OTHER_PARTS};
 use crate::stored::{store_joined, store_lower};
@@ -66,7 +65,7 @@ pub extern "C" fn rpki_rsync_parts_relative_to(
     let Some(range) = target.relative_range(&origin) else {
         return NO_ANSWER;
     };
-    *out = place_of(range);
+    *out = Place::of_range(range);
     0
 }
 

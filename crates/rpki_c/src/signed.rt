@@ -1,6 +1,6 @@
 //! Signed data.
 
-ghost use Rattle.std.specs.Prelude.{◌≡◌, false};
+ghost use Rattle.std.specs.Prelude.{false};
 ghost use Rattle.rpki_der.specs.Cursor.{left};
 ghost use Rattle.rpki_der.specs.TagName.{bit_string};
 ghost use Rattle.rpki_der.specs.Reading.{Reads};
@@ -12,7 +12,7 @@ ghost use Rattle.rpki_c.specs.Signed.{SpellsRpki, AreOtherParts, IsOtherSigned, 
 ghost use Rattle.rpki_c.specs.Signed.{HasSigned, IsSignedRead, AreRpkiParts};
 
 use crate::identifiers::begins_with_identifier;
-use crate::place::{Place, contents_of};
+use crate::place::Place;
 use crate::status::OTHER_ALGORITHM;
 use rpki::crypto::{RpkiSignatureAlgorithm, SignatureAlgorithm};
 use rpki_der::{BitString, Constructed, DecodeError, Steps, Tag, walk_octets};
@@ -105,10 +105,10 @@ fn places_of(octets: &[u8], signed: &[u8], has_parameters: bool, signature: &[u8
     requires { SpellsRpki (parts_of signed.now has_parameters signature.now) octets.now }
     ensures { HasSigned octets.now result }
 {
-    let outer = contents_of(octets);
+    let outer = Place::of_contents(octets);
     let data = signed.len();
     let next = outer.start + data;
-    let inner = contents_of(&octets[next..]);
+    let inner = Place::of_contents(&octets[next..]);
     let value = signature.len();
     let last = octets.len() - value;
     SignedParts {

@@ -7,7 +7,7 @@ ghost use Rattle.rpki_objects.specs.SignedObject.{ObjectParts};
 ghost use Rattle.rpki_objects.specs.SignedObjectView.{IsObjectAt};
 ghost use Rattle.rpki_c.specs.SignedObject.{object_part_number, HasObject, IsObjectRead};
 
-use crate::certificate::{part_number, place_of};
+use crate::certificate::part_number;
 use crate::place::Place;
 use crate::times::{Moment, moment_of};
 use rpki::crypto::SignatureAlgorithm;
@@ -109,11 +109,11 @@ fn object_of(octets: &[u8], strict: bool, found: &SignedObjectView<'_>) -> Signe
     let signer = &found.signer;
     let values = &signer.signed_attrs.values;
     SignedObjectParts {
-        content_type: place_of(total, 0, content.content_type),
-        content: place_of(total, 0, content.content),
-        certificate: place_of(total, 0, found.cert),
-        signed_attributes: place_of(total, 0, signer.signed_attrs.octets),
-        signature: place_of(total, 0, signer.signature),
+        content_type: Place::of_section(total, 0, content.content_type),
+        content: Place::of_section(total, 0, content.content),
+        certificate: Place::of_section(total, 0, found.cert),
+        signed_attributes: Place::of_section(total, 0, signer.signed_attrs.octets),
+        signature: Place::of_section(total, 0, signer.signature),
         signing_time: moment_if(values.signing_time),
         binary_signing_time: values.binary_signing_time.unwrap_or(0),
         message_digest: values.message_digest.into_array(),

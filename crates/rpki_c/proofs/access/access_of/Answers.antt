@@ -1,21 +1,21 @@
-use Rattle.std.proofs.Common.{◌≡◌, ◌≤◌, ◌+◌, ◌-◌, ◌++◌, true, false, length, take, drop, ap, subst, arith, length-drop}
+use Rattle.std.proofs.Common.{◌≤◌, ◌+◌, ◌-◌, ◌++◌, true, false, length, take, drop, ap, subst, arith, length-drop}
 use Rattle.rpki_der.specs.Prelude.{sequence, oid}
 use Rattle.rpki_cert.specs.AccessDescription.{description_of}
-use Rattle.rpki_c.specs.Place.{ContentsStand}
+use Rattle.rpki_c.specs.Place.{StandsBefore}
 use Rattle.rpki_c.proofs.AccessLaws.{description-front, description-size, method-front, name-ends, uri-at}
 use Rattle.rpki_c.proofs.PartLaws.{slice-from, stand-in}
 use Rattle.rpki_c.proofs.access.access_of.Goals as goal
 
-pub slice_bounds-contents_of-count : goal.slice_bounds-contents_of-count
-slice_bounds-contents_of-count c =
+pub slice_bounds-of_contents-count : goal.slice_bounds-of_contents-count
+slice_bounds-of_contents-count c =
     let q = c.requires in
-    let o = c.contents_of-outer.ensures sequence true _ _ (description-front _ _ _ q.1) in
+    let o = c.of_contents-outer.ensures sequence true _ _ (description-front _ _ _ q.1) in
     omega (arith, o.within)
 
-pub slice_bounds-contents_of-start : goal.slice_bounds-contents_of-start
-slice_bounds-contents_of-start c =
+pub slice_bounds-of_contents-start : goal.slice_bounds-of_contents-start
+slice_bounds-of_contents-start c =
     let q = c.requires in
-    let o = c.contents_of-outer.ensures sequence true _ _ (description-front _ _ _ q.1) in
+    let o = c.of_contents-outer.ensures sequence true _ _ (description-front _ _ _ q.1) in
     omega (arith, o.within)
 
 pub overflow_sub-size : goal.overflow_sub-size
@@ -27,13 +27,13 @@ pub overflow_add-result : goal.overflow_add-result
 overflow_add-result c =
     let s = c.args.octets.now in
     let q = c.requires in
-    let outer = c.contents_of-outer.result in
+    let outer = c.of_contents-outer.result in
     let a = q.1 in
     let b = a.spells.spelled.spelled in
-    let o = c.contents_of-outer.ensures sequence true _ _ (description-front _ _ _ a) in
+    let o = c.of_contents-outer.ensures sequence true _ _ (description-front _ _ _ a) in
     let sp = method-front _ _ _ a (take (length s - outer.start) (drop outer.start s)) outer o
     (slice-from s outer.start) in
-    let i = c.contents_of-inner.ensures oid false b.one.contents (b.second ++ q.0) sp in
+    let i = c.of_contents-inner.ensures oid false b.one.contents (b.second ++ q.0) sp in
     omega (arith, o.within, i.within, ap length (slice-from s outer.start), length-drop outer.start s)
 
 pub returns : goal.returns
@@ -43,19 +43,19 @@ returns c =
     let r = q.0 in
     let a = q.1 in
     let b = a.spells.spelled.spelled in
-    let outer = c.contents_of-outer.result in
-    let inner = c.contents_of-inner.result in
-    let o = c.contents_of-outer.ensures sequence true _ _ (description-front _ _ _ a) in
+    let outer = c.of_contents-outer.result in
+    let inner = c.of_contents-inner.result in
+    let o = c.of_contents-outer.ensures sequence true _ _ (description-front _ _ _ a) in
     let low : outer.start ≤ length s = omega (arith, o.within) in
     let t = take (length s - outer.start) (drop outer.start s) in
     let sp = method-front _ _ _ a t outer o (slice-from s outer.start) in
-    let i = c.contents_of-inner.ensures oid false b.one.contents (b.second ++ r) sp in
+    let i = c.of_contents-inner.ensures oid false b.one.contents (b.second ++ r) sp in
     let st = stand-in s t outer.start inner b.one.contents (b.second ++ r) low (slice-from s outer.start) i in
     record {
       found = description_of c.args.found.now;
       rest = r;
       accepted = a;
-      id = subst (λ x. ContentsStand s (record { start = outer.start + inner.start; length = inner.length }) x
+      id = subst (λ x. StandsBefore s (record { start = outer.start + inner.start; length = inner.length }) x
           (b.second ++ r)) b.one.spelled.0 st;
       uri =
           uri-at s b.second r _ c.uri_to.result _ c.is_uri.result b.two (name-ends _ _ _ a) c.uri_to.ensures.some

@@ -1,5 +1,6 @@
 use Rattle.std.proofs.Common.{◌∙◌, ◌++◌, inl, inr, [], refl, ap, length, length-append, arith}
-use Rattle.rpki_c.proofs.AccessLaws.{names-end, stands-before}
+use Rattle.rpki_c.proofs.AccessLaws.{names-end}
+use Rattle.rpki_c.proofs.PartLaws.{stands-before}
 use Rattle.rpki_c.proofs.access.rpki_distribution_point.Goals as goal
 
 pub overflow_sub-out : goal.overflow_sub-out

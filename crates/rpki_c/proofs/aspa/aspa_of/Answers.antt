@@ -14,7 +14,7 @@ returns c =
       spelled = at.spelled;
       customer = at.customer;
       providers =
-          stands s (list.contents ++ []) list.contents [] c.args.found.providers.now 0 0 c.place_of.result
-          (providers-end x s at.spelled) refl at.providers refl c.place_of.ensures.start c.place_of.ensures.size;
+          stands s (list.contents ++ []) list.contents [] c.args.found.providers.now 0 0 c.of_section.result
+          (providers-end x s at.spelled) refl at.providers refl c.of_section.ensures.start c.of_section.ensures.size;
       count = sym at.count;
     }

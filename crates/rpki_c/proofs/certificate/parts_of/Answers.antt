@@ -34,15 +34,15 @@ returns c =
     record {
       cert = x;
       spelled = h;
-      signed = stands s (d ++ behind) d behind v.parts.«data».octets.now 0 v.parts.«data».following c.place_of.result
-          whole refl p.signed.octets (omega (arith, outer)) c.place_of.ensures.start c.place_of.ensures.size;
+      signed = stands s (d ++ behind) d behind v.parts.«data».octets.now 0 v.parts.«data».following c.of_section.result
+          whole refl p.signed.octets (omega (arith, outer)) c.of_section.ensures.start c.of_section.ensures.size;
       algorithm = stands s behind h.signed.spelled.text h.signed.spelled.bits v.parts.algorithm.octets.now 0
-          v.parts.algorithm.following c.place_of-2.result (algorithm-ends x s h) refl p.algorithm.octets
-          (omega (arith, p.algorithm.following)) c.place_of-2.ensures.start c.place_of-2.ensures.size;
+          v.parts.algorithm.following c.of_section-2.result (algorithm-ends x s h) refl p.algorithm.octets
+          (omega (arith, p.algorithm.following)) c.of_section-2.ensures.start c.of_section-2.ensures.size;
       parameters = c.has_parameters.ensures ∙ p.same;
       signature = stands s (x.signed.value ++ []) x.signed.value [] v.parts.signature.octets.now 0
-          v.parts.signature.following c.place_of-3.result (signature-ends x s h) refl p.signature.octets
-          (omega (arith, p.signature.following)) c.place_of-3.ensures.start c.place_of-3.ensures.size;
+          v.parts.signature.following c.of_section-3.result (signature-ends x s h) refl p.signature.octets
+          (omega (arith, p.signature.following)) c.of_section-3.ensures.start c.of_section-3.ensures.size;
       serial = c.into_array.ensures.value ∙ at.tbs.serial;
       not_before = subst (λ t. IsMoment t c.moment_of.result) from
           (moment period.start c.not_before.result c.moment_of.result one c.moment_of.ensures.since
@@ -52,22 +52,22 @@ returns c =
           c.moment_of-2.ensures.date c.moment_of-2.ensures.clock);
       named = record {
         issuer = inside s h.tbs.spelled.two.two.second x.tbs.issuer f.second behind v.tbs.named.issuer.octets.now
-            v.parts.«data».following v.tbs.named.issuer.following c.place_of-4.result
+            v.parts.«data».following v.tbs.named.issuer.following c.of_section-4.result
             (ends-inside s d h.tbs.spelled.two.two.second behind whole (named-ends x s h))
             (f.parts ∙ ap (λ (w : List ℕ). w ++ f.second) f.one.same) n.issuer.octets outer n.issuer.following
-            c.place_of-4.ensures.start c.place_of-4.ensures.size;
+            c.of_section-4.ensures.start c.of_section-4.ensures.size;
         subject = inside s f.two.second x.tbs.subject f.two.two.second behind v.tbs.named.subject.octets.now
-            v.parts.«data».following v.tbs.named.subject.following c.place_of-5.result
+            v.parts.«data».following v.tbs.named.subject.following c.of_section-5.result
             (ends-inside s d f.two.second behind whole (subject-ends x s h))
             (f.two.two.parts ∙ ap (λ (w : List ℕ). w ++ f.two.two.second) f.two.two.one.same) n.subject.octets outer
-            n.subject.following c.place_of-5.ensures.start c.place_of-5.ensures.size;
+            n.subject.following c.of_section-5.ensures.start c.of_section-5.ensures.size;
         key = inside s f.two.two.second f.two.two.two.first f.two.two.two.second behind
             v.tbs.named.keyed.octets.octets.now v.parts.«data».following v.tbs.named.keyed.octets.following
-            c.place_of-6.result key_behind f.two.two.two.parts k.key_at.octets outer k.key_at.following
-            c.place_of-6.ensures.start c.place_of-6.ensures.size;
+            c.of_section-6.result key_behind f.two.two.two.parts k.key_at.octets outer k.key_at.following
+            c.of_section-6.ensures.start c.of_section-6.ensures.size;
         extensions = stands s ((list_in x s h).0 ++ behind) (list_in x s h).0 behind c.octets.result.now
-            v.parts.«data».following 0 c.place_of-7.result list_behind refl (c.octets.ensures ∙ k.list_at)
-            (omega (arith, outer)) c.place_of-7.ensures.start c.place_of-7.ensures.size;
+            v.parts.«data».following 0 c.of_section-7.result list_behind refl (c.octets.ensures ∙ k.list_at)
+            (omega (arith, outer)) c.of_section-7.ensures.start c.of_section-7.ensures.size;
       };
       format = c.format_number.ensures ∙ ap format_number (c.algorithm.ensures ∙ ap (λ y. y.format) k.same);
       unused = c.unused.ensures.value ∙ ap (λ y. y.bits.unused) k.same;

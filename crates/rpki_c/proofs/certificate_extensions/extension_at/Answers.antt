@@ -13,9 +13,9 @@ returns-in-Some c = λ x h.
     let (y, some, named, is) = there x.tbs.extensions (list_in x s h.spelled).1 in
     let listed = c.in-Some.listed in
     let place = found-place x s h.spelled (identifier_of c.args.kind) listed.contents.octets.now y
-    c.saturating_sub-end.result v.parts.«data».following listed.contents.following c.place_of.result some is.octets
-    c.saturating_sub-end.ensures h.parts.signed.following is.following c.place_of.ensures.start
-    c.place_of.ensures.size in
+    c.saturating_sub-end.result v.parts.«data».following listed.contents.following c.of_section.result some is.octets
+    c.saturating_sub-end.ensures h.parts.signed.following is.following c.of_section.ensures.start
+    c.of_section.ensures.size in
     rw some (refl, is.critical, place)
 
 pub returns-in-None : goal.returns-in-None

@@ -36,27 +36,27 @@ returns c =
       list = x;
       spelled = h;
       signed =
-          stands s (d ++ behind) d behind v.«data».octets.now 0 v.«data».following c.place_of.result whole
-          refl p.signed.octets (omega (arith, outer)) c.place_of.ensures.start c.place_of.ensures.size;
+          stands s (d ++ behind) d behind v.«data».octets.now 0 v.«data».following c.of_section.result whole
+          refl p.signed.octets (omega (arith, outer)) c.of_section.ensures.start c.of_section.ensures.size;
       algorithm =
           stands s behind h.spelled.signed.spelled.text h.spelled.signed.spelled.bits v.algorithm.octets.now 0
-          v.algorithm.following c.place_of-2.result (algorithm-ends x s h) refl p.algorithm.octets
-          (omega (arith, p.algorithm.following)) c.place_of-2.ensures.start c.place_of-2.ensures.size;
+          v.algorithm.following c.of_section-2.result (algorithm-ends x s h) refl p.algorithm.octets
+          (omega (arith, p.algorithm.following)) c.of_section-2.ensures.start c.of_section-2.ensures.size;
       parameters = c.has_parameters.ensures ∙ p.same;
       signature =
           stands s (h.value.value ++ []) h.value.value [] v.signature.octets.now 0 v.signature.following
-          c.place_of-3.result (signature-ends x s h) refl p.signature.octets (omega (arith, p.signature.following))
-          c.place_of-3.ensures.start c.place_of-3.ensures.size;
+          c.of_section-3.result (signature-ends x s h) refl p.signature.octets (omega (arith, p.signature.following))
+          c.of_section-3.ensures.start c.of_section-3.ensures.size;
       issuer =
           inside s l.spelled.two.second x.list.issuer f.second behind v.tbs.issuer.octets.now
-          v.«data».following v.tbs.issuer.following c.place_of-4.result
+          v.«data».following v.tbs.issuer.following c.of_section-4.result
           (ends-inside s d l.spelled.two.second behind whole (issuer-ends x s h))
           (f.parts ∙ ap (λ (w : List ℕ). w ++ f.second) f.one.same) t.issuer.octets outer t.issuer.following
-          c.place_of-4.ensures.start c.place_of-4.ensures.size;
+          c.of_section-4.ensures.start c.of_section-4.ensures.size;
       revoked =
           inside s (front ++ after) front after behind v.tbs.revoked_certs.octets.now v.«data».following
-          v.tbs.revoked_certs.following c.place_of-5.result (ends-inside s d (front ++ after) behind whole end) refl
-          t.revoked.octets outer t.revoked.following c.place_of-5.ensures.start c.place_of-5.ensures.size;
+          v.tbs.revoked_certs.following c.of_section-5.result (ends-inside s d (front ++ after) behind whole end) refl
+          t.revoked.octets outer t.revoked.following c.of_section-5.ensures.start c.of_section-5.ensures.size;
       this_update =
           subst (λ u. IsMoment u c.moment_of.result) t.this_update
           (moment f.two.first v.tbs.this_update c.moment_of.result one c.moment_of.ensures.since

@@ -4,17 +4,17 @@ use Rattle.rpki_c.proofs.PartLaws.{all-extension, identifier-spelled, slice-from
 use Rattle.rpki_c.proofs.PartLaws.{content-end, place-last}
 use Rattle.rpki_c.proofs.extensions.places_of.Goals as goal
 
-pub slice_bounds-contents_of-count : goal.slice_bounds-contents_of-count
-slice_bounds-contents_of-count c =
+pub slice_bounds-of_contents-count : goal.slice_bounds-of_contents-count
+slice_bounds-of_contents-count c =
     let h = c.requires in
-    let o = c.contents_of-outer.ensures sequence true h.contents []
+    let o = c.of_contents-outer.ensures sequence true h.contents []
     (all-extension c.args.octets.now c.args.found.now h) in
     omega (arith, o.within)
 
-pub slice_bounds-contents_of-start : goal.slice_bounds-contents_of-start
-slice_bounds-contents_of-start c =
+pub slice_bounds-of_contents-start : goal.slice_bounds-of_contents-start
+slice_bounds-of_contents-start c =
     let h = c.requires in
-    let o = c.contents_of-outer.ensures sequence true h.contents []
+    let o = c.of_contents-outer.ensures sequence true h.contents []
     (all-extension c.args.octets.now c.args.found.now h) in
     omega (arith, o.within)
 
@@ -23,11 +23,11 @@ overflow_add-result c =
     let s = c.args.octets.now in
     let x = c.args.found.now in
     let h = c.requires in
-    let outer = c.contents_of-outer.result in
-    let o = c.contents_of-outer.ensures sequence true h.contents [] (all-extension s x h) in
+    let outer = c.of_contents-outer.result in
+    let o = c.of_contents-outer.ensures sequence true h.contents [] (all-extension s x h) in
     let sp = identifier-spelled s (take (length s - outer.start) (drop outer.start s)) x h outer o
     (slice-from s outer.start) in
-    let i = c.contents_of-inner.ensures oid false h.spelled.identifier.contents (h.spelled.second ++ h.spelled.third)
+    let i = c.of_contents-inner.ensures oid false h.spelled.identifier.contents (h.spelled.second ++ h.spelled.third)
     sp in
     omega (arith, o.within, i.within, ap length (slice-from s outer.start), length-drop outer.start s)
 
@@ -36,13 +36,13 @@ returns c =
     let s = c.args.octets.now in
     let x = c.args.found.now in
     let h = c.requires in
-    let outer = c.contents_of-outer.result in
-    let inner = c.contents_of-inner.result in
-    let o = c.contents_of-outer.ensures sequence true h.contents [] (all-extension s x h) in
+    let outer = c.of_contents-outer.result in
+    let inner = c.of_contents-inner.result in
+    let o = c.of_contents-outer.ensures sequence true h.contents [] (all-extension s x h) in
     let low : outer.start ≤ length s = omega (arith, o.within) in
     let sp = identifier-spelled s (take (length s - outer.start) (drop outer.start s)) x h outer o
     (slice-from s outer.start) in
-    let i = c.contents_of-inner.ensures oid false h.spelled.identifier.contents (h.spelled.second ++ h.spelled.third)
+    let i = c.of_contents-inner.ensures oid false h.spelled.identifier.contents (h.spelled.second ++ h.spelled.third)
     sp in
     let st = stand-in s (take (length s - outer.start) (drop outer.start s)) outer.start inner
     h.spelled.identifier.contents (h.spelled.second ++ h.spelled.third) low (slice-from s outer.start) i in

@@ -29,7 +29,7 @@ returns c =
           moment g.first v.next_update c.moment_of-2.result (is-time v.next_update g.first g.one)
           c.moment_of-2.ensures.since c.moment_of-2.ensures.date c.moment_of-2.ensures.clock;
       files =
-          stands s (files ++ []) files [] c.octets.result.now 0 0 c.place_of.result (files-end x s spelled) refl
-          (c.octets.ensures ∙ sym at.fields.octets) refl c.place_of.ensures.start c.place_of.ensures.size;
+          stands s (files ++ []) files [] c.octets.result.now 0 0 c.of_section.result (files-end x s spelled) refl
+          (c.octets.ensures ∙ sym at.fields.octets) refl c.of_section.ensures.start c.of_section.ensures.size;
       count = c.count.ensures ∙ sym at.fields.count;
     }

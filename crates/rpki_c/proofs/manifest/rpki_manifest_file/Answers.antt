@@ -19,8 +19,8 @@ returns-in-Ok c =
         rest = r;
         accepted = h;
         name =
-            name-stands s r x h.spells c.in-Ok.file.name.now c.place_of.result refl
-            (rw c.rest-following.ensures at c.place_of.ensures.start) c.place_of.ensures.size;
+            name-stands s r x h.spells c.in-Ok.file.name.now c.of_section.result refl
+            (rw c.rest-following.ensures at c.of_section.ensures.start) c.of_section.ensures.size;
         digest = c.into_array.ensures;
         size = omega (
           arith,

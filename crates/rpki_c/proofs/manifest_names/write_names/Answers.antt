@@ -5,7 +5,8 @@ use Rattle.rpki_contents.specs.ManifestView.{file_in}
 use Rattle.rpki_contents.proofs.FilesLaws.{all-behind, nothing-here, no-file, shorter}
 use Rattle.rpki_c.specs.ManifestNames.{parts_at, name_of}
 use Rattle.rpki_c.proofs.ContentLaws.{name-stands-in}
-use Rattle.rpki_c.proofs.PlacedNamesLaws.{none-placed, one-placed, one-seen, part-is}
+use Rattle.rpki_c.proofs.PlacedNamesLaws.{none-placed, one-placed, one-seen}
+use Rattle.rpki_c.proofs.PartLaws.{stand-place}
 use Rattle.rpki_c.proofs.manifest_names.write_names.Goals.{then-count-room, else-count-room}
 use Rattle.rpki_c.proofs.manifest_names.write_names.Goals as goal
 
@@ -33,12 +34,12 @@ files-preserved c =
     let names : n + 1 ≤ length moved → parts_at s (take (n + 1) moved) ≡ map name_of (h.done ++ x ∷ []) =
     elim c.if-count-room.branch [
       | then-count-room w ↦ λ fit.
-          let start = rw w.rest.ensures at w.place_of.ensures.start in
+          let start = rw w.rest.ensures at w.of_section.ensures.start in
           let stands = name-stands-in rest after x c.in-Ok.ensures.spells s h.front c.in-Ok.file.name.now
-          w.place_of.result
-          h.parts refl start w.place_of.ensures.size in
-          one-placed s rest after c.files.room moved n x h some c.in-Ok.ensures w.place_of.result w.room-is
-          w.if-count-room.true (part-is s w.place_of.result x.0 _ stands)
+          w.of_section.result
+          h.parts refl start w.of_section.ensures.size in
+          one-placed s rest after c.files.room moved n x h some c.in-Ok.ensures w.of_section.result w.room-is
+          w.if-count-room.true (stand-place s w.of_section.result x.0 _ stands).octets
       | else-count-room w ↦ λ fit. absurd (omega (arith, fit, w.if-count-room.false))
     ] in
     record {

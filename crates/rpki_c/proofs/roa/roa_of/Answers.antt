@@ -14,12 +14,10 @@ returns c =
       attestation = x;
       spelled = at.spelled;
       as_id = at.as_id;
-      v4 =
-          prefixes-at 32 x.v4 s v.v4.now v.v4_following c.place_of.result stand.0 p.in_v4 c.place_of.ensures.start
-          c.place_of.ensures.size;
-      v6 =
-          prefixes-at 128 x.v6 s v.v6.now v.v6_following c.place_of-2.result stand.1 p.in_v6 c.place_of-2.ensures.start
-          c.place_of-2.ensures.size;
+      v4 = prefixes-at 32 x.v4 s v.v4 c.of_section.result stand.0 p.in_v4 c.of_section.ensures.start
+          c.of_section.ensures.size;
+      v6 = prefixes-at 128 x.v6 s v.v6 c.of_section-2.result stand.1 p.in_v6 c.of_section-2.ensures.start
+          c.of_section-2.ensures.size;
       v4_count = sym p.v4_count;
       v6_count = sym p.v6_count;
     }

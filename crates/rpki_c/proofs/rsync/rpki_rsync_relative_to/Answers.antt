@@ -12,7 +12,7 @@ returns-in-Some c =
       record {
         path = some.path;
         leads = some.leads;
-        place = c.place_of.ensures.part _ _ some.stands;
-        last = c.place_of.ensures.last ∙ some.last;
+        place = c.of_range.ensures.part _ _ some.stands;
+        last = c.of_range.ensures.last ∙ some.last;
       },
     )

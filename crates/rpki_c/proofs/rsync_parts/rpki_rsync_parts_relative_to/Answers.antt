@@ -3,8 +3,8 @@ use Rattle.rpki_text.specs.Places.{IsRelativeAt}
 use Rattle.rpki_text.specs.Cuts.{cut_text}
 use Rattle.rpki_c.proofs.rsync_parts.rpki_rsync_parts_relative_to.Goals as goal
 
-pub place_of-requires : goal.place_of-requires
-place_of-requires c = c.in-Some-relative_range.ensures.within.0
+pub of_range-requires : goal.of_range-requires
+of_range-requires c = c.in-Some-relative_range.ensures.within.0
 
 pub returns : goal.returns
 returns c =
@@ -21,8 +21,8 @@ returns c =
             record {
               path = some.path;
               leads = some.leads;
-              place = c.place_of.ensures.part _ _ some.stands;
-              last = c.place_of.ensures.last ∙ some.last;
+              place = c.of_range.ensures.part _ _ some.stands;
+              last = c.of_range.ensures.last ∙ some.last;
             },
           ),
     )

@@ -11,8 +11,8 @@ overflow_add-next c =
     let s = c.args.octets.now in
     let v = parts_of c.args.signed.now c.args.has_parameters c.args.signature.now in
     let h = c.requires in
-    let outer = c.contents_of-outer.result in
-    let o = c.contents_of-outer.ensures sequence true h.contents [] (all-signed s v h) in
+    let outer = c.of_contents-outer.result in
+    let o = c.of_contents-outer.ensures sequence true h.contents [] (all-signed s v h) in
     omega (
       arith,
       o.within,
@@ -21,13 +21,13 @@ overflow_add-next c =
       length-drop outer.start s,
     )
 
-pub slice_bounds-contents_of-count : goal.slice_bounds-contents_of-count
-slice_bounds-contents_of-count c =
+pub slice_bounds-of_contents-count : goal.slice_bounds-of_contents-count
+slice_bounds-of_contents-count c =
     let s = c.args.octets.now in
     let v = parts_of c.args.signed.now c.args.has_parameters c.args.signature.now in
     let h = c.requires in
-    let outer = c.contents_of-outer.result in
-    let o = c.contents_of-outer.ensures sequence true h.contents [] (all-signed s v h) in
+    let outer = c.of_contents-outer.result in
+    let o = c.of_contents-outer.ensures sequence true h.contents [] (all-signed s v h) in
     omega (
       arith,
       o.within,
@@ -36,13 +36,13 @@ slice_bounds-contents_of-count c =
       length-drop outer.start s,
     )
 
-pub slice_bounds-contents_of-start : goal.slice_bounds-contents_of-start
-slice_bounds-contents_of-start c =
+pub slice_bounds-of_contents-start : goal.slice_bounds-of_contents-start
+slice_bounds-of_contents-start c =
     let s = c.args.octets.now in
     let v = parts_of c.args.signed.now c.args.has_parameters c.args.signature.now in
     let h = c.requires in
-    let outer = c.contents_of-outer.result in
-    let o = c.contents_of-outer.ensures sequence true h.contents [] (all-signed s v h) in
+    let outer = c.of_contents-outer.result in
+    let o = c.of_contents-outer.ensures sequence true h.contents [] (all-signed s v h) in
     omega (
       arith,
       o.within,
@@ -56,12 +56,12 @@ overflow_add-result c =
     let s = c.args.octets.now in
     let v = parts_of c.args.signed.now c.args.has_parameters c.args.signature.now in
     let h = c.requires in
-    let outer = c.contents_of-outer.result in
+    let outer = c.of_contents-outer.result in
     let next = outer.start + length c.args.signed.now in
-    let o = c.contents_of-outer.ensures sequence true h.contents [] (all-signed s v h) in
+    let o = c.of_contents-outer.ensures sequence true h.contents [] (all-signed s v h) in
     let rest = from-algorithm s v h outer (length c.args.signed.now) refl o in
     let sp = algorithm-spelled s (take (length s - next) (drop next s)) v h (slice-from s next ∙ rest) in
-    let i = c.contents_of-inner.ensures sequence true h.spelled.named.contents h.spelled.bits sp in
+    let i = c.of_contents-inner.ensures sequence true h.spelled.named.contents h.spelled.bits sp in
     omega (arith, o.within, i.within, ap length (slice-from s next), length-drop next s)
 
 pub returns : goal.returns
@@ -69,13 +69,13 @@ returns c =
     let s = c.args.octets.now in
     let v = parts_of c.args.signed.now c.args.has_parameters c.args.signature.now in
     let h = c.requires in
-    let outer = c.contents_of-outer.result in
-    let inner = c.contents_of-inner.result in
+    let outer = c.of_contents-outer.result in
+    let inner = c.of_contents-inner.result in
     let next = outer.start + length c.args.signed.now in
-    let o = c.contents_of-outer.ensures sequence true h.contents [] (all-signed s v h) in
+    let o = c.of_contents-outer.ensures sequence true h.contents [] (all-signed s v h) in
     let rest = from-algorithm s v h outer (length c.args.signed.now) refl o in
     let sp = algorithm-spelled s (take (length s - next) (drop next s)) v h (slice-from s next ∙ rest) in
-    let i = c.contents_of-inner.ensures sequence true h.spelled.named.contents h.spelled.bits sp in
+    let i = c.of_contents-inner.ensures sequence true h.spelled.named.contents h.spelled.bits sp in
     let text_size : inner.start + inner.length ≡ length h.spelled.text =
     omega (
       arith,

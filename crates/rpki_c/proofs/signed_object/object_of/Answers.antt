@@ -33,32 +33,32 @@ returns c =
       parts = record {
         content_type =
             stands s (i.spelled.one.contents ++ after) x.content.content_type after v.content.content_type.octets.now 0
-            v.content.content_type.following c.place_of.result
+            v.content.content_type.following c.of_section.result
             (type-ends x.content s f.two.two.first behind inner i)
             (ap (λ (w : List ℕ). w ++ after) i.spelled.one.spelled.0) p.content.content_type.octets
-            (omega (arith, p.content.content_type.following)) c.place_of.ensures.start c.place_of.ensures.size;
+            (omega (arith, p.content.content_type.following)) c.of_section.ensures.start c.of_section.ensures.size;
         content =
             stands s (x.content.content ++ behind) x.content.content behind v.content.content.octets.now 0
-            v.content.content.following c.place_of-2.result
+            v.content.content.following c.of_section-2.result
             (content-ends x.content s f.two.two.first behind inner i) refl p.content.content.octets
-            (omega (arith, p.content.content.following)) c.place_of-2.ensures.start
-            c.place_of-2.ensures.size;
+            (omega (arith, p.content.content.following)) c.of_section-2.ensures.start
+            c.of_section-2.ensures.size;
         certificate =
             stands s (cert.one.contents ++ cert.second) cert.one.contents cert.second v.cert.octets.now 0
-            v.cert.following c.place_of-3.result (certificate-ends strict x s d e f) refl p.cert.octets
-            (omega (arith, p.cert.following)) c.place_of-3.ensures.start c.place_of-3.ensures.size;
+            v.cert.following c.of_section-3.result (certificate-ends strict x s d e f) refl p.cert.octets
+            (omega (arith, p.cert.following)) c.of_section-3.ensures.start c.of_section-3.ensures.size;
         signer = record {
           signed_attributes =
               stands s g.two.two.second l.first l.second v.signer.signed_attrs.octets.octets.now 0
-              v.signer.signed_attrs.octets.following c.place_of-4.result
+              v.signer.signed_attrs.octets.following c.of_section-4.result
               (attributes-end strict x.signer s fields end g) l.parts p.signer.attributes.section.octets
-              (omega (arith, p.signer.attributes.section.following)) c.place_of-4.ensures.start
-              c.place_of-4.ensures.size;
+              (omega (arith, p.signer.attributes.section.following)) c.of_section-4.ensures.start
+              c.of_section-4.ensures.size;
           signature =
               stands s (x.signer.signature.value ++ []) x.signer.signature.value [] v.signer.signature.octets.now 0
-              v.signer.signature.following c.place_of-5.result (signature-ends strict x.signer s fields end g) refl
-              p.signer.signature.octets (omega (arith, p.signer.signature.following)) c.place_of-5.ensures.start
-              c.place_of-5.ensures.size;
+              v.signer.signature.following c.of_section-5.result (signature-ends strict x.signer s fields end g) refl
+              p.signer.signature.octets (omega (arith, p.signer.signature.following)) c.of_section-5.ensures.start
+              c.of_section-5.ensures.size;
           identifier = c.from.ensures ∙ p.signer.identifier;
           parameters = c.has_parameters.ensures ∙ p.signer.algorithm;
           values =

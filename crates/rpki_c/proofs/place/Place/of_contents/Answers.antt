@@ -1,6 +1,6 @@
 use Rattle.std.proofs.Common.{◌++◌, refl}
 use Rattle.rpki_c.proofs.FrontLaws.{front_header, header_of, stand}
-use Rattle.rpki_c.proofs.place.contents_of.Goals as goal
+use Rattle.rpki_c.proofs.place.Place.of_contents.Goals as goal
 
 pub returns-in-Ok : goal.returns-in-Ok
 returns-in-Ok c = λ t f x r h. stand c.args.octets.now c.in-Ok.header _ t f x r c.in-Ok.ensures.within refl
