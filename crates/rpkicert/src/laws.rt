@@ -1,14 +1,18 @@
 //! Laws of what is printed: each function does nothing, and its contract is the law.
 
-ghost use Rattle.std.specs.Prelude.{ℕ, Bool, List, Option};
+ghost use Rattle.std.specs.Prelude.{◌≡◌, ◌↔◌, ℕ, Bool, List, Option, IsTrue};
 ghost use Rattle.rpki_fields.specs.declared.rendering.Form.{Form};
 ghost use Rattle.rpki_fields.specs.AtMostOne.{AtMostOne};
 ghost use Rattle.rpki_fields.specs.declared.object.Object.{Object};
+ghost use Rattle.rpkicert.specs.declared.violation.Violation.{Violation as BrokenRule};
 ghost use Rattle.rpkicert.specs.Finding.{IsObject, IsFoundAlone};
 ghost use Rattle.rpkicert.specs.Request.{Asked};
 ghost use Rattle.rpkicert.specs.Terms.{TermParts};
 ghost use Rattle.rpkicert.specs.Shown.{IsTextOf, HasOneGoodAnswer, HasOneGoodText};
 ghost use Rattle.rpkicert.specs.Run.{Holds, IsKnown, RunsAlike};
+
+use crate::violation::Violation;
+use rpki::repository::error::ValidationError;
 
 /// Octets are one object at most. With the name of a file it has one text in each form.
 pub fn one_text()
@@ -31,4 +35,10 @@ pub fn one_answer()
 /// Where a run of what is asked for ends with the status 0, each run of it that does writes the same.
 pub fn one_output()
     ensures { (holds : Holds) (a : Asked) → IsKnown holds a → RunsAlike holds a }
+{}
+
+/// Violations are equal exactly where their rules are one and their errors are equal.
+pub fn equal_violations_have_equal_parts()
+    ensures { (v w : BrokenRule) → IsTrue (⟦<Violation as PartialEq>⟧.eq v w)
+        ↔ ((v.rule ≡ w.rule) × IsTrue (⟦<ValidationError as PartialEq>⟧.eq v.error w.error)) }
 {}
