@@ -30,7 +30,7 @@ fn seen_in(
     show(alloc, check, form, terms.issuer.is_some(), name, found)
 }
 
-/// The name of a file with a number behind it.
+/// The name of a file, followed by a number in parentheses.
 fn numbered(alloc: Global, name: &str, number: usize) -> Result<String, AllocError>
     ensures { IfOk result (λ text. string_bytes text ≡ numbered name.now number) }
 {

@@ -34,7 +34,7 @@ type TimeEncoder = AttributeEncoder<VariedTime>;
 /// An encoder for the binary signing time.
 type BinaryEncoder = AttributeEncoder<Primitive<Serial>>;
 
-/// An encoder for the digest, and for the content type in front of it, behind it, or not among these.
+/// An encoder for the digest, with the content type before or after it, or without the content type.
 type DigestAndType<'a> = (
     Option<TypeEncoder<'a>>,
     (DigestEncoder<'a>, Option<TypeEncoder<'a>>),
