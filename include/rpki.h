@@ -133,6 +133,10 @@ enum {
     RPKI_TOO_NEW = 50, /* the period begins after the moment */
     RPKI_TOO_OLD = 51, /* the period ended before the moment */
 
+    /* Of rpki_verify. */
+    RPKI_KEY_NOT_ACCEPTED = 52, /* a public key, but none that signatures are verified by */
+    RPKI_BAD_SIGNATURE = 53,    /* the signature is not one of the message by the key */
+
     /* Of rpki_certificate, and of rpki_crl, which has none of 70, 73 to 75, 77 and 78: the part that is wrong. */
     RPKI_PART_CERTIFICATE = 64,     /* the SEQUENCE around all: it isn't there, or something follows it */
     RPKI_PART_SIGNED = 65,          /* what is signed is no value, with everything nested in it */
@@ -195,6 +199,9 @@ enum {
     RPKI_RULE_OWN_RESOURCES = 117,           /* none of the issuer's (RFC 8630 2.3, RFC 8209 3.1.3.5) */
     RPKI_RULE_MANIFEST_PLACE = 118,          /* the manifest lies below the repository (RFC 6487 4.8.8.1, RFC 9286 2) */
     RPKI_RULE_NOTIFICATIONS = 119,           /* told by https URIs alone (RFC 8182 3.2) */
+    RPKI_RULE_ISSUER_SIZE = 156,             /* each value a string of 1 to 64 characters (RFC 5280 A.1) */
+    RPKI_RULE_SUBJECT_SIZE = 157,            /* each value a string of 1 to 64 characters (RFC 5280 A.1) */
+    RPKI_RULE_ROUTER_SERIAL_NUMBER = 158,    /* in a router's name a PrintableString (RFC 8209 3.1.1) */
 
     /* Of rpki_crl alone: the part that is wrong. */
     RPKI_PART_THIS_UPDATE = 120, /* when the list was issued */
@@ -698,7 +705,7 @@ rpki_status rpki_fault(const uint8_t *octets, size_t size, size_t *at) RPKI_CHEC
  * SEQUENCE of an object identifier and perhaps one value more (RFC 5280 4.1.1.2), but not the one above. What is in
  * that one value, and what follows the algorithm identifier, is not looked at.
  *
- * Nothing is verified. Verify that the signature's octets sign exactly the octets of `data`, by an RSA library.
+ * Nothing is verified: rpki_verify says whether the signature's octets sign exactly the octets of `data`.
  */
 rpki_status rpki_signed_data(const uint8_t *octets, size_t size, struct rpki_signed_parts *out) RPKI_CHECKED;
 
@@ -714,6 +721,22 @@ rpki_status rpki_public_key(const uint8_t *octets, size_t size, struct rpki_key_
 
 /* The key identifier of a public key: the SHA-1 digest of its bits (RFC 5280 4.2.1.2). Statuses as rpki_public_key. */
 rpki_status rpki_key_identifier(const uint8_t *octets, size_t size, uint8_t out[20]) RPKI_CHECKED;
+
+/*
+ * Verifies that the signature is one of the message by the public key (a SubjectPublicKeyInfo): by RSA with PKCS #1
+ * v1.5 padding and SHA-256 (RFC 7935 2, RFC 8017 8.2.2). Of a certificate or a list the message is `data` of
+ * rpki_signed_data; of a signed object the signed attributes, with 0x31 for their first octet.
+ *
+ * RPKI_KEY_NOT_ACCEPTED: a key on P-256; or one by RSA whose bits are not a SEQUENCE of two INTEGERs that are not
+ * negative, the modulus odd, of 2,048 to 4,096 bits, and the exponent odd, not 1, below 2^64 (RFC 7935 3 asks for 2,048
+ * and 65537, which RPKI_RULE_RSA_KEY says). RPKI_BAD_SIGNATURE: it is a key, and the signature is not one of the
+ * message by it. Else as rpki_public_key.
+ */
+rpki_status rpki_verify(const uint8_t *key, size_t key_size, const uint8_t *message, size_t message_size,
+                        const uint8_t *signature, size_t signature_size) RPKI_CHECKED;
+
+/* The digest of octets by SHA-256 (FIPS 180-4). */
+void rpki_sha256(const uint8_t *octets, size_t size, uint8_t out[32]);
 
 /*
  * Inspects a name (RFC 5280 4.1.2.4). `profile` is RPKI_PROFILE_RPKI or RPKI_PROFILE_ROUTER, in eight bits: C cuts a
@@ -802,14 +825,14 @@ rpki_status rpki_certificate_extension(const uint8_t *octets, size_t size, uint8
  * theirs. Whether the signature is that of a key, a moment is in the period, or the issuer has the resources, is not
  * looked at. Takes no memory.
  *
- * The status is from 85 to 119 where the octets are a certificate that breaks a rule of the profile: the first of these
- * that is broken. Of a trust anchor they are tested in the order 85, 86, 87, 112, 94, 108, 109, 115, 116, 88, 90, 98,
- * 92, 96, 101, 103, 104, 105, 118, 119, 114, 113, 117; of an authority as far as 96 in the same order, then 104, 105,
- * 118, 119, 95, 100, 102; of an end entity as far as 98, then 93, 97, 106, 111, 119, 95, 100, 102; of one without
- * subject information access as far as 97, then 107, 95, 100, 102; of a router as far as 116, then 89, 91, 93, 97, 110,
- * 117, 107, 99, 95, 100, 102. An extension that a rule wants, and that is malformed or not as critical as it has to be,
- * breaks the rule. RPKI_NO_PROFILE: no profile has the number; then the octets are not looked at. Else, where it is not
- * 0, it is that of rpki_certificate.
+ * The status is from 85 to 119, or from 156 to 158, where the octets are a certificate that breaks a rule of the
+ * profile: the first of these that is broken. Of a trust anchor they are tested in the order 85, 86, 87, 156, 112, 94,
+ * 108, 109, 115, 116, 88, 157, 90, 98, 92, 96, 101, 103, 104, 105, 118, 119, 114, 113, 117; of an authority as far as
+ * 96 in the same order, then 104, 105, 118, 119, 95, 100, 102; of an end entity as far as 98, then 93, 97, 106, 111,
+ * 119, 95, 100, 102; of one without subject information access as far as 97, then 107, 95, 100, 102; of a router as far
+ * as 116, then 89, 157, 158, 91, 93, 97, 110, 117, 107, 99, 95, 100, 102. An extension that a rule wants, and that is
+ * malformed or not as critical as it has to be, breaks the rule. RPKI_NO_PROFILE: no profile has the number; then the
+ * octets are not looked at. Else, where it is not 0, it is that of rpki_certificate.
  */
 rpki_status rpki_certificate_inspect(const uint8_t *octets, size_t size, uint8_t profile, bool strict) RPKI_CHECKED;
 
@@ -831,10 +854,11 @@ rpki_status rpki_certificate_checked(const uint8_t *octets, size_t size, uint8_t
  * issuer is that of the other's subject, octet for octet, and its authority key identifier is the SHA-1 digest of the
  * other's key. Takes no memory.
  *
- * What is left to ask: whether the other is an authority (rpki_certificate_inspect), whether the moment is in both
- * periods (rpki_validity_at), whether the resources are within the other's (rpki_ip_blocks_encompass,
- * rpki_as_blocks_encompass), whether it is revoked (rpki_crl_contains), and, of an RSA library, whether the other's key
- * has signed it: the octets of `data` of its parts, with those of `signature`.
+ * What is left to ask: whether the other is an authority (rpki_certificate_inspect), whether the first's subject key
+ * identifier is that of its own key (RFC 6487 4.8.2, rpki_key_identifier), whether the moment is in both periods
+ * (rpki_validity_at), whether the resources are within the other's (rpki_ip_blocks_encompass,
+ * rpki_as_blocks_encompass), whether it is revoked (rpki_crl_contains), and whether the other's key has signed the
+ * octets of `data` of its parts, with those of `signature` (rpki_verify).
  *
  * The statuses, in this order: those of rpki_certificate_extensions, of the first; RPKI_NO_ISSUER; RPKI_OTHER_ISSUER;
  * RPKI_OTHER_AUTHORITY.
@@ -1583,6 +1607,8 @@ static inline const char *rpki_status_text(rpki_status status) {
         case RPKI_INVALID_PADDING: return "missing padding of base 64";
         case RPKI_TOO_NEW: return "object is not yet valid";
         case RPKI_TOO_OLD: return "object has expired";
+        case RPKI_KEY_NOT_ACCEPTED: return "public key not accepted";
+        case RPKI_BAD_SIGNATURE: return "bad signature";
         case RPKI_PART_CERTIFICATE: return "not a certificate";
         case RPKI_PART_SIGNED: return "malformed signed data";
         case RPKI_PART_ALGORITHM: return "signature algorithm is not the RPKI's";
@@ -1674,6 +1700,9 @@ static inline const char *rpki_status_text(rpki_status status) {
         case RPKI_RULE_OWN_RESOURCES: return "resources of the issuer";
         case RPKI_RULE_MANIFEST_PLACE: return "manifest is not in the repository";
         case RPKI_RULE_NOTIFICATIONS: return "notifications without an https URI";
+        case RPKI_RULE_ISSUER_SIZE: return "value of the issuer is not of 1 to 64 characters";
+        case RPKI_RULE_SUBJECT_SIZE: return "value of the subject is not of 1 to 64 characters";
+        case RPKI_RULE_ROUTER_SERIAL_NUMBER: return "serial number of the subject is no PrintableString";
         case RPKI_MISSING_COMMON_NAME: return "missing common name";
         case RPKI_SECOND_COMMON_NAME: return "multiple common names";
         case RPKI_SECOND_SERIAL_NUMBER: return "multiple serial numbers";

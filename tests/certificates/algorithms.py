@@ -20,7 +20,7 @@ STRINGS = {0x13: "ascii", 0x0C: "utf-8", 0x16: "ascii"}
 
 
 def values(octets):
-    """The identifier octet, the contents and the octets of each value, one after another."""
+    """The identifier octet, the contents and the octets of each value, in order."""
     while octets:
         length, start = octets[1], 2
         if length > 127:
@@ -137,6 +137,7 @@ def is_rpki(path):
 def of_other(program, name, path):
     """A certificate of other algorithms: as lines, as JSON, checked, and held to a profile."""
     fields, objection = expected_fields(path)
+    fields = [("Signature", "not checked")] + fields
     status, output, faults = run(program, path)
     yield f"{name}", (status, lines_of(output), faults), (0, [("File", path)] + fields, b"")
     status, output, faults = run(program, "--json", path)

@@ -1,4 +1,4 @@
-"""Objects that are held to an issuer, all but the signature, and to a moment: those of authority.py and of a repository
+"""Objects that are checked against an issuer and a moment: those of authority.py and of a repository
 that openssl makes, beside what openssl says of names, key identifiers and periods; certificates that break one rule
 each (RFC 6487 7.2, RFC 5280 6.3.3); manifests within and without their updates (RFC 9286 6.3); and issuers and moments
 that are none."""
@@ -8,15 +8,15 @@ from datetime import datetime, timedelta, timezone
 
 import authority
 import kinds
-import objects
 import payloads
+import signing
 from authority import openssl
 from kinds import run
 
 SYNOPSIS = b"usage: rpkicert [--json] [--check] [--profile ta|ca|ee|detached|router [--lax]]"
 USAGE = SYNOPSIS + b" [--issuer FILE] [--at MOMENT] FILE..\n"
-UNSIGNED = "OK, signature not checked"
-NAME, KEY = "issuer name mismatch", "authority key identifier mismatch"
+OK, UNASKED = "OK", "OK, issuer not checked"
+BAD, NAME, KEY = "bad signature", "issuer name mismatch", "authority key identifier mismatch"
 OF_CERTIFICATE, OF_LIST, OF_MANIFEST = "RFC 6487 7.2: ", "RFC 5280 6.3.3: ", "RFC 9286 6.3: "
 
 
@@ -33,12 +33,13 @@ def extension(path, name, kind="x509"):
 
 
 def fault(path, issuer, kind="x509", clause=OF_CERTIFICATE):
-    """What is said of a certificate or a list and its issuer, by the names and key identifiers that openssl prints."""
+    """What is said of a certificate or a list and its issuer, by the key identifiers and names that openssl prints:
+    another key has signed it, or the same one under another name."""
+    if extension(path, "Authority Key Identifier", kind) != extension(issuer, "Subject Key Identifier"):
+        return clause + BAD
     if told(path, "-issuer", kind=kind) != told(issuer, "-subject"):
         return clause + NAME
-    if extension(path, "Authority Key Identifier", kind) != extension(issuer, "Subject Key Identifier"):
-        return clause + KEY
-    return UNSIGNED
+    return OK
 
 
 def line(path, said):
@@ -54,36 +55,38 @@ def issued(program, folder):
             if name == issuer == "ta":
                 said = OF_CERTIFICATE + KEY  # RFC 6487 4.8.3: an anchor may leave it out, what is issued may not
             elif issuer == "router":
-                said = OF_CERTIFICATE + "signature verification failed"  # RFC 7935 3: issuers have keys of RSA
+                said = OF_CERTIFICATE + BAD  # RFC 7935 3: issuers have keys of RSA
             for ending in (".der", ".pem"):
                 seen = run(program, "--check", "--issuer", of_issuer + ending, path + ".der")
-                status = 0 if said == UNSIGNED else 1
+                status = 0 if said == OK else 1
                 yield f"{name} by {issuer}{ending}", seen, (status, line(path + ".der", said), b"")
     with open(paths["ta"] + ".pem", "rb") as file:
         octets = file.read()
     seen = run(program, "--check", "--issuer", "-", paths["ca"] + ".der", octets=octets)
-    yield "an issuer as input", seen, (0, line(paths["ca"] + ".der", UNSIGNED), b"")
+    yield "an issuer as input", seen, (0, line(paths["ca"] + ".der", OK), b"")
     path = paths["ca"] + ".der"
     plain, marked = run(program, path)[1].splitlines(), run(program, "--issuer", paths["ta"] + ".der", path)
     yield "a field", (marked[0], marked[1].splitlines(), marked[2]), (
-        0, plain[:1] + [b"Signature: not checked"] + plain[1:], b"")
+        0, plain[:1] + [b"Signature: good"] + plain[2:], b"")
+    yield "without an issuer", plain[1], b"Signature: not checked"
     status, output, faults = run(program, "--json", "--issuer", paths["ta"] + ".der", path)
-    yield "a member", (status, json.loads(output)["signature"], faults), (0, "not checked", b"")
-    verdicts = {"ta": {"signature": "not checked", "validation": "OK"}, "ca": {"validation": OF_CERTIFICATE + NAME}}
+    yield "a member", (status, json.loads(output)["signature"], faults), (0, "good", b"")
+    verdicts = {"ta": {"signature": "good", "validation": OK},
+                "ca": {"signature": BAD, "validation": OF_CERTIFICATE + BAD}}
     for issuer, told in verdicts.items():
         status, output, faults = run(program, "--json", "--check", "--issuer", paths[issuer] + ".der", path)
         yield f"a verdict as JSON, {issuer}", (status, json.loads(output), faults), (
             0 if issuer == "ta" else 1, {"file": path, **told}, b"")
     status, output, faults = run(program, "--json", "--at", at(period(path)[0]), path)
-    yield "no member without an issuer", (status, "signature" in json.loads(output), faults), (0, False, b"")
+    yield "a member without an issuer", (status, json.loads(output)["signature"], faults), (0, "not checked", b"")
     seen = run(program, "--issuer", paths["ca"] + ".der", path)
-    yield "a fault", seen, (1, b"", b"rpkicert: " + line(path, OF_CERTIFICATE + NAME))
+    yield "a fault", seen, (1, b"", b"rpkicert: " + line(path, OF_CERTIFICATE + BAD))
     seen = run(program, "--check", "--profile", "ee", "--issuer", paths["ca"] + ".der", path)
     yield "the profile is first", (seen[0], seen[1].startswith(f"{path}: violates".encode())), (1, True)
     seen = run(program, "--check", "--issuer", paths["ca"] + ".der", "--at", "1999-12-31T00:00:00Z", path)
-    yield "the issuer is before the moment", seen, (1, line(path, OF_CERTIFICATE + NAME), b"")
+    yield "the moment is before the issuer", seen, (1, line(path, EARLY), b"")
     many = [paths[name] + ".der" for name in ("ee", "ca", "router")]
-    wanted = line(many[0], UNSIGNED) + line(many[1], OF_CERTIFICATE + NAME) + line(many[2], UNSIGNED)
+    wanted = line(many[0], OK) + line(many[1], OF_CERTIFICATE + BAD) + line(many[2], OK)
     yield "several", run(program, "--check", "--issuer", paths["ca"] + ".der", *many), (1, wanted, b"")
 
 
@@ -107,8 +110,8 @@ def broken(program, folder):
     subject, key = "subjectKeyIdentifier = hash", "authorityKeyIdentifier = keyid"
     other = ":".join(["AB"] * 20)
     rows = [
-        ("whole", [*rest, subject, key], UNSIGNED),
-        ("an unknown extension", [*rest, subject, key, "1.2.3.4 = DER:0500"], UNSIGNED),
+        ("whole", [*rest, subject, key], OK),
+        ("an unknown extension", [*rest, subject, key, "1.2.3.4 = DER:0500"], OK),
         ("an unknown extension that is critical", [*rest, subject, key, "1.2.3.4 = critical, DER:0500"],
          OF_CERTIFICATE + "unknown critical extension"),
         ("another subject key identifier", [*rest, "subjectKeyIdentifier = " + other, key],
@@ -121,11 +124,11 @@ def broken(program, folder):
     for number, (name, lines, said) in enumerate(rows):
         path = made(folder, f"broken{number}", lines)
         seen = run(program, "--check", "--issuer", issuer, path)
-        yield f"broken: {name}", seen, (0 if said == UNSIGNED else 1, line(path, said), b"")
+        yield f"broken: {name}", seen, (0 if said == OK else 1, line(path, said), b"")
     # an anchor of the same name and another key, and one of the same key and another name
     new_key = ["-newkey", "rsa:2048", "-nodes", "-keyout", os.path.join(folder, "new.key"), "-subj", "/CN=anchor"]
     new_name = ["-key", os.path.join(folder, "ta.key"), "-subj", "/CN=Anchor"]
-    for name, words, said in ("another key", new_key, KEY), ("another name", new_name, NAME):
+    for name, words, said in ("another key", new_key, BAD), ("another name", new_name, NAME):
         path, config = os.path.join(folder, "twin.der"), os.path.join(folder, "ta.cnf")
         openssl("req", "-x509", "-new", "-config", config, "-extensions", "extensions", "-outform", "DER", *words,
                 "-out", path)
@@ -145,15 +148,15 @@ def published(program, folder):
         for issuer, certificate in issuers.items():
             said = fault(cert, certificate) if cert else fault(path, certificate, "crl", OF_LIST)
             seen = run(program, "--check", "--issuer", certificate, path)
-            yield f"{os.path.basename(path)} by {issuer}", seen, (0 if said == UNSIGNED else 1, line(path, said), b"")
+            yield f"{os.path.basename(path)} by {issuer}", seen, (0 if said == OK else 1, line(path, said), b"")
     first, last = "2026-01-01T00:00:00Z", "2036-01-01T00:00:00Z"
     before, after = "2025-12-31T23:59:59Z", "2036-01-01T00:00:01Z"
     for path, cert in rows:
         early = OF_CERTIFICATE + "certificate is not yet valid" if cert else OF_LIST + "issued later"
         late = OF_CERTIFICATE + "certificate has expired" if cert else OF_LIST + "stale"
-        for moment, said in [(before, early), (first, "OK"), (last, "OK"), (after, late)]:
+        for moment, said in [(before, early), (first, UNASKED), (last, UNASKED), (after, late)]:
             seen = run(program, "--check", "--at", moment, path)
-            yield f"{os.path.basename(path)} at {moment}", seen, (0 if said == "OK" else 1, line(path, said), b"")
+            yield f"{os.path.basename(path)} at {moment}", seen, (0 if said == UNASKED else 1, line(path, said), b"")
     # an authority of the same name and of another key
     other = os.path.join(folder, "other.cer")
     config = os.path.join(folder, "other.cnf")
@@ -165,7 +168,7 @@ def published(program, folder):
     path = rows[1][0]
     yield "a list of another key", run(program, "--check", "--issuer", other, path), (
         1, line(path, fault(path, other, "crl", OF_LIST)), b"")
-    yield "the key is another", fault(path, other, "crl", OF_LIST), OF_LIST + KEY
+    yield "the key is another", fault(path, other, "crl", OF_LIST), OF_LIST + BAD
 
 
 def period(path):
@@ -192,44 +195,50 @@ def moments(program, folder):
             (at(first + timedelta(hours=2) - SECOND, "+02:00"), EARLY), (at(last - timedelta(hours=5), "-05:00"), "OK"),
             (at(last - timedelta(hours=5) + SECOND, "-05:00"), LATE), (at(first - SECOND, ".999999999Z"), EARLY),
             (at(last, ".000000001Z"), LATE), (at(last, ".0Z"), "OK"), ("0000-01-01T00:00:00Z", EARLY),
-            ("9999-12-31T23:59:59Z", LATE)]
+            ("0000-01-01T00:00:00.000000001Z", EARLY), ("-000001-12-31T23:59:59-00:01", EARLY),
+            ("9999-12-30T21:59:59Z", LATE), ("9999-12-30T22:00:00Z", LATE), ("9999-12-30T22:00:00.999999999Z", LATE),
+            ("9999-12-30T23:00:00+01:00", LATE), ("9999-12-31T23:59:59Z", LATE)]
     for moment, said in rows:
-        for words in ("--at", moment), (f"--at={moment}",):
+        # A word that begins with a hyphen is no value of its own.
+        apart = [] if moment[0] == "-" else [("--at", moment)]
+        for words in *apart, (f"--at={moment}",):
             seen = run(program, "--check", *words, path)
-            yield f"{words}", seen, (0 if said == "OK" else 1, line(path, said), b"")
+            yield f"{words}", seen, (0 if said == "OK" else 1, line(path, UNASKED if said == "OK" else said), b"")
         issuer = os.path.join(folder, "ta.der")
-        seen = run(program, "--check", "--at", moment, "--issuer", issuer, path)
+        seen = run(program, "--check", f"--at={moment}", "--issuer", issuer, path)
         yield f"{moment} and an issuer", seen, (
-            0 if said == "OK" else 1, line(path, UNSIGNED if said == "OK" else said), b"")
+            0 if said == "OK" else 1, line(path, said), b"")
     seconds = str(int(first.timestamp()))
     checked = openssl("verify", "-attime", seconds, "-partial_chain", "-ignore_critical", "-trusted",
                       os.path.join(folder, "ta.pem"), os.path.join(folder, "ca.pem"))
     yield "openssl at the first second", checked.decode().strip().endswith(": OK"), True
     for word in ["", "x", "2026-01-01", "2026-01-01T00:00:00", "2026-13-01T00:00:00Z", "2026-02-29T00:00:00Z",
                  "10000-01-01T00:00:00Z", "2026-01-01T25:00:00Z", "0000-01-01T00:00:00+01:00",
+                 "-000001-12-31T23:59:59Z", "9999-12-30T22:00:01Z", "9999-12-30T21:00:01-01:00",
+                 "9999-12-31T23:59:58Z", "9999-12-31T23:59:59.0Z", "9999-12-31T23:59:59z",
+                 "9999-12-31T23:59:59+00:00", "+009999-12-31T23:59:59Z", "9999-12-31T23:59:60Z",
                  "9999-12-31T23:59:59-01:00", "1767225600", "now", "20260101000000Z"]:
-        for order in ["--at", word, path], [path, f"--at={word}"], ["--check", "--at", word, "--issuer", "lost", path]:
-            if word or order[0] == "--at":
-                told = b"rpkicert: " + line(word, "no moment") + USAGE
-                yield f"no moment {order}", run(program, *order), (2, b"", told)
+        joined = [[path, f"--at={word}"]] if word else []
+        apart = [] if word[:1] == "-" else [["--at", word, path], ["--check", "--at", word, "--issuer", "lost", path]]
+        for order in joined + apart:
+            told = b"rpkicert: " + line(word, "no moment") + USAGE
+            yield f"no moment {order}", run(program, *order), (2, b"", told)
 
 
 def updates(program, folder):
     """A manifest within and without its updates, in the period of its signer's certificate."""
-    certificate = os.path.join(folder, "signer.cer")
-    with open(certificate, "wb") as file:
-        file.write(objects.CERTIFICATE)
-    first, last = period(certificate)
+    first, last = period(signing.signer_of(folder, kinds.MANIFEST).path)
     middle = first + (last - first) / 2
     middle = middle.replace(microsecond=0)
     until = middle + timedelta(days=1)
     spelled = [moment.strftime("%Y%m%d%H%M%SZ") for moment in (middle, until)]
-    octets = kinds.object_of(kinds.MANIFEST, payloads.manifest([], this=spelled[0], until=spelled[1]))
+    content = payloads.manifest([], this=spelled[0], until=spelled[1])
+    octets = signing.object_of(folder, kinds.MANIFEST, content)
     for moment, said in [(first - SECOND, EARLY), (first, OF_MANIFEST + "issued later"),
-                         (middle - SECOND, OF_MANIFEST + "issued later"), (middle, "OK"), (until, "OK"),
+                         (middle - SECOND, OF_MANIFEST + "issued later"), (middle, UNASKED), (until, UNASKED),
                          (until + SECOND, OF_MANIFEST + "stale"), (last + SECOND, LATE)]:
         seen = run(program, "--check", "--at", at(moment), "-", octets=octets)
-        yield f"a manifest at {moment}", seen, (0 if said == "OK" else 1, line("-", said), b"")
+        yield f"a manifest at {moment}", seen, (0 if said == UNASKED else 1, line("-", said), b"")
 
 
 def none(program, folder):

@@ -13,6 +13,7 @@ from datetime import datetime
 import lists
 import objects
 import payloads
+import signing
 from authority import openssl
 from der import sequence, tlv, unsigned
 
@@ -20,7 +21,7 @@ TOP = os.path.dirname(os.path.dirname(os.path.dirname(os.path.abspath(__file__))
 
 
 def rows_of(folder):
-    """The reader of tests/linked that finds the part that is wrong."""
+    """The reader of tests/linked that finds the malformed part."""
     path = os.path.join(TOP, "tests/linked", folder, "rows.py")
     spec = importlib.util.spec_from_file_location(f"rows_of_{folder}", path)
     module = importlib.util.module_from_spec(spec)
@@ -32,6 +33,9 @@ def rows_of(folder):
 
 OF_LISTS, OF_OBJECTS, OF_CONTENTS = map(rows_of, ("lists", "objects", "contents"))
 BASE = "rsync://rpki.example/repo"
+UNASKED = "OK, issuer not checked"
+# What is said of an object that is read, whose certificate is that of an authority (RFC 6487 4.8.1).
+OF_AUTHORITY = "violates the profile: RFC 6487 4.8.1: basic constraints of an end entity"
 NAMED = ["-nameopt", "sep_comma_plus_space,sname"]
 # What the repository is made of: of each object its folder, its issuer, the name of its certificate, and its type.
 SIGNED = {"ca.mft": ("rpki.example/repo/ca", "ca", "camft", "manifest"),
@@ -76,7 +80,8 @@ def signed_at(path):
 def of_list(repository, name):
     """A revocation list: its fields and what it lists."""
     path = os.path.join(repository, "rpki.example/repo", name, name + ".crl")
-    fields = [("File", path), ("Type", "crl"), ("CRL Issuer", told("crl", path, "-issuer", *NAMED)),
+    fields = [("File", path), ("Signature", "not checked"), ("Type", "crl"),
+              ("CRL Issuer", told("crl", path, "-issuer", *NAMED)),
               ("CRL Serial", told("crl", path, "-crlnumber").replace("0x", "")),
               ("Valid Since", PERIOD[0]), ("Valid Until", PERIOD[1]),
               ("AKI", key_of(os.path.join(repository, "rpki.example/repo/ta", name + ".cer")))]
@@ -93,7 +98,7 @@ def of_signed(repository, name):
     folder, issuer, entity, kind = SIGNED[name]
     path = os.path.join(repository, folder, name)
     cert = os.path.join(repository, "work", entity + ".cer")
-    fields = [("File", path), ("Type", kind), ("SKI", key_of(cert)),
+    fields = [("File", path), ("Signature", "good, issuer not checked"), ("Type", kind), ("SKI", key_of(cert)),
               ("AKI", key_of(os.path.join(repository, "rpki.example/repo/ta", issuer + ".cer"))),
               ("Cert Issuer", told("x509", cert, "-issuer", *NAMED)), ("Cert Serial", told("x509", cert, "-serial")),
               ("AIA", f"{BASE}/ta/{issuer}.cer"), ("SIA", f"{BASE}/{issuer}/{name}"), ("Signing Time", signed_at(path)),
@@ -110,7 +115,7 @@ def of_signed(repository, name):
 
 
 def files_beside(path):
-    """What a manifest lists: all that stands beside it, but the anchor's certificate."""
+    """What a manifest lists: all that is beside it, but the anchor's certificate."""
     folder, items = os.path.dirname(path), []
     for name in sorted(os.listdir(folder)):
         if not name.endswith(".mft") and name != "ta.cer":
@@ -169,12 +174,17 @@ def repository(program, folder):
             fields[0] = ("File", other)
             yield f"{name} named .{ending}", run(program, other), (0, as_text(fields, listing), b"")
     paths = [path for path, _, _ in rows]
-    yield "all are well", run(program, "--check", *paths), (0, "".join(f"{path}: OK\n" for path in paths).encode(), b"")
+    yield "all are well", run(program, "--check", *paths), (
+        0, "".join(f"{path}: {UNASKED}\n" for path in paths).encode(), b"")
     for profile, good in (("ee", True), ("ca", False), ("detached", False)):
         status, output, _ = run(program, "--check", "--profile", profile, *paths)
-        seen = [line.endswith(": OK") for line in output.decode().splitlines()]
-        wanted = [good or path.endswith(".crl") for path in paths]
-        yield f"the signers as {profile}", (status, seen), (0 if good else 1, wanted)
+        seen = [line.endswith(f": {UNASKED}") for line in output.decode().splitlines()]
+        wanted = [good and not path.endswith(".crl") for path in paths]
+        yield f"the signers as {profile}", (status, seen), (1, wanted)
+    path = rows[0][0]
+    for profile in ("ta", "ca", "ee", "detached", "router"):
+        seen = run(program, "--check", "--profile", profile, path)
+        yield f"a list as {profile}", seen, (1, f"{path}: not a certificate\n".encode(), b"")
 
 
 # ---- variants
@@ -185,7 +195,7 @@ TYPES = {objects.MANIFEST: "manifest", objects.ROA: "roa", objects.oid("1.2.840.
 
 
 def inside(octets):
-    """What stands behind identifier and length at the front (X.690 8.1)."""
+    """What is after identifier and length at the front (X.690 8.1)."""
     if len(octets) < 2:
         return b""
     return octets[2:] if octets[1] < 128 else octets[2:][octets[1] - 128:]
@@ -232,7 +242,7 @@ def part_by(reader, call, *words):
 
 
 def part(octets):
-    """What a person reads of the part that is wrong of octets that are no certificate."""
+    """What a person reads of the malformed part of octets that are no certificate."""
     of_kind = kind(octets)
     if of_kind == "list":
         return PARTS.get(part_by(OF_LISTS, OF_LISTS.told, octets), "")
@@ -240,7 +250,7 @@ def part(octets):
     if words[0]:
         return PARTS[words[0]]
     certificate = octets[words[1]:words[1] + words[2]]
-    if certificate != objects.CERTIFICATE:
+    if certificate not in [objects.CERTIFICATE] + [signer.certificate for signer in signing.SIGNERS.values()]:
         return "in the signer's certificate: "
     if words[3]:
         return PARTS[words[3]]
@@ -259,7 +269,9 @@ def judged(program, text, octets, expected):
     if expected[0].startswith("rejected "):
         said = f"not a {KINDS[kind(octets)]}: {part(octets)}{expected[0][len('rejected '):]}"
         return text, (status, output.decode(), faults), (1, f"-: {said}\n", b"")
-    return text, (status, output, faults), (0, b"-: OK\n", b"")
+    if kind(octets) == "list":
+        return text, (status, output, faults), (0, f"-: {UNASKED}\n".encode(), b"")
+    return text, (status, output, faults), (1, f"-: {OF_AUTHORITY}\n".encode(), b"")
 
 
 def is_like_a_list(octets):
@@ -284,15 +296,6 @@ def with_type(octets):
 
 OTHER_TYPE = objects.oid("1.2.840.113549.1.9.16.1.99")
 MANIFEST, ROA, ASPA = TYPES
-
-
-def object_of(kind, content):
-    """A signed object of this type and content."""
-    digest = hashlib.sha256(content).digest()
-    attributes = [objects.of_type(kind), objects.of_time(), objects.of_digest(digest)]
-    signers = tlv(0x31, objects.signer_fields(attributes=objects.attributes(attributes)))
-    fields = objects.content_fields(type=tlv(6, kind), content=tlv(0xA0, tlv(4, content)))
-    return objects.made(content=fields, signers=signers)
 
 
 def entries(*names, digest=hashlib.sha256(b"").digest()):
@@ -340,15 +343,15 @@ CONTENTS = [
 def contents(program, folder):
     """Contents of signed objects that use or break one rule each (RFC 9286 4.2, RFC 9582 4, ASPA)."""
     for text, of_type, content, wrong in CONTENTS:
-        octets = object_of(of_type, content)
+        octets = signing.object_of(folder, of_type, content)
         status, output, faults = run(program, "--check", "-", octets=octets)
         if wrong is GOOD:
-            yield f"a content: {text}", (status, output, faults), (0, b"-: OK\n", b"")
+            yield f"a content: {text}", (status, output, faults), (0, f"-: {UNASKED}\n".encode(), b"")
         else:
             said = f"-: not a {KINDS[TYPES.get(of_type, 'object')]}: {part(octets)}{wrong}".encode()
             same = output.startswith(said) and (not wrong or output == said + b"\n")
             yield f"a content: {text}", (status, same, faults), (1, True, b"")
-    octets = object_of(OTHER_TYPE, b"x" * 1000)
+    octets = signing.object_of(folder, OTHER_TYPE, b"x" * 1000)
     status, output, _ = run(program, "--json", "-", octets=octets)
     told = json.loads(output)
     seen = (status, told["type"], told["content_type"], told["content_size"])
@@ -359,7 +362,7 @@ def sizes(program, folder):
     """Objects that list many items: each is printed, in order."""
     for count in (0, 1, 127, 128, 1_000, 5_000):
         names = [f"f{number}.roa" for number in range(count)]
-        octets = object_of(MANIFEST, FILES(entries(*(name.encode() for name in names))))
+        octets = signing.object_of(folder, MANIFEST, FILES(entries(*(name.encode() for name in names))))
         status, output, _ = run(program, "--json", "-", octets=octets)
         told = [one["filename"] for one in json.loads(output)["filesandhashes"]]
         yield f"{count} files", (status, told), (0, names)
@@ -368,7 +371,7 @@ def sizes(program, folder):
         status, output, _ = run(program, "--json", "-", octets=octets)
         yield f"{count} revoked", (status, [one["serial"] for one in json.loads(output)["revoked_certs"]]), (0, serials)
         if count:
-            octets = object_of(ASPA, payloads.aspa(0, range(1, count + 1)))
+            octets = signing.object_of(folder, ASPA, payloads.aspa(0, range(1, count + 1)))
             status, output, _ = run(program, "-", octets=octets)
             lines = [line for line in output.decode().splitlines() if line.startswith("Provider Set: ")]
             yield f"{count} providers", (status, lines), (0, [f"Provider Set: ASID {one + 1}" for one in range(count)])

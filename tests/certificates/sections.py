@@ -24,8 +24,9 @@ SECTIONS = [
     ("a trust anchor with a malformed authority key identifier", AUTHORITY_KEY),
     ("the issuer by ", AUTHORITY_ACCESS), ("a point beyond ASCII", POINTS),
     ("a repository beside a name of tag 9", PUBLICATION), ("an end entity beside a name of tag 9", SIGNED_OBJECT),
-    ("an empty common name", SUBJECT), ("a common name of 65 letters", SUBJECT),
-    ("a serial number of 65 digits", SUBJECT), ("a router's ", ROUTER_SUBJECT),
+    ("a common name of 65 letters of UTF-8", SUBJECT), ("a router's name of IA5", ROUTER_SUBJECT),
+    ("points: ", POINTS), ("ways to the issuer: ", AUTHORITY_ACCESS), ("access to an authority: ", PUBLICATION),
+    ("access to an object: ", SIGNED_OBJECT), ("purposes: ", PURPOSES),
 ]
 
 

@@ -10,8 +10,8 @@ from typing import FrozenSet, List, NamedTuple
 from der import bits, digits_of as digits, nested, sequence
 from shim import Shim
 from vectors import (
-    EXTENSIONS, EXTENSIONS_WRITTEN, EXTENSION_WITHOUT_OCTETS, KEY, KEY_DIGITS, NAME, ORGANIZATION, ROUTER_ORGANIZATION,
-    RSA_OF_NUMBERS, RSA_SIGNATURE, SIGNED, SUBJECT, USAGE,
+    CONSTRAINTS, EXTENSIONS, EXTENSIONS_WRITTEN, EXTENSION_WITHOUT_OCTETS, KEY, KEY_DIGITS, NAME, ORGANIZATION,
+    ROUTER_ORGANIZATION, RSA_OF_NUMBERS, RSA_SIGNATURE, SIGNED, SUBJECT, USAGE,
 )
 
 NOT_TOLD = (1, b"", b"out of memory\n")
@@ -58,6 +58,7 @@ def made(octets):
     return b"made " + digits(octets)
 
 
+NULL = b"\x05\x00"
 BITS = bits(b"\x61\x62\x63")
 DEEP = nested(300)
 DEEP_SIGNED = sequence(DEEP, RSA_SIGNATURE, bits(b"\xAA"))
@@ -79,17 +80,47 @@ READERS = [
     on_cursor("skip_nested", DEEP, b"done", grows=False),
     on_cursor("walk", SIGNED + b"\x00", b"done", b"\x00", counts=range(7)),
     on_cursor("walk", DEEP, b"done", counts=range(302)),
-    on_cursor("take_name", NAME + b"\x00", made(NAME), b"\x00", grows=False),
-    on_cursor("take_name", SUBJECT, made(SUBJECT), grows=False),
+    on_cursor("take_name", NAME + b"\x00", made(NAME), b"\x00"),
+    on_cursor("take_name", SUBJECT, made(SUBJECT)),
+]
+
+# Readers that keep octets, on octets that they read, and what they make of them: each shares them, and copies them.
+KEEPERS = [
+    ("capture_one", SIGNED, SIGNED),
+    ("capture", SIGNED, SIGNED),
+    ("take_bit_string", BITS, BITS),
+    ("take_key", KEY, KEY),
+    ("take_name", SUBJECT, SUBJECT),
+    ("take_signed", SIGNED, SIGNED),
+    ("take_parts", SIGNED[2:], SIGNED),
+    ("take_extension", CONSTRAINTS, CONSTRAINTS),
+    ("take_opt_extension", CONSTRAINTS, CONSTRAINTS),
+]
+
+# Readers that end on octets after the last part, once that part is kept.
+BEHIND = [
+    ("take_key", sequence(KEY[2:], NULL)),
+    ("take_signed", sequence(SIGNED[2:], NULL)),
+    ("take_extension", sequence(CONSTRAINTS[2:], NULL)),
+    ("take_opt_extension", sequence(CONSTRAINTS[2:], NULL)),
+]
+
+READERS += [
+    on_cursor(call, octets + NULL, made(value), NULL, grows=group == "slice", group=group)
+    for group in ["cursor", "slice"] for call, octets, value in KEEPERS
+] + [
+    on_cursor(call, octets, b"refused 6", octets, grows=group == "slice", group=group)
+    for group in ["cursor", "slice"] for call, octets in BEHIND
 ]
 
 VALUES = [
     on_octets("whole", "decode_signed", SIGNED, made(SIGNED)),
     on_octets("whole", "decode_signed", DEEP_SIGNED, made(DEEP_SIGNED)),
     on_octets("whole", "decode_key", KEY, made(KEY), grows=False),
-    on_octets("whole", "decode_name", SUBJECT, made(SUBJECT), grows=False),
+    on_octets("whole", "decode_name", SUBJECT, made(SUBJECT)),
+    on_octets("whole", "decode_extension", CONSTRAINTS, made(CONSTRAINTS)),
     on_octets("whole", "rsa_from_components", b"\x00\x80", made(RSA_OF_NUMBERS)),
-    on_value("captured", "clone", SIGNED, made(SIGNED), False),
+    on_value("captured", "clone", SIGNED, made(SIGNED), True),
     on_value("captured", "from_values", SIGNED, made(sequence(SIGNED)), True),
     on_value("captured", "from_values", DEEP, made(sequence(DEEP)), True),
     on_value("bits", "clone", BITS, made(BITS), False),
@@ -99,10 +130,11 @@ VALUES = [
     on_value("key", "to_info_bytes", KEY, made(KEY), True),
     on_value("key", "to_subject_name", KEY, made(SUBJECT), True),
     on_value("key", "from_pub_key", KEY, made(SUBJECT), True),
-    on_value("signed", "clone", SIGNED, made(SIGNED), False),
+    on_value("signed", "clone", SIGNED, made(SIGNED), True),
     on_value("signed", "clone_signature", SIGNED, made(b"\xAA"), False),
-    on_value("signed", "clone_data", SIGNED, made(b"\x30\x00"), False),
-    on_value("name", "clone", SUBJECT, made(SUBJECT), False),
+    on_value("signed", "clone_data", SIGNED, made(b"\x30\x00"), True),
+    on_value("name", "clone", SUBJECT, made(SUBJECT), True),
+    on_value("extension", "clone", CONSTRAINTS, made(CONSTRAINTS), True),
 ]
 
 RSYNC = b"rSync://hOst/module/foo/bar"

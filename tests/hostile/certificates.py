@@ -7,6 +7,7 @@ finds good."""
 import hashlib
 
 import claims
+import malformed
 import names_and_places
 from certificate import (
     ADDRESSES, ADDRESSES_V2, AUTHORITY_ACCESS, AUTHORITY_KEY, CA_ISSUERS, CERTIFICATE, CONSTRAINTS, END_ENTITY_USAGE,
@@ -189,7 +190,7 @@ VARIANTS = [
      {"inspect_router": "RFC 8209 3.1.3.4, 3.1.3.5: missing numbers, or addresses are there"}),
 ]
 
-VARIANTS += names_and_places.VARIANTS + claims.VARIANTS
+VARIANTS += names_and_places.VARIANTS + claims.VARIANTS + malformed.VARIANTS
 
 # Numbers of errors (include/rpki.h).
 TRUNCATED, UNEXPECTED, CONTENT, TRAILING = 1, 4, 5, 6
@@ -251,7 +252,7 @@ def cut_inside(it):
     it.tbs.inside[5] = Value(0x30, with_attribute(tlv(0x30, b"\x30\x05"))[2:])
 
 
-# Changes that only rpki_certificate is asked about, its status, a part that is wrong or 0, and the number of the error.
+# Changes that only rpki_certificate is asked about, its status, a malformed part or 0, and the number of the error.
 OTHER_PARTS = [
     ("another algorithm", other_algorithm, 66, CONTENT),
     ("a signature with a count of 8", other_signature(bytes.fromhex("030208aa")), 67, CONTENT),

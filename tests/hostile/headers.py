@@ -1,5 +1,5 @@
-"""How often headers are read, by callgrind's count of calls, and how the instructions grow that name members, or that
-read certificates of many extensions.
+"""How often headers are read, by callgrind's count of calls, and how the instructions grow that name members, that read
+certificates of many extensions, or that look for serial numbers on lists.
 
 The members of a SEQUENCE have the tag number 31 here, and the function `tag_number` reads such numbers, once for each
 header that is read from octets. Without valgrind nothing is counted, and the last line of the table says so; so for a
@@ -10,6 +10,7 @@ import re
 import shutil
 import tempfile
 
+import lists
 from certificate import UNKNOWN, Certificate
 from der import digits_of, nested, sequence
 from programs import run
@@ -123,4 +124,27 @@ def identifiers_compared(programs):
             yield f"extensions, {name}, twenty times the instructions", instructions[1] < 20 * instructions[0], True
 
 
-TABLES = [headers_read, entries_looked_at, identifiers_compared]
+def of_even_numbers(count):
+    """A list of so many entries, of the even numbers from 0 on."""
+    return lists.listed(entries=sequence(*(lists.entry(2 * number) for number in range(count))))
+
+
+def serial_numbers_looked_for(programs):
+    """Where ten times as many serial numbers are looked for among ten times as many that are kept as a set, it takes
+    less than twenty times the instructions: not every entry is looked at for each of them."""
+    count = 100_000
+    told = run(programs.calls, ["list", "kept", str(count)], of_even_numbers(count))
+    yield f"{count} looked for among {count}", (told.status, told.output), (0, b"size %d\n" % (count // 2))
+    if not shutil.which("valgrind"):
+        return "nothing counted: there is no valgrind"
+    with tempfile.TemporaryDirectory() as folder:
+        counts, instructions = os.path.join(folder, "counts"), []
+        for number in (50, 500):
+            seen = counted(programs, counts, ["list", "kept", str(number)], of_even_numbers(number))
+            yield f"{number} looked for among {number}", seen, (0, b"size %d" % (number // 2))
+            instructions.append(instructions_in(counts))
+        yield "serial numbers, twenty times the instructions", instructions[1] < 20 * instructions[0], True
+    return f"{instructions[1] / instructions[0]:.1f} times"
+
+
+TABLES = [headers_read, entries_looked_at, identifiers_compared, serial_numbers_looked_for]

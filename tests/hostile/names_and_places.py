@@ -3,7 +3,7 @@ subjects (RFC 5280 4.2.1.6 and A.1, RFC 6487 4.4 and 4.8.6 to 4.8.8, RFC 8182 3.
 from certificate import (
     AUTHORITY_ACCESS, CA_ISSUERS, COMMON, MANIFEST, NOTIFY, OBJECT, ORGANIZATION, POINT, PRINTABLE, REPOSITORY,
     REVOCATION, SECURE, SERIAL, SIGNED, SUBJECT_ACCESS, UNKNOWN, UTF8, accesses, end_entity, of_names, oid, point, put,
-    router, subject, uri,
+    router, subject, uri, values_of,
 )
 from der import sequence, tlv
 
@@ -12,12 +12,22 @@ NO_IA5 = "malformed IA5String"
 ELSEWHERE = "RFC 6487 4.8.8.1, RFC 9286 2: manifest is not in the repository"
 NO_HTTPS = "RFC 8182 3.2: notifications without an https URI"
 OTHER_STRING, ROUTER_STRING = "invalid name", "unpermitted string variant in common name"
+ISSUER_SIZE = "RFC 5280 A.1: value of the issuer is not of 1 to 64 characters"
+SUBJECT_SIZE = "RFC 5280 A.1: value of the subject is not of 1 to 64 characters"
+ROUTER_NUMBER = "RFC 8209 3.1.1: serial number of the subject is no PrintableString"
 
 
 def router_of(*attributes):
     def change(it):
         router(it)
         subject(*attributes)(it)
+    return change
+
+
+def issuer(*attributes):
+    """The issuer's name, of these attributes."""
+    def change(it):
+        it.tbs.inside[3] = values_of(of_names(*attributes))[0]
     return change
 
 
@@ -124,22 +134,31 @@ VARIANTS = [
      {"rpki_notify": SECURE.decode(), "inspect_ca": NO_HTTPS}),
     ("an end entity with notifications by http", end_entity(SIGNED, (NOTIFY, uri(b"http://example.net/n.xml"))),
      {"inspect_ee": NO_HTTPS}),
-    ("an empty common name", subject((COMMON, PRINTABLE, b"")), {"inspect_ca": OTHER_STRING}),
+    ("an empty common name", subject((COMMON, PRINTABLE, b"")), {"inspect_ca": SUBJECT_SIZE}),
+    ("an issuer of no letters", issuer((COMMON, PRINTABLE, b"")), {"inspect_ca": ISSUER_SIZE}),
+    ("an issuer of 64 letters", issuer((COMMON, PRINTABLE, b"a" * 64)), {"inspect_ca": "ok"}),
+    ("an issuer of 65 letters", issuer((COMMON, PRINTABLE, b"a" * 65)), {"inspect_ca": ISSUER_SIZE}),
+    ("an issuer with an organization of 65 letters",
+     issuer((COMMON, PRINTABLE, b"a"), (ORGANIZATION, PRINTABLE, b"b" * 65)), {"inspect_ca": ISSUER_SIZE}),
     ("a common name of 64 letters", subject((COMMON, PRINTABLE, b"a" * 64)), {"inspect_ca": "ok"}),
-    ("a common name of 65 letters", subject((COMMON, PRINTABLE, b"a" * 65)), {"inspect_ca": OTHER_STRING}),
+    ("a common name of 65 letters", subject((COMMON, PRINTABLE, b"a" * 65)), {"inspect_ca": SUBJECT_SIZE}),
     ("a serial number of 64 digits", subject((COMMON, PRINTABLE, b"a"), (SERIAL, PRINTABLE, b"0" * 64)),
      {"inspect_ca": "ok"}),
     ("a serial number of 65 digits", subject((COMMON, PRINTABLE, b"a"), (SERIAL, PRINTABLE, b"0" * 65)),
-     {"inspect_ca": OTHER_STRING}),
+     {"inspect_ca": SUBJECT_SIZE}),
+    ("a common name of 65 letters of UTF-8", subject((COMMON, UTF8, b"a" * 65)), {"inspect_ca": OTHER_STRING}),
     ("a router's name of UTF-8", router_of((COMMON, UTF8, b"a")), {"inspect_router": "ok"}),
     ("a router's name of 64 letters of two octets", router_of((COMMON, UTF8, "ä".encode() * 64)),
      {"inspect_router": "ok"}),
     ("a router's name of 65 letters of two octets", router_of((COMMON, UTF8, "ä".encode() * 65)),
-     {"inspect_router": ROUTER_STRING}),
-    ("a router's name of no letters", router_of((COMMON, UTF8, b"")), {"inspect_router": ROUTER_STRING}),
+     {"inspect_router": SUBJECT_SIZE}),
+    ("a router's name of no letters", router_of((COMMON, UTF8, b"")), {"inspect_router": SUBJECT_SIZE}),
+    ("a router's name of IA5", router_of((COMMON, 0x16, b"a")), {"inspect_router": ROUTER_STRING}),
     ("a router's serial number", router_of((COMMON, UTF8, b"a"), (SERIAL, PRINTABLE, b"1")), {"inspect_router": "ok"}),
     ("a router's serial number of UTF-8", router_of((COMMON, PRINTABLE, b"a"), (SERIAL, UTF8, b"1")),
-     {"inspect_router": ROUTER_STRING}),
+     {"inspect_router": ROUTER_NUMBER}),
+    ("a router's serial number of 65 digits of UTF-8",
+     router_of((COMMON, PRINTABLE, b"a"), (SERIAL, UTF8, b"1" * 65)), {"inspect_router": SUBJECT_SIZE}),
     ("a router's organization of UTF-8", router_of((COMMON, PRINTABLE, b"a"), (ORGANIZATION, UTF8, b"b")),
      {"inspect_router": "ok"}),
     ("URIs of 3,000 octets", long_uris, {

@@ -81,7 +81,7 @@ def usual_contents(programs):
 
 
 def content_beginnings(programs):
-    """Each beginning of a content is rejected, and so is one with a value behind it."""
+    """Each beginning of a content is rejected, and so is one with a value after it."""
     for call, (octets, _) in USUAL.items():
         for size in range(len(octets)):
             yield f"{call}, {size} octets", seen(programs, octets[:size], call), (0, rejected("truncated value"))
@@ -102,6 +102,9 @@ def sizes_of_contents(programs):
         files = [(f"f{number}.roa", b"") for number in range(count)]
         yield f"{count} files", seen(programs, manifest([file(*one) for one in files]), "manifest"), (
             0, of_manifest(files))
+        files = [file(*one) for one in [*files, ("f0.roa", b"")]]
+        yield f"{count} files, and one of them twice", seen(programs, manifest(files), "manifest"), (
+            0, rejected("file listed twice") if count else of_manifest([("f0.roa", b"")]))
     for count in (1, 127, 128, 1_000, 20_000):
         prefixes = [(f"10.{number // 256 % 256}.{number % 256}.0/24", None) for number in range(count)]
         yield f"{count} prefixes", seen(programs, roa(1, family(4, prefixes)), "roa"), (0, of_roa(1, prefixes))

@@ -165,7 +165,7 @@ static bool same_entry(const struct rpki_entry *one, const struct rpki_entry *ot
            one->constructed == other->constructed;
 }
 
-/* The first child and its next siblings are, one after another, the entries that name an entry their parent. */
+/* The first child and its next siblings are, in order, the entries that name an entry their parent. */
 static bool families_agree(const struct rpki_entry *entries, size_t count) {
     size_t place, other;
     bool well = rpki_first_child(entries, count, count) == RPKI_NO_ENTRY;

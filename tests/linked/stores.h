@@ -23,7 +23,7 @@ typedef rpki_status store(const void *of, uint8_t *out, size_t capacity, size_t 
 
 /*
  * Whether a call stores these octets: in a buffer that has room for them, in one that has more, and not in one that has
- * less; and no octet behind them is written.
+ * less; and no octet after them is written.
  */
 bool stores(store *call, const void *of, const uint8_t *octets, size_t size);
 

@@ -7,7 +7,9 @@ pub mod signature;
 
 pub use digest::DigestAlgorithm;
 pub use keys::{KeyIdentifier, PublicKey, PublicKeyFormat};
+#[cfg(feature = "openssl")]
+pub use signature::OpenSslProvider;
 pub use signature::{
-    BgpsecSignatureAlgorithm, Provider, RpkiSignature, RpkiSignatureAlgorithm, Signature, SignatureAlgorithm,
-    SignatureVerificationError, SigningAlgorithm,
+    BgpsecSignatureAlgorithm, Provider, RpkiSignature, RpkiSignatureAlgorithm, RsaProvider, Signature,
+    SignatureAlgorithm, SignatureVerificationError, SigningAlgorithm,
 };

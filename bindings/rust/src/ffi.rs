@@ -119,6 +119,25 @@ readers! {
     https_parse(rpki_https_parse) -> HttpsParts;
 }
 
+/// Whether the signature is one of the message by the public key that the octets are; else why not.
+pub(crate) fn verify(key: &[u8], message: &[u8], signature: &[u8]) -> Result<(), Status> {
+    compared();
+    // SAFETY: the pointers and sizes are those of slices, which are borrowed for the call.
+    done(unsafe {
+        rpki_verify(key.as_ptr(), key.len(), message.as_ptr(), message.len(), signature.as_ptr(), signature.len())
+    })
+}
+
+/// The digest of the octets by SHA-256.
+pub(crate) fn sha256(octets: &[u8]) -> [u8; 32] {
+    compared();
+    let mut digest = [0; 32];
+    // SAFETY: the pointer and the size are those of a slice, which is borrowed for the call; `digest` is this
+    // function's own.
+    unsafe { rpki_sha256(octets.as_ptr(), octets.len(), &mut digest) };
+    digest
+}
+
 /// The entries of the value at the front of the octets. `OUT_OF_MEMORY` also where there is no room for them.
 pub(crate) fn index(octets: &[u8]) -> Result<Vec<Entry>, Status> {
     compared();

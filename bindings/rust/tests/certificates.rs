@@ -43,7 +43,7 @@ const EXTENSION_ERRORS: [ExtensionError; 5] = [
 ];
 
 /// The rules by their statuses.
-const RULES: [(usize, CertRule); 35] = [
+const RULES: [(usize, CertRule); 38] = [
     (85, CertRule::SerialNumber),
     (86, CertRule::CriticalExtensions),
     (87, CertRule::Issuer),
@@ -79,6 +79,9 @@ const RULES: [(usize, CertRule); 35] = [
     (117, CertRule::OwnResources),
     (118, CertRule::ManifestPlace),
     (119, CertRule::Notifications),
+    (156, CertRule::IssuerSize),
+    (157, CertRule::SubjectSize),
+    (158, CertRule::RouterSerialNumber),
 ];
 
 fn octets_of(digits: &str) -> Vec<u8> {

@@ -5,7 +5,7 @@ use bytes::Bytes;
 use rpki::crypto::keys::{InvalidInteger, SignatureVerificationError};
 use rpki::crypto::{
     BgpsecSignatureAlgorithm, DigestAlgorithm, KeyIdentifier, Provider, PublicKey, PublicKeyFormat,
-    RpkiSignatureAlgorithm, Signature, SignatureAlgorithm, SigningAlgorithm,
+    RpkiSignatureAlgorithm, RsaProvider, Signature, SignatureAlgorithm, SigningAlgorithm,
 };
 use rpki::repository::x509::{Name, SignedData};
 use rpki::DecodeError;
@@ -73,17 +73,17 @@ fn the_question_is_of_the_keys_algorithm() {
     let rpki = Signature::new(RpkiSignatureAlgorithm::default(), value.clone());
     let bgpsec = Signature::new(BgpsecSignatureAlgorithm::default(), value);
     let (rsa, point) = (key(RSA, b"\x00abc"), key(P256, b"\x00\x04point"));
-    assert!(rsa.verify(&listens, b"message", &rpki).is_ok());
-    assert!(point.verify(&listens, b"message", &bgpsec).is_ok());
+    assert!(rsa.verify_with(&listens, b"message", &rpki).is_ok());
+    assert!(point.verify_with(&listens, b"message", &bgpsec).is_ok());
     // No signature is of the other's format.
-    assert!(rsa.verify(&listens, b"message", &bgpsec).is_err());
-    let told: SignatureVerificationError = point.verify(&listens, b"message", &rpki).unwrap_err();
+    assert!(rsa.verify_with(&listens, b"message", &bgpsec).is_err());
+    let told: SignatureVerificationError = point.verify_with(&listens, b"message", &rpki).unwrap_err();
     assert_eq!(told.to_string(), "signature verification failed");
     let of = |of, bits: &[u8]| (of, bits.to_vec(), b"message".to_vec(), b"signature".to_vec());
     assert_eq!(listens.0.take(), [of("RSA", b"abc"), of("ECDSA", b"\x04point")]);
     // Where a provider knows no ECDSA, no such signature is good.
-    assert!(point.verify(&RsaAlone, b"message", &bgpsec).is_err());
-    assert!(rsa.verify(&RsaAlone, b"message", &rpki).is_ok());
+    assert!(point.verify_with(&RsaAlone, b"message", &bgpsec).is_err());
+    assert!(rsa.verify_with(&RsaAlone, b"message", &rpki).is_ok());
 }
 
 /// All of the signed octets are handed over, and the bits of the signature without their count.
@@ -91,7 +91,7 @@ fn the_question_is_of_the_keys_algorithm() {
 fn signed_data_asks_of_all_that_is_signed() {
     let listens = Listens::default();
     let signed = SignedData::decode([b"\x30\x17\x30\x02\x05\x00", SHA256_RSA, b"\x03\x02\x00\xaa"].concat()).unwrap();
-    assert!(signed.verify_signature(&listens, &key(RSA, b"\x00abc")).is_ok());
+    assert!(signed.verify_signature_with(&listens, &key(RSA, b"\x00abc")).is_ok());
     let asked = ("RSA", b"abc".to_vec(), b"\x30\x02\x05\x00".to_vec(), b"\xaa".to_vec());
     assert_eq!(listens.0.take(), [asked]);
 }
@@ -284,4 +284,43 @@ fn names_of_subjects() {
         (subject.to_subject_name(), Name::from_pub_key(&subject)),
         (Name::decode(octets.clone()).unwrap(), Name::decode(octets).unwrap())
     );
+}
+
+/// The octets of two hexadecimal digits each.
+fn octets(digits: &str) -> Vec<u8> {
+    (0..digits.len()).step_by(2).map(|at| u8::from_str_radix(&digits[at..at + 2], 16).unwrap()).collect()
+}
+
+/// A signature by openssl is verified by its key; with an octet of it or of the message changed it is not, nor by
+/// another key. The row is the first of those that `tests/signatures/rows.py` of the repository makes.
+#[test]
+fn a_signature_is_verified() {
+    let row: Vec<Vec<u8>> = include_str!("signature.txt").trim().split(' ').map(octets).collect();
+    let (bits, message, value) = (&row[0], &row[1], &row[2]);
+    let key = PublicKey::rsa_from_bits_bytes(bits.clone().into()).unwrap();
+    let signature = |value: &[u8]| Signature::new(RpkiSignatureAlgorithm::default(), Bytes::copy_from_slice(value));
+    assert_eq!(key.verify(message, &signature(value)), Ok(()));
+    assert_eq!(key.verify_with(&RsaProvider, message, &signature(value)), Ok(()));
+    assert!(RsaProvider.rsa_check(bits, message, value) && !RsaProvider.ecdsa_check(bits, message, value));
+    for at in 0..value.len() {
+        let mut changed = value.clone();
+        changed[at] ^= 1;
+        assert!(key.verify(message, &signature(&changed)).is_err(), "octet {at}");
+    }
+    assert!(key.verify(b"another", &signature(value)).is_err());
+    assert!(key.verify(message, &signature(&value[1..])).is_err());
+    let bgpsec = Signature::new(BgpsecSignatureAlgorithm::default(), Bytes::copy_from_slice(value));
+    assert!(key.verify(message, &bgpsec).is_err());
+    let other = PublicKey::rsa_from_components(&[0x80; 256], &[3]).unwrap();
+    assert!(other.verify(message, &signature(value)).is_err());
+}
+
+/// The same answers by OpenSSL.
+#[cfg(feature = "openssl")]
+#[test]
+fn openssl_says_the_same() {
+    use rpki_proved::crypto::OpenSslProvider;
+    let row: Vec<Vec<u8>> = include_str!("signature.txt").trim().split(' ').map(octets).collect();
+    assert!(OpenSslProvider.rsa_check(&row[0], &row[1], &row[2]));
+    assert!(!OpenSslProvider.rsa_check(&row[0], b"another", &row[2]));
 }

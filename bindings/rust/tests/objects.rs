@@ -1,11 +1,10 @@
 //! Signed objects, read by [SignedObject], compared with the rows that tests/linked/objects/rows.py writes. The
 //! variable `RPKI_OBJECT_ROWS` names their file; without it nothing is compared.
 
-use openssl::{bn::BigNum, hash, pkey::PKey, rsa::Rsa, sign::Verifier};
 use rpki_proved::crypto::{Provider, RpkiSignatureAlgorithm};
 use rpki_proved::oid::Oid;
 use rpki_proved::repository::cert::Cert;
-use rpki_proved::repository::sigobj::{MessageDigest, ObjectVerificationError, SignedObject, SignedObjectError};
+use rpki_proved::repository::sigobj::{ObjectVerificationError, SignedObject, SignedObjectError};
 
 /// The errors by their statuses, and their texts.
 const ERRORS: [(usize, SignedObjectError, &str); 15] = [
@@ -26,26 +25,13 @@ const ERRORS: [(usize, SignedObjectError, &str); 15] = [
     (137, SignedObjectError::Signature, "malformed signature of the object"),
 ];
 
-/// The checks of OpenSSL.
-struct OpenSsl;
+/// A provider that says one thing of all.
+struct Says(bool);
 
-impl Provider for OpenSsl {
-    fn rsa_check(&self, bits: &[u8], message: &[u8], signature: &[u8]) -> bool {
-        let check = || {
-            let key = Rsa::public_key_from_der_pkcs1(bits)?;
-            if key.size() != 256 || *key.e() != *BigNum::from_u32(65_537)? {
-                return Ok::<bool, openssl::error::ErrorStack>(false);
-            }
-            let key = PKey::from_rsa(key)?;
-            let mut verifier = Verifier::new(hash::MessageDigest::sha256(), &key)?;
-            verifier.verify_oneshot(signature, message)
-        };
-        check().unwrap_or(false)
+impl Provider for Says {
+    fn rsa_check(&self, _: &[u8], _: &[u8], _: &[u8]) -> bool {
+        self.0
     }
-}
-
-fn digest(octets: &[u8]) -> MessageDigest {
-    MessageDigest::from(openssl::sha::sha256(octets))
 }
 
 fn octets(digits: &str) -> Vec<u8> {
@@ -115,7 +101,7 @@ fn rows() {
                 let object = found.unwrap();
                 compare(&all, &object, said);
                 read += 1;
-                verified += usize::from(object.verify_signature(&OpenSsl, &digest(object.content())).is_ok());
+                verified += usize::from(object.verify_signature().is_ok());
             }
             Err(error) => {
                 assert_eq!(found.unwrap_err(), error, "{row}");
@@ -139,19 +125,23 @@ fn signatures() {
     let all = rows.lines().map(|row| octets(row.split(' ').next().unwrap()));
     let by_openssl = |all: &Vec<u8>| {
         SignedObject::decode(all.clone(), true)
-            .map_or(false, |object| object.verify_signature(&OpenSsl, &digest(object.content())).is_ok())
+            .map_or(false, |object| !object.content().is_empty() && object.verify_signature().is_ok())
     };
     let signed = all.clone().find(by_openssl).expect("an object of openssl");
     let object = SignedObject::decode(signed.clone(), true).unwrap();
-    assert_eq!(object.verify_signature(&OpenSsl, &digest(b"another")), Err(ObjectVerificationError::MessageDigest));
+    assert_eq!(object.verify_signature_with(&Says(true)), Ok(()));
+    assert_eq!(object.verify_signature_with(&Says(false)), Err(ObjectVerificationError::Signature));
+    let content = signed.windows(object.content().len()).position(|octets| octets == object.content()).unwrap();
     let sid = signed.windows(20).rposition(|octets| octets == object.sid().as_slice()).unwrap();
-    for (at, error) in
-        [(sid, ObjectVerificationError::SubjectKeyIdentifier), (signed.len() - 1, ObjectVerificationError::Signature)]
-    {
+    for (at, error) in [
+        (content, ObjectVerificationError::MessageDigest),
+        (sid, ObjectVerificationError::SubjectKeyIdentifier),
+        (signed.len() - 1, ObjectVerificationError::Signature),
+    ] {
         let mut changed = signed.clone();
         changed[at] ^= 1;
         let object = SignedObject::decode(changed, true).unwrap();
-        assert_eq!(object.verify_signature(&OpenSsl, &digest(object.content())), Err(error));
+        assert_eq!(object.verify_signature(), Err(error));
         assert!(!error.to_string().is_empty());
     }
 }

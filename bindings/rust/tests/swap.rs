@@ -535,7 +535,10 @@ fn signed_data() {
     assert_eq!(again, signed);
     assert_eq!(SignedData::new(&b"\x30\x00\x30\x00"[..], signed.signature().clone()), Err(DecodeError::Trailing));
     let key = PublicKey::decode(KEY).unwrap();
-    assert!(signed.verify_signature(&Says(true), &key).is_ok() && signed.verify_signature(&Says(false), &key).is_err());
+    assert!(
+        signed.verify_signature_with(&Says(true), &key).is_ok()
+            && signed.verify_signature_with(&Says(false), &key).is_err()
+    );
 }
 
 /// The provider is asked with exactly the bits of the key, the octets that were signed, and those of the signature; and
@@ -550,13 +553,13 @@ fn the_right_question_is_asked() {
     }
     let key = PublicKey::decode(KEY).unwrap();
     let signature: RpkiSignature = Signature::new(RpkiSignatureAlgorithm::default(), Bytes::from_static(b"signature"));
-    assert!(key.verify(&Asked, b"message", &signature).is_ok());
-    assert!(key.verify(&Asked, b"another", &signature).is_err());
+    assert!(key.verify_with(&Asked, b"message", &signature).is_ok());
+    assert!(key.verify_with(&Asked, b"another", &signature).is_err());
     let point =
         b"\x30\x19\x30\x13\x06\x07\x2a\x86\x48\xce\x3d\x02\x01\x06\x08\x2a\x86\x48\xce\x3d\x03\x01\x07\x03\x02\x00\x04";
     let point = PublicKey::decode(&point[..]).unwrap();
     assert_eq!((point.algorithm(), point.allow_router_cert()), (PublicKeyFormat::EcdsaP256, true));
-    let error = point.verify(&Says(true), b"message", &signature).unwrap_err();
+    let error = point.verify_with(&Says(true), b"message", &signature).unwrap_err();
     assert_eq!(VerificationError::from(error).to_string(), "signature verification failed");
     assert_eq!(signature.algorithm().signing_algorithm(), SigningAlgorithm::RsaSha256);
     assert_eq!(signature.unwrap().1, &b"signature"[..]);

@@ -89,6 +89,9 @@ fn rules_of_certificates() {
         (CertRule::OwnResources, "resources of the issuer"),
         (CertRule::ManifestPlace, "manifest is not in the repository"),
         (CertRule::Notifications, "notifications without an https URI"),
+        (CertRule::IssuerSize, "value of the issuer is not of 1 to 64 characters"),
+        (CertRule::SubjectSize, "value of the subject is not of 1 to 64 characters"),
+        (CertRule::RouterSerialNumber, "serial number of the subject is no PrintableString"),
     ];
     for (rule, text) in rules {
         assert_eq!(rule.to_string(), text);
@@ -117,12 +120,14 @@ fn rules_of_names() {
     let twice = Some("multiple common names");
     let (numbers, string) = (Some("multiple serial numbers"), Some("unpermitted string variant in common name"));
     let (missing, invalid) = (Some("missing common name"), Some("invalid name"));
-    let rows: [Row; 12] = [
+    let rows: [Row; 14] = [
         (&[(COMMON, PRINTABLE)], None, None),
         (&[(COMMON, UTF8)], invalid, None),
         (&[(COMMON, IA5)], invalid, string),
         (&[(COMMON, PRINTABLE), (NUMBER, PRINTABLE)], None, None),
         (&[(COMMON, PRINTABLE), (COMMON, PRINTABLE)], twice, twice),
+        (&[(COMMON, PRINTABLE), (NUMBER, UTF8)], invalid, None),
+        (&[(COMMON, UTF8), (NUMBER, UTF8), (ORGANIZATION, UTF8)], invalid, None),
         (&[(NUMBER, PRINTABLE)], missing, missing),
         (&[(NUMBER, PRINTABLE), (COMMON, PRINTABLE), (NUMBER, PRINTABLE)], numbers, numbers),
         (&[(NUMBER, PRINTABLE), (NUMBER, PRINTABLE)], numbers, numbers),

@@ -3,11 +3,13 @@
 use crate::provider::Stamps;
 use crate::refusal::{Failure, Refusal};
 use crate::report::Report;
+use crate::trust::terms_of;
 use bytes::Bytes;
 use rpki::repository::error::ValidationError;
 use rpki::repository::x509::Time;
-use rpki_cert::{Cert, KeyUsage, Overclaim, ResourceCert, ResourceSet, TbsCert};
+use rpki_cert::{Cert, KeyUsage, Overclaim, TbsCert};
 use rpki_der::{Constructed, DecodeError};
+use rpki_valid::{ResourceCert, ResourceSet, verify_issued};
 use std::alloc::Global;
 use std::{fmt, io};
 
@@ -170,13 +172,13 @@ fn tell_end(
         return tell_test(
             report,
             "verify_router",
-            tested(cert.verify_router(alloc, issuer, true, at)),
+            tested(issuer.verify_router_without_list(alloc, cert, at)),
         );
     }
     tell_test(
         report,
         "verify_ee",
-        tested(cert.verify_ee(alloc, issuer, true, at)),
+        tested(issuer.verify_ee_without_list(alloc, cert, at)),
     )
 }
 
@@ -198,13 +200,13 @@ fn tell_path(
         tell_test(
             report,
             "verify_issued",
-            cert.verify_issued(&Stamps, issuer.cert().tbs(), at),
+            verify_issued(&cert, &Stamps, issuer.cert().tbs(), at),
         )?;
         if !is_authority(&cert) {
             tell_end(alloc, report, &cert, &issuer, at)?;
             continue;
         }
-        match cert.verify_ca(alloc, &issuer, true, at) {
+        match issuer.verify_ca_without_list(alloc, cert, at) {
             Ok(authority) => {
                 report.shown("verify_ca", &"ok")?;
                 issuer = authority;
@@ -225,8 +227,9 @@ fn tell_chain(alloc: Global, report: Report, moment: &str, octets: Vec<u8>) -> R
     };
     let source = Bytes::from_vec(octets)?;
     let mut cursor = Constructed::new(&source);
+    let trusted = next(alloc, &mut Constructed::new(&source))?;
     let anchor = next(alloc, &mut cursor)?;
-    match anchor.verify_ta(alloc, &Stamps, true, at) {
+    match ResourceCert::verify_ta(alloc, anchor, &Stamps, terms_of(&trusted), at) {
         Ok(anchor) => {
             report.shown("verify_ta", &"ok")?;
             tell_path(alloc, report, anchor, &mut cursor, at)

@@ -125,7 +125,7 @@ fn tell_call<K: Keep>(
     }
 }
 
-/// Makes one call on a cursor on all of these octets, and reports it and the octets that the cursor stands on. The call
+/// Makes one call on a cursor on all of these octets, and reports it and the octets that the cursor is on. The call
 /// shares what it keeps of them, or copies it.
 pub fn tell(
     alloc: Global,

@@ -3,11 +3,13 @@
 use crate::provider::Stamps;
 use crate::refusal::{Failure, Refusal};
 use crate::report::Report;
+use crate::trust::terms_of;
 use bytes::Bytes;
 use rpki::repository::x509::{Serial, Time};
 use rpki_cert::Cert;
 use rpki_der::{Constructed, DecodeError};
 use rpki_objects::{Crl, TbsCertList};
+use rpki_valid::{ResourceCert, Staleness};
 use std::alloc::Global;
 use std::io;
 
@@ -45,6 +47,22 @@ fn tell_asked(report: Report, list: &Crl, asked: &str) -> Result<(), Failure> {
     Ok(())
 }
 
+/// How many of the serial numbers below this one the list has, once they are kept as a set.
+fn tell_kept(alloc: Global, report: Report, list: &mut Crl, below: &str) -> Result<(), Failure> {
+    let Ok(below) = below.parse::<u64>() else {
+        return Err(Failure::Usage);
+    };
+    list.cache_serials(alloc)?;
+    let mut found = 0;
+    for number in 0..below {
+        if list.contains(Serial::from(number)) {
+            found += 1;
+        }
+    }
+    report.number("size", found)?;
+    Ok(())
+}
+
 /// Whether the trust anchor in front of a list has issued it, at this moment, and whether it is stale then.
 fn tell_issued(
     alloc: Global,
@@ -56,14 +74,18 @@ fn tell_issued(
         return Err(Failure::Usage);
     };
     let mut cursor = Constructed::from_slice(octets.as_slice());
+    let trusted = match Cert::take_from(alloc, &mut Constructed::from_slice(octets.as_slice())) {
+        Ok(trusted) => trusted,
+        Err(wrong) => return Err(Failure::from(Refusal::from(wrong.error))),
+    };
     let anchor = match Cert::take_from(alloc, &mut cursor) {
         Ok(anchor) => anchor,
         Err(wrong) => return Err(Failure::from(Refusal::from(wrong.error))),
     };
     let list = Crl::take_from(alloc, &mut cursor)?;
-    match anchor.verify_ta(alloc, &Stamps, true, at) {
-        Ok(issuer) => match list.verify(&issuer, at) {
-            Ok(()) => report.shown("stale", &list.is_stale(at))?,
+    match ResourceCert::verify_ta(alloc, anchor, &Stamps, terms_of(&trusted), at) {
+        Ok(issuer) => match issuer.crl(&list, Staleness::Accepted, at) {
+            Ok(_) => report.shown("stale", &list.is_stale(at))?,
             Err(e) => report.shown("verify", &e)?,
         },
         Err(e) => report.shown("verify_ta", &e)?,
@@ -100,6 +122,7 @@ pub fn tell(
             list.cache_serials(alloc)?;
             tell_asked(report, &list, asked)?;
         }
+        ("kept", Ok(mut list)) => tell_kept(alloc, report, &mut list, asked)?,
         ("read", Err(DecodeError::OutOfMemory)) => report.words("out of memory")?,
         ("read", Err(e)) => report.shown("rejected", &e)?,
         _ => return Err(Failure::Usage),

@@ -15,6 +15,7 @@ mod encoders;
 mod lists;
 mod made;
 mod objects;
+mod processed;
 mod provider;
 mod readers;
 mod refusal;
@@ -22,6 +23,7 @@ mod repeated;
 mod report;
 mod resources;
 mod texts;
+mod trust;
 mod uris;
 mod values;
 mod writers;
@@ -65,6 +67,7 @@ fn tell_of(
         "resources" => resources::tell(alloc, report, call, octets),
         "list" => lists::tell(alloc, report, (call, path), octets),
         "object" => objects::tell(alloc, report, (call, path), octets),
+        "process" => processed::tell(alloc, report, (call, path), octets),
         "content" => contents::tell(alloc, report, call, octets),
         "write" => encoders::tell(alloc, report, call, octets),
         _ => Err(Failure::Usage),

@@ -3,11 +3,13 @@
 use crate::provider::Stamps;
 use crate::refusal::{Failure, Refusal};
 use crate::report::Report;
+use crate::trust::terms_of;
 use bytes::Bytes;
 use rpki::repository::x509::Time;
 use rpki_cert::Cert;
 use rpki_der::{Constructed, DecodeError};
 use rpki_objects::{Crl, SignedObject};
+use rpki_valid::ResourceCert;
 use std::alloc::Global;
 use std::io;
 
@@ -42,13 +44,17 @@ fn tell_valid(alloc: Global, report: Report, moment: &str, octets: Vec<u8>) -> R
         return Err(Failure::Usage);
     };
     let mut cursor = Constructed::from_slice(octets.as_slice());
+    let trusted = match Cert::take_from(alloc, &mut Constructed::from_slice(octets.as_slice())) {
+        Ok(trusted) => trusted,
+        Err(wrong) => return Err(Failure::from(Refusal::from(wrong.error))),
+    };
     let anchor = match Cert::take_from(alloc, &mut cursor) {
         Ok(anchor) => anchor,
         Err(wrong) => return Err(Failure::from(Refusal::from(wrong.error))),
     };
     let object = SignedObject::take_from(alloc, false, &mut cursor)?;
-    match anchor.verify_ta(alloc, &Stamps, true, at) {
-        Ok(issuer) => match object.verify(alloc, &issuer, true, at) {
+    match ResourceCert::verify_ta(alloc, anchor, &Stamps, terms_of(&trusted), at) {
+        Ok(issuer) => match issuer.verify_object_without_list(alloc, &object, at) {
             Ok(_) => report.words("valid")?,
             Err(e) => report.shown("verify", &e)?,
         },

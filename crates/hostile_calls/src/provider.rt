@@ -25,7 +25,7 @@ fn is_stamp(bits: &[u8], message: &[u8], signature: &[u8]) -> bool
 }
 
 impl Provider for Stamps {
-    ghost use Rattle.std.specs.Prelude.{◌++◌, nat_eq};
+    ghost use Rattle.std.specs.Prelude.{◌++◌, nat_eq, IsTrue};
     ghost use Rattle.std.specs.Cmp.Lexicographic.{pointwise};
     ghost use Rattle.sha1.specs.Sha1.{sha1};
     ghost use Rattle.sha2.specs.Sha256.{sha256};
@@ -34,9 +34,9 @@ impl Provider for Stamps {
 
     ghost sha256_of = { λ _ octets. sha256 octets };
 
-    ghost rsa_of = { λ _ bits message signature. pointwise nat_eq signature (sha256 (message ++ bits)) };
+    ghost rsa_of = { λ _ bits message signature. IsTrue (pointwise nat_eq signature (sha256 (message ++ bits))) };
 
-    ghost ecdsa_of = { λ _ bits message signature. pointwise nat_eq signature (sha256 (message ++ bits)) };
+    ghost ecdsa_of = { λ _ bits message signature. IsTrue (pointwise nat_eq signature (sha256 (message ++ bits))) };
 
     fn sha1(&self, octets: &[u8]) -> [u8; 20] {
         Digests.sha1(octets)

@@ -20,7 +20,7 @@ fn both(alloc: Global, first: &Captured, second: &Captured) -> Result<Captured, 
     Ok(Captured::from_values(alloc, &values)?)
 }
 
-/// Captures a value so many times, one after another: the double of half as many, and perhaps one more.
+/// Captures a value so many times, in order: the double of half as many, and perhaps one more.
 fn repeated(alloc: Global, captured: &Captured, times: u32) -> Outcome {
     let mut all = captured.clone()?;
     let digits = 32u32.saturating_sub(times.leading_zeros());
@@ -33,7 +33,7 @@ fn repeated(alloc: Global, captured: &Captured, times: u32) -> Outcome {
     Ok(Made::Captured(all))
 }
 
-/// Reads the members of a captured SEQUENCE once more, one after another, by the headers in its index.
+/// Reads the members of a captured SEQUENCE once more, in order, by the headers in its index.
 fn read_on(captured: &Captured) -> Outcome {
     let mut all = captured.indexed_cursor();
     let mut members = all.take_value_contents(Tag::SEQUENCE, true)?;

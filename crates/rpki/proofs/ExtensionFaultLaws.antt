@@ -1,18 +1,22 @@
 -- The errors of extensions, from what the readers of their parts return.
-use Rattle.std.proofs.Common.{ℕ, true, false, Option, Some, None, Ok, List, inl, inr, refl, subst}
+use Rattle.std.proofs.Common.{◌≡◌, ◌⊎◌, ℕ, true, false, Option, Some, None, Ok, List, inl, inr, refl, subst}
 use Rattle.rpki_der.specs.declared.error.DecodeError.{DecodeError}
-use Rattle.rpki_der.specs.declared.error.DecodeError.TheVariants.{OutOfMemory}
-use Rattle.rpki_der.specs.Prelude.{oid, boolean, octet_string, sequence, Accepts, Refusal, ReadsWhere, SpellsNothing}
+use Rattle.rpki_der.specs.declared.error.DecodeError.TheVariants.{Truncated, BadTag, BadLength, Unexpected, Content}
+use Rattle.rpki_der.specs.declared.error.DecodeError.TheVariants.{Trailing, OutOfMemory}
+use Rattle.rpki_der.specs.Prelude.{oid, boolean, octet_string, sequence, Accepts, Refusal, ReadsWhere}
+use Rattle.rpki_der.specs.Prelude.{SpellsNothing}
 use Rattle.rpki_der.specs.Prelude.{UnlessMemory, Finds, SpellsContents, SpellsLeaf, HasTag}
 use Rattle.rpki_der.specs.Prelude.{IsContentsFault, IsLeafFault, IsOuterFault, IsOidOf, IsBoolean}
-use Rattle.rpki_der.specs.Prelude.{OptionalFault, IsEndFault, AtPart, Later}
+use Rattle.rpki_der.specs.Prelude.{OptionalFault, IsEndFault, AtPart, Later, SpellsValue}
 use Rattle.rpki_der.proofs.ReadingLaws.{Refusal-or-memory-where}
 use Rattle.rpki_der.proofs.LeavesLaws.{leaf-no-memory, contents-no-memory}
 use Rattle.rpki_der.proofs.ComposedLaws.{outer-refused, inner-refused}
 use Rattle.rpki_der.proofs.FirstFaultLaws.{first-no-memory, optional-no-memory, end-no-memory}
 use Rattle.rpki_der.proofs.FirstFaultLaws.{inside-outer-exactly}
-use Rattle.rpki.specs.ExtensionValue.{IsExtensionContents, SpellsExtension}
-use Rattle.rpki.specs.ExtensionFault.{content, extension_fields, extension, kept_extension}
+use Rattle.rpki.specs.ExtensionValue.{ExtensionParts, IsExtensionContents, SpellsExtension}
+use Rattle.rpki.specs.ExtensionFault.{content, extension_fields, extension, kept_extension, HasExtensionParts}
+use Rattle.rpki.specs.ExtensionFault.{captured_extension}
+use Rattle.rpki.proofs.ExtensionLaws.{value-there}
 
 -- what follows an optional part has the error
 pub behind-optional : {X V : Type 0} (B : List ℕ → Type 0) (view : X → V) (G : V → List ℕ → Type 0)
@@ -69,3 +73,33 @@ extension-refused s r e h =
     Refusal-or-memory-where (Finds SpellsExtension) extension.fault s s e
     (λ k. absurd ((extension-outer s OutOfMemory k).other refl))
     (record { unchanged = refl; refuses = h.refuses; kind = h.kind })
+
+-- the same of a reader that captures it, and captures it where octets follow its parts
+pub uncaptured : (s r : List ℕ) (e : DecodeError) → Refusal SpellsExtension extension.fault s r e
+    → Refusal SpellsExtension captured_extension.fault s s e
+uncaptured s r e h =
+    Refusal-or-memory-where HasExtensionParts extension.fault s s e
+    (λ k. absurd ((extension-outer s OutOfMemory k).other refl))
+    (record { unchanged = refl; refuses = h.refuses; kind = h.kind })
+
+pub behind-parts : (s r : List ℕ) (e : DecodeError) → Refusal SpellsExtension extension.fault s r Trailing
+    → (e ≡ OutOfMemory) ⊎ (e ≡ Trailing) → Refusal SpellsExtension captured_extension.fault s s e
+behind-parts s r e h (inl z) = rw z (record { unchanged = refl; refuses = tt; kind = inr h.kind })
+behind-parts s r e h (inr z) = rw z (record { unchanged = refl; refuses = h.refuses; kind = h.kind })
+
+only-memory : (e : DecodeError) {P : Type 0} → UnlessMemory e P → (P → ⊥) → e ≡ OutOfMemory
+only-memory Truncated h n = absurd (n h)
+only-memory BadTag h n = absurd (n h)
+only-memory BadLength h n = absurd (n h)
+only-memory Unexpected h n = absurd (n h)
+only-memory (Content x) h n = absurd (n h)
+only-memory Trailing h n = absurd (n h)
+only-memory OutOfMemory h n = refl
+
+-- it is there, and isn't captured
+pub unkept : {s q r : List ℕ} {x : ExtensionParts} (K : List ℕ → DecodeError → Type 0) (e : DecodeError)
+    → Accepts SpellsExtension s x q → Refusal SpellsValue K s r e
+    → Refusal SpellsExtension captured_extension.fault s r e
+unkept {s} {q} {r} {x} K e a h =
+    rw (only-memory e h.refuses (value-there a))
+    (record { unchanged = h.unchanged; refuses = tt; kind = inl (x, q, a.spells) })

@@ -2,12 +2,12 @@
 use Rattle.std.proofs.Common.{◌≡◌, ◌↔◌, ℕ, ◌+◌, ◌<◌, ◌≤◌, ◌^◌, Bool, true, false, Option, Some, None, Ok, List, [], ◌∷◌}
 use Rattle.std.proofs.Common.{◌++◌, length, inl, inr, refl, sym, ap, subst, ◌∙◌, arith, lit<, append_assoc, append-nil}
 use Rattle.std.proofs.Common.{length-append}
-use Rattle.std.specs.Prelude.{nat_eq, bytes_eq, unwrap_or, if◌then◌else◌}
+use Rattle.std.specs.Prelude.{nat_eq, bytes_eq, unwrap_or}
 use Rattle.std.proofs.lemmas.Bool.{false_from_ne_true, eqb-true}
 use Rattle.rpki_der.specs.Prelude.{TagName, oid, boolean, octet_string, sequence, tlv, Spells, Accepts, Refuses}
 use Rattle.rpki_der.specs.Prelude.{SpellsNothing, ReadsWhere, SpellsContents, SpellsLeaf, HasTag, IsLeafFault, IsOid}
 use Rattle.rpki_der.specs.Prelude.{IsOidOf, IsBoolean, boolean_contents, front_contents, after_front, IsValue}
-use Rattle.rpki_der.specs.Prelude.{IsValueList, primitive_value_list, value_lists_append, no_value_list}
+use Rattle.rpki_der.specs.Prelude.{SpellsValue, IsValueList, primitive_value_list, value_lists_append, no_value_list}
 use Rattle.rpki_der.proofs.EncodeLaws.{tlv-at-least, tlv_at_most}
 use Rattle.rpki_der.proofs.LeafValueLaws.{composed-value-alone}
 use Rattle.rpki_der.proofs.LeavesLaws.{leaf-tag}
@@ -16,22 +16,10 @@ use Rattle.rpki_der.proofs.FrontLaws.{front_contents_of, after_front-of, content
 use Rattle.rpki_der.proofs.FrontLaws.{contents-tag}
 use Rattle.rpki.specs.Extension.{critical_octets, extension_contents}
 use Rattle.rpki.specs.ExtensionValue.{ExtensionParts, extension_parts, SpellsCritical, IsExtensionContents}
-use Rattle.rpki.specs.ExtensionValue.{SpellsExtension, written_extension, CanBeWritten}
+use Rattle.rpki.specs.ExtensionValue.{SpellsExtension, written_extension, CanBeWritten, parts_in}
+use Rattle.rpki.specs.ExtensionValue.{parts_of_extension}
 
 -- ---- one value
-
--- The parts that stand in octets, as a function of them: of the contents of an extension, and of a whole extension.
--- Nothing follows an OCTET STRING; one follows a BOOLEAN.
-parts_in : List ℕ → ExtensionParts
-parts_in c =
-    let rest = after_front c in
-    let following = after_front rest in
-    if nat_eq (length following) 0
-    then extension_parts (front_contents c) false (front_contents rest)
-    else extension_parts (front_contents c) (bytes_eq (front_contents rest) (255 ∷ [])) (front_contents following)
-
-parts_of_extension : List ℕ → ExtensionParts
-parts_of_extension octets = parts_in (front_contents octets)
 
 -- a BOOLEAN has the contents FF where it is true
 is-true : (b : Bool) → bytes_eq (boolean_contents b) (255 ∷ []) ≡ b
@@ -70,7 +58,7 @@ parts-are x c h = go h.critical
         rw (f.1, f.0, following, some-length h.third size, flag, last, is-true x.critical) refl
 
 -- octets that are an extension stand for its parts
-extension-is : (x : ExtensionParts) (p : List ℕ) → SpellsExtension x p → parts_of_extension p ≡ x
+pub extension-is : (x : ExtensionParts) (p : List ℕ) → SpellsExtension x p → parts_of_extension p ≡ x
 unfolding parts_of_extension
 extension-is x p h = ap parts_in (contents-alone sequence true h.contents p h.value) ∙ parts-are x h.contents h.spelled
 
@@ -205,6 +193,45 @@ contents-values x c h =
 
 pub extension-value : (x : ExtensionParts) (p : List ℕ) → SpellsExtension x p → IsValue p
 extension-value x p h = composed-value-alone sequence IsExtensionContents x p (contents-values x) h
+
+-- ---- an extension, captured
+
+-- it is the value at the front
+captured-is : {s q r c : List ℕ} {x : ExtensionParts} → Accepts SpellsExtension s x q → Accepts SpellsValue s c r
+    → SpellsExtension x c × (q ≡ r)
+captured-is {s} {q} {r} {c} {x} a h =
+    let p = a.spells.front in
+    let e = h.only p q
+    (record {
+      front = p;
+      parts = a.spells.parts;
+      spelled = record { same = refl; value = extension-value x p a.spells.spelled };
+    }) in
+    (subst (SpellsExtension x) e.0 a.spells.spelled, e.1)
+
+pub captured-spelled : {s q r c : List ℕ} {x : ExtensionParts} → Accepts SpellsExtension s x q
+    → Accepts SpellsValue s c r → SpellsExtension (parts_of_extension c) c
+captured-spelled {s} {q} {r} {c} {x} a h =
+    let k = captured-is a h in
+    subst (λ (y : ExtensionParts). SpellsExtension y c) (sym (extension-is x c k.0)) k.0
+
+pub extension-captured : {s q r c : List ℕ} {x : ExtensionParts} → Accepts SpellsExtension s x q
+    → Accepts SpellsValue s c r → Accepts SpellsExtension s (parts_of_extension c) r
+extension-captured {s} {q} {r} {c} {x} a h =
+    let k = captured-is a h in
+    subst (λ (y : ExtensionParts). Accepts SpellsExtension s y r) (sym (extension-is x c k.0))
+    (subst (Accepts SpellsExtension s x) k.1 a)
+
+-- it is there, so that it is no more than allocation that fails
+pub value-there : {s q : List ℕ} {x : ExtensionParts} → Accepts SpellsExtension s x q → Refuses SpellsValue s → ⊥
+value-there {s} {q} {x} a none =
+    let p = a.spells.front in
+    none p q
+    (record {
+      front = p;
+      parts = a.spells.parts;
+      spelled = record { same = refl; value = extension-value x p a.spells.spelled };
+    })
 
 -- ---- what is written
 

@@ -2,7 +2,6 @@
 use Rattle.std.proofs.Common.{suc, zero, lit<, if◌then◌else◌, ◌<◌, length, get_or, ◌≡◌, ◌≢◌, ℕ, ◌+◌, ◌≤◌, Bool, true}
 use Rattle.std.proofs.Common.{false, List, [], ◌∷◌, ◌++◌, cond, nat_eq, inl, inr, IsTrue, ◌↔◌, refl}
 use Rattle.std.proofs.Common.{sym, ap, subst, ◌∙◌, arith, append_assoc, append-nil}
-use Rattle.std.specs.Prelude.{Some, None, map}
 use Rattle.std.specs.List.{All}
 use Rattle.std.specs.Cmp.Lexicographic.{pointwise, pointwise_decides}
 use Rattle.std.proofs.lemmas.Bool.Decides.{Decides-eqb}
@@ -12,27 +11,25 @@ use Rattle.std.proofs.lemmas.List.Sums.{sum_by-append}
 use Rattle.std.proofs.lemmas.List.{get_or-set_other}
 use Rattle.std.proofs.lemmas.Grind.{get_or-set_at}
 use Rattle.std.proofs.Math.ListN.{set}
-use Rattle.std.proofs.lemmas.List.{map-append}
+use Rattle.std.proofs.lemmas.Grind.{flat_map-append}
 use Rattle.rpki_der.specs.declared.error.DecodeError.{DecodeError}
 use Rattle.rpki_der.specs.declared.error.DecodeError.TheVariants.{Truncated, BadTag, BadLength, Unexpected, Content}
 use Rattle.rpki_der.specs.declared.error.DecodeError.TheVariants.{Trailing, OutOfMemory}
-use Rattle.rpki_der.specs.Prelude.{TagName, Accepts, Refuses, Refusal, UnlessMemory, SpellsLeaf, IsLeafFault}
-use Rattle.rpki_der.proofs.LeavesLaws.{leaf-no-memory}
+use Rattle.rpki_der.specs.Prelude.{TagName, sequence, Spells, Accepts, Refuses, Refusal, UnlessMemory, SpellsContents}
+use Rattle.rpki_der.specs.Prelude.{SpellsLeaf, IsContentsFault, IsLeafFault, IsOuterFault}
+use Rattle.rpki_der.proofs.LeavesLaws.{leaf-value, leaf-no-memory, contents-no-memory}
 use Rattle.rpki_der.proofs.ComposedLaws.{all-read, nothing-whole, spelled-whole}
-use Rattle.rpki.specs.declared.repository.x509.name.attributes.AttributeView.{AttributeView}
 use Rattle.rpki.specs.Oids.{common_name}
-use Rattle.rpki.specs.Name.{Attribute, attribute_of}
-use Rattle.rpki.specs.NameAttributes.{MarkedAttribute, following, marked_relative, marked_attributes, NameRest, AreLeft}
-use Rattle.rpki.specs.NameAttributes.{IsViewOf, GivesAttribute}
+use Rattle.rpki.specs.Name.{Attribute, IsIdentifierThen, SpellsAttribute, SpellsEach}
 use Rattle.rpki.specs.NameTable.{Row, row_at, HasRow, name_table}
-use Rattle.rpki.specs.StrictName.{has_identifier, count_of, IsString, IsPermitted, IsStrict, attributes}
+use Rattle.rpki.specs.StrictName.{has_identifier, count_of, IsPermitted, IsStrict, attributes}
 use Rattle.rpki.specs.Findings.{IsFound}
 use Rattle.rpki.specs.NameRule.{BreaksAt, FirstBreaks, BreaksRule}
-use Rattle.rpki.specs.declared.repository.x509.name.table.Strings.{Strings}
 use Rattle.rpki.proofs.NameTableLaws.{Distinct}
 use Rattle.rpki.specs.declared.repository.x509.name.rule.NameRule.{NameRule}
 use Rattle.rpki.specs.declared.repository.x509.name.rule.NameRule.TheVariants.{MissingCommonName, OtherString}
 use Rattle.rpki.specs.declared.repository.x509.name.rule.NameRule.TheVariants.{OtherAttribute}
+use Rattle.rpki.proofs.NameLaws.{attribute-identified}
 
 -- ---- errors of readers that allocate nothing
 
@@ -57,18 +54,6 @@ whole-unread {V} t f C s r e h =
     let none : Refuses (SpellsLeaf t f C) s = surely e (leaf-no-memory t f C s e h.kind) h.refuses in
     (λ z. absurd (let w = z in cc), λ g. absurd (nothing-whole (SpellsLeaf t f C) s none g.0 g.1))
 
--- the same of a value of which P holds as well
-module _ {V : Type 0} (G : V → List ℕ → Type 0) (P : V → Type 0) (s r : List ℕ) (v : V) (a : Accepts G s v r) where
-  pub whole-holds : ((w : V) × G w s × P w) → P v
-  whole-holds g = subst P (a.only g.0 [] (spelled-whole G s g.0 g.1)).0 g.2
-
-  pub whole-sized : (b : Bool) → P v → IsTrue b ↔ (r ≡ []) → IsTrue b ↔ ((w : V) × G w s × P w)
-  whole-sized b p h = (λ e. (v, (all-read G s v r a (h.0 e)).0, p), λ g. (whole-read G s r v b a h).1 (g.0, g.1))
-
-pub whole-unsized : {V : Type 0} (G : V → List ℕ → Type 0) (P : V → Type 0) (s : List ℕ)
-    → IsTrue false ↔ ((w : V) × G w s) → IsTrue false ↔ ((w : V) × G w s × P w)
-whole-unsized G P s h = (λ z. absurd (let w = z in cc), λ g. h.1 (g.0, g.1))
-
 -- ---- how many attributes have an identifier
 
 same-octets : (xs ys : List ℕ) → pointwise nat_eq xs ys ≡ true → xs ≡ ys
@@ -91,9 +76,9 @@ all-one : (P : Attribute → Type 0) (a : Attribute) → P a → All P (a ∷ []
 all-one P a h = All-cons P a [] h (All-nil P)
 
 -- an attribute that the table permits, the first of its row
-pub found-more : (T : List Row) (S : Row → Strings) (x : List Bool) (before : List Attribute) (a : Attribute) (n : ℕ)
+pub found-more : (T : List Row) (S : List ℕ → Type 0) (x : List Bool) (before : List Attribute) (a : Attribute) (n : ℕ)
     → Distinct T → IsFound T S x before → n < length x
-    → HasRow T n a.identifier → get_or x n false ≡ false → IsString (S (row_at T n)) a.value
+    → HasRow T n a.identifier → get_or x n false ≡ false → S a.value
     → IsFound T S (set x n true) (before ++ a ∷ [])
 found-more T S x before a n distinct f inside h first string = record {
   counted = λ k below. count-append (row_at T k).identifier before (a ∷ []) ∙ omega
@@ -142,7 +127,7 @@ two-of o before rest a seen is strict =
     omega (arith, count-with o before rest a, seen, again, strict)
 
 -- the attribute is the last
-breaks-last : (T : List Row) (S : Row → Strings) (rule : NameRule) (x : List Bool) (before : List Attribute)
+breaks-last : (T : List Row) (S : List ℕ → Type 0) (rule : NameRule) (x : List Bool) (before : List Attribute)
     (a : Attribute) → IsFound T S x before
     → BreaksAt T S rule before a → FirstBreaks T S rule (before ++ a ∷ [])
 breaks-last T S rule x before a f broken = record {
@@ -156,7 +141,7 @@ breaks-last T S rule x before a f broken = record {
 }
 
 -- how many of its row there were
-seen-before : (T : List Row) (S : Row → Strings) (x : List Bool) (before : List Attribute) (a : Attribute) (n : ℕ)
+seen-before : (T : List Row) (S : List ℕ → Type 0) (x : List Bool) (before : List Attribute) (a : Attribute) (n : ℕ)
     (b : Bool) → IsFound T S x before
     → HasRow T n a.identifier → get_or x n false ≡ b
     → count_of a.identifier before ≡ cond b 1 0
@@ -164,7 +149,7 @@ seen-before T S x before a n b f h e =
     subst (λ (o : List ℕ). count_of o before ≡ cond b 1 0) h.same
     (f.counted n h.below ∙ ap (λ (c : Bool). cond c 1 0) e)
 
-pub second-attribute : (T : List Row) (S : Row → Strings) (rule : NameRule) (x : List Bool) (before : List Attribute)
+pub second-attribute : (T : List Row) (S : List ℕ → Type 0) (rule : NameRule) (x : List Bool) (before : List Attribute)
     (a : Attribute) (n : ℕ)
     → IsFound T S x before → HasRow T n a.identifier → get_or x n false ≡ true
     → rule ≡ (row_at T n).second → FirstBreaks T S rule (before ++ a ∷ [])
@@ -172,9 +157,10 @@ second-attribute T S rule x before a n f h one is =
     breaks-last T S rule x before a f (inl
     (record { number = n; has = h; rule_is = is; seen = seen-before T S x before a n true f h one }))
 
-pub other-string : (T : List Row) (S : Row → Strings) (x : List Bool) (before : List Attribute) (a : Attribute) (n : ℕ)
+pub other-string : (T : List Row) (S : List ℕ → Type 0) (x : List Bool) (before : List Attribute) (a : Attribute)
+    (n : ℕ)
     → IsFound T S x before → HasRow T n a.identifier → get_or x n false ≡ false
-    → (IsString (S (row_at T n)) a.value → ⊥) → FirstBreaks T S OtherString (before ++ a ∷ [])
+    → (S a.value → ⊥) → FirstBreaks T S OtherString (before ++ a ∷ [])
 other-string T S x before a n f h first none =
     breaks-last T S OtherString x before a f
     (inr (inl
@@ -187,38 +173,36 @@ other-string T S x before a n f h first none =
           none;
     })))
 
-pub other-attribute : (T : List Row) (S : Row → Strings) (x : List Bool) (before : List Attribute) (a : Attribute)
+pub other-attribute : (T : List Row) (S : List ℕ → Type 0) (x : List Bool) (before : List Attribute) (a : Attribute)
     → IsFound T S x before → ((n : ℕ) → HasRow T n a.identifier → ⊥) → FirstBreaks T S OtherAttribute (before ++ a ∷ [])
 other-attribute T S x before a f none =
     breaks-last T S OtherAttribute x before a f (inr (inr (record { rule_is = refl; none = none })))
 
 -- ---- what is broken is not strict
 
-breaks-not : (T : List Row) (S : Row → Strings) (rule : NameRule) (before rest : List Attribute) (a : Attribute)
+breaks-not : (T : List Row) (S : List ℕ → Type 0) (rule : NameRule) (before rest : List Attribute) (a : Attribute)
     → Distinct T → BreaksAt T S rule before a → IsStrict T S ((before ++ a ∷ []) ++ rest) → ⊥
 breaks-not T S rule before rest a distinct (inl h) strict =
     two-of a.identifier before rest a h.seen ((pointwise_decides Decides-eqb a.identifier a.identifier).1 refl)
     (subst (λ (o : List ℕ). count_of o ((before ++ a ∷ []) ++ rest) ≤ 1) h.has.same
     (strict.once h.number h.has.below))
 breaks-not T S rule before rest a distinct (inr (inl h)) strict =
-    let k = all-with (IsPermitted T S) before rest a strict.permitted in
-    let same : k.number ≡ h.number = distinct k.number h.number k.has.below h.has.below (k.has.same ∙ sym h.has.same) in
-    h.other (subst (λ (m : ℕ). IsString (S (row_at T m)) a.value) same k.string)
+    h.other (all-with (IsPermitted T S) before rest a strict.permitted).string
 breaks-not T S rule before rest a distinct (inr (inr h)) strict =
     let k = all-with (IsPermitted T S) before rest a strict.permitted in h.none k.number k.has
 
-first-not : (T : List Row) (S : Row → Strings) (rule : NameRule) (xs : List Attribute) → Distinct T
+first-not : (T : List Row) (S : List ℕ → Type 0) (rule : NameRule) (xs : List Attribute) → Distinct T
     → FirstBreaks T S rule xs → IsStrict T S xs → ⊥
 first-not T S rule xs distinct h strict =
     breaks-not T S rule h.before h.after h.attribute distinct h.broken (subst (IsStrict T S) h.parts strict)
 
-pub rule-not : (T : List Row) (S : Row → Strings) (rule : NameRule) (xs : List Attribute) → Distinct T
+pub rule-not : (T : List Row) (S : List ℕ → Type 0) (rule : NameRule) (xs : List Attribute) → Distinct T
     → BreaksRule T S rule xs → IsStrict T S xs → ⊥
 rule-not T S rule xs distinct (inl h) strict = first-not T S rule xs distinct h strict
 rule-not T S rule xs distinct (inr h) strict = let none = h.1.1 in omega (arith, none, strict.common)
 
 -- and stays so, whatever follows
-more-after : (T : List Row) (S : Row → Strings) (rule : NameRule) (xs ys : List Attribute) → FirstBreaks T S rule xs
+more-after : (T : List Row) (S : List ℕ → Type 0) (rule : NameRule) (xs ys : List Attribute) → FirstBreaks T S rule xs
     → FirstBreaks T S rule (xs ++ ys)
 more-after T S rule xs ys h = record {
   before = h.before;
@@ -229,93 +213,135 @@ more-after T S rule xs ys h = record {
   broken = h.broken;
 }
 
--- ---- the attributes one after another
+-- ---- a list of values, each of which stands for attributes
 
-abbrev pub unmarked : List MarkedAttribute → List Attribute
-unmarked xs = map (λ x. x.attribute) xs
+pub record IsJoin {V : Type 0} (join : List V → List Attribute) : Type 0 where
+  pub none : join [] ≡ []
+  pub more : (xs ys : List V) → join (xs ++ ys) ≡ join xs ++ join ys
 
-following-unmarked : (xs : List Attribute) → unmarked (following xs) ≡ xs
-following-unmarked [] = refl
-following-unmarked (x ∷ xs) = ap (λ (l : List Attribute). x ∷ l) (following-unmarked xs)
+pub join-attributes : IsJoin {V = Attribute} (λ xs. xs)
+join-attributes = record { none = refl; more = λ xs ys. refl }
 
-relative-unmarked : (xs : List Attribute) → unmarked (marked_relative xs) ≡ xs
-relative-unmarked [] = refl
-relative-unmarked (x ∷ xs) = ap (λ (l : List Attribute). x ∷ l) (following-unmarked xs)
+pub join-relatives : IsJoin attributes
+join-relatives = record { none = refl; more = flat_map-append (λ x. x) }
 
-pub name-unmarked : (parts : List (List Attribute)) → unmarked (marked_attributes parts) ≡ attributes parts
-name-unmarked [] = refl
-name-unmarked (xs ∷ parts) =
-    map-append (λ x. x.attribute) (marked_relative xs) (marked_attributes parts)
-    ∙ ap (λ (l : List Attribute). l ++ unmarked (marked_attributes parts)) (relative-unmarked xs)
-    ∙ ap (λ (l : List Attribute). xs ++ l) (name-unmarked parts)
+pub one-relative : (xs : List Attribute) → attributes (xs ∷ []) ≡ xs
+one-relative xs = append-nil xs
 
--- of the attributes xs those in front were seen, in which this was found, and the others are left
-pub record AreSeen (T : List Row) (S : Row → Strings) (found : List Bool) (xs : List MarkedAttribute) (rest : NameRest)
-    : Type 0 where
-  pub done : List MarkedAttribute
-  pub todo : List MarkedAttribute
-  pub split : xs ≡ done ++ todo
-  pub left : AreLeft rest todo
-  pub seen : IsFound T S found (unmarked done)
+-- of the values that were spelled, those in which y was found, and those that m spells
+pub record Middle {V : Type 0} (G : V → List ℕ → Type 0) (join : List V → List Attribute) (T : List Row)
+    (S : List ℕ → Type 0) (x y : List Bool) (vs : List V) (m : List ℕ) : Type 0 where
+  pub done : List V
+  pub todo : List V
+  pub split : vs ≡ done ++ todo
+  pub following : SpellsEach G todo m
+  pub found : (before : List Attribute) → IsFound T S x before → IsFound T S y (before ++ join done)
 
--- the view of an attribute stands for it
-viewed : (v : AttributeView) (x : MarkedAttribute) → IsViewOf v x
-    → attribute_of v.identifier.0.now v.value.now ≡ x.attribute
-viewed v x h =
-    let e : attribute_of v.identifier.0.now v.value.now ≡ attribute_of x.attribute.identifier x.attribute.value =
-    rw (h.identifier, h.value) refl in
-    e
+abbrev pub Through : {V : Type 0} → (V → List ℕ → Type 0) → (List V → List Attribute) → List Row → (List ℕ → Type 0)
+    → List Bool → List Bool → List ℕ → List ℕ → Type 0
+Through {V} G join T S x y c m = (vs : List V) → SpellsEach G vs c → Middle G join T S x y vs m
 
-module _ (T : List Row) (S : Row → Strings) (x : List Bool) (xs : List MarkedAttribute) (rest : NameRest)
-    (h : AreSeen T S x xs rest) where
-  pub all-seen : (after : NameRest)
-      → ((ys : List MarkedAttribute) → AreLeft rest ys → GivesAttribute ys None after) → IsFound T S x (unmarked xs)
-  all-seen after none = go h.todo h.split (none h.todo h.left)
-    where
-      go : (todo : List MarkedAttribute) → xs ≡ h.done ++ todo → GivesAttribute todo None after
-          → IsFound T S x (unmarked xs)
-      go [] e k =
-          subst (λ (l : List MarkedAttribute). IsFound T S x (unmarked l)) (sym (e ∙ append-nil h.done)) h.seen
-      go (y ∷ ys) e k = absurd k
+pub through-nothing : {V : Type 0} (G : V → List ℕ → Type 0) (join : List V → List Attribute) (T : List Row)
+    (S : List ℕ → Type 0) (x : List Bool) (c : List ℕ) → IsJoin join → Through G join T S x x c c
+through-nothing G join T S x c j vs h = record {
+  done = [];
+  todo = vs;
+  split = refl;
+  following = h;
+  found = λ before f. subst (IsFound T S x) (sym (ap (λ (l : List Attribute). before ++ l) j.none ∙ append-nil before))
+      f;
+}
 
-  module _ (v : AttributeView) (after : NameRest)
-      (given : (ys : List MarkedAttribute) → AreLeft rest ys → GivesAttribute ys (Some v) after) where
-    pub more-seen : (z : List Bool)
-        → ((before : List Attribute) → IsFound T S x before
-        → IsFound T S z (before ++ attribute_of v.identifier.0.now v.value.now ∷ [])) → AreSeen T S z xs after
-    more-seen z found = go h.todo h.split (given h.todo h.left)
-      where
-        go : (todo : List MarkedAttribute) → xs ≡ h.done ++ todo → GivesAttribute todo (Some v) after
-            → AreSeen T S z xs after
-        go [] e k = absurd k
-        go (y ∷ ys) e k = record {
-          done = h.done ++ y ∷ [];
-          todo = ys;
-          split = e ∙ sym (append_assoc h.done (y ∷ []) ys);
-          left = k.1;
-          seen = subst (IsFound T S z) (sym (map-append (λ x. x.attribute) h.done (y ∷ [])))
-              (subst (λ (a : Attribute). IsFound T S z (unmarked h.done ++ a ∷ [])) (viewed v y k.0)
-              (found (unmarked h.done) h.seen));
+pub through-more : {V : Type 0} (G : V → List ℕ → Type 0) (join : List V → List Attribute) (T : List Row)
+    (S : List ℕ → Type 0) (x y z : List Bool) (c m r : List ℕ) → IsJoin join → (m ≡ [] → ⊥) → Through G join T S x y c m
+    → ((v : V) (q : List ℕ) → Spells G m v q → (q ≡ r) ×
+    ((before : List Attribute) → IsFound T S y before → IsFound T S z (before ++ join (v ∷ []))))
+    → Through G join T S x z c r
+through-more {V} G join T S x y z c m r j some t step vs h =
+    let g = t vs h in next g.done g.todo g.split g.following g.found
+  where
+    next : (done todo : List V) → vs ≡ done ++ todo → SpellsEach G todo m
+        → ((before : List Attribute) → IsFound T S x before → IsFound T S y (before ++ join done))
+        → Middle G join T S x z vs r
+    next done [] split following found = absurd (some following)
+    next done (v ∷ ws) split following found =
+        let k = step v following.0 following.1 in
+        record {
+          done = done ++ v ∷ [];
+          todo = ws;
+          split = split ∙ sym (append_assoc done (v ∷ []) ws);
+          following = subst (SpellsEach G ws) k.0 following.2;
+          found = λ before f.
+              subst (IsFound T S z) (append_assoc before (join done) (join (v ∷ [])) ∙ ap
+              (λ (l : List Attribute). before ++ l) (sym (j.more done (v ∷ []))))
+              (k.1 (before ++ join done) (found before f));
         }
 
-    pub rule-seen : (rule : NameRule)
-        → ((before : List Attribute) → IsFound T S x before
-        → FirstBreaks T S rule (before ++ attribute_of v.identifier.0.now v.value.now ∷ []))
-        → FirstBreaks T S rule (unmarked xs)
-    rule-seen rule broken = go h.todo h.split (given h.todo h.left)
-      where
-        go : (todo : List MarkedAttribute) → xs ≡ h.done ++ todo → GivesAttribute todo (Some v) after
-            → FirstBreaks T S rule (unmarked xs)
-        go [] e k = absurd k
-        go (y ∷ ys) e k =
-            let first : FirstBreaks T S rule (unmarked h.done ++ y.attribute ∷ []) =
-            subst (λ (a : Attribute). FirstBreaks T S rule (unmarked h.done ++ a ∷ [])) (viewed v y k.0)
-            (broken (unmarked h.done) h.seen) in
-            let all : unmarked xs ≡ (unmarked h.done ++ y.attribute ∷ []) ++ unmarked ys =
-            ap unmarked e ∙ map-append (λ x. x.attribute) h.done (y ∷ ys)
-            ∙ sym (append_assoc (unmarked h.done) (y.attribute ∷ []) (unmarked ys)) in
-            subst (FirstBreaks T S rule) (sym all)
-            (more-after T S rule (unmarked h.done ++ y.attribute ∷ []) (unmarked ys) first)
+regroup : (a b d e : List Attribute) → a ++ (b ++ (d ++ e)) ≡ ((a ++ b) ++ d) ++ e
+regroup a b d e = simp append_assoc
+
+pub through-refused : {V : Type 0} (G : V → List ℕ → Type 0) (join : List V → List Attribute) (T : List Row)
+    (S : List ℕ → Type 0) (rule : NameRule) (x y : List Bool) (c m : List ℕ) → IsJoin join → (m ≡ [] → ⊥)
+    → Through G join T S x y c m
+    → ((v : V) (q : List ℕ) → Spells G m v q → (before : List Attribute) → IsFound T S y before → FirstBreaks T S rule
+    (before ++ join (v ∷ [])))
+    → (vs : List V) → SpellsEach G vs c → (before : List Attribute) → IsFound T S x before
+    → FirstBreaks T S rule (before ++ join vs)
+through-refused {V} G join T S rule x y c m j some t refused vs h before f =
+    let g = t vs h in next g.done g.todo g.split g.following (g.found before f)
+  where
+    next : (done todo : List V) → vs ≡ done ++ todo → SpellsEach G todo m → IsFound T S y (before ++ join done)
+        → FirstBreaks T S rule (before ++ join vs)
+    next done [] split following found = absurd (some following)
+    next done (v ∷ ws) split following found =
+        let joined : join vs ≡ join done ++ (join (v ∷ []) ++ join ws) = ap join split ∙ j.more done (v ∷ ws) ∙ ap
+        (λ (l : List Attribute). join done ++ l) (j.more (v ∷ []) ws) in
+        subst (FirstBreaks T S rule) (sym
+        (ap (λ (l : List Attribute). before ++ l) joined ∙ regroup before (join done) (join (v ∷ [])) (join ws)))
+        (more-after T S rule ((before ++ join done) ++ join (v ∷ [])) (join ws)
+        (refused v following.0 following.1 (before ++ join done) found))
+
+pub through-all : {V : Type 0} (G : V → List ℕ → Type 0) (join : List V → List Attribute) (T : List Row)
+    (S : List ℕ → Type 0) (x y : List Bool) (c m : List ℕ) → ((v : V) (q : List ℕ) → Spells G m v q → ⊥)
+    → Through G join T S x y c m
+    → (vs : List V) → SpellsEach G vs c → (before : List Attribute) → IsFound T S x before
+    → IsFound T S y (before ++ join vs)
+through-all {V} G join T S x y c m nowhere t vs h before f =
+    let g = t vs h in next g.done g.todo g.split g.following (g.found before f)
+  where
+    next : (done todo : List V) → vs ≡ done ++ todo → SpellsEach G todo m → IsFound T S y (before ++ join done)
+        → IsFound T S y (before ++ join vs)
+    next done [] split following found =
+        subst (λ (l : List V). IsFound T S y (before ++ join l)) (sym (split ∙ append-nil done)) found
+    next done (v ∷ ws) split following found = absurd (nowhere v following.0 following.1)
+
+-- ---- an attribute at the front
+
+pub no-attribute : (m r : List ℕ) (e : DecodeError)
+    → Refusal (SpellsLeaf sequence true IsIdentifierThen) (IsOuterFault sequence true) m r e
+    → (v : Attribute) (q : List ℕ) → Spells SpellsAttribute m v q → ⊥
+no-attribute m r e h v q g = surely e h.kind.other h.refuses v q (attribute-identified m v q g)
+
+pub this-attribute : (m r : List ℕ) (a : Attribute) → Accepts (SpellsLeaf sequence true IsIdentifierThen) m a r
+    → (v : Attribute) (q : List ℕ) → Spells SpellsAttribute m v q → (q ≡ r) × (v ≡ a)
+this-attribute m r a h v q g = let k = h.only v q (attribute-identified m v q g) in (k.1, k.0)
+
+-- ---- a value at the front, whose contents were found
+
+pub no-contents : {V : Type 0} (t : TagName) (C : V → List ℕ → Type 0) (m r : List ℕ) (e : DecodeError)
+    → Refusal (SpellsContents t true) (IsContentsFault t true) m r e → (v : V) (q : List ℕ)
+    → Spells (SpellsLeaf t true C) m v q → ⊥
+no-contents t C m r e h v q g =
+    let l = leaf-value t true C m v q g in
+    surely e (contents-no-memory t true m e h.kind) h.refuses l.0 q l.1
+
+pub these-contents : {V : Type 0} (t : TagName) (C : V → List ℕ → Type 0) (m r c : List ℕ)
+    → Accepts (SpellsContents t true) m c r → (v : V) (q : List ℕ) → Spells (SpellsLeaf t true C) m v q
+    → (q ≡ r) × C v c
+these-contents t C m r c h v q g =
+    let l = leaf-value t true C m v q g in
+    let k = h.only l.0 q l.1 in
+    (k.1, subst (C v) k.0 l.2)
 
 -- ---- the whole name
 
@@ -344,22 +370,23 @@ unseen x h = record { unseen = not-seen x h }
 pub first-is-common : HasRow name_table 0 common_name
 first-is-common = record { below = lit< tt; same = refl }
 
-nothing-found : (T : List Row) (S : Row → Strings) (x : List Bool) → AreUnseen x → IsFound T S x []
+pub nothing-found : (T : List Row) (S : List ℕ → Type 0) (x : List Bool) → AreUnseen x → IsFound T S x []
 nothing-found T S x none =
     record { counted = λ n below. rw (none.unseen n) refl; permitted = All-nil (IsPermitted T S) }
 
-pub none-seen : (T : List Row) (S : Row → Strings) (x : List Bool) (xs : List MarkedAttribute) (rest : NameRest)
-    → AreUnseen x → AreLeft rest xs → AreSeen T S x xs rest
-none-seen T S x xs rest none h =
-    record { done = []; todo = xs; split = refl; left = h; seen = nothing-found T S x none }
+pub first-rule : (T : List Row) (S : List ℕ → Type 0) (rule : NameRule) (x : List Bool) (xs : List Attribute)
+    → AreUnseen x → ((before : List Attribute) → IsFound T S x before → FirstBreaks T S rule (before ++ xs))
+    → BreaksRule T S rule xs
+first-rule T S rule x xs none h = inl (h [] (nothing-found T S x none))
 
 -- whether there is a common name, by the flag of its row
-common-seen : (T : List Row) (S : Row → Strings) (x : List Bool) (xs : List Attribute) (n : ℕ) (b : Bool)
+common-seen : (T : List Row) (S : List ℕ → Type 0) (x : List Bool) (xs : List Attribute) (n : ℕ) (b : Bool)
     → IsFound T S x xs → HasRow T n common_name → get_or x n false ≡ b → count_of common_name xs ≡ cond b 1 0
 common-seen T S x xs n b f h e =
     subst (λ (o : List ℕ). count_of o xs ≡ cond b 1 0) h.same (f.counted n h.below ∙ ap (λ (c : Bool). cond c 1 0) e)
 
-pub found-nameless : (T : List Row) (S : Row → Strings) (x : List Bool) (xs : List Attribute) (n : ℕ) → IsFound T S x xs
+pub found-nameless : (T : List Row) (S : List ℕ → Type 0) (x : List Bool) (xs : List Attribute) (n : ℕ)
+    → IsFound T S x xs
     → HasRow T n common_name → get_or x n false ≡ false → BreaksRule T S MissingCommonName xs
 found-nameless T S x xs n f h none = inr (refl, ((x, f), common-seen T S x xs n false f h none))
 
@@ -367,7 +394,7 @@ at-most-one : (b : Bool) → cond b 1 0 ≤ 1
 at-most-one true = omega arith
 at-most-one false = omega arith
 
-pub found-strict : (T : List Row) (S : Row → Strings) (x : List Bool) (xs : List Attribute) (n : ℕ) → IsFound T S x xs
+pub found-strict : (T : List Row) (S : List ℕ → Type 0) (x : List Bool) (xs : List Attribute) (n : ℕ) → IsFound T S x xs
     → HasRow T n common_name → get_or x n false ≡ true → IsStrict T S xs
 found-strict T S x xs n f h one = record {
   common = common-seen T S x xs n true f h one;

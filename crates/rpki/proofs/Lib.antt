@@ -3,8 +3,10 @@
 -- Parts that may be left out; which identifier; allocation failures: PartLaws, NamedLaws, MemoryLaws.
 -- Algorithms, formats, digests; their errors: AlgorithmLaws, FormatLaws, DigestLaws, AlgorithmFaultLaws.
 -- Signed data: SigningLaws, SignedLaws, EqualLaws.
--- Keys and key identifiers; errors of keys: PublicKeyLaws, KeyIdentifierLaws, KeyFaultLaws.
--- Extensions; their errors; where their parts stand: ExtensionLaws, ExtensionFaultLaws, ExtensionPlaceLaws.
+-- Keys and key identifiers; the bits of RSA keys; errors of keys: PublicKeyLaws, KeyIdentifierLaws, RsaPublicKeyLaws,
+--   KeyFaultLaws.
+-- Extensions; their errors; where their parts stand, in octets and in an index: ExtensionLaws, ExtensionFaultLaws,
+--   ExtensionPlaceLaws, ExtensionIndexLaws.
 -- Names; their errors, and their attributes: NameLaws, OneNameLaws, NameFaultLaws, NameAttributeLaws.
 -- The rules of profiles of names: RuleLaws, InspectionLaws, NameTableLaws, WithoutOrganizationLaws, SubjectLaws,
 --   StrictSubjectLaws.
@@ -18,6 +20,7 @@ pub mod KeyFaultLaws
 pub mod DigestLaws
 pub mod SigningLaws
 pub mod SignedLaws
+pub mod RsaPublicKeyLaws
 pub mod PublicKeyLaws
 pub mod KeyIdentifierLaws
 pub mod EqualLaws
@@ -35,3 +38,4 @@ pub mod RuleLaws
 pub mod ExtensionLaws
 pub mod ExtensionFaultLaws
 pub mod ExtensionPlaceLaws
+pub mod ExtensionIndexLaws

@@ -1,20 +1,21 @@
 -- The errors of names: where allocation may fail, and where there is no SEQUENCE.
-use Rattle.std.proofs.Common.{◌≡◌, inl, inr, ℕ, true, false, List, [], ◌∷◌, refl}
-use Rattle.std.proofs.Common.{codes}
+use Rattle.std.proofs.Common.{◌≡◌, ◌⊎◌, inl, inr, ℕ, true, false, List, [], ◌∷◌, refl, Result, codes}
 use Rattle.rpki_der.specs.declared.error.DecodeError.{DecodeError}
 use Rattle.rpki_der.specs.declared.error.DecodeError.TheVariants.{OutOfMemory}
-use Rattle.rpki_der.specs.Prelude.{oid, sequence, set, Refusal}
-use Rattle.rpki_der.specs.Prelude.{SpellsLeaf, IsOidOf}
-use Rattle.rpki_der.specs.Prelude.{RepeatedFault}
+use Rattle.rpki_der.specs.Prelude.{oid, sequence, set, Accepts, Refusal, Reads, Finds, SpellsLeaf, IsOidOf, IsValueList}
+use Rattle.rpki_der.specs.Prelude.{SpellsKept, IsCapturedFault, RepeatedFault}
 use Rattle.rpki_der.specs.Prelude.{AfterMember, IsLeafFault, SpellsAnyValue, IsNestedFault, IsEndFault, only}
 use Rattle.rpki_der.proofs.LeavesLaws.{leaf-no-memory}
 use Rattle.rpki_der.proofs.ReadingLaws.{UnlessMemory-weaker}
+use Rattle.rpki_der.proofs.CaptureLaws.{reads-as}
 use Rattle.rpki_der.proofs.FirstFaultLaws.{first-no-memory, end-no-memory, repeated-no-memory, inside-no-memory}
 use Rattle.rpki_der.proofs.WalkLaws.{nested-no-memory}
-use Rattle.rpki.specs.Name.{SpellsNameOctets}
+use Rattle.rpki.specs.Name.{SpellsSome, SpellsRelative, IsName, SpellsNameOctets}
+use Rattle.rpki.specs.NameValue.{HasNameValue}
 use Rattle.rpki.specs.NameFault.{attribute_parts, attribute, attributes, relative, relatives, IsWalkedNameFault}
-use Rattle.rpki.specs.NameFault.{not_empty, any_value}
-use Rattle.rpki.proofs.NameLaws.{Passed, AnyName, octets-any}
+use Rattle.rpki.specs.NameFault.{IsNameFault, not_empty, any_value}
+use Rattle.rpki.proofs.MemoryLaws.{or-memory-from}
+use Rattle.rpki.proofs.NameLaws.{Passed, AnyName, leaf-any, octets-any, name-of, name-value, name-found}
 use Rattle.rpki.proofs.NameLaws.Passed.{Here, Next}
 
 -- ---- the loop of a reader of many parts
@@ -54,6 +55,37 @@ relatives-never c (inr h) = repeated-no-memory _ relative.fault c
 
 pub name-never : (s : List ℕ) → IsWalkedNameFault s OutOfMemory → ⊥
 name-never s = inside-no-memory sequence true relatives.fault s relatives-never
+
+-- ---- a name, captured
+
+octets-of : (v p : List ℕ) → SpellsKept AnyName v p → SpellsNameOctets v p
+octets-of v p h = record { same = h.same; named = name-of v h.spelled }
+
+any-of : (v p : List ℕ) → SpellsNameOctets v p → SpellsKept AnyName v p
+any-of v p h = record {
+  same = h.same;
+  value = tt;
+  spelled = leaf-any sequence true (SpellsSome SpellsRelative)
+      h.named.0 v h.named.1;
+}
+
+pub name-values : (u : Unit {0}) (p : List ℕ) → AnyName u p → IsValueList p
+name-values u p h = let g = name-of p h in (1, name-value g.0 p g.1)
+
+pub name-kept : (s r : List ℕ) (x : Result (List ℕ) DecodeError)
+    → Reads (λ c. c) (SpellsKept AnyName) (IsCapturedFault AnyName IsWalkedNameFault) s r x
+    → Reads (λ n. n) SpellsNameOctets IsNameFault s r x
+name-kept s r x h =
+    reads-as (λ n. n) (SpellsKept AnyName) SpellsNameOctets (IsCapturedFault AnyName IsWalkedNameFault) IsNameFault s r
+    x octets-of any-of
+    (λ e. or-memory-from (λ q. IsWalkedNameFault q OutOfMemory ⊎ Finds AnyName q) HasNameValue IsWalkedNameFault s e
+    (λ m. elim m [
+      | inl k ↦ absurd (name-never s k)
+      | inr k ↦ name-found s k.1 k.2
+    ])) h
+
+pub kept-named : (s r c : List ℕ) → Accepts (SpellsKept AnyName) s c r → IsName c
+kept-named s r c h = (octets-of c h.spells.front h.spells.spelled).named
 
 -- ---- a name whose octets are borrowed
 

@@ -156,6 +156,16 @@ pub unidentified : (c : List ℕ) → Refuses (SpellsLeaf oid false IsOidOf) c �
 unidentified c none w h =
     none w.identifier w.value (record { front = h.front; parts = h.parts; spelled = h.identifier })
 
+-- an attribute begins with its identifier
+pub attribute-identified : (s : List ℕ) (a : Attribute) (r : List ℕ) → Spells SpellsAttribute s a r
+    → Spells (SpellsLeaf sequence true IsIdentifierThen) s a r
+attribute-identified s a r h = record {
+  front = h.front;
+  parts = h.parts;
+  spelled = record
+      { contents = h.spelled.contents; value = h.spelled.value; spelled = h.spelled.spelled.identified };
+}
+
 -- what follows the identifier of an attribute is a value
 pub identified-value : (c m : List ℕ) (o : List ℕ) → Accepts (SpellsLeaf oid false IsOidOf) c o m → (w : Attribute)
     → IsAttribute w c → IsValue m

@@ -8,8 +8,7 @@ use Rattle.std.proofs.lemmas.List.{get_or_append_left}
 use Rattle.std.proofs.lemmas.List.Elements.{All-head, All-tail}
 use Rattle.rpki.specs.Name.{Attribute}
 use Rattle.rpki.specs.NameTable.{Row, row_at, HasRow, name_table}
-use Rattle.rpki.specs.StrictName.{has_identifier, count_of, IsString, IsPermitted, IsStrict, IsNameOf}
-use Rattle.rpki.specs.declared.repository.x509.name.table.Strings.{Strings}
+use Rattle.rpki.specs.StrictName.{has_identifier, count_of, IsPermitted, IsStrict, IsNameOf}
 
 -- ---- no identifier has two rows
 
@@ -72,7 +71,7 @@ pub includes-front : (T more : List Row) → Includes T (T ++ more)
 includes-front T more n below = (n, omega (arith, below, length-append T more), get_or_append_left T more _ n below)
 
 -- an identifier that was found has a row
-found-or-none : (T : List Row) (S : Row → Strings) (o : List ℕ) (xs : List Attribute) → All (IsPermitted T S) xs
+found-or-none : (T : List Row) (S : List ℕ → Type 0) (o : List ℕ) (xs : List Attribute) → All (IsPermitted T S) xs
     → (count_of o xs ≡ 0) ⊎ ((n : ℕ) × HasRow T n o)
 found-or-none T S o [] h = inl refl
 found-or-none T S o (x ∷ xs) h =
@@ -93,7 +92,7 @@ found-or-none T S o (x ∷ xs) h =
     at false e (inl none) = inl (rw e none)
     at false e (inr k) = inr k
 
-pub longer-permits : (T U : List Row) (S : Row → Strings) (xs : List Attribute) → Includes T U → IsStrict T S xs
+pub longer-permits : (T U : List Row) (S : List ℕ → Type 0) (xs : List Attribute) → Includes T U → IsStrict T S xs
     → IsStrict U S xs
 longer-permits T U S xs includes h =
     record { common = h.common; once = once; permitted = λ k d below. permitted _ (h.permitted k d below) } where
@@ -111,9 +110,9 @@ longer-permits T U S xs includes h =
           record {
             number = m.0;
             has = record { below = m.1; same = ap (λ (r : Row). r.identifier) m.2 ∙ p.has.same };
-            string = subst (λ (r : Row). IsString (S r) a.value) (sym m.2) p.string;
+            string = p.string;
           }
 
-pub name-permitted : (T U : List Row) (S : Row → Strings) (octets : List ℕ) → Includes T U
+pub name-permitted : (T U : List Row) (S : List ℕ → Type 0) (octets : List ℕ) → Includes T U
     → IsNameOf (IsStrict T S) octets → IsNameOf (IsStrict U S) octets
 name-permitted T U S octets includes h = (h.0, h.1, longer-permits T U S _ includes h.2)

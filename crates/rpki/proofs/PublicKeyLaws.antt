@@ -1,14 +1,12 @@
 -- Public keys that are written, and the bits of RSA keys.
 use Rattle.std.proofs.Common.{◌≡◌, ◌↔◌, ℕ, ◌+◌, ◌<◌, ◌≤◌, ◌^◌, true, false, List, [], ◌∷◌, ◌++◌, length, refl, sym}
 use Rattle.std.proofs.Common.{Result, ap}
-use Rattle.std.proofs.Common.{◌∙◌, arith, lit<, length-append, append-nil}
+use Rattle.std.proofs.Common.{◌∙◌, arith, lit<, length-append}
 use Rattle.rpki_der.specs.declared.error.DecodeError.{DecodeError}
 use Rattle.rpki_der.specs.Prelude.{IsTag, oid, null, sequence, bit_string, integer, tlv, Spells, SpellsNothing}
 use Rattle.rpki_der.specs.Prelude.{UnlessMemory, TakesNoMemory, IsWholeFault, Bits}
 use Rattle.rpki_der.specs.Prelude.{bits_of, bits_contents, IsUnsigned, IsMagnitude, unsigned_contents, number_of}
-use Rattle.rpki_der.specs.Prelude.{AreOctets, sequence_legal, SpellsContents}
-use Rattle.rpki_der.specs.Standing.{StandsBefore}
-use Rattle.rpki_der.proofs.KeepLaws.{contents-stand, inner-stands}
+use Rattle.rpki_der.specs.Prelude.{AreOctets, sequence_legal}
 use Rattle.rpki_der.proofs.ReadingLaws.{UnlessMemory-weaker}
 use Rattle.rpki_der.proofs.EncodeLaws.{leaf-legal, tlv-same, tlv-same-then, tlv-at-least, tlv_at_most, bits-same}
 use Rattle.rpki_der.proofs.UnsignedLaws.{unsigned-spelled, unsigned-at-most, magnitude-at-most}
@@ -19,9 +17,8 @@ use Rattle.rpki_der.specs.Format.{Format, TakesAll, then, only, said_by}
 use Rattle.rpki_der.proofs.FormatLaws.{takes-said}
 use Rattle.rpki.specs.AlgorithmFault.{key_format}
 use Rattle.rpki.specs.KeyFormat.{format_contents, format_octets}
-use Rattle.rpki.specs.PublicKey.{KeyParts, key_of, key_contents, key_octets, AreRsaNumbers}
-use Rattle.rpki.specs.PublicKey.{SpellsKey, SpellsRsaNumbers, SpellsRsaBits, IsRsaKey}
-use Rattle.rpki.specs.KeyFault.{rsa_bits}
+use Rattle.rpki.specs.RsaPublicKey.{AreRsaNumbers, SpellsRsaNumbers, rsa_public_key}
+use Rattle.rpki.specs.PublicKey.{KeyParts, key_of, key_contents, key_octets, IsRsaKey}
 use Rattle.rpki.proofs.FormatLaws.{format-short}
 
 -- ---- keys that are written
@@ -87,43 +84,41 @@ key-said B =
     (λ k s h. h) (λ k s h. h)
     (λ k l e. same-key k l (ap (λ (p : PublicKeyFormat × Bits). p.0) e) (ap (λ (p : PublicKeyFormat × Bits). p.1) e))
 
--- its bits end where it ends
-pub bits-stand : {s r : List ℕ} {k : KeyParts} → Spells SpellsKey s k r → StandsBefore s k.bits.octets r
-bits-stand {s} {r} {k} h =
-    let c = h.spelled.contents in
-    let pair = h.spelled.spelled in
-    let bits = pair.two in
-    let whole : Spells (SpellsContents sequence true) s c r = record
-    { front = h.front; parts = h.parts; spelled = h.spelled.value } in
-    let last : Spells (SpellsContents bit_string false) pair.second bits.contents [] = record
-    { front = pair.second; parts = sym (append-nil pair.second); spelled = bits.value } in
-    inner-stands (contents-stand sequence true s c r pair.first pair.second whole pair.parts)
-    (contents-stand bit_string false pair.second bits.contents [] (k.bits.unused ∷ []) k.bits.octets last
-    bits.spelled.contents)
-
 -- ---- the bits of RSA keys
 
-as-bits : (s : List ℕ) (k : KeyParts) (r : List ℕ) → Spells IsRsaKey s k r → Spells SpellsRsaBits s tt r
-as-bits s k r h = record { front = h.front; parts = h.parts; spelled = h.spelled.numbers }
+as-bits : (s : List ℕ) (k : KeyParts) (r : List ℕ) (h : Spells IsRsaKey s k r)
+    → Spells SpellsRsaNumbers s h.spelled.numbers.0 r
+as-bits s k r h = record { front = h.front; parts = h.parts; spelled = h.spelled.numbers.1 }
 
-as-key : (s : List ℕ) (v : Unit {0}) (r : List ℕ) (h : Spells SpellsRsaBits s v r)
+as-key : (s : List ℕ) (n : ℕ × ℕ) (r : List ℕ) (h : Spells SpellsRsaNumbers s n r)
     → Spells IsRsaKey s (key_of Rsa (bits_of 0 h.front)) r
-as-key s v r h =
-    record { front = h.front; parts = h.parts; spelled = record { format = refl; bits = refl; numbers = h.spelled } }
+as-key s n r h = record {
+  front = h.front;
+  parts = h.parts;
+  spelled = record { format = refl; bits = refl; numbers = (n, h.spelled) };
+}
 
 pub no-rsa-key : (s : List ℕ) (e : DecodeError)
-    → UnlessMemory e (SpellsNothing SpellsRsaBits s) × TakesNoMemory (IsWholeFault SpellsRsaBits rsa_bits.fault) s e
-    → UnlessMemory e (SpellsNothing IsRsaKey s) × TakesNoMemory (IsWholeFault IsRsaKey rsa_bits.fault) s e
+    → UnlessMemory e (SpellsNothing SpellsRsaNumbers s)
+    × TakesNoMemory (IsWholeFault SpellsRsaNumbers rsa_public_key.fault) s e
+    → UnlessMemory e (SpellsNothing IsRsaKey s) × TakesNoMemory (IsWholeFault IsRsaKey rsa_public_key.fault) s e
 no-rsa-key s e h = (
-  UnlessMemory-weaker e (λ none k g. none tt g.numbers) h.0,
+  UnlessMemory-weaker e (λ none k g. none g.numbers.0 g.numbers.1) h.0,
   record {
     other = h.1.other;
     kind = record {
-      trailing = λ k b more g. h.1.kind.trailing tt b more (as-bits s k (b ∷ more) g);
+      trailing = λ k b more g. h.1.kind.trailing _ b more (as-bits s k (b ∷ more) g);
       kind = λ none. h.1.kind.kind (λ v r g. none (key_of Rsa (bits_of 0 g.front)) r (as-key s v r g));
       memory = λ z. absurd (h.1.other z);
     };
   },
+)
+
+pub is-rsa-key : (p : List ℕ) (n : ℕ × ℕ) → SpellsRsaNumbers n p
+    → IsRsaKey (key_of Rsa (bits_of 0 p)) p × ((w : KeyParts) → IsRsaKey w p → w ≡ key_of Rsa (bits_of 0 p))
+is-rsa-key p n h = (
+  record { format = refl; bits = refl; numbers = (n, h) },
+  λ w k. λ i. key_of (k.format i) (k.bits i),
 )
 
 pub integer-legal : IsTag integer
@@ -158,10 +153,6 @@ numbers-spelled m n p q short =
       two = leaf-legal integer false IsUnsigned (number_of n) (unsigned_contents n) integer-legal
           (omega (arith, unsigned-at-most n)) (unsigned-spelled n q);
     })
-
--- they are the bits of a key
-pub some-numbers : (n : ℕ × ℕ) (p : List ℕ) → SpellsRsaNumbers n p → SpellsRsaBits tt p
-some-numbers n p h = record { contents = h.contents; value = h.value; spelled = (n, h.spelled) }
 
 some-octets : (s : List ℕ) → (s ≡ [] → ⊥) → 0 < length s
 some-octets [] ne = absurd (ne refl)

@@ -10,16 +10,14 @@ use Rattle.rpki.specs.AlgorithmOctetsLaws.{oid-legal}
 use Rattle.rpki.specs.Oids.{common_name}
 use Rattle.rpki.specs.Name.{Attribute, attribute_of, IsAttribute, SpellsAttribute, SpellsSome, SpellsRelative}
 use Rattle.rpki.specs.Name.{SpellsName}
-use Rattle.rpki.specs.NameTable.{Row, row_at, name_table}
-use Rattle.rpki.specs.StrictName.{has_identifier, count_of, IsNameSize, IsPrintable, IsString, IsPermitted, IsStrict}
-use Rattle.rpki.specs.StrictName.{attributes, rpki_strings, router_strings, IsRpkiName, IsRouterName}
-use Rattle.rpki.specs.declared.repository.x509.name.table.Strings.{Strings}
+use Rattle.rpki.specs.NameTable.{row_at, name_table}
+use Rattle.rpki.specs.StrictName.{has_identifier, count_of, IsPrintable, IsPrintableOrUtf8, IsPermitted, IsStrict}
+use Rattle.rpki.specs.StrictName.{attributes, IsRpkiName, IsRouterName}
 use Rattle.rpki.proofs.InspectionLaws.{first-is-common}
 use Rattle.rpki.specs.SubjectName.{attribute_contents, subject_octets}
 use Rattle.rpki.proofs.NamedLaws.{plain-oid}
 use Rattle.rpki.proofs.SubjectLaws.{digits-short, attribute-short, name-short, set-short}
 use Rattle.rpki_text.specs.HexText.{hex_digit, hex_text}
-use Rattle.rpki_text.proofs.HexLaws.{length-hex_text}
 
 digit-printable : (n : ℕ) → n < 16 → is_printable (hex_digit n) ≡ true
 digit-printable zero h = refl
@@ -89,15 +87,11 @@ subject-spelled k size =
     (tlv set true (tlv sequence true (attribute_contents k))) sequence_legal (set-short k size)
     (one-spelled SpellsRelative _ _ relative)
 
-subject-size : (k : List ℕ) → length k ≡ 20 → IsNameSize (length (hex_text k))
-subject-size k size = (omega (arith, length-hex_text k), omega (arith, length-hex_text k))
-
 digits-printable : (k : List ℕ) → length k ≡ 20 → are_printable (hex_text k) ≡ true → IsPrintable (digits_value k)
 digits-printable k size digits = (
   hex_text k,
   leaf-legal printable_string false IsPrintableText (hex_text k) (hex_text k) printable-legal (digits-short k size)
       (refl, digits),
-  subject-size k size,
 )
 
 -- of one attribute there are not two
@@ -108,7 +102,7 @@ one-at-most o a = at (has_identifier o a) refl
     at true e = rw e (omega arith)
     at false e = rw e (omega arith)
 
-strict-subject : (S : Row → Strings) (k : List ℕ) → IsString (S (row_at name_table 0)) (digits_value k)
+strict-subject : (S : List ℕ → Type 0) (k : List ℕ) → S (digits_value k)
     → IsStrict name_table S (attributes (subject_parts k))
 strict-subject S k permitted = record {
   common = refl;
@@ -121,8 +115,8 @@ pub subject-strict : (k : List ℕ) → length k ≡ 20 → are_printable (hex_t
     → IsRpkiName (subject_octets k) × IsRouterName (subject_octets k)
 subject-strict k size digits =
     let permitted = digits-printable k size digits in (
-      (subject_parts k, subject-spelled k size, strict-subject rpki_strings k permitted),
-      (subject_parts k, subject-spelled k size, strict-subject router_strings k (inl permitted)),
+      (subject_parts k, subject-spelled k size, strict-subject IsPrintable k permitted),
+      (subject_parts k, subject-spelled k size, strict-subject IsPrintableOrUtf8 k (inl permitted)),
     )
 
 pub subject-fits : (k : List ℕ) → length k ≡ 20 → length (subject_octets k) < 2 ^ 63

@@ -1,12 +1,11 @@
 -- A name that is strict without an organization name is strict.
 use Rattle.std.proofs.Common.{ℕ, List, [], ◌∷◌, refl}
 use Rattle.std.specs.Prelude.{Result, Ok, Err, IsOk, IfErr}
-use Rattle.rpki.specs.NameTable.{Row, organization_row, table_without_organization, name_table}
+use Rattle.rpki.specs.NameTable.{organization_row, table_without_organization, name_table}
 use Rattle.rpki.specs.StrictName.{IsStrict, IsNameOf}
-use Rattle.rpki.specs.declared.repository.x509.name.table.Strings.{Strings}
 use Rattle.rpki.proofs.NameTableLaws.{includes-front, name-permitted}
 
-pub name-strict : (S : Row → Strings) (octets : List ℕ) → IsNameOf (IsStrict table_without_organization S) octets
+pub name-strict : (S : List ℕ → Type 0) (octets : List ℕ) → IsNameOf (IsStrict table_without_organization S) octets
     → IsNameOf (IsStrict name_table S) octets
 name-strict S octets h = name-permitted table_without_organization name_table S octets
     (includes-front table_without_organization (organization_row ∷ [])) h

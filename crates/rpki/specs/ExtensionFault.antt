@@ -1,7 +1,8 @@
 -- Extensions as formats: their octets, and which error those have that are rejected (RFC 5280 4.1).
-use Rattle.std.specs.Prelude.{ℕ, List}
+use Rattle.std.specs.Prelude.{◌⊎◌, ℕ, List}
+use Rattle.rpki_der.specs.declared.error.DecodeError.TheVariants.{Trailing}
 use Rattle.rpki_der.specs.Prelude.{boolean, octet_string, sequence, Format, octets_under, around, then, optional_then}
-use Rattle.rpki_der.specs.Prelude.{only, said_by, kept, any_oid, boolean_value}
+use Rattle.rpki_der.specs.Prelude.{only, said_by, kept, kept_where, any_oid, boolean_value, Finds}
 use Rattle.rpki.specs.ExtensionValue.{ExtensionParts, IsExtensionContents}
 
 -- an OCTET STRING; then nothing
@@ -18,3 +19,11 @@ extension = around sequence extension_fields
 -- an extension that is kept: allocation may fail where it is there
 abbrev pub kept_extension : Format ExtensionParts
 kept_extension = kept extension
+
+-- the parts of an extension are there, with nothing behind them in its SEQUENCE, or something
+abbrev pub HasExtensionParts : List ℕ → Type 0
+HasExtensionParts s = Finds extension.spells s ⊎ extension.fault s Trailing
+
+-- an extension that is captured: allocation may fail where its parts are there
+abbrev pub captured_extension : Format ExtensionParts
+captured_extension = kept_where HasExtensionParts extension

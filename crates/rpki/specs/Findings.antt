@@ -4,12 +4,11 @@ use Rattle.std.specs.List.{All}
 use Rattle.rpki.specs.Name.{Attribute}
 use Rattle.rpki.specs.NameTable.{Row, row_at}
 use Rattle.rpki.specs.StrictName.{count_of, IsPermitted}
-use Rattle.rpki.specs.declared.repository.x509.name.table.Strings.{Strings}
 
 -- Of these attributes the table permits each; of each row one was there if `found` says so at its number, and none
 -- else.
-pub record IsFound (table : List Row) (strings : Row → Strings) (found : List Bool) (xs : List Attribute) : Type 0
+pub record IsFound (table : List Row) (IsString : List ℕ → Type 0) (found : List Bool) (xs : List Attribute) : Type 0
   where
     pub counted : (n : ℕ) → n < length table
         → count_of (row_at table n).identifier xs ≡ cond (slice_index_or found n false) 1 0
-    pub permitted : All (IsPermitted table strings) xs
+    pub permitted : All (IsPermitted table IsString) xs

@@ -1,8 +1,7 @@
 -- Public keys as formats: their octets, and which error those have that are rejected (RFC 5280 4.1).
 use Rattle.rpki_der.specs.Prelude.{sequence, Bits, Format, around, then, only, said_by, kept, bits_value}
-use Rattle.rpki_der.specs.Prelude.{unsigned_value}
-use Rattle.rpki.specs.AnyValue.{SpellsAny}
-use Rattle.rpki.specs.PublicKey.{KeyParts, IsKeyContents, AreRsaNumbers}
+use Rattle.rpki.specs.RsaPublicKey.{rsa_public_key}
+use Rattle.rpki.specs.PublicKey.{KeyParts, IsKeyContents, IsRsaKey}
 use Rattle.rpki.specs.AlgorithmFault.{key_format}
 
 -- a BIT STRING that shares its octets: allocation may fail where it is there
@@ -23,9 +22,6 @@ key = around sequence key_parts
 abbrev pub key_view : Format KeyParts
 key_view = around sequence key_view_parts
 
--- the bits of an RSA key: a non-negative INTEGER; then another; then nothing
-abbrev pub rsa_numbers : Format (Unit {0})
-rsa_numbers = said_by (SpellsAny AreRsaNumbers) (then unsigned_value (only unsigned_value))
-
-abbrev pub rsa_bits : Format (Unit {0})
-rsa_bits = around sequence rsa_numbers
+-- an RSA key, of its bits alone
+abbrev pub rsa_key : Format KeyParts
+rsa_key = said_by IsRsaKey rsa_public_key

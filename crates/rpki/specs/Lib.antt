@@ -5,6 +5,8 @@ pub mod Algorithm
 pub mod UnknownAlgorithm
 pub mod Format
 pub mod KeyFormat
+pub mod RsaPublicKey
+pub mod KeySize
 pub mod PublicKey
 pub mod KeyIdentifier
 pub mod SubjectName

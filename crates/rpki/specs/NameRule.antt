@@ -3,9 +3,8 @@ use Rattle.std.specs.Prelude.{◌≡◌, ◌⊎◌, ℕ, Bool, List, [], ◌∷�
 use Rattle.rpki.specs.Oids.{common_name}
 use Rattle.rpki.specs.Name.{Attribute}
 use Rattle.rpki.specs.NameTable.{Row, row_at, HasRow, name_table}
-use Rattle.rpki.specs.StrictName.{count_of, IsString, IsNameOf, rpki_strings, router_strings}
+use Rattle.rpki.specs.StrictName.{count_of, IsPrintable, IsPrintableOrUtf8, IsNameOf}
 use Rattle.rpki.specs.Findings.{IsFound}
-use Rattle.rpki.specs.declared.repository.x509.name.table.Strings.{Strings}
 use Rattle.rpki.specs.declared.repository.x509.name.rule.NameRule.{NameRule}
 use Rattle.rpki.specs.declared.repository.x509.name.rule.NameRule.TheVariants.{MissingCommonName, SecondCommonName}
 use Rattle.rpki.specs.declared.repository.x509.name.rule.NameRule.TheVariants.{SecondSerialNumber}
@@ -13,8 +12,8 @@ use Rattle.rpki.specs.declared.repository.x509.name.rule.NameRule.TheVariants.{S
 use Rattle.rpki.specs.declared.repository.x509.name.rule.NameRule.TheVariants.{OtherAttribute}
 
 -- no rule is broken by these attributes, unless by what they lack
-abbrev pub AreFine : List Row → (Row → Strings) → List Attribute → Type 0
-AreFine table strings xs = (found : List Bool) × IsFound table strings found xs
+abbrev pub AreFine : List Row → (List ℕ → Type 0) → List Attribute → Type 0
+AreFine table IsString xs = (found : List Bool) × IsFound table IsString found xs
 
 -- the attribute is the second of its row
 pub record IsSecond (table : List Row) (rule : NameRule) (before : List Attribute) (a : Attribute) : Type 0 where
@@ -23,14 +22,14 @@ pub record IsSecond (table : List Row) (rule : NameRule) (before : List Attribut
   pub rule_is : rule ≡ (row_at table number).second
   pub seen : count_of a.identifier before ≡ 1
 
--- it is the first of its row, and its value is no string that the row permits
-pub record HasOtherString (table : List Row) (strings : Row → Strings) (rule : NameRule) (before : List Attribute)
+-- it is the first of its row, and its value is no such string
+pub record HasOtherString (table : List Row) (IsString : List ℕ → Type 0) (rule : NameRule) (before : List Attribute)
     (a : Attribute) : Type 0 where
   pub number : ℕ
   pub has : HasRow table number a.identifier
   pub rule_is : rule ≡ OtherString
   pub first : count_of a.identifier before ≡ 0
-  pub other : IsString (strings (row_at table number)) a.value → ⊥
+  pub other : IsString a.value → ⊥
 
 -- it has no row
 pub record HasNoRow (table : List Row) (rule : NameRule) (a : Attribute) : Type 0 where
@@ -38,35 +37,35 @@ pub record HasNoRow (table : List Row) (rule : NameRule) (a : Attribute) : Type 
   pub none : (n : ℕ) → HasRow table n a.identifier → ⊥
 
 -- this attribute breaks the rule, after attributes that break none
-abbrev pub BreaksAt : List Row → (Row → Strings) → NameRule → List Attribute → Attribute → Type 0
-BreaksAt table strings rule before a =
-    IsSecond table rule before a ⊎ HasOtherString table strings rule before a ⊎ HasNoRow table rule a
+abbrev pub BreaksAt : List Row → (List ℕ → Type 0) → NameRule → List Attribute → Attribute → Type 0
+BreaksAt table IsString rule before a =
+    IsSecond table rule before a ⊎ HasOtherString table IsString rule before a ⊎ HasNoRow table rule a
 
 -- the first attribute that breaks a rule breaks this one
-pub record FirstBreaks (table : List Row) (strings : Row → Strings) (rule : NameRule) (xs : List Attribute) : Type 0
+pub record FirstBreaks (table : List Row) (IsString : List ℕ → Type 0) (rule : NameRule) (xs : List Attribute) : Type 0
   where
     pub before : List Attribute
     pub attribute : Attribute
     pub after : List Attribute
     pub parts : xs ≡ (before ++ attribute ∷ []) ++ after
-    pub fine : AreFine table strings before
-    pub broken : BreaksAt table strings rule before attribute
+    pub fine : AreFine table IsString before
+    pub broken : BreaksAt table IsString rule before attribute
 
 -- the attributes lack a common name, and break no rule beside that
-abbrev pub LackCommonName : List Row → (Row → Strings) → List Attribute → Type 0
-LackCommonName table strings xs = AreFine table strings xs × (count_of common_name xs ≡ 0)
+abbrev pub LackCommonName : List Row → (List ℕ → Type 0) → List Attribute → Type 0
+LackCommonName table IsString xs = AreFine table IsString xs × (count_of common_name xs ≡ 0)
 
 -- the rule that the attributes of a name break first
-abbrev pub BreaksRule : List Row → (Row → Strings) → NameRule → List Attribute → Type 0
-BreaksRule table strings rule xs =
-    FirstBreaks table strings rule xs ⊎ ((rule ≡ MissingCommonName) × LackCommonName table strings xs)
+abbrev pub BreaksRule : List Row → (List ℕ → Type 0) → NameRule → List Attribute → Type 0
+BreaksRule table IsString rule xs =
+    FirstBreaks table IsString rule xs ⊎ ((rule ≡ MissingCommonName) × LackCommonName table IsString xs)
 
 -- a name that breaks the rule first, of those of the RPKI and of those of routers
 abbrev pub BreaksRpkiRule : NameRule → List ℕ → Type 0
-BreaksRpkiRule rule = IsNameOf (BreaksRule name_table rpki_strings rule)
+BreaksRpkiRule rule = IsNameOf (BreaksRule name_table IsPrintable rule)
 
 abbrev pub BreaksRouterRule : NameRule → List ℕ → Type 0
-BreaksRouterRule rule = IsNameOf (BreaksRule name_table router_strings rule)
+BreaksRouterRule rule = IsNameOf (BreaksRule name_table IsPrintableOrUtf8 rule)
 
 -- the texts of the errors
 abbrev pub rpki_text : NameRule → List ℕ

@@ -4,38 +4,31 @@ use Rattle.rpki.specs.Oids.{common_name, serial_number, organization_name}
 use Rattle.rpki.specs.declared.repository.x509.name.rule.NameRule.{NameRule}
 use Rattle.rpki.specs.declared.repository.x509.name.rule.NameRule.TheVariants.{SecondCommonName, SecondSerialNumber}
 use Rattle.rpki.specs.declared.repository.x509.name.rule.NameRule.TheVariants.{SecondOrganizationName}
-use Rattle.rpki.specs.declared.repository.x509.name.table.Strings.{Strings}
-use Rattle.rpki.specs.declared.repository.x509.name.table.Strings.TheVariants.{Printable, PrintableOrUtf8}
 
--- an attribute that names may have, once at most: the contents of its identifier, its strings in a name of the RPKI and
--- in one of a router, and the rule that a second one breaks
+-- an attribute that names may have, once at most: the contents of its identifier, and the rule that a second one breaks
 pub record Row : Type 0 where
   pub identifier : List ℕ
-  pub rpki : Strings
-  pub router : Strings
   pub second : NameRule
 
-abbrev pub row : List ℕ → Strings → Strings → NameRule → Row
-row identifier rpki router second = record { identifier = identifier; rpki = rpki; router = router; second = second }
+abbrev pub row : List ℕ → NameRule → Row
+row identifier second = record { identifier = identifier; second = second }
 
 -- the row of this number, where the table has one
 abbrev pub row_at : List Row → ℕ → Row
-row_at table n = slice_index_or table n (row [] Printable Printable SecondCommonName)
+row_at table n = slice_index_or table n (row [] SecondCommonName)
 
 -- the row of this number is that of the identifier
 pub record HasRow (table : List Row) (n : ℕ) (identifier : List ℕ) : Type 0 where
   pub below : n < length table
   pub same : (row_at table n).identifier ≡ identifier
 
--- the attributes that RFC 6487 4.4 and RFC 8209 3.1.1 name; a router's common name alone may be a UTF8String
+-- the attributes that RFC 6487 4.4 and RFC 8209 3.1.1 name
 abbrev pub table_without_organization : List Row
-table_without_organization =
-    row common_name Printable PrintableOrUtf8 SecondCommonName
-    ∷ row serial_number Printable Printable SecondSerialNumber ∷ []
+table_without_organization = row common_name SecondCommonName ∷ row serial_number SecondSerialNumber ∷ []
 
 -- the attribute that is permitted beside them
 abbrev pub organization_row : Row
-organization_row = row organization_name Printable PrintableOrUtf8 SecondOrganizationName
+organization_row = row organization_name SecondOrganizationName
 
 -- the attributes that names may have
 abbrev pub name_table : List Row

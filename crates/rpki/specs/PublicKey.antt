@@ -1,7 +1,7 @@
 -- Public keys (SubjectPublicKeyInfo, RFC 5280 4.1 and 4.1.2.7).
 use Rattle.std.specs.Prelude.{◌≡◌, ◌↔◌, ◌<◌, ◌^◌, ℕ, true, false, List, ◌++◌, length}
-use Rattle.rpki_der.specs.Prelude.{sequence, bit_string, integer, tlv, SpellsLeaf, Bits, IsBits, bits_of, bits_contents}
-use Rattle.rpki_der.specs.Prelude.{IsUnsigned}
+use Rattle.rpki_der.specs.Prelude.{sequence, bit_string, tlv, SpellsLeaf, Bits, IsBits, bits_of, bits_contents}
+use Rattle.rpki.specs.RsaPublicKey.{SpellsRsaNumbers}
 use Rattle.rpki.specs.declared.crypto.keys.PublicKeyFormat.{PublicKeyFormat}
 use Rattle.rpki.specs.declared.crypto.keys.PublicKeyFormat.TheVariants.{Rsa}
 use Rattle.rpki.specs.AnyValue.{SpellsAny}
@@ -30,23 +30,11 @@ key_contents k = format_octets k.format ++ tlv bit_string false (bits_contents k
 abbrev pub key_octets : KeyParts → List ℕ
 key_octets k = tlv sequence true (key_contents k)
 
--- modulus and exponent, two non-negative INTEGERs (RFC 8017 A.1.1, RFC 3279 2.3.1)
-abbrev pub AreRsaNumbers : ℕ × ℕ → List ℕ → Type 0
-AreRsaNumbers n c = SpellsBoth (SpellsLeaf integer false IsUnsigned) (SpellsLeaf integer false IsUnsigned) n.0 n.1 c
-
--- the bits of an RSA key: a SEQUENCE of the two
-abbrev pub SpellsRsaNumbers : ℕ × ℕ → List ℕ → Type 0
-SpellsRsaNumbers = SpellsLeaf sequence true AreRsaNumbers
-
--- the same of any numbers
-abbrev pub SpellsRsaBits : Unit {0} → List ℕ → Type 0
-SpellsRsaBits = SpellsLeaf sequence true (SpellsAny AreRsaNumbers)
-
--- the key with these bits
+-- the RSA key with these bits, which spell a modulus and an exponent (RFC 8017 A.1.1)
 pub record IsRsaKey (k : KeyParts) (p : List ℕ) : Type 0 where
   pub format : k.format ≡ Rsa
   pub bits : k.bits ≡ bits_of 0 p
-  pub numbers : SpellsRsaBits tt p
+  pub numbers : SpellsAny SpellsRsaNumbers tt p
 
 -- a length announces the contents
 abbrev pub IsShortKey : KeyParts → Type 0

@@ -1,6 +1,6 @@
 //! Digests, keys and signatures.
 
-ghost use Rattle.std.specs.Prelude.{◌≡◌, ℕ, List, Bool};
+ghost use Rattle.std.specs.Prelude.{◌≡◌, ◌↔◌, ℕ, List, IsTrue};
 ghost use Rattle.rpki.specs.Format.{format_of};
 
 mod algorithm_identifier;
@@ -11,7 +11,8 @@ pub mod signature;
 pub use digest::{DigestAlgorithm, sha1_digest};
 pub use keys::{
     KeyIdentifier, KeyIdentifierSliceError, ParseKeyIdentifierError, PublicKey, PublicKeyCn,
-    PublicKeyFormat, PublicKeyFormatEncoder, PublicKeyView, SignatureVerificationError,
+    PublicKeyFormat, PublicKeyFormatEncoder, PublicKeyView, RsaPublicKey,
+    SignatureVerificationError,
 };
 pub use signature::{
     BgpsecSignatureAlgorithm, RpkiSignature, RpkiSignatureAlgorithm, Signature, SignatureAlgorithm,
@@ -40,7 +41,8 @@ impl SigningAlgorithm {
 
 /// A provider of digests and of checks of signatures. The layer itself computes neither.
 ///
-/// Each result is a function of the provider's value and the arguments.
+/// Each answer is a function of the provider's value and the arguments: a check says yes exactly where a relation of
+/// these holds.
 pub trait Provider {
     ghost use Rattle.rpki.specs.Provider.{Check};
 
@@ -50,10 +52,10 @@ pub trait Provider {
     /// The digest by SHA-256.
     ghost sha256_of: { Self → List ℕ → List ℕ };
 
-    /// Whether an RSA signature verifies: of the key's bits, the message and the signature.
+    /// Which RSA signatures verify: of the key's bits, the message and the signature.
     ghost rsa_of: { Self → Check };
 
-    /// Whether an ECDSA signature verifies.
+    /// Which ECDSA signatures verify.
     ghost ecdsa_of: { Self → Check };
 
     /// The digest of the octets by SHA-1 (FIPS 180-4).
@@ -67,10 +69,10 @@ pub trait Provider {
     /// Whether this is the signature of the message by the RSA key with these bits, a SEQUENCE of modulus and exponent:
     /// PKCS #1 v1.5 with SHA-256 (RFC 7935 2, RFC 8017 8.2). The provider decides which lengths of keys it accepts.
     fn rsa_check(&self, bits: &[u8], message: &[u8], signature: &[u8]) -> bool
-        ensures { result ≡ rsa_of self.now bits.now message.now signature.now };
+        ensures { IsTrue result ↔ rsa_of self.now bits.now message.now signature.now };
 
     /// Whether this is the signature of the message by the P-256 key with these bits, a point on the curve: ECDSA with
     /// SHA-256, as a SEQUENCE of two INTEGERs (RFC 8608 2, RFC 3279 2.2.3).
     fn ecdsa_check(&self, bits: &[u8], message: &[u8], signature: &[u8]) -> bool
-        ensures { result ≡ ecdsa_of self.now bits.now message.now signature.now };
+        ensures { IsTrue result ↔ ecdsa_of self.now bits.now message.now signature.now };
 }

@@ -145,5 +145,8 @@ pub fn what_is_written_of_leaves()
     ensures rpki { (a : Bool) → ⟦<RpkiSignatureAlgorithm as SignatureAlgorithm>⟧.written a
         ≡ algorithm_octets sha256_with_rsa_encryption true }
     ensures rpki_norm { (a : Bool) → ⟦<RpkiSignatureAlgorithm as SignatureAlgorithm>⟧.norm a ≡ true }
+    // The normal forms have keys of the same format.
+    ensures rpki_format { (a : Bool) → ⟦<RpkiSignatureAlgorithm as SignatureAlgorithm>⟧.format true
+        ≡ ⟦<RpkiSignatureAlgorithm as SignatureAlgorithm>⟧.format a }
     ensures bgpsec { ⟦<BgpsecSignatureAlgorithm as SignatureAlgorithm>⟧.written tt ≡ bare_octets ecdsa_with_sha256 }
 {}

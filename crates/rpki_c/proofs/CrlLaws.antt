@@ -1,5 +1,5 @@
 -- Where the parts of a revocation list stand.
-use Rattle.std.proofs.Common.{◌≡◌, ◌∙◌, ℕ, true, List, [], ◌∷◌, ◌++◌, Option, None, Some, refl, sym, ap, append_assoc}
+use Rattle.std.proofs.Common.{◌∙◌, ℕ, true, List, [], ◌∷◌, ◌++◌, Option, None, Some, refl, sym, ap, append_assoc}
 use Rattle.std.proofs.Common.{append-nil}
 use Rattle.rpki_der.specs.TagName.{sequence}
 use Rattle.rpki_der.specs.Parts.{OptionalThen}

@@ -2,7 +2,7 @@
 --
 -- A part by its place; parts of signed data and of extensions; the value at the front by its header: PartLaws,
 --   SuffixLaws, FrontLaws.
--- Parts of keys, moments of times, KeyPlaceLaws, MomentLaws.
+-- Parts of keys, moments of times: KeyPlaceLaws, MomentLaws. Signatures: VerificationLaws.
 -- Signed data read in place: SignedReadingLaws.
 -- Any algorithm identifier; statuses of keys, of names, and of another algorithm: IdentifierLaws, KeyStatusLaws,
 --   NameStatusLaws, ElseLaws.
@@ -20,6 +20,7 @@ mod PartLaws
 mod FrontLaws
 mod KeyPlaceLaws
 mod KeyStatusLaws
+mod VerificationLaws
 mod MomentLaws
 mod SignedReadingLaws
 mod IdentifierLaws

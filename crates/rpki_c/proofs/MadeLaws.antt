@@ -4,7 +4,7 @@ use Rattle.rpki_der.specs.declared.error.DecodeError.{DecodeError}
 use Rattle.rpki_der.specs.Reading.{SpellsNothing, UnlessMemory}
 use Rattle.rpki_der.specs.Error.{error_number}
 use Rattle.rpki.specs.PublicKey.{SpellsKey, IsRsaKey}
-use Rattle.rpki.specs.KeyFault.{rsa_bits}
+use Rattle.rpki.specs.RsaPublicKey.{rsa_public_key}
 use Rattle.rpki_c.specs.Whole.{NeverMemory}
 use Rattle.rpki_c.specs.Key.{IsKeptKeyFault, IsKeyStatus}
 use Rattle.rpki_c.specs.Made.{IsMade}
@@ -42,7 +42,7 @@ name-unwritten s e status old before k (inr h) =
 
 -- octets that are not the bits of an RSA key make nothing
 pub bits-unwritten : (bits b : List ℕ) (e : DecodeError) (status : ℕ) (old : List ℕ) (before : ℕ) → b ≡ bits
-    → UnlessMemory e (SpellsNothing IsRsaKey b) × NeverMemory IsRsaKey rsa_bits.fault b e
+    → UnlessMemory e (SpellsNothing IsRsaKey b) × NeverMemory IsRsaKey rsa_public_key.fault b e
     → status ≡ error_number e → IsBitsWritten bits status old old before before
 bits-unwritten bits b e status old before same k n =
     subst (λ (s : List ℕ). IsBitsWritten s status old old before before) same

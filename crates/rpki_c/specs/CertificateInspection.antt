@@ -3,6 +3,7 @@ use Rattle.std.specs.Prelude.{◌≡◌, ◌⊎◌, ◌<◌, ℕ, Bool, List}
 use Rattle.rpki_cert.specs.declared.read.cert_part.CertPart.{CertPart}
 use Rattle.rpki_cert.specs.declared.profile.rule.CertRule.{CertRule}
 use Rattle.rpki_cert.specs.declared.profile.rule.CertRule.TheVariants.{SerialNumber, CriticalExtensions, Issuer}
+use Rattle.rpki_cert.specs.declared.profile.rule.CertRule.TheVariants.{IssuerSize, SubjectSize, RouterSerialNumber}
 use Rattle.rpki_cert.specs.declared.profile.rule.CertRule.TheVariants.{Validity}
 use Rattle.rpki_cert.specs.declared.profile.rule.CertRule.TheVariants.{Subject, RouterSubject, RsaKey, RouterKey}
 use Rattle.rpki_cert.specs.declared.profile.rule.CertRule.TheVariants.{BasicConstraints, NoBasicConstraints}
@@ -66,6 +67,9 @@ cert_rule_number ResourceBlocks = 116
 cert_rule_number OwnResources = 117
 cert_rule_number ManifestPlace = 118
 cert_rule_number Notifications = 119
+cert_rule_number IssuerSize = 156
+cert_rule_number SubjectSize = 157
+cert_rule_number RouterSerialNumber = 158
 
 -- how a profile is passed
 abbrev pub profile_number : Profile → ℕ
@@ -88,8 +92,8 @@ pub record BreaksRule (s : List ℕ) (profile : Profile) (strict : Bool) (rule :
   pub first : IsFirstBroken strict cert.tbs (rules_of profile) rule
   pub other : HasProfile profile strict cert.tbs → ⊥
 
--- Status 0: the octets are a certificate of the profile. 85 to 119: they are a certificate, which breaks the rule of
--- this number first. Else the number of the part that is wrong.
+-- Status 0: the octets are a certificate of the profile. 85 to 119, 156 to 158: they are a certificate, which breaks
+-- the rule of this number first. Else the number of the part that is wrong.
 abbrev pub IsInspectedAs : List ℕ → Profile → Bool → ℕ → Type 0
 IsInspectedAs s profile strict status =
     ((status ≡ 0) × IsOfProfile s profile strict)

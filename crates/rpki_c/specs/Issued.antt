@@ -1,5 +1,5 @@
 -- What a status says of two certificates, of which the second may have issued the first.
-use Rattle.std.specs.Prelude.{◌≡◌, ◌≢◌, ◌⊎◌, ℕ, false, List, Some}
+use Rattle.std.specs.Prelude.{◌≡◌, ◌≢◌, ◌⊎◌, ℕ, List, Some}
 use Rattle.sha1.specs.Sha1.{sha1}
 use Rattle.rpki_cert.specs.declared.read.cert_part.CertPart.{CertPart}
 use Rattle.rpki_cert.specs.declared.extension.known_part.KnownPart.{KnownPart}

@@ -46,3 +46,4 @@ pub mod Roa
 pub mod Aspa
 pub mod Access
 pub mod Taking
+pub mod Verified

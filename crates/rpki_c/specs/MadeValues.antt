@@ -3,8 +3,8 @@ use Rattle.std.specs.Prelude.{◌≡◌, ◌⊎◌, ◌≤◌, ◌<◌, ◌+◌,
 use Rattle.sha1.specs.Sha1.{sha1}
 use Rattle.rpki_der.specs.Number.{number_of}
 use Rattle.rpki.specs.declared.crypto.keys.PublicKeyFormat.TheVariants.{Rsa}
-use Rattle.rpki.specs.PublicKey.{KeyParts, SpellsKey, SpellsRsaNumbers, IsRsaKey, key_contents, key_octets}
-use Rattle.rpki.specs.KeyFault.{rsa_bits}
+use Rattle.rpki.specs.RsaPublicKey.{SpellsRsaNumbers, rsa_public_key}
+use Rattle.rpki.specs.PublicKey.{KeyParts, SpellsKey, IsRsaKey, key_contents, key_octets}
 use Rattle.rpki.specs.SubjectName.{subject_octets}
 use Rattle.rpki_c.specs.Status.{content, other_algorithm, out_of_memory, too_long}
 use Rattle.rpki_c.specs.Made.{IsMade}
@@ -49,7 +49,7 @@ IsRsaWritten m e status old new before after =
 abbrev pub IsUncopied : List ℕ → ℕ → Type 0
 IsUncopied bits status =
     ((k : KeyParts) × IsRsaKey k bits × (status ≡ out_of_memory))
-    ⊎ IsRefused IsRsaKey (NeverMemory IsRsaKey rsa_bits.fault) bits status
+    ⊎ IsRefused IsRsaKey (NeverMemory IsRsaKey rsa_public_key.fault) bits status
 
 -- The key with these bits is made. 7: they are those of a key, and allocation failed. Else the number of the error.
 -- Unless it is made, nothing was written.

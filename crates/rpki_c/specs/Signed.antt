@@ -1,5 +1,5 @@
 -- What a status says of the octets of signed data.
-use Rattle.std.specs.Prelude.{◌≡◌, ◌⊎◌, ◌+◌, ℕ, Bool, false, List, drop, length}
+use Rattle.std.specs.Prelude.{◌≡◌, ◌⊎◌, ◌+◌, ℕ, Bool, List, drop, length}
 use Rattle.rpki_der.specs.declared.error.DecodeError.{DecodeError}
 use Rattle.rpki_der.specs.Reading.{OrMemoryWhere, IsWholeFault}
 use Rattle.rpki_der.specs.Members.{SpellsValue}

@@ -78,3 +78,11 @@ too_new = 50
 -- a period of validity ended before the moment
 abbrev pub too_old : ℕ
 too_old = 51
+
+-- a public key is none that signatures are verified by
+abbrev pub key_not_accepted : ℕ
+key_not_accepted = 52
+
+-- a signature is not one of the message by the key
+abbrev pub bad_signature : ℕ
+bad_signature = 53

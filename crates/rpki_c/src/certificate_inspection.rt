@@ -48,6 +48,9 @@ pub(crate) fn cert_rule_number(rule: CertRule) -> u8
         CertRule::OwnResources => 117,
         CertRule::ManifestPlace => 118,
         CertRule::Notifications => 119,
+        CertRule::IssuerSize => 156,
+        CertRule::SubjectSize => 157,
+        CertRule::RouterSerialNumber => 158,
     }
 }
 
@@ -83,9 +86,9 @@ fn inspect(octets: &[u8], profile: Profile, strict: bool) -> u8
 /// is that of trust anchors, 1 that of certification authorities, 2 that of end entities that sign an object, 3 that of
 /// BGPsec routers, 4 that of end entities without subject information access. The names are looked at if `strict`.
 ///
-/// The status is 0; 85 to 119 where the certificate is not of the profile, by the rule that it breaks first; 64 to 79
-/// where the octets are no certificate, as that of [crate::certificate::rpki_certificate]; 12 for another number of a
-/// profile, before the octets are looked at. Nothing is allocated.
+/// The status is 0; 85 to 119 and 156 to 158 where the certificate is not of the profile, by the rule that it breaks
+/// first; 64 to 79 where the octets are no certificate, as that of [crate::certificate::rpki_certificate]; 12 for
+/// another number of a profile, before the octets are looked at. Nothing is allocated.
 #[unsafe(no_mangle)]
 pub extern "C" fn rpki_certificate_inspect(octets: &[u8], profile: u8, strict: bool) -> u8
     ensures { IsCertificateInspected octets.now profile strict result }

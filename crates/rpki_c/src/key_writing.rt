@@ -1,9 +1,7 @@
 //! Public keys, written.
 
-ghost use Rattle.rpki_der.specs.Prelude.{left, Takes, TakesAll, Decodes};
-ghost use Rattle.rpki_c.specs.Whole.{NeverMemory};
-ghost use Rattle.rpki.specs.KeyFault.{rsa_bits, rsa_numbers};
-ghost use Rattle.rpki.specs.PublicKey.{SpellsKey, SpellsRsaBits};
+ghost use Rattle.rpki_der.specs.Prelude.{Decodes};
+ghost use Rattle.rpki.specs.PublicKey.{SpellsKey};
 ghost use Rattle.rpki_c.specs.Key.{IsKeptKeyFault};
 ghost use Rattle.rpki_c.specs.MadeValues.{IsKeyWritten, IsRsaWritten, IsUncopied, IsBitsWritten, IsNameWritten};
 
@@ -11,7 +9,7 @@ use crate::keys::key_status;
 use crate::status::{CONTENT, OUT_OF_MEMORY, TOO_LONG};
 use crate::stored::{store, store_if_short};
 use bytes::Bytes;
-use rpki::crypto::PublicKey;
+use rpki::crypto::{PublicKey, RsaPublicKey};
 use rpki::repository::x509::Name;
 use rpki_der::{Constructed, DecodeError, InvalidInteger};
 use rpki_digests::Digests;
@@ -74,35 +72,13 @@ pub extern "C" fn rpki_rsa_key_write(
     }
 }
 
-/// Moves past the bits of an RSA key: a SEQUENCE of two non-negative INTEGERs. Allocates nothing.
-fn take_rsa_bits(cons: &mut Constructed<'_>) -> Result<(), DecodeError>
-    ensures { Takes (λ _. tt) rsa_bits (left cons.old) (left cons.new) result }
-{
-    cons.in_sequence(
-        |contents|
-            ensures { TakesAll (λ _. tt) rsa_numbers (left contents.old) (left contents.new) result }
-        {
-            contents.take_unsigned()?;
-            contents.take_unsigned()?;
-            Ok(())
-        },
-    )
-}
-
-/// Tests that all of the octets are the bits of an RSA key. Allocates nothing.
-fn check_rsa_bits(bits: &[u8]) -> Result<(), DecodeError>
-    ensures { Decodes (λ _. tt) SpellsRsaBits (NeverMemory SpellsRsaBits rsa_bits.fault) bits.now result }
-{
-    Constructed::from_slice(bits).whole(take_rsa_bits)
-}
-
 /// The status of bits that there was no memory to copy: `OUT_OF_MEMORY` where they are those of an RSA key, else the
 /// number of the error.
 fn uncopied(bits: &[u8]) -> u8
     ensures { IsUncopied bits.now result }
 {
-    match check_rsa_bits(bits) {
-        Ok(()) => OUT_OF_MEMORY,
+    match RsaPublicKey::from_bits(bits) {
+        Ok(_) => OUT_OF_MEMORY,
         Err(e) => e.number(),
     }
 }

@@ -38,7 +38,7 @@ pub(crate) fn format_number(format: PublicKeyFormat) -> u8
 }
 
 /// A public key, and nothing else.
-fn read_key(octets: &[u8]) -> Result<PublicKeyView<'_>, DecodeError>
+pub(crate) fn read_key(octets: &[u8]) -> Result<PublicKeyView<'_>, DecodeError>
     ensures { Decodes (λ k. k) SpellsKey IsWholeKeyFault octets.now result }
 {
     let mut cons = Constructed::from_slice(octets);

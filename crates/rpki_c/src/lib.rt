@@ -57,5 +57,6 @@ mod stored;
 mod taking;
 mod time_writing;
 mod times;
+mod verification;
 mod version;
 mod walks;

@@ -72,6 +72,12 @@ pub(crate) const OTHER_AUTHORITY: u8 = 154;
 /// What is added to the number of an error of a URI, so that no status says two things.
 pub(crate) const URI: u8 = 159;
 
+/// A public key is none that signatures are verified by.
+pub(crate) const KEY_NOT_ACCEPTED: u8 = 52;
+
+/// A signature is not one of the message by the key.
+pub(crate) const BAD_SIGNATURE: u8 = 53;
+
 /// A period of validity begins after the moment.
 pub(crate) const TOO_NEW: u8 = 50;
 

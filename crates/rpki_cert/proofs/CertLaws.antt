@@ -1,12 +1,12 @@
 -- A certificate that was read in place and kept; and one that wasn't read.
-use Rattle.std.proofs.Common.{◌≡◌, ◌≢◌, ◌∙◌, ℕ, Bool, true, List, [], ◌∷◌, ◌++◌, Result, Ok, Err, refl, sym, ap, subst}
+use Rattle.std.proofs.Common.{◌≡◌, ◌≢◌, ◌∙◌, ℕ, true, List, [], ◌++◌, refl, sym, ap, subst}
 use Rattle.std.proofs.Common.{◌⊎◌, inl, inr}
 use Rattle.rpki_der.specs.declared.error.DecodeError.{DecodeError}
 use Rattle.rpki_der.specs.declared.error.DecodeError.TheVariants.{Truncated, BadTag, BadLength, Unexpected, Content}
 use Rattle.rpki_der.specs.declared.error.DecodeError.TheVariants.{Trailing, OutOfMemory}
 use Rattle.rpki_der.specs.TagName.{sequence}
 use Rattle.rpki_der.specs.Header.{tlv}
-use Rattle.rpki_der.specs.Reading.{Spells, Accepts, Refuses, Refusal, UnlessMemory, SpellsNothing, Finds}
+use Rattle.rpki_der.specs.Reading.{Spells, Accepts, Refuses, Refusal, UnlessMemory, Finds}
 use Rattle.rpki_der.specs.Standing.{StandsBefore}
 use Rattle.rpki_der.specs.Values.{SpellsContents, IsContentsFault}
 use Rattle.rpki_der.proofs.InsideLaws.{unless-memory}
@@ -17,11 +17,9 @@ use Rattle.rpki_cert.specs.declared.read.fields.TbsView.{TbsView}
 use Rattle.rpki_cert.specs.declared.read.view.CertView.{CertView}
 use Rattle.rpki_cert.specs.Cert.{TbsParts, CertParts, AreFields, fields_of, SpellsTbs, SpellsCert}
 use Rattle.rpki_cert.specs.CertError.{cert_error}
-use Rattle.rpki_cert.specs.CertFault.{IsFrontError, IsCertFault, IsFrontTbsError, IsTbsFault}
 use Rattle.rpki_cert.specs.Kept.{IsTbsAt, IsCertOf}
-use Rattle.rpki_cert.specs.View.{frame, FirstWrong, HasOne, AreFieldsWrong, AreContentsWrong, AreContentsOf, IsTbsIn}
-use Rattle.rpki_cert.specs.View.FirstWrong.{AtPart, Later}
-use Rattle.rpki_cert.proofs.WrongLaws.{front-wrong, front-tbs-wrong}
+use Rattle.rpki_cert.specs.View.{frame, FirstWrong, HasOne, AreContentsOf, IsTbsIn}
+use Rattle.rpki_cert.specs.View.FirstWrong.{AtPart}
 
 unless-other : (e : DecodeError) {P : Type 0} → (e ≢ OutOfMemory → P) → UnlessMemory e P
 unless-other Truncated h = h (λ z. cc)

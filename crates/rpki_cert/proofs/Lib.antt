@@ -2,8 +2,7 @@
 --
 -- Values, one at least: SomeLaws. Signed data without unused bits: WholeLaws. What an extension says: KnownLaws,
 --   GeneralNameLaws, AccessLaws.
--- Keys: KeyLaws. Checks of profiles: ProfileLaws, BelowLaws. Their rules: RuleLaws. What is verified: VerifiedLaws.
---   What is claimed of resources, and what is settled: ResourceSetLaws.
+-- Keys: KeyLaws. Checks of profiles: ProfileLaws, BelowLaws. Values of names: NameValueLaws. Their rules: RuleLaws.
 -- Read in place: values, names, access information, lists of extensions, each identifier once, their table, fields,
 --   certificates: NestedLaws, NameViewLaws, InformationLaws, ListedLaws, UniqueLaws, TableLaws, FieldsLaws, ViewLaws.
 --   That what is signed is one value: TbsValueLaws. That what is spelled has one value: OneLaws. That what is wrong is
@@ -20,9 +19,8 @@ pub mod AccessLaws
 pub mod KeyLaws
 pub mod ProfileLaws
 pub mod BelowLaws
+pub mod NameValueLaws
 pub mod RuleLaws
-pub mod ResourceSetLaws
-pub mod VerifiedLaws
 pub mod NestedLaws
 pub mod NameViewLaws
 pub mod InformationLaws

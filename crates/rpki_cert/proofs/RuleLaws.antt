@@ -66,7 +66,7 @@ module _ (strict : Bool) (t : TbsParts) where
       → HasSome certificate_policies true SpellsPolicies t.extensions × AreWellFormed t.extensions
   has-common own all =
       let b = recursion_from_All (Obeys strict t) (common_rules ++ own) all in
-      (b.1.1.1.1.1.0, b.1.1.1.1.1.1.1.1.0)
+      (b.1.1.1.1.1.1.0, b.1.1.1.1.1.1.1.1.1.0)
 
   pub has-policy : (profile : Profile) → HasProfile profile strict t
       → HasSome certificate_policies true SpellsPolicies t.extensions × AreWellFormed t.extensions

@@ -4,7 +4,6 @@ use Rattle.std.specs.Prelude.{◌&&◌, not, cond, if◌then◌else◌, bytes_eq
 use Rattle.std.specs.Ordering.{nat_cmp, is_eq}
 use Rattle.std.specs.Cmp.Lexicographic.{slice_cmp}
 use Rattle.std.proofs.lemmas.Map.Text.{is_eq-slice_cmp}
-use Rattle.std.proofs.lemmas.Bool.{false_from_ne_true}
 use Rattle.std.proofs.lemmas.Slice.Eq.{bytes_eq-Decides}
 use Rattle.rpki_der.specs.Reading.{Accepts, Refuses}
 use Rattle.rpki.specs.ExtensionValue.{ExtensionParts, SpellsExtension}

@@ -1,6 +1,6 @@
 -- What is wrong is no certificate.
 use Rattle.std.proofs.Common.{◌≡◌, ◌≢◌, ◌∙◌, ◌<◌, ℕ, Bool, true, false, List, ◌++◌, length, refl, sym, ap, subst}
-use Rattle.std.proofs.Common.{append_assoc, inl}
+use Rattle.std.proofs.Common.{append_assoc}
 use Rattle.std.specs.Prelude.{IsTrue}
 use Rattle.std.proofs.lemmas.Bool.{false≢true}
 use Rattle.rpki_der.specs.declared.error.DecodeError.TheVariants.{OutOfMemory}
@@ -15,7 +15,7 @@ use Rattle.rpki.specs.SignedData.{SignedParts}
 use Rattle.rpki.specs.ExtensionValue.{ExtensionParts}
 use Rattle.rpki_cert.specs.declared.read.cert_part.CertPart.{CertPart}
 use Rattle.rpki_cert.specs.declared.read.cert_error.CertError.{CertError}
-use Rattle.rpki_cert.specs.Cert.{TbsParts, CertParts, are_unique, extensions_tag, AreExtensions, SpellsExtensionList}
+use Rattle.rpki_cert.specs.Cert.{TbsParts, CertParts, are_unique, extensions_tag, AreExtensions}
 use Rattle.rpki_cert.specs.Cert.{SpellsExtensions, AreFields, fields_of, SpellsTbs, SpellsCert}
 use Rattle.rpki_cert.specs.CertFault.{IsFrontError, IsFrontTbsError}
 use Rattle.rpki_cert.specs.View.{most_extensions, SpellsUsed, FirstWrong, IsListWrong, AreExtensionsWrong}

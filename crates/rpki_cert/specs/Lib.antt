@@ -16,13 +16,11 @@ pub mod ExtensionTable
 pub mod KnownView
 pub mod Inspected
 pub mod Keys
+pub mod NameValues
 pub mod ResourceExtensions
 pub mod RuleWords
 pub mod Rule
 pub mod RuleError
 pub mod Profile
-pub mod Valid
-pub mod ResourceSet
-pub mod Verified
 -- Lemmas that an `impl` cites.
 pub mod ContentLaws

@@ -6,6 +6,7 @@ use Rattle.rpki_cert.specs.declared.profile.Profile.{Profile}
 use Rattle.rpki_cert.specs.declared.profile.Profile.TheVariants.{Ta, Ca, Ee, DetachedEe, Router}
 use Rattle.rpki_cert.specs.declared.profile.rule.CertRule.{CertRule}
 use Rattle.rpki_cert.specs.declared.profile.rule.CertRule.TheVariants.{SerialNumber, CriticalExtensions, Issuer}
+use Rattle.rpki_cert.specs.declared.profile.rule.CertRule.TheVariants.{IssuerSize, SubjectSize, RouterSerialNumber}
 use Rattle.rpki_cert.specs.declared.profile.rule.CertRule.TheVariants.{Validity}
 use Rattle.rpki_cert.specs.declared.profile.rule.CertRule.TheVariants.{Subject, RouterSubject, RsaKey, RouterKey}
 use Rattle.rpki_cert.specs.declared.profile.rule.CertRule.TheVariants.{BasicConstraints, NoBasicConstraints}
@@ -30,15 +31,16 @@ use Rattle.rpki_cert.specs.RuleError.{ChecksBy, IsFirstError}
 
 -- ---- rules that profiles have in common
 
--- those that every profile begins with (RFC 6487 4.2, 4.4, 4.6, 4.8, RFC 8360 4.2)
+-- those that every profile begins with (RFC 6487 4.2, 4.4, 4.6, 4.8, RFC 5280 A.1, RFC 8360 4.2)
 abbrev pub common_rules : List CertRule
 common_rules =
-    SerialNumber ∷ CriticalExtensions ∷ Issuer ∷ Validity ∷ SubjectKeyIdentifier ∷ CertificatePolicies ∷ Resources
-    ∷ ResourceVersion ∷ ResourceBlocks ∷ []
+    SerialNumber ∷ CriticalExtensions ∷ Issuer ∷ IssuerSize ∷ Validity ∷ SubjectKeyIdentifier ∷ CertificatePolicies
+    ∷ Resources ∷ ResourceVersion ∷ ResourceBlocks ∷ []
 
--- a subject with a name of the RPKI and an RSA key (RFC 6487 4.5, RFC 7935 3), for no extended purpose (RFC 6487 4.8.5)
+-- a subject with a name of the RPKI and an RSA key (RFC 6487 4.5, RFC 5280 A.1, RFC 7935 3), for no extended purpose
+-- (RFC 6487 4.8.5)
 abbrev pub subject_rules : List CertRule
-subject_rules = Subject ∷ RsaKey ∷ NoExtendedKeyUsage ∷ []
+subject_rules = Subject ∷ SubjectSize ∷ RsaKey ∷ NoExtendedKeyUsage ∷ []
 
 -- a certification authority: cA is TRUE, and its key signs certificates and revocation lists (RFC 6487 4.8.1, 4.8.4)
 abbrev pub authority_rules : List CertRule
@@ -72,7 +74,7 @@ own_rules Ca = subject_rules ++ authority_rules ++ repository_rules ++ issuer_ru
 own_rules Ee = subject_rules ++ end_rules ++ SignedObject ∷ ObjectAccess ∷ Notifications ∷ issuer_rules
 own_rules DetachedEe = subject_rules ++ end_rules ++ NoSubjectAccess ∷ issuer_rules
 own_rules Router =
-    RouterSubject ∷ RouterKey ∷ end_rules
+    RouterSubject ∷ SubjectSize ∷ RouterSerialNumber ∷ RouterKey ∷ end_rules
     ++ RouterNumbers ∷ OwnResources ∷ NoSubjectAccess ∷ RouterPurpose ∷ issuer_rules
 
 abbrev pub rules_of : Profile → List CertRule

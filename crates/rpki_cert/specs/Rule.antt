@@ -6,6 +6,7 @@ use Rattle.rpki_cert.specs.declared.extension.access_rule.AccessRule.TheVariants
 use Rattle.rpki_cert.specs.declared.extension.key_usage.KeyUsage.TheVariants.{Ca, Ee}
 use Rattle.rpki_cert.specs.declared.profile.rule.CertRule.{CertRule}
 use Rattle.rpki_cert.specs.declared.profile.rule.CertRule.TheVariants.{SerialNumber, CriticalExtensions, Issuer}
+use Rattle.rpki_cert.specs.declared.profile.rule.CertRule.TheVariants.{IssuerSize, SubjectSize, RouterSerialNumber}
 use Rattle.rpki_cert.specs.declared.profile.rule.CertRule.TheVariants.{Validity}
 use Rattle.rpki_cert.specs.declared.profile.rule.CertRule.TheVariants.{Subject, RouterSubject, RsaKey, RouterKey}
 use Rattle.rpki_cert.specs.declared.profile.rule.CertRule.TheVariants.{BasicConstraints, NoBasicConstraints}
@@ -30,6 +31,8 @@ use Rattle.rpki_cert.specs.ExtensionContent.{SpellsPolicies}
 use Rattle.rpki_cert.specs.Access.{SpellsRsyncAccess, SpellsPoints, ca_issuers, ca_repository, rpki_manifest}
 use Rattle.rpki_cert.specs.Access.{signed_object}
 use Rattle.rpki_cert.specs.Keys.{IsRpkiKey, IsRouterKey}
+use Rattle.rpki_cert.specs.NameValues.{PermitsName}
+use Rattle.rpki_cert.specs.declared.profile.name_values.ValueRule.TheVariants as ValueRule
 use Rattle.rpki_cert.specs.ResourceExtensions.{AreWellFormed, AreOwn}
 use Rattle.rpki_cert.specs.RuleWords.{HasSome, HasNot, HasSomeUri, HasHeldAccess, SaysManifestBelow, IsOrdered}
 use Rattle.rpki_cert.specs.RuleWords.{HasOwnAuthority, has_addresses, has_numbers, has_resources, HasOneVersion}
@@ -39,9 +42,12 @@ abbrev pub Obeys : Bool → TbsParts → CertRule → Type 0
 Obeys strict t SerialNumber = 0 < t.serial
 Obeys strict t CriticalExtensions = IsTrue (are_understood t.extensions)
 Obeys strict t Issuer = IsTrue strict → IsRpkiName t.issuer
+Obeys strict t IssuerSize = IsTrue strict → PermitsName ValueRule.Size t.issuer
 Obeys strict t Validity = IsOrdered t.validity
 Obeys strict t Subject = IsTrue strict → IsRpkiName t.subject
 Obeys strict t RouterSubject = IsTrue strict → IsRouterName t.subject
+Obeys strict t SubjectSize = IsTrue strict → PermitsName ValueRule.Size t.subject
+Obeys strict t RouterSerialNumber = IsTrue strict → PermitsName ValueRule.SerialNumber t.subject
 Obeys strict t RsaKey = IsRpkiKey t.key
 Obeys strict t RouterKey = IsRouterKey t.key
 Obeys strict t BasicConstraints = HasExtension basic_constraints true SpellsConstraints t.extensions (Some tt)
@@ -88,9 +94,12 @@ abbrev pub rule_text : CertRule → List ℕ
 rule_text SerialNumber = codes "RFC 5280 4.1.2.2: serial number is 0"
 rule_text CriticalExtensions = codes "RFC 5280 4.2: unknown critical extension"
 rule_text Issuer = codes "RFC 6487 4.4: issuer has no name of the RPKI"
+rule_text IssuerSize = codes "RFC 5280 A.1: value of the issuer is not of 1 to 64 characters"
 rule_text Validity = codes "RFC 5280 4.1.2.5: period ends before it begins"
 rule_text Subject = codes "RFC 6487 4.5: subject has no name of the RPKI"
 rule_text RouterSubject = codes "RFC 8209 3.1.1: subject has no name of a router"
+rule_text SubjectSize = codes "RFC 5280 A.1: value of the subject is not of 1 to 64 characters"
+rule_text RouterSerialNumber = codes "RFC 8209 3.1.1: serial number of the subject is no PrintableString"
 rule_text RsaKey = codes "RFC 7935 3: key is no RSA key of 2048 bits and the exponent 65537"
 rule_text RouterKey = codes "RFC 8608 3.1: key is no uncompressed point on P-256"
 rule_text BasicConstraints = codes "RFC 6487 4.8.1: missing basic constraints"

@@ -9,6 +9,7 @@ use Rattle.rpki.specs.NameRule.{BreaksRpkiRule, BreaksRouterRule, rpki_text, rou
 use Rattle.rpki.specs.ExtensionValue.{ExtensionParts}
 use Rattle.rpki_cert.specs.declared.profile.rule.CertRule.{CertRule}
 use Rattle.rpki_cert.specs.declared.profile.rule.CertRule.TheVariants.{SerialNumber, CriticalExtensions, Issuer}
+use Rattle.rpki_cert.specs.declared.profile.rule.CertRule.TheVariants.{IssuerSize, SubjectSize, RouterSerialNumber}
 use Rattle.rpki_cert.specs.declared.profile.rule.CertRule.TheVariants.{Validity}
 use Rattle.rpki_cert.specs.declared.profile.rule.CertRule.TheVariants.{Subject, RouterSubject, RsaKey, RouterKey}
 use Rattle.rpki_cert.specs.declared.profile.rule.CertRule.TheVariants.{BasicConstraints, NoBasicConstraints}
@@ -84,9 +85,12 @@ abbrev pub IsRuleError : TbsParts → CertRule → ValidationError → Type 0
 IsRuleError t SerialNumber = SaysRule SerialNumber
 IsRuleError t CriticalExtensions = SaysRule CriticalExtensions
 IsRuleError t Issuer = SaysName BreaksRpkiRule rpki_text t.issuer
+IsRuleError t IssuerSize = SaysRule IssuerSize
 IsRuleError t Validity = SaysRule Validity
 IsRuleError t Subject = SaysName BreaksRpkiRule rpki_text t.subject
 IsRuleError t RouterSubject = SaysName BreaksRouterRule router_text t.subject
+IsRuleError t SubjectSize = SaysRule SubjectSize
+IsRuleError t RouterSerialNumber = SaysRule RouterSerialNumber
 IsRuleError t RsaKey = SaysRule RsaKey
 IsRuleError t RouterKey = SaysRule RouterKey
 IsRuleError t BasicConstraints = SaysFound true SpellsConstraints (WholeFault constraints_content)

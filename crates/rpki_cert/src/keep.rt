@@ -12,13 +12,17 @@ use crate::extension::table::ExtensionTable;
 use crate::read::fields::Keyed;
 use rpki::crypto::PublicKey;
 use rpki::der::{Constructed, DecodeError, Keep, Section};
-use rpki::repository::x509::{CertExtension, Name, NameView};
+use rpki::repository::x509::{ExtensionOctets, NameOctets, NameView};
 use std::alloc::AllocError;
 
 /// Keeps the name that is a section of the octets.
 ///
 /// Returns `AllocError` if allocation fails.
-pub fn keep_name<K: Keep>(keep: K, octets: &[u8], section: Section<'_>) -> Result<Name, AllocError>
+pub fn keep_name<K: Keep>(
+    keep: K,
+    octets: &[u8],
+    section: Section<'_>,
+) -> Result<NameOctets, AllocError>
     requires held { K.holds keep octets.now }
     requires stands { IsSectionOf octets.now section.octets.now section.following }
     requires named { IsName section.octets.now }
@@ -50,7 +54,7 @@ pub fn keep_key<K: Keep>(keep: K, octets: &[u8], keyed: &Keyed<'_>) -> Result<Pu
 pub fn keep_extensions<K: Keep>(
     keep: K,
     table: &ExtensionTable<'_>,
-) -> Result<Vec<CertExtension>, DecodeError>
+) -> Result<Vec<ExtensionOctets>, DecodeError>
     requires held { K.holds keep table.now }
     requires listed { (xs : List ExtensionParts) × SpellsEach SpellsExtension xs table.now }
     ensures ok { IfOk result (λ all. OfListed table.now (λ xs. all.items ≡ xs)) }

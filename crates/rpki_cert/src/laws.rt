@@ -1,7 +1,6 @@
 //! Laws of the definitions.
 
 ghost use Rattle.std.specs.Prelude.{◌≡◌, ◌↔◌, IsTrue};
-ghost use Rattle.jiff.specs.Types.{DateTime};
 ghost use Rattle.rpki_cert.specs.declared.extension.key_usage.KeyUsage.{KeyUsage as Usage};
 ghost use Rattle.rpki_cert.specs.declared.extension.kind.ExtensionKind.{ExtensionKind as KindOfExtension};
 ghost use Rattle.rpki_cert.specs.declared.extension.known_part.KnownPart.{KnownPart as WrongExtension};
@@ -10,7 +9,6 @@ ghost use Rattle.rpki_cert.specs.declared.profile.Profile.{Profile as HeldProfil
 ghost use Rattle.rpki_cert.specs.declared.profile.rule.CertRule.{CertRule as BrokenRule};
 ghost use Rattle.rpki_cert.specs.declared.read.cert_error.CertError.{CertError as WrongCert};
 ghost use Rattle.rpki_cert.specs.declared.read.cert_part.CertPart.{CertPart as WrongPart};
-ghost use Rattle.rpki_cert.specs.Verified.{Checkers, Holder, DescendsFrom, HoldsWithin};
 
 use crate::extension::key_usage::KeyUsage;
 use crate::extension::kind::ExtensionKind;
@@ -21,11 +19,6 @@ use crate::profile::rule::CertRule;
 use crate::read::cert_error::CertError;
 use crate::read::cert_part::CertPart;
 use rpki::der::DecodeError;
-
-/// Down a path nobody has more than an authority above: what a certificate has is within what each above it has.
-pub fn paths_settle_within()
-    ensures { (by : Checkers) (at : DateTime) (top x : Holder) → DescendsFrom by at top x → HoldsWithin x top }
-{}
 
 /// What extensions say, and their kinds, are equal exactly where they are one.
 pub fn equal_extensions_are_one()

@@ -1,8 +1,6 @@
 //! Resource certificates (RFC 5280 4.1, in the profiles of RFC 6487 and RFC 8209).
 //!
-//! `Cert::decode` reads one, and `tbs()` of it says what the extensions are. `inspect` holds it to a [Profile];
-//! `verify_ta` and `verify_ca` make a [ResourceCert], which has the resources that its path gives it, and which issues
-//! what is verified.
+//! `Cert::decode` reads one, and `tbs()` of it says what the extensions are. `inspect` holds it to a [Profile].
 #![tactic(auto)]
 
 mod cert;
@@ -15,8 +13,6 @@ mod read;
 mod resource;
 mod signed;
 mod tbs;
-mod verified;
-mod verify;
 
 pub use cert::Cert;
 pub use extension::access_description::{AccessDescription, point_names};
@@ -34,7 +30,5 @@ pub use read::cert_error::CertError;
 pub use read::cert_part::CertPart;
 pub use read::fields::{Keyed, Named, TbsView};
 pub use read::view::{CertView, Parts};
-pub use resource::set::ResourceSet;
 pub use signed::SignedOctets;
 pub use tbs::TbsCert;
-pub use verified::ResourceCert;

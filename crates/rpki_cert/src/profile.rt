@@ -14,6 +14,7 @@ pub mod below;
 pub mod checks;
 pub mod inspected;
 pub mod key_rule;
+pub mod name_values;
 pub mod rule;
 
 use crate::extension::known_part::KnownPart;
@@ -45,6 +46,7 @@ const TA: &[CertRule] = &[
     CertRule::SerialNumber,
     CertRule::CriticalExtensions,
     CertRule::Issuer,
+    CertRule::IssuerSize,
     CertRule::Validity,
     CertRule::SubjectKeyIdentifier,
     CertRule::CertificatePolicies,
@@ -52,6 +54,7 @@ const TA: &[CertRule] = &[
     CertRule::ResourceVersion,
     CertRule::ResourceBlocks,
     CertRule::Subject,
+    CertRule::SubjectSize,
     CertRule::RsaKey,
     CertRule::NoExtendedKeyUsage,
     CertRule::BasicConstraints,
@@ -72,6 +75,7 @@ const CA: &[CertRule] = &[
     CertRule::SerialNumber,
     CertRule::CriticalExtensions,
     CertRule::Issuer,
+    CertRule::IssuerSize,
     CertRule::Validity,
     CertRule::SubjectKeyIdentifier,
     CertRule::CertificatePolicies,
@@ -79,6 +83,7 @@ const CA: &[CertRule] = &[
     CertRule::ResourceVersion,
     CertRule::ResourceBlocks,
     CertRule::Subject,
+    CertRule::SubjectSize,
     CertRule::RsaKey,
     CertRule::NoExtendedKeyUsage,
     CertRule::BasicConstraints,
@@ -97,6 +102,7 @@ const EE: &[CertRule] = &[
     CertRule::SerialNumber,
     CertRule::CriticalExtensions,
     CertRule::Issuer,
+    CertRule::IssuerSize,
     CertRule::Validity,
     CertRule::SubjectKeyIdentifier,
     CertRule::CertificatePolicies,
@@ -104,6 +110,7 @@ const EE: &[CertRule] = &[
     CertRule::ResourceVersion,
     CertRule::ResourceBlocks,
     CertRule::Subject,
+    CertRule::SubjectSize,
     CertRule::RsaKey,
     CertRule::NoExtendedKeyUsage,
     CertRule::NoBasicConstraints,
@@ -121,6 +128,7 @@ const DETACHED_EE: &[CertRule] = &[
     CertRule::SerialNumber,
     CertRule::CriticalExtensions,
     CertRule::Issuer,
+    CertRule::IssuerSize,
     CertRule::Validity,
     CertRule::SubjectKeyIdentifier,
     CertRule::CertificatePolicies,
@@ -128,6 +136,7 @@ const DETACHED_EE: &[CertRule] = &[
     CertRule::ResourceVersion,
     CertRule::ResourceBlocks,
     CertRule::Subject,
+    CertRule::SubjectSize,
     CertRule::RsaKey,
     CertRule::NoExtendedKeyUsage,
     CertRule::NoBasicConstraints,
@@ -143,6 +152,7 @@ const ROUTER: &[CertRule] = &[
     CertRule::SerialNumber,
     CertRule::CriticalExtensions,
     CertRule::Issuer,
+    CertRule::IssuerSize,
     CertRule::Validity,
     CertRule::SubjectKeyIdentifier,
     CertRule::CertificatePolicies,
@@ -150,6 +160,8 @@ const ROUTER: &[CertRule] = &[
     CertRule::ResourceVersion,
     CertRule::ResourceBlocks,
     CertRule::RouterSubject,
+    CertRule::SubjectSize,
+    CertRule::RouterSerialNumber,
     CertRule::RouterKey,
     CertRule::NoBasicConstraints,
     CertRule::EndUsage,

@@ -1,13 +1,12 @@
 //! Signed data of the RPKI, kept as octets (RFC 5280 4.1, 5.1).
 
-ghost use Rattle.std.specs.Prelude.{◌≡◌, ◌↔◌, IfOk, IsOk};
+ghost use Rattle.std.specs.Prelude.{◌≡◌, IfOk};
 ghost use Rattle.rpki_der.specs.Prelude.{IsValue};
 ghost use Rattle.rpki.specs.Signature.{signature_of};
 ghost use Rattle.rpki.specs.SignedData.{parts_of};
-ghost use Rattle.rpki_cert.specs.Valid.{IsSignedBy};
 
 use bytes::Bytes;
-use rpki::crypto::{Provider, PublicKey, RpkiSignature, SignatureVerificationError};
+use rpki::crypto::RpkiSignature;
 use rpki::der::{Constructed, Shared};
 use rpki::repository::x509::SignedData;
 use std::alloc::{AllocError, Global};
@@ -68,18 +67,5 @@ impl SignedOctets {
             Ok(captured) => Ok(SignedData::new(captured, signature)),
             Err(_) => Err(AllocError),
         }
-    }
-
-    /// Checks that the signature is by this key over exactly the signed octets, as the provider says.
-    ///
-    /// Returns an error if the key is none of RSA, or if the provider says no.
-    pub fn verify_signature<P: Provider>(
-        &self,
-        provider: &P,
-        key: &PublicKey,
-    ) -> Result<(), SignatureVerificationError>
-        ensures { IsOk result ↔ IsSignedBy (P.rsa_of provider.now) (P.ecdsa_of provider.now) key.now self.now }
-    {
-        key.verify(provider, self.signed.as_slice(), &self.signature)
     }
 }

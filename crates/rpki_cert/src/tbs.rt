@@ -13,7 +13,7 @@ use crate::read::cert_part::CertPart;
 use crate::read::fields::{TbsView, read_fields};
 use rpki::crypto::{PublicKey, RpkiSignatureAlgorithm};
 use rpki::der::{Constructed, DecodeError, Keep, Section};
-use rpki::repository::x509::{CertExtension, Name, Serial, Validity};
+use rpki::repository::x509::{ExtensionOctets, NameOctets, Serial, Validity};
 use std::marker::Model;
 
 /// The signed part of a certificate: TBSCertificate of the version v3 (RFC 5280 4.1, RFC 6487 4).
@@ -21,11 +21,11 @@ use std::marker::Model;
 pub struct TbsCert {
     serial_number: Serial,
     signature: RpkiSignatureAlgorithm,
-    issuer: Name,
+    issuer: NameOctets,
     validity: Validity,
-    subject: Name,
+    subject: NameOctets,
     subject_public_key_info: PublicKey,
-    extensions: Vec<CertExtension>,
+    extensions: Vec<ExtensionOctets>,
 }
 
 impl Model for TbsCert {
@@ -130,7 +130,7 @@ impl TbsCert {
     }
 
     /// The issuer (RFC 5280 4.1.2.4).
-    pub fn issuer(&self) -> &Name
+    pub fn issuer(&self) -> &NameOctets
         ensures { result.now ≡ self.now.issuer }
     {
         &self.issuer
@@ -144,7 +144,7 @@ impl TbsCert {
     }
 
     /// The subject (RFC 5280 4.1.2.6).
-    pub fn subject(&self) -> &Name
+    pub fn subject(&self) -> &NameOctets
         ensures { result.now ≡ self.now.subject }
     {
         &self.subject
@@ -158,7 +158,7 @@ impl TbsCert {
     }
 
     /// The extensions, in order: one at least, and each identifier once (RFC 5280 4.2).
-    pub fn extensions(&self) -> &[CertExtension]
+    pub fn extensions(&self) -> &[ExtensionOctets]
         ensures { result.now ≡ self.now.extensions }
     {
         self.extensions.as_slice()

@@ -2,17 +2,11 @@
 //! and changed in a few octets where a rule is broken.
 #![tactic(auto)]
 
-#[cfg(test)]
-mod certificates;
-#[cfg(test)]
-mod changed;
-#[cfg(test)]
-mod hexadecimal;
-#[cfg(test)]
-mod paths;
+pub mod certificates;
+pub mod changed;
+pub mod hexadecimal;
 #[cfg(test)]
 mod profiles;
-#[cfg(test)]
-mod provider;
+pub mod provider;
 #[cfg(test)]
 mod reading;

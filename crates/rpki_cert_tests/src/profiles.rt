@@ -7,8 +7,8 @@ use rpki_cert::{Cert, CertRule, CertView, CheckError, Profile};
 use std::alloc::{AllocError, Global};
 use std::test::Fail;
 
-/// A name; a certificate, octets in it and those in their place; a profile, and whether names are held to it; and the
-/// rule that is broken first.
+/// A name; a certificate, octets in it and those in their place; a profile, and whether names are checked against it;
+/// and the rule that is broken first.
 type Row = (
     &'static str,
     &'static str,
@@ -450,7 +450,7 @@ fn each_profile_begins_alike(rt: HostRuntime) -> Result<(), Fail> {
     for profile in profiles() {
         let rules = profile.rules();
         assert_eq!(rt; rules[0], CertRule::SerialNumber, "{profile:?}");
-        assert_eq!(rt; rules[8], CertRule::ResourceBlocks, "{profile:?}");
+        assert_eq!(rt; rules[9], CertRule::ResourceBlocks, "{profile:?}");
     }
     Ok(())
 }

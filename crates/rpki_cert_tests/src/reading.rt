@@ -80,7 +80,7 @@ fn certificates_are_read(rt: HostRuntime) -> Result<(), Fail> {
     Ok(())
 }
 
-/// A name, octets of the authority and those in their place, how reading it ends, and the part that is wrong.
+/// A name, octets of the authority and those in their place, how reading it ends, and the malformed part.
 type Wrong = (&'static str, &'static str, &'static str, Outcome, CertPart);
 
 const WRONG: &[Wrong] = &[
@@ -167,7 +167,7 @@ fn wrong() -> &'static [Wrong] {
     WRONG
 }
 
-/// How reading ends, and the part that is wrong.
+/// How reading ends, and the malformed part.
 fn told<T: Drop>(answer: Result<T, CertError>) -> (Outcome, Option<CertPart>) {
     match answer {
         Ok(_) => (Outcome::Read, None),

@@ -1,6 +1,6 @@
 //! The files that a manifest lists.
 
-ghost use Rattle.std.specs.Prelude.{◌≡◌, ◌↔◌, IsTrue};
+ghost use Rattle.std.specs.Prelude.{◌≡◌, IsTrue};
 ghost use Rattle.rpki_der.specs.Prelude.{left, Takes, TakesAll};
 ghost use Rattle.rpki_contents.specs.FileName.{is_file_name};
 ghost use Rattle.rpki_contents.specs.ListedFile.{kept_name, kept_parts, kept_file};
@@ -8,7 +8,6 @@ ghost use Rattle.rpki_contents.specs.ListedFile.{kept_name, kept_parts, kept_fil
 use crate::file_name::is_file_name;
 use crate::message_digest::MessageDigest;
 use bytes::Bytes;
-use rpki::crypto::Provider;
 use rpki::der::{Constructed, DecodeError, Keep, Tag};
 use std::marker::Model;
 
@@ -68,14 +67,6 @@ impl FileAndHash {
         ensures { result ≡ self.now.1 }
     {
         self.hash
-    }
-
-    /// Whether these are the octets of the file: whether their digest, computed by the provider, is that of the
-    /// manifest (RFC 9286 6.5).
-    pub fn verify<P: Provider>(&self, provider: &P, octets: &[u8]) -> bool
-        ensures { IsTrue result ↔ (P.sha256_of provider.now octets.now ≡ self.now.1) }
-    {
-        MessageDigest::of(provider, octets) == self.hash
     }
 
     /// Reads a file: a SEQUENCE of its name and its digest, and nothing else. An allocator copies the name, and

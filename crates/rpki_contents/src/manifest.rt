@@ -1,19 +1,18 @@
 //! The content of a manifest: the files that an authority publishes (RFC 9286 4.2).
 
-ghost use Rattle.std.specs.Prelude.{◌≡◌, ◌↔◌, ◌<ℤ◌, IsTrue, IsOk, IsErrOf, length, []};
+ghost use Rattle.std.specs.Prelude.{◌≡◌, ◌↔◌, ◌<ℤ◌, IsTrue, length, []};
 ghost use Rattle.std.specs.List.{find};
 ghost use Rattle.jiff.specs.Words.{civil_nanos};
 ghost use Rattle.rpki_der.specs.Prelude.{left, Takes, TakesWhole, CanShare, optional_of};
-ghost use Rattle.rpki_time.specs.Validity.{HoldsAt};
 ghost use Rattle.rpki_contents.specs.ListedFile.{AreDistinct, is_named};
-ghost use Rattle.rpki_contents.specs.Manifest.{manifest, AreInOrder, ChecksFields, period_of};
+ghost use Rattle.rpki_contents.specs.Manifest.{manifest, AreInOrder, ChecksFields};
 
 use crate::file_and_hash::FileAndHash;
 use crate::manifest_fields::ManifestFields;
 use crate::names::are_distinct;
 use bytes::Bytes;
 use rpki::der::{Constructed, DecodeError, Keep, Shared};
-use rpki::repository::x509::{Serial, Time, Validity, ValidityPeriodError};
+use rpki::repository::x509::{Serial, Time};
 use std::alloc::Global;
 use std::marker::Model;
 
@@ -173,16 +172,5 @@ impl ManifestContent {
         ensures { IsTrue result ↔ (civil_nanos self.now.next_update <ℤ civil_nanos at) }
     {
         self.next_update < at
-    }
-
-    /// Tests that the moment is within this update and the next, both included (RFC 9286 6.3).
-    ///
-    /// Returns `TooNew` if the manifest was issued after the moment; else `TooOld` if it is stale.
-    pub fn verify_time(&self, at: Time) -> Result<(), ValidityPeriodError>
-        ensures ok { IsOk result ↔ HoldsAt (period_of self.now) at }
-        ensures too_new { IsErrOf result ValidityPeriodError.TooNew
-            ↔ (civil_nanos at <ℤ civil_nanos self.now.this_update) }
-    {
-        Validity::new(self.this_update, self.next_update).verify_at(at)
     }
 }

@@ -223,7 +223,7 @@ fn customers_within_resources(rt: HostRuntime) -> Result<(), Fail> {
     Ok(())
 }
 
-/// A name, the octets, and the part that is wrong.
+/// A name, the octets, and the malformed part.
 const PARTS: &[(&str, &str, AspaPart)] = &[
     ("no SEQUENCE", "0500", AspaPart::Attestation),
     (

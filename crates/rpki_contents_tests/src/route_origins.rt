@@ -177,7 +177,7 @@ fn prefixes_as_they_are_kept(rt: HostRuntime) -> Result<(), Fail> {
     Ok(())
 }
 
-/// A name, the octets, and the part that is wrong strictly.
+/// A name, the octets, and the malformed part strictly.
 const PARTS: &[(&str, &str, RoaPart)] = &[
     ("no octets", "", RoaPart::Attestation),
     (

@@ -4,7 +4,7 @@ use Rattle.std.proofs.Common.{refl, sym, ap, subst, ◌∙◌, arith, length-app
 use Rattle.std.specs.Prelude.{slice_range}
 use Rattle.std.proofs.Math.Seq.{drop-append-add}
 use Rattle.std.proofs.lemmas.List.{append_assoc, append-nil, drop-append-le, take-append-drop, take-append-le, take_all}
-use Rattle.std.proofs.lemmas.List.{take_rest, length-drop}
+use Rattle.std.proofs.lemmas.List.{take_rest, length-drop, length-take, drop-drop}
 use Rattle.rpki_der.specs.Header.{identifier_octets, length_octets}
 use Rattle.rpki_der.specs.declared.error.DecodeError.{DecodeError}
 use Rattle.rpki_der.specs.Reading.{Spells, Accepts, ReadsWhere}
@@ -37,6 +37,25 @@ all-stands source end s h =
     let whole : slice_range s 0 (length s) ≡ s = take_rest s 0 in
     let part = part-stands source end s h i 0 (length s) refl (omega arith) (omega arith) in
     rw (← last) at (rw start at (part ∙ whole))
+
+-- octets that are a part of the source stand there
+pub part-is-there : (source : List ℕ) (end : ℕ) (s : List ℕ) → length s ≤ end → end ≤ length source
+    → slice_range source (end - length s) end ≡ s → StandsIn source end s
+part-is-there source end s fits within is =
+    let start = end - length s in
+    let rest = drop start source in
+    let size : end - start ≡ length s = omega arith in
+    let last : start + length s ≡ end = omega arith in
+    let part : take (length s) rest ≡ s = rw size at is in
+    let after : drop (length s) rest ≡ drop end source = rw last at (drop-drop (length s) start source) in
+    record {
+      before = take start source;
+      after = drop end source;
+      parts = sym (take-append-drop start source) ∙ ap (λ (x : List ℕ). take start source ++ x)
+          (sym (take-append-drop (length s) rest) ∙ ap (λ (x : List ℕ). x ++ drop (length s) rest) part
+          ∙ ap (λ (x : List ℕ). s ++ x) after);
+      ends = omega (arith, length-take start source);
+    }
 
 -- a part that others follow ends as many octets before
 pub part-before : (source : List ℕ) (end : ℕ) (s part rest : List ℕ) → StandsIn source end s → StandsBefore s part rest

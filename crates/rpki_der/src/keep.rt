@@ -1,6 +1,6 @@
 //! How a reader keeps octets: as a copy, or shared.
 
-ghost use Rattle.std.specs.Prelude.{◌≡◌, ◌≤◌, ◌++◌, ℕ, List, length, IfOk, slice_range};
+ghost use Rattle.std.specs.Prelude.{◌≡◌, ◌≤◌, ◌++◌, ◌↔◌, ℕ, List, length, IsTrue, IfOk, slice_range};
 ghost use Rattle.rpki_der.specs.Standing.{StandsBefore};
 
 use bytes::Bytes;
@@ -14,6 +14,11 @@ pub trait Keep: Copy {
 
     /// The allocator, for all else that a reader allocates.
     fn allocator(&self) -> Global;
+
+    /// Whether it can keep parts of the octets: what readers require of it. [Shared] compares them with those that it
+    /// shares. Allocates nothing.
+    fn can_keep(&self, octets: &[u8]) -> bool
+        ensures { IsTrue result ↔ holds self.now octets.now };
 
     /// Keeps the part of the octets from the place `start` to before the place `end`, counted from 0.
     ///
@@ -44,6 +49,10 @@ impl Keep for Global {
 
     fn allocator(&self) -> Global {
         *self
+    }
+
+    fn can_keep(&self, _octets: &[u8]) -> bool {
+        true
     }
 
     fn keep(&self, octets: &[u8], start: usize, end: usize) -> Result<Bytes, AllocError> {
@@ -89,6 +98,14 @@ impl<'a> Keep for Shared<'a> {
 
     fn allocator(&self) -> Global {
         self.alloc
+    }
+
+    fn can_keep(&self, octets: &[u8]) -> bool {
+        let all = self.bytes.as_slice();
+        if octets.len() > self.end || self.end > all.len() {
+            return false;
+        }
+        &all[self.end - octets.len()..self.end] == octets
     }
 
     fn keep(&self, octets: &[u8], start: usize, end: usize) -> Result<Bytes, AllocError> {

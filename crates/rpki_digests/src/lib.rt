@@ -1,42 +1,12 @@
-//! The digests of the crates `sha1` and `sha2`, as a provider of the crate `rpki`.
+//! Providers of the crate `rpki` by the libraries `sha1`, `sha2` and `rpki_rsa`: what is verified by one is proved down
+//! to the definitions of the digests and of the signatures.
 //!
-//! A provider with signatures of its own calls [Digests] for its digests.
+//! [RsaProvider] verifies what certificates and signed objects are signed with. A provider with signatures of its own
+//! calls [Digests] for its digests.
 #![tactic(auto)]
 
-use rpki::crypto::Provider;
-use sha1::Sha1;
-use sha2::{Digest, Sha256};
+mod digests;
+mod rsa_provider;
 
-/// A provider that computes digests by SHA-1 and SHA-256 (FIPS 180-4), and finds no signature good.
-#[derive(Clone, Copy, Debug)]
-pub struct Digests;
-
-impl Provider for Digests {
-    ghost use Rattle.std.specs.Prelude.{false};
-    ghost use Rattle.sha1.specs.Sha1.{sha1};
-    ghost use Rattle.sha2.specs.Sha256.{sha256};
-
-    ghost sha1_of = { λ _ octets. sha1 octets };
-
-    ghost sha256_of = { λ _ octets. sha256 octets };
-
-    ghost rsa_of = { λ _ _ _ _. false };
-
-    ghost ecdsa_of = { λ _ _ _ _. false };
-
-    fn sha1(&self, octets: &[u8]) -> [u8; 20] {
-        Sha1::digest(octets)
-    }
-
-    fn sha256(&self, octets: &[u8]) -> [u8; 32] {
-        Sha256::digest(octets)
-    }
-
-    fn rsa_check(&self, _bits: &[u8], _message: &[u8], _signature: &[u8]) -> bool {
-        false
-    }
-
-    fn ecdsa_check(&self, _bits: &[u8], _message: &[u8], _signature: &[u8]) -> bool {
-        false
-    }
-}
+pub use digests::Digests;
+pub use rsa_provider::RsaProvider;

@@ -44,6 +44,8 @@ impl SignatureAlgorithm for OwnAlgorithm {
 
     ghost format = { λ _. Rsa };
 
+    ghost fits = { λ _. Unit {0} };
+
     ghost spelled_value = { λ a s h. bare-value (136 ∷ 55 ∷ []) a s h };
 
     ghost spells_one = { λ a b s h k. refl };
@@ -53,8 +55,6 @@ impl SignatureAlgorithm for OwnAlgorithm {
     ghost norm_norm = { λ _. refl };
 
     ghost written_norm = { λ _. refl };
-
-    ghost norm_format = { λ _. refl };
 
     fn signing_algorithm(&self) -> SigningAlgorithm {
         SigningAlgorithm::RsaSha256

@@ -6,8 +6,8 @@ use rpki_digests::Digests;
 /// A provider whose digests are those of `rpki_digests`, and which takes one RSA signature for right.
 ///
 /// A provider with RSA of its own calls it in `rsa_check`, and `rsa_of` is the definition that this RSA is proved
-/// against: a function of the key's bits, the message and the signature. All that the layer proves of verification is
-/// said of that function.
+/// against: a relation of the key's bits, the message and the signature. All that the layer proves of verification is
+/// said of that relation. `RsaProvider` of `rpki_digests` is one whose RSA is proved.
 #[derive(Drop)]
 pub struct OneSignature {
     /// The bits of the key.
@@ -19,7 +19,7 @@ pub struct OneSignature {
 }
 
 impl Provider for OneSignature {
-    ghost use Rattle.std.specs.Prelude.{◌&&◌, bytes_eq, false};
+    ghost use Rattle.std.specs.Prelude.{◌&&◌, bytes_eq, IsTrue};
     ghost use Rattle.sha1.specs.Sha1.{sha1};
     ghost use Rattle.sha2.specs.Sha256.{sha256};
 
@@ -27,10 +27,10 @@ impl Provider for OneSignature {
 
     ghost sha256_of = { λ _ octets. sha256 octets };
 
-    ghost rsa_of = { λ p bits message signature. bytes_eq p.bits.now bits && bytes_eq p.message.now message
-        && bytes_eq p.signature.now signature };
+    ghost rsa_of = { λ p bits message signature. IsTrue (bytes_eq p.bits.now bits && bytes_eq p.message.now message
+        && bytes_eq p.signature.now signature) };
 
-    ghost ecdsa_of = { λ _ _ _ _. false };
+    ghost ecdsa_of = { λ _ _ _ _. ⊥ };
 
     fn sha1(&self, octets: &[u8]) -> [u8; 20] {
         Digests.sha1(octets)

@@ -1,11 +1,7 @@
 -- A certificate has one list of fields.
-use Rattle.std.proofs.Common.{◌≡◌, ℕ, Bool, true, false, List, ◌∷◌, length, refl, sym, ap, ◌∙◌, subst, inl, inr, arith}
+use Rattle.std.proofs.Common.{◌≡◌, ℕ, Bool, true, false, List, sym, ap, ◌∙◌, subst, inl, inr}
 use Rattle.std.specs.Prelude.{Option, Some, None, codes, decimal}
 use Rattle.std.specs.Option.{option_map}
-use Rattle.rpki_der.specs.Number.{number_of, low_octets}
-use Rattle.rpki_der.specs.NumberLaws.{low_octets-full}
-use Rattle.rpki_der.specs.Integer.{IsMagnitude}
-use Rattle.rpki_der.proofs.UnsignedLaws.{magnitude-at-most}
 use Rattle.rpki_time.specs.Validity.{Period}
 use Rattle.rpki.specs.declared.crypto.keys.PublicKeyFormat.{PublicKeyFormat}
 use Rattle.rpki.specs.declared.crypto.keys.PublicKeyFormat.TheVariants.{Rsa, EcdsaP256}
@@ -26,10 +22,12 @@ use Rattle.rpki_resources.specs.declared.choice_view.ChoiceView.TheVariants.{Mis
 use Rattle.rpki_resources.specs.declared.ip_view.IpResourcesView.{IpResourcesView}
 use Rattle.rpki_resources.specs.InPlace.{Octets}
 use Rattle.rpki_resources.specs.ListText.{blocks_text}
-use Rattle.rpki_fields.specs.Field.{FieldParts, field_parts}
+use Rattle.rpki_fields.specs.Field.{FieldParts}
 use Rattle.rpki_fields.specs.ValueText.{hex_digits, colon_digits, IsNumberText}
 use Rattle.rpki_fields.specs.NameText.{parts_text, IsNameText}
-use Rattle.rpki_fields.specs.KeySize.{number_bits, IsRsaSize, IsSizeOf}
+use Rattle.rpki.specs.KeySize.{number_bits}
+use Rattle.rpki.proofs.RsaPublicKeyLaws.{one-magnitude, one-numbers as numbers-of-bits}
+use Rattle.rpki_fields.specs.KeySize.{IsRsaSize, IsSizeOf}
 use Rattle.rpki_fields.specs.ResourceText.{IsListText, IsChoiceText, AreKind, AreFamilies, AreAsNumbers, AreAddresses}
 use Rattle.rpki_fields.specs.ResourceText.{AreNumbers, AreResources}
 use Rattle.rpki_fields.specs.CertText.{authority_text, usage_text, purposes_text, policy_text, AreHead, AreMiddle}
@@ -38,15 +36,6 @@ use Rattle.rpki_fields.specs.CertText.{AreKey, Says, SaysOnly, SaysUri, AreIdent
 use Rattle.rpki_fields.specs.CertText.{AreSubjectPlaces, AreFields}
 
 -- ---- values
-
--- a number has one magnitude
-one-magnitude : (a b : List ℕ) → IsMagnitude a → IsMagnitude b → number_of a ≡ number_of b → a ≡ b
-one-magnitude a b m k e =
-    let most = magnitude-at-most a b m k.each k.nonempty e in
-    let least = magnitude-at-most b a k m.each m.nonempty (sym e) in
-    let same : length a ≡ length b = omega arith in
-    sym (low_octets-full a (length b) same m.each) ∙ ap (λ (n : ℕ). low_octets (length b) n) e
-    ∙ low_octets-full b (length b) refl k.each
 
 pub one-number : (number : ℕ) (text other : List ℕ) → IsNumberText number text → IsNumberText number other
     → text ≡ other
@@ -57,9 +46,11 @@ one-name-text octets text other g h = g.2 ∙ ap parts_text (one-name octets g.0
 
 pub one-rsa-size : (bits text other : List ℕ) → IsRsaSize bits text → IsRsaSize bits other → text ≡ other
 one-rsa-size bits text other (inl g) (inl h) =
-    g.5 ∙ ap (λ (o : List ℕ). decimal (number_bits o)) (one-magnitude g.2 h.2 g.3 h.3 (g.4 ∙ sym h.4)) ∙ sym h.5
-one-rsa-size bits text other (inl g) (inr h) = absurd (h.0 g.0 g.1)
-one-rsa-size bits text other (inr g) (inl h) = absurd (g.0 h.0 h.1)
+    let same = numbers-of-bits bits _ _ g.spelled h.spelled in
+    let modulus = one-magnitude _ _ g.magnitude h.magnitude (ap (λ (n : ℕ × ℕ). n.0) same) in
+    g.size ∙ ap (λ (o : List ℕ). decimal (number_bits o)) modulus ∙ sym h.size
+one-rsa-size bits text other (inl g) (inr h) = absurd (h.0 _ g.spelled)
+one-rsa-size bits text other (inr g) (inl h) = absurd (g.0 _ h.spelled)
 one-rsa-size bits text other (inr g) (inr h) = g.1 ∙ sym h.1
 
 one-size-of : (format : PublicKeyFormat) (bits text other : List ℕ) → IsSizeOf format bits text

@@ -1,16 +1,16 @@
 -- Certificates of any algorithms, as they are read.
-use Rattle.std.proofs.Common.{◌≡◌, ◌≢◌, ℕ, false, List, [], refl, sym, ap, subst, arith, length}
-use Rattle.std.specs.Prelude.{Option, Some, None, Result, Ok, Err}
+use Rattle.std.proofs.Common.{◌≡◌, ◌≢◌, ℕ, false, List, [], refl, ap, subst, arith, length}
+use Rattle.std.specs.Prelude.{Option, Some, None, Ok, Err}
 use Rattle.rpki_der.specs.declared.error.DecodeError.{DecodeError}
 use Rattle.rpki_der.specs.Prelude.{TagName, Format, TakesAll, TakesWhere, HasTag, Spells, SpellsValue, SpellsNothing}
-use Rattle.rpki_der.specs.Prelude.{Accepts, Refusal, kept, octets_under, optional_then, only, end, UnlessMemory}
+use Rattle.rpki_der.specs.Prelude.{Accepts, Refusal, kept, octets_under, optional_then, only, end}
 use Rattle.rpki_der.proofs.FormatLaws.{Fails, Gives, Apart, last, all}
 use Rattle.rpki_der.proofs.ReadingLaws.{UnlessMemory-weaker}
 use Rattle.rpki_der.proofs.HeaderReadingLaws.{tag-empty}
 use Rattle.rpki_der.proofs.FrontLaws.{one-tag}
 use Rattle.rpki_der.proofs.LeavesLaws.{leaf-tag}
 use Rattle.rpki_der.proofs.MembersLaws.{value-some}
-use Rattle.rpki_fields.specs.OtherCert.{PerhapsSpells, if_any, any_octets, unique_id}
+use Rattle.rpki_fields.specs.OtherCert.{PerhapsSpells, if_any, unique_id}
 
 -- ---- what fills what is left, or nothing
 

@@ -1,15 +1,14 @@
 -- Certificates in the profile of the RPKI, and of other algorithms, as they are read one after the other.
-use Rattle.std.proofs.Common.{◌≡◌, ℕ, true, false, List, refl, sym, ap, subst, ◌∙◌, inl, inr}
+use Rattle.std.proofs.Common.{◌≡◌, ℕ, true, false, List, refl, sym, ap, ◌∙◌, inr}
 use Rattle.rpki_der.specs.declared.error.DecodeError.{DecodeError}
 use Rattle.rpki_der.specs.declared.error.DecodeError.TheVariants.{Truncated, BadTag, BadLength, Unexpected, Content}
 use Rattle.rpki_der.specs.declared.error.DecodeError.TheVariants.{Trailing}
 use Rattle.rpki_der.specs.declared.error.DecodeError.TheVariants as der
-use Rattle.rpki_der.specs.Reading.{SpellsNothing, UnlessMemory, IsWholeFault}
+use Rattle.rpki_der.specs.Reading.{SpellsNothing, UnlessMemory}
 use Rattle.rpki.specs.declared.repository.error.ValidationError.TheVariants.{Decoding}
 use Rattle.rpki_cert.specs.Cert.{SpellsCert}
 use Rattle.rpki_cert.specs.CertFault.{IsCertFault}
 use Rattle.rpki_cert.specs.Known.{is_memory}
-use Rattle.rpki_fields.specs.declared.object.Object.{Object}
 use Rattle.rpki_fields.specs.declared.object.Object.TheVariants.{OtherCertificate}
 use Rattle.rpki_fields.specs.OtherCert.{OtherCertParts, other_cert, cert_fields_of, has_other}
 use Rattle.rpki_fields.specs.Object.{SpellsOnly, IsUnspelled, NoOtherCert, IsCertificate, IsNoCertificate}

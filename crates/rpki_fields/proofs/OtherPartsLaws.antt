@@ -1,6 +1,6 @@
 -- The parts of a certificate that may be left out begin with different tags.
 use Rattle.std.proofs.Common.{◌≡◌, ℕ, List, true, ap, arith}
-use Rattle.rpki_der.specs.Prelude.{TagName, HasTag, Spells, only, end, kept, octets_under}
+use Rattle.rpki_der.specs.Prelude.{TagName, HasTag, Spells, only, end}
 use Rattle.rpki_der.proofs.FormatLaws.{Apart}
 use Rattle.rpki_der.proofs.LeavesLaws.{leaf-tag}
 use Rattle.rpki.specs.ExtensionValue.{ExtensionParts}

@@ -4,7 +4,7 @@ use Rattle.std.specs.Prelude.{Option, Some, bytes_eq}
 use Rattle.rpki.specs.Oids.{rsa_encryption}
 use Rattle.rpki_fields.specs.Field.{FieldParts}
 use Rattle.rpki_fields.specs.OtherCert.{OtherKeyParts, OtherCertParts}
-use Rattle.rpki_fields.specs.OtherText.{IsSizeBy, IsOtherSize, AreOtherKey, AreOtherHead, AreOtherFields}
+use Rattle.rpki_fields.specs.OtherText.{IsSizeBy, AreOtherKey, AreOtherHead, AreOtherFields}
 use Rattle.rpki_fields.proofs.OneTextLaws.{one-name-text, one-rsa-size, one-middle}
 
 one-size-by : (rsa : Bool) (k : OtherKeyParts) (o p : Option (List ℕ)) → IsSizeBy rsa k o → IsSizeBy rsa k p → o ≡ p

@@ -1,6 +1,6 @@
 -- Which kind of object octets are, by what stands at their front. Whether they are such an object is for its grammar to
 -- say.
-use Rattle.std.specs.Prelude.{ℕ, nat_lt, nat_eq, ◌-◌, ◌&&◌, Bool, if◌then◌else◌, List, [], ◌∷◌, drop, codes}
+use Rattle.std.specs.Prelude.{ℕ, nat_lt, nat_eq, ◌-◌, Bool, if◌then◌else◌, List, [], ◌∷◌, drop, codes}
 use Rattle.std.specs.List.{starts_with}
 use Rattle.rpki_fields.specs.declared.kind.Kind.{Kind}
 use Rattle.rpki_fields.specs.declared.kind.Kind.TheVariants.{Certificate, RevocationList, FileList, RouteOrigins}

@@ -1,7 +1,7 @@
 -- What is shown of a certificate of any algorithms: the fields of a certificate, and that the RPKI doesn't use its
 -- algorithms.
 use Rattle.std.specs.Prelude.{◌≡◌, ℕ, Bool, true, false, nat_lt, nat_eq, if◌then◌else◌, List, [], ◌∷◌, ◌++◌, map, codes}
-use Rattle.std.specs.Prelude.{bytes_eq, slice_index, Option, Some, None}
+use Rattle.std.specs.Prelude.{bytes_eq, Option, Some, None}
 use Rattle.sha1.specs.Sha1.{sha1}
 use Rattle.rpki.specs.Oids.{rsa_encryption, ec_public_key}
 use Rattle.rpki_fields.specs.Field.{FieldParts, field_parts, field_if}
@@ -10,7 +10,7 @@ use Rattle.rpki_fields.specs.ValueText.{hex_digits, colon_digits}
 use Rattle.rpki_fields.specs.NameText.{IsNameText}
 use Rattle.rpki_fields.specs.KeySize.{IsRsaSize}
 use Rattle.rpki_fields.specs.CertText.{AreMiddle, extension_field, fingerprint_text}
-use Rattle.rpki_fields.specs.OtherCert.{AlgorithmParts, OtherKeyParts, OtherTbsParts, OtherCertParts, extensions_of}
+use Rattle.rpki_fields.specs.OtherCert.{AlgorithmParts, OtherKeyParts, OtherCertParts, extensions_of}
 use Rattle.rpki_fields.specs.OtherCert.{has_octets, prime256v1, signs_rpki}
 
 -- ---- names of algorithms, by their object identifiers

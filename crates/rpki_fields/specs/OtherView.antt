@@ -1,6 +1,5 @@
 -- What clauses see of parts of certificates of any algorithms that the library holds.
-use Rattle.std.specs.Prelude.{ℕ, List, Option, Some, None, Vec, Result}
-use Rattle.rpki.specs.ExtensionValue.{ExtensionParts}
+use Rattle.std.specs.Prelude.{ℕ, List, Option}
 
 -- octets that are there
 abbrev pub octets_if : Option (List ℕ) → Option (List ℕ)

@@ -1,15 +1,11 @@
 -- Which part of octets is wrong that are no object of their kind: the leftmost, as readers in place tell it; none where
 -- these read all parts, so that what is wrong is seen of several together, or of a part that they don't look into.
 use Rattle.std.specs.Prelude.{◌≡◌, ◌⊎◌, ℕ, false, List, Option, Some, None}
-use Rattle.rpki_cert.specs.declared.read.cert_part.CertPart.{CertPart}
 use Rattle.rpki_cert.specs.declared.read.view.CertView.{CertView}
 use Rattle.rpki_cert.specs.Cert.{CertParts}
 use Rattle.rpki_cert.specs.View.{IsCertAt, IsCertWrong}
-use Rattle.rpki_contents.specs.declared.manifest_part.ManifestPart.{ManifestPart}
 use Rattle.rpki_contents.specs.declared.manifest_view.ManifestView.{ManifestView}
-use Rattle.rpki_contents.specs.declared.roa_view.RoaPart.{RoaPart}
 use Rattle.rpki_contents.specs.declared.roa_view.RoaView.{RoaView}
-use Rattle.rpki_contents.specs.declared.aspa_view.AspaPart.{AspaPart}
 use Rattle.rpki_contents.specs.declared.aspa_view.AspaView.{AspaView}
 use Rattle.rpki_contents.specs.Aspa.{AspaParts}
 use Rattle.rpki_contents.specs.AspaView.{IsAspaAt, IsAspaWrong}
@@ -17,7 +13,6 @@ use Rattle.rpki_contents.specs.ListedFile.{ListedFile}
 use Rattle.rpki_contents.specs.ManifestView.{IsManifestAt, IsManifestWrong}
 use Rattle.rpki_contents.specs.Roa.{AttestationParts}
 use Rattle.rpki_contents.specs.RoaView.{IsRoaAt, IsRoaWrong}
-use Rattle.rpki_objects.specs.declared.crl_part.CrlPart.{CrlPart}
 use Rattle.rpki_objects.specs.declared.crl_view.CrlView.{CrlView}
 use Rattle.rpki_objects.specs.declared.object_part.ObjectPart.{ObjectPart}
 use Rattle.rpki_objects.specs.declared.signed_object_view.SignedObjectView.{SignedObjectView}

@@ -134,7 +134,7 @@ fn size_if(alloc: Global, key: &OtherKey) -> Result<Option<Vec<u8>>, AllocError>
 {
     if key.algorithm().is_rsa() {
         let bits = key.bits();
-        let size = rsa_size(alloc, bits.octet_slice(), bits.octet_bytes()?)?;
+        let size = rsa_size(alloc, bits.octet_slice())?;
         return Ok(Some(size));
     }
     size_by_curve(alloc, key.algorithm())

@@ -15,7 +15,7 @@ use crate::value::{colon_digits, serial_text, time_text};
 use rpki::crypto::{PublicKey, PublicKeyFormat};
 use rpki::der::Oid;
 use rpki::oid;
-use rpki::repository::x509::{CertExtension, Name, Validity};
+use rpki::repository::x509::{ExtensionOctets, NameOctets, Validity};
 use rpki_cert::TbsCert;
 use sha1::Sha1;
 use sha2::{Digest, Sha256};
@@ -40,7 +40,11 @@ fn head(alloc: Global, tbs: &TbsCert) -> Result<Vec<Field>, AllocError>
 }
 
 /// The period and the subject.
-pub fn middle(alloc: Global, validity: Validity, subject: &Name) -> Result<Vec<Field>, AllocError>
+pub fn middle(
+    alloc: Global,
+    validity: Validity,
+    subject: &NameOctets,
+) -> Result<Vec<Field>, AllocError>
     ensures { IfOk result (λ fields. AreMiddle validity subject.now fields.items) }
 {
     let subject = name_text(alloc, subject)?;
@@ -149,7 +153,7 @@ fn critical_text(critical: bool) -> &'static [u8]
 fn push_extension(
     alloc: Global,
     fields: &mut Vec<Field>,
-    extension: &CertExtension,
+    extension: &ExtensionOctets,
 ) -> Result<(), AllocError>
     ensures { OnOk result (fields.new.items ≡ fields.old.items ++ extension_field extension.now ∷ []) }
 {
@@ -163,7 +167,7 @@ fn push_extension(
 }
 
 /// A field for each extension.
-pub fn extensions(alloc: Global, all: &[CertExtension]) -> Result<Vec<Field>, AllocError>
+pub fn extensions(alloc: Global, all: &[ExtensionOctets]) -> Result<Vec<Field>, AllocError>
     ensures { IfOk result (λ fields. fields.items ≡ map extension_field all.now) }
 {
     let mut fields = Vec::new(alloc);

@@ -9,7 +9,7 @@ ghost use Rattle.rpki_fields.specs.NameText.{value_text, mark_text, marked_text,
 
 use crate::identifier::push_identifier;
 use crate::value::{hex_pair, push_digits};
-use rpki::repository::x509::{AttributeView, Name};
+use rpki::repository::x509::{AttributeView, NameOctets};
 use std::alloc::{AllocError, Global};
 
 /// What is after so many octets.
@@ -152,7 +152,7 @@ fn push_attribute(text: &mut Vec<u8>, attribute: AttributeView<'_>) -> Result<()
 /// The text of a name.
 ///
 /// Returns `AllocError` if allocation fails.
-pub fn name_text(alloc: Global, name: &Name) -> Result<Vec<u8>, AllocError>
+pub fn name_text(alloc: Global, name: &NameOctets) -> Result<Vec<u8>, AllocError>
     ensures { IfOk result (λ text. IsNameText name.now text.items) }
 {
     let mut text = Vec::new(alloc);

@@ -12,7 +12,7 @@ ghost use Rattle.rpki_fields.specs.OtherCert.{optional_fields};
 use crate::algorithm::{Algorithm, OtherKey};
 use bytes::Bytes;
 use rpki::der::{BitString, Class, Constructed, DecodeError, Tag};
-use rpki::repository::x509::{CertExtension, Name, Validity};
+use rpki::repository::x509::{ExtensionOctets, NameOctets, Validity};
 use std::alloc::Global;
 use std::marker::Model;
 
@@ -21,7 +21,7 @@ use std::marker::Model;
 struct Optional {
     issuer_id: Option<Bytes>,
     subject_id: Option<Bytes>,
-    extensions: Option<Vec<CertExtension>>,
+    extensions: Option<Vec<ExtensionOctets>>,
 }
 
 impl Model for Optional {
@@ -42,9 +42,9 @@ impl Model for Optional {
 pub struct OtherTbs {
     serial: Bytes,
     algorithm: Algorithm,
-    issuer: Name,
+    issuer: NameOctets,
     validity: Validity,
-    subject: Name,
+    subject: NameOctets,
     key: OtherKey,
     optional: Optional,
 }
@@ -94,21 +94,24 @@ fn take_unique_id(
 fn take_each(
     alloc: Global,
     contents: &mut Constructed<'_>,
-) -> Result<Vec<CertExtension>, DecodeError>
+) -> Result<Vec<ExtensionOctets>, DecodeError>
     ensures { TakesAll (λ v. v.items) each_extension (left contents.old) (left contents.new) result }
 {
-    contents.take_each(alloc, |rest| CertExtension::take_from(alloc, rest))
+    contents.take_each(alloc, |rest| ExtensionOctets::take_from(alloc, rest))
 }
 
 /// A SEQUENCE of extensions.
-fn take_list(alloc: Global, cons: &mut Constructed<'_>) -> Result<Vec<CertExtension>, DecodeError>
+fn take_list(alloc: Global, cons: &mut Constructed<'_>) -> Result<Vec<ExtensionOctets>, DecodeError>
     ensures { Takes (λ v. v.items) any_extension_list (left cons.old) (left cons.new) result }
 {
     cons.in_sequence(|contents| take_each(alloc, contents))
 }
 
 /// The same under the explicit tag 3 (RFC 5280 4.1.2.9).
-fn take_tagged(alloc: Global, cons: &mut Constructed<'_>) -> Result<Vec<CertExtension>, DecodeError>
+fn take_tagged(
+    alloc: Global,
+    cons: &mut Constructed<'_>,
+) -> Result<Vec<ExtensionOctets>, DecodeError>
     ensures { Takes (λ v. v.items) any_extensions (left cons.old) (left cons.new) result }
 {
     cons.in_constructed(
@@ -121,7 +124,7 @@ fn take_tagged(alloc: Global, cons: &mut Constructed<'_>) -> Result<Vec<CertExte
 fn take_extensions(
     alloc: Global,
     cons: &mut Constructed<'_>,
-) -> Result<Option<Vec<CertExtension>>, DecodeError>
+) -> Result<Option<Vec<ExtensionOctets>>, DecodeError>
     ensures { TakesWhere extensions_tag (λ v. v.items) any_extensions (left cons.old) (left cons.new) result }
 {
     if !cons.has_tag(Tag::new(Class::Context, 3)) {
@@ -160,12 +163,12 @@ impl OtherTbs {
                 skip_version(contents)?;
                 let serial = contents.take_primitive_bytes_if(alloc, Tag::INTEGER)?;
                 let algorithm = Algorithm::take_from(alloc, contents)?;
-                let issuer = Name::take_from(alloc, contents)?;
+                let issuer = NameOctets::take_from(alloc, contents)?;
                 let validity = match Validity::take_from(contents) {
                     Ok(validity) => validity,
                     Err(e) => return Err(e),
                 };
-                let subject = Name::take_from(alloc, contents)?;
+                let subject = NameOctets::take_from(alloc, contents)?;
                 let key = OtherKey::take_from(alloc, contents)?;
                 let optional = take_optional(alloc, contents)?;
                 Ok(OtherTbs {
@@ -189,7 +192,7 @@ impl OtherTbs {
     }
 
     /// The issuer (RFC 5280 4.1.2.4).
-    pub fn issuer(&self) -> &Name
+    pub fn issuer(&self) -> &NameOctets
         ensures { result.now ≡ self.now.issuer }
     {
         &self.issuer
@@ -203,7 +206,7 @@ impl OtherTbs {
     }
 
     /// The subject (RFC 5280 4.1.2.6).
-    pub fn subject(&self) -> &Name
+    pub fn subject(&self) -> &NameOctets
         ensures { result.now ≡ self.now.subject }
     {
         &self.subject
@@ -217,7 +220,7 @@ impl OtherTbs {
     }
 
     /// The extensions, in order (RFC 5280 4.1.2.9).
-    pub fn extensions(&self) -> &[CertExtension]
+    pub fn extensions(&self) -> &[ExtensionOctets]
         ensures { result.now ≡ extensions_of self.now.optional.extensions }
     {
         match &self.optional.extensions {

@@ -1,9 +1,8 @@
 -- The order of signed attributes that are written: by the octets, which their lengths decide, and else their types.
 use Rattle.std.proofs.Common.{◌≡◌, ◌≤◌, ◌<◌, ◌+◌, ◌*◌, ◌^◌, ◌/◌, ◌%◌, ℕ, zero, suc, Bool, true, false, List, [], ◌∷◌}
 use Rattle.std.proofs.Common.{◌++◌}
-use Rattle.std.proofs.Common.{length, Option, None, Some, refl, sym, ap, ◌∙◌, arith, lit<, inl, inr, length-append}
-use Rattle.std.proofs.Common.{append-nil}
-use Rattle.std.proofs.lemmas.Bool.{cases_lt, cases_order, lt-ltb, le-ltb, ne_eqb, eq-eqb}
+use Rattle.std.proofs.Common.{length, refl, ap, ◌∙◌, arith, lit<, inl, inr, length-append}
+use Rattle.std.proofs.lemmas.Bool.{cases_lt, lt-ltb, le-ltb, ne_eqb, eq-eqb}
 use Rattle.jiff.specs.Types.{DateTime}
 use Rattle.rpki_der.specs.Prelude.{sequence, set, oid, octet_string, integer, tlv, power}
 use Rattle.rpki_der.specs.Header.{digits, identifier_octets, length_octets}
@@ -16,7 +15,7 @@ use Rattle.rpki_time.specs.TimeValue.{utc_octets, generalized_octets, octets_whe
 use Rattle.rpki_time.proofs.ReadBackLaws.{tlv-short}
 use Rattle.rpki_objects.specs.SignedAttributes.{Attribute, content_type, message_digest, signing_time}
 use Rattle.rpki_objects.specs.SignedAttributes.{binary_signing_time}
-use Rattle.rpki_objects.specs.EncodedAttributes.{attribute_octets, type_attribute, digest_attribute, time_attribute}
+use Rattle.rpki_objects.specs.EncodedAttributes.{attribute_octets, digest_attribute, time_attribute}
 use Rattle.rpki_objects.specs.EncodedAttributes.{binary_attribute, comes_before}
 
 -- the contents octets of an attribute

@@ -1,14 +1,14 @@
 -- Signed attributes that are written are read as what they say.
-use Rattle.std.proofs.Common.{◌≡◌, ◌<◌, ◌^◌, ◌&&◌, ℕ, Bool, true, false, List, [], ◌∷◌, ◌++◌, length, Option, None}
+use Rattle.std.proofs.Common.{◌≡◌, ◌<◌, ◌^◌, ◌&&◌, ℕ, Bool, true, false, List, [], ◌∷◌, length, Option, None}
 use Rattle.std.proofs.Common.{Some}
-use Rattle.std.proofs.Common.{refl, sym, ap, subst, ◌∙◌, arith, lit<}
+use Rattle.std.proofs.Common.{refl, sym, ap, subst, ◌∙◌, arith}
 use Rattle.std.specs.Prelude.{if◌then◌else◌, bytes_eq, IsTrue}
 use Rattle.std.specs.Option.{is_some}
 use Rattle.jiff.specs.Types.{DateTime}
 use Rattle.rpki_der.specs.Prelude.{sequence, set, oid, octet_string, integer, tlv, only, any_oid, SpellsEach}
 use Rattle.rpki_der.specs.Prelude.{IsOidOf, IsSized, IsUnsignedBelow, sequence_legal, set_legal, octet_string_legal}
 use Rattle.rpki_der.specs.Header.{identifier_octets}
-use Rattle.rpki_der.proofs.EncodeLaws.{leaf-legal, tlv-legal, tlv_at_most}
+use Rattle.rpki_der.proofs.EncodeLaws.{leaf-legal, tlv-legal}
 use Rattle.rpki_time.specs.Serial.{serial_contents}
 use Rattle.rpki_time.specs.TimeValue.{time}
 use Rattle.rpki_time.proofs.TimeValueLaws.{time_spelled}

@@ -8,8 +8,7 @@ use Rattle.rpki_der.specs.Prelude.{TagName, sequence, set, oid, octet_string, in
 use Rattle.rpki_der.specs.Prelude.{sequence_legal, set_legal, octet_string_legal, primitive_value_list}
 use Rattle.rpki_der.specs.Prelude.{constructed_value, value_lists_append}
 use Rattle.rpki_der.proofs.EncodeLaws.{tlv_at_most}
-use Rattle.rpki_time.specs.Serial.{serial_contents, serial_octets}
-use Rattle.rpki_time.specs.TimeValue.{time_octets}
+use Rattle.rpki_time.specs.Serial.{serial_contents}
 use Rattle.rpki_time.specs.TimeValueLaws.{time_is_value_list}
 use Rattle.rpki.specs.AlgorithmOctetsLaws.{oid-legal}
 use Rattle.rpki.proofs.NamedLaws.{plain-oid}
@@ -22,7 +21,7 @@ use Rattle.rpki_objects.specs.EncodedAttributes.{attribute_octets, type_attribut
 use Rattle.rpki_objects.specs.EncodedAttributes.{binary_attribute, comes_before, placed, in_order, optional_attribute}
 use Rattle.rpki_objects.specs.EncodedAttributes.{time_and_digest, other_attributes, written_attributes}
 use Rattle.rpki_objects.specs.EncodedAttributes.{attributes_contents}
-use Rattle.rpki_objects.specs.EncodedAttributes.{attributes_octets, CanWriteType, IsYearIn, IsFewIn, CanWriteAttributes}
+use Rattle.rpki_objects.specs.EncodedAttributes.{attributes_octets, CanWriteType, IsFewIn, CanWriteAttributes}
 use Rattle.rpki_objects.specs.EncodedLaws.{zero_legal, integer-legal, number-few}
 use Rattle.rpki_objects.proofs.AttributesOrderLaws.{inside, time-size, binary-size, digest-size, time-before-digest}
 use Rattle.rpki_objects.proofs.AttributesOrderLaws.{binary-before-digest, binary-before-time, longer-is-behind}

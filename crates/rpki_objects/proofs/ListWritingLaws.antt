@@ -1,13 +1,12 @@
 -- A revocation list that is written: the extensions, and what is signed.
-use Rattle.std.proofs.Common.{◌≡◌, ◌≤◌, ◌<◌, ◌+◌, ◌^◌, ℕ, true, false, List, [], ◌∷◌, ◌++◌, length, refl, sym, arith}
+use Rattle.std.proofs.Common.{◌≡◌, ◌≤◌, ◌<◌, ◌^◌, ℕ, true, false, List, [], ◌∷◌, ◌++◌, length, refl, sym, arith}
 use Rattle.std.proofs.Common.{lit<, length-append, inl}
 use Rattle.std.proofs.lemmas.List.{append-nil}
 use Rattle.rpki_der.specs.Prelude.{sequence, oid, octet_string, tlv, only, IsOid, sequence_legal}
 use Rattle.rpki_der.proofs.EncodeLaws.{leaf-legal, tlv_at_most}
-use Rattle.rpki_time.specs.Serial.{SpellsSerial, serial_octets}
 use Rattle.rpki_time.proofs.SerialReadingLaws.{serial-few, serial-spelled}
 use Rattle.rpki.specs.Extension.{critical_octets, extension_contents}
-use Rattle.rpki.specs.ExtensionValue.{ExtensionParts, extension_parts, CanBeWritten, AreShort, written_extension}
+use Rattle.rpki.specs.ExtensionValue.{ExtensionParts, AreShort, written_extension}
 use Rattle.rpki.specs.KeyIdentifier.{IsKeyIdentifier}
 use Rattle.rpki.proofs.ExtensionLaws.{written-read}
 use Rattle.rpki.proofs.NamedLaws.{plain-oid}

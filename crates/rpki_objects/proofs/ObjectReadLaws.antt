@@ -1,5 +1,5 @@
 -- Signed objects that are written are read as what they are made of.
-use Rattle.std.proofs.Common.{◌≡◌, ◌<◌, ◌^◌, ℕ, Bool, true, false, List, [], ◌∷◌, ◌++◌, length, refl, arith, lit<}
+use Rattle.std.proofs.Common.{◌≡◌, ℕ, Bool, true, false, List, [], ◌∷◌, ◌++◌, refl, arith, lit<}
 use Rattle.std.proofs.Common.{subst}
 use Rattle.std.proofs.Common.{inl, sym, ap, Result, Ok, Err}
 use Rattle.rpki_der.specs.declared.error.DecodeError.{DecodeError}

@@ -3,7 +3,7 @@ use Rattle.std.proofs.Common.{◌≡◌, ◌≤◌, ◌<◌, ◌+◌, ◌*◌, �
 use Rattle.std.proofs.Common.{lit<}
 use Rattle.std.proofs.Common.{length-append}
 use Rattle.std.specs.Prelude.{IsTrue, ◌↔◌}
-use Rattle.rpki_der.specs.Prelude.{IsTag, sequence, set, oid, integer, octet_string, tlv, IsValue, IsValueList}
+use Rattle.rpki_der.specs.Prelude.{sequence, set, oid, integer, octet_string, tlv, IsValue, IsValueList}
 use Rattle.rpki_der.specs.Prelude.{sequence_legal, set_legal, octet_string_legal, primitive_value_list}
 use Rattle.rpki_der.specs.Prelude.{constructed_value, value_lists_append}
 use Rattle.rpki_der.proofs.EncodeLaws.{tlv_at_most}

@@ -1,7 +1,7 @@
 -- What is written is spelled: parts, one after another, and a value around them.
 use Rattle.std.proofs.Common.{◌≡◌, ◌<◌, ◌^◌, ℕ, Bool, true, List, [], ◌∷◌, ◌++◌, map, length, refl, ap}
 use Rattle.std.proofs.Common.{arith, length-append}
-use Rattle.rpki_der.specs.Prelude.{TagName, IsTag, tlv, Format, around, then, SpellsEach, Spells}
+use Rattle.rpki_der.specs.Prelude.{TagName, IsTag, tlv, Format, around, then, SpellsEach}
 use Rattle.rpki_der.proofs.EncodeLaws.{leaf-legal, tlv-at-least}
 use Rattle.rpki_contents.specs.Listed.{listed_octets, EachHas}
 

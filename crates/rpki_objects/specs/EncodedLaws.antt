@@ -1,11 +1,11 @@
 -- Lemmas that an impl cites: what is written of the entries of a revocation list, and the tags.
-use Rattle.std.specs.Prelude.{◌≡◌, ◌↔◌, ◌≤◌, ◌<◌, ◌^◌, ℕ, true, false, ◌++◌, length, refl}
+use Rattle.std.specs.Prelude.{◌≡◌, ◌↔◌, ◌≤◌, ◌<◌, ◌^◌, ℕ, true, false, ◌++◌, length}
 use Rattle.std.proofs.Common.{ap, arith, lit<, length-append}
 use Rattle.rpki_der.specs.Prelude.{IsTag, sequence, integer, tlv, IsValue, IsValueList, IsShortTree, tree_octets}
 use Rattle.rpki_der.specs.Prelude.{primitive_value_list, constructed_value, value_lists_append, sequence_legal}
 use Rattle.rpki_der.proofs.EncodeLaws.{tlv-at-least}
 use Rattle.rpki_time.specs.Serial.{serial_contents, serial_octets}
-use Rattle.rpki_time.specs.TimeValue.{time_octets, time_tree}
+use Rattle.rpki_time.specs.TimeValue.{time_octets}
 use Rattle.rpki_time.specs.TimeValueLaws.{time_is_value_list, time_spelled, time_measured}
 use Rattle.rpki_time.proofs.SerialReadingLaws.{serial-few}
 use Rattle.rpki_time.proofs.TimeValueLaws.{time-few}

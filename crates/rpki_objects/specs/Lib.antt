@@ -1,13 +1,9 @@
 -- Definitions: what the contracts say. They are trusted, and read against the standards.
 pub mod Crl
-pub mod CrlIssued
 pub mod CrlView
 pub mod EncodedAttributes
 pub mod EncodedCrl
 pub mod EncodedObject
-pub mod ObjectResources
-pub mod ObjectVerified
-pub mod Processed
 pub mod Serials
 pub mod SignedAttributes
 pub mod SignedObject

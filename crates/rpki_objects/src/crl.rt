@@ -1,17 +1,17 @@
 //! Certificate revocation lists (RFC 5280 5, in the profile of RFC 6487 5).
 
-ghost use Rattle.std.specs.Prelude.{◌≡◌, ◌↔◌, IfOk, IsOk};
+ghost use Rattle.std.specs.Prelude.{◌≡◌, ◌↔◌, ◌<ℤ◌, IfOk, IsTrue};
+ghost use Rattle.jiff.specs.Words.{civil_nanos};
 ghost use Rattle.rpki_der.specs.Prelude.{left, Takes, TakesWhole, CanShare};
-ghost use Rattle.rpki_cert.specs.Valid.{IsSignedBy};
 ghost use Rattle.rpki_objects.specs.Crl.{crl, entries_in, listed, is_revoked};
 ghost use Rattle.rpki_objects.specs.Serials.{AreSerials};
 
 use crate::crl_entry::CrlEntry;
 use crate::tbs_cert_list::TbsCertList;
 use bytes::Bytes;
-use rpki::crypto::{KeyIdentifier, Provider, PublicKey, SignatureVerificationError};
+use rpki::crypto::KeyIdentifier;
 use rpki::der::{Constructed, DecodeError, Keep, Shared};
-use rpki::repository::x509::{Name, Serial, SignedData, Time};
+use rpki::repository::x509::{NameOctets, Serial, SignedData, Time};
 use rpki_cert::objects::take_signed;
 use std::alloc::{AllocError, Global};
 use std::collections::BTreeSet;
@@ -112,7 +112,7 @@ impl Crl {
     }
 
     /// The issuer.
-    pub fn issuer(&self) -> &Name
+    pub fn issuer(&self) -> &NameOctets
         ensures { result.now ≡ self.now.list.issuer }
     {
         &self.tbs.issuer
@@ -179,16 +179,10 @@ impl Crl {
         }
     }
 
-    /// Tests that the signature is by this key over exactly the signed octets, as the provider says.
-    ///
-    /// Returns an error if the key is of another format, or if the provider says no.
-    pub fn verify_signature<P: Provider>(
-        &self,
-        provider: &P,
-        key: &PublicKey,
-    ) -> Result<(), SignatureVerificationError>
-        ensures { IsOk result ↔ IsSignedBy (P.rsa_of provider.now) (P.ecdsa_of provider.now) key.now self.now.signed }
+    /// Whether the next list was due before the moment, so that this one may lack certificates that are revoked.
+    pub fn is_stale(&self, at: Time) -> bool
+        ensures { IsTrue result ↔ (civil_nanos self.now.list.next_update <ℤ civil_nanos at) }
     {
-        self.signed_data.verify_signature(provider, key)
+        self.next_update() < at
     }
 }

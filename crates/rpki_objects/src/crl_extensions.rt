@@ -12,7 +12,7 @@ ghost use Rattle.rpki_cert.specs.ExtensionContent.{WholeFault, authority_content
 use rpki::crypto::KeyIdentifier;
 use rpki::der::{Class, Constructed, DecodeError, Keep, Oid, Tag};
 use rpki::oid;
-use rpki::repository::x509::{CertExtension, ExtensionView, Serial};
+use rpki::repository::x509::{ExtensionOctets, ExtensionView, Serial};
 use rpki_cert::objects::{inside, take_authority};
 
 /// What the extensions of a revocation list say.
@@ -103,7 +103,7 @@ fn of_two(first: &ExtensionView<'_>, second: &ExtensionView<'_>) -> Option<CrlEx
 
 impl CrlExtensions {
     /// What the extensions of a list say: two, in either order.
-    fn of(all: &[CertExtension]) -> Option<CrlExtensions>
+    fn of(all: &[ExtensionOctets]) -> Option<CrlExtensions>
         ensures some { IfSome result (λ x. AreExtensions (extensions_of x) all.now) }
         ensures only { IfSome result (λ x. (v : ListExtensions) → AreExtensions v all.now → v ≡ extensions_of x) }
         ensures none { IfNone result ((v : ListExtensions) → AreExtensions v all.now → ⊥) }
@@ -152,7 +152,7 @@ pub(crate) fn read_extensions(rest: Constructed<'_>) -> Option<CrlExtensions>
 fn take_each_extension<K: Keep>(
     keep: K,
     contents: &mut Constructed<'_>,
-) -> Result<Vec<CertExtension>, DecodeError>
+) -> Result<Vec<ExtensionOctets>, DecodeError>
     requires { K.holds keep (left contents.old) }
     ensures { TakesAll (λ v. v.items) each_extension (left contents.old) (left contents.new) result }
 {
@@ -160,7 +160,7 @@ fn take_each_extension<K: Keep>(
         keep,
         |rest, keep|
             requires { K.holds keep (left rest.old) }
-        { CertExtension::take_from(keep, rest) },
+        { ExtensionOctets::take_from(keep, rest) },
     )
 }
 
@@ -168,7 +168,7 @@ fn take_each_extension<K: Keep>(
 fn take_extension_list<K: Keep>(
     keep: K,
     cons: &mut Constructed<'_>,
-) -> Result<Vec<CertExtension>, DecodeError>
+) -> Result<Vec<ExtensionOctets>, DecodeError>
     requires { K.holds keep (left cons.old) }
     ensures { Takes (λ v. v.items) extension_list (left cons.old) (left cons.new) result }
 {
@@ -200,7 +200,7 @@ impl CrlExtensions {
     /// Reads the extensions of a revocation list, under the explicit context tag 0: an authority key identifier and a
     /// number, in either order, neither critical (RFC 6487 5). Requires that `keep` can keep parts of what is left.
     ///
-    /// The errors are those of the tag, of the SEQUENCE in it, and of [CertExtension::take_from] for what that holds;
+    /// The errors are those of the tag, of the SEQUENCE in it, and of [ExtensionOctets::take_from] for what that holds;
     /// then `Content` with the text `extensions that no revocation list has`; then `Trailing`. An error leaves the
     /// cursor where it was.
     pub fn take_from<K: Keep>(

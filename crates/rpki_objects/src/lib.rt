@@ -1,10 +1,9 @@
 //! The objects of the RPKI that stand beside certificates: revocation lists (RFC 5280 5, in the profile of RFC 6487 5),
 //! and signed objects (RFC 5652, in the profile of RFC 6488).
 //!
-//! [Crl::decode] reads a list, [Crl::contains] tells whether a certificate is revoked, and [Crl::verify] whether a
-//! verified authority has issued the list. [SignedObject::decode] reads a signed object. [CrlView::read] and
-//! [SignedObjectView::read] say where the parts stand, without memory. [Manifest], [Roa] and [Aspa] are the signed
-//! objects of one type each, and [Manifest::process] and its like test all that a validator has to of one.
+//! [Crl::decode] reads a list, and [Crl::contains] tells whether a certificate is on it. [SignedObject::decode] reads a
+//! signed object. [CrlView::read] and [SignedObjectView::read] say where the parts stand, without memory. [Manifest],
+//! [Roa] and [Aspa] are the signed objects of one type each.
 #![tactic(auto)]
 
 mod aspa;
@@ -13,7 +12,6 @@ mod content_view;
 mod crl;
 mod crl_entry;
 mod crl_extensions;
-mod crl_issued;
 mod crl_part;
 mod crl_view;
 mod encapsulated;
@@ -24,8 +22,6 @@ pub mod laws;
 mod list_view;
 mod manifest;
 mod object_part;
-mod object_resources;
-mod object_verified;
 mod roa;
 mod signed_attrs;
 mod signed_attrs_view;

@@ -1,29 +1,14 @@
 //! Manifests: the signed objects of their type (RFC 9286).
 
-ghost use Rattle.std.specs.Prelude.{◌≡◌, IfOk, codes};
-ghost use Rattle.std.specs.Option.{option_copied};
+ghost use Rattle.std.specs.Prelude.{◌≡◌};
 ghost use Rattle.rpki_der.specs.Prelude.{left, Takes, TakesWhole, CanShare};
 ghost use Rattle.rpki_contents.specs.Manifest.{manifest};
-ghost use Rattle.rpki_cert.specs.declared.profile.Profile.TheVariants.{Ee};
-ghost use Rattle.rpki_cert.specs.ResourceSet.{AreWithin};
-ghost use Rattle.rpki_cert.specs.RuleError.{ChecksBy};
-ghost use Rattle.rpki_cert.specs.Valid.{HasReason};
-ghost use Rattle.rpki_cert.specs.Verified.{checkers_by, verified_by, holder, HasPath};
 ghost use Rattle.rpki_objects.specs.TypedObject.{manifest_object};
-ghost use Rattle.rpki_objects.specs.Processed.{ChecksRules, IsManifestOut, IsManifestCurrent};
-ghost use Rattle.rpki_objects.specs.Processed.{KeepsManifestRules, BreaksManifestRules, ProcessesManifest};
 
-use crate::crl::Crl;
-use crate::object_resources::verify_inherited;
 use crate::signed_object::SignedObject;
 use bytes::Bytes;
-use rpki::crypto::Provider;
 use rpki::der::{Constructed, DecodeError, Keep, Shared};
 use rpki::oid;
-use rpki::repository::error::ValidationError;
-use rpki::repository::x509::Time;
-use rpki_cert::objects::unverified;
-use rpki_cert::{ResourceCert, ResourceSet};
 use rpki_contents::ManifestContent;
 use std::alloc::Global;
 use std::marker::Model;
@@ -108,63 +93,5 @@ impl Manifest {
         ensures { result.now ≡ self.now.content }
     {
         &self.content
-    }
-
-    /// The rule that the manifest was issued by the moment (RFC 9286 6.3).
-    fn verify_out(&self, at: Time) -> Result<(), ValidationError>
-        ensures { ChecksBy (IsManifestOut at self.now.content) (HasReason (codes "manifest issued later")) result }
-    {
-        if self.content.this_update() <= at {
-            return Ok(());
-        }
-        Err(unverified("manifest issued later"))
-    }
-
-    /// The rule that the next manifest is not due before the moment (RFC 9286 6.3).
-    fn verify_current(&self, at: Time) -> Result<(), ValidationError>
-        ensures { ChecksBy (IsManifestCurrent at self.now.content) (HasReason (codes "stale manifest")) result }
-    {
-        if at <= self.content.next_update() {
-            return Ok(());
-        }
-        Err(unverified("stale manifest"))
-    }
-
-    /// The rules of manifests, in their order.
-    fn verify_rules(&self, list: Option<&Crl>, at: Time) -> Result<(), ValidationError>
-        ensures { ChecksRules (KeepsManifestRules (option_copied list.entry) at self.now)
-            (BreaksManifestRules (option_copied list.entry) at self.now) result }
-    {
-        let object = self.object();
-        object.verify_unrevoked(list)?;
-        verify_inherited(object.cert().tbs())?;
-        self.verify_out(at)?;
-        self.verify_current(at)
-    }
-
-    /// Tests that the manifest holds at the moment: its object is valid, as [SignedObject::verify] says; the
-    /// certificate is not on the list, where one is handed in (whose list it is, is what [Crl::verify] tells); all
-    /// resources that the certificate names are its issuer's (RFC 9286 5.1); and the moment is not before this update
-    /// nor after the next (RFC 9286 6.3). Returns the resources that the path gives the certificate.
-    ///
-    /// The errors are those of [SignedObject::verify]; then `Verification` of the first rule that is broken: `revoked
-    /// certificate`; `resources that are not inherited`; `manifest issued later`; `stale manifest`.
-    pub fn process<P: Provider>(
-        &self,
-        alloc: Global,
-        issuer: &ResourceCert<'_, P>,
-        strict: bool,
-        at: Time,
-        list: Option<&Crl>,
-    ) -> Result<ResourceSet, ValidationError>
-        ensures exactly { ProcessesManifest strict (P.sha256_of issuer.now.provider)
-            (verified_by P.rsa_of P.ecdsa_of P.sha1_of issuer.now) at (option_copied list.entry) self.now result }
-        ensures path { IfOk result (λ v. HasPath Ee strict
-            (checkers_by P.rsa_of P.ecdsa_of P.sha1_of issuer.now.provider) at (holder self.now.object.cert v)) }
-        ensures within { IfOk result (λ v. AreWithin v issuer.now.resources) }
-    {
-        let held = self.object().verify(alloc, issuer, strict, at)?;
-        self.verify_rules(list, at)?;
-        Ok(held)
     }
 }

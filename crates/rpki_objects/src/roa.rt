@@ -1,28 +1,14 @@
 //! Route origin attestations: the signed objects of their type (RFC 9582).
 
-ghost use Rattle.std.specs.Prelude.{◌≡◌, IfOk};
-ghost use Rattle.std.specs.Option.{option_copied};
+ghost use Rattle.std.specs.Prelude.{◌≡◌};
 ghost use Rattle.rpki_der.specs.Prelude.{left, Takes, TakesWhole, CanShare};
-ghost use Rattle.rpki_cert.specs.declared.profile.Profile.TheVariants.{Ee};
-ghost use Rattle.rpki_cert.specs.ResourceSet.{AreWithin as AreHeldWithin};
-ghost use Rattle.rpki_cert.specs.Verified.{checkers_by, verified_by, holder, HasPath};
 ghost use Rattle.rpki_contents.specs.Roa.{fields_of, roa};
-ghost use Rattle.rpki_contents.specs.Within.{AreWithin};
 ghost use Rattle.rpki_objects.specs.TypedObject.{origin_object};
-ghost use Rattle.rpki_objects.specs.Processed.{ChecksRules, IsOriginOutside, KeepsOriginRules, BreaksOriginRules};
-ghost use Rattle.rpki_objects.specs.Processed.{ProcessesOrigin};
 
-use crate::crl::Crl;
-use crate::object_resources::{verify_addresses, verify_no_numbers, verify_own_addresses};
 use crate::signed_object::SignedObject;
 use bytes::Bytes;
-use rpki::crypto::Provider;
 use rpki::der::{Constructed, DecodeError, Keep, Shared};
 use rpki::oid;
-use rpki::repository::error::ValidationError;
-use rpki::repository::x509::Time;
-use rpki_cert::objects::unverified;
-use rpki_cert::{ResourceCert, ResourceSet};
 use rpki_contents::RouteOriginAttestation;
 use std::alloc::Global;
 use std::marker::Model;
@@ -106,63 +92,5 @@ impl Roa {
         ensures { result.now ≡ self.now.content }
     {
         &self.content
-    }
-
-    /// The rule that each prefix is among the resources (RFC 9582 5).
-    fn verify_within(&self, alloc: Global, held: &ResourceSet) -> Result<(), ValidationError>
-        ensures { ChecksRules (AreWithin self.now.content held.now.ipv4 held.now.ipv6)
-            (IsOriginOutside self.now held.now) result }
-    {
-        match self.content.is_within(alloc, &held.ipv4, &held.ipv6) {
-            Ok(true) => Ok(()),
-            Ok(false) => Err(unverified("prefix outside of the resources")),
-            Err(_) => Err(ValidationError::Decoding(DecodeError::OutOfMemory)),
-        }
-    }
-
-    /// The rules of route origin attestations, in their order.
-    fn verify_rules(
-        &self,
-        alloc: Global,
-        list: Option<&Crl>,
-        held: &ResourceSet,
-    ) -> Result<(), ValidationError>
-        ensures { ChecksRules (KeepsOriginRules (option_copied list.entry) self.now held.now)
-            (BreaksOriginRules (option_copied list.entry) self.now held.now) result }
-    {
-        let object = self.object();
-        let cert = object.cert().tbs();
-        object.verify_unrevoked(list)?;
-        verify_addresses(cert)?;
-        verify_own_addresses(cert)?;
-        verify_no_numbers(cert)?;
-        self.verify_within(alloc, held)
-    }
-
-    /// Tests that the attestation is valid at the moment: its object is, as [SignedObject::verify] says; the
-    /// certificate is not on the list, where one is handed in (whose list it is, is what [Crl::verify] tells); and it
-    /// names addresses, which are not its issuer's, and no numbers of autonomous systems, and has the addresses of each
-    /// prefix (RFC 9582 5). Returns the resources that the path gives the certificate.
-    ///
-    /// The errors are those of [SignedObject::verify]; then `Verification` of the first rule that is broken: `revoked
-    /// certificate`; `no addresses`; `inherited addresses`; `AS numbers beside prefixes`; `prefix outside of the
-    /// resources`, or `OutOfMemory` if allocation fails.
-    pub fn process<P: Provider>(
-        &self,
-        alloc: Global,
-        issuer: &ResourceCert<'_, P>,
-        strict: bool,
-        at: Time,
-        list: Option<&Crl>,
-    ) -> Result<ResourceSet, ValidationError>
-        ensures exactly { ProcessesOrigin strict (P.sha256_of issuer.now.provider)
-            (verified_by P.rsa_of P.ecdsa_of P.sha1_of issuer.now) at (option_copied list.entry) self.now result }
-        ensures path { IfOk result (λ v. HasPath Ee strict
-            (checkers_by P.rsa_of P.ecdsa_of P.sha1_of issuer.now.provider) at (holder self.now.object.cert v)) }
-        ensures within { IfOk result (λ v. AreHeldWithin v issuer.now.resources) }
-    {
-        let held = self.object().verify(alloc, issuer, strict, at)?;
-        self.verify_rules(alloc, list, &held)?;
-        Ok(held)
     }
 }

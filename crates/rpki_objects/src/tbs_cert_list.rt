@@ -19,7 +19,7 @@ use crate::crl_entry::CrlEntry;
 use crate::crl_extensions::CrlExtensions;
 use rpki::crypto::{RpkiSignatureAlgorithm, SignatureAlgorithm};
 use rpki::der::{Constructed, DecodeError, Keep, Tag};
-use rpki::repository::x509::{Name, Time};
+use rpki::repository::x509::{NameOctets, Time};
 use std::alloc::Global;
 
 /// What is signed of a revocation list.
@@ -28,7 +28,7 @@ pub struct TbsCertList {
     /// The algorithm that the signature is said to have.
     pub signature: RpkiSignatureAlgorithm,
     /// The issuer.
-    pub issuer: Name,
+    pub issuer: NameOctets,
     /// When the list was issued.
     pub this_update: Time,
     /// When the next list is issued at the latest.
@@ -88,7 +88,7 @@ impl TbsCertList {
                     Ok(signature) => signature,
                     Err(e) => return Err(e),
                 };
-                let issuer = Name::take_from(keep, contents)?;
+                let issuer = NameOctets::take_from(keep, contents)?;
                 let this_update = match Time::take_from(contents) {
                     Ok(time) => time,
                     Err(e) => return Err(e),

@@ -1,14 +1,12 @@
-//! The worked cases of what a validator does with objects, over the public calls of `rpki_objects` alone. The objects
+//! The worked cases of objects, over the public calls of `rpki_objects` alone. The objects
 //! are made by openssl, and broken one rule each.
 #![tactic(auto)]
 
-#[cfg(test)]
-mod hexadecimal;
-#[cfg(test)]
-mod objects;
-#[cfg(test)]
-mod process;
+pub mod hexadecimal;
+pub mod objects;
 #[cfg(test)]
 mod provider;
+#[cfg(test)]
+mod types;
 #[cfg(test)]
 mod written;

@@ -11,6 +11,7 @@ pub struct Told {
 }
 
 impl Provider for Told {
+    ghost use Rattle.std.specs.Prelude.{IsTrue};
     ghost use Rattle.sha1.specs.Sha1.{sha1};
     ghost use Rattle.sha2.specs.Sha256.{sha256};
 
@@ -18,9 +19,9 @@ impl Provider for Told {
 
     ghost sha256_of = { λ _ octets. sha256 octets };
 
-    ghost rsa_of = { λ p _ _ _. p.answer };
+    ghost rsa_of = { λ p _ _ _. IsTrue p.answer };
 
-    ghost ecdsa_of = { λ p _ _ _. p.answer };
+    ghost ecdsa_of = { λ p _ _ _. IsTrue p.answer };
 
     fn sha1(&self, octets: &[u8]) -> [u8; 20] {
         Digests.sha1(octets)

@@ -44,16 +44,16 @@ struct Always {
 }
 
 impl Provider for Always {
-    ghost use Rattle.std.specs.Prelude.{ℕ, List, replicate};
+    ghost use Rattle.std.specs.Prelude.{ℕ, List, IsTrue, replicate};
     ghost use Rattle.rpki_tests.specs.declared.tests.TheConstants.{DIGEST_OF_ABC};
 
     ghost sha1_of = { λ _ _. DIGEST_OF_ABC };
 
     ghost sha256_of = { λ _ _. replicate 32 171 };
 
-    ghost rsa_of = { λ p _ _ _. p.answer };
+    ghost rsa_of = { λ p _ _ _. IsTrue p.answer };
 
-    ghost ecdsa_of = { λ p _ _ _. p.answer };
+    ghost ecdsa_of = { λ p _ _ _. IsTrue p.answer };
 
     fn sha1(&self, _octets: &[u8]) -> [u8; 20] {
         DIGEST_OF_ABC

@@ -3,7 +3,6 @@ pub mod Serial
 pub mod Undigited
 pub mod Time
 pub mod TimeText
-pub mod MomentText
 pub mod TextPlaces
 pub mod TimeValue
 pub mod Validity

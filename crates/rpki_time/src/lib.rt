@@ -6,7 +6,6 @@
 
 mod decimal;
 pub mod laws;
-mod moment;
 mod serial;
 mod text;
 mod time;

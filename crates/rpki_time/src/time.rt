@@ -1,15 +1,13 @@
 //! Times in UTC.
 
 ghost use Rattle.std.specs.Prelude.{◌≡◌, ◌↔◌, pos, ◌+ℤ◌, ◌-ℤ◌, IsSome, IfSome, Ok, IsOk, IfOk, IsOkAnd};
-ghost use Rattle.jiff.specs.Words.{civil_nanos, signed_nanos};
+ghost use Rattle.jiff.specs.Words.{civil_nanos, signed_nanos, parse_timestamp};
 ghost use Rattle.rpki_time.specs.Time.{IsTimeYear, IsTimeNanos, HasParts, ArePossible, IsFloorSecond, IsYearsOn};
 ghost use Rattle.rpki_time.specs.Time.{common_day, seconds};
-ghost use Rattle.rpki_time.specs.MomentText.{moment_of};
 
-use crate::moment::moment_of;
-use jiff::SignedDuration;
 use jiff::civil::DateTime;
-use jiff_core::civil;
+use jiff::tz::Offset;
+use jiff::{SignedDuration, Timestamp};
 use std::error::Error;
 use std::fmt;
 use std::marker::Model;
@@ -254,25 +252,20 @@ impl fmt::Display for TimeParseError {
 
 impl Error for TimeParseError {}
 
-/// Reads a moment as text: a date, a time of day and an offset from UTC, as jiff reads them (RFC 3339 5.6, RFC 9557
-/// 4.1); the time is its date-time in UTC. Allocates nothing.
+/// Reads a moment as text, as jiff reads a [Timestamp]; the time is its date-time in UTC. Allocates nothing.
 ///
-/// Returns an error if the text names no moment, or if its year in UTC is not of 0 to 9999. The last second of 9999,
-/// which is no [Timestamp](jiff::Timestamp), is one (RFC 5280 4.1.2.5).
+/// Returns an error if jiff reads no moment, or if its year in UTC is not of 0 to 9999.
 impl FromStr for Time {
     type Err = TimeParseError;
 
-    ghost from_str_gives = { λ s r. (IsOk r ↔ IsOkAnd (moment_of s) IsTimeNanos)
-        × IfOk r (λ t. moment_of s ≡ Ok (civil_nanos t)) };
+    ghost from_str_gives = { λ s r. (IsOk r ↔ IsOkAnd (parse_timestamp s) IsTimeNanos)
+        × IfOk r (λ t. parse_timestamp s ≡ Ok (civil_nanos t)) };
 
     fn from_str(s: &str) -> Result<Time, TimeParseError> {
-        let Ok(nanos) = moment_of(s.as_bytes()) else {
+        let Ok(instant) = s.parse::<Timestamp>() else {
             return Err(TimeParseError);
         };
-        let Ok(plain) = civil::DateTime::from_nanosecond(nanos) else {
-            return Err(TimeParseError);
-        };
-        match Time::in_years(DateTime::from_plain(plain)) {
+        match Time::in_years(Offset::UTC.to_datetime(instant)) {
             Some(time) => Ok(time),
             None => Err(TimeParseError),
         }

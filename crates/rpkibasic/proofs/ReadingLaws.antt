@@ -8,7 +8,7 @@ use Rattle.rpki_der.specs.TagName.{sequence}
 use Rattle.rpki_der.specs.Reading.{Spells, Accepts, Refuses, Refusal}
 use Rattle.rpki.specs.ExtensionValue.{ExtensionParts, IsExtensionContents, SpellsExtension}
 use Rattle.rpki_der.proofs.LeafValueLaws.{leaf-nowhere}
-use Rattle.rpki.specs.ExtensionFault.{extension, kept_extension}
+use Rattle.rpki.specs.ExtensionFault.{extension, captured_extension}
 use Rattle.rpkibasic.specs.Fault.{refusal}
 use Rattle.rpkibasic.specs.Run.{SpellsOnly, SpellsExtensions, StopsAt, IsExtensionFault, UnlessMemory}
 
@@ -96,7 +96,7 @@ stops input rest xs e some h other none kind = record {
 
 pub extension-fault : (input rest left : List ℕ) (xs : List ExtensionParts) (e : DecodeError) → (rest ≡ [] → ⊥)
     → HaveRead input xs rest
-    → Refusal SpellsExtension kept_extension.fault rest left e
+    → Refusal SpellsExtension captured_extension.fault rest left e
     → UnlessMemory (refusal e) (IsExtensionFault input (refusal e))
 extension-fault input rest left xs Truncated some h k =
     stops input rest xs Truncated some h (λ (z : Truncated ≡ OutOfMemory). cc) k.refuses k.kind

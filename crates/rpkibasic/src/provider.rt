@@ -63,6 +63,7 @@ fn is_row(row: &Row, bits: &[u8], message: &[u8], signature: &[u8]) -> bool
 }
 
 impl Provider for BenchProvider {
+    ghost use Rattle.std.specs.Prelude.{IsTrue};
     ghost use Rattle.sha1.specs.Sha1.{sha1};
     ghost use Rattle.sha2.specs.Sha256.{sha256};
     ghost use Rattle.rpkibasic.specs.Table.{stands};
@@ -71,9 +72,9 @@ impl Provider for BenchProvider {
 
     ghost sha256_of = { λ p octets. sha256 octets };
 
-    ghost rsa_of = { λ p bits message signature. stands p bits message signature };
+    ghost rsa_of = { λ p bits message signature. IsTrue (stands p bits message signature) };
 
-    ghost ecdsa_of = { λ p bits message signature. stands p bits message signature };
+    ghost ecdsa_of = { λ p bits message signature. IsTrue (stands p bits message signature) };
 
     fn sha1(&self, octets: &[u8]) -> [u8; 20] {
         Digests.sha1(octets)

@@ -1,6 +1,6 @@
 -- What is found of a file.
 use Rattle.std.proofs.Common.{◌≡◌, ℕ, Bool, List, inl, inr, refl, subst, sym}
-use Rattle.std.specs.Prelude.{Option, Some, None, Result, Ok, Err, IfSome, IsErrAnd, MatchResult}
+use Rattle.std.specs.Prelude.{◌⊎◌, Option, Some, None, Result, Ok, Err, IfSome, IsErrAnd, MatchResult}
 use Rattle.rpki_der.specs.declared.error.DecodeError.{DecodeError}
 use Rattle.rpki_der.specs.declared.error.DecodeError.TheVariants.{Truncated, BadTag, BadLength, Unexpected, Content}
 use Rattle.rpki_der.specs.declared.error.DecodeError.TheVariants.{Trailing}
@@ -17,10 +17,9 @@ use Rattle.rpkicert.specs.FindingView.{finding_of}
 use Rattle.rpkicert.specs.declared.fault.Fault.TheVariants.{Unreadable, TooLarge, OutOfMemory, Malformed, Refused}
 use Rattle.rpkicert.specs.declared.fault.Fault.TheVariants.{Violated, Unverified, NoCertificate, OtherAlgorithm}
 use Rattle.rpkicert.specs.Fault.{refusal}
-use Rattle.rpki_cert.specs.Cert.{TbsParts}
-use Rattle.rpkicert.specs.declared.violation.Violation.{Violation}
 use Rattle.rpkicert.specs.Terms.{TermParts, IsUnverifiedBy}
-use Rattle.rpkicert.specs.Finding.{Finding, IsObject, IsRefusal, HoldsTo, FindsIn, Finds, IsRead, Meets, IsViolation}
+use Rattle.rpkicert.specs.Finding.{Finding, IsObject, IsRefusal, HoldsTo, FindsIn, Finds, IsRead}
+use Rattle.rpkicert.specs.Profiled.{Meets, IsUnmet, own_inspection, IsProfiled, IsUnprofiled}
 use Rattle.rpkicert.specs.Finding.{is_outside}
 
 -- why octets are no object
@@ -67,24 +66,35 @@ given-up terms octets (Ok x) f h k = absurd h
 given-up terms octets (Err g) f h k =
     refused-holds terms octets g (subst (λ (g : Fault). IsRefusal octets g) (sym h) k)
 
--- an object that isn't what it is held to
+-- an object that doesn't hold
 pub unverified-holds : (terms : TermParts) (octets : List ℕ) (x : Object) (f : Fault) → IsObject octets x
-    → Meets terms.inspection (cert_of x) → IsUnverifiedBy terms x f → HoldsTo terms octets (Err f)
-unverified-holds terms octets x f h k u =
+    → IsProfiled terms.inspection x → IsUnverifiedBy terms x f → HoldsTo terms octets (Err f)
+unverified-holds terms octets x f h k (inl m) = subst (λ (g : Fault). HoldsTo terms octets (Err g)) (sym m) tt
+unverified-holds terms octets x f h k (inr u) =
     subst (λ (g : Fault). HoldsTo terms octets (Err g)) (sym u.2) (x, h, k, u.3)
 
--- what holds of a certificate holds of the object's, where it is that one
-pub meets-of : (inspection : Option Inspection) (t u : Option TbsParts) → t ≡ u → Meets inspection t
-    → Meets inspection u
-meets-of inspection t u same h = subst (λ (v : Option TbsParts). Meets inspection v) same h
+-- an object whose certificate has another profile
+unmet-holds : (terms : TermParts) (octets : List ℕ) (x : Object) (f : Fault) (inspection : Option Inspection)
+    → IsObject octets x → IsUnmet inspection (cert_of x) f → IsUnprofiled terms.inspection x f
+    → HoldsTo terms octets (Err f)
+unmet-holds terms octets x f inspection h (inl m) u =
+    subst (λ (g : Fault). IsUnprofiled terms.inspection x g → HoldsTo terms octets (Err g)) (sym m.0)
+    (λ (k : IsUnprofiled terms.inspection x NoCertificate). (x, h, k)) u
+unmet-holds terms octets x f inspection h (inr m) u =
+    subst (λ (g : Fault). IsUnprofiled terms.inspection x g → HoldsTo terms octets (Err g)) (sym m.1)
+    (λ (k : IsUnprofiled terms.inspection x (Violated m.0)). (x, h, k)) u
 
-pub breaks-of : (inspection : Option Inspection) (t u : Option TbsParts) → t ≡ u → (Meets inspection t → ⊥)
-    → Meets inspection u → ⊥
-breaks-of inspection t u same h = subst (λ (v : Option TbsParts). Meets inspection v → ⊥) same h
+unprofiled-by : (terms : TermParts) (octets : List ℕ) (x : Object) (f : Fault) → IsObject octets x
+    → ((Meets terms.inspection (cert_of x) → ⊥) × IsUnmet terms.inspection (cert_of x) f)
+    ⊎ (Meets terms.inspection (cert_of x) × IsUnmet (own_inspection terms.inspection x) (cert_of x) f)
+    → IsUnprofiled terms.inspection x f → HoldsTo terms octets (Err f)
+unprofiled-by terms octets x f h (inl m) u = unmet-holds terms octets x f terms.inspection h m.1 u
+unprofiled-by terms octets x f h (inr m) u =
+    unmet-holds terms octets x f (own_inspection terms.inspection x) h m.1 u
 
-pub violates-of : (inspection : Option Inspection) (t u : Option TbsParts) (v : Violation) → t ≡ u
-    → IsViolation inspection t v → IsViolation inspection u v
-violates-of inspection t u v same h = subst (λ (c : Option TbsParts). IsViolation inspection c v) same h
+pub unprofiled-holds : (terms : TermParts) (octets : List ℕ) (x : Object) (f : Fault) → IsObject octets x
+    → IsUnprofiled terms.inspection x f → HoldsTo terms octets (Err f)
+unprofiled-holds terms octets x f h u = unprofiled-by terms octets x f h u.1 u
 
 pub outside-of : (terms : TermParts) (x y : Object) (b : Bool) → x ≡ y → is_outside terms x ≡ b
     → is_outside terms y ≡ b

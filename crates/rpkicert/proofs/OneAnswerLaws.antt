@@ -5,7 +5,6 @@ use Rattle.std.proofs.lemmas.List.Elements.{All-tail}
 use Rattle.std.specs.Io.KnownBytes.{Appends}
 use Rattle.std.specs.Prelude.{◌⊎◌, codes, Bool, true, false, is_some, Option, Some, None, Ok, Err, IsSome, IfSome}
 use Rattle.rpki_fields.specs.Kind.{kind_of}
-use Rattle.rpki_fields.specs.Object.{cert_of}
 use Rattle.rpki_fields.specs.Field.{field_parts}
 use Rattle.rpki_fields.specs.Rendering.{rendering}
 use Rattle.rpki_fields.specs.Sheet.{SheetParts, sheet_behind}
@@ -15,7 +14,9 @@ use Rattle.rpkicert.specs.declared.fault.Fault.TheVariants.{Unreadable, TooLarge
 use Rattle.rpkicert.specs.declared.fault.Fault.TheVariants.{Violated, Unverified, NoCertificate, OtherAlgorithm}
 use Rattle.rpki_fields.specs.declared.rendering.Form.{Form}
 use Rattle.rpkicert.specs.Fault.{status_of}
-use Rattle.rpkicert.specs.Finding.{Finding, Meets, HoldsTo, FindsIn, Finds, is_outside}
+use Rattle.rpkicert.specs.Finding.{Finding, HoldsTo, FindsIn, Finds, is_outside}
+use Rattle.rpkicert.specs.Profiled.{IsProfiled}
+use Rattle.rpkicert.specs.Signature.{signature_of}
 use Rattle.rpkicert.specs.Request.{Asked}
 use Rattle.rpkicert.specs.Terms.{TermParts, term_parts, no_terms, IsVerified}
 use Rattle.rpkicert.specs.Shown.{file_text, marked, IsTextOf, ShownParts, shown_parts, IsShown, IsSeen, LacksMemory}
@@ -40,7 +41,7 @@ pub one-text-of : (form : Form) (issued : Bool) (name octets : List ℕ) (x : Ob
     → IsTextOf form issued name octets x text → IsTextOf form issued name octets x other → text ≡ other
 one-text-of form issued name octets x text other g h =
     g.2 ∙ ap (λ (s : SheetParts). rendering form
-    (sheet_behind (field_parts (codes "File") (file_text form name)) (marked issued s)))
+    (sheet_behind (field_parts (codes "File") (file_text form name)) (marked (signature_of issued x) s)))
     (one-sheet octets x g.0 h.0 g.1 h.1) ∙ sym h.2
 
 -- ---- what is found
@@ -57,7 +58,10 @@ one-held terms octets found (Ok other) g h =
     inl (ap (λ (w : List ℕ × Object). Ok w) (same-found other found (h.0 ∙ sym g.0)
     (one-of (kind_of octets) octets other.1 found.1 h.1.is g.1.is)))
 one-held terms octets found (Err (Violated e)) g h =
-    absurd (h.2 (subst (λ (x : Object). Meets terms.inspection (cert_of x))
+    absurd (h.2.0 (subst (λ (x : Object). IsProfiled terms.inspection x)
+    (one-of (kind_of octets) octets found.1 h.0 g.1.is h.1.is) g.2))
+one-held terms octets found (Err NoCertificate) g h =
+    absurd (h.2.0 (subst (λ (x : Object). IsProfiled terms.inspection x)
     (one-of (kind_of octets) octets found.1 h.0 g.1.is h.1.is) g.2))
 one-held terms octets found (Err (Unverified clause e)) g h =
     absurd (h.3.not_all (subst (λ (x : Object). IsVerified terms x)
@@ -71,7 +75,6 @@ one-held terms octets found (Err OutOfMemory) g h = inr refl
 one-held terms octets found (Err (Unreadable cause)) g h = absurd h
 one-held terms octets found (Err TooLarge) g h = absurd h
 one-held terms octets found (Err Malformed) g h = absurd h
-one-held terms octets found (Err NoCertificate) g h = absurd h
 
 one-found-in : (terms : TermParts) (input : List ℕ) (found : List ℕ × Object) (f : Finding)
     → FindsIn terms input (Ok found) → FindsIn terms input f → IsAlone found f

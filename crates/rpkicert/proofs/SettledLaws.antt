@@ -4,15 +4,14 @@ use Rattle.std.specs.Prelude.{Option, Some, None, Result, Ok, Err, Vec, IfOk, If
 use Rattle.std.specs.Io.KnownBytes.{Appends}
 use Rattle.jiff.specs.Types.{DateTime}
 use Rattle.jiff.specs.Words.{civil_nanos}
-use Rattle.rpki_time.specs.MomentText.{moment_of}
 use Rattle.rpki_cert.specs.Cert.{TbsParts}
 use Rattle.rpkicert.specs.declared.fault.Fault.{Fault}
 use Rattle.rpkicert.specs.Finding.{Finding, Finds}
 use Rattle.rpkicert.specs.Request.{Asked}
-use Rattle.rpkicert.specs.Terms.{TermParts, term_parts, no_terms}
+use Rattle.rpkicert.specs.Terms.{term_parts, no_terms}
 use Rattle.rpkicert.specs.ShownView.{text_in}
 use Rattle.rpkicert.specs.Words.{Prints, memory_text}
-use Rattle.rpkicert.specs.Run.{Holds, IsMoment, IsNoMoment, IsIssuer, IsIssuerOf, issuer_in, IsDenied}
+use Rattle.rpkicert.specs.Run.{moment_of, Holds, IsMoment, IsNoMoment, IsIssuer, IsIssuerOf, issuer_in, IsDenied}
 use Rattle.rpkicert.specs.Run.{IsDeniedBy, RunsOver, RunsBy, IsRunOf, wrong_moment_text, wrong_issuer_text}
 use Rattle.rpkicert.specs.Run.IsDenied.{WrongMoment, WrongIssuer, NoMemory}
 use Rattle.rpkicert.specs.Run.IsRunOf.{Held, Denied}

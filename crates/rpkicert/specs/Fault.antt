@@ -1,11 +1,13 @@
 -- Why nothing is printed of a file.
-use Rattle.std.specs.Prelude.{ℕ, List, ◌++◌, codes, unwrap_or, Option}
+use Rattle.std.specs.Prelude.{ℕ, Bool, if◌then◌else◌, List, ◌++◌, codes, bytes_eq, unwrap_or, Option}
 use Rattle.rpki_der.specs.declared.error.DecodeError.{DecodeError}
 use Rattle.rpki_der.specs.declared.error.DecodeError.TheVariants.{Truncated, BadTag, BadLength, Unexpected, Content}
 use Rattle.rpki_der.specs.declared.error.DecodeError.TheVariants.{Trailing}
 use Rattle.rpki_der.specs.declared.error.DecodeError.TheVariants as der
 use Rattle.rpki_der.specs.ErrorText.{error_text}
 use Rattle.rpki.specs.ErrorContent.{validation_text}
+use Rattle.rpki.specs.ErrorTexts.{verification_text}
+use Rattle.rpki.specs.declared.repository.error.ValidationError.{ValidationError}
 use Rattle.rpki_fields.specs.declared.kind.Kind.{Kind}
 use Rattle.rpki_fields.specs.Kind.{kind_text}
 use Rattle.rpki_fields.specs.PlaceText.{place_text}
@@ -39,11 +41,26 @@ unreadable_text Denied = codes "cannot be read: Permission denied"
 unreadable_text Folder = codes "cannot be read: Is a directory"
 unreadable_text Other = codes "cannot be read"
 
--- what has to hold of issuers and periods: of certificates, of revocation lists, and of manifests
+-- the section of what has to hold of an object
 abbrev pub clause_text : Clause → List ℕ
+clause_text C.Period = codes "RFC 6487 7.2"
+clause_text C.Updates = codes "RFC 5280 6.3.3"
+clause_text C.Manifest = codes "RFC 9286 6.3"
+clause_text C.Object = codes "RFC 6488 3"
+clause_text C.Inherited = codes "RFC 9286 5.1"
+clause_text C.Origins = codes "RFC 9582 5"
+clause_text C.Customer = codes "draft-ietf-sidrops-aspa-profile 4"
+clause_text C.Anchor = codes "RFC 8630 2.3"
 clause_text C.Certificate = codes "RFC 6487 7.2"
 clause_text C.List = codes "RFC 5280 6.3.3"
-clause_text C.Manifest = codes "RFC 9286 6.3"
+
+-- the error is that of a signature that isn't good
+abbrev pub is_bad_signature : ValidationError → Bool
+is_bad_signature e = bytes_eq (unwrap_or (validation_text e) (codes "")) verification_text
+
+-- what is wrong with a clause that is broken
+abbrev pub reason_text : ValidationError → List ℕ
+reason_text e = if is_bad_signature e then codes "bad signature" else unwrap_or (validation_text e) (codes "")
 
 abbrev pub fault_text : Fault → List ℕ
 fault_text (Unreadable cause) = unreadable_text cause
@@ -52,7 +69,7 @@ fault_text OutOfMemory = codes "out of memory"
 fault_text Malformed = codes "malformed PEM"
 fault_text (Refused kind place e) = codes "not a " ++ kind_text kind ++ codes ": " ++ place_text place ++ error_text e
 fault_text (Violated v) = codes "violates the profile: " ++ violation_text v
-fault_text (Unverified clause e) = clause_text clause ++ codes ": " ++ unwrap_or (validation_text e) (codes "")
+fault_text (Unverified clause e) = clause_text clause ++ codes ": " ++ reason_text e
 fault_text NoCertificate = codes "not a certificate"
 fault_text OtherAlgorithm = codes "RFC 7935 2, 3: of an algorithm that the RPKI doesn't use"
 
@@ -65,7 +82,7 @@ status_of Malformed = 1
 status_of (Refused kind place e) = 1
 status_of (Violated v) = 1
 status_of (Unverified clause e) = 1
-status_of NoCertificate = 2
+status_of NoCertificate = 1
 status_of OtherAlgorithm = 1
 
 -- the fault of a reader's error, of octets of this kind, in this place

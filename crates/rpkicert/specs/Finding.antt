@@ -1,49 +1,27 @@
 -- What is found of a file.
 use Rattle.std.specs.Prelude.{◌≡◌, ◌≢◌, ◌⊎◌, ◌<◌, ◌≤◌, ◌&&◌, ◌||◌, ℕ, Bool, true, false, List, length, Option}
-use Rattle.std.specs.Prelude.{Some, None, is_some, Result, Ok, Err, MatchResult}
+use Rattle.std.specs.Prelude.{Some, None, is_some, Result, Ok, Err}
 use Rattle.rpki_der.specs.declared.error.DecodeError.{DecodeError}
 use Rattle.rpki_der.specs.declared.error.DecodeError.TheVariants as der
-use Rattle.rpki_cert.specs.Cert.{TbsParts}
-use Rattle.rpki_cert.specs.Profile.{rules_of, HasProfile}
-use Rattle.rpki_cert.specs.RuleError.{BreaksWith}
 use Rattle.rpki_fields.specs.Kind.{kind_of}
-use Rattle.rpki_fields.specs.Object.{IsOf, IsNone, cert_of, objection_to}
+use Rattle.rpki_fields.specs.Object.{IsOf, IsNone, objection_to}
 use Rattle.rpki_fields.specs.Place.{IsPlace}
 use Rattle.rpki_fields.specs.declared.kind.Kind.{Kind}
 use Rattle.rpki_fields.specs.declared.object.Object.{Object}
 use Rattle.rpki_fields.specs.declared.place.Place.{Place}
-use Rattle.rpkicert.specs.declared.profile.Inspection.{Inspection}
-use Rattle.rpkicert.specs.declared.violation.Violation.{Violation}
 use Rattle.rpkicert.specs.declared.fault.Cause.{Cause}
 use Rattle.rpkicert.specs.declared.fault.Fault.{Fault}
 use Rattle.rpkicert.specs.declared.fault.Fault.TheVariants.{Unreadable, TooLarge, OutOfMemory, Malformed, Refused}
 use Rattle.rpkicert.specs.declared.fault.Fault.TheVariants.{Violated, Unverified, NoCertificate, OtherAlgorithm}
 use Rattle.rpkicert.specs.Terms.{TermParts, IsVerified, IsUnverified}
+use Rattle.rpkicert.specs.Profiled.{IsProfiled, IsUnprofiled}
 use Rattle.rpkicert.specs.Pem.{octets_of}
 use Rattle.rpkicert.specs.Fault.{most_octets}
-
--- the certificate, where there is one, has the profile, where one is asked for
-abbrev pub Meets : Option Inspection → Option TbsParts → Type 0
-Meets None cert = Unit {0}
-Meets (Some inspection) None = Unit {0}
-Meets (Some inspection) (Some t) = HasProfile inspection.profile inspection.strict t
 
 -- the object is held to something, and is a certificate of an algorithm that the RPKI doesn't use
 abbrev pub is_outside : TermParts → Object → Bool
 is_outside terms x =
     (is_some terms.inspection || is_some terms.issuer || is_some terms.moment) && is_some (objection_to x)
-
--- this is the first of the rules that the certificate breaks, and its error
-abbrev pub IsViolation : Option Inspection → Option TbsParts → Violation → Type 0
-IsViolation None cert v = ⊥
-IsViolation (Some inspection) None v = ⊥
-IsViolation (Some inspection) (Some t) v =
-    BreaksWith inspection.strict t (rules_of inspection.profile) v.rule v.error
-
--- Ok where it has the profile; else its violation
-abbrev pub Inspects : Option Inspection → Option TbsParts → Result (Unit {0}) Violation → Type 0
-Inspects inspection cert r =
-    MatchResult r (λ _. Meets inspection cert) (λ v. (Meets inspection cert → ⊥) × IsViolation inspection cert v)
 
 -- an object and its octets, or a fault
 abbrev pub Finding : Type 0
@@ -72,24 +50,24 @@ IsRefusal octets (Unverified clause e) = ⊥
 IsRefusal octets NoCertificate = ⊥
 IsRefusal octets OtherAlgorithm = ⊥
 
--- What is found of octets: the object that they are, where it is what it is held to; or why there is none, or it isn't:
--- first the profile of the certificate in it, then its issuer and the moment; or allocation failed.
+-- What is found of octets: the object that they are, where it holds; or why there is none, or it doesn't: first the
+-- profiles of the certificate in it, then the clauses of Terms; or allocation failed.
 abbrev pub HoldsTo : TermParts → List ℕ → Finding → Type 0
 HoldsTo terms octets (Ok found) =
-    (found.0 ≡ octets) × IsObject octets found.1 × Meets terms.inspection (cert_of found.1) × IsVerified terms found.1
+    (found.0 ≡ octets) × IsObject octets found.1 × IsProfiled terms.inspection found.1 × IsVerified terms found.1
     × (is_outside terms found.1 ≡ false)
 HoldsTo terms octets (Err (Violated v)) =
-    (x : Object) × IsObject octets x × (Meets terms.inspection (cert_of x) → ⊥)
-    × IsViolation terms.inspection (cert_of x) v
+    (x : Object) × IsObject octets x × IsUnprofiled terms.inspection x (Violated v)
 HoldsTo terms octets (Err (Unverified clause e)) =
-    (x : Object) × IsObject octets x × Meets terms.inspection (cert_of x) × IsUnverified terms x clause e
+    (x : Object) × IsObject octets x × IsProfiled terms.inspection x × IsUnverified terms x clause e
+HoldsTo terms octets (Err NoCertificate) =
+    (x : Object) × IsObject octets x × IsUnprofiled terms.inspection x NoCertificate
 HoldsTo terms octets (Err OtherAlgorithm) = (x : Object) × IsObject octets x × (is_outside terms x ≡ true)
 HoldsTo terms octets (Err (Refused kind place e)) = IsRefusal octets (Refused kind place e)
 HoldsTo terms octets (Err OutOfMemory) = Unit {0}
 HoldsTo terms octets (Err (Unreadable cause)) = ⊥
 HoldsTo terms octets (Err TooLarge) = ⊥
 HoldsTo terms octets (Err Malformed) = ⊥
-HoldsTo terms octets (Err NoCertificate) = ⊥
 
 -- The same of an input, which may be a text that stands for octets, or for none.
 abbrev pub FindsIn : TermParts → List ℕ → Finding → Type 0

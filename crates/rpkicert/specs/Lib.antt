@@ -3,7 +3,9 @@ pub mod Pem
 pub mod Violation
 pub mod Fault
 pub mod Terms
+pub mod Profiled
 pub mod Finding
+pub mod Signature
 pub mod Shown
 pub mod Request
 pub mod Words

@@ -1,11 +1,10 @@
 -- A run of what is asked for: first its terms, and then the files.
 use Rattle.std.specs.Prelude.{◌≡◌, ◌⊎◌, ℕ, Bool, List, [], ◌++◌, codes, Option, Some, None, Result, Ok, Err, IsOkAnd}
-use Rattle.std.specs.Prelude.{IsSome, IfSome, All}
+use Rattle.std.specs.Prelude.{IsSome, IfSome, All, ℤ, pos, if◌then◌else◌, bytes_eq}
 use Rattle.std.specs.Io.KnownBytes.{Appends}
 use Rattle.jiff.specs.Types.{DateTime}
-use Rattle.jiff.specs.Words.{civil_nanos}
+use Rattle.jiff.specs.Words.{civil_nanos, parse_timestamp, Error}
 use Rattle.rpki_time.specs.Time.{IsTimeNanos}
-use Rattle.rpki_time.specs.MomentText.{moment_of}
 use Rattle.rpki_cert.specs.Cert.{TbsParts}
 use Rattle.rpki_fields.specs.declared.object.Object.{Object}
 use Rattle.rpki_fields.specs.declared.object.Object.TheVariants.{Certificate, RevocationList, FileList, RouteOrigins}
@@ -26,7 +25,16 @@ Holds = List ℕ → Option (Option (List ℕ))
 
 -- ---- the terms
 
--- the word is the text of this moment (RFC 3339 5.6); without a word there is none
+-- 9999-12-31T23:59:59Z, in nanoseconds since 1970-01-01 00:00:00 in UTC
+abbrev pub last_moment : ℤ
+last_moment = pos 253_402_300_799_000_000_000
+
+-- The moment that a text names: as jiff reads an instant (RFC 3339 5.6); and the one that RFC 5280 4.1.2.5 names for no
+-- well-defined expiration, which jiff has not.
+abbrev pub moment_of : List ℕ → Result ℤ Error
+moment_of text = if bytes_eq text (codes "9999-12-31T23:59:59Z") then Ok last_moment else parse_timestamp text
+
+-- the word is the text of this moment; without a word there is none
 abbrev pub IsMoment : Option (List ℕ) → Option DateTime → Type 0
 IsMoment None None = Unit {0}
 IsMoment None (Some t) = ⊥

@@ -17,6 +17,8 @@ use Rattle.rpki_fields.specs.declared.object.Object.{Object}
 use Rattle.rpkicert.specs.Pem.{bundle_in}
 use Rattle.rpkicert.specs.Fault.{most_octets, fault_text, status_of}
 use Rattle.rpkicert.specs.Finding.{Finding, FindsIn, Finds}
+use Rattle.rpkicert.specs.declared.signature.Signature.{Signature}
+use Rattle.rpkicert.specs.Signature.{signature_text, good_text, signature_of, signature_in}
 use Rattle.rpkicert.specs.Terms.{TermParts}
 use Rattle.rpkicert.specs.Words.{memory_text}
 
@@ -40,33 +42,24 @@ abbrev pub file_text : Form → List ℕ → List ℕ
 file_text Text name = visible name
 file_text Json name = name
 
--- a sheet with a field in front that says that the signature was not checked, where the issuer was
-abbrev pub marked : (issued : Bool) → SheetParts → SheetParts
-marked true s = sheet_behind (field_parts (codes "Signature") (codes "not checked")) s
-marked false s = s
+-- a sheet with a field in front that says what was checked of the signatures
+abbrev pub marked : Signature → SheetParts → SheetParts
+marked signature s = sheet_behind (field_parts (codes "Signature") (signature_text signature)) s
 
 -- the text of the object that these octets are: its file, and then its sheet, in one form or the other
 abbrev pub IsTextOf : Form → (issued : Bool) → List ℕ → List ℕ → Object → List ℕ → Type 0
 IsTextOf form issued name octets x text =
     (s : SheetParts) × IsSheet octets x s
-    × (text ≡ rendering form (sheet_behind (field_parts (codes "File") (file_text form name)) (marked issued s)))
-
--- that all is well
-abbrev pub good_text : List ℕ
-good_text = codes "OK"
-
--- what is behind the verdict of an object whose issuer was checked
-abbrev pub signature_text : (issued : Bool) → List ℕ
-signature_text true = codes ", signature not checked"
-signature_text false = []
+    × (text ≡ rendering form (sheet_behind (field_parts (codes "File") (file_text form name))
+    (marked (signature_of issued x) s)))
 
 -- The verdict on a file, OK or what is wrong: a line, or an object of JSON on a line, whose names are those of
--- `rpki-client -f -j` where that has one.
-abbrev pub verdict : Form → (issued : Bool) → (name said : List ℕ) → List ℕ
-verdict Text issued name said = line name (said ++ signature_text issued)
-verdict Json issued name said =
+-- `rpki-client -f -j` where that has one; and there what was checked of the signatures.
+abbrev pub verdict : Form → Signature → (name said : List ℕ) → List ℕ
+verdict Text signature name said = line name said
+verdict Json signature name said =
     rendering Json (sheet_behind (field_parts (codes "File") name)
-    (marked issued (sheet_behind (field_parts (codes "Validation") said) (plain_sheet []))))
+    (marked signature (sheet_behind (field_parts (codes "Validation") said) (plain_sheet []))))
 
 -- what goes to the output, what goes to the faults, and the status
 pub record ShownParts : Type 0 where
@@ -78,15 +71,16 @@ abbrev pub shown_parts : List ℕ → List ℕ → ℕ → ShownParts
 shown_parts output faults status = record { output = output; faults = faults; status = status }
 
 -- the verdict on an object: that all is well; or what the RPKI doesn't use of it, and the status 1
-abbrev pub checked_parts : Form → (issued : Bool) → (name : List ℕ) → Option (List ℕ) → ShownParts
-checked_parts form issued name None = shown_parts (verdict form issued name good_text) [] 0
-checked_parts form issued name (Some said) = shown_parts (verdict form false name said) [] 1
+abbrev pub checked_parts : Form → Signature → (name : List ℕ) → Option (List ℕ) → ShownParts
+checked_parts form signature name None = shown_parts (verdict form signature name (good_text signature)) [] 0
+checked_parts form signature name (Some said) = shown_parts (verdict form signature name said) [] 1
 
 -- an object by its sheet, a fault by a line among the faults; or only the verdict on either
 abbrev pub IsShown : (check : Bool) → Form → (issued : Bool) → List ℕ → Finding → ShownParts → Type 0
-IsShown true form issued name (Ok found) s = s ≡ checked_parts form issued name (objection_to found.1)
+IsShown true form issued name (Ok found) s =
+    s ≡ checked_parts form (signature_of issued found.1) name (objection_to found.1)
 IsShown true form issued name (Err fault) s =
-    s ≡ shown_parts (verdict form false name (fault_text fault)) [] (status_of fault)
+    s ≡ shown_parts (verdict form (signature_in fault) name (fault_text fault)) [] (status_of fault)
 IsShown false form issued name (Ok found) s =
     (text : List ℕ) × IsTextOf form issued name found.0 found.1 text × (s ≡ shown_parts text [] 0)
 IsShown false form issued name (Err fault) s =

@@ -1,15 +1,24 @@
--- What an object is held to: a profile, a certificate that has to be its issuer, and a moment.
-use Rattle.std.specs.Prelude.{◌≡◌, ◌⊎◌, ◌≤ℤ◌, true, Option, Some, None, option_map, codes}
+-- What an object is held to: by itself, and to a certificate that has to be its issuer and a moment, where these are
+-- asked for.
+use Rattle.std.specs.Prelude.{◌≡◌, ◌⊎◌, ◌≤ℤ◌, Bool, Option, Some, None, option_map, codes, bytes_eq}
+use Rattle.std.specs.Prelude.{if◌then◌else◌}
 use Rattle.jiff.specs.Types.{DateTime}
 use Rattle.jiff.specs.Words.{civil_nanos}
 use Rattle.sha1.specs.Sha1.{sha1}
+use Rattle.sha2.specs.Sha256.{sha256}
 use Rattle.rpki.specs.declared.repository.error.ValidationError.{ValidationError}
+use Rattle.rpki.specs.ErrorTexts.{verification_text}
 use Rattle.rpki.specs.Provider.{Check}
+use Rattle.rpki_rsa.specs.Key.{IsSignatureBy}
 use Rattle.rpki_time.specs.Validity.{Period, HoldsAt}
 use Rattle.rpki_cert.specs.Cert.{TbsParts, CertParts}
-use Rattle.rpki_cert.specs.Valid.{HasReason, IsPeriodError, Unless, IsIssued, IsUnissued}
+use Rattle.rpki_valid.specs.Valid.{HasReason, IsPeriodError, Unless, IsSignedBy, IsIssued, IsUnissued}
 use Rattle.rpki_contents.specs.Manifest.{ManifestParts, period_of}
 use Rattle.rpki_objects.specs.Crl.{CrlParts}
+use Rattle.rpki_valid.specs.ObjectResources.{AreInherited}
+use Rattle.rpki_valid.specs.ObjectVerified.{IsSignedObject, IsUnsignedObject}
+use Rattle.rpki_valid.specs.Processed.{KeepsOwnOriginRules, IsOwnOriginError, KeepsOwnAspaRules, IsOwnAspaError}
+use Rattle.rpki_objects.specs.SignedObject.{ObjectParts}
 use Rattle.rpki_fields.specs.declared.object.Object.{Object}
 use Rattle.rpki_fields.specs.declared.object.Object.TheVariants.{Certificate, RevocationList, FileList, RouteOrigins}
 use Rattle.rpki_fields.specs.declared.object.Object.TheVariants.{Providers, OtherContent, OtherCertificate}
@@ -17,7 +26,7 @@ use Rattle.rpkicert.specs.declared.profile.Inspection.{Inspection}
 use Rattle.rpkicert.specs.declared.fault.Clause.{Clause}
 use Rattle.rpkicert.specs.declared.fault.Clause.TheVariants as C
 use Rattle.rpkicert.specs.declared.fault.Fault.{Fault}
-use Rattle.rpkicert.specs.declared.fault.Fault.TheVariants.{Unverified}
+use Rattle.rpkicert.specs.declared.fault.Fault.TheVariants.{Unverified, OutOfMemory}
 
 -- a profile, the certificate of the issuer, and a moment; each may not be asked for
 pub record TermParts : Type 0 where
@@ -43,6 +52,35 @@ signer_of (RouteOrigins r) = Some r.object.cert
 signer_of (Providers a) = Some a.object.cert
 signer_of (OtherContent o) = Some o.cert
 signer_of (OtherCertificate c) = None
+
+-- the signed object that the object is, whatever its content
+abbrev pub signed_of : Object → Option ObjectParts
+signed_of (Certificate c) = None
+signed_of (RevocationList l) = None
+signed_of (FileList m) = Some m.object
+signed_of (RouteOrigins r) = Some r.object
+signed_of (Providers a) = Some a.object
+signed_of (OtherContent o) = Some o
+signed_of (OtherCertificate c) = None
+
+-- its subject is its issuer (RFC 5280 3.2)
+abbrev pub is_self_issued : CertParts → Bool
+is_self_issued c = bytes_eq c.tbs.issuer c.tbs.subject
+
+-- the certificate, where it is
+abbrev pub self_issued : CertParts → Option CertParts
+self_issued c = if is_self_issued c then Some c else None
+
+-- the self-issued certificate that an object is, as a trust anchor is one, where no other issuer is asked for
+abbrev pub anchor_of : Option TbsParts → Object → Option CertParts
+anchor_of (Some issuer) x = None
+anchor_of None (Certificate c) = self_issued c
+anchor_of None (RevocationList l) = None
+anchor_of None (FileList m) = None
+anchor_of None (RouteOrigins r) = None
+anchor_of None (Providers a) = None
+anchor_of None (OtherContent o) = None
+anchor_of None (OtherCertificate c) = None
 
 -- the revocation list that the object is
 abbrev pub list_of : Object → Option CrlParts
@@ -78,38 +116,66 @@ list_period x = option_map updates (list_of x)
 abbrev pub manifest_period : Object → Option Period
 manifest_period x = option_map period_of (manifest_of x)
 
--- ---- issuers, all but the signature
+-- ---- signatures
 
--- every signature is good
-abbrev pub any_signature : Check
-any_signature bits message value = true
+-- this is the signature of the message, by SHA-256, by the RSA key of these bits (RFC 8017 8.2.2)
+abbrev pub rsa : Check
+rsa bits message value = IsSignatureBy bits (sha256 message) value
 
--- The one certificate has issued the other, all but the signature (RFC 5280 6.1.3, RFC 6487 7.2), at the first moment
--- of the other's period: which moment it is doesn't count, but a period that ends before it begins holds at none.
+-- none is by a key of another kind: the RPKI signs by RSA alone (RFC 7935 2)
+abbrev pub ecdsa : Check
+ecdsa bits message value = ⊥
+
+-- the signer has signed the content (RFC 6488 3), by the key of the certificate in the object
+abbrev pub IsSignedRight : ObjectParts → Type 0
+IsSignedRight = IsSignedObject rsa ecdsa sha256
+
+abbrev pub IsSignedWrong : ObjectParts → ValidationError → Type 0
+IsSignedWrong = IsUnsignedObject rsa ecdsa sha256
+
+-- its own key has signed the certificate (RFC 8630 2.3)
+abbrev pub IsSelfSigned : CertParts → Type 0
+IsSelfSigned c = IsSignedBy rsa ecdsa c.tbs.key c.signed
+
+-- The one certificate has issued the other (RFC 5280 6.1.3, RFC 6487 7.2), at the first moment of the other's period:
+-- which moment it is doesn't count, but a period that ends before it begins holds at none.
 abbrev pub IsCertIssued : TbsParts → CertParts → Type 0
-IsCertIssued issuer c = IsIssued any_signature any_signature sha1 issuer c.tbs.validity.not_before c
+IsCertIssued issuer c = IsIssued rsa ecdsa sha1 issuer c.tbs.validity.not_before c
 
 -- the error where it hasn't
 abbrev pub IsCertUnissued : TbsParts → CertParts → ValidationError → Type 0
-IsCertUnissued issuer c = IsUnissued any_signature any_signature sha1 issuer c.tbs.validity.not_before c
+IsCertUnissued issuer c = IsUnissued rsa ecdsa sha1 issuer c.tbs.validity.not_before c
 
--- the list names the subject of the certificate as its issuer, and its key (RFC 5280 6.3.3, RFC 6487 5)
+-- the key of the certificate has signed the list, which names its subject as the issuer, and the key (RFC 5280 6.3.3,
+-- RFC 6487 5)
 pub record IsListIssued (issuer : TbsParts) (l : CrlParts) : Type 0 where
+  pub signature : IsSignedBy rsa ecdsa issuer.key l.signed
   pub name : l.list.issuer ≡ issuer.subject
   pub authority : l.list.extensions.authority ≡ sha1 issuer.key.bits.octets
 
--- the error where it doesn't
+-- the error where one of them doesn't hold: of the first, in this order
 abbrev pub IsListUnissued : TbsParts → CrlParts → ValidationError → Type 0
 IsListUnissued issuer l =
-    Unless (l.list.issuer ≡ issuer.subject) (HasReason (codes "issuer name mismatch"))
-    (HasReason (codes "authority key identifier mismatch"))
+    Unless (IsSignedBy rsa ecdsa issuer.key l.signed) (HasReason verification_text)
+    (Unless (l.list.issuer ≡ issuer.subject) (HasReason (codes "issuer name mismatch"))
+    (HasReason (codes "authority key identifier mismatch")))
 
 -- the error of a moment before this update, or after the next
 abbrev pub IsUpdateError : Period → DateTime → ValidationError → Type 0
 IsUpdateError p at =
     Unless (civil_nanos p.not_before ≤ℤ civil_nanos at) (HasReason (codes "issued later")) (HasReason (codes "stale"))
 
--- ---- all of it
+-- ---- what holds of some, and of two that may be there
+
+-- P of what is there
+abbrev pub WhereSome : {A : Type 0} → (A → Type 0) → Option A → Type 0
+WhereSome P None = Unit {0}
+WhereSome P (Some a) = P a
+
+-- something is there, and P of it
+abbrev pub HasSome : {A : Type 0} → (A → Type 0) → Option A → Type 0
+HasSome P None = ⊥
+HasSome P (Some a) = P a
 
 -- P of both, where both are there
 abbrev pub WhereBoth : {A B : Type 0} → (A → B → Type 0) → Option A → Option B → Type 0
@@ -123,43 +189,134 @@ HasBoth P (Some a) (Some b) = P a b
 HasBoth P (Some a) None = ⊥
 HasBoth P None b = ⊥
 
--- Certificates and lists have the issuer, and all periods hold at the moment: of certificates (RFC 6487 7.2), and those
--- between this update and the next, of lists (RFC 5280 6.3.3) and of manifests (RFC 9286 6.3).
-pub record IsVerified (terms : TermParts) (x : Object) : Type 0 where
-  pub cert : WhereBoth IsCertIssued terms.issuer (signer_of x)
-  pub list : WhereBoth IsListIssued terms.issuer (list_of x)
-  pub cert_at : WhereBoth HoldsAt (signer_period x) terms.moment
-  pub list_at : WhereBoth HoldsAt (list_period x) terms.moment
-  pub manifest_at : WhereBoth HoldsAt (manifest_period x) terms.moment
+-- ---- the rules
+
+-- all periods hold at the moment: of the certificate (RFC 6487 7.2), and those between this update and the next, of a
+-- list (RFC 5280 6.3.3) and of a manifest (RFC 9286 6.3)
+abbrev pub HoldsCertAt : TermParts → Object → Type 0
+HoldsCertAt terms x = WhereBoth HoldsAt (signer_period x) terms.moment
+
+abbrev pub HoldsListAt : TermParts → Object → Type 0
+HoldsListAt terms x = WhereBoth HoldsAt (list_period x) terms.moment
+
+abbrev pub HoldsManifestAt : TermParts → Object → Type 0
+HoldsManifestAt terms x = WhereBoth HoldsAt (manifest_period x) terms.moment
+
+-- a signed object's signer has signed it (RFC 6488 3)
+abbrev pub IsSigned : Object → Type 0
+IsSigned x = WhereSome IsSignedRight (signed_of x)
+
+-- The content of a signed object is within what its own certificate says of resources: a manifest's inherits all (RFC
+-- 9286 5.1), a route origin attestation's lists each prefix (RFC 9582 5), and an attestation of providers' the customer
+-- (draft-ietf-sidrops-aspa-profile 4).
+abbrev pub KeepsResources : Object → Type 0
+KeepsResources (Certificate c) = Unit {0}
+KeepsResources (RevocationList l) = Unit {0}
+KeepsResources (FileList m) = AreInherited m.object.cert.tbs.extensions
+KeepsResources (RouteOrigins r) = KeepsOwnOriginRules r
+KeepsResources (Providers a) = KeepsOwnAspaRules a
+KeepsResources (OtherContent o) = Unit {0}
+KeepsResources (OtherCertificate c) = Unit {0}
+
+-- without an issuer, a self-issued certificate is signed by its own key
+abbrev pub IsAnchored : TermParts → Object → Type 0
+IsAnchored terms x = WhereSome IsSelfSigned (anchor_of terms.issuer x)
+
+-- the issuer has issued the certificate, and the list
+abbrev pub HasIssuedCert : TermParts → Object → Type 0
+HasIssuedCert terms x = WhereBoth IsCertIssued terms.issuer (signer_of x)
+
+abbrev pub HasIssuedList : TermParts → Object → Type 0
+HasIssuedList terms x = WhereBoth IsListIssued terms.issuer (list_of x)
+
+-- ---- all of them, in this order
+
+-- P, and then Q
+abbrev pub Both : Type 0 → Type 0 → Type 0
+Both P Q = P × Q
+
+abbrev pub AreUpdatesHeld : TermParts → Object → Type 0
+AreUpdatesHeld terms x = Both (HoldsListAt terms x) (HoldsManifestAt terms x)
+
+abbrev pub ArePeriodsHeld : TermParts → Object → Type 0
+ArePeriodsHeld terms x = Both (HoldsCertAt terms x) (AreUpdatesHeld terms x)
+
+abbrev pub HoldsAlone : Object → Type 0
+HoldsAlone x = Both (IsSigned x) (KeepsResources x)
+
+abbrev pub IsIssuedBy : TermParts → Object → Type 0
+IsIssuedBy terms x = Both (HasIssuedCert terms x) (HasIssuedList terms x)
+
+abbrev pub HasIssuer : TermParts → Object → Type 0
+HasIssuer terms x = Both (IsAnchored terms x) (IsIssuedBy terms x)
+
+-- the periods hold at the moment; the object holds by itself; and it has its issuer
+abbrev pub IsVerified : TermParts → Object → Type 0
+IsVerified terms x = Both (ArePeriodsHeld terms x) (Both (HoldsAlone x) (HasIssuer terms x))
+
+-- ---- what is wrong first
+
+-- which clause is broken, and the error
+abbrev pub Wrong : Type 1
+Wrong = Clause → ValidationError → Type 0
+
+-- P doesn't hold, and V says what is wrong; or P holds, and W does
+abbrev pub Else : Type 0 → Wrong → Wrong → Wrong
+Else P V W clause e = ((P → ⊥) × V clause e) ⊎ (P × W clause e)
 
 -- this error, by this clause
-abbrev pub SaysBy : {A B : Type 0} → (A → B → ValidationError → Type 0) → Option A → Option B → Clause → Clause
-    → ValidationError → Type 0
+abbrev pub SaysBy : {A B : Type 0} → (A → B → ValidationError → Type 0) → Option A → Option B → Clause → Wrong
 SaysBy E a b wanted clause e = (clause ≡ wanted) × HasBoth (λ x y. E x y e) a b
 
--- P doesn't hold, and E does; or P holds, and F does
-abbrev pub Else : Type 0 → Type 0 → Type 0 → Type 0
-Else P E F = ((P → ⊥) × E) ⊎ (P × F)
+abbrev pub SaysOf : {A : Type 0} → (A → ValidationError → Type 0) → Option A → Clause → Wrong
+SaysOf E a wanted clause e = (clause ≡ wanted) × HasSome (λ x. E x e) a
+
+-- the clause and the error of resources that the content isn't within
+abbrev pub BreaksResources : Object → Wrong
+BreaksResources (Certificate c) clause e = ⊥
+BreaksResources (RevocationList l) clause e = ⊥
+BreaksResources (FileList m) clause e =
+    (clause ≡ C.Inherited) × HasReason (codes "resources that are not inherited") e
+BreaksResources (RouteOrigins r) clause e = (clause ≡ C.Origins) × IsOwnOriginError r e
+BreaksResources (Providers a) clause e = (clause ≡ C.Customer) × IsOwnAspaError a e
+BreaksResources (OtherContent o) clause e = ⊥
+BreaksResources (OtherCertificate c) clause e = ⊥
+
+abbrev pub BreaksUpdates : TermParts → Object → Wrong
+BreaksUpdates terms x =
+    Else (HoldsListAt terms x) (SaysBy IsUpdateError (list_period x) terms.moment C.Updates)
+    (SaysBy IsUpdateError (manifest_period x) terms.moment C.Manifest)
+
+abbrev pub BreaksPeriods : TermParts → Object → Wrong
+BreaksPeriods terms x =
+    Else (HoldsCertAt terms x) (SaysBy IsPeriodError (signer_period x) terms.moment C.Period)
+    (BreaksUpdates terms x)
+
+abbrev pub BreaksAlone : Object → Wrong
+BreaksAlone x = Else (IsSigned x) (SaysOf IsSignedWrong (signed_of x) C.Object) (BreaksResources x)
+
+abbrev pub BreaksIssued : TermParts → Object → Wrong
+BreaksIssued terms x =
+    Else (HasIssuedCert terms x) (SaysBy IsCertUnissued terms.issuer (signer_of x) C.Certificate)
+    (SaysBy IsListUnissued terms.issuer (list_of x) C.List)
+
+abbrev pub BreaksIssuer : TermParts → Object → Wrong
+BreaksIssuer terms x =
+    Else (IsAnchored terms x) (SaysOf (λ c. HasReason verification_text) (anchor_of terms.issuer x) C.Anchor)
+    (BreaksIssued terms x)
 
 -- the clause that is broken first, in this order, and its error
-abbrev pub IsFirstWrong : TermParts → Object → Clause → ValidationError → Type 0
-IsFirstWrong terms x clause e =
-    Else (WhereBoth IsCertIssued terms.issuer (signer_of x))
-    (SaysBy IsCertUnissued terms.issuer (signer_of x) C.Certificate clause e)
-    (Else (WhereBoth IsListIssued terms.issuer (list_of x))
-    (SaysBy IsListUnissued terms.issuer (list_of x) C.List clause e)
-    (Else (WhereBoth HoldsAt (signer_period x) terms.moment)
-    (SaysBy IsPeriodError (signer_period x) terms.moment C.Certificate clause e)
-    (Else (WhereBoth HoldsAt (list_period x) terms.moment)
-    (SaysBy IsUpdateError (list_period x) terms.moment C.List clause e)
-    (SaysBy IsUpdateError (manifest_period x) terms.moment C.Manifest clause e))))
+abbrev pub IsFirstWrong : TermParts → Object → Wrong
+IsFirstWrong terms x =
+    Else (ArePeriodsHeld terms x) (BreaksPeriods terms x) (Else (HoldsAlone x) (BreaksAlone x) (BreaksIssuer terms x))
 
 -- not all of it holds, and this is what is broken first
 pub record IsUnverified (terms : TermParts) (x : Object) (clause : Clause) (e : ValidationError) : Type 0 where
   pub not_all : IsVerified terms x → ⊥
   pub first : IsFirstWrong terms x clause e
 
--- a fault of that kind
+-- a fault of that kind, or allocation failed
 abbrev pub IsUnverifiedBy : TermParts → Object → Fault → Type 0
 IsUnverifiedBy terms x fault =
-    (clause : Clause) × (e : ValidationError) × (fault ≡ Unverified clause e) × IsUnverified terms x clause e
+    (fault ≡ OutOfMemory)
+    ⊎ ((clause : Clause) × (e : ValidationError) × (fault ≡ Unverified clause e) × IsUnverified terms x clause e)

@@ -1,11 +1,11 @@
 //! Why nothing is printed of a file.
 
-ghost use Rattle.std.specs.Prelude.{◌≡◌, IfOk, ◌++◌, codes, string_bytes, unwrap_or};
-ghost use Rattle.rpki.specs.ErrorContent.{validation_text};
+ghost use Rattle.std.specs.Prelude.{◌≡◌, IfOk, ◌++◌, codes, string_bytes};
 ghost use Rattle.rpki_der.specs.ErrorText.{error_text};
 ghost use Rattle.rpki_fields.specs.Kind.{kind_text};
 ghost use Rattle.rpki_fields.specs.PlaceText.{place_text};
 ghost use Rattle.rpkicert.specs.Fault.{cause_of, unreadable_text, clause_text, fault_text, status_of, refusal};
+ghost use Rattle.rpkicert.specs.Fault.{is_bad_signature, reason_text};
 ghost use Rattle.rpkicert.specs.Violation.{violation_text};
 
 use crate::violation::Violation;
@@ -57,15 +57,29 @@ impl Cause {
     }
 }
 
-/// What has to hold of issuers and periods.
+/// What has to hold of an object, in the order in which it is looked at.
 #[derive(Clone, Copy, Debug, PartialEq, Eq)]
 pub enum Clause {
-    /// Of certificates (RFC 6487 7.2).
-    Certificate,
-    /// Of revocation lists (RFC 5280 6.3.3).
-    List,
-    /// Of manifests (RFC 9286 6.3).
+    /// The period of the certificate (RFC 6487 7.2).
+    Period,
+    /// The updates of a revocation list (RFC 5280 6.3.3).
+    Updates,
+    /// The updates of a manifest (RFC 9286 6.3).
     Manifest,
+    /// The content and the signature of a signed object (RFC 6488 3).
+    Object,
+    /// The resources of the signer of a manifest (RFC 9286 5.1).
+    Inherited,
+    /// The resources of the signer of a route origin attestation (RFC 9582 5).
+    Origins,
+    /// The resources of the signer of an attestation of providers (draft-ietf-sidrops-aspa-profile 4).
+    Customer,
+    /// The signature of a self-issued certificate (RFC 8630 2.3).
+    Anchor,
+    /// The issuer of a certificate (RFC 6487 7.2).
+    Certificate,
+    /// The issuer of a revocation list (RFC 5280 6.3.3).
+    List,
 }
 
 impl Clause {
@@ -74,9 +88,16 @@ impl Clause {
         ensures { result.now ≡ clause_text self }
     {
         match self {
+            Clause::Period => "RFC 6487 7.2",
+            Clause::Updates => "RFC 5280 6.3.3",
+            Clause::Manifest => "RFC 9286 6.3",
+            Clause::Object => "RFC 6488 3",
+            Clause::Inherited => "RFC 9286 5.1",
+            Clause::Origins => "RFC 9582 5",
+            Clause::Customer => "draft-ietf-sidrops-aspa-profile 4",
+            Clause::Anchor => "RFC 8630 2.3",
             Clause::Certificate => "RFC 6487 7.2",
             Clause::List => "RFC 5280 6.3.3",
-            Clause::Manifest => "RFC 9286 6.3",
         }
     }
 }
@@ -96,9 +117,9 @@ pub enum Fault {
     Refused(Kind, Option<Place>, DecodeError),
     /// The certificate in it violates the profile.
     Violated(Violation),
-    /// The object is not of the issuer that is asked for, all but the signature, or doesn't hold at the moment.
+    /// The object breaks this clause: by itself, of the issuer that is asked for, or at the moment.
     Unverified(Clause, ValidationError),
-    /// The issuer that is asked for is an object of another kind.
+    /// It is to have a profile, or to be an issuer, and neither is nor has a certificate.
     NoCertificate,
     /// It is held to something, or is to be an issuer, and is a certificate of an algorithm that the RPKI doesn't use.
     OtherAlgorithm,
@@ -127,12 +148,24 @@ fn violated_text(alloc: Global, violation: Violation) -> Result<String, AllocErr
     format!(in alloc; "violates the profile: {said}")
 }
 
+/// Whether the error is that of a signature that isn't good.
+///
+/// Returns `AllocError` if allocation fails.
+pub fn is_bad_signature(alloc: Global, e: ValidationError) -> Result<bool, AllocError>
+    ensures { IfOk result (λ b. b ≡ is_bad_signature e) }
+{
+    let said = format!(in alloc; "{e}")?;
+    Ok(said.as_bytes() == b"signature verification failed".as_slice())
+}
+
 /// That the clause is broken, and how.
 fn unverified_text(alloc: Global, clause: Clause, e: ValidationError) -> Result<String, AllocError>
-    ensures { IfOk result (λ text. string_bytes text
-        ≡ clause_text clause ++ codes ": " ++ unwrap_or (validation_text e) (codes "")) }
+    ensures { IfOk result (λ text. string_bytes text ≡ clause_text clause ++ codes ": " ++ reason_text e) }
 {
     let section = clause.text();
+    if is_bad_signature(alloc, e)? {
+        return format!(in alloc; "{section}: bad signature");
+    }
     format!(in alloc; "{section}: {e}")
 }
 
@@ -143,9 +176,8 @@ impl Fault {
     {
         match self {
             Fault::Unreadable(_) | Fault::TooLarge | Fault::OutOfMemory => 2,
-            Fault::NoCertificate => 2,
             Fault::Malformed | Fault::Refused(..) | Fault::Violated(_) => 1,
-            Fault::Unverified(..) | Fault::OtherAlgorithm => 1,
+            Fault::Unverified(..) | Fault::NoCertificate | Fault::OtherAlgorithm => 1,
         }
     }
 

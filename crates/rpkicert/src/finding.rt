@@ -9,7 +9,7 @@ ghost use Rattle.rpkicert.specs.declared.fault.Fault.TheVariants.{OutOfMemory};
 
 use crate::fault::{Fault, refusal};
 use crate::pem::octets_of;
-use crate::profile::inspect;
+use crate::profile::profiled;
 use crate::sources::Sources;
 use crate::terms::{Terms, verify};
 use bytes::Bytes;
@@ -66,7 +66,7 @@ fn is_outside(terms: &Terms<'_>, object: &Object) -> bool
     held && object.has_objection()
 }
 
-/// The object of these octets, where it is what it is held to.
+/// The object of these octets, where it holds.
 fn held(alloc: Global, terms: &Terms<'_>, octets: Vec<u8>) -> Result<Found, Fault>
     ensures { HoldsTo (terms_of terms.now) octets.items (finding_of result) }
 {
@@ -74,22 +74,21 @@ fn held(alloc: Global, terms: &Terms<'_>, octets: Vec<u8>) -> Result<Found, Faul
     if is_outside(terms, object.as_ref()) {
         return Err(Fault::OtherAlgorithm);
     }
-    match inspect(terms.inspection, object.as_ref().cert()) {
-        Ok(()) => match verify(terms, object.as_ref()) {
+    match profiled(terms.inspection, object.as_ref()) {
+        Ok(()) => match verify(alloc, terms, object.as_ref()) {
             Ok(()) => Ok(Found { octets, object }),
             Err(fault) => Err(fault),
         },
-        Err(violation) => Err(Fault::Violated(violation)),
+        Err(fault) => Err(fault),
     }
 }
 
-/// The object that an input stands for, where it is what it is held to. The profile is that of the certificate: of a
-/// signed object that of its signer; a revocation list has none.
+/// The object that an input stands for, where it holds. The profile is that of the certificate: of a signed object that
+/// of its signer; a revocation list has none.
 ///
 /// Returns `Malformed` for a text that isn't one certificate; `Refused` for octets that are no object of the kind that
-/// they tell; `Violated` if the certificate violates the profile; `Unverified` as [verify]; `OtherAlgorithm` where it
-/// is held to something, and is a certificate of an algorithm that the RPKI doesn't use; `OutOfMemory` if allocation
-/// fails.
+/// they tell; `Violated` and `NoCertificate` as [profiled]; `Unverified` as [verify]; `OtherAlgorithm` where it is held
+/// to something, and is a certificate of an algorithm that the RPKI doesn't use; `OutOfMemory` if allocation fails.
 pub fn found_in(alloc: Global, terms: &Terms<'_>, input: Vec<u8>) -> Result<Found, Fault>
     ensures { FindsIn (terms_of terms.now) input.items (finding_of result) }
 {
@@ -99,10 +98,10 @@ pub fn found_in(alloc: Global, terms: &Terms<'_>, input: Vec<u8>) -> Result<Foun
     }
 }
 
-/// The object in the file of this name, which is held to nothing, so that it can be an issuer.
+/// The object in the file of this name, which is held to no profile, issuer or moment, so that it can be an issuer.
 ///
-/// Returns `Unreadable` and `TooLarge` as [Sources::read]; else the errors of [found_in], but for `Violated`,
-/// `Unverified` and `OtherAlgorithm`.
+/// Returns `Unreadable` and `TooLarge` as [Sources::read]; else the errors of [found_in], but for `NoCertificate` and
+/// `OtherAlgorithm`.
 pub fn find_issuer<S: Sources>(alloc: Global, sources: &S, name: &str) -> Result<Found, Fault>
     ensures { IfSome (S.holds sources.now name.now) (λ source. Finds no_terms source (finding_of result)) }
 {

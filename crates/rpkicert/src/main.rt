@@ -1,12 +1,15 @@
-//! A program that prints the objects of a repository of the RPKI, and holds them to profiles, an issuer and a moment.
+//! A program that prints the objects of a repository of the RPKI, verifies them, and holds them to profiles, an issuer
+//! and a moment.
 #![tactic(auto)]
 
+mod alone;
 mod arguments;
 mod complaint;
 mod fault;
 mod finding;
 mod input;
 mod laws;
+mod moment;
 mod pem;
 mod profile;
 mod request;
@@ -14,9 +17,10 @@ mod runs;
 mod seen;
 mod settled;
 mod shown;
+mod signature;
+mod signed;
 mod sources;
 mod terms;
-mod unsigned;
 mod violation;
 mod words;
 

@@ -1,12 +1,19 @@
 //! The profiles of certificates (RFC 6487 4, RFC 9323 2, RFC 8209 3.1).
 
-ghost use Rattle.std.specs.Prelude.{◌≡◌, Some};
+ghost use Rattle.std.specs.Prelude.{◌≡◌, Some, MatchResult};
 ghost use Rattle.std.specs.Option.{option_copied};
-ghost use Rattle.rpkicert.specs.Finding.{Inspects};
+ghost use Rattle.rpkicert.specs.Profiled.{end_profile, own_inspection, Inspects, IsProfiled, IsUnprofiled};
 ghost use Rattle.rpkicert.specs.Request.{profile_of};
 
+use crate::alone::signed;
+use crate::fault::Fault;
 use crate::violation::Violation;
 use rpki_cert::{Profile, TbsCert};
+use rpki_fields::Object;
+use rpki_objects::SignedObject;
+
+/// The type of a signed checklist: `id-ct-signedChecklist` (RFC 9323 3).
+const CHECKLIST: &[u8] = &[42, 134, 72, 134, 247, 13, 1, 9, 16, 1, 48];
 
 /// The profile of this name.
 pub fn profile_of(word: &[u8]) -> Option<Profile>
@@ -36,29 +43,71 @@ pub struct Inspection {
     pub strict: bool,
 }
 
+/// The profile of the certificate of a signed object: that of an end entity (RFC 6488 3), without subject information
+/// access where it signs a checklist (RFC 9323 2).
+fn end_profile(object: &SignedObject) -> Profile
+    ensures { result ≡ end_profile object.now }
+{
+    if object.content_type().0.as_slice() == CHECKLIST {
+        return Profile::DetachedEe;
+    }
+    Profile::Ee
+}
+
+/// How the certificate of the object's signer is held to its profile, where it is a signed object: as the certificate
+/// is held to the one that is asked for, or strictly.
+fn own_inspection(asked: Option<Inspection>, object: &Object) -> Option<Inspection>
+    ensures { result ≡ own_inspection asked object.now }
+{
+    match signed(object) {
+        Some(object) => {
+            let profile = end_profile(object);
+            let strict = match asked {
+                Some(inspection) => inspection.strict,
+                None => true,
+            };
+            Some(Inspection { profile, strict })
+        }
+        None => None,
+    }
+}
+
 /// Whether the certificate has the profile; the violation is of the rule that is broken first.
-fn inspect_by(inspection: Inspection, tbs: &TbsCert) -> Result<(), Violation>
+fn inspect_by(inspection: Inspection, tbs: &TbsCert) -> Result<(), Fault>
     ensures { Inspects (Some inspection) (Some tbs.now) result }
 {
     match tbs.test(inspection.profile, inspection.strict) {
         Ok(()) => Ok(()),
         Err(rule) => match tbs.inspect(inspection.profile, inspection.strict) {
             Ok(()) => Ok(()),
-            Err(error) => Err(Violation { rule, error }),
+            Err(error) => Err(Fault::Violated(Violation { rule, error })),
         },
     }
 }
 
-/// Whether the certificate, where there is one, has the profile that is asked for, if one is; the violation is of the
-/// rule of the profile that is broken first.
-pub fn inspect(inspection: Option<Inspection>, cert: Option<&TbsCert>) -> Result<(), Violation>
+/// Whether there is a certificate that has the profile, where one is asked for.
+///
+/// Returns `NoCertificate` if there is none; `Violated` with the rule of the profile that is broken first.
+fn inspect(inspection: Option<Inspection>, cert: Option<&TbsCert>) -> Result<(), Fault>
     ensures { Inspects inspection (option_copied cert.entry) result }
 {
     match inspection {
         None => Ok(()),
         Some(inspection) => match cert {
-            None => Ok(()),
+            None => Err(Fault::NoCertificate),
             Some(tbs) => inspect_by(inspection, tbs),
         },
     }
+}
+
+/// Whether the object's certificate has the profile that is asked for, if one is; and, where it is that of a signer,
+/// that of an end entity.
+///
+/// Returns `NoCertificate` for a revocation list that is to have a profile; `Violated` with the rule that is broken
+/// first.
+pub fn profiled(asked: Option<Inspection>, object: &Object) -> Result<(), Fault>
+    ensures { MatchResult result (λ _. IsProfiled asked object.now) (IsUnprofiled asked object.now) }
+{
+    inspect(asked, object.cert())?;
+    inspect(own_inspection(asked, object), object.cert())
 }

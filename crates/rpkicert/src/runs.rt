@@ -15,6 +15,7 @@ ghost use Rattle.rpkicert.specs.Words.{Prints, PrintsAlone};
 use crate::arguments::Wordless;
 use crate::complaint::complaint;
 use crate::finding::{Found, find_issuer};
+use crate::moment::moment_of;
 use crate::request::{Request, is_given, matched};
 use crate::seen::seen;
 use crate::settled::{issuer_of, wrong_issuer, wrong_moment};
@@ -202,9 +203,9 @@ fn show_all<S: Sources, W: Write, F: Write>(
 {
     match request.moment {
         None => show_at(alloc, request, None, sources, out, err),
-        Some(word) => match word.parse::<Time>() {
-            Ok(moment) => show_at(alloc, request, Some(moment), sources, out, err),
-            Err(_) => deny(wrong_moment(alloc, word), err),
+        Some(word) => match moment_of(word) {
+            Some(moment) => show_at(alloc, request, Some(moment), sources, out, err),
+            None => deny(wrong_moment(alloc, word), err),
         },
     }
 }
@@ -250,10 +251,10 @@ fn answer<S: Sources, W: Write, F: Write>(
 /// moment that is none, only that is told, among the faults. Of other words what is wrong with them first, and how the
 /// program is used.
 ///
-/// The status is 0 if all is well; 1 if a file is no such object, violates the profile, is of another issuer, or holds
-/// at another time; 2 if one can't be read, without the issuer or the moment, for other words, if allocation fails, and
-/// if the output or the faults fail; of several the greatest. Returns `AllocError` if there is no memory to read the
-/// words, or to say what is wrong with them; then nothing is written.
+/// The status is 0 if all is well; 1 if a file is no such object, breaks a rule of its own, violates the profile, is of
+/// another issuer, or holds at another time; 2 if one can't be read, without the issuer or the moment, for other words,
+/// if allocation fails, and if the output or the faults fail; of several the greatest. Returns `AllocError` if there is
+/// no memory to read the words, or to say what is wrong with them; then nothing is written.
 pub fn run<S: Sources, W: Write, F: Write>(
     alloc: Global,
     words: &[String],

@@ -1,8 +1,8 @@
 //! What is shown of a file.
 
 ghost use Rattle.std.specs.Prelude.{◌≡◌, ◌++◌, OnOk, IfOk, Bool, Ok, Err};
-ghost use Rattle.rpki_fields.specs.declared.rendering.Form.TheVariants.{Text, Json};
-ghost use Rattle.rpkicert.specs.Shown.{name_octet, visible, line, file_text, marked, signature_text, verdict};
+ghost use Rattle.rpki_fields.specs.declared.rendering.Form.TheVariants.{Json};
+ghost use Rattle.rpkicert.specs.Shown.{name_octet, visible, line, file_text, marked, verdict};
 ghost use Rattle.rpkicert.specs.Shown.{IsTextOf, IsShown, checked_parts};
 ghost use Rattle.rpki_fields.specs.Object.{objection_to};
 ghost use Rattle.rpkicert.specs.FindingView.{finding_of};
@@ -10,6 +10,7 @@ ghost use Rattle.rpkicert.specs.ShownView.{parts_of};
 
 use crate::fault::Fault;
 use crate::finding::Found;
+use crate::signature::{Signature, signature_in, signature_of};
 use rpki_fields::{Form, Object, Sheet, hex_pair};
 use std::alloc::{AllocError, Global};
 
@@ -76,14 +77,11 @@ fn file_text(alloc: Global, form: Form, name: &str) -> Result<Vec<u8>, AllocErro
     }
 }
 
-/// The sheet with a field in front that says that the signature was not checked, where the issuer was.
-fn marked(alloc: Global, issued: bool, sheet: Sheet) -> Result<Sheet, AllocError>
-    ensures { IfOk result (λ s. s ≡ marked issued sheet) }
+/// The sheet with a field in front that says what was checked of the signatures.
+fn marked(alloc: Global, signature: Signature, sheet: Sheet) -> Result<Sheet, AllocError>
+    ensures { IfOk result (λ s. s ≡ marked signature sheet) }
 {
-    if issued {
-        return sheet.behind(alloc, b"Signature", b"not checked");
-    }
-    Ok(sheet)
+    sheet.behind(alloc, b"Signature", signature.text())
 }
 
 /// The text of an object, in this form.
@@ -99,40 +97,33 @@ fn text_of(
 {
     let file = file_text(alloc, form, name)?;
     let sheet = found.object.as_ref().sheet(alloc, found.octets.as_slice())?;
-    let own = marked(alloc, issued, sheet)?;
+    let signature = signature_of(issued, found.object.as_ref());
+    let own = marked(alloc, signature, sheet)?;
     let all = own.behind(alloc, b"File", file.as_slice())?;
     form.render(alloc, &all)
 }
 
-/// What is behind the verdict of an object whose issuer was checked.
-fn signature_text(issued: bool) -> &'static [u8]
-    ensures { result.now ≡ signature_text issued }
-{
-    if issued {
-        b", signature not checked"
-    } else {
-        b""
-    }
-}
-
 /// The verdict on a file as a line.
-fn line_of(alloc: Global, issued: bool, name: &str, said: &[u8]) -> Result<Vec<u8>, AllocError>
-    ensures { IfOk result (λ text. text.items ≡ verdict Text issued name.now said.now) }
+fn line_of(alloc: Global, name: &str, said: &[u8]) -> Result<Vec<u8>, AllocError>
+    ensures { IfOk result (λ text. text.items ≡ line name.now said.now) }
 {
-    let mut all = Vec::from_slice(alloc, said)?;
-    all.extend_from_slice(signature_text(issued))?;
     let mut text = Vec::new(alloc);
-    push_line(&mut text, name, all.as_slice())?;
+    push_line(&mut text, name, said)?;
     Ok(text)
 }
 
 /// The verdict on a file as an object of JSON.
-fn member_of(alloc: Global, issued: bool, name: &str, said: &[u8]) -> Result<Vec<u8>, AllocError>
-    ensures { IfOk result (λ text. text.items ≡ verdict Json issued name.now said.now) }
+fn member_of(
+    alloc: Global,
+    signature: Signature,
+    name: &str,
+    said: &[u8],
+) -> Result<Vec<u8>, AllocError>
+    ensures { IfOk result (λ text. text.items ≡ verdict Json signature name.now said.now) }
 {
     let none = Sheet::plain(Vec::new(alloc));
     let told = none.behind(alloc, b"Validation", said)?;
-    let own = marked(alloc, issued, told)?;
+    let own = marked(alloc, signature, told)?;
     let all = own.behind(alloc, b"File", name.as_bytes())?;
     Form::Json.render(alloc, &all)
 }
@@ -141,32 +132,32 @@ fn member_of(alloc: Global, issued: bool, name: &str, said: &[u8]) -> Result<Vec
 fn verdict(
     alloc: Global,
     form: Form,
-    issued: bool,
+    signature: Signature,
     name: &str,
     said: &[u8],
 ) -> Result<Vec<u8>, AllocError>
-    ensures { IfOk result (λ text. text.items ≡ verdict form issued name.now said.now) }
+    ensures { IfOk result (λ text. text.items ≡ verdict form signature name.now said.now) }
 {
     match form {
-        Form::Text => line_of(alloc, issued, name, said),
-        Form::Json => member_of(alloc, issued, name, said),
+        Form::Text => line_of(alloc, name, said),
+        Form::Json => member_of(alloc, signature, name, said),
     }
 }
 
-/// The verdict on an object: that it is well, or what the RPKI doesn't use of it.
+/// The verdict on an object of whose signatures this was checked: that it is well, or what the RPKI doesn't use of it.
 fn checked(
     alloc: Global,
     form: Form,
-    issued: bool,
+    signature: Signature,
     name: &str,
     object: &Object,
 ) -> Result<Shown, AllocError>
-    ensures { IfOk result (λ s. parts_of s ≡ checked_parts form issued name.now (objection_to object.now)) }
+    ensures { IfOk result (λ s. parts_of s ≡ checked_parts form signature name.now (objection_to object.now)) }
 {
     let faults = Vec::new(alloc);
     match object.objection(alloc)? {
         Some(said) => {
-            let output = verdict(alloc, form, false, name, said.as_slice())?;
+            let output = verdict(alloc, form, signature, name, said.as_slice())?;
             Ok(Shown {
                 output,
                 faults,
@@ -174,7 +165,7 @@ fn checked(
             })
         }
         None => {
-            let output = verdict(alloc, form, issued, name, b"OK")?;
+            let output = verdict(alloc, form, signature, name, signature.verdict())?;
             Ok(Shown {
                 output,
                 faults,
@@ -197,7 +188,8 @@ fn good(
         IsShown check form issued name.now (Ok (found.now.octets.items, found.now.object.value)) (parts_of s)) }
 {
     if check {
-        return checked(alloc, form, issued, name, found.object.as_ref());
+        let signature = signature_of(issued, found.object.as_ref());
+        return checked(alloc, form, signature, name, found.object.as_ref());
     }
     let faults = Vec::new(alloc);
     let output = text_of(alloc, form, issued, name, found)?;
@@ -221,7 +213,8 @@ fn bad(
     let said = fault.text(alloc)?;
     let status = fault.status();
     if check {
-        let output = verdict(alloc, form, false, name, said.as_bytes())?;
+        let signature = signature_in(alloc, fault)?;
+        let output = verdict(alloc, form, signature, name, said.as_bytes())?;
         let faults = Vec::new(alloc);
         return Ok(Shown {
             output,

@@ -1,32 +1,37 @@
-//! What an object is held to: a profile, an issuer and a moment.
+//! What an object is held to: its own rules, an issuer and a moment.
 
 ghost use Rattle.std.specs.Prelude.{◌≡◌, MatchResult, option_map};
 ghost use Rattle.std.specs.Option.{option_copied};
 ghost use Rattle.rpki_time.specs.Validity.{HoldsAt};
 ghost use Rattle.rpki_cert.specs.RuleError.{ChecksBy};
-ghost use Rattle.rpki_cert.specs.Valid.{IsPeriodError};
+ghost use Rattle.rpki.specs.ErrorTexts.{verification_text};
+ghost use Rattle.rpki_valid.specs.Valid.{HasReason, IsPeriodError};
 ghost use Rattle.rpkicert.specs.Terms.{signer_of, list_of, signer_period, list_period, manifest_period};
 ghost use Rattle.rpkicert.specs.Terms.{IsCertIssued, IsCertUnissued, IsListIssued, IsListUnissued};
+ghost use Rattle.rpkicert.specs.Terms.{ArePeriodsHeld, BreaksPeriods, HasIssuer, BreaksIssuer, IsSelfSigned};
+ghost use Rattle.rpkicert.specs.Terms.{self_issued, anchor_of};
 ghost use Rattle.rpkicert.specs.Terms.{IsUpdateError, IsVerified, IsUnverifiedBy};
-ghost use Rattle.rpkicert.specs.TermsView.{terms_of, by_clause, ChecksBoth, HoldsBoth};
+ghost use Rattle.rpkicert.specs.TermsView.{terms_of, by_clause, ChecksBoth, HoldsBoth, HoldsOne, Judges};
 ghost use Rattle.rpkicert.specs.declared.fault.Clause.TheVariants as C;
 
+use crate::alone::hold_alone;
 use crate::fault::{Clause, Fault};
 use crate::profile::Inspection;
-use crate::unsigned::Unsigned;
+use crate::signed::{PROVIDER, check_anchor, is_self_issued, verify_list};
 use rpki::repository::error::ValidationError;
 use rpki::repository::x509::{Time, Validity};
-use rpki_cert::objects::{unverified, verify_period};
 use rpki_cert::{Cert, TbsCert};
 use rpki_fields::Object;
 use rpki_objects::Crl;
+use rpki_valid::{unverified, verify_issued, verify_period};
+use std::alloc::Global;
 
 /// What an object is held to.
 #[derive(Clone, Copy)]
 pub struct Terms<'a> {
     /// The profile of its certificate.
     pub inspection: Option<Inspection>,
-    /// The certificate that has issued it, all but the signature.
+    /// The certificate that has issued it.
     pub issuer: Option<&'a TbsCert>,
     /// A moment within its periods.
     pub moment: Option<Time>,
@@ -44,6 +49,29 @@ fn signer(object: &Object) -> Option<&Cert>
         Object::Providers(attestation) => Some(attestation.object().cert()),
         Object::OtherContent(object) => Some(object.cert()),
         Object::OtherCertificate(_) => None,
+    }
+}
+
+/// The certificate, if it is self-issued.
+fn self_issued(cert: &Cert) -> Option<&Cert>
+    ensures { option_map (λ c. c.now) result ≡ self_issued cert.now }
+{
+    if is_self_issued(cert) {
+        return Some(cert);
+    }
+    None
+}
+
+/// The self-issued certificate that the object is, where no issuer is asked for.
+fn anchor<'a>(issuer: Option<&TbsCert>, object: &'a Object) -> Option<&'a Cert>
+    ensures { option_map (λ c. c.now) result ≡ anchor_of (option_map (λ t. t.now) issuer.entry) object.now }
+{
+    match issuer {
+        Some(_) => None,
+        None => match object {
+            Object::Certificate(cert) => self_issued(cert),
+            _ => None,
+        },
     }
 }
 
@@ -92,39 +120,24 @@ fn manifest_period(object: &Object) -> Option<Validity>
     }
 }
 
-/// Whether the one certificate has issued the other, all but the signature; where both are there.
+/// Whether the one certificate has issued the other; where both are there.
 ///
-/// The errors are those of [Cert::verify_issued].
+/// The errors are those of [verify_issued].
 fn check_signer(issuer: Option<&TbsCert>, cert: Option<&Cert>) -> Result<(), ValidationError>
     ensures { ChecksBoth IsCertIssued IsCertUnissued (option_copied issuer.entry) (option_copied cert.entry) result }
 {
     match issuer {
         Some(issuer) => match cert {
-            Some(cert) => cert.verify_issued(&Unsigned, issuer, cert.tbs().validity().not_before()),
+            Some(cert) => {
+                verify_issued(cert, &PROVIDER, issuer, cert.tbs().validity().not_before())
+            }
             None => Ok(()),
         },
         None => Ok(()),
     }
 }
 
-/// Whether the list names the certificate's subject as its issuer, and its key.
-///
-/// The error is `Verification` of the first that isn't so: `issuer name mismatch`; `authority key identifier mismatch`.
-fn verify_list(issuer: &TbsCert, list: &Crl) -> Result<(), ValidationError>
-    ensures { ChecksBy (IsListIssued issuer.now list.now) (IsListUnissued issuer.now list.now) result }
-{
-    if *list.issuer() != *issuer.subject() {
-        return Err(unverified("issuer name mismatch"));
-    }
-    if list.authority_key_identifier()
-        != issuer.subject_public_key_info().key_identifier(&Unsigned)
-    {
-        return Err(unverified("authority key identifier mismatch"));
-    }
-    Ok(())
-}
-
-/// The same where both are there.
+/// Whether the certificate has issued the list; where both are there.
 fn check_list(issuer: Option<&TbsCert>, list: Option<&Crl>) -> Result<(), ValidationError>
     ensures { ChecksBoth IsListIssued IsListUnissued (option_copied issuer.entry) (option_copied list.entry) result }
 {
@@ -179,13 +192,21 @@ fn check_updates(period: Option<Validity>, moment: Option<Time>) -> Result<(), V
 }
 
 /// The fault of a check that this clause asks for.
-fn by(clause: Clause, checked: Result<(), ValidationError>) -> Result<(), Fault>
+pub fn by(clause: Clause, checked: Result<(), ValidationError>) -> Result<(), Fault>
     ensures { result ≡ by_clause clause checked }
 {
     match checked {
         Ok(()) => Ok(()),
         Err(e) => Err(Fault::Unverified(clause, e)),
     }
+}
+
+/// The clause that a self-issued certificate, where no issuer is asked for, is signed by its own key.
+fn hold_anchor(terms: &Terms<'_>, object: &Object) -> Result<(), Fault>
+    ensures { HoldsOne C.Anchor IsSelfSigned (λ _. HasReason verification_text)
+        (anchor_of (terms_of terms.now).issuer object.now) result }
+{
+    by(Clause::Anchor, check_anchor(anchor(terms.issuer, object)))
 }
 
 /// The clause that the certificate has the issuer.
@@ -208,20 +229,20 @@ fn hold_list(terms: &Terms<'_>, object: &Object) -> Result<(), Fault>
 
 /// The clause that the period of the certificate holds.
 fn hold_cert_at(terms: &Terms<'_>, object: &Object) -> Result<(), Fault>
-    ensures { HoldsBoth C.Certificate HoldsAt IsPeriodError (signer_period object.now) terms.now.moment result }
+    ensures { HoldsBoth C.Period HoldsAt IsPeriodError (signer_period object.now) terms.now.moment result }
 {
     by(
-        Clause::Certificate,
+        Clause::Period,
         check_period(signer_period(object), terms.moment),
     )
 }
 
 /// The clause that the updates of the list hold.
 fn hold_list_at(terms: &Terms<'_>, object: &Object) -> Result<(), Fault>
-    ensures { HoldsBoth C.List HoldsAt IsUpdateError (list_period object.now) terms.now.moment result }
+    ensures { HoldsBoth C.Updates HoldsAt IsUpdateError (list_period object.now) terms.now.moment result }
 {
     by(
-        Clause::List,
+        Clause::Updates,
         check_updates(list_period(object), terms.moment),
     )
 }
@@ -236,19 +257,37 @@ fn hold_manifest_at(terms: &Terms<'_>, object: &Object) -> Result<(), Fault>
     )
 }
 
-/// Whether the object has the issuer, all but the signature, and its periods hold at the moment; where these are asked
-/// for.
-///
-/// The error is `Unverified` with the first clause that is broken: that the certificate has issued the object's, as
-/// [Cert::verify_issued] says; that the list names its subject and its key; that the periods hold, of the certificate,
-/// between the updates of a list, and those of a manifest.
-pub fn verify(terms: &Terms<'_>, object: &Object) -> Result<(), Fault>
-    ensures { MatchResult result (λ _. IsVerified (terms_of terms.now) object.now)
-        (IsUnverifiedBy (terms_of terms.now) object.now) }
+/// The clauses that the periods hold at the moment: of the certificate, between the updates of a list, and those of a
+/// manifest.
+fn hold_periods(terms: &Terms<'_>, object: &Object) -> Result<(), Fault>
+    ensures { Judges (ArePeriodsHeld (terms_of terms.now) object.now) (BreaksPeriods (terms_of terms.now) object.now)
+        result }
 {
-    hold_cert(terms, object)?;
-    hold_list(terms, object)?;
     hold_cert_at(terms, object)?;
     hold_list_at(terms, object)?;
     hold_manifest_at(terms, object)
+}
+
+/// The clauses of the issuer: that a self-issued certificate, where none is asked for, is signed by its own key; that
+/// the issuer has issued the certificate, and the list.
+fn hold_issuer(terms: &Terms<'_>, object: &Object) -> Result<(), Fault>
+    ensures { Judges (HasIssuer (terms_of terms.now) object.now) (BreaksIssuer (terms_of terms.now) object.now) result }
+{
+    hold_anchor(terms, object)?;
+    hold_cert(terms, object)?;
+    hold_list(terms, object)
+}
+
+/// Whether the object's periods hold at the moment, where one is asked for; whether it holds by itself; and whether it
+/// has the issuer, where one is asked for, or is signed by its own key, where it is self-issued.
+///
+/// The error is `Unverified` with the first clause that is broken: [hold_periods]; [hold_alone]; [hold_issuer];
+/// `OutOfMemory` if allocation fails.
+pub fn verify(alloc: Global, terms: &Terms<'_>, object: &Object) -> Result<(), Fault>
+    ensures { MatchResult result (λ _. IsVerified (terms_of terms.now) object.now)
+        (IsUnverifiedBy (terms_of terms.now) object.now) }
+{
+    hold_periods(terms, object)?;
+    hold_alone(alloc, object)?;
+    hold_issuer(terms, object)
 }

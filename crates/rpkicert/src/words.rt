@@ -16,7 +16,7 @@ pub const NOT_UTF8: &[u8] = b"rpkicert: an argument is not UTF-8\n";
 
 /// What `--help` prints.
 pub const HELP: &[u8] = b"\
-rpkicert - print the objects of a repository of the RPKI
+rpkicert - verify and print the objects of a repository of the RPKI
 
 usage: rpkicert [--json] [--check] [--profile ta|ca|ee|detached|router [--lax]]
                 [--issuer FILE] [--at MOMENT] FILE..
@@ -32,9 +32,17 @@ at most 1048576 octets, as DER; certificates may be in the textual encoding of
 RFC 7468 (PEM) with other text around them, and of several each is printed as
 of a file of its own: FILE (1), FILE (2) .. - is standard input.
 
+An object is held to all that it says by itself, and of one that breaks a rule
+only that is printed: of a signed object the type and the digest of the content,
+the identifier and the signature of the signer (RFC 6488 3), the signer's
+certificate as that of an end entity, and the content within its resources (RFC
+9286 5.1, RFC 9582 5, ASPA 4); of a certificate that is its own issuer the
+signature. Signature: says what was checked.
+
   --json       print an object of JSON a line
-  --check      print a verdict a line and file: its name, and OK or what is wrong;
-               with --json as an object of JSON, with file and validation
+  --check      print a verdict a line and file: its name, and OK, OK, issuer not
+               checked, or what is wrong; with --json as an object of JSON, with
+               file, signature and validation
   --profile P  hold each certificate, and that of the signer of each signed
                object, to the profile of a trust anchor (ta), a certification
                authority (ca), an end entity (ee), one without subject
@@ -43,13 +51,13 @@ of a file of its own: FILE (1), FILE (2) .. - is standard input.
   --lax        with --profile, don't hold the names to the profile
   --issuer F   hold each certificate, that of the signer of each signed object,
                and each revocation list to its issuer, whose certificate alone
-               is in F: to the name, the key identifiers, and known extensions, but
-               not to the signature (RFC 6487 7.2, RFC 5280 6.3.3)
+               is in F: to the signature, the name, the key identifiers, and known
+               extensions (RFC 6487 7.2, RFC 5280 6.3.3)
   --at MOMENT  hold periods of certificates, and those between the updates of
                revocation lists and manifests (RFC 9286 6.3), to a moment such
                as 2026-11-26T12:00:00Z (RFC 3339)
 
-Exit status: 0 if all is well; 1 if a file is no such object, violates the
-profile, is of another issuer, or holds at another time; 2 if a file can't be
-read, for a wrong usage, and if writing fails. Signatures are not verified.
+Exit status: 0 if all is well; 1 if a file is no such object, breaks a rule of
+its own, violates the profile, is of another issuer, or holds at another time; 2
+if a file can't be read, for a wrong usage, and if writing fails.
 ";

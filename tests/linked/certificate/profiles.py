@@ -14,20 +14,20 @@ COMMON_NAME, SERIAL_NUMBER, ORGANIZATION = map(certificates.oid, ("2.5.4.3", "2.
 PRINTABLE, UTF8 = 0x13, 0x0c
 
 # Of each profile its rules, in the order of crates/rpki_cert/specs/Rule.antt.
-BASIC = [85, 86, 87, 112, 94, 108, 109, 115, 116]
-ORDINARY = [*BASIC, 88, 90, 98]
+BASIC = [85, 86, 87, 156, 112, 94, 108, 109, 115, 116]
+ORDINARY = [*BASIC, 88, 157, 90, 98]
 PROFILES = [
     [*ORDINARY, 92, 96, 101, 103, 104, 105, 118, 119, 114, 113, 117],
     [*ORDINARY, 92, 96, 104, 105, 118, 119, 95, 100, 102],
     [*ORDINARY, 93, 97, 106, 111, 119, 95, 100, 102],
-    [*BASIC, 89, 91, 93, 97, 110, 117, 107, 99, 95, 100, 102],
+    [*BASIC, 89, 157, 158, 91, 93, 97, 110, 117, 107, 99, 95, 100, 102],
 ]
 # Those of end entities without subject information access.
 DETACHED = [*ORDINARY, 93, 97, 107, 95, 100, 102]
 
 
 class Extensions:
-    """The extensions by their names, of which no identifier stands twice."""
+    """The extensions by their names, of which no identifier occurs twice."""
 
     def __init__(self, values):
         self.found, self.critical, self.unknown = {}, {}, False
@@ -97,15 +97,29 @@ def is_general(name):
 
 
 def is_name(name, strings):
-    """One common name, and perhaps a serial number and an organization, of 1 to 64 characters each: strings of the
-    profile, the serial number a PrintableString (RFC 6487 4.4, RFC 8209 3.1.1, RFC 5280 A.1)."""
-    pairs = [attribute.inside for relative in name.inside for attribute in relative.inside]
+    """One common name, and perhaps a serial number and an organization: strings of the profile (RFC 6487 4.4, RFC 8209
+    3.1.1)."""
+    pairs = values_in(name)
     kinds = [kind.inside for kind, value in pairs]
-    permitted = {COMMON_NAME: strings, SERIAL_NUMBER: [PRINTABLE], ORGANIZATION: strings}
     return (kinds.count(COMMON_NAME) == 1 and len(kinds) == len(set(kinds))
-            and all(kind in permitted for kind in kinds)
-            and all(value.first in permitted[kind.inside] for kind, value in pairs)
-            and all(1 <= len(value.inside.decode()) <= 64 for kind, value in pairs))
+            and all(kind in (COMMON_NAME, SERIAL_NUMBER, ORGANIZATION) for kind in kinds)
+            and all(value.first in strings for kind, value in pairs))
+
+
+def values_in(name):
+    """The attributes of a name, each its type and its value."""
+    return [attribute.inside for relative in name.inside for attribute in relative.inside]
+
+
+def is_sized(name):
+    """Each value has 1 to 64 characters (RFC 5280 A.1). That it is a string, another rule says."""
+    strings = [value.inside for kind, value in values_in(name) if isinstance(value.inside, bytes)]
+    return all(1 <= len(string.decode(errors="replace")) <= 64 for string in strings)
+
+
+def has_printable_number(name):
+    """A serial number is a PrintableString (RFC 8209 3.1.1)."""
+    return all(value.first == PRINTABLE for kind, value in values_in(name) if kind.inside == SERIAL_NUMBER)
 
 
 def is_policy(values):
@@ -238,7 +252,8 @@ def is_broken(it, found, strict):
         96: usage == bytes.fromhex("03020106"),
         97: usage == bytes.fromhex("03020780"),
         98: not found.has("purposes"),
-        99: bool(purposes) and any(each.inside == certificates.oid(certificates.ROUTER) for each in purposes),
+        99: bool(purposes) and all(each.first == 6 for each in purposes)
+            and any(each.inside == certificates.oid(certificates.ROUTER) for each in purposes),
         100: has_point(found.value("points", False)),
         101: not found.has("points"),
         102: has_access(found.accesses("issuer access"), certificates.CA_ISSUERS),
@@ -259,6 +274,9 @@ def is_broken(it, found, strict):
         117: None not in said and all(blocks is not None for each in said for blocks in each.values()),
         118: is_manifest_below(found.accesses("subject access")),
         119: are_notified(found.accesses("subject access")),
+        156: not strict or is_sized(it.issuer),
+        157: not strict or is_sized(it.subject),
+        158: not strict or has_printable_number(it.subject),
     }
     return {status: not held for status, held in holds.items()}
 

@@ -8,10 +8,10 @@ usage: rows.py > FILE
 A row is the octets in hexadecimal digits, the status, and for status 0 the places of the signed part, the algorithm,
 the signature, the issuer, the subject, the key and the extensions, each as START LENGTH; the serial number in twenty
 octets; the format of the key, its unused bits, and whether there are parameters; for another status the number of the
-error. Behind a bar stand the status of the
+error. After a bar are the status of the
 other call and, for status 0, of each known extension whether it is there and critical, and its place as START LENGTH;
 both key identifiers; whether the subject is an authority; the numbers of the use of the key and of the policy. Behind a
-second bar stand the statuses of rpki_certificate_inspect: of the first four profiles, strict; then the same not
+second bar are the statuses of rpki_certificate_inspect: of the first four profiles, strict; then the same not
 strict; then of the fifth, strict and not."""
 import os
 import sys

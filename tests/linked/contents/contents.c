@@ -145,7 +145,7 @@ static rpki_status take_provider(const uint8_t *octets, size_t size, struct told
     return status;
 }
 
-/* The entries that stand at the place: as many as the content says. */
+/* The entries that are at the place: as many as the content says. */
 static bool entries(const struct input *input, struct rpki_place place, size_t count, take *call, struct told *told) {
     size_t at = place.start, last = place.start + place.length, size;
     if (last < at || last > input->size) return false;

@@ -1,7 +1,7 @@
 """Writes the rows of manifests, route origin attestations and attestations of providers that the tests in C and in Rust
 read: contents of openssl, variants that use or break one rule each, and contents with octets changed, each with its
-status: the part that is wrong by RFC 9286, RFC 9582 or the profile of ASPA, found here from the left, without the
-library. Where that is 0 stand what the content says, and where its parts stand.
+status: the malformed part by RFC 9286, RFC 9582 or the profile of ASPA, found here from the left, without the
+library. Where that is 0 there is what the content says, and where its parts are.
 
 usage: rows.py > FILE
 
@@ -12,7 +12,7 @@ A row begins with one of these words, the octets in hexadecimal digits or `-`, a
              address of sixteen octets, its length, the maximum length, whether that is there, and the entry's size
   aspa       the customer, the place of the providers and their count; then each number and the size of its entry
   file, address4, address6, provider     one entry at the front of the octets, in the same words
-  names      files, one after another: how many they are, and 1 where no two have the same name, else 0"""
+  names      files, in order: how many they are, and 1 where no two have the same name, else 0"""
 import datetime
 import os
 import random
@@ -34,7 +34,7 @@ CYCLE = 146097 * 86400  # 400 years
 
 
 class Wrong(Exception):
-    """The part that is wrong."""
+    """The malformed part."""
 
 
 def need(holds, part):

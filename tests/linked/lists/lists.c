@@ -125,7 +125,7 @@ static void ask(unsigned line, const uint8_t *entries, size_t size, const char *
     judge(line, "a search for a number below 0", well);
 }
 
-/* Reads the entries one after another, whose serial numbers are the words. */
+/* Reads the entries in order, whose serial numbers are the words. */
 static void walk(unsigned line, const uint8_t *entries, size_t size, const char *words) {
     size_t at = 0;
     bool clean, well = true;

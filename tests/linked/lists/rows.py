@@ -1,6 +1,6 @@
 """Writes the rows of revocation lists that the test in C reads: the variants of tests/hostile/lists.py and lists with
-changed octets, each with the status of rpki_crl: the part that is wrong by RFC 5280 5 and RFC 6487 5, found here from
-the left, without the library. Where that is 0 stand what the list says, and where its parts stand.
+changed octets, each with the status of rpki_crl: the malformed part by RFC 5280 5 and RFC 6487 5, found here from
+the left, without the library. Where that is 0 there is what the list says, and where its parts are.
 
 usage: rows.py > FILE
 
@@ -26,7 +26,7 @@ AUTHORITY_KEY, CRL_NUMBER = bytes.fromhex("0603551d23"), bytes.fromhex("0603551d
 
 
 class Wrong(Exception):
-    """The part that is wrong."""
+    """The malformed part."""
 
 
 def need(holds, part):

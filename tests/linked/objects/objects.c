@@ -105,7 +105,7 @@ static bool are_zeros(const struct rpki_signed_object_parts *found) {
     return well && (found->has_binary_signing_time || found->binary_signing_time == 0);
 }
 
-/* The words behind the octets. */
+/* The words after the octets. */
 static void object(unsigned line, const uint8_t *octets, size_t size, bool strict, char *words) {
     static char told[1024];
     struct rpki_signed_object_parts out;

@@ -1,11 +1,11 @@
 """Writes the rows of signed objects that the tests in C and in Rust read: the variants of tests/hostile/objects.py, an
 object with each octet changed, objects with several octets changed, and objects of openssl, each with the status of
-rpki_signed_object: the part that is wrong by RFC 5652 and RFC 6488, found here from the left, without the library.
-Where that is 0 stand what the object says, and where its parts stand.
+rpki_signed_object: the malformed part by RFC 5652 and RFC 6488, found here from the left, without the library.
+Where that is 0 there is what the object says, and where its parts are.
 
 usage: rows.py > FILE
 
-A row is the octets in hexadecimal digits or `-`, whether RFC 9589 is asked for, and the status of what stands in front
+A row is the octets in hexadecimal digits or `-`, whether RFC 9589 is asked for, and the status of what is in front
 of the certificate, 0 if that is well; then the place of the certificate, as START LENGTH, and the status of what
 follows it, which is that of the object where rpki_certificate accepts the certificate. Where that is 0 too: the places
 of the content's type, the content, the signed attributes and the signature; the digest and the key identifier; the
@@ -30,7 +30,7 @@ RSA = [bytes.fromhex("06092a864886f70d0101") + bytes([last]) for last in (1, 11)
 
 
 class Wrong(Exception):
-    """The part that is wrong."""
+    """The malformed part."""
 
 
 def need(holds, part):
@@ -180,7 +180,7 @@ def behind(octets, at, strict, kind, inside):
 
 
 def told(octets, strict):
-    """The words of a row, from the status of what stands in front of the certificate on."""
+    """The words of a row, from the status of what is in front of the certificate on."""
     try:
         start, end = signed_data(octets), len(octets)
         version, at = contents(octets, start, end, VERSION, 2)

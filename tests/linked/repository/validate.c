@@ -7,7 +7,7 @@
  * MOMENT is written as 20260101000000Z. TRUST-ANCHOR and AUTHORITY are certificates, the second issued by the first
  * (or the same file twice), LIST is the revocation list of the authority, and each FILE a signed object of it. Prints a
  * line a file: its name, and then `revoked`, what is wrong with it, or the type of the content, its digest, the serial
- * number and the key identifier of the signer's certificate, and when it was signed. Behind that stands a line for each
+ * number and the key identifier of the signer's certificate, and when it was signed. After that is a line for each
  * file of a manifest, prefix that an AS may announce, or provider of a customer. Of the first file each octet is
  * changed, one at a time: no such object may be valid. Ends with 1 where a file is not valid.
  */
@@ -57,7 +57,7 @@ static struct octets read_file(const char *name) {
     return found;
 }
 
-/* Whether the key has signed the first octets, and behind them the others, by RSA with SHA-256. */
+/* Whether the key has signed the first octets, and after them the others, by RSA with SHA-256. */
 static bool has_signed(EVP_PKEY *key, struct octets first, struct octets others, struct octets signature) {
     EVP_MD_CTX *context = EVP_MD_CTX_new();
     bool answer = EVP_DigestVerifyInit(context, NULL, EVP_sha256(), NULL, key) == 1 &&

@@ -1,7 +1,7 @@
 /*
  * Makes the calls of include/rpki.h on resources, and compares what they return and write with the rows that rows.py
  * writes. Readers are given arrays of each capacity from 0 to one more than is needed, writers of texts buffers. What a
- * call refuses leaves what it may write as it was, and what stands behind what is written stays. No call allocates.
+ * call refuses leaves what it may write as it was, and what is after what is written stays. No call allocates.
  *
  * usage: resources ROWS
  */

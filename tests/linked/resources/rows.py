@@ -307,7 +307,7 @@ def texts(source):
     for family in (0, 1, 5, 7, 255):
         yield f"ipt {family} {'00' * 16} {'ff' * 16} 0 {CONTENT} -"
         yield f"ipt {family} {'00' * 16} {'ff' * 16} 1 0 inherit"
-    # What stands behind the four octets is not looked at.
+    # What is after the four octets is not looked at.
     yield f"ipt 4 0a000000{'ff' * 12} 0a0000ff{'00' * 12} 0 0 10.0.0.0/24"
     for low in (0, 1, 9, 10, 99, 64496, 65536, 2**32 - 1):
         for high in (0, 1, 10, 64496, 64511, 2**32 - 1):

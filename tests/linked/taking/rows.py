@@ -1,5 +1,5 @@
 """Writes the rows of values that are taken off a part of octets, which the test in C reads: real certificates and lists
-of values, walked from the left, with the identifier that stands there, another one, places that are not inside the
+of values, walked from the left, with the identifier that is there, another one, places that are not inside the
 octets, and octets that were changed. Statuses and places are found here by X.690, without the library.
 
 usage: rows.py > FILE

@@ -176,11 +176,30 @@ impl PublicKey {
         KeyIdentifier(known(ffi::key_identifier(&self.octets)))
     }
 
-    /// Checks that the signature is by this key over the message, as the provider says.
+    /// Checks that the signature is by this key over the message, as [RsaProvider](crate::crypto::RsaProvider) says.
+    ///
+    /// # Errors
+    /// The algorithm has keys of another format, or the signature is no good one by RSA.
+    pub fn verify<Alg: SignatureAlgorithm>(
+        &self,
+        message: &[u8],
+        signature: &Signature<Alg>,
+    ) -> Result<(), SignatureVerificationError> {
+        let is_good = self.algorithm == PublicKeyFormat::Rsa
+            && signature.algorithm().public_key_format() == self.algorithm
+            && ffi::verify(&self.octets, message, signature.value()).is_ok();
+        if is_good {
+            Ok(())
+        } else {
+            Err(SignatureVerificationError(()))
+        }
+    }
+
+    /// The same, as this provider says.
     ///
     /// # Errors
     /// The algorithm has keys of another format, or the provider says no.
-    pub fn verify<Alg: SignatureAlgorithm>(
+    pub fn verify_with<Alg: SignatureAlgorithm>(
         &self,
         provider: &impl Provider,
         message: &[u8],

@@ -1,7 +1,8 @@
 //! Signatures.
 
 use crate::crypto::algorithm;
-use crate::crypto::keys::PublicKeyFormat;
+use crate::crypto::keys::{PublicKey, PublicKeyFormat};
+use crate::ffi;
 use crate::view::DecodeError;
 use bytes::Bytes;
 use std::error::Error;
@@ -9,8 +10,8 @@ use std::fmt;
 
 /// What makes the checks of signatures: a library for RSA and for ECDSA, or what stands for one.
 ///
-/// The package computes no signature. It asks the right question: the bits of the key, exactly the octets that were
-/// signed, and the octets of the signature. `examples/verify.rs` has one over OpenSSL.
+/// It is asked the right question: the bits of the key, exactly the octets that were signed, and the octets of the
+/// signature. [RsaProvider] is the one that calls take which are given none.
 pub trait Provider {
     /// Whether the signature is by this RSA key over this message (RSASSA-PKCS1-v1_5 with SHA-256). The bits are those
     /// of an RSAPublicKey (RFC 8017 A.1.1).
@@ -21,6 +22,46 @@ pub trait Provider {
     fn ecdsa_check(&self, bits: &[u8], message: &[u8], signature: &[u8]) -> bool {
         let _ = (bits, message, signature);
         false
+    }
+}
+
+/// The checks of the proved library: RSASSA-PKCS1-v1_5 with SHA-256 (RFC 8017 8.2.2), by keys of 2,048 to 4,096 bits
+/// with an odd modulus and an odd exponent, not 1, below 2^64. No signature by ECDSA is good.
+///
+/// ```
+/// use rpki_proved::crypto::{Provider, RsaProvider};
+///
+/// assert!(!RsaProvider.rsa_check(b"no key", b"message", b"signature"));
+/// ```
+#[derive(Clone, Copy, Debug, Default, PartialEq, Eq)]
+pub struct RsaProvider;
+
+impl Provider for RsaProvider {
+    fn rsa_check(&self, bits: &[u8], message: &[u8], signature: &[u8]) -> bool {
+        PublicKey::rsa_from_bits_bytes(Bytes::copy_from_slice(bits))
+            .map_or(false, |key| ffi::verify(&key.to_info_bytes(), message, signature).is_ok())
+    }
+}
+
+/// The checks of OpenSSL, with the feature `openssl`. RSA keys have 2,048 bits and the exponent 65,537 (RFC 7935 3).
+#[cfg(feature = "openssl")]
+#[derive(Clone, Copy, Debug, Default, PartialEq, Eq)]
+pub struct OpenSslProvider;
+
+#[cfg(feature = "openssl")]
+impl Provider for OpenSslProvider {
+    fn rsa_check(&self, bits: &[u8], message: &[u8], signature: &[u8]) -> bool {
+        use openssl::{bn::BigNum, error::ErrorStack, hash::MessageDigest, pkey::PKey, rsa::Rsa, sign::Verifier};
+        let check = || {
+            let key = Rsa::public_key_from_der_pkcs1(bits)?;
+            if key.size() != 256 || *key.e() != *BigNum::from_u32(65_537)? {
+                return Ok::<bool, ErrorStack>(false);
+            }
+            let key = PKey::from_rsa(key)?;
+            let mut verifier = Verifier::new(MessageDigest::sha256(), &key)?;
+            verifier.verify_oneshot(signature, message)
+        };
+        check().unwrap_or(false)
     }
 }
 

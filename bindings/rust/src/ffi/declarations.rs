@@ -33,6 +33,8 @@ pub(crate) const INVALID_LAST_SYMBOL: Status = 42;
 pub(crate) const INVALID_PADDING: Status = 43;
 pub(crate) const TOO_NEW: Status = 50;
 pub(crate) const TOO_OLD: Status = 51;
+pub(crate) const KEY_NOT_ACCEPTED: Status = 52;
+pub(crate) const BAD_SIGNATURE: Status = 53;
 pub(crate) const PART_CERTIFICATE: Status = 64;
 pub(crate) const PART_SIGNED: Status = 65;
 pub(crate) const PART_ALGORITHM: Status = 66;
@@ -89,6 +91,9 @@ pub(crate) const RULE_RESOURCE_BLOCKS: Status = 116;
 pub(crate) const RULE_OWN_RESOURCES: Status = 117;
 pub(crate) const RULE_MANIFEST_PLACE: Status = 118;
 pub(crate) const RULE_NOTIFICATIONS: Status = 119;
+pub(crate) const RULE_ISSUER_SIZE: Status = 156;
+pub(crate) const RULE_SUBJECT_SIZE: Status = 157;
+pub(crate) const RULE_ROUTER_SERIAL_NUMBER: Status = 158;
 pub(crate) const PART_THIS_UPDATE: Status = 120;
 pub(crate) const PART_NEXT_UPDATE: Status = 121;
 pub(crate) const PART_OBJECT: Status = 123;
@@ -520,6 +525,15 @@ extern "C" {
     pub(super) fn rpki_signed_data(octets: *const u8, size: usize, out: *mut SignedParts) -> Status;
     pub(super) fn rpki_public_key(octets: *const u8, size: usize, out: *mut KeyParts) -> Status;
     pub(super) fn rpki_key_identifier(octets: *const u8, size: usize, out: *mut [u8; 20]) -> Status;
+    pub(super) fn rpki_verify(
+        key: *const u8,
+        key_size: usize,
+        message: *const u8,
+        message_size: usize,
+        signature: *const u8,
+        signature_size: usize,
+    ) -> Status;
+    pub(super) fn rpki_sha256(octets: *const u8, size: usize, out: *mut [u8; 32]);
     pub(super) fn rpki_name_inspect(octets: *const u8, size: usize, profile: u8, strict: bool) -> Status;
     pub(super) fn rpki_serial(octets: *const u8, size: usize, out: *mut [u8; 20]) -> Status;
     pub(super) fn rpki_time(octets: *const u8, size: usize, out: *mut Moment) -> Status;

@@ -255,7 +255,7 @@ impl Cert {
 
     /// Holds the certificate to the profile of trust anchors (RFC 6487 4): that of certification authorities, but
     /// without CRL distribution points and authority information access. With `strict` false the names are not held to
-    /// theirs. Resources are not read.
+    /// theirs. Resources have to be critical and canonical; a trust anchor inherits none.
     ///
     /// # Errors
     /// The rule that it breaks first.

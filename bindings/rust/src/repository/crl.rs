@@ -200,16 +200,25 @@ impl Crl {
         }
     }
 
-    /// Checks that the signature is by this key over exactly the signed octets, as the provider says.
+    /// Checks that the signature is by this key over exactly the signed octets, as
+    /// [RsaProvider](crate::crypto::RsaProvider) says.
+    ///
+    /// # Errors
+    /// The key is of another format, or the signature is not one by it.
+    pub fn verify_signature(&self, key: &PublicKey) -> Result<(), SignatureVerificationError> {
+        key.verify(&self.signed, &self.signature)
+    }
+
+    /// The same, as this provider says.
     ///
     /// # Errors
     /// The key is of another format, or the provider says no.
-    pub fn verify_signature(
+    pub fn verify_signature_with(
         &self,
         provider: &impl Provider,
         key: &PublicKey,
     ) -> Result<(), SignatureVerificationError> {
-        key.verify(provider, &self.signed, &self.signature)
+        key.verify_with(provider, &self.signed, &self.signature)
     }
 }
 

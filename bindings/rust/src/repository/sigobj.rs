@@ -1,7 +1,7 @@
 //! Signed objects (RFC 5652, in the profile of RFC 6488).
 
 use crate::crypto::keys::KeyIdentifier;
-use crate::crypto::signature::{Provider, RpkiSignature, RpkiSignatureAlgorithm, Signature};
+use crate::crypto::signature::{Provider, RpkiSignature, RpkiSignatureAlgorithm, RsaProvider, Signature};
 use crate::ffi::{self, Status};
 use crate::oid::Oid;
 use crate::repository::cert::{Cert, CertPart};
@@ -101,6 +101,11 @@ impl Error for SignedObjectError {}
 pub struct MessageDigest([u8; 32]);
 
 impl MessageDigest {
+    /// The digest of the octets.
+    pub fn of(octets: &[u8]) -> MessageDigest {
+        MessageDigest(ffi::sha256(octets))
+    }
+
     /// The thirty-two octets.
     pub fn as_slice(&self) -> &[u8] {
         &self.0
@@ -279,22 +284,27 @@ impl SignedObject {
         &self.signature
     }
 
-    /// Checks that the key of the certificate has signed the content, whose digest by SHA-256 this is: its type and its
-    /// digest are those that are signed, the signer's identifier is the certificate's subject key identifier, and the
-    /// signature of the attributes is by the certificate's key, as the provider says (RFC 6488 3, RFC 5652 5.4, 5.6).
-    /// Whose certificate it is, is not looked at.
+    /// Checks that the key of the certificate has signed the content: its type and its digest by SHA-256, which is
+    /// computed, are those that are signed, the signer's identifier is the certificate's subject key identifier, and
+    /// the signature of the attributes is by the certificate's key, as [RsaProvider] says (RFC 6488 3, RFC 5652 5.4,
+    /// 5.6). Whose certificate it is, is not looked at, nor whether it is that of an end entity
+    /// (`Cert::inspect_ee`).
     ///
     /// # Errors
     /// The first that doesn't hold.
-    pub fn verify_signature(
-        &self,
-        provider: &impl Provider,
-        digest: &MessageDigest,
-    ) -> Result<(), ObjectVerificationError> {
+    pub fn verify_signature(&self) -> Result<(), ObjectVerificationError> {
+        self.verify_signature_with(&RsaProvider)
+    }
+
+    /// The same, as this provider says of the signature.
+    ///
+    /// # Errors
+    /// The first that doesn't hold.
+    pub fn verify_signature_with(&self, provider: &impl Provider) -> Result<(), ObjectVerificationError> {
         if !self.is_type_signed {
             return Err(ObjectVerificationError::ContentType);
         }
-        if self.signed_attrs.message_digest != *digest {
+        if self.signed_attrs.message_digest != MessageDigest::of(&self.content) {
             return Err(ObjectVerificationError::MessageDigest);
         }
         let known = self.cert.known_extensions().map_err(|_| ObjectVerificationError::SubjectKeyIdentifier)?;
@@ -303,7 +313,7 @@ impl SignedObject {
         }
         self.cert
             .subject_public_key_info()
-            .verify(provider, &self.signed_attrs.encode_verify(), &self.signature)
+            .verify_with(provider, &self.signed_attrs.encode_verify(), &self.signature)
             .map_err(|_| ObjectVerificationError::Signature)
     }
 }

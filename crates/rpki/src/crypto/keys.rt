@@ -5,6 +5,7 @@ mod format;
 mod key_identifier;
 mod public_key;
 mod rsa;
+mod rsa_public_key;
 mod verification;
 mod view;
 
@@ -12,6 +13,7 @@ pub use common_name::PublicKeyCn;
 pub use format::PublicKeyFormatEncoder;
 pub use key_identifier::{KeyIdentifier, KeyIdentifierSliceError, ParseKeyIdentifierError};
 pub use public_key::PublicKey;
+pub use rsa_public_key::RsaPublicKey;
 pub use verification::SignatureVerificationError;
 pub use view::PublicKeyView;
 

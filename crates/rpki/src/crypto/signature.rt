@@ -22,8 +22,9 @@ use std::marker::Model;
 
 /// An algorithm of signatures, as certificates and signed data name it by an algorithm identifier.
 ///
-/// An implementation proves the six laws: a spelling is one value and belongs to one algorithm; what is written spells
-/// the normal form; and the normal form is its own normal form, written in the same way, with keys of the same format.
+/// An implementation proves the five laws: a spelling is one value and belongs to one algorithm; what is written spells
+/// the normal form; and the normal form is its own normal form, written in the same way. It may say which errors its
+/// reader has, and where its encoder fits.
 pub trait SignatureAlgorithm: Sized {
     /// An encoder for the algorithm identifier.
     type Encoder: Values;
@@ -34,8 +35,8 @@ pub trait SignatureAlgorithm: Sized {
     /// The octets are an algorithm identifier of the algorithm.
     ghost spells: { Self → List ℕ → Type 0 };
 
-    /// The error of octets that no algorithm identifier begins.
-    ghost fault: { List ℕ → DecodeError → Type 0 };
+    /// The error of octets that no algorithm identifier begins; any, where nothing is said.
+    ghost fault: { List ℕ → DecodeError → Type 0 } = { λ _ _. Unit {0} };
 
     /// The algorithm identifier that is written.
     ghost written: { Self → List ℕ };
@@ -45,6 +46,9 @@ pub trait SignatureAlgorithm: Sized {
 
     /// The format of the keys.
     ghost format: { Self → PublicKeyFormat };
+
+    /// Of these algorithms the encoder is known to fit; of none, where nothing is said.
+    ghost fits: { Self → Type 0 } = { λ _. ⊥ };
 
     /// How it signs.
     fn signing_algorithm(&self) -> SigningAlgorithm
@@ -64,7 +68,7 @@ pub trait SignatureAlgorithm: Sized {
     /// An encoder for the algorithm identifier (RFC 5280 4.1.1.2).
     fn x509_encode(&self) -> Self::Encoder
         ensures octets { Self.Encoder.encoded result ≡ written self.now }
-        ensures short { Self.Encoder.is_short result };
+        ensures short { fits self.now → Self.Encoder.is_short result };
 
     /// A spelling is one value.
     ghost spelled_value: { (a : Self) (s : List ℕ) → spells a s → IsValue s };
@@ -80,9 +84,6 @@ pub trait SignatureAlgorithm: Sized {
 
     /// The normal form is written as the algorithm is.
     ghost written_norm: { (a : Self) → written (norm a) ≡ written a };
-
-    /// The normal form has keys of the same format.
-    ghost norm_format: { (a : Self) → format (norm a) ≡ format a };
 }
 
 /// The algorithm of the RPKI: RSA with SHA-256 (RFC 7935 2). It remembers whether the parameters, a NULL, were there.
@@ -145,6 +146,8 @@ impl SignatureAlgorithm for RpkiSignatureAlgorithm {
 
     ghost format = { λ _. Rsa };
 
+    ghost fits = { λ _. Unit {0} };
+
     ghost spelled_value = { λ a s h. algorithm-value sha256_with_rsa_encryption a s (lit< tt) h };
 
     ghost spells_one = { λ a b s h k. algorithm-one sha256_with_rsa_encryption a b s (lit< tt) h k };
@@ -154,8 +157,6 @@ impl SignatureAlgorithm for RpkiSignatureAlgorithm {
     ghost norm_norm = { λ _. refl };
 
     ghost written_norm = { λ _. refl };
-
-    ghost norm_format = { λ _. refl };
 
     fn signing_algorithm(&self) -> SigningAlgorithm {
         SigningAlgorithm::RsaSha256

@@ -144,6 +144,20 @@ pub enum ValidationError {
     Verification(VerificationError),
 }
 
+impl ValidationError {
+    ghost use Rattle.std.specs.Prelude.{◌↔◌, IsTrue};
+
+    /// Whether allocation failed: nothing is known of the object.
+    pub fn is_out_of_memory(self) -> bool
+        ensures { IsTrue result ↔ (self ≡ ValidationError.Decoding DecodeError.OutOfMemory) }
+    {
+        match self {
+            ValidationError::Decoding(DecodeError::OutOfMemory) => true,
+            _ => false,
+        }
+    }
+}
+
 /// The text of what is inside.
 impl fmt::Display for ValidationError {
     ghost use Rattle.rpki.specs.ErrorContent.{validation_text};

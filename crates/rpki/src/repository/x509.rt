@@ -7,12 +7,14 @@ mod signed_data;
 mod subject_name;
 mod update;
 
-pub use cert_extension::{CertExtension, ExtensionBytes, ExtensionView, PlacedExtension};
+pub use cert_extension::{
+    CertExtension, ExtensionBytes, ExtensionOctets, ExtensionView, PlacedExtension,
+};
 pub use extension::{Extension, encode_extension};
-pub use name::{AttributeView, Attributes, Name, NameRule, NameView};
+pub use name::{AttributeView, Attributes, Name, NameOctets, NameRule, NameView};
 pub use rpki_time::{
-    GeneralizedTime, Serial, SerialSliceError, Time, TimeParseError, UtcTime, Validity,
-    ValidityPeriodError, VariedTime,
+    GeneralizedTime, RepresentationError, Serial, SerialSliceError, SerialText, Time,
+    TimeParseError, UtcTime, Validity, ValidityPeriodError, VariedTime,
 };
 pub use signed_data::{SignatureValueContent, SignedData};
 pub use subject_name::SubjectName;

@@ -1,6 +1,6 @@
 //! What the extensions of a certificate say (RFC 6487 4.8).
 
-ghost use Rattle.std.specs.Prelude.{◌≡◌, true, false, Option, Some, None, IfOk, IfErr, IfSome, IfNone};
+ghost use Rattle.std.specs.Prelude.{◌≡◌, ◌↔◌, true, false, Option, Some, None, IfOk, IfErr, IfSome, IfNone, IsTrue};
 ghost use Rattle.std.specs.Option.{option_copied};
 ghost use Rattle.rpki.specs.KeyIdentifier.{SpellsKeyIdentifier};
 ghost use Rattle.rpki_der.specs.Cursor.{left};
@@ -41,6 +41,16 @@ fn other_critical() -> InspectionError
     ensures { text_of (content_of result) ≡ critical_text }
 {
     InspectionError::new(ContentError::from_static("extension is not as critical as it has to be"))
+}
+
+/// Whether the key identifier is there and is this one.
+pub fn is_identifier(found: Option<KeyIdentifier>, wanted: KeyIdentifier) -> bool
+    ensures { IsTrue result ↔ (found ≡ Option.Some wanted) }
+{
+    match found {
+        Some(found) => found == wanted,
+        None => false,
+    }
 }
 
 /// What was found of an extension, which has to be critical or not.

@@ -7,10 +7,10 @@ ghost use Rattle.rpki.specs.ExtensionFault.{kept_extension};
 ghost use Rattle.rpki_cert.specs.Cert.{find};
 
 use rpki::der::{Constructed, DecodeError, Keep, Oid};
-use rpki::repository::x509::CertExtension;
+use rpki::repository::x509::ExtensionOctets;
 
 /// The first extension of this identifier.
-pub fn find<'a>(all: &'a [CertExtension], id: Oid<&[u8]>) -> Option<&'a CertExtension>
+pub fn find<'a>(all: &'a [ExtensionOctets], id: Oid<&[u8]>) -> Option<&'a ExtensionOctets>
     ensures some { IfSome result (λ x. find id.entry.0.now all.now ≡ Some x.now) }
     ensures none { IfNone result (find id.entry.0.now all.now ≡ None) }
 {
@@ -24,12 +24,12 @@ pub fn find<'a>(all: &'a [CertExtension], id: Oid<&[u8]>) -> Option<&'a CertExte
 
 /// The extensions that these contents are, one after another, kept.
 ///
-/// The errors are those of [CertExtension::take_from] for the first that isn't one; and `OutOfMemory` if allocation
+/// The errors are those of [ExtensionOctets::take_from] for the first that isn't one; and `OutOfMemory` if allocation
 /// fails.
 pub fn take_each<K: Keep>(
     keep: K,
     contents: &mut Constructed<'_>,
-) -> Result<Vec<CertExtension>, DecodeError>
+) -> Result<Vec<ExtensionOctets>, DecodeError>
     requires { K.holds keep (left contents.old) }
     ensures reads { ReadsParts (λ v. v.items) (SpellsEach SpellsExtension) (IsEachFault SpellsExtension
         kept_extension.fault) (left contents.old) (left contents.new) result }
@@ -39,6 +39,6 @@ pub fn take_each<K: Keep>(
         keep,
         |rest, keep|
             requires { K.holds keep (left rest.old) }
-        { CertExtension::take_from(keep, rest) },
+        { ExtensionOctets::take_from(keep, rest) },
     )
 }

@@ -11,19 +11,19 @@ use crate::extension::kind::{ExtensionKind, is_understood};
 use crate::extension::list::find;
 use crate::extension::table::ExtensionTable;
 use rpki::der::ConstOid;
-use rpki::repository::x509::{CertExtension, ExtensionView};
+use rpki::repository::x509::{ExtensionOctets, ExtensionView};
 
 /// The extensions of a certificate.
 #[derive(Drop)]
 pub enum ExtensionSource<'a> {
     /// Those that are kept.
-    Kept(&'a [CertExtension]),
+    Kept(&'a [ExtensionOctets]),
     /// Those of a table.
     Listed(&'a ExtensionTable<'a>),
 }
 
 /// The extension of this identifier, of those that are kept.
-pub fn find_kept<'a>(all: &'a [CertExtension], id: ConstOid) -> Option<ExtensionView<'a>>
+pub fn find_kept<'a>(all: &'a [ExtensionOctets], id: ConstOid) -> Option<ExtensionView<'a>>
     ensures { result ≡ find id.entry.0.now all.now }
 {
     match find(all, id) {
@@ -33,7 +33,7 @@ pub fn find_kept<'a>(all: &'a [CertExtension], id: ConstOid) -> Option<Extension
 }
 
 /// Whether every critical extension is a known one (RFC 5280 4.2).
-pub fn are_understood(all: &[CertExtension]) -> bool
+pub fn are_understood(all: &[ExtensionOctets]) -> bool
     ensures { result ≡ are_understood all.now }
 {
     'extensions: for extension in all {

@@ -14,7 +14,7 @@ use crate::tbs::TbsCert;
 use rpki::der::{ConstOid, DecodeError};
 use rpki::oid;
 use rpki::repository::error::ValidationError;
-use rpki::repository::x509::CertExtension;
+use rpki::repository::x509::ExtensionOctets;
 use rpki::uri::{Https, Rsync};
 use std::alloc::Global;
 
@@ -49,7 +49,7 @@ fn keep_https(alloc: Global, found: Option<&[u8]>) -> Result<Option<Https>, Vali
 /// The first rsync URI of this method, in the extension of this identifier.
 fn rsync_at(
     alloc: Global,
-    all: &[CertExtension],
+    all: &[ExtensionOctets],
     id: ConstOid,
     method: AccessMethod,
 ) -> Result<Option<Rsync>, ValidationError>

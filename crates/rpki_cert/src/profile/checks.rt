@@ -16,6 +16,7 @@ ghost use Rattle.rpki_cert.specs.ExtensionContent.{constraints_content, usage_co
 ghost use Rattle.rpki_cert.specs.Access.{SpellsPoints, SpellsHeldAccess};
 ghost use Rattle.rpki_cert.specs.AccessInformation.{SpellsUriOf, IsTold};
 ghost use Rattle.rpki_cert.specs.Keys.{IsRpkiKey, IsRouterKey};
+ghost use Rattle.rpki_cert.specs.NameValues.{PermitsName};
 ghost use Rattle.rpki_cert.specs.RuleWords.{SaysSome, SaysManifestBelow, IsOrdered, has_addresses};
 ghost use Rattle.rpki_cert.specs.RuleWords.{has_numbers};
 ghost use Rattle.rpki_cert.specs.RuleWords.{is_critical, has_resources, is_of_version};
@@ -33,16 +34,16 @@ use crate::extension::contents::{
 };
 use crate::extension::key_usage::KeyUsage;
 use crate::extension::kind::ExtensionKind;
-use crate::extension::known::{information_in, points_in, purposes_in, uri_in};
+use crate::extension::known::{information_in, is_identifier, points_in, purposes_in, uri_in};
 use crate::extension::policy::Overclaim;
 use crate::extension::source::ExtensionSource;
 use crate::profile::below::lies_below;
 use crate::profile::inspected::Inspected;
 use crate::profile::key_rule::KeyBits;
+use crate::profile::name_values::ValueRule;
 use crate::profile::rule::CertRule;
 use crate::read::part::are_same;
 use crate::resource::extensions::{are_own, are_well_formed};
-use crate::verify::is_identifier;
 use rpki::crypto::KeyIdentifier;
 use rpki::repository::error::ValidationError;
 use rpki::repository::x509::{ExtensionView, NameView, Serial, Validity};
@@ -288,6 +289,21 @@ fn inspect_router_name(name: &NameView<'_>, strict: bool) -> Result<(), Validati
     }
 }
 
+/// Whether the values of a name are as this asks, as the rule has it.
+fn inspect_values(
+    name: &NameView<'_>,
+    asked: ValueRule,
+    strict: bool,
+    rule: CertRule,
+) -> Result<(), ValidationError>
+    ensures { ChecksBy (IsTrue strict → PermitsName asked name.now) (SaysRule rule) result }
+{
+    if strict && !asked.permits_name(name) {
+        return Err(rejected(rule));
+    }
+    Ok(())
+}
+
 /// Whether a value of the extension was found; where none was, this rule is broken.
 fn inspect_said<T: ExtensionContent>(
     said: &Result<Option<T::Value>, ValidationError>,
@@ -456,9 +472,27 @@ impl Inspected<'_> {
                 CertRule::CriticalExtensions,
             ),
             CertRule::Issuer => inspect_name(&self.issuer, strict),
+            CertRule::IssuerSize => inspect_values(
+                &self.issuer,
+                ValueRule::Size,
+                strict,
+                CertRule::IssuerSize,
+            ),
             CertRule::Validity => inspect_validity(self.validity),
             CertRule::Subject => inspect_name(&self.subject, strict),
             CertRule::RouterSubject => inspect_router_name(&self.subject, strict),
+            CertRule::SubjectSize => inspect_values(
+                &self.subject,
+                ValueRule::Size,
+                strict,
+                CertRule::SubjectSize,
+            ),
+            CertRule::RouterSerialNumber => inspect_values(
+                &self.subject,
+                ValueRule::SerialNumber,
+                strict,
+                CertRule::RouterSerialNumber,
+            ),
             CertRule::RsaKey => inspect_key(&self.key),
             CertRule::RouterKey => inspect_router_key(&self.key),
             CertRule::BasicConstraints => inspect_constraints(&values.ca),

@@ -17,12 +17,18 @@ pub enum CertRule {
     CriticalExtensions,
     /// The issuer has a name of the RPKI (RFC 6487 4.4).
     Issuer,
+    /// Each value of the issuer's name is a string of 1 to 64 characters (RFC 5280 A.1).
+    IssuerSize,
     /// The period ends no earlier than it begins (RFC 5280 4.1.2.5, RFC 6487 4.6).
     Validity,
     /// The subject has a name of the RPKI (RFC 6487 4.5).
     Subject,
     /// The subject has a name of a router (RFC 8209 3.1.1).
     RouterSubject,
+    /// Each value of the subject's name is a string of 1 to 64 characters (RFC 5280 A.1).
+    SubjectSize,
+    /// The serial number of a router's name is a PrintableString (RFC 8209 3.1.1).
+    RouterSerialNumber,
     /// The subject's key is an RSA key with a modulus of 2,048 bits and the exponent 65537, and no bit is unused
     /// (RFC 7935 3).
     RsaKey,
@@ -100,9 +106,16 @@ impl CertRule {
             CertRule::SerialNumber => "RFC 5280 4.1.2.2: serial number is 0",
             CertRule::CriticalExtensions => "RFC 5280 4.2: unknown critical extension",
             CertRule::Issuer => "RFC 6487 4.4: issuer has no name of the RPKI",
+            CertRule::IssuerSize =>
+                "RFC 5280 A.1: value of the issuer is not of 1 to 64 characters",
             CertRule::Validity => "RFC 5280 4.1.2.5: period ends before it begins",
             CertRule::Subject => "RFC 6487 4.5: subject has no name of the RPKI",
             CertRule::RouterSubject => "RFC 8209 3.1.1: subject has no name of a router",
+            CertRule::SubjectSize =>
+                "RFC 5280 A.1: value of the subject is not of 1 to 64 characters",
+            CertRule::RouterSerialNumber => {
+                "RFC 8209 3.1.1: serial number of the subject is no PrintableString"
+            }
             CertRule::RsaKey => "RFC 7935 3: key is no RSA key of 2048 bits and the exponent 65537",
             CertRule::RouterKey => "RFC 8608 3.1: key is no uncompressed point on P-256",
             CertRule::BasicConstraints => "RFC 6487 4.8.1: missing basic constraints",

@@ -14,6 +14,20 @@ pub struct CertError {
     pub error: DecodeError,
 }
 
+impl CertError {
+    ghost use Rattle.std.specs.Prelude.{◌≡◌, ◌↔◌, IsTrue};
+
+    /// Whether allocation failed: nothing is known of the octets.
+    pub fn is_out_of_memory(self) -> bool
+        ensures { IsTrue result ↔ (self.error ≡ DecodeError.OutOfMemory) }
+    {
+        match self.error {
+            DecodeError::OutOfMemory => true,
+            _ => false,
+        }
+    }
+}
+
 /// What a person reads: the text of the error, without the part.
 impl fmt::Display for CertError {
     ghost use Rattle.std.specs.Prelude.{Some};

@@ -322,7 +322,7 @@ fn verified(files: &[FileAndHash], octets: &[u8]) -> usize {
     let mut places = 0usize;
     let mut bit = 1usize;
     for file in files {
-        if file.verify(&Digests, octets) {
+        if file.hash() == MessageDigest::of(&Digests, octets) {
             places = places.saturating_add(bit);
         }
         bit = bit.saturating_mul(2);
@@ -344,13 +344,11 @@ fn digests_are_those_of_files(rt: HostRuntime) -> Result<(), Fail> {
     Ok(())
 }
 
-/// A moment: its name, year, month, day, hour, minute and second; whether the manifest is stale then, and whether it
-/// holds.
+/// A moment: its name, year, month, day, hour, minute and second; whether the manifest is stale then.
 struct Moment {
     name: &'static str,
     time: (i32, u32, u32, u32, u32, u32),
     stale: bool,
-    holds: bool,
 }
 
 const MOMENTS: &[Moment] = &[
@@ -358,37 +356,31 @@ const MOMENTS: &[Moment] = &[
         name: "a year before",
         time: (2023, 2, 28, 23, 59, 59),
         stale: false,
-        holds: false,
     },
     Moment {
         name: "a second before",
         time: (2024, 2, 29, 23, 59, 58),
         stale: false,
-        holds: false,
     },
     Moment {
         name: "when it was issued",
         time: (2024, 2, 29, 23, 59, 59),
         stale: false,
-        holds: true,
     },
     Moment {
         name: "between",
         time: (2024, 3, 1, 12, 0, 0),
         stale: false,
-        holds: true,
     },
     Moment {
         name: "when the next is due",
         time: (2024, 3, 1, 23, 59, 59),
         stale: false,
-        holds: true,
     },
     Moment {
         name: "a second behind",
         time: (2024, 3, 2, 0, 0, 0),
         stale: true,
-        holds: false,
     },
 ];
 
@@ -396,13 +388,11 @@ fn moments() -> &'static [Moment] {
     MOMENTS
 }
 
-/// Whether the manifest is stale, and whether it holds, as the row says.
+/// Whether the manifest is stale, as the row says.
 fn is_as_at(content: &ManifestContent, moment: &Moment) -> bool {
     let (year, month, day, hour, minute, second) = moment.time;
     match Time::utc(year, month, day, hour, minute, second) {
-        Some(at) => {
-            content.is_stale(at) == moment.stale && content.verify_time(at).is_ok() == moment.holds
-        }
+        Some(at) => content.is_stale(at) == moment.stale,
         None => false,
     }
 }
@@ -416,7 +406,7 @@ fn manifests_hold_from_update_to_update(rt: HostRuntime) -> Result<(), Fail> {
     Ok(())
 }
 
-/// The digest of one octet that stands thirty-two times.
+/// The digest of one octet thirty-two times.
 fn digest_of(octet: u8) -> MessageDigest {
     MessageDigest::from_array([octet; 32])
 }

@@ -51,7 +51,7 @@ const FILE: [u8; 51] = *b"\x30\x31\x16\x0cf0000000.roa\x03\x21\x00\
     \xab\xab\xab\xab\xab\xab\xab\xab\xab\xab\xab\xab\xab\xab\xab\xab";
 
 /// The file of this number: its name has the number's last seven digits, from the last to the first, so that no two
-/// files stand in order.
+/// files are in order.
 fn file_of(number: usize) -> [u8; 51] {
     let mut file = FILE;
     let mut left = number;
@@ -79,7 +79,7 @@ fn manifest_of(alloc: Global, files: usize, doubled: bool) -> Result<Vec<u8>, Al
     Ok(octets)
 }
 
-/// Whether so many files are read in place, and their names differ unless one stands twice.
+/// Whether so many files are read in place, and their names differ unless one occurs twice.
 fn is_seen(alloc: Global, octets: &[u8], files: usize, doubled: bool) -> Result<bool, Fail> {
     let mut room: Vec<&[u8]> = Vec::new(alloc);
     for _ in 0..files {
@@ -95,7 +95,7 @@ fn is_seen(alloc: Global, octets: &[u8], files: usize, doubled: bool) -> Result<
     }
 }
 
-/// Whether so many files are kept, and refused if one stands twice.
+/// Whether so many files are kept, and refused if one occurs twice.
 fn is_kept(alloc: Global, octets: &[u8], files: usize, doubled: bool) -> Result<bool, Fail> {
     let bytes = Bytes::copy_from_slice(alloc, octets)?;
     match ManifestContent::decode(alloc, bytes) {

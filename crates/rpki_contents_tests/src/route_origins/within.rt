@@ -1,4 +1,5 @@
-//! Whether attestations are within resources. The answers are by Python's `ipaddress`.
+//! Whether attestations are within resources. The answers are by Python's `ipaddress`; and, of many prefixes, plain:
+//! one address each, from the first on, two apart.
 
 use super::*;
 
@@ -152,6 +153,79 @@ fn is_answered(alloc: Global, row: &Row) -> Result<bool, AllocError> {
 fn prefixes_within_resources(rt: HostRuntime) -> Result<(), Fail> {
     for row in rows() {
         assert!(rt; is_answered(rt.alloc(), row)?, "{}", row.name);
+    }
+    Ok(())
+}
+
+/// So many prefixes of one address, from the first of the family on, two apart.
+fn prefixes_of(alloc: Global, count: u32, size: u8) -> Result<Vec<RoaIpAddress>, AllocError> {
+    let mut prefixes = Vec::new(alloc);
+    for number in 0..count {
+        prefixes.push(RoaIpAddress {
+            prefix: Address {
+                number: 2 * u128::from(number),
+                size,
+            },
+            max_length: None,
+        })?;
+    }
+    Ok(prefixes)
+}
+
+/// So many numbers, from 0 on, two apart.
+fn numbers_of(alloc: Global, count: u32) -> Result<Blocks, AllocError> {
+    let mut items = Vec::new(alloc);
+    for number in 0..count {
+        items.push(Block {
+            low: 2 * u128::from(number),
+            high: 2 * u128::from(number),
+        })?;
+    }
+    Blocks::of(alloc, items.as_slice())
+}
+
+/// How many prefixes an attestation has of each family, and how many of them the resources have, if not all.
+const MANY: &[((u32, u32), (u32, u32), bool)] = &[
+    ((1, 0), (1, 9), true),
+    ((1, 0), (1, 10_000), true),
+    ((0, 1), (10_000, 1), true),
+    ((1, 1), (10_000, 10_000), true),
+    ((1_001, 1_001), (1_001, 1_001), true),
+    ((10_000, 10_000), (10_000, 10_000), true),
+    ((10_000, 10_000), (9_999, 10_000), false),
+    ((10_000, 10_000), (10_000, 9_999), false),
+    ((10_000, 0), (9_999, 10_000), false),
+    ((0, 10_000), (10_000, 9_999), false),
+];
+
+fn many_rows() -> &'static [((u32, u32), (u32, u32), bool)] {
+    MANY
+}
+
+/// Whether the answer for an attestation of so many prefixes is the one that is due.
+fn is_answered_of_many(
+    alloc: Global,
+    prefixes: (u32, u32),
+    held: (u32, u32),
+    is_within: bool,
+) -> Result<bool, AllocError> {
+    let first = prefixes_of(alloc, prefixes.0, 32)?;
+    let second = prefixes_of(alloc, prefixes.1, 128)?;
+    let v4 = numbers_of(alloc, held.0)?;
+    let v6 = numbers_of(alloc, held.1)?;
+    match RouteOriginAttestation::new(64_496, first, second) {
+        Some(attestation) => Ok(attestation.is_within(alloc, &v4, &v6)? == is_within),
+        None => Ok(false),
+    }
+}
+
+#[test]
+fn many_prefixes_within_resources(rt: HostRuntime) -> Result<(), Fail> {
+    for (prefixes, held, is_within) in many_rows() {
+        assert!(rt;
+            is_answered_of_many(rt.alloc(), *prefixes, *held, *is_within)?,
+            "{prefixes:?} in {held:?}"
+        );
     }
     Ok(())
 }

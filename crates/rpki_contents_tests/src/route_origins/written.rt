@@ -38,7 +38,7 @@ fn accepted_attestations_are_written(rt: HostRuntime) -> Result<(), Fail> {
     Ok(())
 }
 
-/// Whether families that stand in another order are written in that of the canonical form.
+/// Whether families in another order are written in that of the canonical form.
 fn are_turned(alloc: Global) -> Result<bool, AllocError> {
     let octets = octets_of(
         alloc,

@@ -135,3 +135,32 @@ fn parts_of_values_are_kept(rt: HostRuntime) -> Result<(), AllocError> {
     }
     Ok(())
 }
+
+/// Octets, and whether those are kept of the octets of a SEQUENCE: by a keeper that shares them, where they are their
+/// end.
+const KEPT: &[(&[u8], bool)] = &[
+    (&[0x30, 3, 2, 1, 5], true),
+    (&[3, 2, 1, 5], true),
+    (&[5], true),
+    (&[], true),
+    (&[0x30, 3, 2, 1], false),
+    (&[2, 1], false),
+    (&[2, 1, 6], false),
+    (&[0, 0x30, 3, 2, 1, 5], false),
+];
+
+/// Whether the keeper can keep parts of the octets.
+fn can_keep<K: Keep>(keep: K, octets: &[u8]) -> bool {
+    keep.can_keep(octets)
+}
+
+#[test]
+fn keepers_tell_what_they_can_keep(rt: HostRuntime) -> Result<(), AllocError> {
+    let octets = Bytes::copy_from_slice(rt.alloc(), &[0x30, 3, 2, 1, 5])?;
+    for (part, shared) in KEPT {
+        let keep = Shared::new(rt.alloc(), &octets);
+        assert!(rt; can_keep(keep, part) == *shared, "{part:?} shared");
+        assert!(rt; can_keep(rt.alloc(), part), "{part:?} copied");
+    }
+    Ok(())
+}

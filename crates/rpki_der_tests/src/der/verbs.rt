@@ -246,7 +246,7 @@ fn characters_of_ascii(rt: HostRuntime) {
     }
 }
 
-/// The octets, the numbers that are read one after another, and how many octets are left.
+/// The octets, the numbers that are read in order, and how many octets are left.
 type Numbers = (
     &'static str,
     &'static [u8],

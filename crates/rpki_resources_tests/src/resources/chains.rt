@@ -148,3 +148,47 @@ fn trust_anchors(rt: HostRuntime) -> Result<(), Fail> {
     }
     Ok(())
 }
+
+/// Whether the set is settled.
+fn is_set(found: Result<Blocks, SettleError>, expected: &Blocks) -> bool {
+    match found {
+        Ok(blocks) => blocks == *expected,
+        Err(_) => false,
+    }
+}
+
+/// Whether so many blocks are settled and trimmed under themselves, are inherited, and are those of a trust anchor.
+fn are_settled(alloc: Global, count: u32) -> Result<bool, AllocError> {
+    let octets = sizes::numbers(alloc, count)?;
+    let Ok(found) = AsResources::decode(alloc, octets.as_slice()) else {
+        return Ok(false);
+    };
+    let choice = found.numbers;
+    let inherited = ResourcesChoice::Inherit;
+    match &choice {
+        ResourcesChoice::Blocks(blocks) => {
+            let trimmed = choice.trim(alloc, blocks)?;
+            let trimmed_to_all = inherited.trim(alloc, blocks)?;
+            Ok(
+                blocks.as_slice().len() == count as usize
+                    && trimmed == *blocks
+                    && trimmed_to_all == *blocks
+                    && is_set(choice.settle(alloc, blocks), blocks)
+                    && is_set(inherited.settle(alloc, blocks), blocks)
+                    && is_set(choice.settle_anchor(alloc), blocks),
+            )
+        }
+        _ => Ok(false),
+    }
+}
+
+/// How many blocks there are.
+const COUNTS: [u32; 5] = [1, 1_000, 1_001, 10_000, 65_536];
+
+#[test]
+fn chains_of_many_blocks(rt: HostRuntime) -> Result<(), Fail> {
+    for count in COUNTS {
+        assert!(rt; are_settled(rt.alloc(), count)?, "{count}");
+    }
+    Ok(())
+}

@@ -261,7 +261,18 @@ fn texts_of_choices(rt: HostRuntime) -> Result<(), Fail> {
     Ok(())
 }
 
-/// Whether the text of this many AS numbers, each two above the one before, names each of them.
+/// Whether this text is read as this set of AS numbers, where they are listed.
+fn is_read_back(alloc: Global, text: &str, choice: &ResourcesChoice) -> bool {
+    match (
+        Blocks::from_text(alloc, ResourceKind::AsNumbers, text),
+        choice,
+    ) {
+        (Ok(found), ResourcesChoice::Blocks(blocks)) => found == *blocks,
+        _ => false,
+    }
+}
+
+/// Whether the text of this many AS numbers, each two above the one before, names each of them, and is read back.
 fn is_text_of_many(alloc: Global, count: u32) -> Result<bool, AllocError> {
     let octets = sizes::numbers(alloc, count)?;
     let Ok(found) = AsResources::decode(alloc, octets.as_slice()) else {
@@ -279,14 +290,17 @@ fn is_text_of_many(alloc: Global, count: u32) -> Result<bool, AllocError> {
     match found.numbers.text(ResourceKind::AsNumbers) {
         Some(text) => {
             let text = format!(in alloc; "{text}")?;
-            Ok(text.as_str() == expected.as_str())
+            Ok(
+                text.as_str() == expected.as_str()
+                    && is_read_back(alloc, text.as_str(), &found.numbers),
+            )
         }
         None => Ok(false),
     }
 }
 
 /// How many blocks a list has.
-const COUNTS: [u32; 6] = [1, 2, 127, 255, 256, 1000];
+const COUNTS: [u32; 8] = [1, 2, 127, 255, 256, 1_000, 1_001, 10_000];
 
 #[test]
 fn texts_of_many_blocks(rt: HostRuntime) -> Result<(), Fail> {

@@ -24,7 +24,7 @@ const MIDDLE: [u8; 20] = [
     0x80, 1, 2, 3, 4, 5, 6, 7, 8, 9, 10, 11, 12, 13, 14, 15, 16, 17, 18, 0x80,
 ];
 
-/// The same but for the first or the last octet, and how they stand to it: the first octet that differs decides.
+/// The same but for the first or the last octet, and how they compare to it: the first octet that differs decides.
 const OTHERS: &[(&str, u8, u8, Ordering)] = &[
     ("the same octets", 0x80, 0x80, Ordering::Equal),
     ("first octet less", 0x7F, 0x80, Ordering::Less),
@@ -58,7 +58,7 @@ fn identifiers_are_compared(rt: HostRuntime) {
     }
 }
 
-/// How it stands to the middle, in each of the two ways to ask.
+/// How it compares to the middle, in each of the two ways to ask.
 fn order_to_middle(other: KeyIdentifier) -> (Ordering, Option<Ordering>) {
     let middle = KeyIdentifier::from(MIDDLE);
     (other.cmp(&middle), other.partial_cmp(&middle))

@@ -47,6 +47,21 @@ fn texts_are_passed_on(rt: HostRuntime) {
 }
 
 #[test]
+fn allocation_failures_are_told_apart(rt: HostRuntime) {
+    let memory = ValidationError::from(DecodeError::OutOfMemory);
+    assert!(rt; memory.is_out_of_memory(), "out of memory");
+    let content = ContentError::from_static("out of memory");
+    for other in [
+        ValidationError::from(DecodeError::Truncated),
+        ValidationError::from(DecodeError::Content(content)),
+        ValidationError::from(InspectionError::from(content)),
+        ValidationError::from(VerificationError::from(content)),
+    ] {
+        assert!(rt; !other.is_out_of_memory(), "{other}");
+    }
+}
+
+#[test]
 fn texts_of_objects_that_fail_verification(rt: HostRuntime) {
     let signature = VerificationError::from(SignatureVerificationError);
     assert!(rt;

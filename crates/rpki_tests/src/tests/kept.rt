@@ -3,7 +3,9 @@
 
 use bytes::Bytes;
 use rpki::crypto::{PublicKey, PublicKeyView};
-use rpki::repository::x509::{CertExtension, ExtensionView, Name, NameView};
+use rpki::repository::x509::{
+    CertExtension, ExtensionOctets, ExtensionView, Name, NameOctets, NameView,
+};
 use rpki_der::{Constructed, DecodeError, Shared, Tag};
 use std::alloc::Global;
 use std::ptr;
@@ -87,7 +89,7 @@ fn alone(row: &Row) -> Bytes {
     Bytes::from_static(&row.octets[..row.size.min(row.octets.len())])
 }
 
-/// Whether the part stands at this place of the source, and isn't a copy.
+/// Whether the part is at this place of the source, and isn't a copy.
 fn stands_at(part: &[u8], source: &[u8], place: usize) -> bool {
     match (part.first(), source.get(place)) {
         (Some(first), Some(there)) => ptr::eq(first, there),
@@ -100,14 +102,20 @@ fn name_is_kept(alloc: Global, row: &Row) -> Result<bool, DecodeError> {
     let mut cons = Constructed::from_slice(row.octets);
     let view = NameView::take_from(&mut cons)?;
     let name = view.kept(Bytes::copy_from_slice(alloc, view.octets())?);
-    Ok(name == Name::decode(alloc, alone(row))? && cons.rest() == b"\x05\x00".as_slice())
+    let decoded = Name::decode(alloc, alone(row))?;
+    Ok(name.view().octets() == decoded.view().octets() && cons.rest() == b"\x05\x00".as_slice())
 }
 
 /// Whether a name is the octets that it was read from.
 fn name_is_shared(alloc: Global, row: &Row) -> Result<bool, DecodeError> {
     let source = Bytes::from_static(row.octets);
-    let name = Name::take_from(Shared::new(alloc, &source), &mut Constructed::new(&source))?;
-    Ok(stands_at(name.view().octets(), source.as_slice(), 0))
+    let keep = Shared::new(alloc, &source);
+    let name = Name::take_from(keep, &mut Constructed::new(&source))?;
+    let octets = NameOctets::take_from(keep, &mut Constructed::new(&source))?;
+    Ok(
+        stands_at(name.view().octets(), source.as_slice(), 0)
+            && stands_at(octets.view().octets(), source.as_slice(), 0),
+    )
 }
 
 #[test]
@@ -154,7 +162,14 @@ fn extension_is_kept(alloc: Global, row: &Row) -> Result<bool, DecodeError> {
     let identifier = Bytes::copy_from_slice(alloc, view.id().0)?;
     let extension = view.kept(identifier, Bytes::copy_from_slice(alloc, view.octets())?);
     let decoded = CertExtension::decode(alloc, alone(row))?;
-    Ok(extension == decoded && cons.rest() == b"\x05\x00".as_slice())
+    Ok(has_parts(&extension, &decoded) && cons.rest() == b"\x05\x00".as_slice())
+}
+
+/// Whether the two have the same parts.
+fn has_parts(kept: &ExtensionOctets, decoded: &CertExtension) -> bool {
+    kept.id() == decoded.id()
+        && kept.critical() == decoded.critical()
+        && kept.octets() == decoded.octets()
 }
 
 /// Whether the parts of an extension are those that it was read from, at these places.
@@ -165,11 +180,14 @@ fn extension_is_shared(
     content: usize,
 ) -> Result<bool, DecodeError> {
     let source = Bytes::from_static(row.octets);
-    let mut cons = Constructed::new(&source);
-    let extension = CertExtension::take_from(Shared::new(alloc, &source), &mut cons)?;
+    let keep = Shared::new(alloc, &source);
+    let extension = CertExtension::take_from(keep, &mut Constructed::new(&source))?;
+    let octets = ExtensionOctets::take_from(keep, &mut Constructed::new(&source))?;
     Ok(
         stands_at(extension.id().0, source.as_slice(), identifier)
-            && stands_at(extension.octets(), source.as_slice(), content),
+            && stands_at(extension.octets(), source.as_slice(), content)
+            && stands_at(octets.id().0, source.as_slice(), identifier)
+            && stands_at(octets.octets(), source.as_slice(), content),
     )
 }
 
@@ -191,7 +209,7 @@ fn content_is_shared(alloc: Global) -> Result<(bool, usize), DecodeError> {
     let octets = b"\x30\x0B\x06\x03\x55\x1D\x0E\x04\x04\x04\x02\xAB\xCD\x05\x00";
     let view = ExtensionView::take_placed(&mut Constructed::from_slice(octets))?;
     let following = view.following.rest().len();
-    let extension = CertExtension::take_from(alloc, &mut Constructed::from_slice(octets))?;
+    let extension = ExtensionOctets::take_from(alloc, &mut Constructed::from_slice(octets))?;
     let part = extension
         .cursor()
         .take_primitive_bytes_if(extension.shared(alloc), Tag::OCTET_STRING)?;

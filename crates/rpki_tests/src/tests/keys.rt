@@ -69,7 +69,7 @@ const KEY_AND_MORE: &[u8] =
 const KEY_WITH_MORE_INSIDE: &[u8] =
     b"\x30\x16\x30\x0D\x06\x09\x2A\x86\x48\x86\xF7\x0D\x01\x01\x01\x05\x00\x03\x04\x00\x61\x62\x63\x00";
 
-/// The identifier of a signature algorithm where that of a format stands.
+/// The identifier of a signature algorithm where that of a format is.
 const KEY_OF_NO_FORMAT: &[u8] =
     b"\x30\x13\x30\x0D\x06\x09\x2A\x86\x48\x86\xF7\x0D\x01\x01\x0B\x05\x00\x03\x02\x00\x80";
 

@@ -1,4 +1,4 @@
-//! The attributes of names, one after another. The names are of `openssl asn1parse -genconf`, and what is expected of
+//! The attributes of names, in order. The names are of `openssl asn1parse -genconf`, and what is expected of
 //! them is what `openssl asn1parse` prints; the numbers of tags are of X.680 8.4.
 
 use super::names::name_of;

@@ -91,7 +91,7 @@ struct Inspected {
     router: &'static str,
 }
 
-const INSPECTED: [Inspected; 20] = [
+const INSPECTED: [Inspected; 22] = [
     Inspected {
         name: "a common name",
         octets: &NAME,
@@ -109,13 +109,30 @@ const INSPECTED: [Inspected; 20] = [
         octets: &[
             0x30, 0x0b, 0x31, 0x09, 0x30, 0x07, 0x06, 0x03, 0x55, 0x04, 0x03, 0x13, 0x00,
         ],
-        rpki: "invalid name",
-        router: "unpermitted string variant in common name",
+        rpki: "",
+        router: "",
     },
     Inspected {
         name: "a serial number of UTF-8",
         octets: &[
             0x30, 0x0c, 0x31, 0x0a, 0x30, 0x08, 0x06, 0x03, 0x55, 0x04, 0x05, 0x0c, 0x01, 0x41,
+        ],
+        rpki: "invalid name",
+        router: "missing common name",
+    },
+    Inspected {
+        name: "a common name and a serial number of UTF-8",
+        octets: &[
+            0x30, 0x18, 0x31, 0x0a, 0x30, 0x08, 0x06, 0x03, 0x55, 0x04, 0x03, 0x0c, 0x01, 0x40,
+            0x31, 0x0a, 0x30, 0x08, 0x06, 0x03, 0x55, 0x04, 0x05, 0x0c, 0x01, 0x41,
+        ],
+        rpki: "invalid name",
+        router: "",
+    },
+    Inspected {
+        name: "a serial number of another string",
+        octets: &[
+            0x30, 0x0c, 0x31, 0x0a, 0x30, 0x08, 0x06, 0x03, 0x55, 0x04, 0x05, 0x16, 0x01, 0x41,
         ],
         rpki: "invalid name",
         router: "unpermitted string variant in common name",
@@ -341,6 +358,7 @@ fn names_are_written_as_read(rt: HostRuntime) -> Result<(), Fail> {
     let name = name_of(rt.alloc(), &NAME)?;
     let octets = name_written(rt.alloc(), &name)?.ok_or("too long")?;
     assert_eq!(rt; octets.as_slice(), NAME.as_slice());
+    assert_eq!(rt; name.as_slice(), NAME.as_slice());
     Ok(())
 }
 
@@ -377,7 +395,7 @@ fn names_are_read_one_by_one(rt: HostRuntime) -> Result<(), Fail> {
     Ok(())
 }
 
-/// A name, the octets, how a reader of whole octets ends on them, and how many octets are left behind a name.
+/// A name, the octets, how a reader of whole octets ends on them, and how many octets are left after a name.
 const WHOLE: [(&str, &[u8], Outcome, usize); 4] = [
     ("a name", &NAME, Outcome::Read, 0),
     (
@@ -398,7 +416,7 @@ const WHOLE: [(&str, &[u8], Outcome, usize); 4] = [
     ),
 ];
 
-/// How the reader of whole octets ends, and how many octets are left behind a name.
+/// How the reader of whole octets ends, and how many octets are left after a name.
 fn whole(alloc: Global, octets: &'static [u8]) -> (Outcome, usize) {
     let mut cons = Constructed::from_slice(octets);
     // The name is kept by the other reader: here only the place of the cursor tells.

@@ -28,7 +28,7 @@ pub enum Error {
 }
 
 impl Error {
-    ghost use Rattle.std.specs.Prelude.{◌≡◌};
+    ghost use Rattle.std.specs.Prelude.{◌≡◌, ◌↔◌, IsTrue};
     ghost use Rattle.rpki_text.specs.ErrorText.{error_number};
 
     /// The error's number, from 1 to 8, by which programs report it.
@@ -44,6 +44,16 @@ impl Error {
             Error::EmptySegments => 6,
             Error::LongSegments => 7,
             Error::OutOfMemory => 8,
+        }
+    }
+
+    /// Whether allocation failed: nothing is known of the text.
+    pub fn is_out_of_memory(self) -> bool
+        ensures { IsTrue result ↔ (self ≡ Error.OutOfMemory) }
+    {
+        match self {
+            Error::OutOfMemory => true,
+            _ => false,
         }
     }
 }

@@ -61,7 +61,7 @@ fn cuts_are_compared(rt: HostRuntime) {
     }
 }
 
-/// The path from the base to the URI, where it stands, and how long the URI's parent is.
+/// The path from the base to the URI, where it is, and how long the URI's parent is.
 fn ways<'a>(of: &'a str, base: &str) -> Result<Option<(&'a [u8], usize, Option<usize>)>, Error> {
     let uri = RsyncView::from_slice(of.as_bytes())?.cut();
     let base = RsyncView::from_slice(base.as_bytes())?.cut();

@@ -6,7 +6,7 @@ use rpki_der_tests::kinds::{Outcome, refused};
 use rpki_text::uri::{Error, Https, Rsync};
 use std::alloc::Global;
 
-/// A URI, and what stands before its text in a general name.
+/// A URI, and what is before its text in a general name.
 const NAMES: [(&str, &[u8]); 4] = [
     ("rSync://hOst/module/", &[0x86, 0x14]),
     ("rsync://host/module/foo/bar", &[0x86, 0x1b]),
@@ -40,7 +40,7 @@ fn general_name(alloc: Global, text: &str) -> Result<Option<Captured>, Error> {
     }
 }
 
-/// A URI, and what stands before its text in an IA5String.
+/// A URI, and what is before its text in an IA5String.
 const STRINGS: [(&str, &[u8]); 2] = [
     ("rSync://hOst/module/", &[0x16, 0x14]),
     ("hTtps://eXample.com/some", &[0x16, 0x18]),
@@ -64,7 +64,7 @@ fn ia5_string(alloc: Global, text: &str) -> Result<Option<Captured>, Error> {
     }
 }
 
-/// Whether octets were captured: what stands in front, and then the text.
+/// Whether octets were captured: what is in front, and then the text.
 fn has_front_and_text(found: Result<Option<Captured>, Error>, front: &[u8], text: &str) -> bool {
     match found {
         Ok(Some(found)) => found.as_slice().strip_prefix(front) == Some(text.as_bytes()),

@@ -2,18 +2,20 @@
 
 use rpki_text::util::hex;
 
-const DIGITS: [(&[u8], &str); 3] = [
+const DIGITS: [(&[u8], &str); 4] = [
     (&[0xAB, 0x01], "AB01"),
     (&[], ""),
-    (&[0x00, 0xFF, 0x9A], "00FF9A"),
+    (&[0x00], "00"),
+    (&[0xFF, 0x9A], "FF9A"),
 ];
 
-/// Whether these are the digits of the octets, which are three at most, and what follows them in a buffer stays.
+/// Whether these are the digits of the octets, which are two at most, and what follows them in a buffer of five octets
+/// stays.
 fn are_digits(octets: &[u8], want: &str) -> (bool, bool) {
-    if octets.len() > 3 {
+    if octets.len() > 2 {
         return (false, false);
     }
-    let mut buffer = [b'.'; 8];
+    let mut buffer = [b'.'; 5];
     let written = hex::encode(octets, &mut buffer) == want;
     (
         written,

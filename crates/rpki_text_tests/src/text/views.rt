@@ -1,4 +1,4 @@
-//! URIs in borrowed octets: where their parts stand, and texts that are joined in a buffer.
+//! URIs in borrowed octets: where their parts are, and texts that are joined in a buffer.
 
 use rpki_text::uri::{Error, HttpsView, RsyncView};
 use std::test::Fail;
@@ -68,7 +68,7 @@ fn https_parts_stand(rt: HostRuntime) {
     }
 }
 
-/// The path from `base` to the URI, and where it stands.
+/// The path from `base` to the URI, and where it is.
 fn relative<'a>(of: &'a str, base: &str) -> Result<Option<(&'a str, usize, usize)>, Error> {
     let uri = RsyncView::from_slice(of.as_bytes())?;
     let base = RsyncView::from_slice(base.as_bytes())?;

@@ -24,6 +24,7 @@ const ERRORS: [(Error, u8, &str); 8] = [
 fn error_numbers(rt: HostRuntime) {
     for (error, number, text) in ERRORS {
         assert!(rt; error.number() == number, "{text}");
+        assert!(rt; error.is_out_of_memory() == (number == 8), "{text}");
     }
 }
 

@@ -11,7 +11,7 @@ fn hash_of<T: Hash>(value: &T) -> u64 {
     state.finish()
 }
 
-/// How the first stands to the second, where equality and the partial order say the same and equal ones hash alike.
+/// How the first compares to the second, where equality and the partial order say the same and equal ones hash alike.
 fn order_of<T: Ord + Hash>(a: &T, b: &T) -> Option<Ordering> {
     let order = a.cmp(b);
     let equal = order == Ordering::Equal;
@@ -24,7 +24,7 @@ fn order_of<T: Ord + Hash>(a: &T, b: &T) -> Option<Ordering> {
     Some(order)
 }
 
-/// The octets of a serial number, those of another, and how the first stands to it.
+/// The octets of a serial number, those of another, and how the first compares to it.
 const SERIALS: &[(&str, &[u8], &[u8], Ordering)] = &[
     ("a zero and 20", &[0], &[0; 20], Ordering::Equal),
     ("0 and 1", &[0], &[1], Ordering::Less),
@@ -49,7 +49,7 @@ fn serial_rows() -> &'static [(&'static str, &'static [u8], &'static [u8], Order
     SERIALS
 }
 
-/// How the serial number of the first octets stands to that of the second.
+/// How the serial number of the first octets compares to that of the second.
 fn order_of_serials(first: &[u8], second: &[u8]) -> Option<Ordering> {
     match (Serial::from_slice(first), Serial::from_slice(second)) {
         (Ok(a), Ok(b)) => order_of(&a, &b),
@@ -67,7 +67,7 @@ fn serials_compare(rt: HostRuntime) {
     }
 }
 
-/// A time with its nanosecond, another, and how the first stands to it.
+/// A time with its nanosecond, another, and how the first compares to it.
 const TIMES: &[(&str, (Parts, i64), (Parts, i64), Ordering)] = &[
     (
         "the last moment of 2019 and a second",
@@ -105,7 +105,7 @@ fn time_rows() -> &'static [(&'static str, (Parts, i64), (Parts, i64), Ordering)
     TIMES
 }
 
-/// How the first moment stands to the second.
+/// How the first moment compares to the second.
 fn order_of_moments(first: (Parts, i64), second: (Parts, i64)) -> Option<Ordering> {
     let (a, b) = (moment_of(first.0, first.1)?, moment_of(second.0, second.1)?);
     order_of(&a, &b)

@@ -80,6 +80,12 @@ pub enum CertRule {
     ManifestPlace,
     /// A description of the repository's notifications has no https URI (RFC 8182 3.2).
     Notifications,
+    /// A value of the issuer's name is not of 1 to 64 characters (RFC 5280 A.1).
+    IssuerSize,
+    /// A value of the subject's name is not of 1 to 64 characters (RFC 5280 A.1).
+    SubjectSize,
+    /// The serial number of a router's name is no PrintableString (RFC 8209 3.1.1).
+    RouterSerialNumber,
 }
 
 impl CertRule {
@@ -120,6 +126,9 @@ impl CertRule {
             117 => CertRule::OwnResources,
             118 => CertRule::ManifestPlace,
             119 => CertRule::Notifications,
+            156 => CertRule::IssuerSize,
+            157 => CertRule::SubjectSize,
+            158 => CertRule::RouterSerialNumber,
             _ => unreachable!("{status} is no status of a certificate that is held to a profile"),
         }
     }
@@ -163,6 +172,9 @@ impl fmt::Display for CertRule {
             CertRule::OwnResources => "resources of the issuer",
             CertRule::ManifestPlace => "manifest is not in the repository",
             CertRule::Notifications => "notifications without an https URI",
+            CertRule::IssuerSize => "value of the issuer is not of 1 to 64 characters",
+            CertRule::SubjectSize => "value of the subject is not of 1 to 64 characters",
+            CertRule::RouterSerialNumber => "serial number of the subject is no PrintableString",
         })
     }
 }

@@ -80,16 +80,25 @@ impl SignedData {
         &self.signature
     }
 
-    /// Checks that the signature is by this key over exactly the signed octets, as the provider says.
+    /// Checks that the signature is by this key over exactly the signed octets, as
+    /// [RsaProvider](crate::crypto::RsaProvider) says.
+    ///
+    /// # Errors
+    /// The key is of another format, or the signature is not one by it.
+    pub fn verify_signature(&self, key: &PublicKey) -> Result<(), SignatureVerificationError> {
+        key.verify(&self.data, &self.signature)
+    }
+
+    /// The same, as this provider says.
     ///
     /// # Errors
     /// The key is of another format, or the provider says no.
-    pub fn verify_signature(
+    pub fn verify_signature_with(
         &self,
         provider: &impl Provider,
         key: &PublicKey,
     ) -> Result<(), SignatureVerificationError> {
-        key.verify(provider, &self.data, &self.signature)
+        key.verify_with(provider, &self.data, &self.signature)
     }
 
     /// The signed data as it is written: exactly the signed octets, the algorithm with parameters, and the signature

@@ -1,11 +1,11 @@
 //! Public keys: a format, and bits.
 
 ghost use Rattle.std.specs.Prelude.{◌≡◌, ◌↔◌, ◌<◌, ◌^◌, length, IsTrue, IfOk};
-ghost use Rattle.rpki_der.specs.Prelude.{left, Takes, TakesWhole, CanShare, AreBits, bits_of};
+ghost use Rattle.rpki_der.specs.Prelude.{left, Takes, TakesAll, TakesWhole, CanShare, AreBits, bits_of};
 ghost use Rattle.rpki.specs.PublicKey.{KeyParts, key_of, SpellsKey, key_octets, IsShortKey, IsKeyApart};
-ghost use Rattle.rpki.specs.KeyFault.{key};
+ghost use Rattle.rpki.specs.KeyFault.{key, key_parts};
 
-use super::{KeyIdentifier, PublicKeyFormat, PublicKeyFormatEncoder, PublicKeyView};
+use super::{KeyIdentifier, PublicKeyFormat, PublicKeyFormatEncoder};
 use crate::crypto::Provider;
 use crate::crypto::digest::sha1_digest;
 use bytes::Bytes;
@@ -143,17 +143,23 @@ impl PublicKey {
     /// kept. An allocator copies them, and [Shared](rpki_der::Shared) shares them; requires that `keep` can keep parts
     /// of what is left.
     ///
-    /// The errors are those of a SEQUENCE; then those of the parts, `Trailing` for octets that follow them, and
-    /// `OutOfMemory` if allocation fails, only where both parts are there.
+    /// The errors are those of a SEQUENCE; then those of the parts, of the bits `OutOfMemory` too if allocation fails,
+    /// only where both parts are there; then `Trailing` for octets that follow them.
     pub fn take_from<K: Keep>(keep: K, cons: &mut Constructed<'_>) -> Result<PublicKey, DecodeError>
         requires { K.holds keep (left cons.old) }
         ensures { Takes (λ k. k) key (left cons.old) (left cons.new) result }
     {
-        let mut after = *cons;
-        let key = PublicKeyView::take_from(&mut after)?;
-        let octets = cons.keep_part(keep, key.bits(), &after)?;
-        *cons = after;
-        Ok(key.kept(octets))
+        cons.in_sequence_with(
+            keep,
+            |contents, keep|
+                requires { K.holds keep (left contents.old) }
+                ensures { TakesAll (λ k. k) key_parts (left contents.old) (left contents.new) result }
+            {
+                let algorithm = PublicKeyFormat::take_from(contents)?;
+                let bits = contents.take_bit_string(keep)?;
+                Ok(PublicKey { algorithm, bits })
+            },
+        )
     }
 
     /// An encoder for the key (SubjectPublicKeyInfo, RFC 5280 4.1), which it owns.

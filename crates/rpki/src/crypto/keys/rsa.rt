@@ -1,16 +1,15 @@
 //! The bits of RSA keys: a SEQUENCE of modulus and exponent (RFC 8017 A.1.1).
 
 ghost use Rattle.std.specs.Prelude.{◌≡◌, ◌≢◌, ◌≤◌, ◌+◌, ◌^◌, ◌⊎◌, ◌↔◌, [], length, IfOk, IsErrOf};
-ghost use Rattle.rpki_der.specs.Prelude.{left, Takes, TakesAll, TakesWholeInPlace, number_of, said_by};
+ghost use Rattle.rpki_der.specs.Prelude.{TakesWholeInPlace, number_of};
+ghost use Rattle.rpki.specs.RsaPublicKey.{SpellsRsaNumbers};
 ghost use Rattle.rpki.specs.declared.crypto.keys.PublicKeyFormat.TheVariants.{Rsa};
-ghost use Rattle.rpki.specs.PublicKey.{SpellsRsaNumbers, IsRsaKey};
-ghost use Rattle.rpki.specs.KeyFault.{rsa_bits, rsa_numbers};
+ghost use Rattle.rpki.specs.PublicKey.{IsRsaKey};
+ghost use Rattle.rpki.specs.KeyFault.{rsa_key};
 
-use super::PublicKey;
+use super::{PublicKey, RsaPublicKey};
 use bytes::Bytes;
-use rpki_der::{
-    Constructed, DecodeError, InvalidInteger, PrimitiveContent, Sequence, Unsigned, write_to_bytes,
-};
+use rpki_der::{DecodeError, InvalidInteger, PrimitiveContent, Sequence, Unsigned, write_to_bytes};
 use std::alloc::Global;
 
 impl PublicKey {
@@ -46,34 +45,9 @@ impl PublicKey {
     /// The errors are those of a SEQUENCE; then those of the INTEGERs, and `Trailing` for octets that follow them or
     /// the SEQUENCE.
     pub fn rsa_from_bits_bytes(bytes: Bytes) -> Result<PublicKey, DecodeError>
-        ensures { TakesWholeInPlace (λ k. k) (said_by IsRsaKey rsa_bits) bytes result }
+        ensures { TakesWholeInPlace (λ k. k) rsa_key bytes result }
     {
-        check_rsa_bits(&bytes)?;
+        RsaPublicKey::from_bits(&bytes)?;
         Ok(PublicKey::of_bits(bytes))
     }
-}
-
-/// Tests that all of the octets are the bits of an RSA key.
-fn check_rsa_bits(octets: &Bytes) -> Result<(), DecodeError>
-    ensures { TakesWholeInPlace (λ _. tt) rsa_bits octets.now result }
-{
-    let mut cons = Constructed::new(octets);
-    take_rsa_bits(&mut cons)?;
-    cons.finish()?;
-    Ok(())
-}
-
-/// Moves past the bits of an RSA key: a SEQUENCE of two non-negative INTEGERs.
-fn take_rsa_bits(cons: &mut Constructed<'_>) -> Result<(), DecodeError>
-    ensures { Takes (λ _. tt) rsa_bits (left cons.old) (left cons.new) result }
-{
-    cons.in_sequence(
-        |contents|
-            ensures { TakesAll (λ _. tt) rsa_numbers (left contents.old) (left contents.new) result }
-        {
-            contents.take_unsigned()?;
-            contents.take_unsigned()?;
-            Ok(())
-        },
-    )
 }

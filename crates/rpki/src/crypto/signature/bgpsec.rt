@@ -46,6 +46,8 @@ impl SignatureAlgorithm for BgpsecSignatureAlgorithm {
 
     ghost format = { λ _. EcdsaP256 };
 
+    ghost fits = { λ _. Unit {0} };
+
     ghost spelled_value = { λ a s h. bare-value ecdsa_with_sha256 a s h };
 
     ghost spells_one = { λ a b s h k. refl };
@@ -55,8 +57,6 @@ impl SignatureAlgorithm for BgpsecSignatureAlgorithm {
     ghost norm_norm = { λ _. refl };
 
     ghost written_norm = { λ _. refl };
-
-    ghost norm_format = { λ _. refl };
 
     fn signing_algorithm(&self) -> SigningAlgorithm {
         SigningAlgorithm::EcdsaP256Sha256

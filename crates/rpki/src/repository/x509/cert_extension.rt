@@ -1,40 +1,41 @@
 //! Extensions of certificates, read and kept (RFC 5280 4.1, 4.2).
 
-ghost use Rattle.std.specs.Prelude.{◌≡◌, ◌<◌, ◌^◌, ◌↔◌, length, IfOk};
-ghost use Rattle.rpki_der.specs.Prelude.{left, Takes, TakesWhere, TakesWhole, CanShare, sequence};
+ghost use Rattle.std.specs.Prelude.{◌≡◌, ◌<◌, ◌^◌, ◌↔◌, ◌⊎◌, false, length, IfOk, IfSome, IfNone};
+ghost use Rattle.rpki_der.specs.Prelude.{left, Takes, TakesWhere, TakesWhole, CanShare, sequence, boolean_contents};
 ghost use Rattle.rpki.specs.Extension.{extension_octets};
 ghost use Rattle.rpki.specs.ExtensionValue.{ExtensionParts, extension_parts, SpellsExtension, written_extension};
 ghost use Rattle.rpki.specs.ExtensionValue.{CanBeWritten};
-ghost use Rattle.rpki.specs.ExtensionFault.{kept_extension};
+ghost use Rattle.rpki.specs.ExtensionFault.{captured_extension};
 
 mod grammar;
+mod octets;
 mod view;
 
+pub use self::octets::ExtensionOctets;
 pub use self::view::{ExtensionView, PlacedExtension};
 use bytes::Bytes;
 use rpki_der::{
-    Constructed, DecodeError, Keep, Oid, Primitive, PrimitiveContent, Sequence, Shared, Tag, Values,
+    Captured, Constructed, DecodeError, Keep, Oid, Primitive, PrimitiveContent, Sequence, Shared,
+    Tag, Values,
 };
 use std::alloc::{AllocError, Global};
 use std::marker::Model;
 
 /// An extension of a certificate: an identifier, whether the extension is critical, and the octets of its value, as it
-/// was read (RFC 5280 4.1, 4.2).
+/// was read (RFC 5280 4.1, 4.2), with the index of its headers. [ExtensionOctets] has the octets of the parts alone.
 #[derive(Debug, Drop)]
 pub struct CertExtension {
-    identifier: Bytes,
-    critical: bool,
-    content: Bytes,
+    captured: Captured,
 }
 
 impl Model for CertExtension {
-    ghost use Rattle.rpki.specs.ExtensionValue.{ExtensionParts, extension_parts, CanBeWritten};
+    ghost use Rattle.rpki.specs.ExtensionValue.{ExtensionParts, SpellsExtension, parts_of_extension};
 
     ghost Value = { ExtensionParts };
 
-    ghost view = { λ x. extension_parts x.identifier x.critical x.content };
+    ghost view = { λ x. parts_of_extension x.captured };
 
-    ghost invariant = { λ x. CanBeWritten (extension_parts x.identifier x.critical x.content) };
+    ghost invariant = { λ x. SpellsExtension (parts_of_extension x.captured) x.captured };
 }
 
 /// An encoder for an extension that was read: its identifier, TRUE where it is critical, and the OCTET STRING.
@@ -57,12 +58,25 @@ fn encode_parts<'a>(id: Oid<&'a [u8]>, critical: bool, octets: &'a [u8]) -> Exte
     Sequence::new((id.encode(), critical, octets.encode()))
 }
 
+/// The error of an extension in whose SEQUENCE octets follow the parts: `OutOfMemory` if allocation fails as it is
+/// captured, and else `Trailing`.
+fn error_behind<K: Keep>(keep: K, cons: &Constructed<'_>) -> DecodeError
+    requires { K.holds keep (left cons.now) }
+    ensures { (result ≡ DecodeError.OutOfMemory) ⊎ (result ≡ DecodeError.Trailing) }
+{
+    let mut after = *cons;
+    match after.capture_one(keep) {
+        Err(DecodeError::OutOfMemory) => DecodeError::OutOfMemory,
+        _ => DecodeError::Trailing,
+    }
+}
+
 impl CertExtension {
     /// An extension, and nothing else. It shares the octets.
     ///
     /// The errors are those of [CertExtension::take_from]; then `Trailing` if something follows the extension.
     pub fn decode(alloc: Global, bytes: Bytes) -> Result<CertExtension, DecodeError>
-        ensures { TakesWhole (λ x. x) kept_extension bytes result }
+        ensures { TakesWhole (λ x. x) captured_extension bytes result }
     {
         Constructed::new(&bytes).whole_with(
             Shared::new(alloc, &bytes),
@@ -74,25 +88,27 @@ impl CertExtension {
 
     /// An extension: a SEQUENCE of an OBJECT IDENTIFIER, of a BOOLEAN that says whether it is critical, and of an OCTET
     /// STRING. The BOOLEAN may be left out, which is FALSE; a FALSE that is spelled is read too, although X.690 11.5
-    /// forbids it. The octets of the identifier and of the OCTET STRING are kept: an allocator copies them, and
-    /// [Shared](rpki_der::Shared) shares them; requires that `keep` can keep parts of what is left.
+    /// forbids it. An allocator copies the octets, and [Shared](rpki_der::Shared) shares them; requires that `keep` can
+    /// keep parts of what is left.
     ///
-    /// The errors are those of a SEQUENCE; then those of the parts, `Trailing` for octets that follow them, and
-    /// `OutOfMemory` if allocation fails, only where an extension is there.
+    /// The errors are those of a SEQUENCE; then those of the parts; then `OutOfMemory` if allocation fails as the
+    /// extension is captured, only where its parts are there; and `Trailing` for octets that follow them.
     pub fn take_from<K: Keep>(
         keep: K,
         cons: &mut Constructed<'_>,
     ) -> Result<CertExtension, DecodeError>
         requires { K.holds keep (left cons.old) }
-        ensures { Takes (λ x. x) kept_extension (left cons.old) (left cons.new) result }
+        ensures { Takes (λ x. x) captured_extension (left cons.old) (left cons.new) result }
     {
         let mut after = *cons;
-        let placed = ExtensionView::take_placed(&mut after)?;
-        let extension = placed.extension;
-        let identifier = cons.keep_part(keep, extension.id().0, &placed.following)?;
-        let content = cons.keep_part(keep, extension.octets(), &after)?;
-        *cons = after;
-        Ok(extension.kept(identifier, content))
+        match ExtensionView::take_from(&mut after) {
+            Ok(_) => match cons.capture_one(keep) {
+                Ok(captured) => Ok(CertExtension { captured }),
+                Err(e) => Err(e),
+            },
+            Err(DecodeError::Trailing) => Err(error_behind(keep, cons)),
+            Err(e) => Err(e),
+        }
     }
 
     /// As [CertExtension::take_from] where what is left begins with the identifier octets of a SEQUENCE, in either
@@ -102,7 +118,7 @@ impl CertExtension {
         cons: &mut Constructed<'_>,
     ) -> Result<Option<CertExtension>, DecodeError>
         requires { K.holds keep (left cons.old) }
-        ensures { TakesWhere sequence (λ x. x) kept_extension (left cons.old) (left cons.new) result }
+        ensures { TakesWhere sequence (λ x. x) captured_extension (left cons.old) (left cons.new) result }
     {
         if !cons.has_tag(Tag::SEQUENCE) {
             return Ok(None);
@@ -111,42 +127,63 @@ impl CertExtension {
         Ok(Some(extension))
     }
 
-    /// The identifier.
+    /// The contents of the parts, as the index has them: of the identifier, of the BOOLEAN where it is there, and of
+    /// the OCTET STRING.
+    fn parts(&self) -> (&[u8], Option<&[u8]>, &[u8])
+        ensures identifier { result.0.now ≡ self.now.identifier }
+        ensures absent { IfNone result.1 (self.now.critical ≡ false) }
+        ensures critical { IfSome result.1 (λ c. c.now ≡ boolean_contents self.now.critical) }
+        ensures content { result.2.now ≡ self.now.content }
+        ensures writable { CanBeWritten self.now }
+    {
+        let mut members = self.captured.members(Some(0));
+        let first = members.next().unwrap();
+        let second = members.next().unwrap();
+        let identifier = self.captured.contents(first);
+        let next = self.captured.contents(second);
+        match members.next() {
+            Some(third) => (identifier, Some(next), self.captured.contents(third)),
+            None => (identifier, None, next),
+        }
+    }
+
+    /// The identifier. It comes from the index: no header is read again, and nothing is allocated.
     pub fn id(&self) -> Oid<&[u8]>
         ensures value { result.0.now ≡ self.now.identifier }
         // It is an identifier, and a length announces the contents of the extension.
         ensures writable { CanBeWritten self.now }
     {
-        Oid(self.identifier.as_slice())
+        Oid(self.parts().0)
     }
 
-    /// Whether the extension is critical; it is not where the BOOLEAN is left out.
+    /// Whether the extension is critical; it is not where the BOOLEAN is left out. It comes from the index.
     pub fn critical(&self) -> bool
         ensures { result ≡ self.now.critical }
     {
-        self.critical
+        match self.parts().1 {
+            Some(contents) => contents == [0xff].as_slice(),
+            None => false,
+        }
     }
 
-    /// The octets of the OCTET STRING, which the extension's identifier gives a meaning.
+    /// The octets of the OCTET STRING, which the extension's identifier gives a meaning. They come from the index.
     pub fn octets(&self) -> &[u8]
         ensures { result.now ≡ self.now.content }
     {
-        self.content.as_slice()
+        self.parts().2
     }
 
-    /// A cursor on the octets of the OCTET STRING. What a reader keeps of them with [CertExtension::shared], it shares
-    /// with the extension.
+    /// A cursor on the octets of the OCTET STRING.
     pub fn cursor(&self) -> Constructed<'_>
         ensures { left result ≡ self.now.content }
     {
-        Constructed::new(&self.content)
-    }
-
-    /// A keeper that shares parts of the octets of the OCTET STRING, for a reader on [CertExtension::cursor].
-    pub fn shared(&self, alloc: Global) -> Shared<'_>
-        ensures { CanShare result self.now.content }
-    {
-        Shared::new(alloc, &self.content)
+        let mut members = self.captured.members(Some(0));
+        members.next();
+        let second = members.next().unwrap();
+        match members.next() {
+            Some(third) => self.captured.contents_cursor(third),
+            None => self.captured.contents_cursor(second),
+        }
     }
 
     /// The extension, with its parts borrowed.
@@ -171,19 +208,14 @@ impl CertExtension {
         encode_parts(self.id(), self.critical(), self.octets())
     }
 
-    /// Returns a copy of the extension that shares its octets.
+    /// Returns a copy of the extension that shares its octets and copies the index of their headers.
     ///
     /// Returns `AllocError` if allocation fails.
     pub fn clone(&self) -> Result<CertExtension, AllocError>
         ensures { IfOk result (λ x. x ≡ self.now) }
     {
-        let identifier = self.identifier.clone()?;
-        let content = self.content.clone()?;
-        Ok(CertExtension {
-            identifier,
-            critical: self.critical,
-            content,
-        })
+        let captured = self.captured.clone()?;
+        Ok(CertExtension { captured })
     }
 }
 

@@ -15,24 +15,27 @@ ghost use Rattle.rpki.specs.StrictNameWithoutOrganization.{IsRouterNameWithoutOr
 mod attributes;
 mod grammar;
 mod inspection;
+mod octets;
 mod rule;
 mod table;
 mod view;
 
 pub use self::attributes::{AttributeView, Attributes};
 use self::grammar::skip_name;
+use self::inspection::Profile;
+pub use self::octets::NameOctets;
 pub use self::rule::NameRule;
 pub use self::view::NameView;
 use crate::repository::error::InspectionError;
 use bytes::Bytes;
-use rpki_der::{Constructed, DecodeError, Keep, Shared, StandingValue};
+use rpki_der::{Captured, Constructed, DecodeError, Keep, Shared};
 use std::alloc::{AllocError, Global};
 use std::marker::Model;
 
-/// A name, as the octets that it was read from.
+/// A name, as the octets that it was read from, with the index of their headers. [NameOctets] has the octets alone.
 #[derive(Debug, Drop)]
 pub struct Name {
-    octets: Bytes,
+    captured: Captured,
 }
 
 impl Model for Name {
@@ -41,18 +44,18 @@ impl Model for Name {
 
     ghost Value = { List ℕ };
 
-    ghost view = { λ x. x.octets };
+    ghost view = { λ x. x.captured };
 
-    ghost invariant = { λ x. IsName x.octets };
+    ghost invariant = { λ x. IsName x.captured };
 }
 
 impl Name {
-    /// The name that these octets are.
-    pub(super) fn of_octets(octets: Bytes) -> Name
-        requires { IsName octets }
-        ensures { result ≡ octets }
+    /// The name that was captured.
+    pub(super) fn of_captured(captured: Captured) -> Name
+        requires { IsName captured }
+        ensures { result ≡ captured }
     {
-        Name { octets }
+        Name { captured }
     }
 
     /// A name, and nothing else. It shares the octets.
@@ -90,42 +93,39 @@ impl Name {
         requires { K.holds keep (left cons.old) }
         ensures { Takes (λ n. n) name (left cons.old) (left cons.new) result }
     {
-        let mut after = *cons;
-        let name = NameView::take_from(&mut after)?;
-        let octets = cons.keep_part(keep, name.octets(), &after)?;
-        *cons = after;
-        Ok(name.kept(octets))
+        let captured = cons.capture(keep, |cons| skip_name(cons))?;
+        Ok(Name { captured })
     }
 
     /// The name in place, which borrows its octets.
     pub fn view(&self) -> NameView<'_>
         ensures { result ≡ self.now }
     {
-        NameView::new(self.octets.as_slice())
+        NameView::new(self.captured.as_slice())
     }
 
     /// Tests that the name is one of a certificate of the RPKI, as [Name::inspect_rpki] does; returns the rule that it
-    /// breaks first, from the left.
+    /// breaks first, from the left. It goes over the index, and reads no header again.
     pub fn test_rpki(&self) -> Result<(), NameRule>
         ensures { MatchResult result (λ _. IsRpkiName self.now) (λ rule. BreaksRpkiRule rule self.now) }
     {
-        self.view().test_rpki()
+        Profile::Rpki.inspect(self.captured.indexed_cursor())
     }
 
     /// Tests that the name is one of a router's certificate, as [Name::inspect_router] does; returns the rule that it
-    /// breaks first, from the left.
+    /// breaks first, from the left. It goes over the index, and reads no header again.
     pub fn test_router(&self) -> Result<(), NameRule>
         ensures { MatchResult result (λ _. IsRouterName self.now) (λ rule. BreaksRouterRule rule self.now) }
     {
-        self.view().test_router()
+        Profile::Router.inspect(self.captured.indexed_cursor())
     }
 
     /// Tests that the name is one of a certificate of the RPKI, unless `strict` is false: one common name, at most one
-    /// serial number and at most one organization name, each a PrintableString of 1 to 64 characters (RFC 5280 A.1),
-    /// and no other attribute (RFC 6487 4.4, which names no organization).
+    /// serial number and at most one organization name, each a PrintableString, and no other attribute (RFC 6487 4.4,
+    /// which names no organization). Strings of any size pass.
     ///
     /// The texts of the errors are `missing common name`, `multiple common names`, `multiple serial numbers` and
-    /// `multiple organization names`, and `invalid name` for another attribute and for another string or size.
+    /// `multiple organization names`, and `invalid name` for another attribute and for another string.
     pub fn inspect_rpki(&self, strict: bool) -> Result<(), InspectionError>
         ensures ok { IfOk result (λ _. IsTrue strict → IsRpkiName self.now) }
         ensures err { IfErr result (λ _. IsTrue strict × (IsRpkiName self.now → ⊥)) }
@@ -144,11 +144,11 @@ impl Name {
         }
     }
 
-    /// Tests that the name is one of a router's certificate, unless `strict` is false: the same, and the common name
-    /// and the organization name may be UTF8Strings (RFC 8209 3.1.1).
+    /// Tests that the name is one of a router's certificate, unless `strict` is false: the same, and each value may be
+    /// a UTF8String too (RFC 8209 3.1.1, which permits it for the common name).
     ///
     /// The texts of the errors are those of [Name::inspect_rpki], but `unpermitted string variant in common name` for
-    /// another string or size.
+    /// another string.
     pub fn inspect_router(&self, strict: bool) -> Result<(), InspectionError>
         ensures ok { IfOk result (λ _. IsTrue strict → IsRouterName self.now) }
         ensures err { IfErr result (λ _. IsTrue strict × (IsRouterName self.now → ⊥)) }
@@ -167,27 +167,35 @@ impl Name {
         }
     }
 
-    /// An encoder for the name: its original octets.
-    pub fn encode_ref(&self) -> StandingValue<'_>
-        ensures octets { result ≡ self.now }
-        ensures named { IsName result }
-        ensures one { IsValue result }
-        // The encoding is read as the same name.
-        ensures read_back { SpellsNameOctets self.now result }
-        // They have one reading.
-        ensures one_reading { (x y : List (List Attribute)) → SpellsName x result → SpellsName y result → x ≡ y }
+    /// The octets of the name.
+    pub fn as_slice(&self) -> &[u8]
+        ensures { result.now ≡ self.now }
     {
-        self.view().encode_ref()
+        self.captured.as_slice()
     }
 
-    /// Returns a copy of the name that shares its octets.
+    /// An encoder for the name: its original octets.
+    pub fn encode_ref(&self) -> &Captured
+        ensures octets { result.now ≡ self.now }
+        ensures named { IsName result.now }
+        ensures one { IsValue result.now }
+        // The encoding is read as the same name.
+        ensures read_back { SpellsNameOctets self.now result.now }
+        // They have one reading.
+        ensures one_reading { (x y : List (List Attribute)) → SpellsName x result.now → SpellsName y result.now
+            → x ≡ y }
+    {
+        &self.captured
+    }
+
+    /// Returns a copy of the name that shares its octets and copies the index of their headers.
     ///
     /// Returns `AllocError` if allocation fails.
     pub fn clone(&self) -> Result<Name, AllocError>
         ensures { IfOk result (λ n. n ≡ self.now) }
     {
-        let octets = self.octets.clone()?;
-        Ok(Name { octets })
+        let captured = self.captured.clone()?;
+        Ok(Name { captured })
     }
 }
 
@@ -203,7 +211,7 @@ impl PartialEq for Name {
     ghost laws = { partial_equiv_from_equiv nat_list_eq_equiv };
 
     fn eq(&self, other: &Self) -> bool {
-        self.octets.as_slice() == other.octets.as_slice()
+        self.captured.as_slice() == other.captured.as_slice()
     }
 }
 

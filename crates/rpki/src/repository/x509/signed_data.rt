@@ -135,9 +135,11 @@ impl<Alg: SignatureAlgorithm + 'static> SignedData<Alg> {
     pub fn encode_ref(&self) -> SignedDataEncoder<'_, Alg, Alg::Encoder>
         ensures octets { ⟦<SignedDataEncoder<'static, Alg, Alg::Encoder> as Values>⟧.encoded result
             ≡ written_signed Alg.written self.now }
-        // It fits exactly where its contents have fewer than 2^32 octets.
+        // It fits exactly where its contents have fewer than 2^32 octets, if the algorithm's encoder fits.
         ensures short { ⟦<SignedDataEncoder<'static, Alg, Alg::Encoder> as Values>⟧.is_short result
-            ↔ IsShortSigned Alg.written self.now }
+            → IsShortSigned Alg.written self.now }
+        ensures fits { Alg.fits self.now.algorithm → IsShortSigned Alg.written self.now
+            → ⟦<SignedDataEncoder<'static, Alg, Alg::Encoder> as Values>⟧.is_short result }
         // The encoding is read as the normal form.
         ensures read_back { IsShortSigned Alg.written self.now
             → SpellsSigned Alg.spells (normal_parts Alg.norm self.now) (written_signed Alg.written self.now) }

@@ -9,7 +9,7 @@ use super::name::Name;
 use crate::crypto::Provider;
 use crate::crypto::keys::{KeyIdentifier, PublicKey, PublicKeyCn};
 use crate::oid;
-use rpki_der::{ConstOid, Primitive, PrimitiveContent, Sequence, Set, Values, write_to_bytes};
+use rpki_der::{Captured, ConstOid, Primitive, PrimitiveContent, Sequence, Set, Values};
 use std::alloc::{AllocError, Global};
 
 /// An encoder for the name of a subject of the RPKI: one common name, a PrintableString of the key identifier in
@@ -60,8 +60,8 @@ impl Name {
         ensures strict { IfOk result (λ n. IsRpkiName n × IsRouterName n) }
     {
         let written = key.encode_subject_name(provider);
-        let name = write_to_bytes(alloc, &written)?;
-        Ok(Name::of_octets(name))
+        let captured = Captured::from_values(alloc, &written)?;
+        Ok(Name::of_captured(captured))
     }
 }
 

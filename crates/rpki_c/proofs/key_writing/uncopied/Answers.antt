@@ -8,7 +8,7 @@ use Rattle.rpki_c.proofs.key_writing.uncopied.Goals as goal
 pub returns-in-Ok : goal.returns-in-Ok
 returns-in-Ok c =
     let key : KeyParts = record { format = Rsa; bits = bits_of 0 c.args.bits.now } in
-    inl (key, record { format = refl; bits = refl; numbers = c.in-Ok.ensures.0 }, refl)
+    inl (key, record { format = refl; bits = refl; numbers = (_, c.in-Ok.ensures.0) }, refl)
 
 pub returns-in-Err : goal.returns-in-Err
 returns-in-Err c =

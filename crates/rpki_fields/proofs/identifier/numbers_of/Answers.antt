@@ -1,4 +1,3 @@
-use Rattle.std.proofs.Common.{◌<◌, length, arith, subst, sym}
 use Rattle.rpki_fields.proofs.IdentifierLaws.{ended, going-on, too-large, all-read}
 use Rattle.rpki_fields.proofs.identifier.numbers_of.Goals as goal
 use Rattle.rpki_fields.proofs.identifier.numbers_of.Goals.{then-octet-lt128+in_ok-push, else-octet-lt128}

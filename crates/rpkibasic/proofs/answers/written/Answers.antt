@@ -13,5 +13,6 @@ returns-then-not-fits c =
     inl (
       refl,
       too-long (length contents) (length (written_signed written_algorithm c.args.signed.now)) c.fits.result
-          fits c.if-not-fits.true c.encode_ref-encoder.ensures.short (tlv_at_most sequence true contents),
+          fits c.if-not-fits.true (c.encode_ref-encoder.ensures.short, c.encode_ref-encoder.ensures.fits tt)
+          (tlv_at_most sequence true contents),
     )

@@ -1,12 +1,10 @@
-use Rattle.std.proofs.Common.{◌∙◌, ℕ, true, false, List, refl, subst, ap, sym}
-use Rattle.std.specs.Prelude.{option_copied}
-use Rattle.rpki_fields.specs.Object.{cert_of}
+use Rattle.std.proofs.Common.{◌∙◌, ℕ, true, false, List, refl, subst, sym}
 use Rattle.rpki_fields.specs.declared.object.Object.{Object}
 use Rattle.rpkicert.specs.Finding.{IsObject, IsRefusal}
+use Rattle.rpkicert.specs.Profiled.{IsProfiled, IsUnprofiled}
 use Rattle.rpkicert.specs.Terms.{IsVerified, IsUnverifiedBy}
 use Rattle.rpkicert.specs.TermsView.{terms_of}
-use Rattle.rpkicert.proofs.FindingLaws.{given-up, meets-of, breaks-of, violates-of, outside-of}
-use Rattle.rpkicert.proofs.FindingLaws.{unverified-holds}
+use Rattle.rpkicert.proofs.FindingLaws.{given-up, outside-of, unverified-holds, unprofiled-holds}
 use Rattle.rpkicert.proofs.finding.held.Goals as goal
 
 pub returns-in_err-object : goal.returns-in_err-object
@@ -27,9 +25,7 @@ pub returns-in-Ok-verify : goal.returns-in-Ok-verify
 returns-in-Ok-verify c = (
   refl,
   subst (λ (o : List ℕ). IsObject o c.in_ok-object.object.value) c.as_slice.ensures.value c.in_ok-object.ensures,
-  meets-of c.args.terms.now.inspection (option_copied c.cert.result) (cert_of c.in_ok-object.object.value)
-      (c.cert.ensures ∙ ap cert_of c.as_ref-2.ensures)
-      c.in-Ok.ensures,
+  subst (λ (x : Object). IsProfiled c.args.terms.now.inspection x) c.as_ref-2.ensures c.in-Ok.ensures,
   subst (λ (x : Object). IsVerified (terms_of c.args.terms.now) x) c.as_ref-in-Ok.ensures c.in-Ok-verify.ensures,
   outside-of (terms_of c.args.terms.now) c.as_ref.result.now c.in_ok-object.object.value false c.as_ref.ensures
       (sym c.is_outside.ensures ∙ c.if-is_outside.false),
@@ -39,18 +35,13 @@ pub returns-in-Err-verify : goal.returns-in-Err-verify
 returns-in-Err-verify c =
     unverified-holds (terms_of c.args.terms.now) c.args.octets.items c.in_ok-object.object.value c.in-Err-verify.fault
     (subst (λ (o : List ℕ). IsObject o c.in_ok-object.object.value) c.as_slice.ensures.value c.in_ok-object.ensures)
-    (meets-of c.args.terms.now.inspection (option_copied c.cert.result) (cert_of c.in_ok-object.object.value)
-    (c.cert.ensures ∙ ap cert_of c.as_ref-2.ensures) c.in-Ok.ensures)
+    (subst (λ (x : Object). IsProfiled c.args.terms.now.inspection x) c.as_ref-2.ensures c.in-Ok.ensures)
     (subst (λ (x : Object). IsUnverifiedBy (terms_of c.args.terms.now) x c.in-Err-verify.fault) c.as_ref-in-Ok.ensures
     c.in-Err-verify.ensures)
 
 pub returns-in-Err : goal.returns-in-Err
-returns-in-Err c = (
-  c.in_ok-object.object.value,
-  subst (λ (o : List ℕ). IsObject o c.in_ok-object.object.value) c.as_slice.ensures.value c.in_ok-object.ensures,
-  breaks-of c.args.terms.now.inspection (option_copied c.cert.result) (cert_of c.in_ok-object.object.value)
-      (c.cert.ensures ∙ ap cert_of c.as_ref-2.ensures)
-      c.in-Err.ensures.0,
-  violates-of c.args.terms.now.inspection (option_copied c.cert.result) (cert_of c.in_ok-object.object.value)
-      c.in-Err.violation (c.cert.ensures ∙ ap cert_of c.as_ref-2.ensures) c.in-Err.ensures.1,
-)
+returns-in-Err c =
+    unprofiled-holds (terms_of c.args.terms.now) c.args.octets.items c.in_ok-object.object.value c.in-Err.fault
+    (subst (λ (o : List ℕ). IsObject o c.in_ok-object.object.value) c.as_slice.ensures.value c.in_ok-object.ensures)
+    (subst (λ (x : Object). IsUnprofiled c.args.terms.now.inspection x c.in-Err.fault) c.as_ref-2.ensures
+    c.in-Err.ensures)

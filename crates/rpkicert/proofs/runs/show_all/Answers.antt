@@ -8,13 +8,14 @@ use Rattle.rpkicert.proofs.runs.show_all.Goals as goal
 pub returns-in-None : goal.returns-in-None
 returns-in-None g c = c.show_at.ensures (no-moment _ (ap (option_map _) c.in-None.is))
 
-pub returns-in-Ok : goal.returns-in-Ok
-returns-in-Ok g c =
-    c.show_at-in-Ok.ensures
-    (the-moment _ c.in-Some.word.now c.in-Ok.moment (ap (option_map _) c.in-Some.is) c.in-Ok.ensures.value.1)
+pub returns-in-Some-moment_of : goal.returns-in-Some-moment_of
+returns-in-Some-moment_of g c =
+    c.show_at-in-Some-moment_of.ensures
+    (the-moment _ c.in-Some.word.now c.in-Some-moment_of.moment (ap (option_map _) c.in-Some.is)
+    c.in-Some-moment_of.ensures.some)
 
-pub returns-in-Err : goal.returns-in-Err
-returns-in-Err g c =
+pub returns-in-None-moment_of : goal.returns-in-None-moment_of
+returns-in-None-moment_of g c =
     wrong-moment _ (asked_of c.args.request.now) c.in-Some.word.now _ _ _ _ _ (ap (option_map _) c.in-Some.is)
-    (λ k. absurd (let f = c.in-Err.ensures.value.0.1 k in cc))
+    c.in-None-moment_of.ensures.none
     (denied-by c.wrong_moment.result _ _ _ _ _ _ c.wrong_moment.ensures (Appends-nil _) c.deny.ensures)

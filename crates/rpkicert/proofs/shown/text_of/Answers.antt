@@ -7,5 +7,12 @@ returns c =
     IfOk-weaker c.render.result _ _ (λ text e. (
       c.in_ok-sheet.sheet,
       rw (c.as_slice.ensures.value, c.as_ref.ensures) at c.in_ok-sheet.ensures,
-      e ∙ rw (c.in_ok-all.ensures, c.as_slice-2.ensures.value, c.in_ok-file.ensures, c.in_ok-own.ensures) refl,
+      e ∙ rw (
+        c.in_ok-all.ensures,
+        c.as_slice-2.ensures.value,
+        c.in_ok-file.ensures,
+        c.in_ok-own.ensures,
+        c.signature_of-signature.ensures,
+        c.as_ref-2.ensures,
+      ) refl,
     )) c.render.ensures

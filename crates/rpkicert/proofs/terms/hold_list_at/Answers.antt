@@ -7,5 +7,5 @@ use Rattle.rpkicert.proofs.terms.hold_list_at.Goals as goal
 
 pub returns : goal.returns
 returns c =
-    by-both C.List HoldsAt IsUpdateError _ _ _ _ c.check_updates.result c.by.result c.list_period.ensures refl
+    by-both C.Updates HoldsAt IsUpdateError _ _ _ _ c.check_updates.result c.by.result c.list_period.ensures refl
     c.check_updates.ensures c.by.ensures

@@ -7,8 +7,8 @@ ghost use Rattle.rpki.specs.ExtensionValue.{extension_parts, CanBeWritten};
 ghost use Rattle.rpki.specs.ExtensionFault.{extension};
 ghost use Rattle.rpki.specs.ExtensionPlace.{IsBehindIdentifier};
 
-use super::CertExtension;
 use super::grammar::take_parts;
+use super::octets::ExtensionOctets;
 use bytes::Bytes;
 use rpki_der::{Constructed, DecodeError, Oid};
 use std::marker::Model;
@@ -93,17 +93,13 @@ impl<'a> ExtensionView<'a> {
 
     /// The extension, of octets that were kept. Requires that they are those of its identifier and of its OCTET STRING,
     /// and that it can be written, as one that was read can: one of [ExtensionView::of_parts] may have any octets.
-    pub fn kept(&self, identifier: Bytes, content: Bytes) -> CertExtension
+    pub fn kept(&self, identifier: Bytes, content: Bytes) -> ExtensionOctets
         requires same_identifier { identifier ≡ self.now.identifier }
         requires same_content { content ≡ self.now.content }
         requires writable { CanBeWritten self.now }
         ensures { result ≡ self.now }
     {
-        CertExtension {
-            identifier,
-            critical: self.critical,
-            content,
-        }
+        ExtensionOctets::of_parts(identifier, self.critical, content)
     }
 
     /// The identifier.

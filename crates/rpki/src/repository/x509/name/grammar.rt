@@ -1,9 +1,23 @@
 //! The grammar of names (RFC 5280 4.1.2.4, X.501 9.2).
 
-ghost use Rattle.rpki_der.specs.Prelude.{left, Takes, TakesAll};
+ghost use Rattle.std.specs.Prelude.{true};
+ghost use Rattle.rpki_der.specs.Prelude.{left, Takes, TakesAll, sequence, Reads, IsOuterFault};
+ghost use Rattle.rpki.specs.Name.{SpellsIdentifierThen, attribute_left};
 ghost use Rattle.rpki.specs.NameFault.{attribute, attribute_parts, attributes, relative, relatives, walked_name};
 
-use rpki_der::{Constructed, DecodeError};
+use rpki_der::{Constructed, Cursor, DecodeError, Tag, take_oid_contents};
+
+/// The contents of an attribute's identifier, and a cursor on what follows it in the attribute.
+pub(super) fn take_attribute_type<C: Cursor>(cons: &mut C) -> Result<(C, C), DecodeError>
+    ensures { Reads (attribute_left C.octets_left) SpellsIdentifierThen
+        (IsOuterFault sequence true) (C.octets_left cons.old) (C.octets_left cons.new) result }
+{
+    let mut after = *cons;
+    let mut contents = after.take_value_contents(Tag::SEQUENCE, true)?;
+    let identifier = take_oid_contents(&mut contents)?;
+    *cons = after;
+    Ok((identifier, contents))
+}
 
 /// Moves past an attribute: a SEQUENCE of an OBJECT IDENTIFIER and one value.
 fn skip_attribute(cons: &mut Constructed<'_>) -> Result<(), DecodeError>

@@ -1,16 +1,15 @@
-//! What a name is inspected for (RFC 6487 4.4, RFC 8209 3.1.1).
+//! What a name is inspected for (RFC 6487 4.4, RFC 8209 3.1.1). The inspection reads a name by a cursor: on octets, or
+//! on a captured value, whose index has the headers.
 
-ghost use Rattle.std.specs.Prelude.{◌≡◌, ◌↔◌, ◌<◌, IsTrue, [], ◌∷◌, length};
-ghost use Rattle.std.specs.List.{count_by};
-ghost use Rattle.rpki.specs.Name.{attribute_of};
-ghost use Rattle.rpki.specs.NameTable.{name_table, row_at};
-ghost use Rattle.rpki.specs.StrictName.{IsNameSize, begins_character, IsPrintable, IsUtf8String, IsString};
-ghost use Rattle.rpki.specs.InspectionView.{strings_of, FindsBy, Inspects};
+ghost use Rattle.std.specs.Prelude.{◌↔◌, IsTrue, List, [], ◌∷◌};
+ghost use Rattle.rpki.specs.Name.{Attribute, attribute_of, SpellsAttribute, SpellsSome, SpellsRelative, IsName};
+ghost use Rattle.rpki.specs.StrictName.{attributes, IsPrintable, IsUtf8String};
+ghost use Rattle.rpki.specs.InspectionView.{IsStringOf, FindsBy, Inspects};
 
+use super::grammar::take_attribute_type;
 use super::rule::NameRule;
-use super::table::{Found, NOTHING, NameAttribute, Strings};
-use super::view::NameView;
-use rpki_der::{Constructed, Oid, take_printable_contents, take_utf8_contents};
+use super::table::{Found, NOTHING, NameAttribute};
+use rpki_der::{Cursor, Oid, Tag, take_printable_contents, take_utf8_contents};
 
 /// Whose names are inspected.
 #[derive(Clone, Copy)]
@@ -21,65 +20,36 @@ pub(super) enum Profile {
     Router,
 }
 
-/// Whether a value may have as many characters (RFC 5280 A.1).
-fn is_name_size(characters: usize) -> bool
-    ensures { IsTrue result ↔ IsNameSize characters }
+/// Whether what is left is a PrintableString.
+fn is_printable<C: Cursor>(value: C) -> bool
+    ensures { IsTrue result ↔ IsPrintable (C.octets_left value) }
 {
-    1 <= characters && characters <= 64
-}
-
-/// How many characters the octets of a text in UTF-8 are.
-fn characters(text: &[u8]) -> usize
-    ensures { result ≡ count_by begins_character text.now }
-{
-    text.iter()
-        .filter(|octet| **octet < 0x80 || **octet >= 0xc0)
-        .count()
-}
-
-/// Whether the octets are a PrintableString of 1 to 64 characters.
-fn is_printable(value: &[u8]) -> bool
-    ensures { IsTrue result ↔ IsPrintable value.now }
-{
-    let mut after = Constructed::from_slice(value);
+    let mut after = value;
     match take_printable_contents(&mut after) {
-        Ok(text) => is_name_size(text.rest().len()) && after.is_empty(),
+        Ok(_) => after.is_at_end(),
         Err(_) => false,
     }
 }
 
-/// Whether they are a UTF8String of 1 to 64 characters.
-fn is_utf8(value: &[u8]) -> bool
-    ensures { IsTrue result ↔ IsUtf8String value.now }
+/// Whether it is a UTF8String.
+fn is_utf8<C: Cursor>(value: C) -> bool
+    ensures { IsTrue result ↔ IsUtf8String (C.octets_left value) }
 {
-    let mut after = Constructed::from_slice(value);
+    let mut after = value;
     match take_utf8_contents(&mut after) {
-        Ok(text) => is_name_size(characters(text.rest())) && after.is_empty(),
+        Ok(_) => after.is_at_end(),
         Err(_) => false,
-    }
-}
-
-impl Strings {
-    /// Whether the octets are one of the strings.
-    fn permit(self, value: &[u8]) -> bool
-        ensures { IsTrue result ↔ IsString self value.now }
-    {
-        match self {
-            Strings::Printable => is_printable(value),
-            Strings::PrintableOrUtf8 => is_printable(value) || is_utf8(value),
-        }
     }
 }
 
 impl Profile {
-    /// The strings that the attribute of this number may be.
-    fn strings(self, attribute: usize) -> Strings
-        requires { attribute < length name_table }
-        ensures { result ≡ strings_of self (row_at name_table attribute) }
+    /// Whether what is left is a string that the profile permits.
+    fn permits<C: Cursor>(self, value: C) -> bool
+        ensures { IsTrue result ↔ IsStringOf self (C.octets_left value) }
     {
         match self {
-            Profile::Rpki => NameAttribute::of_number(attribute).rpki,
-            Profile::Router => NameAttribute::of_number(attribute).router,
+            Profile::Rpki => is_printable(value),
+            Profile::Router => is_printable(value) || is_utf8(value),
         }
     }
 
@@ -87,8 +57,14 @@ impl Profile {
     ///
     /// Returns the rule that is broken if an attribute that is not of the table, a second one of its type, or a string
     /// that is not permitted is found, the first of these.
-    fn add(self, found: Found, identifier: Oid<&[u8]>, value: &[u8]) -> Result<Found, NameRule>
-        ensures { FindsBy self found (attribute_of identifier.entry.0.now value.now ∷ []) result }
+    fn add<C: Cursor>(
+        self,
+        found: Found,
+        identifier: Oid<&[u8]>,
+        value: C,
+    ) -> Result<Found, NameRule>
+        ensures { FindsBy self found
+            (attribute_of identifier.entry.0.now (C.octets_left value) ∷ []) result }
     {
         let Some(number) = NameAttribute::number_of(identifier) else {
             return Err(NameRule::OtherAttribute);
@@ -96,7 +72,7 @@ impl Profile {
         if found[number] {
             return Err(NameAttribute::of_number(number).second);
         }
-        if !self.strings(number).permit(value) {
+        if !self.permits(value) {
             return Err(NameRule::OtherString);
         }
         let mut found = found;
@@ -104,15 +80,51 @@ impl Profile {
         Ok(found)
     }
 
-    /// Tests a name, attribute by attribute; returns the rule that it breaks first.
-    pub(super) fn inspect(self, name: &NameView<'_>) -> Result<(), NameRule>
-        ensures { Inspects self name.now result }
+    /// What is found in these attributes, after what was found before; or the rule that is broken first.
+    fn add_attributes<C: Cursor>(self, found: Found, contents: C) -> Result<Found, NameRule>
+        ensures { (xs : List Attribute) → SpellsSome SpellsAttribute xs (C.octets_left contents)
+            → FindsBy self found xs result }
     {
-        let mut found = NOTHING;
-        let mut rest = name.attributes();
-        'attributes: while let Some(attribute) = rest.next_attribute() {
-            found = self.add(found, attribute.identifier, attribute.value)?;
+        let mut rest = contents;
+        let mut all = found;
+        'attributes: while !rest.is_at_end() {
+            let (identifier, value) = match take_attribute_type(&mut rest) {
+                Ok(read) => read,
+                Err(_) => return Err(NameRule::OtherAttribute),
+            };
+            all = self.add(all, Oid(identifier.octets()), value)?;
         }
+        Ok(all)
+    }
+
+    /// The same for relative distinguished names.
+    fn add_relatives<C: Cursor>(self, found: Found, contents: C) -> Result<Found, NameRule>
+        ensures { (parts : List (List Attribute)) → SpellsSome SpellsRelative parts (C.octets_left contents)
+            → FindsBy self found (attributes parts) result }
+    {
+        let mut rest = contents;
+        let mut all = found;
+        'relatives: while !rest.is_at_end() {
+            let relative = match rest.take_value_contents(Tag::SET, true) {
+                Ok(relative) => relative,
+                Err(_) => return Err(NameRule::OtherAttribute),
+            };
+            all = self.add_attributes(all, relative)?;
+        }
+        Ok(all)
+    }
+
+    /// Tests the name that is left of a cursor; returns the rule that it breaks first.
+    pub(super) fn inspect<C: Cursor>(self, name: C) -> Result<(), NameRule>
+        requires { IsName (C.octets_left name) }
+        ensures { Inspects self (C.octets_left name) result }
+    {
+        let mut name = name;
+        let contents = match name.take_value_contents(Tag::SEQUENCE, true) {
+            Ok(contents) => contents,
+            Err(_) => return Err(NameRule::OtherAttribute),
+        };
+        let found = self.add_relatives(NOTHING, contents)?;
         if !found[NameAttribute::COMMON_NAME] {
             return Err(NameRule::MissingCommonName);
         }

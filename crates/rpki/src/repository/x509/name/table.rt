@@ -7,24 +7,11 @@ use super::rule::NameRule;
 use crate::oid::{AT_COMMON_NAME, AT_ORGANIZATION_NAME, AT_SERIAL_NUMBER};
 use rpki_der::{ConstOid, Oid};
 
-/// The strings that a value may be, of 1 to 64 characters (RFC 5280 A.1).
-#[derive(Clone, Copy)]
-pub(super) enum Strings {
-    /// A PrintableString.
-    Printable,
-    /// A PrintableString or a UTF8String.
-    PrintableOrUtf8,
-}
-
 /// An attribute that names may have, once at most: a row of the table.
 #[derive(Clone, Copy)]
 pub(super) struct NameAttribute {
     /// Its type.
     identifier: ConstOid,
-    /// Its strings in a name of the RPKI.
-    pub(super) rpki: Strings,
-    /// Its strings in a name of a router.
-    pub(super) router: Strings,
     /// The rule that a second one breaks.
     pub(super) second: NameRule,
 }
@@ -33,20 +20,14 @@ pub(super) struct NameAttribute {
 const ATTRIBUTES: [NameAttribute; 3] = [
     NameAttribute {
         identifier: AT_COMMON_NAME,
-        rpki: Strings::Printable,
-        router: Strings::PrintableOrUtf8,
         second: NameRule::SecondCommonName,
     },
     NameAttribute {
         identifier: AT_SERIAL_NUMBER,
-        rpki: Strings::Printable,
-        router: Strings::Printable,
         second: NameRule::SecondSerialNumber,
     },
     NameAttribute {
         identifier: AT_ORGANIZATION_NAME,
-        rpki: Strings::Printable,
-        router: Strings::PrintableOrUtf8,
         second: NameRule::SecondOrganizationName,
     },
 ];
@@ -79,9 +60,7 @@ impl NameAttribute {
     /// The attribute of this number.
     pub(super) fn of_number(number: usize) -> NameAttribute
         requires { number < length name_table }
-        ensures rpki { result.rpki ≡ (row_at name_table number).rpki }
-        ensures router { result.router ≡ (row_at name_table number).router }
-        ensures second { result.second ≡ (row_at name_table number).second }
+        ensures { result.second ≡ (row_at name_table number).second }
     {
         ATTRIBUTES[number]
     }

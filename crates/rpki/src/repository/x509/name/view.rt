@@ -8,10 +8,10 @@ ghost use Rattle.rpki.specs.NameFault.{borrowed_name};
 ghost use Rattle.rpki.specs.NameRule.{BreaksRpkiRule, BreaksRouterRule};
 ghost use Rattle.rpki.specs.StrictName.{IsRpkiName, IsRouterName};
 
-use super::Name;
 use super::attributes::Attributes;
 use super::grammar::skip_name;
 use super::inspection::Profile;
+use super::octets::NameOctets;
 use super::rule::NameRule;
 use bytes::Bytes;
 use rpki_der::{Constructed, DecodeError, StandingValue};
@@ -82,13 +82,13 @@ impl<'a> NameView<'a> {
     }
 
     /// The name, of octets that were kept. Requires that they are those of the name.
-    pub fn kept(&self, octets: Bytes) -> Name
+    pub fn kept(&self, octets: Bytes) -> NameOctets
         requires { octets ≡ self.now }
         ensures { result ≡ self.now }
     {
         // its clause says that these are a name
         let _ = self.octets();
-        Name::of_octets(octets)
+        NameOctets::of_octets(octets)
     }
 
     /// The attributes of the name, in order: those of each relative distinguished name, of which the first is marked.
@@ -101,13 +101,21 @@ impl<'a> NameView<'a> {
         Attributes::of_name(self.octets)
     }
 
+    /// A cursor on the name.
+    fn cursor(&self) -> Constructed<'a>
+        ensures octets { left result ≡ self.now }
+        ensures named { IsName self.now }
+    {
+        Constructed::from_slice(self.octets)
+    }
+
     /// Tests that the name is one of a certificate of the RPKI, as
     /// [Name::test_rpki](crate::repository::x509::Name::test_rpki) does; returns the rule that it breaks first, from
     /// the left. Allocates nothing.
     pub fn test_rpki(&self) -> Result<(), NameRule>
         ensures { MatchResult result (λ _. IsRpkiName self.now) (λ rule. BreaksRpkiRule rule self.now) }
     {
-        Profile::Rpki.inspect(self)
+        Profile::Rpki.inspect(self.cursor())
     }
 
     /// Tests that the name is one of a router's certificate, as
@@ -116,6 +124,6 @@ impl<'a> NameView<'a> {
     pub fn test_router(&self) -> Result<(), NameRule>
         ensures { MatchResult result (λ _. IsRouterName self.now) (λ rule. BreaksRouterRule rule self.now) }
     {
-        Profile::Router.inspect(self)
+        Profile::Router.inspect(self.cursor())
     }
 }

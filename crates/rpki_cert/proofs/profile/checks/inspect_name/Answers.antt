@@ -1,9 +1,9 @@
-use Rattle.rpki.specs.StrictName.{rpki_strings}
+use Rattle.rpki.specs.StrictName.{IsPrintable}
 use Rattle.rpki.proofs.RuleLaws.{named-not}
 use Rattle.rpki_cert.proofs.profile.checks.inspect_name.Goals as goal
 
 pub returns-in-Err : goal.returns-in-Err
 returns-in-Err c = (
-  λ h. named-not rpki_strings c.in-Err.rule c.args.name.now c.in-Err.ensures (h c.if-not-strict.false),
+  λ h. named-not IsPrintable c.in-Err.rule c.args.name.now c.in-Err.ensures (h c.if-not-strict.false),
   (c.in-Err.rule, c.in-Err.ensures, c.rpki_error.ensures),
 )

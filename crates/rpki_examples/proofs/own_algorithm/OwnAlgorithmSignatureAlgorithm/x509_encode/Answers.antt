@@ -4,4 +4,4 @@ use Rattle.rpki_examples.proofs.own_algorithm.OwnAlgorithmSignatureAlgorithm.x50
 
 pub returns-clause-short : goal.returns-clause-short
 returns-clause-short c = rw c.new.ensures
-    (c.encode.ensures.short.1 (lit< tt), rw c.encode.ensures.encoded (bare-short (136 ∷ 55 ∷ []) (lit< tt)))
+    (λ _. (c.encode.ensures.short.1 (lit< tt), rw c.encode.ensures.encoded (bare-short (136 ∷ 55 ∷ []) (lit< tt))))

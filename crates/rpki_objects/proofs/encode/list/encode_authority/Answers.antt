@@ -1,5 +1,4 @@
 use Rattle.std.proofs.Common.{false, refl, arith}
-use Rattle.rpki_der.specs.Prelude.{tlv}
 use Rattle.rpki_der.proofs.EncodeLaws.{tlv_at_most}
 use Rattle.rpki_cert.specs.ExtensionContent.{identifier_tag}
 use Rattle.rpki_objects.specs.EncodedCrl.{authority_extension}

@@ -22,7 +22,7 @@ returns-clause-short c =
         (
           c.encode_version-version.ensures.short,
           (
-            c.x509_encode-algorithm.ensures.short,
+            (c.x509_encode-algorithm.ensures.short tt),
             (
               (1, c.encode_ref-issuer.ensures.one),
               c.encode_behind-behind.ensures.short (behind-short (list_of c.args.self.now) short),

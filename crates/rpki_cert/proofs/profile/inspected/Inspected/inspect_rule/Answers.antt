@@ -18,6 +18,16 @@ returns-in-CriticalExtensions c = λ t h. rw c.in-CriticalExtensions.is
 pub returns-in-Issuer : goal.returns-in-Issuer
 returns-in-Issuer c = λ t h. rw c.in-Issuer.is (rw h.issuer at c.inspect_name.ensures)
 
+pub returns-in-IssuerSize : goal.returns-in-IssuerSize
+returns-in-IssuerSize c = λ t h. rw c.in-IssuerSize.is (rw h.issuer at c.inspect_values.ensures)
+
+pub returns-in-SubjectSize : goal.returns-in-SubjectSize
+returns-in-SubjectSize c = λ t h. rw c.in-SubjectSize.is (rw h.subject at c.inspect_values-in-SubjectSize.ensures)
+
+pub returns-in-RouterSerialNumber : goal.returns-in-RouterSerialNumber
+returns-in-RouterSerialNumber c = λ t h. rw c.in-RouterSerialNumber.is
+    (rw h.subject at c.inspect_values-in-RouterSerialNumber.ensures)
+
 pub returns-in-Subject : goal.returns-in-Subject
 returns-in-Subject c = λ t h. rw c.in-Subject.is (rw h.subject at c.inspect_name-in-Subject.ensures)
 

@@ -1,4 +1,4 @@
-use Rattle.std.proofs.Common.{◌≡◌, ◌<◌, ◌^◌, ℕ, false, Option, None, Some, length, sym, ap, subst, ◌∙◌, arith}
+use Rattle.std.proofs.Common.{◌≡◌, ◌<◌, ◌^◌, ℕ, false, None, Some, length, sym, ap, subst, ◌∙◌, arith}
 use Rattle.rpki_der.specs.Prelude.{oid, tlv}
 use Rattle.rpki_time.specs.Serial.{serial_octets}
 use Rattle.rpki_objects.specs.SignedAttributes.{AttributeValues}

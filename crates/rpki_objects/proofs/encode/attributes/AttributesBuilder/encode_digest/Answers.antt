@@ -1,4 +1,4 @@
-use Rattle.std.proofs.Common.{false, arith}
+use Rattle.std.proofs.Common.{arith}
 use Rattle.rpki_objects.proofs.AttributesOrderLaws.{digest-size}
 use Rattle.rpki_objects.proofs.encode.attributes.AttributesBuilder.encode_digest.Goals as goal
 

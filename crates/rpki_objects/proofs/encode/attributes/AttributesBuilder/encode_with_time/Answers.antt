@@ -1,4 +1,4 @@
-use Rattle.std.proofs.Common.{◌≡◌, ◌<◌, ℕ, false, Option, Some, length, sym, ap, subst, ◌∙◌, arith}
+use Rattle.std.proofs.Common.{◌≡◌, ◌<◌, ℕ, false, Some, length, sym, ap, subst, ◌∙◌, arith}
 use Rattle.rpki_der.specs.Prelude.{oid, tlv}
 use Rattle.rpki_time.specs.TimeValue.{time_octets}
 use Rattle.rpki_objects.specs.SignedAttributes.{AttributeValues}

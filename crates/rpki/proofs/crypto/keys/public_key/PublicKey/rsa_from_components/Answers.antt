@@ -4,7 +4,7 @@ use Rattle.rpki_der.proofs.EncodeLaws.{tlv_at_most}
 use Rattle.rpki_der.proofs.UnsignedLaws.{unsigned-at-most}
 use Rattle.rpki_der.proofs.IntegerLaws.{octets-fit}
 use Rattle.rpki.specs.PublicKey.{KeyParts}
-use Rattle.rpki.proofs.PublicKeyLaws.{numbers-short, some-numbers, shorter, two_integers, rsa-bits}
+use Rattle.rpki.proofs.PublicKeyLaws.{numbers-short, shorter, two_integers, rsa-bits}
 use Rattle.rpki.proofs.crypto.keys.public_key.PublicKey.rsa_from_components.Goals as goal
 
 pub write_to_bytes-requires : goal.write_to_bytes-requires
@@ -50,7 +50,7 @@ returns-in-Ok-clause-again c =
     record {
       format = ap (λ (k : KeyParts). k.format) c.of_bits.ensures;
       bits = rw c.of_bits.ensures refl;
-      numbers = some-numbers _ _ (bits-of c);
+      numbers = (_, bits-of c);
     } where
       bits-of : goal.returns-in-Ok-clause-bits
       bits-of = returns-in-Ok-clause-bits

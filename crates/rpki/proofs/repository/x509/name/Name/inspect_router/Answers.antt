@@ -1,13 +1,13 @@
-use Rattle.rpki.specs.StrictName.{router_strings}
+use Rattle.rpki.specs.StrictName.{IsPrintableOrUtf8}
 use Rattle.rpki.proofs.RuleLaws.{named-not}
 use Rattle.rpki.proofs.WithoutOrganizationLaws.{name-strict}
 use Rattle.rpki.proofs.repository.x509.name.Name.inspect_router.Goals as goal
 
 pub returns-in-Err-clause-err : goal.returns-in-Err-clause-err
 returns-in-Err-clause-err c =
-    (c.if-not-strict.false, named-not router_strings c.in-Err.rule c.args.self.now c.in-Err.ensures)
+    (c.if-not-strict.false, named-not IsPrintableOrUtf8 c.in-Err.rule c.args.self.now c.in-Err.ensures)
 
 pub returns-in-Err-clause-without_organization : goal.returns-in-Err-clause-without_organization
 returns-in-Err-clause-without_organization c = λ old. absurd
-    (named-not router_strings c.in-Err.rule c.args.self.now c.in-Err.ensures
-    (name-strict router_strings c.args.self.now old))
+    (named-not IsPrintableOrUtf8 c.in-Err.rule c.args.self.now c.in-Err.ensures
+    (name-strict IsPrintableOrUtf8 c.args.self.now old))

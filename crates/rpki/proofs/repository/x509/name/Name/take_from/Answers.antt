@@ -1,27 +1,25 @@
-use Rattle.std.proofs.Common.{refl}
-use Rattle.rpki_der.specs.declared.error.DecodeError.TheVariants.{OutOfMemory}
-use Rattle.rpki_der.proofs.ReadingLaws.{Refusal-or-memory-where}
+use Rattle.std.proofs.Common.{rules, Ok, Err}
+use Rattle.rpki_der.proofs.CaptureLaws.{read-captured}
 use Rattle.rpki_der.proofs.TriedLaws.{tried-refused}
-use Rattle.rpki.specs.NameValue.{HasNameValue}
-use Rattle.rpki.specs.NameFault.{name, borrowed_name}
-use Rattle.rpki.proofs.NameLaws.{name-stands, name-found, octets-any}
-use Rattle.rpki.proofs.NameFaultLaws.{name-never}
+use Rattle.rpki_der.specs.Cursor.{left}
+use Rattle.rpki.specs.NameFault.{IsWalkedNameFault}
+use Rattle.rpki.proofs.NameLaws.{AnyName}
+use Rattle.rpki.proofs.NameFaultLaws.{name-values, name-kept, kept-named}
 use Rattle.rpki.proofs.repository.x509.name.Name.take_from.Goals as goal
 
-pub returns-in_err-name : goal.returns-in_err-name
-returns-in_err-name g c =
+pub returns-in_err-captured : goal.returns-in_err-captured
+returns-in_err-captured g c =
     tried-refused _ _ _ _ _ _ _ c.from_residual.ensures
-    (Refusal-or-memory-where HasNameValue borrowed_name.fault _ _ _ (λ k. absurd (name-never _ k))
-    (record { unchanged = refl; refuses = c.in_err-name.ensures.refuses; kind = c.in_err-name.ensures.kind }))
+    (name-kept (left c.args.cons.now) (left c.capture.new.self) (Err c.in_err-captured.field-0.0)
+    (read-captured {X = Unit {0}} (λ u. tt) AnyName IsWalkedNameFault name-values _ (λ b a x h. search rules) _ _
+    (Err c.in_err-captured.field-0.0) c.in_err-captured.ensures))
 
-pub keep_part-requires-clause-stands : goal.keep_part-requires-clause-stands
-keep_part-requires-clause-stands g c = rw c.octets.ensures.octets (name-stands c.in_ok-name.ensures.spells)
+pub invariant_of-result : goal.invariant_of-result
+invariant_of-result g c = kept-named _ _ _
+    (read-captured {X = Unit {0}} (λ u. tt) AnyName IsWalkedNameFault name-values _ (λ b a x h. search rules) _ _
+    (Ok c.in_ok-captured.captured) c.in_ok-captured.ensures)
 
-pub returns-in_err-octets : goal.returns-in_err-octets
-returns-in_err-octets g c =
-    tried-refused _ name.spells name.fault _ _ OutOfMemory _ c.from_residual-in_err-octets.ensures
-    (record {
-      unchanged = refl;
-      refuses = tt;
-      kind = name-found _ _ (octets-any _ _ _ c.in_ok-name.ensures.spells);
-    })
+pub returns : goal.returns
+returns g c = name-kept (left c.args.cons.now) (left c.capture.new.self) (Ok c.in_ok-captured.captured)
+    (read-captured {X = Unit {0}} (λ u. tt) AnyName IsWalkedNameFault name-values _ (λ b a x h. search rules) _ _
+    (Ok c.in_ok-captured.captured) c.in_ok-captured.ensures)

@@ -1,35 +1,15 @@
-use Rattle.std.proofs.Common.{false, List, ℕ}
-use Rattle.std.specs.List.{count_by}
-use Rattle.std.proofs.lemmas.Bool.{iff_false, false≢true}
+use Rattle.std.proofs.Common.{false}
 use Rattle.rpki_der.specs.TagName.{utf8_string}
 use Rattle.rpki_der.specs.Values.{SpellsLeaf}
 use Rattle.rpki_der.specs.Text.{IsUtf8Text}
-use Rattle.rpki.specs.StrictName.{IsNameSize, begins_character}
-use Rattle.rpki.proofs.InspectionLaws.{whole-unread, whole-holds, whole-sized, whole-unsized}
+use Rattle.rpki.proofs.InspectionLaws.{whole-read, whole-unread}
 use Rattle.rpki.proofs.repository.x509.name.inspection.is_utf8.Goals as goal
 
-pub returns-then-is_name_size : goal.returns-then-is_name_size
-returns-then-is_name_size c =
-    let size = rw (c.characters.ensures, c.rest.ensures) at c.is_name_size.ensures in
-    whole-sized (SpellsLeaf utf8_string false IsUtf8Text)
-    (λ (text : List ℕ). IsNameSize (count_by begins_character text))
-    c.args.value.now _ _ (rw c.from_slice-after.ensures at c.in-Ok.ensures) _ (size.0 c.if-is_name_size.true)
-    c.is_empty.ensures
-
-pub returns-else-is_name_size : goal.returns-else-is_name_size
-returns-else-is_name_size c =
-    let size = rw (c.characters.ensures, c.rest.ensures) at c.is_name_size.ensures in (
-      λ z. absurd (false≢true (rw c.if-is_name_size.false at z)),
-      λ g. absurd (iff_false size c.if-is_name_size.false
-          (whole-holds (SpellsLeaf utf8_string false IsUtf8Text)
-          (λ (text : List ℕ). IsNameSize (count_by begins_character text))
-          c.args.value.now _ _ (rw c.from_slice-after.ensures at c.in-Ok.ensures) g)),
-    )
+pub returns-in-Ok : goal.returns-in-Ok
+returns-in-Ok gen c =
+    whole-read (SpellsLeaf utf8_string false IsUtf8Text) (gen.C.Cursor.octets_left c.args.value) _ _ _ c.in-Ok.ensures
+    c.is_at_end.ensures
 
 pub returns-in-Err : goal.returns-in-Err
-returns-in-Err c =
-    whole-unsized (SpellsLeaf utf8_string false IsUtf8Text)
-    (λ (text : List ℕ). IsNameSize (count_by begins_character text))
-    c.args.value.now
-    (whole-unread utf8_string false IsUtf8Text c.args.value.now _ _
-    (rw c.from_slice-after.ensures at c.in-Err.ensures))
+returns-in-Err gen c =
+    whole-unread utf8_string false IsUtf8Text (gen.C.Cursor.octets_left c.args.value) _ _ c.in-Err.ensures

@@ -1,0 +1,39 @@
+-- What the status of a signature says where it is not 0.
+use Rattle.std.proofs.Common.{◌≡◌, ℕ, List, Bool, false, Err, inl, inr, refl, sym, subst, ◌∙◌}
+use Rattle.std.specs.Prelude.{◌↔◌, IsTrue}
+use Rattle.std.proofs.lemmas.Bool.{false≢true}
+use Rattle.sha2.specs.Sha256.{sha256}
+use Rattle.rpki_der.specs.declared.error.DecodeError.{DecodeError}
+use Rattle.rpki_der.specs.Reading.{SpellsNothing, UnlessMemory}
+use Rattle.rpki.specs.declared.crypto.keys.PublicKeyFormat.TheVariants.{Rsa}
+use Rattle.rpki.specs.PublicKey.{KeyParts, SpellsKey}
+use Rattle.rpki_rsa.specs.declared.error.KeyError.{KeyError}
+use Rattle.rpki_rsa.specs.Key.{SpellsKey as SpellsRsaKey, IsKeyOf, IsSignature}
+use Rattle.rpki_rsa.specs.RsaKey.{RsaKey}
+use Rattle.rpki_rsa.proofs.KeyLemmas.{one-key, no-key}
+use Rattle.rpki_c.specs.Key.{IsWholeKeyFault, IsKeyStatus}
+use Rattle.rpki_c.specs.Verified.{IsVerified, IsVerifiedBy}
+
+pub bad-signature : (k : KeyParts) (message signature : List ℕ) (key : RsaKey) (b : Bool) → k.format ≡ Rsa
+    → SpellsRsaKey key k.bits.octets → (IsTrue b ↔ IsSignature key (sha256 message) signature) → b ≡ false
+    → IsVerifiedBy k message signature 53
+bad-signature k message signature key b format spelled is wrong =
+    inr (inr (
+      refl,
+      record { format = format; key = key; spelled = spelled },
+      λ h. let same = one-key k.bits.octets h.signed.key key h.signed.spelled spelled in
+          let yes = is.1 (subst (λ (z : RsaKey). IsSignature z (sha256 message) signature) same h.signed.signed) in
+          false≢true (sym wrong ∙ yes),
+    ))
+
+pub not-accepted : (k : KeyParts) (message signature : List ℕ) (e : KeyError) → IsKeyOf k.bits.octets (Err e)
+    → IsVerifiedBy k message signature 52
+not-accepted k message signature e h = inr (inl (refl, λ a. no-key k.bits.octets e a.key h a.spelled))
+
+-- octets that are not a public key
+pub verification-refused : (s message signature : List ℕ) (e : DecodeError) (status : ℕ)
+    → UnlessMemory e (SpellsNothing SpellsKey s) × IsWholeKeyFault s e → IsKeyStatus s e status
+    → IsVerified s message signature status
+verification-refused s message signature e status k (inl h) = inr (inl (h.0, h.1))
+verification-refused s message signature e status k (inr h) =
+    inr (inr (h.1, record { error = e; number = h.0; nothing = k.0; kind = k.1 }))

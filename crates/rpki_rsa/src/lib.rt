@@ -1,0 +1,16 @@
+//! Signatures by RSA with PKCS #1 v1.5 padding and SHA-256 (RFC 8017 8.2.2).
+//!
+//! `Key::from_bits` makes a key ready, and `Key::verifies` holds a signature to it; [verifies] does both.
+#![tactic(auto)]
+
+mod encoding;
+mod error;
+mod key;
+mod limbs;
+mod limits;
+mod modulus;
+mod octets;
+
+pub use error::KeyError;
+pub use key::{Key, verifies};
+pub use limits::{LEAST_BITS, MOST_BITS};

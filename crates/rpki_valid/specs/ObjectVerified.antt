@@ -1,0 +1,79 @@
+-- Signed objects that are valid at a moment (RFC 6488 3).
+use Rattle.std.specs.Prelude.{◌≡◌, ℕ, List, Option, Some, codes, Result}
+use Rattle.jiff.specs.Types.{DateTime}
+use Rattle.rpki.specs.declared.repository.error.ValidationError.{ValidationError}
+use Rattle.rpki.specs.declared.crypto.keys.PublicKeyFormat.TheVariants.{Rsa}
+use Rattle.rpki.specs.Provider.{Check, Verifies}
+use Rattle.rpki.specs.PublicKey.{KeyParts}
+use Rattle.rpki.specs.ErrorTexts.{verification_text}
+use Rattle.rpki_valid.specs.declared.resource.set.ResourceSet.{ResourceSet}
+use Rattle.rpki_cert.specs.declared.profile.Profile.TheVariants.{Ee}
+use Rattle.rpki_cert.specs.RuleError.{ChecksBy}
+use Rattle.rpki_valid.specs.Valid.{HasReason, HasSubject, IsOtherSubject, Unless}
+use Rattle.rpki_valid.specs.CrlIssued.{InForce}
+use Rattle.rpki_valid.specs.Verified.{verified_by, Verified, IsVerifiedBy, IsUnverified, ChecksWith}
+use Rattle.rpki_objects.specs.Crl.{CrlParts}
+use Rattle.rpki_objects.specs.SignedObject.{ObjectParts, SignerParts}
+
+-- the key, of RSA, has signed the attributes
+abbrev pub SignsAttributes : Check → Check → KeyParts → SignerParts → Type 0
+SignsAttributes rsa ecdsa key x =
+    Verifies rsa ecdsa Rsa key.format key.bits.octets x.attributes.message x.signature.value
+
+-- the content has the type that is signed
+abbrev pub HasSignedType : ObjectParts → Type 0
+HasSignedType x = x.signer.attributes.values.content_type ≡ x.content.content_type
+
+-- the content has the digest that is signed
+abbrev pub HasSignedDigest : (List ℕ → List ℕ) → ObjectParts → Type 0
+HasSignedDigest sha256 x = x.signer.attributes.values.message_digest ≡ sha256 x.content.content
+
+-- the key of the certificate has signed the attributes
+abbrev pub IsSignedByKey : Check → Check → ObjectParts → Type 0
+IsSignedByKey rsa ecdsa x = SignsAttributes rsa ecdsa x.cert.tbs.key x.signer
+
+-- The type of the content and its digest are those that are signed (RFC 6488 3, RFC 5652 11.1, 11.2); the signer's
+-- identifier is that of the key of the certificate; and that key has signed them.
+pub record IsSignedObject (rsa ecdsa : Check) (sha256 : List ℕ → List ℕ) (x : ObjectParts) : Type 0 where
+  pub type : HasSignedType x
+  pub digest : HasSignedDigest sha256 x
+  pub identifier : HasSubject x.signer.identifier x.cert.tbs
+  pub signature : IsSignedByKey rsa ecdsa x
+
+-- the error where one of them doesn't hold: of the first, in this order
+abbrev pub IsUnsignedObject : Check → Check → (List ℕ → List ℕ) → ObjectParts → ValidationError → Type 0
+IsUnsignedObject rsa ecdsa sha256 x =
+    Unless (HasSignedType x) (HasReason (codes "content type mismatch"))
+    (Unless (HasSignedDigest sha256 x) (HasReason (codes "message digest mismatch"))
+    (Unless (HasSubject x.signer.identifier x.cert.tbs) (IsOtherSubject x.cert.tbs) (HasReason verification_text)))
+
+-- a check of both
+abbrev pub ChecksSigned : Check → Check → (List ℕ → List ℕ) → ObjectParts → Result (Unit {0}) ValidationError → Type 0
+ChecksSigned rsa ecdsa sha256 x = ChecksBy (IsSignedObject rsa ecdsa sha256 x) (IsUnsignedObject rsa ecdsa sha256 x)
+
+-- the object is signed so, and its certificate is of an end entity that the verified authority has issued, valid at the
+-- moment, and not on the list, where there is one, with these resources
+pub record IsValidObject (list : Option CrlParts) (sha256 : List ℕ → List ℕ) (issuer : Verified) (at : DateTime)
+    (x : ObjectParts) (held : ResourceSet) : Type 0 where
+  pub signed : IsSignedObject issuer.by.rsa issuer.by.ecdsa sha256 x
+  pub cert : IsVerifiedBy Ee list issuer at x.cert held
+
+-- the error where it isn't: that of the first that doesn't hold
+abbrev pub IsInvalidObject : Option CrlParts → (List ℕ → List ℕ) → Verified → DateTime → ObjectParts → ValidationError
+    → Type 0
+IsInvalidObject list sha256 issuer at x =
+    Unless (IsSignedObject issuer.by.rsa issuer.by.ecdsa sha256 x)
+    (IsUnsignedObject issuer.by.rsa issuer.by.ecdsa sha256 x)
+    (IsUnverified Ee list issuer at x.cert)
+
+-- a check that returns the resources of the object
+abbrev pub ChecksObject : Option CrlParts → (List ℕ → List ℕ) → Verified → DateTime → ObjectParts
+    → Result ResourceSet ValidationError → Type 0
+ChecksObject list sha256 issuer at x =
+    ChecksWith (IsValidObject list sha256 issuer at x) (IsInvalidObject list sha256 issuer at x)
+
+-- the same by a list that counts, and at its moment
+abbrev pub ChecksListedObject : {X : Type 0} → (X → Check) → (X → Check) → (X → List ℕ → List ℕ)
+    → (X → List ℕ → List ℕ) → InForce X → ObjectParts → Result ResourceSet ValidationError → Type 0
+ChecksListedObject rsa ecdsa sha1 sha256 c x =
+    ChecksObject (Some c.list) (sha256 c.issuer.provider) (verified_by rsa ecdsa sha1 c.issuer) c.at x

@@ -1,0 +1,20 @@
+//! Laws of the definitions.
+
+ghost use Rattle.std.specs.Prelude.{◌↔◌, IsTrue};
+ghost use Rattle.rpki_valid.specs.ResourceSet.{AreSameSets};
+ghost use Rattle.rpki_valid.specs.Verified.{checkers_by, SettleWithin};
+
+use crate::resource::set::ResourceSet;
+use rpki::crypto::Provider;
+
+/// Down a path nobody has more than an authority above: what a certificate has is within what each above it has. The
+/// signatures of the path are those that the provider verifies.
+pub fn paths_settle_within<P: Provider>(provider: &P)
+    ensures { SettleWithin (checkers_by P.rsa_of P.ecdsa_of P.sha1_of provider.now) }
+{}
+
+/// Resources are equal where the sets of each kind are, which have the same numbers then
+/// (`rpki_resources::laws::equal_blocks_are_one_set`).
+pub fn equal_resources_are_equal_sets()
+    ensures { (a b : ResourceSet) → IsTrue (⟦<ResourceSet as PartialEq>⟧.eq a b) ↔ AreSameSets a b }
+{}

@@ -1,0 +1,213 @@
+//! Whether certificates are valid at a moment (RFC 5280 6.1.3, RFC 6487 7.2), but for their resources.
+
+ghost use Rattle.std.specs.Prelude.{◌≡◌, ◌↔◌, ◌⊎◌, false, None, Option, IsTrue, codes};
+ghost use Rattle.rpki.specs.ErrorTexts.{verification_text};
+ghost use Rattle.rpki_time.specs.Validity.{HoldsAt};
+ghost use Rattle.rpki_cert.specs.Cert.{find};
+ghost use Rattle.rpki_cert.specs.Known.{authority_key_identifier, are_understood};
+ghost use Rattle.rpki_cert.specs.RuleError.{ChecksBy};
+ghost use Rattle.rpki_valid.specs.Valid.{HasReason, IsPeriodError, HasSigned, HasSubject, IsOtherSubject, ChecksSigned};
+ghost use Rattle.rpki_valid.specs.Valid.{HasAuthority, IsOtherAuthority, ChecksIssued, ChecksAnchor};
+
+use rpki::crypto::{KeyIdentifier, Provider, PublicKey, PublicKeyFormat, RpkiSignature};
+use rpki::der::ContentError;
+use rpki::oid;
+use rpki::repository::error::{ValidationError, VerificationError};
+use rpki::repository::x509::{NameOctets, Time, Validity};
+use rpki_cert::objects::{are_understood, find, is_identifier};
+use rpki_cert::{Cert, TbsCert};
+
+/// The error of this text.
+pub fn unverified(text: &'static str) -> ValidationError
+    ensures { HasReason text.now result }
+{
+    ValidationError::Verification(VerificationError::new(ContentError::from_static(text)))
+}
+
+/// Whether the names have the same octets.
+fn is_named(name: &NameOctets, wanted: &NameOctets) -> bool
+    ensures { IsTrue result ↔ (name.now ≡ wanted.now) }
+{
+    *name == *wanted
+}
+
+/// Whether the period holds at the moment.
+pub fn verify_period(period: Validity, at: Time) -> Result<(), ValidationError>
+    ensures { ChecksBy (HoldsAt period at) (IsPeriodError period at) result }
+{
+    match period.verify_at(at) {
+        Ok(()) => Ok(()),
+        Err(e) => Err(ValidationError::Verification(VerificationError::from(e))),
+    }
+}
+
+/// Whether the identifier of the issuer's key is there and is this one.
+fn verify_authority(cert: &TbsCert, wanted: KeyIdentifier) -> Result<(), ValidationError>
+    ensures { ChecksBy (HasAuthority wanted cert.now) (IsOtherAuthority cert.now) result }
+{
+    match cert.authority_key_identifier() {
+        Ok(found) => {
+            if is_identifier(found, wanted) {
+                return Ok(());
+            }
+            Err(unverified("authority key identifier mismatch"))
+        }
+        Err(e) => Err(e),
+    }
+}
+
+/// Whether the identifier of the issuer's key isn't there, or is this one.
+fn verify_own_authority(cert: &TbsCert, wanted: KeyIdentifier) -> Result<(), ValidationError>
+    ensures { ChecksBy ((find authority_key_identifier cert.now.extensions ≡ None) ⊎ HasAuthority wanted cert.now)
+        (IsOtherAuthority cert.now) result }
+{
+    match find(cert.extensions(), oid::CE_AUTHORITY_KEY_IDENTIFIER) {
+        Some(_) => verify_authority(cert, wanted),
+        None => Ok(()),
+    }
+}
+
+/// Whether the identifier of the subject's key is there and is this one.
+fn verify_subject(cert: &TbsCert, wanted: KeyIdentifier) -> Result<(), ValidationError>
+    ensures { ChecksBy (HasSubject wanted cert.now) (IsOtherSubject cert.now) result }
+{
+    match cert.subject_key_identifier() {
+        Ok(found) => {
+            if is_identifier(found, wanted) {
+                return Ok(());
+            }
+            Err(unverified("subject key identifier mismatch"))
+        }
+        Err(e) => Err(e),
+    }
+}
+
+/// Whether every critical extension is a known one.
+fn verify_critical(cert: &TbsCert) -> Result<(), ValidationError>
+    ensures { ChecksBy (IsTrue (are_understood cert.now.extensions))
+        (HasReason (codes "unknown critical extension")) result }
+{
+    if are_understood(cert.extensions()) {
+        return Ok(());
+    }
+    Err(unverified("unknown critical extension"))
+}
+
+/// Whether the issuer has this name.
+fn verify_issuer(cert: &TbsCert, issuer: &NameOctets) -> Result<(), ValidationError>
+    ensures { ChecksBy (cert.now.issuer ≡ issuer.now) (HasReason (codes "issuer name mismatch")) result }
+{
+    if is_named(cert.issuer(), issuer) {
+        return Ok(());
+    }
+    Err(unverified("issuer name mismatch"))
+}
+
+/// Whether the key has signed the octets: this is the signature.
+pub fn verify_signature<P: Provider>(
+    octets: &[u8],
+    signature: &RpkiSignature,
+    provider: &P,
+    key: &PublicKey,
+) -> Result<(), ValidationError>
+    ensures { ChecksBy (HasSigned (P.rsa_of provider.now) (P.ecdsa_of provider.now) key.now octets.now signature.now)
+        (HasReason verification_text) result }
+{
+    match key.verify(provider, octets, signature) {
+        Ok(()) => Ok(()),
+        Err(_) => Err(unverified("signature verification failed")),
+    }
+}
+
+/// Whether this key has signed the certificate, and it is valid at the moment, the key identifier of the issuer
+/// aside.
+fn verify_signed<P: Provider>(
+    cert: &Cert,
+    provider: &P,
+    issuer: &NameOctets,
+    issuer_key: &PublicKey,
+    at: Time,
+) -> Result<(), ValidationError>
+    ensures { ChecksSigned (P.rsa_of provider.now) (P.ecdsa_of provider.now) (P.sha1_of provider.now) issuer.now
+        issuer_key.now at cert.now result }
+{
+    let own = cert.tbs();
+    let signed = cert.signed_data();
+    verify_signature(
+        signed.data().as_slice(),
+        signed.signature(),
+        provider,
+        issuer_key,
+    )?;
+    verify_period(own.validity(), at)?;
+    verify_issuer(own, issuer)?;
+    verify_critical(own)?;
+    let subject = own.subject_public_key_info().key_identifier(provider);
+    verify_subject(own, subject)
+}
+
+/// As [verify_issued], where the identifier of the issuer's key is at hand.
+pub(crate) fn verify_issued_by<P: Provider>(
+    cert: &Cert,
+    provider: &P,
+    issuer: &TbsCert,
+    authority: KeyIdentifier,
+    at: Time,
+) -> Result<(), ValidationError>
+    requires { authority ≡ P.sha1_of provider.now issuer.now.key.bits.octets }
+    ensures { ChecksIssued (P.rsa_of provider.now) (P.ecdsa_of provider.now) (P.sha1_of provider.now) issuer.now
+        at cert.now result }
+{
+    verify_signed(
+        cert,
+        provider,
+        issuer.subject(),
+        issuer.subject_public_key_info(),
+        at,
+    )?;
+    verify_authority(cert.tbs(), authority)
+}
+
+/// Whether the one certificate has issued the other; that the issuer is an authority, is itself valid or issued by
+/// another, and that either has its profile, is not looked at, so that this alone is no verification: for that see
+/// [ResourceCert](crate::ResourceCert). What is looked at is the signature, the period at the moment, the issuer's
+/// name, and both key identifiers (RFC 5280 6.1.3, RFC 6487 7.2). Allocates nothing.
+///
+/// The error is that of the first of: the signature, the period, the issuer's name, an unknown critical extension,
+/// the identifier of the subject's key, that of the issuer's.
+pub fn verify_issued<P: Provider>(
+    cert: &Cert,
+    provider: &P,
+    issuer: &TbsCert,
+    at: Time,
+) -> Result<(), ValidationError>
+    ensures { ChecksIssued (P.rsa_of provider.now) (P.ecdsa_of provider.now) (P.sha1_of provider.now) issuer.now
+        at cert.now result }
+{
+    let authority = issuer.subject_public_key_info().key_identifier(provider);
+    verify_issued_by(cert, provider, issuer, authority, at)
+}
+
+/// Whether its own key has signed the certificate and it is valid at the moment, its issuer is its subject, and the
+/// identifier of the issuer's key is left out, or is that of its own (RFC 6487 4.8.3).
+///
+/// The errors are those of [verify_issued].
+pub(crate) fn verify_anchor<P: Provider>(
+    cert: &Cert,
+    provider: &P,
+    at: Time,
+) -> Result<(), ValidationError>
+    ensures { ChecksAnchor (P.rsa_of provider.now) (P.ecdsa_of provider.now) (P.sha1_of provider.now) at cert.now
+        result }
+{
+    let own = cert.tbs();
+    verify_signed(
+        cert,
+        provider,
+        own.subject(),
+        own.subject_public_key_info(),
+        at,
+    )?;
+    let authority = own.subject_public_key_info().key_identifier(provider);
+    verify_own_authority(own, authority)
+}

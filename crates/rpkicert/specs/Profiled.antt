@@ -1,0 +1,75 @@
+-- Which profile the certificate of an object has: the one that is asked for, and of a signer that of an end entity.
+use Rattle.std.specs.Prelude.{◌≡◌, ◌⊎◌, ℕ, Bool, true, if◌then◌else◌, List, [], ◌∷◌, Option, Some, None, option_map}
+use Rattle.std.specs.Prelude.{bytes_eq, Result, MatchResult}
+use Rattle.rpki_cert.specs.Cert.{TbsParts}
+use Rattle.rpki_cert.specs.Profile.{rules_of, HasProfile}
+use Rattle.rpki_cert.specs.RuleError.{BreaksWith}
+use Rattle.rpki_cert.specs.declared.profile.Profile.{Profile}
+use Rattle.rpki_cert.specs.declared.profile.Profile.TheVariants.{Ee, DetachedEe}
+use Rattle.rpki_objects.specs.SignedObject.{ObjectParts}
+use Rattle.rpki_fields.specs.Object.{cert_of}
+use Rattle.rpki_fields.specs.declared.object.Object.{Object}
+use Rattle.rpkicert.specs.declared.profile.Inspection.{Inspection}
+use Rattle.rpkicert.specs.declared.violation.Violation.{Violation}
+use Rattle.rpkicert.specs.declared.fault.Fault.{Fault}
+use Rattle.rpkicert.specs.declared.fault.Fault.TheVariants.{Violated, NoCertificate}
+use Rattle.rpkicert.specs.Terms.{signed_of}
+
+-- ---- of one certificate
+
+-- there is a certificate that has the profile, where one is asked for
+abbrev pub Meets : Option Inspection → Option TbsParts → Type 0
+Meets None cert = Unit {0}
+Meets (Some inspection) None = ⊥
+Meets (Some inspection) (Some t) = HasProfile inspection.profile inspection.strict t
+
+-- this is the first of the rules that the certificate breaks, and its error
+abbrev pub IsViolation : Option Inspection → Option TbsParts → Violation → Type 0
+IsViolation None cert v = ⊥
+IsViolation (Some inspection) None v = ⊥
+IsViolation (Some inspection) (Some t) v =
+    BreaksWith inspection.strict t (rules_of inspection.profile) v.rule v.error
+
+-- there is no certificate; or this is the rule that it breaks first
+abbrev pub IsUnmet : Option Inspection → Option TbsParts → Fault → Type 0
+IsUnmet inspection cert f =
+    ((f ≡ NoCertificate) × (cert ≡ None)) ⊎ ((v : Violation) × (f ≡ Violated v) × IsViolation inspection cert v)
+
+-- Ok where it has the profile; else why not
+abbrev pub Inspects : Option Inspection → Option TbsParts → Result (Unit {0}) Fault → Type 0
+Inspects inspection cert r =
+    MatchResult r (λ _. Meets inspection cert) (λ f. (Meets inspection cert → ⊥) × IsUnmet inspection cert f)
+
+-- ---- of an object
+
+-- a signed checklist (RFC 9323 3): 1.2.840.113549.1.9.16.1.48
+abbrev pub checklist_type : List ℕ
+checklist_type = 42 ∷ 134 ∷ 72 ∷ 134 ∷ 247 ∷ 13 ∷ 1 ∷ 9 ∷ 16 ∷ 1 ∷ 48 ∷ []
+
+-- the profile of the certificate of a signed object: that of an end entity (RFC 6488 3), without subject information
+-- access where it signs a checklist (RFC 9323 2)
+abbrev pub end_profile : ObjectParts → Profile
+end_profile o = if bytes_eq o.content.content_type checklist_type then DetachedEe else Ee
+
+-- whether names are held to the profile: as is asked for, or strictly
+abbrev pub is_strict : Option Inspection → Bool
+is_strict None = true
+is_strict (Some inspection) = inspection.strict
+
+abbrev pub inspection_by : Bool → Profile → Inspection
+inspection_by strict profile = record { profile = profile; strict = strict }
+
+-- how the certificate of the signer is held to its profile
+abbrev pub own_inspection : Option Inspection → Object → Option Inspection
+own_inspection asked x = option_map (λ o. inspection_by (is_strict asked) (end_profile o)) (signed_of x)
+
+-- the certificate has the profile that is asked for, and that of an end entity, where it is a signer's
+abbrev pub IsProfiled : Option Inspection → Object → Type 0
+IsProfiled asked x = Meets asked (cert_of x) × Meets (own_inspection asked x) (cert_of x)
+
+-- it hasn't, and this is why: the profile that is asked for is looked at first
+abbrev pub IsUnprofiled : Option Inspection → Object → Fault → Type 0
+IsUnprofiled asked x f =
+    (IsProfiled asked x → ⊥)
+    × (((Meets asked (cert_of x) → ⊥) × IsUnmet asked (cert_of x) f)
+    ⊎ (Meets asked (cert_of x) × IsUnmet (own_inspection asked x) (cert_of x) f))

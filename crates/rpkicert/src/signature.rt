@@ -1,0 +1,114 @@
+//! What is said of an object's signatures.
+
+ghost use Rattle.std.specs.Prelude.{◌≡◌, IfOk};
+ghost use Rattle.rpkicert.specs.Signature.{signature_text, good_text, of_certificate, signature_alone, signature_of};
+ghost use Rattle.rpkicert.specs.Signature.{checked_at, signature_in};
+
+use crate::fault::{Clause, Fault, is_bad_signature};
+use crate::signed::is_self_issued;
+use rpki_cert::Cert;
+use rpki_fields::Object;
+use std::alloc::{AllocError, Global};
+
+/// What was checked of an object's signatures.
+#[derive(Clone, Copy, Debug, PartialEq, Eq)]
+pub enum Signature {
+    /// Each is good: the object's own, that of its certificate, and so on, up to the issuer's.
+    Good,
+    /// The object's own is good, by the key of the certificate in it; that of the certificate was not checked.
+    Own,
+    /// One is not good.
+    Bad,
+    /// None was checked.
+    Unchecked,
+}
+
+impl Signature {
+    /// What a person reads of it.
+    pub fn text(self) -> &'static [u8]
+        ensures { result.now ≡ signature_text self }
+    {
+        match self {
+            Signature::Good => b"good",
+            Signature::Own => b"good, issuer not checked",
+            Signature::Bad => b"bad signature",
+            Signature::Unchecked => b"not checked",
+        }
+    }
+
+    /// The verdict on an object that holds, and of whose signatures this was checked.
+    pub fn verdict(self) -> &'static [u8]
+        ensures { result.now ≡ good_text self }
+    {
+        match self {
+            Signature::Good => b"OK",
+            _ => b"OK, issuer not checked",
+        }
+    }
+}
+
+/// That of a certificate without an issuer: one that is self-issued is its own.
+fn of_certificate(cert: &Cert) -> Signature
+    ensures { result ≡ of_certificate cert.now }
+{
+    if is_self_issued(cert) {
+        return Signature::Good;
+    }
+    Signature::Unchecked
+}
+
+/// That of an object that holds by itself, without an issuer.
+fn signature_alone(object: &Object) -> Signature
+    ensures { result ≡ signature_alone object.now }
+{
+    match object {
+        Object::Certificate(cert) => of_certificate(cert),
+        Object::RevocationList(_) | Object::OtherCertificate(_) => Signature::Unchecked,
+        Object::FileList(_) | Object::RouteOrigins(_) => Signature::Own,
+        Object::Providers(_) | Object::OtherContent(_) => Signature::Own,
+    }
+}
+
+/// That of an object that holds, and is of the issuer, if one was asked for.
+pub fn signature_of(issued: bool, object: &Object) -> Signature
+    ensures { result ≡ signature_of issued object.now }
+{
+    if issued {
+        return Signature::Good;
+    }
+    signature_alone(object)
+}
+
+/// What was checked before this clause was found broken, by a bad signature or not.
+fn checked_at(clause: Clause, bad: bool) -> Signature
+    ensures { result ≡ checked_at clause bad }
+{
+    match clause {
+        Clause::Period | Clause::Updates | Clause::Manifest => Signature::Unchecked,
+        Clause::Object => {
+            if bad {
+                Signature::Bad
+            } else {
+                Signature::Unchecked
+            }
+        }
+        Clause::Inherited | Clause::Origins | Clause::Customer => Signature::Own,
+        Clause::Anchor => Signature::Bad,
+        Clause::Certificate | Clause::List => { if bad { Signature::Bad } else { Signature::Good } }
+    }
+}
+
+/// That of a fault.
+///
+/// Returns `AllocError` if allocation fails.
+pub fn signature_in(alloc: Global, fault: Fault) -> Result<Signature, AllocError>
+    ensures { IfOk result (λ s. s ≡ signature_in fault) }
+{
+    match fault {
+        Fault::Unverified(clause, e) => {
+            let bad = is_bad_signature(alloc, e)?;
+            Ok(checked_at(clause, bad))
+        }
+        _ => Ok(Signature::Unchecked),
+    }
+}
