@@ -1,9 +1,8 @@
-"""The processor time and the memory of each crate's proof, as `rt ci` makes it, and the budget that they are held to.
+"""The processor time and the memory of each crate's proof, as `rt ci` makes it, and its budget.
 
 Time is read off /proc while the proofs run, once a second. Machines differ, and so does one machine when it is busy: so
-where half of the crates take longer than their lines in the table of CONTRIBUTING.md, all of a run's times are divided
-by one factor, the median of how much longer than its line a crate took. What has grown beside the others is above its
-line then."""
+where half of the crates take longer than their lines in budget.txt, all of a run's times are divided by one factor, the
+median of how much longer than its line a crate took. What has grown beside the others is above its line then."""
 import os
 import re
 import statistics
@@ -12,8 +11,8 @@ from typing import NamedTuple
 
 from toolchain import TOP, crates
 
-PAGE = os.path.join(TOP, "CONTRIBUTING.md")
-HEAD = "| Crate | Lines | Processor minutes | Memory, GB |"
+BUDGET = os.path.join(TOP, "tests", "gate", "budget.txt")
+HEAD = "# crate, lines, processor minutes, gigabytes: `./check --anew --budget` writes it"
 GROWTH = 1.2
 TICKS = os.sysconf("SC_CLK_TCK")
 PAGE_SIZE = os.sysconf("SC_PAGE_SIZE")
@@ -98,17 +97,23 @@ def lines_of(crate):
 
 
 def budget():
-    """The table: what each crate may take."""
-    with open(PAGE, encoding="utf-8") as file:
-        rows = re.findall(r"^\| `(\w+)` \| [\d,]+ \| ([\d.]+) \| ([\d.]+) \|$", file.read(), re.M)
+    """What each crate may take."""
+    with open(BUDGET, encoding="utf-8") as file:
+        rows = re.findall(r"^(\w+) +[\d,]+ +([\d.]+) +([\d.]+)$", file.read(), re.M)
     return {crate: Cost(float(minutes), float(memory)) for crate, minutes, memory in rows}
 
 
-def above(costs):
-    """A line for each crate that took more than its line allows. A crate without a line is above it. Of fewer than four
-    crates, where the others were kept from an earlier run, there is no median."""
+def unlisted(costs):
+    """A line for each crate that has no budget."""
     allowed = budget()
-    yield from (f"{crate} has no line in the table of CONTRIBUTING.md" for crate in costs if crate not in allowed)
+    return [f"{crate} has no line in tests/gate/budget.txt" for crate in costs if crate not in allowed]
+
+
+def above(costs):
+    """A warning for each crate that took more than its line allows: no more than that, since other work on the machine
+    makes some crates slower than others. Of fewer than four crates, where the others were kept from an earlier run,
+    there is no median."""
+    allowed = budget()
     known = {crate: cost for crate, cost in costs.items() if crate in allowed}
     if len(known) < 4:
         return
@@ -116,21 +121,18 @@ def above(costs):
     for crate, cost in known.items():
         least = allowed[crate].minutes * factor * GROWTH
         if cost.minutes > least + 0.2:
-            yield (f"{crate} took {cost.minutes:.1f} processor minutes, and a fifth above its line, on this machine, "
-                   f"are {least:.1f}")
+            yield (f"warning: {crate} took {cost.minutes:.1f} processor minutes, and a fifth above its line, in this "
+                   f"run, are {least:.1f}")
 
 
 def shown(costs):
-    """The table of a run."""
-    rows = [f"| `{crate}` | {lines_of(crate):,} | {cost.minutes:.1f} | {cost.gigabytes:.1f} |"
+    """What the crates of a run took, as lines of the budget."""
+    rows = [f"{crate:16} {lines_of(crate):7,} {cost.minutes:5.1f} {cost.gigabytes:4.1f}"
             for crate, cost in costs.items()]
-    return "\n".join([HEAD, "|---|---|---|---|", *rows]) + "\n"
+    return "\n".join([HEAD, *rows]) + "\n"
 
 
 def write(costs):
-    """Puts the table of a run into CONTRIBUTING.md."""
-    with open(PAGE, encoding="utf-8") as file:
-        text = file.read()
-    text = re.sub(rf"^{re.escape(HEAD)}\n(\|.*\n)*", lambda _: shown(costs), text, flags=re.M)
-    with open(PAGE, "w", encoding="utf-8") as file:
-        file.write(text)
+    """Makes the budget of what a run took."""
+    with open(BUDGET, "w", encoding="utf-8") as file:
+        file.write(shown(costs))

@@ -7,6 +7,10 @@ import subprocess
 from typing import NamedTuple
 
 TOP = os.path.dirname(os.path.dirname(os.path.dirname(os.path.abspath(__file__))))
+# A fresh machine has the kit here, and its commands not among those of the shell.
+USUAL = "/opt/rattle/bin"
+if not shutil.which("rt") and os.path.isfile(os.path.join(USUAL, "rt")):
+    os.environ["PATH"] = os.pathsep.join([*filter(None, [os.environ.get("PATH")]), USUAL])
 
 
 class Crate(NamedTuple):
