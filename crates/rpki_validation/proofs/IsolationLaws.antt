@@ -1,0 +1,151 @@
+-- What stands elsewhere has no part in the payloads of an authority.
+use Rattle.std.proofs.Common.{◌∙◌, ℕ, Bool, List, IsTrue, sym}
+use Rattle.rpki_contents.specs.ListedFile.{ListedFile}
+use Rattle.rpki_contents.specs.declared.route_origin.RouteOrigin.{RouteOrigin}
+use Rattle.rpki_contents.specs.Aspa.{AspaParts}
+use Rattle.rpki_locator.specs.Locator.{uri_text}
+use Rattle.rpki_locator.specs.declared.anchor_uri.AnchorUri.{AnchorUri}
+use Rattle.rpki_text.specs.RsyncText.{RsyncUri, uri_of, joined_uri}
+use Rattle.rpki_valid.specs.Verified.{Holder}
+use Rattle.rpki_validation.specs.Basis.{Basis}
+use Rattle.rpki_validation.specs.Isolation.{AgreeAt, CountsAt, IsBelowAt, PublishesAt}
+use Rattle.rpki_validation.specs.Levels.{Reached}
+use Rattle.rpki_validation.specs.Levels.Reached.{First, Next}
+use Rattle.rpki_validation.specs.Payload.{AreProviders, IsCounted, IsOrigin, IsRouter}
+use Rattle.rpki_validation.specs.Point.{IsFile, IsPoint}
+use Rattle.rpki_validation.specs.Publication.{HasRepository, PublicationParts, StandsAs}
+use Rattle.rpki_validation.specs.Reached.{IsBelow, IsFirstAnchor}
+use Rattle.rpki_validation.specs.Reached.IsFirstAnchor.{Here, Later}
+use Rattle.rpki_validation.specs.Snapshot.{Published}
+
+module _ (own : RsyncUri → Bool) (one other : Published) (agree : AgreeAt own one other) (basis : Basis) where
+  -- ---- points
+
+  file-moves : (folder : List ℕ) (file : ListedFile) (octets : List ℕ)
+      → IsTrue (own (joined_uri (uri_of folder) file.0)) → StandsAs one basis.sha256 folder file octets
+      → StandsAs other basis.sha256 folder file octets
+  file-moves folder file octets at h = record {
+    short = h.short;
+    stands = sym (agree.objects (joined_uri (uri_of folder) file.0) at) ∙ h.stands;
+    same = h.same;
+  }
+
+  point-moves : (x : Holder) (p : PublicationParts) → PublishesAt own x → IsPoint one basis x p
+      → IsPoint other basis x p
+  point-moves x p at h =
+      let there = h.there in
+      let place = at.manifest there.place there.named in
+      let list = there.list in
+      record {
+        there = record {
+          repository = there.repository;
+          place = there.place;
+          named = there.named;
+          manifest = record {
+            octets = there.manifest.octets;
+            stands = sym (agree.objects (uri_of there.place) place) ∙ there.manifest.stands;
+            spells = there.manifest.spells;
+          };
+          list = record {
+            file = list.file;
+            listed = list.listed;
+            octets = list.octets;
+            stands = file-moves p.folder list.file list.octets (at.files p.folder list.file.0 there.repository)
+                list.stands;
+            spells = list.spells;
+          };
+        };
+        valid = h.valid;
+        whole = λ file listed. (
+          (h.whole file listed).0,
+          file-moves p.folder file (h.whole file listed).0 (at.files p.folder file.0 there.repository)
+              (h.whole file listed).1,
+        );
+      }
+
+  named-moves : (x : Holder) (p : PublicationParts) (end octets : List ℕ) → PublishesAt own x
+      → HasRepository x.cert.tbs p.folder → IsFile one basis p end octets → IsFile other basis p end octets
+  named-moves x p end octets at repository h = record {
+    file = h.file;
+    listed = h.listed;
+    ends = h.ends;
+    stands = file-moves p.folder h.file octets (at.files p.folder h.file.0 repository) h.stands;
+  }
+
+  -- ---- authorities
+
+  anchor-moves : (uris : List AnchorUri) (x : Holder) → IsFirstAnchor one basis uris x
+      → IsFirstAnchor other basis uris x
+  anchor-moves _ _ (Here uri uris x h) = Here uri uris x (record {
+    octets = h.octets;
+    fetched = sym (agree.anchors (uri_text uri)) ∙ h.fetched;
+    anchor = h.anchor;
+  })
+  anchor-moves _ _ (Later uri uris x none h) =
+      Later uri uris x
+      (λ y k. none y (record {
+        octets = k.octets;
+        fetched = agree.anchors (uri_text uri) ∙ k.fetched;
+        anchor = k.anchor;
+      }))
+      (anchor-moves uris x h)
+
+  below-moves : (issuer x : Holder) → IsBelowAt own one basis issuer x → IsBelow other basis issuer x
+  below-moves issuer x h = record {
+    point = h.1.point;
+    published_there = point-moves issuer h.1.point h.0 h.1.published_there;
+    octets = h.1.octets;
+    file = named-moves issuer h.1.point _ h.1.octets h.0 h.1.published_there.there.repository h.1.file;
+    cert = h.1.cert;
+  }
+
+  module _ (uris : List AnchorUri) where
+    reached-moves : (n : ℕ) (x : Holder) → Reached (IsFirstAnchor one basis uris) (IsBelowAt own one basis) n x
+        → Reached (IsFirstAnchor other basis uris) (IsBelow other basis) n x
+    reached-moves _ _ (First x h) = First x (anchor-moves uris x h)
+    reached-moves _ _ (Next n above x r h) = Next n above x (reached-moves n above r) (below-moves above x h)
+
+    -- ---- payloads
+
+    counted-moves : (end octets : List ℕ) (issuer : Holder) (point : PublicationParts)
+        → IsCounted one basis uris end octets issuer point → CountsAt own one basis uris issuer
+        → IsCounted other basis uris end octets issuer point
+    counted-moves end octets issuer point h at = record {
+      counts = record { steps = at.steps; few = at.few; reached = reached-moves at.steps issuer at.reached };
+      published_there = point-moves issuer point at.itself h.published_there;
+      file = named-moves issuer point end octets at.itself h.published_there.there.repository h.file;
+    }
+
+    pub origin-moves : (v : RouteOrigin) (h : IsOrigin one basis uris v) → CountsAt own one basis uris h.issuer
+        → IsOrigin other basis uris v
+    origin-moves v h at = record {
+      issuer = h.issuer;
+      point = h.point;
+      octets = h.octets;
+      counted = counted-moves _ h.octets h.issuer h.point h.counted at;
+      attestation = h.attestation;
+      valid = h.valid;
+      says = h.says;
+    }
+
+    pub providers-move : (v : AspaParts) (h : AreProviders one basis uris v) → CountsAt own one basis uris h.issuer
+        → AreProviders other basis uris v
+    providers-move v h at = record {
+      issuer = h.issuer;
+      point = h.point;
+      octets = h.octets;
+      counted = counted-moves _ h.octets h.issuer h.point h.counted at;
+      attestation = h.attestation;
+      valid = h.valid;
+      says = h.says;
+    }
+
+    pub router-moves : (x : Holder) (h : IsRouter one basis uris x) → CountsAt own one basis uris h.issuer
+        → IsRouter other basis uris x
+    router-moves x h at = record {
+      issuer = h.issuer;
+      point = h.point;
+      octets = h.octets;
+      counted = counted-moves _ h.octets h.issuer h.point h.counted at;
+      valid = h.valid;
+    }

@@ -1,0 +1,27 @@
+-- Which lemma file answers which question.
+--
+-- The contents of the extensions of resources have one reading; a certificate has one set of resources under its
+--   issuer's: OneResourceLaws, OneHolderLaws.
+-- What a step finds, and why it stops; steps over the layer below: FindingLaws, StepLaws.
+-- The moment as the period of an authority's path; what an authority has issued is one: MomentLaws, IssuedLaws.
+-- The octets of files, one after another; what stands where an authority publishes: FilesLaws, PlaceLaws,
+--   PublicationLaws.
+-- The first trust anchor of a locator: AnchorLaws.
+-- A walk by levels looks at exactly what is reached; that is an authority: LevelsLaws, ReachedLaws.
+-- Payloads are signed down from the key of the locator; what stands elsewhere has no part in them: SignedDownLaws,
+--   IsolationLaws.
+
+pub mod OneResourceLaws
+pub mod OneHolderLaws
+pub mod FindingLaws
+pub mod MomentLaws
+pub mod IssuedLaws
+pub mod StepLaws
+pub mod FilesLaws
+pub mod PlaceLaws
+pub mod PublicationLaws
+pub mod AnchorLaws
+pub mod LevelsLaws
+pub mod ReachedLaws
+pub mod SignedDownLaws
+pub mod IsolationLaws

@@ -1,0 +1,52 @@
+-- What validity rests on beside the octets that are published.
+use Rattle.std.specs.Prelude.{ℕ, List, Some}
+use Rattle.jiff.specs.Types.{DateTime}
+use Rattle.rpki.specs.Provider.{Check}
+use Rattle.rpki_time.specs.Validity.{Period}
+use Rattle.rpki_valid.specs.declared.staleness.Staleness.TheVariants.{Refused}
+use Rattle.rpki_valid.specs.CrlIssued.{InForce}
+use Rattle.rpki_valid.specs.Verified.{Authority, Checkers, Holder, Terms, Verified, checkers_by, holder}
+
+-- what all certificates of a path are held to: the key of the trust anchor, whether names are looked at, how many
+-- authorities there are at most below the trust anchor; what signatures and digests are; and the moment
+pub record Basis : Type 1 where
+  pub terms : Terms
+  pub by : Checkers
+  pub sha256 : List ℕ → List ℕ
+  pub at : DateTime
+
+-- those of a provider
+abbrev pub basis_by : {X : Type 0} → (X → Check) → (X → Check) → (X → List ℕ → List ℕ) → (X → List ℕ → List ℕ) → Terms
+    → X → DateTime → Basis
+basis_by rsa ecdsa sha1 sha256 terms provider at =
+    record { terms = terms; by = checkers_by rsa ecdsa sha1 provider; sha256 = sha256 provider; at = at }
+
+-- those of an authority that was verified
+abbrev pub basis_of : {X : Type 0} → (X → Check) → (X → Check) → (X → List ℕ → List ℕ) → (X → List ℕ → List ℕ)
+    → Authority X → DateTime → Basis
+basis_of rsa ecdsa sha1 sha256 a at = basis_by rsa ecdsa sha1 sha256 a.terms a.provider at
+
+-- those of its list that counts
+abbrev pub basis_in : {X : Type 0} → (X → Check) → (X → Check) → (X → List ℕ → List ℕ) → (X → List ℕ → List ℕ)
+    → InForce X → Basis
+basis_in rsa ecdsa sha1 sha256 c = basis_of rsa ecdsa sha1 sha256 c.issuer c.at
+
+-- the certificate of an authority, and its resources
+abbrev pub holder_of : {X : Type 0} → Authority X → Holder
+holder_of a = holder a.cert a.resources
+
+abbrev pub moment : DateTime → Period
+moment at = record { not_before = at; not_after = at }
+
+-- An authority as its own certificate has it: that all of its path is valid at the moment is said apart, by how it is
+-- reached, and so the period is the moment. How far down the path it is has no part in what it issues.
+abbrev pub verified_at : Basis → Holder → Verified
+verified_at basis x = record {
+  cert = x.cert;
+  resources = x.resources;
+  period = moment basis.at;
+  terms = basis.terms;
+  depth = 0;
+  asked = Some Refused;
+  by = basis.by;
+}
