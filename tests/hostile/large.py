@@ -16,7 +16,7 @@ from programs import run
 
 ASPA = oid("1.2.840.113549.1.9.16.1.49")
 FIRST, LAST = "20270101000000Z", "20271231235959Z"
-OUTSIDE = "resources that the issuer does not have"
+OUTSIDE = "RFC 6487 7.2: resources that the issuer does not have"
 COUNTS = (1_001, 10_000)
 
 
@@ -136,7 +136,7 @@ def large_manifests(programs):
         yield f"{count} files", processed(programs, "manifest", signer(INHERITED), objects.MANIFEST, content), USUAL
         stale = payloads.manifest(files(count), this=FIRST, until="20270501000000Z")
         yield f"{count} files of May", processed(
-            programs, "manifest", signer(INHERITED), objects.MANIFEST, stale), refused("stale manifest")
+            programs, "manifest", signer(INHERITED), objects.MANIFEST, stale), refused("RFC 9286 6.3: stale manifest")
     for count in COUNTS:
         pair = signer(INHERITED, claims(*many(count)))
         content = payloads.manifest(files(3), this=FIRST, until=LAST)
@@ -163,7 +163,8 @@ def large_origins(programs):
         for name, ipv4, ipv6 in [("IP version 4", count + 1, count), ("IP version 6", count, count + 1)]:
             content = origins(prefixes_4(ipv4), prefixes_6(ipv6))
             yield f"{count} blocks, one more of {name}", processed(
-                programs, "roa", pair, objects.ROA, content), refused("prefix outside of the resources")
+                programs, "roa", pair, objects.ROA, content), refused(
+                "RFC 9582 5: prefix outside of the resources")
 
 
 def large_providers(programs):
@@ -174,7 +175,8 @@ def large_providers(programs):
         yield f"{count} providers", processed(
             programs, "aspa", pair, ASPA, payloads.aspa(64496, providers)), held(0, 0, 1)
         yield f"{count} of another", processed(
-            programs, "aspa", pair, ASPA, payloads.aspa(64497, providers)), refused("customer outside of the resources")
+            programs, "aspa", pair, ASPA, payloads.aspa(64497, providers)), refused(
+                "draft-ietf-sidrops-aspa-profile 4: customer outside of the resources")
     for count in COUNTS:
         pair = signer((None, many(count)[1]), claims(*many(count)))
         yield f"a customer among {count}", processed(

@@ -440,7 +440,7 @@ def valid_objects(programs):
     anchor, entity = chain()
     other = certificates.issued("other", 9, anchor)
     at, usual = certificates.MOMENT, signed_by(entity, entity)
-    no_signature = "verify signature verification failed"
+    no_signature, verify = "verify RFC 6488 3: bad signature", "verify RFC 6488 3: "
     rows = [
         ("as it is", usual, at, "valid"),
         ("in its first second", usual, "2027-01-01T00:00:00Z", "valid"),
@@ -448,34 +448,36 @@ def valid_objects(programs):
         ("attributes in another order", signed_by(entity, entity, members=USUAL[::-1]), at, "valid"),
         ("no signing time", signed_by(entity, entity, members=[of_type(), of_digest()]), at, "valid"),
         ("a binary signing time", signed_by(entity, entity, members=[*USUAL, of_seconds()]), at, "valid"),
-        ("another type", signed_by(entity, entity, kind=MANIFEST), at, "verify content type mismatch"),
-        ("a type that is longer", signed_by(entity, entity, kind=ROA + b"\x01"), at, "verify content type mismatch"),
-        ("another content", signed_by(entity, entity, octets=b"CONTENT"), at, "verify message digest mismatch"),
-        ("no content octets", signed_by(entity, entity, octets=b""), at, "verify message digest mismatch"),
+        ("another type", signed_by(entity, entity, kind=MANIFEST), at, verify + "content type mismatch"),
+        ("a type that is longer", signed_by(entity, entity, kind=ROA + b"\x01"), at, verify + "content type mismatch"),
+        ("another content", signed_by(entity, entity, octets=b"CONTENT"), at, verify + "message digest mismatch"),
+        ("no content octets", signed_by(entity, entity, octets=b""), at, verify + "message digest mismatch"),
         ("another digest", signed_by(entity, entity, members=[of_type(), of_digest(bytes(32))]), at,
-         "verify message digest mismatch"),
+         verify + "message digest mismatch"),
         ("another type and digest", signed_by(entity, entity, kind=MANIFEST, octets=b""), at,
-         "verify content type mismatch"),
+         verify + "content type mismatch"),
         ("another key's identifier", signed_by(entity, entity, identifier=bytes(range(20))), at,
-         "verify subject key identifier mismatch"),
+         verify + "subject key identifier mismatch"),
         ("the anchor's identifier", signed_by(entity, entity, identifier=certificates.identifier_of(anchor)), at,
-         "verify subject key identifier mismatch"),
+         verify + "subject key identifier mismatch"),
         ("another key's signature", signed_by(other, entity), at, no_signature),
         ("the anchor's signature", signed_by(anchor, entity), at, no_signature),
         ("a signature that was changed", signed_by(entity, entity, turned=1), at, no_signature),
         ("the implicit tag is signed", signed_by(entity, entity, first=0xA0), at, no_signature),
         ("another certificate of the same key's identifier", entity_with(
-            lambda it: it.put(SUBJECT_KEY, tlv(4, bytes(20)))), at, "verify subject key identifier mismatch"),
+            lambda it: it.put(SUBJECT_KEY, tlv(4, bytes(20)))), at, verify + "subject key identifier mismatch"),
         ("no subject key identifier", entity_with(lambda it: it.remove(SUBJECT_KEY)), at, None),
         ("an unknown critical extension", entity_with(lambda it: it.add(UNKNOWN, b"", critical=True)), at, None),
-        ("a certificate of another issuer", entity_with(lambda it: setattr(it, "signer", it)), at, no_signature),
+        ("a certificate of another issuer", entity_with(lambda it: setattr(it, "signer", it)), at,
+         "verify RFC 6487 7.2: bad signature"),
         ("a certificate that isn't valid any more", entity_with(
             lambda it: certificates.period_of(it, "270101000000Z", "270301000000Z")), at,
-         "verify certificate has expired"),
+         "verify RFC 6487 7.2: certificate has expired"),
         ("a certificate that isn't valid yet", entity_with(
             lambda it: certificates.period_of(it, "270701000000Z", "280101000000Z")), at, None),
         ("an authority's certificate", signed_by(anchor, anchor), at, None),
-        ("an anchor that isn't valid any more", usual, "2028-01-01T00:00:01Z", "verify_ta certificate has expired"),
+        ("an anchor that isn't valid any more", usual, "2028-01-01T00:00:01Z",
+         "verify_ta RFC 6487 7.2: certificate has expired"),
     ]
     for title, octets, moment, expected in rows:
         status, told = seen(programs, anchor.stamp() + octets, "valid", moment)

@@ -9,7 +9,7 @@ use rpki::repository::error::ValidationError;
 use rpki::repository::x509::Time;
 use rpki_cert::Cert;
 use rpki_der::{Constructed, DecodeError};
-use rpki_objects::{Aspa, Crl, Manifest, Roa};
+use rpki_objects::{Aspa, Crl, Manifest, Roa, Strictness};
 use rpki_valid::{CurrentCrl, ResourceCert, ResourceSet, Staleness};
 use std::alloc::Global;
 use std::io;
@@ -35,7 +35,7 @@ fn processed(
             Ok(current.process_manifest(alloc, &manifest))
         }
         "roa" => {
-            let roa = Roa::decode(alloc, octets, true)?;
+            let roa = Roa::decode(alloc, octets, Strictness::all())?;
             Ok(current.process_roa(alloc, &roa))
         }
         "aspa" => {

@@ -54,7 +54,7 @@ cons-is x y xs ys p q = λ i. p i ∷ q i
 
 module _ {V : Type 0} (G : V → List ℕ → Type 0) (one : IsOneFront G)
     (some : (s : List ℕ) (v : V) (r : List ℕ) → s ≡ [] → Spells G s v r → ⊥) where
-  each-one : IsOneWhole (SpellsEach G)
+  pub each-one : IsOneWhole (SpellsEach G)
   each-one s [] [] h k = refl
   each-one s [] (y ∷ ys) h k = absurd (some s y k.0 h k.1)
   each-one s (x ∷ xs) [] h k = absurd (some s x h.0 k h.1)
@@ -99,7 +99,7 @@ hash-one =
     such-one bits_value.spells IsFileHash (leaf-lawful bit_string IsBits (λ c v w h k. bits-one w c v k h)).one
     (λ o v w h k. h.octets ∙ sym k.octets)
 
-whole-one : {V : Type 0} (G : V → List ℕ → Type 0) → IsOneFront G → IsOneWhole G
+pub whole-one : {V : Type 0} (G : V → List ℕ → Type 0) → IsOneFront G → IsOneWhole G
 whole-one G one s v w h k = (one s v w [] [] (spelled-whole G s v h) (spelled-whole G s w k)).0
 
 pub file-one : IsOneFront file.spells

@@ -9,6 +9,7 @@ use Rattle.rpki_contents.specs.Manifest.{ManifestParts}
 use Rattle.rpki_contents.specs.Roa.{AttestationParts}
 use Rattle.rpki_objects.specs.Crl.{CrlParts, crl}
 use Rattle.rpki_objects.specs.SignedObject.{ObjectParts, ObjectFields}
+use Rattle.rpki_objects.specs.Strictness.{none_strict}
 use Rattle.rpki_objects.specs.TypedObject.{TypedParts, manifest_object, origin_object, aspa_object}
 use Rattle.rpki_fields.specs.declared.kind.Kind.{Kind}
 use Rattle.rpki_fields.specs.declared.kind.Kind.TheVariants as K
@@ -94,7 +95,7 @@ none-of K.Certificate octets e x z n g = no-certificate octets e x z n g
 none-of K.RevocationList octets e x z n g = unless-taken e (SpellsNothing crl.spells octets) z n.0 g.0 g.1.0
 none-of K.FileList octets e x z n g = unless-taken e (SpellsNothing (manifest_object false).spells octets) z n.0 g.0
     g.1.0
-none-of K.RouteOrigins octets e x z n g = unless-taken e (SpellsNothing (origin_object false).spells octets) z n.0 g.0
-    g.1.0
+none-of K.RouteOrigins octets e x z n g =
+    unless-taken e (SpellsNothing (origin_object none_strict).spells octets) z n.0 g.0 g.1.0
 none-of K.Providers octets e x z n g = unless-taken e (SpellsNothing (aspa_object false).spells octets) z n.0 g.0 g.1.0
 none-of K.OtherContent octets e x z n g = unless-taken e (SpellsNothing SpellsFields octets) z n.0 _ g.1.0

@@ -10,6 +10,7 @@ use Rattle.rpki_contents.specs.Manifest.{ManifestParts}
 use Rattle.rpki_contents.specs.Roa.{AttestationParts}
 use Rattle.rpki_objects.specs.Crl.{CrlParts, crl}
 use Rattle.rpki_objects.specs.SignedObject.{ObjectParts, ObjectFields, object_fields_of, signed_object}
+use Rattle.rpki_objects.specs.Strictness.{none_strict}
 use Rattle.rpki_objects.specs.TypedObject.{TypedParts, manifest_object, origin_object, aspa_object}
 use Rattle.rpki_fields.specs.declared.kind.Kind.{Kind}
 use Rattle.rpki_fields.specs.declared.kind.Kind.TheVariants as K
@@ -49,7 +50,7 @@ IsOf K.RevocationList octets x = (l : CrlParts) × SpellsOnly crl.spells l octet
 IsOf K.FileList octets x =
     (m : TypedParts ManifestParts) × SpellsOnly (manifest_object false).spells m octets × (x ≡ FileList m)
 IsOf K.RouteOrigins octets x =
-    (r : TypedParts AttestationParts) × SpellsOnly (origin_object false).spells r octets × (x ≡ RouteOrigins r)
+    (r : TypedParts AttestationParts) × SpellsOnly (origin_object none_strict).spells r octets × (x ≡ RouteOrigins r)
 IsOf K.Providers octets x =
     (a : TypedParts AspaParts) × SpellsOnly (aspa_object false).spells a octets × (x ≡ Providers a)
 IsOf K.OtherContent octets x =
@@ -72,7 +73,7 @@ abbrev pub IsNone : Kind → List ℕ → DecodeError → Type 0
 IsNone K.Certificate = IsNoCertificate
 IsNone K.RevocationList = IsUnspelled crl.spells crl.fault
 IsNone K.FileList = IsUnspelled (manifest_object false).spells (manifest_object false).fault
-IsNone K.RouteOrigins = IsUnspelled (origin_object false).spells (origin_object false).fault
+IsNone K.RouteOrigins = IsUnspelled (origin_object none_strict).spells (origin_object none_strict).fault
 IsNone K.Providers = IsUnspelled (aspa_object false).spells (aspa_object false).fault
 IsNone K.OtherContent = IsUnspelled SpellsFields (signed_object false).fault
 

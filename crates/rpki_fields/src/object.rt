@@ -25,7 +25,7 @@ use bytes::Bytes;
 use rpki::der::{Constructed, DecodeError, Shared};
 use rpki::repository::error::ValidationError;
 use rpki_cert::{Cert, TbsCert};
-use rpki_objects::{Aspa, Crl, Manifest, Roa, SignedObject};
+use rpki_objects::{Aspa, Crl, Manifest, Roa, SignedObject, Strictness};
 use std::alloc::{AllocError, Global};
 
 /// An object of a repository. Nothing of it is verified.
@@ -122,7 +122,7 @@ fn file_list(alloc: Global, octets: Bytes) -> Result<Object, DecodeError>
 fn route_origins(alloc: Global, octets: Bytes) -> Result<Object, DecodeError>
     ensures { MatchResult result (IsOf K.RouteOrigins octets) (IsNone K.RouteOrigins octets) }
 {
-    match Roa::decode(alloc, octets, false) {
+    match Roa::decode(alloc, octets, Strictness::default()) {
         Ok(origins) => Ok(Object::RouteOrigins(origins)),
         Err(e) => Err(e),
     }

@@ -9,6 +9,7 @@ pub mod SignedAttributes
 pub mod SignedObject
 pub mod SignedObjectView
 pub mod Sought
+pub mod Strictness
 pub mod TypedObject
 -- Lemmas that an impl cites.
 pub mod EncodedLaws

@@ -6,6 +6,7 @@ use Rattle.rpki.specs.UnknownAlgorithm.{IsContentWith}
 use Rattle.rpki_contents.specs.Aspa.{AspaParts, aspa}
 use Rattle.rpki_contents.specs.Manifest.{ManifestParts, manifest}
 use Rattle.rpki_contents.specs.Roa.{AttestationParts, fields_of, roa}
+use Rattle.rpki_objects.specs.declared.strictness.Strictness.{Strictness}
 use Rattle.rpki_objects.specs.SignedObject.{ObjectParts, ObjectFields, object_fields_of, signed_object}
 
 -- an object, and what its content says
@@ -56,8 +57,8 @@ manifest_object = typed_object manifest_type (λ x. x) manifest
 abbrev pub origin_type : List ℕ
 origin_type = 42 ∷ 134 ∷ 72 ∷ 134 ∷ 247 ∷ 13 ∷ 1 ∷ 9 ∷ 16 ∷ 1 ∷ 24 ∷ []
 
-abbrev pub origin_object : Bool → Format (TypedParts AttestationParts)
-origin_object strict = typed_object origin_type fields_of (roa strict) strict
+abbrev pub origin_object : Strictness → Format (TypedParts AttestationParts)
+origin_object strictness = typed_object origin_type fields_of (roa strictness.families) strictness.attributes
 
 -- an attestation of providers (draft-ietf-sidrops-aspa-profile 2): 1.2.840.113549.1.9.16.1.49
 abbrev pub aspa_type : List ℕ

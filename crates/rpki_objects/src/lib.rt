@@ -3,7 +3,7 @@
 //!
 //! [Crl::decode] reads a list, and [Crl::contains] tells whether a certificate is on it. [SignedObject::decode] reads a
 //! signed object. [CrlView::read] and [SignedObjectView::read] say where the parts stand, without memory. [Manifest],
-//! [Roa] and [Aspa] are the signed objects of one type each.
+//! [Roa] and [Aspa] are the signed objects of one type each, and [Strictness] is which rules are asked strictly.
 #![tactic(auto)]
 
 mod aspa;
@@ -30,6 +30,7 @@ mod signed_object;
 mod signed_object_view;
 mod signer_info;
 mod signer_view;
+mod strictness;
 mod tbs_cert_list;
 
 pub use aspa::Aspa;
@@ -59,4 +60,5 @@ pub use signed_object::SignedObject;
 pub use signed_object_view::SignedObjectView;
 pub use signer_info::SignerInfo;
 pub use signer_view::SignerView;
+pub use strictness::Strictness;
 pub use tbs_cert_list::TbsCertList;

@@ -7,6 +7,8 @@ pub mod objects;
 #[cfg(test)]
 mod provider;
 #[cfg(test)]
+mod strictness;
+#[cfg(test)]
 mod types;
 #[cfg(test)]
 mod written;

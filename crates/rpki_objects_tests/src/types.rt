@@ -5,7 +5,7 @@ use crate::objects::authority::ANCHOR;
 use crate::objects::{manifests, origins, providers};
 use bytes::Bytes;
 use rpki_der_tests::kinds::{Outcome, outcome_of};
-use rpki_objects::{Aspa, Manifest, Roa};
+use rpki_objects::{Aspa, Manifest, Roa, Strictness};
 use std::alloc::{AllocError, Global};
 use std::test::Fail;
 
@@ -82,7 +82,7 @@ fn read_rows() -> &'static [(&'static str, Kind, &'static str, Outcome)] {
 fn read(alloc: Global, kind: Kind, octets: Bytes) -> Outcome {
     match kind {
         Kind::Manifest => outcome_of(Manifest::decode(alloc, octets, true)),
-        Kind::Origin => outcome_of(Roa::decode(alloc, octets, true)),
+        Kind::Origin => outcome_of(Roa::decode(alloc, octets, Strictness::all())),
         Kind::Providers => outcome_of(Aspa::decode(alloc, octets, true)),
     }
 }

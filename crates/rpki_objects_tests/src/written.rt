@@ -116,7 +116,7 @@ fn content_types_are_identifiers(rt: HostRuntime) -> Result<(), Fail> {
 }
 
 /// The certificate of an object that openssl made.
-fn certificate(alloc: Global, object: &[u8]) -> Result<Option<Captured>, AllocError> {
+pub fn certificate(alloc: Global, object: &[u8]) -> Result<Option<Captured>, AllocError> {
     let Ok(view) = SignedObjectView::read(object, true) else {
         return Ok(None);
     };
@@ -127,7 +127,7 @@ fn certificate(alloc: Global, object: &[u8]) -> Result<Option<Captured>, AllocEr
 }
 
 /// The object of these parts, where it can be written.
-fn object(alloc: Global, parts: &SignedObjectParts<'_>) -> Result<Option<Bytes>, AllocError> {
+pub fn object(alloc: Global, parts: &SignedObjectParts<'_>) -> Result<Option<Bytes>, AllocError> {
     match SignedObjectBuilder::new(parts) {
         Some(builder) => written(alloc, &builder.encode()),
         None => Ok(None),

@@ -30,6 +30,12 @@ IsChoiceOf (BlocksKept bs) (Blocks x) = Holds x bs
 abbrev pub IsOnlyChoiceOf : ResourcesChoice → ChoiceView → Type 0
 IsOnlyChoiceOf v x = IsChoiceOf v x × ((w : ResourcesChoice) → IsChoiceOf w x → w ≡ v)
 
+-- it lists blocks; to keep any other choice takes no memory
+abbrev pub ListsBlocks : ChoiceView → Type 0
+ListsBlocks Missing = ⊥
+ListsBlocks Inherit = ⊥
+ListsBlocks (Blocks x) = Unit {0}
+
 abbrev pub AreIpResourcesOf : IpResources → IpResourcesView → Type 0
 AreIpResourcesOf v x = IsChoiceOf v.v4 x.v4 × IsChoiceOf v.v6 x.v6
 

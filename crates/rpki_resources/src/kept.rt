@@ -1,8 +1,8 @@
 //! Resources that are kept: made of those that were read in place.
 
-ghost use Rattle.std.specs.Prelude.{◌≡◌, IfOk};
+ghost use Rattle.std.specs.Prelude.{IfOk, IfErr};
 ghost use Rattle.rpki_der.specs.Prelude.{left, Takes, TakesWhole};
-ghost use Rattle.rpki_resources.specs.Kept.{IsOnlyChoiceOf, kept_ip, kept_as};
+ghost use Rattle.rpki_resources.specs.Kept.{IsOnlyChoiceOf, ListsBlocks, kept_ip, kept_as};
 
 use crate::blocks::Blocks;
 use crate::choice::ResourcesChoice;
@@ -16,9 +16,10 @@ use std::alloc::{AllocError, Global};
 impl ResourcesChoice {
     /// Keeps resources that were read in place. A list of blocks is allocated once, and nothing else is allocated.
     ///
-    /// Returns `AllocError` if allocation fails.
+    /// Returns `AllocError` if allocation fails, only where it is a list.
     pub fn from_view(alloc: Global, view: &ChoiceView<'_>) -> Result<ResourcesChoice, AllocError>
-        ensures { IfOk result (λ v. IsOnlyChoiceOf v view.now) }
+        ensures kept { IfOk result (λ v. IsOnlyChoiceOf v view.now) }
+        ensures memory { IfErr result (λ _. ListsBlocks view.now) }
     {
         match view {
             ChoiceView::Missing => Ok(ResourcesChoice::Missing),

@@ -1,5 +1,6 @@
--- The texts of errors.
-use Rattle.std.specs.Prelude.{ℕ, List, codes}
+-- The texts of errors, and which are equal.
+use Rattle.std.specs.Prelude.{◌≡◌, ℕ, Bool, List, IsTrue, codes}
+use Rattle.rpki_der.specs.declared.error.DecodeError.{DecodeError}
 use Rattle.rpki_der.specs.Prelude.{error_text}
 use Rattle.rpki_rsa.specs.declared.error.KeyError.{KeyError}
 use Rattle.rpki_rsa.specs.declared.error.KeyError.TheVariants.{Malformed, ShortModulus, LongModulus, EvenModulus}
@@ -14,3 +15,8 @@ key_error_text EvenModulus = codes "even modulus"
 key_error_text LargeExponent = codes "exponent of 2^64 or more"
 key_error_text EvenExponent = codes "even exponent"
 key_error_text ExponentOne = codes "exponent of 1"
+
+-- the errors are one; of octets that are no RSAPublicKey, what is wrong with them is equal
+abbrev pub AreSameErrors : (DecodeError → DecodeError → Bool) → KeyError → KeyError → Type 0
+AreSameErrors eq (Malformed d) (Malformed e) = IsTrue (eq d e)
+AreSameErrors eq x y = x ≡ y

@@ -6,6 +6,7 @@
 mod encoding;
 mod error;
 mod key;
+pub mod laws;
 mod limbs;
 mod limits;
 mod modulus;

@@ -1,9 +1,7 @@
 -- Whether a signed object is valid: what is asked, one after another.
 use Rattle.std.proofs.Common.{◌≡◌, ℕ, List, Option, Result, Ok, Err, inl, inr}
-use Rattle.std.specs.Prelude.{codes}
 use Rattle.jiff.specs.Types.{DateTime}
 use Rattle.rpki.specs.declared.repository.error.ValidationError.{ValidationError}
-use Rattle.rpki.specs.ErrorTexts.{verification_text}
 use Rattle.rpki.specs.Provider.{Check}
 use Rattle.rpki_valid.specs.declared.resource.set.ResourceSet.{ResourceSet}
 use Rattle.rpki_cert.specs.declared.profile.Profile.TheVariants.{Ee}
@@ -15,6 +13,7 @@ use Rattle.rpki_objects.specs.Crl.{CrlParts}
 use Rattle.rpki_objects.specs.SignedObject.{ObjectParts}
 use Rattle.rpki_valid.specs.ObjectVerified.{SignsAttributes, IsSignedObject, IsUnsignedObject, IsValidObject}
 use Rattle.rpki_valid.specs.ObjectVerified.{IsInvalidObject, ChecksObject}
+use Rattle.rpki_valid.specs.ErrorTexts.{content_type_text, digest_text, signer_text, unsigned_object_text}
 
 module _ (rsa ecdsa : Check) (sha256 : List ℕ → List ℕ) (x : ObjectParts) where
   abbrev pub Unsigned : ValidationError → Type 0
@@ -26,21 +25,21 @@ module _ (rsa ecdsa : Check) (sha256 : List ℕ → List ℕ) (x : ObjectParts) 
   abbrev pub SameDigest : Type 0
   SameDigest = x.signer.attributes.values.message_digest ≡ sha256 x.content.content
 
-  pub other-type : (e : ValidationError) → (SameType → ⊥) × HasReason (codes "content type mismatch") e → Unsigned e
+  pub other-type : (e : ValidationError) → (SameType → ⊥) × HasReason content_type_text e → Unsigned e
   other-type e h = (λ k. h.0 k.type, inl h)
 
   module _ (type : SameType) where
-    pub other-digest : (e : ValidationError) → (SameDigest → ⊥) × HasReason (codes "message digest mismatch") e
+    pub other-digest : (e : ValidationError) → (SameDigest → ⊥) × HasReason digest_text e
         → Unsigned e
     other-digest e h = (λ k. h.0 k.digest, inr (type, inl h))
 
     module _ (digest : SameDigest) where
       pub other-key : (e : ValidationError)
-          → (HasSubject x.signer.identifier x.cert.tbs → ⊥) × IsOtherSubject x.cert.tbs e → Unsigned e
+          → (HasSubject x.signer.identifier x.cert.tbs → ⊥) × IsOtherSubject signer_text x.cert.tbs e → Unsigned e
       other-key e h = (λ k. h.0 k.identifier, inr (type, inr (digest, inl h)))
 
       pub asked-last : (r : Result (Unit {0}) ValidationError) → HasSubject x.signer.identifier x.cert.tbs
-          → ChecksBy (SignsAttributes rsa ecdsa x.cert.tbs.key x.signer) (HasReason verification_text) r
+          → ChecksBy (SignsAttributes rsa ecdsa x.cert.tbs.key x.signer) (HasReason unsigned_object_text) r
           → ChecksBy (IsSignedObject rsa ecdsa sha256 x) (IsUnsignedObject rsa ecdsa sha256 x) r
       asked-last (Ok u) identifier h =
           record { type = type; digest = digest; identifier = identifier; signature = h }

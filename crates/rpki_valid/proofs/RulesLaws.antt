@@ -1,6 +1,6 @@
 -- The rules of objects of one type: all but the last hold, and so the last decides.
 use Rattle.std.proofs.Common.{◌≡◌, List, Result, Ok, Err, inl, inr, refl, subst}
-use Rattle.std.specs.Prelude.{◌⊎◌, codes, None}
+use Rattle.std.specs.Prelude.{◌⊎◌, None}
 use Rattle.jiff.specs.Types.{DateTime}
 use Rattle.rpki.specs.declared.repository.error.ValidationError.{ValidationError}
 use Rattle.rpki_resources.specs.Blocks.{IsAmong}
@@ -21,11 +21,12 @@ use Rattle.rpki_valid.specs.Processed.{ChecksRules, IsManifestOut, IsManifestCur
 use Rattle.rpki_valid.specs.Processed.{KeepsManifestRules, BreaksManifestRules, KeepsOriginRules, BreaksOriginRules}
 use Rattle.rpki_valid.specs.Processed.{KeepsAspaRules, BreaksAspaRules, ChecksOwnRules, KeepsOwnOriginRules}
 use Rattle.rpki_valid.specs.Processed.{IsOwnOriginError, KeepsOwnAspaRules, IsOwnAspaError}
+use Rattle.rpki_valid.specs.ErrorTexts.{stale_manifest_text, customer_outside_text}
 
 module _ (at : DateTime) (x : TypedParts ManifestParts) (inherited : AreInherited x.object.cert.tbs.extensions)
     (out : IsManifestOut at x.content) where
   pub manifest-rules : (r : Result (Unit {0}) ValidationError)
-      → ChecksBy (IsManifestCurrent at x.content) (HasReason (codes "stale manifest")) r
+      → ChecksBy (IsManifestCurrent at x.content) (HasReason stale_manifest_text) r
       → ChecksRules (KeepsManifestRules at x) (BreaksManifestRules at x) r
   manifest-rules (Ok u) h = record { inherited = inherited; out = out; current = h }
   manifest-rules (Err e) h = inr (inherited, inr (out, h))
@@ -42,7 +43,7 @@ module _ (x : TypedParts AttestationParts) (held : ResourceSet) (addresses : Has
 module _ (x : TypedParts AspaParts) (held : ResourceSet) (numbers : HasNumbers x.object.cert.tbs.extensions)
     (own : AreOwnNumbers x.object.cert.tbs.extensions) (addresses : HasNoAddresses x.object.cert.tbs.extensions) where
   pub aspa-rules : (r : Result (Unit {0}) ValidationError)
-      → ChecksBy (IsAmong x.content.customer held.asn) (HasReason (codes "customer outside of the resources")) r
+      → ChecksBy (IsAmong x.content.customer held.asn) (HasReason customer_outside_text) r
       → ChecksRules (KeepsAspaRules x held) (BreaksAspaRules x held) r
   aspa-rules (Ok u) h =
       record { numbers = numbers; own = own; addresses = addresses; within = h }
@@ -91,7 +92,7 @@ module _ (x : TypedParts AspaParts) (held : ResourceSet) (has : HasOwnResources 
     (numbers : HasNumbers x.object.cert.tbs.extensions) (own : AreOwnNumbers x.object.cert.tbs.extensions)
     (addresses : HasNoAddresses x.object.cert.tbs.extensions) where
   pub own-aspa-rules : (r : Result (Unit {0}) ValidationError)
-      → ChecksBy (IsAmong x.content.customer held.asn) (HasReason (codes "customer outside of the resources")) r
+      → ChecksBy (IsAmong x.content.customer held.asn) (HasReason customer_outside_text) r
       → ChecksOwnRules (KeepsOwnAspaRules x) (IsOwnAspaError x) r
   own-aspa-rules (Ok u) h = (
     held,

@@ -15,18 +15,19 @@ use Rattle.rpki_objects.specs.Crl.{CrlParts}
 use Rattle.rpki_valid.specs.declared.staleness.Staleness.{Staleness}
 use Rattle.rpki_valid.specs.declared.staleness.Staleness.TheVariants.{Refused, Accepted}
 use Rattle.rpki_valid.specs.CrlIssued.{IsIssuedBy}
-use Rattle.rpki_valid.specs.Revocation.{IsCurrentAt, IsListOf, IsUnrevoked, IsUnrevokedBy, revoked_text}
+use Rattle.rpki_valid.specs.Revocation.{IsCurrentAt, IsListOf, IsUnrevoked, IsUnrevokedBy}
 use Rattle.rpki_valid.specs.Revocation.{least_asked}
 use Rattle.rpki_valid.specs.Valid.{HasReason, IsIssued, IsUnissued, IsPeriodError, IsAnchor, IsNoAnchor}
 use Rattle.rpki_valid.specs.ResourceSet.{HasNoResources, SettlesUnder, SettlesOwn, AreWithin}
 use Rattle.rpki_valid.specs.Verified.{Checkers, Verified, Holder, holder, IsRoot, IsAuthorityAt, IsVerified, IsOnPath}
 use Rattle.rpki_valid.specs.Verified.{IsOffPath, IsVerifiedBy, HasPath, ChecksPath, ChecksLink, ChecksRoot}
-use Rattle.rpki_valid.specs.Verified.{Terms, other_key_text, IsLink, IsRefusedWith, IsRefusedLink, IsRefusedRoot}
+use Rattle.rpki_valid.specs.Verified.{Terms, IsLink, IsRefusedWith, IsRefusedLink, IsRefusedRoot}
 use Rattle.rpki_valid.specs.Verified.{DescendsFrom}
 use Rattle.rpki_valid.specs.Verified.IsAuthorityAt.{Root, Issued}
 use Rattle.rpki_valid.specs.Verified.DescendsFrom.{Itself, Below}
 use Rattle.rpki_cert.proofs.KnownLaws.{unless-from, unless-weaker}
 use Rattle.rpki_valid.proofs.ResourceSetLaws.{out-unless, resources-within, within-itself, within-through}
+use Rattle.rpki_valid.specs.ErrorTexts.{revoked_text, other_key_text}
 
 -- ---- what is not on a path
 
@@ -58,21 +59,17 @@ module _ (list : Option CrlParts) (v : Verified) (at : DateTime) (x : CertParts)
   path-settles (Ok r) p h u k = record { period = p; issued = h; unrevoked = u; resources = k }
   path-settles (Err e) p h u k = (no-resources e k, inr (p, inr (h, inr (u, k))))
 
--- what holds anyway holds where something comes out
-pub always : {X E : Type 0} (P : Type 0) (r : Result X E) → P → IfOk r (λ _. P)
-always P (Ok x) p = p
-always P (Err e) p = tt
-
 -- ---- a certificate of a profile on a path
 
 module _ (profile : Profile) (list : Option CrlParts) (v : Verified) (at : DateTime) (x : CertParts) where
-  pub profile-then : (r : Result ResourceSet ValidationError) → HasProfile profile v.terms.strict x.tbs
+  pub profile-then : (r : Result ResourceSet ValidationError) → HasProfile profile v.terms.strictness.names x.tbs
       → ChecksPath list v at x r → ChecksLink profile list v at x r
   profile-then (Ok r) p h = record { profiled = p; path = h }
   profile-then (Err e) p h = (unless-weaker e (λ none r k. none r k.path) h.0, inr (p, h.1))
 
   pub profile-else : (e : ValidationError)
-      → (HasProfile profile v.terms.strict x.tbs → ⊥) × IsFirstError v.terms.strict x.tbs (rules_of profile) e
+      → (HasProfile profile v.terms.strictness.names x.tbs → ⊥)
+      × IsFirstError v.terms.strictness.names x.tbs (rules_of profile) e
       → IsRefusedLink profile list v at x e
   profile-else e h = (unless-from e (λ r k. h.0 k.profiled), inl h)
 
@@ -130,23 +127,24 @@ listed-of profile v at x staleness list current (Err e) all h = tt
 -- ---- a trust anchor
 
 module _ (terms : Terms) (by : Checkers) (at : DateTime) (x : CertParts) where
-  pub root-settles : (r : Result ResourceSet ValidationError) → HasProfile Ta terms.strict x.tbs
+  pub root-settles : (r : Result ResourceSet ValidationError) → HasProfile Ta terms.strictness.names x.tbs
       → IsAnchor by.rsa by.ecdsa by.sha1 at x → x.tbs.key ≡ terms.key → SettlesOwn x.tbs.extensions r
       → ChecksRoot terms by at x r
   root-settles (Ok r) p h key k = record { profiled = p; anchor = h; key = key; resources = k }
   root-settles (Err e) p h key k = (out-unless e _ k, inr (p, inr (h, inr (key, k))))
 
   pub root-else : (e : ValidationError)
-      → (HasProfile Ta terms.strict x.tbs → ⊥) × IsFirstError terms.strict x.tbs (rules_of Ta) e
+      → (HasProfile Ta terms.strictness.names x.tbs → ⊥) × IsFirstError terms.strictness.names x.tbs (rules_of Ta) e
       → IsRefusedRoot terms by at x e
   root-else e h = (unless-from e (λ r k. h.0 k.profiled), inl h)
 
-  pub root-off : (e : ValidationError) → HasProfile Ta terms.strict x.tbs
+  pub root-off : (e : ValidationError) → HasProfile Ta terms.strictness.names x.tbs
       → (IsAnchor by.rsa by.ecdsa by.sha1 at x → ⊥) × IsNoAnchor by.rsa by.ecdsa by.sha1 at x e
       → IsRefusedRoot terms by at x e
   root-off e p h = (unless-from e (λ r k. h.0 k.anchor), inr (p, inl h))
 
-  pub root-other-key : (e : ValidationError) → HasProfile Ta terms.strict x.tbs → IsAnchor by.rsa by.ecdsa by.sha1 at x
+  pub root-other-key : (e : ValidationError) → HasProfile Ta terms.strictness.names x.tbs
+      → IsAnchor by.rsa by.ecdsa by.sha1 at x
       → (x.tbs.key ≡ terms.key → ⊥) × HasReason other_key_text e → IsRefusedRoot terms by at x e
   root-other-key e p h k = (unless-from e (λ r i. k.0 i.key), inr (p, inr (h, inl k)))
 
@@ -193,7 +191,7 @@ authority-less : (terms : Terms) (one other : Option Staleness) (by : Checkers) 
 authority-less terms one other by at n x (Root y h) = Root y h
 authority-less terms one other by at n x (Issued k m issuer y h next bound link) =
     Issued k m issuer y (authority-less terms one other by at k issuer h) next bound
-    (link-less Ca terms.strict one other by at issuer y link)
+    (link-less Ca terms.strictness.names one other by at issuer y link)
 
 -- ---- at each moment of a period
 
@@ -223,7 +221,7 @@ module _ (v : Verified) (at m : DateTime) (x : CertParts) (list : Option CrlPart
     (holds : HoldsAt x.tbs.validity m)
   where
     issued-link : (asked : Option Staleness) → IsUnrevokedBy v.by.rsa v.by.ecdsa v.by.sha1 asked v.cert.tbs m x
-        → IsLink Ca v.terms.strict asked v.by m (holder v.cert v.resources) (holder x r)
+        → IsLink Ca v.terms.strictness.names asked v.by m (holder v.cert v.resources) (holder x r)
     issued-link asked unrevoked =
         let s = h.path.issued.signed in
         record {

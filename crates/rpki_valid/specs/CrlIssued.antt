@@ -1,8 +1,7 @@
 -- Whether an authority has issued a revocation list that counts (RFC 5280 6.3.3, RFC 6487 5, 7.2).
-use Rattle.std.specs.Prelude.{◌≡◌, ℕ, List, Some, codes, Result}
+use Rattle.std.specs.Prelude.{◌≡◌, ℕ, List, Some, Result}
 use Rattle.jiff.specs.Types.{DateTime}
 use Rattle.rpki.specs.declared.repository.error.ValidationError.{ValidationError}
-use Rattle.rpki.specs.Prelude.{verification_text}
 use Rattle.rpki_time.specs.Validity.{HoldsAt}
 use Rattle.rpki.specs.Provider.{Check}
 use Rattle.rpki_cert.specs.declared.profile.Profile.{Profile}
@@ -14,6 +13,8 @@ use Rattle.rpki_valid.specs.Valid.{HasReason, IsPeriodError, IsSignedBy, Unless}
 use Rattle.rpki_valid.specs.declared.resource.set.ResourceSet.{ResourceSet}
 use Rattle.rpki_valid.specs.Revocation.{IsOutAt, IsCurrentAt, IsListOf}
 use Rattle.rpki_valid.specs.Verified.{Authority, Verified, HasPath, checkers_by, holder}
+use Rattle.rpki_valid.specs.ErrorTexts.{unsigned_list_text, list_issuer_text, list_authority_text, later_list_text}
+use Rattle.rpki_valid.specs.ErrorTexts.{stale_list_text}
 
 -- the verified authority has signed the list, under its name and by the key that the list names, and the list counts at
 -- the moment, at which all certificates of its path hold
@@ -25,12 +26,12 @@ pub record IsIssuedBy (staleness : Staleness) (issuer : Verified) (at : DateTime
 abbrev pub IsNotIssued : Verified → DateTime → CrlParts → ValidationError → Type 0
 IsNotIssued issuer at x =
     Unless (HoldsAt issuer.period at) (IsPeriodError issuer.period at)
-    (Unless (IsSignedBy issuer.by.rsa issuer.by.ecdsa issuer.cert.tbs.key x.signed) (HasReason verification_text)
-    (Unless (x.list.issuer ≡ issuer.cert.tbs.subject) (HasReason (codes "issuer name mismatch"))
+    (Unless (IsSignedBy issuer.by.rsa issuer.by.ecdsa issuer.cert.tbs.key x.signed) (HasReason unsigned_list_text)
+    (Unless (x.list.issuer ≡ issuer.cert.tbs.subject) (HasReason list_issuer_text)
     (Unless (x.list.extensions.authority ≡ issuer.by.sha1 issuer.cert.tbs.key.bits.octets)
-    (HasReason (codes "authority key identifier mismatch"))
-    (Unless (IsOutAt at x) (HasReason (codes "issued later"))
-    (HasReason (codes "RFC 5280 6.3.3: stale list"))))))
+    (HasReason list_authority_text)
+    (Unless (IsOutAt at x) (HasReason later_list_text)
+    (HasReason stale_list_text)))))
 
 -- it isn't such a list, and this is the error
 abbrev pub IsRefusedList : Staleness → Verified → DateTime → CrlParts → ValidationError → Type 0

@@ -1,4 +1,5 @@
 -- Definitions: what the contracts say. They are trusted, and read against the standards.
+pub mod ErrorTexts
 pub mod Valid
 pub mod ResourceSet
 pub mod Revocation

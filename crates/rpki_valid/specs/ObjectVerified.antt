@@ -1,11 +1,10 @@
 -- Signed objects that are valid at a moment (RFC 6488 3).
-use Rattle.std.specs.Prelude.{◌≡◌, ℕ, List, Option, Some, codes, Result}
+use Rattle.std.specs.Prelude.{◌≡◌, ℕ, List, Option, Some, Result}
 use Rattle.jiff.specs.Types.{DateTime}
 use Rattle.rpki.specs.declared.repository.error.ValidationError.{ValidationError}
 use Rattle.rpki.specs.declared.crypto.keys.PublicKeyFormat.TheVariants.{Rsa}
 use Rattle.rpki.specs.Provider.{Check, Verifies}
 use Rattle.rpki.specs.PublicKey.{KeyParts}
-use Rattle.rpki.specs.ErrorTexts.{verification_text}
 use Rattle.rpki_valid.specs.declared.resource.set.ResourceSet.{ResourceSet}
 use Rattle.rpki_cert.specs.declared.profile.Profile.TheVariants.{Ee}
 use Rattle.rpki_cert.specs.RuleError.{ChecksBy}
@@ -14,6 +13,7 @@ use Rattle.rpki_valid.specs.CrlIssued.{InForce}
 use Rattle.rpki_valid.specs.Verified.{verified_by, Verified, IsVerifiedBy, IsUnverified, ChecksWith}
 use Rattle.rpki_objects.specs.Crl.{CrlParts}
 use Rattle.rpki_objects.specs.SignedObject.{ObjectParts, SignerParts}
+use Rattle.rpki_valid.specs.ErrorTexts.{content_type_text, digest_text, signer_text, unsigned_object_text}
 
 -- the key, of RSA, has signed the attributes
 abbrev pub SignsAttributes : Check → Check → KeyParts → SignerParts → Type 0
@@ -43,9 +43,10 @@ pub record IsSignedObject (rsa ecdsa : Check) (sha256 : List ℕ → List ℕ) (
 -- the error where one of them doesn't hold: of the first, in this order
 abbrev pub IsUnsignedObject : Check → Check → (List ℕ → List ℕ) → ObjectParts → ValidationError → Type 0
 IsUnsignedObject rsa ecdsa sha256 x =
-    Unless (HasSignedType x) (HasReason (codes "content type mismatch"))
-    (Unless (HasSignedDigest sha256 x) (HasReason (codes "message digest mismatch"))
-    (Unless (HasSubject x.signer.identifier x.cert.tbs) (IsOtherSubject x.cert.tbs) (HasReason verification_text)))
+    Unless (HasSignedType x) (HasReason content_type_text)
+    (Unless (HasSignedDigest sha256 x) (HasReason digest_text)
+    (Unless (HasSubject x.signer.identifier x.cert.tbs) (IsOtherSubject signer_text x.cert.tbs)
+    (HasReason unsigned_object_text)))
 
 -- a check of both
 abbrev pub ChecksSigned : Check → Check → (List ℕ → List ℕ) → ObjectParts → Result (Unit {0}) ValidationError → Type 0

@@ -1,6 +1,6 @@
 -- Signed objects of one type that are valid for a verified authority at a moment, and keep the rules of their type (RFC
 -- 6488 3, RFC 9286 5.1, 6.3, RFC 9582 5, draft-ietf-sidrops-aspa-profile 4).
-use Rattle.std.specs.Prelude.{◌⊎◌, ◌≤ℤ◌, ℕ, List, Some, codes, Result, MatchResult}
+use Rattle.std.specs.Prelude.{◌⊎◌, ◌≤ℤ◌, ℕ, List, Some, Result, MatchResult}
 use Rattle.jiff.specs.Types.{DateTime}
 use Rattle.jiff.specs.Words.{civil_nanos}
 use Rattle.rpki.specs.declared.repository.error.ValidationError.{ValidationError}
@@ -20,6 +20,10 @@ use Rattle.rpki_valid.specs.ObjectVerified.{IsValidObject, IsInvalidObject}
 use Rattle.rpki_objects.specs.TypedObject.{TypedParts}
 use Rattle.rpki_valid.specs.ObjectResources.{AreInherited, HasAddresses, HasNumbers, HasNoAddresses, HasNoNumbers}
 use Rattle.rpki_valid.specs.ObjectResources.{AreOwnAddresses, AreOwnNumbers}
+use Rattle.rpki_valid.specs.ErrorTexts.{not_inherited_text, later_manifest_text, stale_manifest_text}
+use Rattle.rpki_valid.specs.ErrorTexts.{no_addresses_text, inherited_addresses_text, numbers_beside_text}
+use Rattle.rpki_valid.specs.ErrorTexts.{prefix_outside_text, no_numbers_text, inherited_numbers_text}
+use Rattle.rpki_valid.specs.ErrorTexts.{addresses_beside_text, customer_outside_text}
 
 -- ---- rules, one after another
 
@@ -49,9 +53,9 @@ pub record KeepsManifestRules (at : DateTime) (x : TypedParts ManifestParts) : T
 -- the error where one is broken: of the first, in this order
 abbrev pub BreaksManifestRules : DateTime → TypedParts ManifestParts → ValidationError → Type 0
 BreaksManifestRules at x =
-    Unless (AreInherited x.object.cert.tbs.extensions) (HasReason (codes "resources that are not inherited"))
-    (Unless (IsManifestOut at x.content) (HasReason (codes "manifest issued later"))
-    (IsBroken (IsManifestCurrent at x.content) (codes "stale manifest")))
+    Unless (AreInherited x.object.cert.tbs.extensions) (HasReason not_inherited_text)
+    (Unless (IsManifestOut at x.content) (HasReason later_manifest_text)
+    (IsBroken (IsManifestCurrent at x.content) stale_manifest_text))
 
 -- ---- those of route origin attestations
 
@@ -67,13 +71,13 @@ pub record KeepsOriginRules (x : TypedParts AttestationParts) (held : ResourceSe
 -- allocation failed; or a prefix is outside of the resources
 abbrev pub IsOriginOutside : TypedParts AttestationParts → ResourceSet → ValidationError → Type 0
 IsOriginOutside x held e =
-    IsOut e ⊎ IsBroken (AreWithin x.content held.ipv4 held.ipv6) (codes "prefix outside of the resources") e
+    IsOut e ⊎ IsBroken (AreWithin x.content held.ipv4 held.ipv6) prefix_outside_text e
 
 abbrev pub BreaksOriginRules : TypedParts AttestationParts → ResourceSet → ValidationError → Type 0
 BreaksOriginRules x held =
-    Unless (HasAddresses x.object.cert.tbs.extensions) (HasReason (codes "no addresses"))
-    (Unless (AreOwnAddresses x.object.cert.tbs.extensions) (HasReason (codes "inherited addresses"))
-    (Unless (HasNoNumbers x.object.cert.tbs.extensions) (HasReason (codes "AS numbers beside prefixes"))
+    Unless (HasAddresses x.object.cert.tbs.extensions) (HasReason no_addresses_text)
+    (Unless (AreOwnAddresses x.object.cert.tbs.extensions) (HasReason inherited_addresses_text)
+    (Unless (HasNoNumbers x.object.cert.tbs.extensions) (HasReason numbers_beside_text)
     (IsOriginOutside x held)))
 
 -- ---- those of attestations of providers
@@ -88,10 +92,10 @@ pub record KeepsAspaRules (x : TypedParts AspaParts) (held : ResourceSet) : Type
 
 abbrev pub BreaksAspaRules : TypedParts AspaParts → ResourceSet → ValidationError → Type 0
 BreaksAspaRules x held =
-    Unless (HasNumbers x.object.cert.tbs.extensions) (HasReason (codes "no AS numbers"))
-    (Unless (AreOwnNumbers x.object.cert.tbs.extensions) (HasReason (codes "inherited AS numbers"))
-    (Unless (HasNoAddresses x.object.cert.tbs.extensions) (HasReason (codes "addresses beside AS numbers"))
-    (IsBroken (IsAmong x.content.customer held.asn) (codes "customer outside of the resources"))))
+    Unless (HasNumbers x.object.cert.tbs.extensions) (HasReason no_numbers_text)
+    (Unless (AreOwnNumbers x.object.cert.tbs.extensions) (HasReason inherited_numbers_text)
+    (Unless (HasNoAddresses x.object.cert.tbs.extensions) (HasReason addresses_beside_text)
+    (IsBroken (IsAmong x.content.customer held.asn) customer_outside_text)))
 
 -- ---- the object, and its rules
 
@@ -146,17 +150,17 @@ KeepsOwnAspaRules x =
 -- the error where one is broken: of the first, in this order
 abbrev pub IsOwnOriginError : TypedParts AttestationParts → ValidationError → Type 0
 IsOwnOriginError x =
-    Unless (HasAddresses x.object.cert.tbs.extensions) (HasReason (codes "no addresses"))
-    (Unless (AreOwnAddresses x.object.cert.tbs.extensions) (HasReason (codes "inherited addresses"))
-    (Unless (HasNoNumbers x.object.cert.tbs.extensions) (HasReason (codes "AS numbers beside prefixes"))
-    (HasReason (codes "prefix outside of the resources"))))
+    Unless (HasAddresses x.object.cert.tbs.extensions) (HasReason no_addresses_text)
+    (Unless (AreOwnAddresses x.object.cert.tbs.extensions) (HasReason inherited_addresses_text)
+    (Unless (HasNoNumbers x.object.cert.tbs.extensions) (HasReason numbers_beside_text)
+    (HasReason prefix_outside_text)))
 
 abbrev pub IsOwnAspaError : TypedParts AspaParts → ValidationError → Type 0
 IsOwnAspaError x =
-    Unless (HasNumbers x.object.cert.tbs.extensions) (HasReason (codes "no AS numbers"))
-    (Unless (AreOwnNumbers x.object.cert.tbs.extensions) (HasReason (codes "inherited AS numbers"))
-    (Unless (HasNoAddresses x.object.cert.tbs.extensions) (HasReason (codes "addresses beside AS numbers"))
-    (HasReason (codes "customer outside of the resources"))))
+    Unless (HasNumbers x.object.cert.tbs.extensions) (HasReason no_numbers_text)
+    (Unless (AreOwnNumbers x.object.cert.tbs.extensions) (HasReason inherited_numbers_text)
+    (Unless (HasNoAddresses x.object.cert.tbs.extensions) (HasReason addresses_beside_text)
+    (HasReason customer_outside_text)))
 
 -- a check of rules: each holds; or one doesn't, with its error; or allocation failed
 abbrev pub ChecksOwnRules : Type 0 → (ValidationError → Type 0) → Result (Unit {0}) ValidationError → Type 0

@@ -1,5 +1,5 @@
 -- The resources that certificates have, down a path of authorities (RFC 6487 7.2, RFC 8360 4.2.4).
-use Rattle.std.specs.Prelude.{◌≡◌, ◌⊎◌, true, List, Option, Some, None, IsTrue, codes, Result, MatchResult}
+use Rattle.std.specs.Prelude.{◌≡◌, ◌⊎◌, true, List, Option, Some, None, IsTrue, Result, MatchResult}
 use Rattle.rpki.specs.ExtensionValue.{ExtensionParts}
 use Rattle.rpki.specs.declared.repository.error.ValidationError.{ValidationError}
 use Rattle.rpki_resources.specs.declared.block.Block.{Block}
@@ -15,7 +15,7 @@ use Rattle.rpki_resources.specs.declared.settled.SettleError.TheVariants.{OutOfM
 use Rattle.rpki_resources.specs.Blocks.{IsSubset}
 use Rattle.rpki_resources.specs.Equal.{same_blocks}
 use Rattle.rpki_resources.specs.Extension.{SpellsIpResources, SpellsAsResources}
-use Rattle.rpki_resources.specs.Kept.{AreIpResourcesOf, AreAsResourcesOf}
+use Rattle.rpki_resources.specs.Kept.{AreIpResourcesOf, AreAsResourcesOf, ListsBlocks}
 use Rattle.rpki_resources.specs.Settled.{IsSettled, IsTrimmed, IsAnchored}
 use Rattle.rpki_cert.specs.declared.extension.policy.Overclaim.{Overclaim}
 use Rattle.rpki_cert.specs.declared.extension.policy.Overclaim.TheVariants.{Refuse, Trim}
@@ -25,6 +25,7 @@ use Rattle.rpki_cert.specs.Known.{certificate_policies, Says, HasExtension, is_m
 use Rattle.rpki_cert.specs.ExtensionContent.{SpellsPolicies}
 use Rattle.rpki_cert.specs.ResourceExtensions.{addresses_of, numbers_of}
 use Rattle.rpki_valid.specs.Valid.{HasReason}
+use Rattle.rpki_valid.specs.ErrorTexts.{overclaim_text}
 
 -- ---- what a certificate claims
 
@@ -42,6 +43,15 @@ AreAddressesOf v (Some x) = AreIpResourcesOf v x
 abbrev pub AreNumbersOf : AsResources → Option ChoiceView → Type 0
 AreNumbersOf v None = v ≡ no_numbers
 AreNumbersOf v (Some x) = AreAsResourcesOf v x
+
+-- blocks are listed; to keep anything else takes no memory
+abbrev pub ListsAddresses : Option IpResourcesView → Type 0
+ListsAddresses None = ⊥
+ListsAddresses (Some x) = ListsBlocks x.v4 ⊎ ListsBlocks x.v6
+
+abbrev pub ListsNumbers : Option ChoiceView → Type 0
+ListsNumbers None = ⊥
+ListsNumbers (Some x) = ListsBlocks x
 
 -- the extensions say these resources
 pub record IsClaim (xs : List ExtensionParts) (c : Claim) : Type 0 where
@@ -125,7 +135,7 @@ IsOut e = IsTrue (is_memory e)
 
 -- the error of a certificate that claims what its issuer doesn't have
 abbrev pub IsOverclaimed : ValidationError → Type 0
-IsOverclaimed = HasReason (codes "resources that the issuer does not have")
+IsOverclaimed = HasReason overclaim_text
 
 -- the certificate has no resources under these of its issuer, and the error says so; or allocation failed
 abbrev pub HasNoResources : List ExtensionParts → ResourceSet → ValidationError → Type 0

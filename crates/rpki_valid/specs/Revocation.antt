@@ -1,5 +1,5 @@
 -- Revocation lists, and whether a certificate is revoked (RFC 5280 6.3.3, RFC 6487 5, 7.2).
-use Rattle.std.specs.Prelude.{◌≡◌, ◌≤ℤ◌, ℕ, false, List, Option, None, Some, codes}
+use Rattle.std.specs.Prelude.{◌≡◌, ◌≤ℤ◌, ℕ, false, List, Option, None, Some}
 use Rattle.jiff.specs.Types.{DateTime}
 use Rattle.jiff.specs.Words.{civil_nanos}
 use Rattle.rpki.specs.Provider.{Check}
@@ -36,9 +36,6 @@ pub record IsListOf (rsa ecdsa : Check) (sha1 : List ℕ → List ℕ) (stalenes
 abbrev pub IsUnrevoked : Option CrlParts → CertParts → Type 0
 IsUnrevoked None x = Unit {0}
 IsUnrevoked (Some list) x = is_revoked x.tbs.serial (listed list.list.revoked) ≡ false
-
-abbrev pub revoked_text : List ℕ
-revoked_text = codes "RFC 6487 7.2: revoked certificate"
 
 -- A list of the authority, which counts at the moment, has no entry of the certificate (RFC 6487 7.2). Where no list is
 -- asked for, this says nothing.

@@ -1,14 +1,12 @@
 -- Certificates that are valid at a moment (RFC 5280 6.1.3, RFC 6487 7.2), but for their resources.
-use Rattle.std.specs.Prelude.{◌≡◌, ◌⊎◌, ◌<ℤ◌, ℕ, false, List, Some, None, IsTrue, codes, Result}
+use Rattle.std.specs.Prelude.{◌≡◌, ◌⊎◌, ◌<ℤ◌, ℕ, false, List, Some, None, IsTrue, Result}
 use Rattle.jiff.specs.Types.{DateTime}
 use Rattle.jiff.specs.Words.{civil_nanos}
 use Rattle.rpki_der.specs.ErrorText.{text_of}
-use Rattle.rpki_time.specs.declared.validity.ValidityPeriodError.TheVariants.{TooNew, TooOld}
 use Rattle.rpki_time.specs.Validity.{Period, HoldsAt}
 use Rattle.rpki.specs.declared.repository.error.ValidationError.{ValidationError}
 use Rattle.rpki.specs.declared.repository.error.ValidationError.TheVariants.{Decoding, Inspection, Verification}
 use Rattle.rpki.specs.ErrorContent.{verification_content}
-use Rattle.rpki.specs.ErrorTexts.{verification_text, period_text}
 use Rattle.rpki.specs.declared.crypto.keys.PublicKeyFormat.TheVariants.{Rsa}
 use Rattle.rpki.specs.Provider.{Check, Verifies}
 use Rattle.rpki.specs.PublicKey.{KeyParts}
@@ -21,6 +19,8 @@ use Rattle.rpki_cert.specs.Known.{IsOtherwise}
 use Rattle.rpki_cert.specs.RuleError.{ChecksBy}
 use Rattle.rpki_cert.specs.ExtensionContent.{SpellsAuthority}
 use Rattle.rpki_cert.specs.ExtensionContent.{WholeFault, authority_content, subject_content}
+use Rattle.rpki_valid.specs.ErrorTexts.{unsigned_text, early_text, late_text, issuer_text, critical_text}
+use Rattle.rpki_valid.specs.ErrorTexts.{subject_text, authority_text}
 
 -- ---- the errors of verification
 
@@ -30,11 +30,11 @@ HasReason text (Decoding e) = ⊥
 HasReason text (Inspection e) = ⊥
 HasReason text (Verification e) = text_of (verification_content e) ≡ text
 
--- the error of a moment outside a period: that the period begins later, or that it ended before
+-- the error of a moment outside the period of a certificate: that the period begins later, or that it ended before
 abbrev pub IsPeriodError : Period → DateTime → ValidationError → Type 0
 IsPeriodError p at e =
-    ((civil_nanos at <ℤ civil_nanos p.not_before) × HasReason (period_text TooNew) e)
-    ⊎ ((civil_nanos at <ℤ civil_nanos p.not_before → ⊥) × HasReason (period_text TooOld) e)
+    ((civil_nanos at <ℤ civil_nanos p.not_before) × HasReason early_text e)
+    ⊎ ((civil_nanos at <ℤ civil_nanos p.not_before → ⊥) × HasReason late_text e)
 
 -- P doesn't hold, and the error is one of E; or it holds, and the error is one of F
 abbrev pub Unless : Type 0 → (ValidationError → Type 0) → (ValidationError → Type 0) → ValidationError → Type 0
@@ -62,25 +62,25 @@ pub record IsSigned (rsa ecdsa : Check) (sha1 : List ℕ → List ℕ) (name : L
   pub subject : HasExtension subject_key_identifier false SpellsKeyIdentifier x.tbs.extensions
       (Some (sha1 x.tbs.key.bits.octets))
 
--- the subject key identifier is this one; and the error of one that is another
+-- the subject key identifier is this one; and the error of one that is another, which has this text
 abbrev pub HasSubject : List ℕ → TbsParts → Type 0
 HasSubject identifier t =
     HasExtension subject_key_identifier false SpellsKeyIdentifier t.extensions (Some identifier)
 
-abbrev pub IsOtherSubject : TbsParts → ValidationError → Type 0
-IsOtherSubject t =
+abbrev pub IsOtherSubject : List ℕ → TbsParts → ValidationError → Type 0
+IsOtherSubject text t =
     IsOtherwise false SpellsKeyIdentifier (WholeFault subject_content) (find subject_key_identifier t.extensions)
-    (HasReason (codes "subject key identifier mismatch"))
+    (HasReason text)
 
 -- the error where one of them doesn't hold: of the first, in this order
 abbrev pub IsUnsigned : Check → Check → (List ℕ → List ℕ) → List ℕ → KeyParts → DateTime → CertParts
     → ValidationError → Type 0
 IsUnsigned rsa ecdsa sha1 name key at x =
-    Unless (IsSignedBy rsa ecdsa key x.signed) (HasReason verification_text)
+    Unless (IsSignedBy rsa ecdsa key x.signed) (HasReason unsigned_text)
     (Unless (HoldsAt x.tbs.validity at) (IsPeriodError x.tbs.validity at)
-    (Unless (x.tbs.issuer ≡ name) (HasReason (codes "issuer name mismatch"))
-    (Unless (IsTrue (are_understood x.tbs.extensions)) (HasReason (codes "unknown critical extension"))
-    (IsOtherSubject x.tbs))))
+    (Unless (x.tbs.issuer ≡ name) (HasReason issuer_text)
+    (Unless (IsTrue (are_understood x.tbs.extensions)) (HasReason critical_text)
+    (IsOtherSubject subject_text x.tbs))))
 
 -- the authority key identifier is there, and is this one (RFC 6487 4.8.3)
 abbrev pub HasAuthority : List ℕ → TbsParts → Type 0
@@ -97,7 +97,7 @@ pub record IsIssued (rsa ecdsa : Check) (sha1 : List ℕ → List ℕ) (issuer :
 abbrev pub IsOtherAuthority : TbsParts → ValidationError → Type 0
 IsOtherAuthority t =
     IsOtherwise false SpellsAuthority (WholeFault authority_content) (find authority_key_identifier t.extensions)
-    (HasReason (codes "authority key identifier mismatch"))
+    (HasReason authority_text)
 
 -- a check of what IsSigned says
 abbrev pub ChecksSigned : Check → Check → (List ℕ → List ℕ) → List ℕ → KeyParts → DateTime → CertParts

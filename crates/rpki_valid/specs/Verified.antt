@@ -1,6 +1,6 @@
 -- Certificates that are verified: each has its profile, a path of authorities leads from it to a trust anchor, and its
 -- resources are those of its issuer, or a part of them (RFC 5280 6.1, RFC 6487 7.2, RFC 8360 4.2).
-use Rattle.std.specs.Prelude.{◌≡◌, ◌+◌, ◌<◌, ◌≤◌, ℕ, Bool, List, Option, codes, Result, MatchResult}
+use Rattle.std.specs.Prelude.{◌≡◌, ◌+◌, ◌<◌, ◌≤◌, ℕ, Bool, List, Option, Result, MatchResult}
 use Rattle.jiff.specs.Types.{DateTime}
 use Rattle.rpki_time.specs.Validity.{Period, HoldsAt}
 use Rattle.rpki.specs.Provider.{Check}
@@ -14,11 +14,13 @@ use Rattle.rpki_cert.specs.Known.{UnlessNoMemory}
 use Rattle.rpki_cert.specs.Profile.{rules_of, HasProfile}
 use Rattle.rpki_cert.specs.RuleError.{IsFirstError}
 use Rattle.rpki_valid.specs.Valid.{HasReason, IsIssued, IsAnchor, IsPeriodError, Unless, IsUnissued, IsNoAnchor}
+use Rattle.rpki_objects.specs.declared.strictness.Strictness.{Strictness}
 use Rattle.rpki_objects.specs.Crl.{CrlParts}
 use Rattle.rpki_valid.specs.declared.staleness.Staleness.{Staleness}
 use Rattle.rpki_valid.specs.declared.terms.Terms.{Terms as GivenTerms}
-use Rattle.rpki_valid.specs.Revocation.{IsUnrevoked, IsUnrevokedBy, revoked_text}
+use Rattle.rpki_valid.specs.Revocation.{IsUnrevoked, IsUnrevokedBy}
 use Rattle.rpki_valid.specs.ResourceSet.{HasResources, HasOwnResources, IsOut, HasNoResources, AreWithin}
+use Rattle.rpki_valid.specs.ErrorTexts.{revoked_text, other_key_text, too_long_text}
 
 -- what a provider checks and digests with
 pub record Checkers : Type 1 where
@@ -49,23 +51,23 @@ pub record IsLink (profile : Profile) (strict : Bool) (asked : Option Staleness)
   pub unrevoked : IsUnrevokedBy by.rsa by.ecdsa by.sha1 asked issuer.cert.tbs at x.cert
   pub resources : HasResources x.cert.tbs.extensions issuer.resources x.resources
 
--- what all certificates of a path are held to: the key of its trust anchor, which a locator names (RFC 8630 2); whether
--- names are looked at; and how many authorities there are at most below the trust anchor
+-- what all certificates of a path are held to: the key of its trust anchor, which a locator names (RFC 8630 2); which
+-- rules are asked strictly, that of names among them; and how many authorities there are at most below the trust anchor
 pub record Terms : Type 0 where
   pub key : KeyParts
-  pub strict : Bool
+  pub strictness : Strictness
   pub deepest : ℕ
 
-abbrev pub terms_of : KeyParts → Bool → ℕ → Terms
-terms_of key strict deepest = record { key = key; strict = strict; deepest = deepest }
+abbrev pub terms_of : KeyParts → Strictness → ℕ → Terms
+terms_of key strictness deepest = record { key = key; strictness = strictness; deepest = deepest }
 
 abbrev pub terms_in : GivenTerms → Terms
-terms_in x = terms_of x.key.now x.strict x.deepest
+terms_in x = terms_of x.key.now x.strictness x.deepest
 
 -- a trust anchor of its profile, which its own key has signed, the key of the locator (RFC 8630 3), valid at the
 -- moment, with resources of its own
 pub record IsRoot (terms : Terms) (by : Checkers) (at : DateTime) (x : Holder) : Type 0 where
-  pub profiled : HasProfile Ta terms.strict x.cert.tbs
+  pub profiled : HasProfile Ta terms.strictness.names x.cert.tbs
   pub anchor : IsAnchor by.rsa by.ecdsa by.sha1 at x.cert
   pub key : x.cert.tbs.key ≡ terms.key
   pub resources : HasOwnResources x.cert.tbs.extensions x.resources
@@ -78,7 +80,7 @@ pub data IsAuthorityAt (terms : Terms) (asked : Option Staleness) (by : Checkers
     → Type 0 where
   Root : (x : Holder) → IsRoot terms by at x → IsAuthorityAt terms asked by at 0 x
   Issued : (n m : ℕ) (issuer x : Holder) → IsAuthorityAt terms asked by at n issuer → m ≡ n + 1 → m ≤ terms.deepest
-      → IsLink Ca terms.strict asked by at issuer x → IsAuthorityAt terms asked by at m x
+      → IsLink Ca terms.strictness.names asked by at issuer x → IsAuthorityAt terms asked by at m x
 
 -- an authority that was verified: its certificate, its resources, the period in which all certificates of its path are
 -- valid, what they are held to, the steps up to the trust anchor, what was asked of lists, and what their signatures
@@ -142,7 +144,7 @@ pub record IsOnPath (list : Option CrlParts) (issuer : Verified) (at : DateTime)
 -- the same of a certificate of this profile
 pub record IsVerifiedBy (profile : Profile) (list : Option CrlParts) (issuer : Verified) (at : DateTime)
     (x : CertParts) (held : ResourceSet) : Type 0 where
-  pub profiled : HasProfile profile issuer.terms.strict x.tbs
+  pub profiled : HasProfile profile issuer.terms.strictness.names x.tbs
   pub path : IsOnPath list issuer at x held
 
 -- a path of authorities, on each step of which so much is asked of lists, leads from a certificate of this profile,
@@ -152,7 +154,7 @@ pub record HasPath (profile : Profile) (terms : Terms) (above asked : Option Sta
   pub depth : ℕ
   pub issuer : Holder
   pub authority : IsAuthorityAt terms above by at depth issuer
-  pub link : IsLink profile terms.strict asked by at issuer x
+  pub link : IsLink profile terms.strictness.names asked by at issuer x
 
 -- an authority below another, or the other itself: each certificate between them is issued by the one above
 pub data DescendsFrom (strict : Bool) (asked : Option Staleness) (by : Checkers) (at : DateTime) (top : Holder) : Holder
@@ -186,15 +188,13 @@ IsOffPath list issuer at x =
 -- that of the first rule of the profile that is broken; else that of the path
 abbrev pub IsUnverified : Profile → Option CrlParts → Verified → DateTime → CertParts → ValidationError → Type 0
 IsUnverified profile list issuer at x =
-    Unless (HasProfile profile issuer.terms.strict x.tbs) (IsFirstError issuer.terms.strict x.tbs (rules_of profile))
+    Unless (HasProfile profile issuer.terms.strictness.names x.tbs)
+    (IsFirstError issuer.terms.strictness.names x.tbs (rules_of profile))
     (IsOffPath list issuer at x)
-
-abbrev pub other_key_text : List ℕ
-other_key_text = codes "RFC 8630 3: key is not that of the locator"
 
 abbrev pub IsNoRoot : Terms → Checkers → DateTime → CertParts → ValidationError → Type 0
 IsNoRoot terms by at x =
-    Unless (HasProfile Ta terms.strict x.tbs) (IsFirstError terms.strict x.tbs (rules_of Ta))
+    Unless (HasProfile Ta terms.strictness.names x.tbs) (IsFirstError terms.strictness.names x.tbs (rules_of Ta))
     (Unless (IsAnchor by.rsa by.ecdsa by.sha1 at x) (IsNoAnchor by.rsa by.ecdsa by.sha1 at x)
     (Unless (x.tbs.key ≡ terms.key) (HasReason other_key_text) IsOut))
 
@@ -220,7 +220,7 @@ IsRefusedLink profile list issuer at x =
 -- the issuer is as deep as its path may be; or the certificate is no authority below it
 abbrev pub IsRefusedAuthority : Option CrlParts → Verified → DateTime → CertParts → ValidationError → Type 0
 IsRefusedAuthority list issuer at x =
-    Unless (issuer.depth < issuer.terms.deepest) (HasReason (codes "path is too long"))
+    Unless (issuer.depth < issuer.terms.deepest) (HasReason too_long_text)
     (IsRefusedLink Ca list issuer at x)
 
 abbrev pub IsRefusedRoot : Terms → Checkers → DateTime → CertParts → ValidationError → Type 0

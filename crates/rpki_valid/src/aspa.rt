@@ -1,7 +1,7 @@
 //! Whether attestations of the providers of an autonomous system are valid at a moment
 //! (draft-ietf-sidrops-aspa-profile 4).
 
-ghost use Rattle.std.specs.Prelude.{◌≡◌, IfOk, codes};
+ghost use Rattle.std.specs.Prelude.{◌≡◌, IfOk};
 ghost use Rattle.rpki_cert.specs.declared.profile.Profile.TheVariants.{Ee};
 ghost use Rattle.rpki_cert.specs.RuleError.{ChecksBy};
 ghost use Rattle.rpki_resources.specs.Blocks.{IsAmong};
@@ -10,6 +10,7 @@ ghost use Rattle.rpki_valid.specs.Valid.{HasReason};
 ghost use Rattle.rpki_valid.specs.CrlIssued.{HasListedPath};
 ghost use Rattle.rpki_valid.specs.Processed.{ChecksRules, KeepsAspaRules, BreaksAspaRules, ProcessesAspa};
 ghost use Rattle.rpki_valid.specs.Processed.{ChecksOwnRules, KeepsOwnAspaRules, IsOwnAspaError};
+ghost use Rattle.rpki_valid.specs.ErrorTexts.{customer_outside_text};
 
 use crate::current_crl::CurrentCrl;
 use crate::object_resources::{verify_no_addresses, verify_numbers, verify_own_numbers};
@@ -24,12 +25,12 @@ use std::alloc::Global;
 /// The rule that the customer is one of the numbers (draft-ietf-sidrops-aspa-profile 4).
 fn verify_within(aspa: &Aspa, held: &ResourceSet) -> Result<(), ValidationError>
     ensures { ChecksBy (IsAmong aspa.now.content.customer held.now.asn)
-        (HasReason (codes "customer outside of the resources")) result }
+        (HasReason customer_outside_text) result }
 {
     if aspa.content().is_within(&held.asn) {
         return Ok(());
     }
-    Err(unverified("customer outside of the resources"))
+    Err(unverified("draft-ietf-sidrops-aspa-profile 4: customer outside of the resources"))
 }
 
 /// The rules of attestations of providers, in their order.
@@ -49,8 +50,9 @@ fn verify_rules(aspa: &Aspa, held: &ResourceSet) -> Result<(), ValidationError>
 /// customer (draft-ietf-sidrops-aspa-profile 4). Whether the object is signed, and its certificate is valid, is not
 /// looked at: see [verify_object_signature](crate::verify_object_signature) and [CurrentCrl::process_aspa].
 ///
-/// The error is `Verification` of the first rule that is broken: `no AS numbers`; `inherited AS numbers`;
-/// `addresses beside AS numbers`; `customer outside of the resources`; or `OutOfMemory` if allocation fails.
+/// The error is `Verification` of the first rule that is broken, behind `draft-ietf-sidrops-aspa-profile 4: `: `no AS
+/// numbers`; `inherited AS numbers`; `addresses beside AS numbers`; `customer outside of the resources`; or
+/// `OutOfMemory` if allocation fails.
 pub fn verify_own_aspa(aspa: &Aspa, alloc: Global) -> Result<(), ValidationError>
     ensures { ChecksOwnRules (KeepsOwnAspaRules aspa.now) (IsOwnAspaError aspa.now) result }
 {
@@ -68,8 +70,8 @@ impl<'a, 'p, P: Provider> CurrentCrl<'a, 'p, P> {
     /// has the number of the customer (draft-ietf-sidrops-aspa-profile 4). Returns the resources that the path gives
     /// the certificate.
     ///
-    /// The errors are those of [CurrentCrl::verify_object]; then `Verification` of the first rule that is broken: `no
-    /// AS numbers`; `inherited AS numbers`; `addresses beside AS numbers`; `customer outside of the resources`.
+    /// The errors are those of [CurrentCrl::verify_object]; then that of the first rule that is broken, as of
+    /// [verify_own_aspa].
     pub fn process_aspa(&self, alloc: Global, aspa: &Aspa) -> Result<ResourceSet, ValidationError>
         ensures exactly { ProcessesAspa P.rsa_of P.ecdsa_of P.sha1_of P.sha256_of self.now aspa.now result }
         ensures path { IfOk result (λ v. HasListedPath P.rsa_of P.ecdsa_of P.sha1_of Ee self.now aspa.now.object.cert

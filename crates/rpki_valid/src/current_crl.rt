@@ -1,6 +1,6 @@
 //! Revocation lists that count, and what an authority issues that they don't have (RFC 5280 6.3.3, RFC 6487 7.2).
 
-ghost use Rattle.std.specs.Prelude.{◌≡◌, ◌↔◌, ◌+◌, Option, Some, IfOk, IfErr, codes};
+ghost use Rattle.std.specs.Prelude.{◌≡◌, ◌↔◌, ◌+◌, Option, Some, IfOk, IfErr};
 ghost use Rattle.jiff.specs.Types.{DateTime as Civil};
 ghost use Rattle.rpki_time.specs.Validity.{HoldsAt};
 ghost use Rattle.rpki_cert.specs.RuleError.{ChecksBy};
@@ -11,6 +11,8 @@ ghost use Rattle.rpki_valid.specs.ResourceSet.{AreWithin};
 ghost use Rattle.rpki_valid.specs.Revocation.{IsOutAt, IsFreshAt, least_asked};
 ghost use Rattle.rpki_valid.specs.Valid.{HasReason};
 ghost use Rattle.rpki_valid.specs.Verified.{verified_by, IsVerified, IsVerifiedBy, ChecksLink, IsRefusedAuthority};
+ghost use Rattle.rpki_valid.specs.ErrorTexts.{list_issuer_text, list_authority_text, later_list_text};
+ghost use Rattle.rpki_valid.specs.ErrorTexts.{stale_list_text};
 
 use crate::resource::set::ResourceSet;
 use crate::staleness::Staleness;
@@ -49,38 +51,38 @@ impl<'a, 'p, P: Provider> Model for CurrentCrl<'a, 'p, P> {
 
 /// Whether the issuer has this name.
 fn verify_issuer(list: &Crl, issuer: &NameOctets) -> Result<(), ValidationError>
-    ensures { ChecksBy (list.now.list.issuer ≡ issuer.now) (HasReason (codes "issuer name mismatch")) result }
+    ensures { ChecksBy (list.now.list.issuer ≡ issuer.now) (HasReason list_issuer_text) result }
 {
     if *list.issuer() == *issuer {
         return Ok(());
     }
-    Err(unverified("issuer name mismatch"))
+    Err(unverified("RFC 5280 6.3.3: issuer name mismatch"))
 }
 
 /// Whether the identifier of the issuer's key is this one.
 fn verify_authority(list: &Crl, wanted: KeyIdentifier) -> Result<(), ValidationError>
     ensures { ChecksBy (list.now.list.extensions.authority ≡ wanted)
-        (HasReason (codes "authority key identifier mismatch")) result }
+        (HasReason list_authority_text) result }
 {
     if list.authority_key_identifier() == wanted {
         return Ok(());
     }
-    Err(unverified("authority key identifier mismatch"))
+    Err(unverified("RFC 5280 6.3.3: authority key identifier mismatch"))
 }
 
 /// Whether the list was issued by the moment.
 fn verify_out(list: &Crl, at: Time) -> Result<(), ValidationError>
-    ensures { ChecksBy (IsOutAt at list.now) (HasReason (codes "issued later")) result }
+    ensures { ChecksBy (IsOutAt at list.now) (HasReason later_list_text) result }
 {
     if list.this_update() <= at {
         return Ok(());
     }
-    Err(unverified("issued later"))
+    Err(unverified("RFC 5280 6.3.3: issued later"))
 }
 
 /// Whether the next list was not due before the moment, where that is asked.
 fn verify_fresh(list: &Crl, staleness: Staleness, at: Time) -> Result<(), ValidationError>
-    ensures { ChecksBy (IsFreshAt staleness at list.now) (HasReason (codes "RFC 5280 6.3.3: stale list")) result }
+    ensures { ChecksBy (IsFreshAt staleness at list.now) (HasReason stale_list_text) result }
 {
     match staleness {
         Staleness::Refused => {
@@ -121,6 +123,7 @@ impl<'p, P: Provider> ResourceCert<'p, P> {
             signed.signature(),
             self.provider(),
             key,
+            "RFC 5280 6.3.3: bad signature",
         )?;
         verify_issuer(list, authority.subject())?;
         verify_authority(list, self.key_identifier())?;
@@ -133,8 +136,9 @@ impl<'p, P: Provider> ResourceCert<'p, P> {
     /// RFC 6487 5), the list was issued by the moment, and the next one was not due before it, unless a stale list is
     /// accepted. Allocates nothing.
     ///
-    /// The error is `Verification` of the first that doesn't hold: the period; `signature verification failed`; `issuer
-    /// name mismatch`; `authority key identifier mismatch`; `issued later`; `RFC 5280 6.3.3: stale list`.
+    /// The error is `Verification` of the first that doesn't hold: the period, as of [verify_period]; then, behind `RFC
+    /// 5280 6.3.3: `, `bad signature`; `issuer name mismatch`; `authority key identifier mismatch`; `issued later`;
+    /// `stale list`.
     pub fn crl<'a>(
         &'a self,
         list: &'a Crl,
@@ -160,7 +164,10 @@ impl<'p, P: Provider> ResourceCert<'p, P> {
 impl<'a, 'p, P: Provider> CurrentCrl<'a, 'p, P> {
     /// The authority.
     pub fn issuer(&self) -> &'a ResourceCert<'p, P>
-        ensures { result.now ≡ self.now.issuer }
+        ensures value { result.now ≡ self.now.issuer }
+        // It has issued the list, which counts at the moment.
+        ensures issued { IsIssuedBy self.now.staleness (verified_by P.rsa_of P.ecdsa_of P.sha1_of self.now.issuer)
+            self.now.at self.now.list }
     {
         self.issuer
     }
@@ -223,8 +230,8 @@ impl<'a, 'p, P: Provider> CurrentCrl<'a, 'p, P> {
         ensures within { IfOk result (λ v. AreWithin v self.now.issuer.resources) }
         ensures verified { IfOk result (λ _. IsVerified
             (verified_by P.rsa_of P.ecdsa_of P.sha1_of self.now.issuer)) }
-        ensures issued { IfOk result (λ _. IsIssuedBy self.now.staleness
-            (verified_by P.rsa_of P.ecdsa_of P.sha1_of self.now.issuer) self.now.at self.now.list) }
+        ensures issued { IsIssuedBy self.now.staleness (verified_by P.rsa_of P.ecdsa_of P.sha1_of self.now.issuer)
+            self.now.at self.now.list }
     {
         let list = self.list();
         self.issuer()
@@ -242,7 +249,7 @@ impl<'a, 'p, P: Provider> CurrentCrl<'a, 'p, P> {
     /// The errors are `Verification` with the text `path is too long`; then those of
     /// [TbsCert::inspect_ca](rpki_cert::TbsCert::inspect_ca); then those of
     /// [verify_issued](crate::verify_issued); then `Verification` with the text `RFC 6487 7.2: revoked certificate`, or
-    /// `resources that the issuer does not have`; else `OutOfMemory` if allocation fails.
+    /// `RFC 6487 7.2: resources that the issuer does not have`; else `OutOfMemory` if allocation fails.
     pub fn verify_ca(
         &self,
         alloc: Global,
@@ -261,6 +268,9 @@ impl<'a, 'p, P: Provider> CurrentCrl<'a, 'p, P> {
         ensures provider { IfOk result (λ v. v.provider ≡ self.now.issuer.provider) }
         ensures err { IfErr result (λ e. IsRefusedAuthority (Some self.now.list)
             (verified_by P.rsa_of P.ecdsa_of P.sha1_of self.now.issuer) self.now.at cert e) }
+        // The authority has issued the list, and it counts at the moment.
+        ensures issued { IsIssuedBy self.now.staleness (verified_by P.rsa_of P.ecdsa_of P.sha1_of self.now.issuer)
+            self.now.at self.now.list }
     {
         let depth = self.issuer().next_depth()?;
         let resources = self.verify_link(alloc, &cert, Profile::Ca)?;
@@ -315,6 +325,9 @@ impl<'a, 'p, P: Provider> CurrentCrl<'a, 'p, P> {
             (verified_by P.rsa_of P.ecdsa_of P.sha1_of self.now.issuer) self.now.at cert.now result }
         ensures path { IfOk result (λ v. HasListedPath P.rsa_of P.ecdsa_of P.sha1_of Router self.now cert.now v) }
         ensures within { IfOk result (λ v. AreWithin v self.now.issuer.resources) }
+        // The authority has issued the list, and it counts at the moment.
+        ensures issued { IsIssuedBy self.now.staleness (verified_by P.rsa_of P.ecdsa_of P.sha1_of self.now.issuer)
+            self.now.at self.now.list }
     {
         self.verify_link(alloc, cert, Profile::Router)
     }

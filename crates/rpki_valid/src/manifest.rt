@@ -1,6 +1,6 @@
 //! Whether manifests hold at a moment (RFC 9286 5.1, 6.3).
 
-ghost use Rattle.std.specs.Prelude.{◌≡◌, ◌↔◌, ◌<ℤ◌, IfOk, IsTrue, IsOk, IsErrOf, codes};
+ghost use Rattle.std.specs.Prelude.{◌≡◌, ◌↔◌, ◌<ℤ◌, IfOk, IsTrue, IsOk, IsErrOf};
 ghost use Rattle.jiff.specs.Words.{civil_nanos};
 ghost use Rattle.rpki_time.specs.Validity.{HoldsAt};
 ghost use Rattle.rpki_cert.specs.declared.profile.Profile.TheVariants.{Ee};
@@ -12,6 +12,7 @@ ghost use Rattle.rpki_valid.specs.Processed.{KeepsManifestRules, BreaksManifestR
 ghost use Rattle.rpki_valid.specs.ResourceSet.{AreWithin};
 ghost use Rattle.rpki_valid.specs.Valid.{HasReason};
 ghost use Rattle.rpki_valid.specs.CrlIssued.{HasListedPath};
+ghost use Rattle.rpki_valid.specs.ErrorTexts.{not_inherited_text, later_manifest_text, stale_manifest_text};
 
 use crate::current_crl::CurrentCrl;
 use crate::object_resources::verify_inherited;
@@ -45,32 +46,32 @@ pub fn verify_time(content: &ManifestContent, at: Time) -> Result<(), ValidityPe
 
 /// The rule that the manifest was issued by the moment (RFC 9286 6.3).
 fn verify_out(manifest: &Manifest, at: Time) -> Result<(), ValidationError>
-    ensures { ChecksBy (IsManifestOut at manifest.now.content) (HasReason (codes "manifest issued later")) result }
+    ensures { ChecksBy (IsManifestOut at manifest.now.content) (HasReason later_manifest_text) result }
 {
     if manifest.content().this_update() <= at {
         return Ok(());
     }
-    Err(unverified("manifest issued later"))
+    Err(unverified("RFC 9286 6.3: manifest issued later"))
 }
 
 /// The rule that the next manifest is not due before the moment (RFC 9286 6.3).
 fn verify_current(manifest: &Manifest, at: Time) -> Result<(), ValidationError>
-    ensures { ChecksBy (IsManifestCurrent at manifest.now.content) (HasReason (codes "stale manifest")) result }
+    ensures { ChecksBy (IsManifestCurrent at manifest.now.content) (HasReason stale_manifest_text) result }
 {
     if at <= manifest.content().next_update() {
         return Ok(());
     }
-    Err(unverified("stale manifest"))
+    Err(unverified("RFC 9286 6.3: stale manifest"))
 }
 
 /// Tests the rule of manifests that needs neither issuer nor moment: all resources that the certificate names are
 /// its issuer's (RFC 9286 5.1). Whether the object is signed, and its certificate is valid, is not looked at: see
 /// [verify_object_signature](crate::verify_object_signature) and [CurrentCrl::process_manifest].
 ///
-/// The error is `Verification` with the text `resources that are not inherited`.
+/// The error is `Verification` with the text `RFC 9286 5.1: resources that are not inherited`.
 pub fn verify_own_manifest(manifest: &Manifest) -> Result<(), ValidationError>
     ensures { ChecksBy (AreInherited manifest.now.object.cert.tbs.extensions)
-        (HasReason (codes "resources that are not inherited")) result }
+        (HasReason not_inherited_text) result }
 {
     verify_inherited(manifest.object().cert().tbs())
 }
@@ -90,8 +91,9 @@ impl<'a, 'p, P: Provider> CurrentCrl<'a, 'p, P> {
     /// says; all resources that its certificate names are its issuer's (RFC 9286 5.1); and the moment is not before
     /// this update nor after the next (RFC 9286 6.3). Returns the resources that the path gives the certificate.
     ///
-    /// The errors are those of [CurrentCrl::verify_object]; then `Verification` of the first rule that is broken:
-    /// `resources that are not inherited`; `manifest issued later`; `stale manifest`.
+    /// The errors are those of [CurrentCrl::verify_object]; then `Verification` of the first rule that is broken: `RFC
+    /// 9286 5.1: resources that are not inherited`; `RFC 9286 6.3: manifest issued later`; `RFC 9286 6.3: stale
+    /// manifest`.
     pub fn process_manifest(
         &self,
         alloc: Global,

@@ -1,6 +1,6 @@
 //! Rules on what the certificate of a signed object says of resources (RFC 9286 5.1, RFC 9582 5).
 
-ghost use Rattle.std.specs.Prelude.{◌≡◌, ◌↔◌, IsTrue, codes};
+ghost use Rattle.std.specs.Prelude.{◌≡◌, ◌↔◌, IsTrue};
 ghost use Rattle.rpki_resources.specs.Extension.{SpellsIpResources, SpellsAsResources};
 ghost use Rattle.rpki_cert.specs.ResourceExtensions.{addresses_of, numbers_of, is_own, are_own_addresses};
 ghost use Rattle.rpki_cert.specs.ResourceExtensions.{are_own_numbers, SaysThat};
@@ -9,6 +9,9 @@ ghost use Rattle.rpki_valid.specs.Valid.{HasReason};
 ghost use Rattle.rpki_valid.specs.ObjectResources.{is_unlisted, are_unlisted_addresses, are_unlisted_numbers};
 ghost use Rattle.rpki_valid.specs.ObjectResources.{AreInherited, HasAddresses, HasNumbers, HasNoAddresses};
 ghost use Rattle.rpki_valid.specs.ObjectResources.{HasNoNumbers, AreOwnAddresses, AreOwnNumbers};
+ghost use Rattle.rpki_valid.specs.ErrorTexts.{not_inherited_text, no_addresses_text, inherited_addresses_text};
+ghost use Rattle.rpki_valid.specs.ErrorTexts.{numbers_beside_text, no_numbers_text, inherited_numbers_text};
+ghost use Rattle.rpki_valid.specs.ErrorTexts.{addresses_beside_text};
 
 use crate::verify::unverified;
 use rpki::repository::error::ValidationError;
@@ -144,71 +147,71 @@ fn has_own_numbers(cert: &TbsCert) -> bool
 
 /// The rule that all resources that the certificate names are those of its issuer (RFC 9286 5.1).
 pub(crate) fn verify_inherited(cert: &TbsCert) -> Result<(), ValidationError>
-    ensures { ChecksBy (AreInherited cert.now.extensions) (HasReason (codes "resources that are not inherited"))
+    ensures { ChecksBy (AreInherited cert.now.extensions) (HasReason not_inherited_text)
         result }
 {
     if are_inherited(cert) {
         return Ok(());
     }
-    Err(unverified("resources that are not inherited"))
+    Err(unverified("RFC 9286 5.1: resources that are not inherited"))
 }
 
 /// The rule that the certificate names addresses (RFC 9582 5).
 pub(crate) fn verify_addresses(cert: &TbsCert) -> Result<(), ValidationError>
-    ensures { ChecksBy (HasAddresses cert.now.extensions) (HasReason (codes "no addresses")) result }
+    ensures { ChecksBy (HasAddresses cert.now.extensions) (HasReason no_addresses_text) result }
 {
     if has_addresses(cert) {
         return Ok(());
     }
-    Err(unverified("no addresses"))
+    Err(unverified("RFC 9582 5: no addresses"))
 }
 
 /// The rule that the addresses are not those of the issuer (RFC 9582 5).
 pub(crate) fn verify_own_addresses(cert: &TbsCert) -> Result<(), ValidationError>
-    ensures { ChecksBy (AreOwnAddresses cert.now.extensions) (HasReason (codes "inherited addresses")) result }
+    ensures { ChecksBy (AreOwnAddresses cert.now.extensions) (HasReason inherited_addresses_text) result }
 {
     if has_own_addresses(cert) {
         return Ok(());
     }
-    Err(unverified("inherited addresses"))
+    Err(unverified("RFC 9582 5: inherited addresses"))
 }
 
 /// The rule that the certificate names no numbers of autonomous systems (RFC 9582 5).
 pub(crate) fn verify_no_numbers(cert: &TbsCert) -> Result<(), ValidationError>
-    ensures { ChecksBy (HasNoNumbers cert.now.extensions) (HasReason (codes "AS numbers beside prefixes")) result }
+    ensures { ChecksBy (HasNoNumbers cert.now.extensions) (HasReason numbers_beside_text) result }
 {
     if has_numbers(cert) {
-        return Err(unverified("AS numbers beside prefixes"));
+        return Err(unverified("RFC 9582 5: AS numbers beside prefixes"));
     }
     Ok(())
 }
 
 /// The rule that the certificate names numbers of autonomous systems (draft-ietf-sidrops-aspa-profile 4).
 pub(crate) fn verify_numbers(cert: &TbsCert) -> Result<(), ValidationError>
-    ensures { ChecksBy (HasNumbers cert.now.extensions) (HasReason (codes "no AS numbers")) result }
+    ensures { ChecksBy (HasNumbers cert.now.extensions) (HasReason no_numbers_text) result }
 {
     if has_numbers(cert) {
         return Ok(());
     }
-    Err(unverified("no AS numbers"))
+    Err(unverified("draft-ietf-sidrops-aspa-profile 4: no AS numbers"))
 }
 
 /// The rule that the numbers are not those of the issuer (draft-ietf-sidrops-aspa-profile 4).
 pub(crate) fn verify_own_numbers(cert: &TbsCert) -> Result<(), ValidationError>
-    ensures { ChecksBy (AreOwnNumbers cert.now.extensions) (HasReason (codes "inherited AS numbers")) result }
+    ensures { ChecksBy (AreOwnNumbers cert.now.extensions) (HasReason inherited_numbers_text) result }
 {
     if has_own_numbers(cert) {
         return Ok(());
     }
-    Err(unverified("inherited AS numbers"))
+    Err(unverified("draft-ietf-sidrops-aspa-profile 4: inherited AS numbers"))
 }
 
 /// The rule that the certificate names no addresses (draft-ietf-sidrops-aspa-profile 4).
 pub(crate) fn verify_no_addresses(cert: &TbsCert) -> Result<(), ValidationError>
-    ensures { ChecksBy (HasNoAddresses cert.now.extensions) (HasReason (codes "addresses beside AS numbers")) result }
+    ensures { ChecksBy (HasNoAddresses cert.now.extensions) (HasReason addresses_beside_text) result }
 {
     if has_addresses(cert) {
-        return Err(unverified("addresses beside AS numbers"));
+        return Err(unverified("draft-ietf-sidrops-aspa-profile 4: addresses beside AS numbers"));
     }
     Ok(())
 }

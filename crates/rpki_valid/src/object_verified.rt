@@ -1,7 +1,6 @@
 //! Whether signed objects are valid at a moment (RFC 6488 3).
 
-ghost use Rattle.std.specs.Prelude.{◌≡◌, None, IfOk, codes};
-ghost use Rattle.rpki.specs.ErrorTexts.{verification_text};
+ghost use Rattle.std.specs.Prelude.{◌≡◌, None, IfOk};
 ghost use Rattle.rpki_cert.specs.declared.profile.Profile.TheVariants.{Ee};
 ghost use Rattle.rpki_valid.specs.ResourceSet.{AreWithin};
 ghost use Rattle.rpki_cert.specs.RuleError.{ChecksBy};
@@ -10,6 +9,7 @@ ghost use Rattle.rpki_valid.specs.Verified.{checkers_by, verified_by, holder, Ha
 ghost use Rattle.rpki_valid.specs.ObjectVerified.{HasSignedType, HasSignedDigest, IsSignedByKey, ChecksSigned};
 ghost use Rattle.rpki_valid.specs.CrlIssued.{HasListedPath};
 ghost use Rattle.rpki_valid.specs.ObjectVerified.{ChecksObject, ChecksListedObject};
+ghost use Rattle.rpki_valid.specs.ErrorTexts.{content_type_text, digest_text, signer_text, unsigned_object_text};
 
 use crate::current_crl::CurrentCrl;
 use crate::resource::set::ResourceSet;
@@ -25,36 +25,36 @@ use std::alloc::Global;
 
 /// Whether the content has the type that is signed.
 fn verify_content_type(object: &SignedObject) -> Result<(), ValidationError>
-    ensures { ChecksBy (HasSignedType object.now) (HasReason (codes "content type mismatch")) result }
+    ensures { ChecksBy (HasSignedType object.now) (HasReason content_type_text) result }
 {
     if object.signed_content_type().0 == object.content_type().0 {
         return Ok(());
     }
-    Err(unverified("content type mismatch"))
+    Err(unverified("RFC 6488 3: content type mismatch"))
 }
 
 /// Whether the content has the digest that is signed.
 fn verify_digest<P: Provider>(object: &SignedObject, provider: &P) -> Result<(), ValidationError>
     ensures { ChecksBy (HasSignedDigest (P.sha256_of provider.now) object.now)
-        (HasReason (codes "message digest mismatch")) result }
+        (HasReason digest_text) result }
 {
     if object.message_digest() == MessageDigest::of(provider, object.content().as_slice()) {
         return Ok(());
     }
-    Err(unverified("message digest mismatch"))
+    Err(unverified("RFC 6488 3: message digest mismatch"))
 }
 
 /// Whether the signer's identifier is the certificate's subject key identifier.
 fn verify_signer(object: &SignedObject) -> Result<(), ValidationError>
     ensures { ChecksBy (HasSubject object.now.signer.identifier object.now.cert.tbs)
-        (IsOtherSubject object.now.cert.tbs) result }
+        (IsOtherSubject signer_text object.now.cert.tbs) result }
 {
     match object.cert().tbs().subject_key_identifier() {
         Ok(found) => {
             if is_identifier(found, object.signer_identifier()) {
                 return Ok(());
             }
-            Err(unverified("subject key identifier mismatch"))
+            Err(unverified("RFC 6488 3: subject key identifier mismatch"))
         }
         Err(e) => Err(e),
     }
@@ -66,12 +66,12 @@ fn verify_attributes<P: Provider>(
     provider: &P,
 ) -> Result<(), ValidationError>
     ensures { ChecksBy (IsSignedByKey (P.rsa_of provider.now) (P.ecdsa_of provider.now) object.now)
-        (HasReason verification_text) result }
+        (HasReason unsigned_object_text) result }
 {
     let key = object.cert().tbs().subject_public_key_info();
     match key.verify(provider, object.message().as_slice(), object.signature()) {
         Ok(()) => Ok(()),
-        Err(_) => Err(unverified("signature verification failed")),
+        Err(_) => Err(unverified("RFC 6488 3: bad signature")),
     }
 }
 
@@ -80,8 +80,9 @@ fn verify_attributes<P: Provider>(
 /// the certificate's key, of RSA, as the provider says (RFC 6488 3, RFC 5652 5.4, 5.6). Whose certificate it is,
 /// isn't looked at: see [CurrentCrl::verify_object]. Allocates nothing.
 ///
-/// The error is `Verification` of the first that doesn't hold: `content type mismatch`; `message digest mismatch`;
-/// then that of the subject key identifier, or `subject key identifier mismatch`; `signature verification failed`.
+/// The error is `Verification` of the first that doesn't hold, behind `RFC 6488 3: `: `content type mismatch`; `message
+/// digest mismatch`; then that of a malformed subject key identifier, or `subject key identifier mismatch`; `bad
+/// signature`.
 pub fn verify_object_signature<P: Provider>(
     object: &SignedObject,
     provider: &P,

@@ -27,7 +27,7 @@ fn verify_within(roa: &Roa, alloc: Global, held: &ResourceSet) -> Result<(), Val
 {
     match roa.content().is_within(alloc, &held.ipv4, &held.ipv6) {
         Ok(true) => Ok(()),
-        Ok(false) => Err(unverified("prefix outside of the resources")),
+        Ok(false) => Err(unverified("RFC 9582 5: prefix outside of the resources")),
         Err(_) => Err(ValidationError::Decoding(DecodeError::OutOfMemory)),
     }
 }
@@ -49,8 +49,8 @@ fn verify_rules(roa: &Roa, alloc: Global, held: &ResourceSet) -> Result<(), Vali
 /// each prefix (RFC 9582 5). Whether the object is signed, and its certificate is valid, is not looked at: see
 /// [verify_object_signature](crate::verify_object_signature) and [CurrentCrl::process_roa].
 ///
-/// The error is `Verification` of the first rule that is broken: `no addresses`; `inherited addresses`; `AS numbers
-/// beside prefixes`; `prefix outside of the resources`; or `OutOfMemory` if allocation fails.
+/// The error is `Verification` of the first rule that is broken, behind `RFC 9582 5: `: `no addresses`; `inherited
+/// addresses`; `AS numbers beside prefixes`; `prefix outside of the resources`; or `OutOfMemory` if allocation fails.
 pub fn verify_own_roa(roa: &Roa, alloc: Global) -> Result<(), ValidationError>
     ensures { ChecksOwnRules (KeepsOwnOriginRules roa.now) (IsOwnOriginError roa.now) result }
 {
@@ -67,9 +67,7 @@ impl<'a, 'p, P: Provider> CurrentCrl<'a, 'p, P> {
     /// says; and its certificate names addresses, which are not its issuer's, and no numbers of autonomous systems, and
     /// has the addresses of each prefix (RFC 9582 5). Returns the resources that the path gives the certificate.
     ///
-    /// The errors are those of [CurrentCrl::verify_object]; then `Verification` of the first rule that is broken: `no
-    /// addresses`; `inherited addresses`; `AS numbers beside prefixes`; `prefix outside of the resources`, or
-    /// `OutOfMemory` if allocation fails.
+    /// The errors are those of [CurrentCrl::verify_object]; then those of [verify_own_roa].
     pub fn process_roa(&self, alloc: Global, roa: &Roa) -> Result<ResourceSet, ValidationError>
         ensures exactly { ProcessesOrigin P.rsa_of P.ecdsa_of P.sha1_of P.sha256_of self.now roa.now result }
         ensures path { IfOk result (λ v. HasListedPath P.rsa_of P.ecdsa_of P.sha1_of Ee self.now roa.now.object.cert

@@ -1,6 +1,6 @@
 //! Certificates that are verified up to a trust anchor, and their resources (RFC 5280 6.1, RFC 6487 7.2, RFC 8360 4.2).
 
-ghost use Rattle.std.specs.Prelude.{◌≡◌, ◌↔◌, ◌+◌, ◌<◌, ◌≤◌, true, None, Some, IfOk, IfErr, codes};
+ghost use Rattle.std.specs.Prelude.{◌≡◌, ◌↔◌, ◌+◌, ◌<◌, ◌≤◌, true, None, Some, IfOk, IfErr};
 ghost use Rattle.std.specs.Option.{option_copied};
 ghost use Rattle.jiff.specs.Types.{DateTime as Civil};
 ghost use Rattle.rpki_time.specs.Validity.{HoldsAt};
@@ -11,11 +11,12 @@ ghost use Rattle.rpki_cert.specs.RuleWords.{HasSome};
 ghost use Rattle.rpki_cert.specs.declared.profile.Profile.TheVariants.{Ca, Ee, DetachedEe, Router};
 ghost use Rattle.rpki_cert.specs.ResourceExtensions.{AreWellFormed};
 ghost use Rattle.rpki_valid.specs.ResourceSet.{AreWithin};
-ghost use Rattle.rpki_valid.specs.Revocation.{IsUnrevoked, revoked_text};
+ghost use Rattle.rpki_valid.specs.Revocation.{IsUnrevoked};
 ghost use Rattle.rpki_valid.specs.Valid.{HasReason};
 ghost use Rattle.rpki_valid.specs.Verified.{authority_of, checkers_by, verified_by, holder, IsRootWith, IsVerified};
 ghost use Rattle.rpki_valid.specs.Verified.{IsVerifiedBy, HasPath, ChecksPath, ChecksLink, ChecksRoot};
-ghost use Rattle.rpki_valid.specs.Verified.{IsRefusedAuthority, IsRefusedRoot, terms_in, other_key_text};
+ghost use Rattle.rpki_valid.specs.Verified.{IsRefusedAuthority, IsRefusedRoot, terms_in};
+ghost use Rattle.rpki_valid.specs.ErrorTexts.{revoked_text, other_key_text, too_long_text};
 
 use crate::resource::claim::{settle, settle_anchor};
 use crate::resource::set::ResourceSet;
@@ -26,7 +27,7 @@ use rpki::crypto::{KeyIdentifier, Provider, PublicKey};
 use rpki::repository::error::ValidationError;
 use rpki::repository::x509::{Time, Validity};
 use rpki_cert::{Cert, Profile};
-use rpki_objects::Crl;
+use rpki_objects::{Crl, Strictness};
 use std::alloc::Global;
 use std::marker::Model;
 
@@ -53,10 +54,10 @@ impl<'p, P: Provider> Model for ResourceCert<'p, P> {
     ghost Value = { Authority P };
 
     ghost view = { λ v. authority_of v.cert v.resources v.period
-        (terms_of v.terms.key.now v.terms.strict v.terms.deepest) v.depth v.asked v.provider.now };
+        (terms_of v.terms.key.now v.terms.strictness v.terms.deepest) v.depth v.asked v.provider.now };
 
     ghost invariant = { λ v. IsVerified (verified_by P.rsa_of P.ecdsa_of P.sha1_of
-        (authority_of v.cert v.resources v.period (terms_of v.terms.key.now v.terms.strict v.terms.deepest) v.depth
+        (authority_of v.cert v.resources v.period (terms_of v.terms.key.now v.terms.strictness v.terms.deepest) v.depth
         v.asked v.provider.now)) × (v.key_identifier ≡ P.sha1_of v.provider.now v.cert.tbs.key.bits.octets) };
 }
 
@@ -71,7 +72,7 @@ fn check_ta<P: Provider>(
     ensures { ChecksRoot (terms_in terms.entry) (checkers_by P.rsa_of P.ecdsa_of P.sha1_of provider.now)
         at cert.now result }
 {
-    cert.tbs().inspect_ta(terms.strict)?;
+    cert.tbs().inspect_ta(terms.strictness.names)?;
     verify_anchor(cert, provider, at)?;
     verify_key(cert, terms.key)?;
     settle_anchor(cert.tbs(), alloc)
@@ -177,11 +178,11 @@ impl<'p, P: Provider> ResourceCert<'p, P> {
         self.terms
     }
 
-    /// Whether the names of its path were looked at, and those of what it issues will be.
-    pub fn is_strict(&self) -> bool
-        ensures { result ≡ self.now.terms.strict }
+    /// Which rules its path was held to strictly, and what it issues will be.
+    pub fn strictness(&self) -> Strictness
+        ensures { result ≡ self.now.terms.strictness }
     {
-        self.terms.strict
+        self.terms.strictness
     }
 
     /// How many steps lead up from it to the trust anchor, whose own number is 0.
@@ -197,7 +198,7 @@ impl<'p, P: Provider> ResourceCert<'p, P> {
         ensures below { IfOk result (λ n. n ≤ self.now.terms.deepest) }
         ensures within { IfOk result (λ _. self.now.depth < self.now.terms.deepest) }
         ensures refused { IfErr result (λ e. (self.now.depth < self.now.terms.deepest → ⊥)
-            × HasReason (codes "path is too long") e) }
+            × HasReason too_long_text e) }
     {
         if self.depth < self.terms.deepest {
             return Ok(self.depth + 1);
@@ -282,7 +283,7 @@ impl<'p, P: Provider> ResourceCert<'p, P> {
         ensures within { IfOk result (λ v. AreWithin v self.now.resources) }
         ensures verified { IfOk result (λ _. IsVerified (verified_by P.rsa_of P.ecdsa_of P.sha1_of self.now)) }
     {
-        cert.tbs().inspect(profile, self.is_strict())?;
+        cert.tbs().inspect(profile, self.strictness().names)?;
         self.verify_path(alloc, cert, list, at)
     }
 

@@ -1,19 +1,19 @@
 //! Whether certificates are valid at a moment (RFC 5280 6.1.3, RFC 6487 7.2), but for their resources.
 
-ghost use Rattle.std.specs.Prelude.{◌≡◌, ◌↔◌, ◌⊎◌, false, None, Option, IsTrue, codes};
-ghost use Rattle.rpki.specs.ErrorTexts.{verification_text};
+ghost use Rattle.std.specs.Prelude.{◌≡◌, ◌↔◌, ◌⊎◌, false, None, Option, IsTrue};
 ghost use Rattle.rpki_time.specs.Validity.{HoldsAt};
 ghost use Rattle.rpki_cert.specs.Cert.{find};
 ghost use Rattle.rpki_cert.specs.Known.{authority_key_identifier, are_understood};
 ghost use Rattle.rpki_cert.specs.RuleError.{ChecksBy};
 ghost use Rattle.rpki_valid.specs.Valid.{HasReason, IsPeriodError, HasSigned, HasSubject, IsOtherSubject, ChecksSigned};
 ghost use Rattle.rpki_valid.specs.Valid.{HasAuthority, IsOtherAuthority, ChecksIssued, ChecksAnchor};
+ghost use Rattle.rpki_valid.specs.ErrorTexts.{issuer_text, critical_text, subject_text};
 
 use rpki::crypto::{KeyIdentifier, Provider, PublicKey, PublicKeyFormat, RpkiSignature};
 use rpki::der::ContentError;
 use rpki::oid;
 use rpki::repository::error::{ValidationError, VerificationError};
-use rpki::repository::x509::{NameOctets, Time, Validity};
+use rpki::repository::x509::{NameOctets, Time, Validity, ValidityPeriodError};
 use rpki_cert::objects::{are_understood, find, is_identifier};
 use rpki_cert::{Cert, TbsCert};
 
@@ -31,13 +31,21 @@ fn is_named(name: &NameOctets, wanted: &NameOctets) -> bool
     *name == *wanted
 }
 
-/// Whether the period holds at the moment.
+/// Whether the period of a certificate holds at the moment.
+///
+/// The error is `Verification` with the text `RFC 6487 7.2: certificate is not yet valid`, or `RFC 6487 7.2:
+/// certificate has expired`.
 pub fn verify_period(period: Validity, at: Time) -> Result<(), ValidationError>
     ensures { ChecksBy (HoldsAt period at) (IsPeriodError period at) result }
 {
     match period.verify_at(at) {
         Ok(()) => Ok(()),
-        Err(e) => Err(ValidationError::Verification(VerificationError::from(e))),
+        Err(ValidityPeriodError::TooNew) => {
+            Err(unverified("RFC 6487 7.2: certificate is not yet valid"))
+        }
+        Err(ValidityPeriodError::TooOld) => {
+            Err(unverified("RFC 6487 7.2: certificate has expired"))
+        }
     }
 }
 
@@ -50,7 +58,7 @@ fn verify_authority(cert: &TbsCert, wanted: KeyIdentifier) -> Result<(), Validat
             if is_identifier(found, wanted) {
                 return Ok(());
             }
-            Err(unverified("authority key identifier mismatch"))
+            Err(unverified("RFC 6487 7.2: authority key identifier mismatch"))
         }
         Err(e) => Err(e),
     }
@@ -69,14 +77,14 @@ fn verify_own_authority(cert: &TbsCert, wanted: KeyIdentifier) -> Result<(), Val
 
 /// Whether the identifier of the subject's key is there and is this one.
 fn verify_subject(cert: &TbsCert, wanted: KeyIdentifier) -> Result<(), ValidationError>
-    ensures { ChecksBy (HasSubject wanted cert.now) (IsOtherSubject cert.now) result }
+    ensures { ChecksBy (HasSubject wanted cert.now) (IsOtherSubject subject_text cert.now) result }
 {
     match cert.subject_key_identifier() {
         Ok(found) => {
             if is_identifier(found, wanted) {
                 return Ok(());
             }
-            Err(unverified("subject key identifier mismatch"))
+            Err(unverified("RFC 6487 7.2: subject key identifier mismatch"))
         }
         Err(e) => Err(e),
     }
@@ -85,37 +93,38 @@ fn verify_subject(cert: &TbsCert, wanted: KeyIdentifier) -> Result<(), Validatio
 /// Whether every critical extension is a known one.
 fn verify_critical(cert: &TbsCert) -> Result<(), ValidationError>
     ensures { ChecksBy (IsTrue (are_understood cert.now.extensions))
-        (HasReason (codes "unknown critical extension")) result }
+        (HasReason critical_text) result }
 {
     if are_understood(cert.extensions()) {
         return Ok(());
     }
-    Err(unverified("unknown critical extension"))
+    Err(unverified("RFC 6487 7.2: unknown critical extension"))
 }
 
 /// Whether the issuer has this name.
 fn verify_issuer(cert: &TbsCert, issuer: &NameOctets) -> Result<(), ValidationError>
-    ensures { ChecksBy (cert.now.issuer ≡ issuer.now) (HasReason (codes "issuer name mismatch")) result }
+    ensures { ChecksBy (cert.now.issuer ≡ issuer.now) (HasReason issuer_text) result }
 {
     if is_named(cert.issuer(), issuer) {
         return Ok(());
     }
-    Err(unverified("issuer name mismatch"))
+    Err(unverified("RFC 6487 7.2: issuer name mismatch"))
 }
 
-/// Whether the key has signed the octets: this is the signature.
+/// Whether the key has signed the octets: this is the signature. The error is `Verification` with the text.
 pub fn verify_signature<P: Provider>(
     octets: &[u8],
     signature: &RpkiSignature,
     provider: &P,
     key: &PublicKey,
+    text: &'static str,
 ) -> Result<(), ValidationError>
     ensures { ChecksBy (HasSigned (P.rsa_of provider.now) (P.ecdsa_of provider.now) key.now octets.now signature.now)
-        (HasReason verification_text) result }
+        (HasReason text.now) result }
 {
     match key.verify(provider, octets, signature) {
         Ok(()) => Ok(()),
-        Err(_) => Err(unverified("signature verification failed")),
+        Err(_) => Err(unverified(text)),
     }
 }
 
@@ -138,6 +147,7 @@ fn verify_signed<P: Provider>(
         signed.signature(),
         provider,
         issuer_key,
+        "RFC 6487 7.2: bad signature",
     )?;
     verify_period(own.validity(), at)?;
     verify_issuer(own, issuer)?;
@@ -174,7 +184,8 @@ pub(crate) fn verify_issued_by<P: Provider>(
 /// name, and both key identifiers (RFC 5280 6.1.3, RFC 6487 7.2). Allocates nothing.
 ///
 /// The error is that of the first of: the signature, the period, the issuer's name, an unknown critical extension,
-/// the identifier of the subject's key, that of the issuer's.
+/// the identifier of the subject's key, that of the issuer's; of an identifier that is there and malformed, that; else
+/// `Verification` with a text that begins with `RFC 6487 7.2`.
 pub fn verify_issued<P: Provider>(
     cert: &Cert,
     provider: &P,

@@ -54,7 +54,7 @@ const ROWS: &[Row] = &[
         "",
         Profile::Ee,
         2037,
-        "certificate has expired",
+        "RFC 6487 7.2: certificate has expired",
     ),
     (
         "a signer in 2025",
@@ -63,7 +63,7 @@ const ROWS: &[Row] = &[
         "",
         Profile::Ee,
         2025,
-        "certificate is not yet valid",
+        "RFC 6487 7.2: certificate is not yet valid",
     ),
     (
         "another issuer",
@@ -72,7 +72,7 @@ const ROWS: &[Row] = &[
         "060355040313026362",
         Profile::Ee,
         2030,
-        "issuer name mismatch",
+        "RFC 6487 7.2: issuer name mismatch",
     ),
     (
         "addresses of another",
@@ -81,7 +81,7 @@ const ROWS: &[Row] = &[
         "0303000b01",
         Profile::Ee,
         2030,
-        "resources that the issuer does not have",
+        "RFC 6487 7.2: resources that the issuer does not have",
     ),
     (
         "a number of another",
@@ -90,7 +90,7 @@ const ROWS: &[Row] = &[
         "020300fbf1",
         Profile::Router,
         2030,
-        "resources that the issuer does not have",
+        "RFC 6487 7.2: resources that the issuer does not have",
     ),
 ];
 
@@ -211,16 +211,21 @@ fn each_link_is_asked(rt: HostRuntime) -> Result<(), Fail> {
 /// authority.
 const AUTHORITIES: &[(bool, i32, &str, &str)] = &[
     (true, 2026, ANCHOR, "valid"),
-    (true, 2037, ANCHOR, "certificate has expired"),
-    (true, 2025, ANCHOR, "certificate is not yet valid"),
-    (false, 2030, ANCHOR, "signature verification failed"),
+    (true, 2037, ANCHOR, "RFC 6487 7.2: certificate has expired"),
+    (
+        true,
+        2025,
+        ANCHOR,
+        "RFC 6487 7.2: certificate is not yet valid",
+    ),
+    (false, 2030, ANCHOR, "RFC 6487 7.2: bad signature"),
     (
         true,
         2030,
         AUTHORITY,
         "RFC 8630 3: key is not that of the locator",
     ),
-    (false, 2030, AUTHORITY, "signature verification failed"),
+    (false, 2030, AUTHORITY, "RFC 6487 7.2: bad signature"),
 ];
 
 fn authorities() -> &'static [(bool, i32, &'static str, &'static str)] {

@@ -8,7 +8,7 @@ use rpki::repository::x509::Time;
 use rpki_cert::Cert;
 use rpki_cert_tests::provider::Told;
 use rpki_contents::{FileAndHash, MessageDigest, is_file_name};
-use rpki_objects::{Aspa, Crl, Manifest, Roa};
+use rpki_objects::{Aspa, Crl, Manifest, Roa, Strictness};
 use rpki_objects_tests::hexadecimal::octets_of;
 use rpki_objects_tests::objects::authority::{ANCHOR, LIST};
 use rpki_objects_tests::objects::{manifests, origins, providers};
@@ -65,7 +65,7 @@ const ROWS: &[Row] = &[
         manifests::MANIFEST,
         (2, 28, 23),
         true,
-        "manifest issued later",
+        "RFC 9286 6.3: manifest issued later",
     ),
     (
         "manifest after the next was due",
@@ -73,7 +73,7 @@ const ROWS: &[Row] = &[
         manifests::MANIFEST,
         (4, 1, 1),
         true,
-        "stale manifest",
+        "RFC 9286 6.3: stale manifest",
     ),
     (
         "manifest that lists addresses",
@@ -81,7 +81,7 @@ const ROWS: &[Row] = &[
         manifests::LISTS_ADDRESSES,
         MARCH,
         true,
-        "resources that are not inherited",
+        "RFC 9286 5.1: resources that are not inherited",
     ),
     (
         "manifest that lists numbers",
@@ -89,7 +89,7 @@ const ROWS: &[Row] = &[
         manifests::LISTS_NUMBERS,
         MARCH,
         true,
-        "resources that are not inherited",
+        "RFC 9286 5.1: resources that are not inherited",
     ),
     (
         "resources before times",
@@ -97,7 +97,7 @@ const ROWS: &[Row] = &[
         manifests::LISTS_NUMBERS,
         (4, 1, 1),
         true,
-        "resources that are not inherited",
+        "RFC 9286 5.1: resources that are not inherited",
     ),
     (
         "origin",
@@ -129,7 +129,7 @@ const ROWS: &[Row] = &[
         origins::OUTSIDE,
         MARCH,
         true,
-        "prefix outside of the resources",
+        "RFC 9582 5: prefix outside of the resources",
     ),
     (
         "origin that inherits",
@@ -137,7 +137,7 @@ const ROWS: &[Row] = &[
         origins::INHERITS,
         MARCH,
         true,
-        "inherited addresses",
+        "RFC 9582 5: inherited addresses",
     ),
     (
         "origin beside numbers",
@@ -145,7 +145,7 @@ const ROWS: &[Row] = &[
         origins::BESIDE_NUMBERS,
         MARCH,
         true,
-        "AS numbers beside prefixes",
+        "RFC 9582 5: AS numbers beside prefixes",
     ),
     (
         "origin without addresses",
@@ -153,7 +153,7 @@ const ROWS: &[Row] = &[
         origins::WITHOUT_ADDRESSES,
         MARCH,
         true,
-        "no addresses",
+        "RFC 9582 5: no addresses",
     ),
     (
         "providers",
@@ -169,7 +169,7 @@ const ROWS: &[Row] = &[
         providers::OUTSIDE,
         MARCH,
         true,
-        "customer outside of the resources",
+        "draft-ietf-sidrops-aspa-profile 4: customer outside of the resources",
     ),
     (
         "providers that inherit",
@@ -177,7 +177,7 @@ const ROWS: &[Row] = &[
         providers::INHERITS,
         MARCH,
         true,
-        "inherited AS numbers",
+        "draft-ietf-sidrops-aspa-profile 4: inherited AS numbers",
     ),
     (
         "providers beside addresses",
@@ -185,7 +185,7 @@ const ROWS: &[Row] = &[
         providers::BESIDE_ADDRESSES,
         MARCH,
         true,
-        "addresses beside AS numbers",
+        "draft-ietf-sidrops-aspa-profile 4: addresses beside AS numbers",
     ),
     (
         "providers without numbers",
@@ -193,7 +193,7 @@ const ROWS: &[Row] = &[
         providers::WITHOUT_NUMBERS,
         MARCH,
         true,
-        "no AS numbers",
+        "draft-ietf-sidrops-aspa-profile 4: no AS numbers",
     ),
 ];
 
@@ -251,7 +251,7 @@ enum Object {
 fn object_of(alloc: Global, kind: Kind, octets: Bytes) -> Result<Object, DecodeError> {
     match kind {
         Kind::Manifest => Ok(Object::Manifest(Manifest::decode(alloc, octets, true)?)),
-        Kind::Origin => Ok(Object::Origin(Roa::decode(alloc, octets, true)?)),
+        Kind::Origin => Ok(Object::Origin(Roa::decode(alloc, octets, Strictness::all())?)),
         Kind::Providers => Ok(Object::Providers(Aspa::decode(alloc, octets, true)?)),
     }
 }

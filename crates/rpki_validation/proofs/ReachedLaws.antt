@@ -19,7 +19,7 @@ module _ (published : Published) (basis : Basis) where
 
   -- the list of a point is a list of its authority that counts at the moment
   pub below-is-link : (issuer x : Holder) → IsBelow published basis issuer x
-      → IsLink Ca basis.terms.strict (Some Refused) basis.by basis.at issuer x
+      → IsLink Ca basis.terms.strictness.names (Some Refused) basis.by basis.at issuer x
   below-is-link issuer x h = record {
     profiled = h.cert.valid.profiled;
     issued = h.cert.valid.path.issued;

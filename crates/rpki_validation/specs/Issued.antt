@@ -46,17 +46,17 @@ IsNoObjectIn {C} F Wrong basis issuer list octets =
 
 -- route origins (RFC 9582)
 abbrev pub AreOriginsIn : Basis → Holder → CrlParts → List ℕ → TypedParts AttestationParts → Type 0
-AreOriginsIn basis = IsObjectIn (origin_object basis.terms.strict) KeepsOriginRules basis
+AreOriginsIn basis = IsObjectIn (origin_object basis.terms.strictness) KeepsOriginRules basis
 
 abbrev pub AreNoOriginsIn : Basis → Holder → CrlParts → List ℕ → Reason → Type 0
-AreNoOriginsIn basis = IsNoObjectIn (origin_object basis.terms.strict) BreaksOriginRules basis
+AreNoOriginsIn basis = IsNoObjectIn (origin_object basis.terms.strictness) BreaksOriginRules basis
 
 -- providers of an autonomous system (draft-ietf-sidrops-aspa-profile)
 abbrev pub AreProvidersIn : Basis → Holder → CrlParts → List ℕ → TypedParts AspaParts → Type 0
-AreProvidersIn basis = IsObjectIn (aspa_object basis.terms.strict) KeepsAspaRules basis
+AreProvidersIn basis = IsObjectIn (aspa_object basis.terms.strictness.attributes) KeepsAspaRules basis
 
 abbrev pub AreNoProvidersIn : Basis → Holder → CrlParts → List ℕ → Reason → Type 0
-AreNoProvidersIn basis = IsNoObjectIn (aspa_object basis.terms.strict) BreaksAspaRules basis
+AreNoProvidersIn basis = IsNoObjectIn (aspa_object basis.terms.strictness.attributes) BreaksAspaRules basis
 
 -- ---- certificates
 

@@ -74,7 +74,7 @@ VerifiesPublication basis issuer p r =
 -- The publication of the authority, which holds at the moment, and of whose manifest each file is there (RFC 9286 6.4,
 -- 6.5). Where one isn't, nothing of the authority counts (6.6).
 pub record IsPoint (published : Published) (basis : Basis) (issuer : Holder) (p : PublicationParts) : Type 0 where
-  pub there : IsPublication published basis.sha256 basis.terms.strict issuer.cert.tbs p
+  pub there : IsPublication published basis.sha256 basis.terms.strictness.attributes issuer.cert.tbs p
   pub valid : HoldsAtMoment basis issuer p
   pub whole : (file : ListedFile) → Contains p.manifest.content.files file
       → (octets : List ℕ) × StandsAs published basis.sha256 p.folder file octets

@@ -30,9 +30,7 @@ pub fn origins_in<'a, 'p, P: Provider>(
 ) -> Result<Roa, Stop>
     ensures { FindsOrigins P.rsa_of P.ecdsa_of P.sha1_of P.sha256_of list.now octets result }
 {
-    // what the type says of the list: the authority has issued it, and it counts at the moment
-    let _issued = list.list();
-    let roa = Roa::decode(alloc, octets, list.issuer().is_strict())?;
+    let roa = Roa::decode(alloc, octets, list.issuer().strictness())?;
     list.process_roa(alloc, &roa)?;
     Ok(roa)
 }
@@ -48,8 +46,7 @@ pub fn providers_in<'a, 'p, P: Provider>(
 ) -> Result<Aspa, Stop>
     ensures { FindsProviders P.rsa_of P.ecdsa_of P.sha1_of P.sha256_of list.now octets result }
 {
-    let _issued = list.list();
-    let aspa = Aspa::decode(alloc, octets, list.issuer().is_strict())?;
+    let aspa = Aspa::decode(alloc, octets, list.issuer().strictness().attributes)?;
     list.process_aspa(alloc, &aspa)?;
     Ok(aspa)
 }
@@ -97,7 +94,6 @@ pub fn authority_of<'a, 'p, P: Provider>(
     ensures depth { IfOk result (λ a. a.depth ≡ list.now.issuer.depth + 1) }
     ensures provider { IfOk result (λ a. a.provider ≡ list.now.issuer.provider) }
 {
-    let _issued = list.list();
     let authority = list.verify_ca(alloc, cert)?;
     Ok(authority)
 }
@@ -114,7 +110,6 @@ pub fn router_of<'a, 'p, P: Provider>(
     ensures exactly { FindsRouter P.rsa_of P.ecdsa_of P.sha1_of P.sha256_of list.now cert result }
     ensures cert { IfOk result (λ x. x.cert ≡ cert) }
 {
-    let _issued = list.list();
     let resources = list.verify_router(alloc, &cert)?;
     Ok(RouterCert { cert, resources })
 }

@@ -165,13 +165,13 @@ impl Publication {
         snapshot: &S,
         issuer: &ResourceCert<'p, P>,
     ) -> Result<Publication, Stop>
-        ensures { FindsPublication (S.holds snapshot.now) (P.sha256_of issuer.now.provider) issuer.now.terms.strict
-            issuer.now.cert.tbs result }
+        ensures { FindsPublication (S.holds snapshot.now) (P.sha256_of issuer.now.provider)
+            issuer.now.terms.strictness.attributes issuer.now.cert.tbs result }
     {
         let tbs = issuer.cert().tbs();
         let folder = repository_of(alloc, tbs)?;
         let place = manifest_place(alloc, tbs)?;
-        let manifest = manifest_at(alloc, snapshot, &place, issuer.is_strict())?;
+        let manifest = manifest_at(alloc, snapshot, &place, issuer.strictness().attributes)?;
         let files = manifest.content().file_list();
         let list = list_on(alloc, snapshot, issuer.provider(), &folder, files)?;
         Ok(Publication {

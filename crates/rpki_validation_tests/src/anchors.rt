@@ -49,7 +49,7 @@ const FOUND: &str = "0 down: rsync://rpki.example/repo/ta/ta.mft";
 
 const MISSING: &str = "RFC 8630 3: no trust anchor was fetched";
 
-const UNSIGNED: &str = "invalid: signature verification failed";
+const UNSIGNED: &str = "invalid: RFC 6487 7.2: bad signature";
 
 const ROWS: &[Row] = &[
     (
@@ -163,7 +163,7 @@ const ROWS: &[Row] = &[
         made::ANCHOR,
         Change::None,
         2025,
-        "invalid: certificate is not yet valid",
+        "invalid: RFC 6487 7.2: certificate is not yet valid",
     ),
     (
         "too late",
@@ -171,7 +171,7 @@ const ROWS: &[Row] = &[
         made::ANCHOR,
         Change::None,
         2037,
-        "invalid: certificate has expired",
+        "invalid: RFC 6487 7.2: certificate has expired",
     ),
 ];
 

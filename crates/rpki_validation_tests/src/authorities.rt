@@ -6,7 +6,7 @@ use rpki::repository::x509::Time;
 use rpki_cert::Cert;
 use rpki_cert_tests::changed::changed;
 use rpki_digests::RsaProvider;
-use rpki_objects::Crl;
+use rpki_objects::{Crl, Strictness};
 use rpki_valid::{CurrentCrl, ResourceCert, Staleness, Terms};
 use rpki_validation::{Stop, authority_of, cert_in};
 use std::alloc::{AllocError, Global};
@@ -65,7 +65,7 @@ pub fn list_of(alloc: Global, text: &str) -> Result<Crl, Stop> {
 pub fn terms_of(trusted: &Cert, deepest: u32) -> Terms<'_> {
     Terms {
         key: trusted.tbs().subject_public_key_info(),
-        strict: true,
+        strictness: Strictness::all(),
         deepest,
     }
 }

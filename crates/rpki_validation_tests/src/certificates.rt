@@ -128,7 +128,7 @@ const ROWS: &[Row] = &[
         Change::Last,
         Issuer::Anchor,
         8,
-        "invalid: signature verification failed",
+        "invalid: RFC 6487 7.2: bad signature",
     ),
     (
         "a router as an authority",
@@ -155,7 +155,7 @@ const ROWS: &[Row] = &[
         Change::Last,
         Issuer::Authority,
         8,
-        "invalid: signature verification failed",
+        "invalid: RFC 6487 7.2: bad signature",
     ),
     (
         "a router under the trust anchor",
@@ -164,7 +164,7 @@ const ROWS: &[Row] = &[
         Change::None,
         Issuer::Anchor,
         8,
-        "invalid: signature verification failed",
+        "invalid: RFC 6487 7.2: bad signature",
     ),
     (
         "an authority as a router",

@@ -104,7 +104,7 @@ const ROWS: &[Row] = &[
         made::WIDE,
         Change::None,
         Issuer::Authority,
-        "invalid: resources that the issuer does not have",
+        "invalid: RFC 6487 7.2: resources that the issuer does not have",
     ),
     (
         "a prefix with another signature",
@@ -112,7 +112,7 @@ const ROWS: &[Row] = &[
         made::ORIGIN,
         Change::Last,
         Issuer::Authority,
-        "invalid: signature verification failed",
+        "invalid: RFC 6488 3: bad signature",
     ),
     (
         "a prefix under the trust anchor",
@@ -120,7 +120,7 @@ const ROWS: &[Row] = &[
         made::ORIGIN,
         Change::None,
         Issuer::Anchor,
-        "invalid: signature verification failed",
+        "invalid: RFC 6487 7.2: bad signature",
     ),
     (
         "a prefix that is cut off",
@@ -160,7 +160,7 @@ const ROWS: &[Row] = &[
         made::PROVIDERS,
         Change::Last,
         Issuer::Authority,
-        "invalid: signature verification failed",
+        "invalid: RFC 6488 3: bad signature",
     ),
     (
         "providers under the trust anchor",
@@ -168,7 +168,7 @@ const ROWS: &[Row] = &[
         made::PROVIDERS,
         Change::None,
         Issuer::Anchor,
-        "invalid: signature verification failed",
+        "invalid: RFC 6487 7.2: bad signature",
     ),
     (
         "providers that are cut off",

@@ -1,9 +1,10 @@
 -- What an object is held to: each check by its clause, and the first that isn't so.
 use Rattle.std.proofs.Common.{◌≡◌, ◌∙◌, refl, sym, subst, inl, inr}
 use Rattle.std.proofs.lemmas.Bool.{false≢true}
-use Rattle.std.specs.Prelude.{◌⊎◌, Bool, true, false, if◌then◌else◌, codes, Option, Result, Ok, Err, IsErr, IsErrAnd}
+use Rattle.std.specs.Prelude.{◌⊎◌, Bool, true, false, if◌then◌else◌, Option, Result, Ok, Err, IsErr, IsErrAnd}
 use Rattle.std.specs.Prelude.{MatchResult}
-use Rattle.rpki.specs.ErrorTexts.{verification_text}
+use Rattle.rpkicert.specs.Fault.{bad_text}
+use Rattle.rpki_valid.specs.ErrorTexts.{not_inherited_text}
 use Rattle.rpki.specs.declared.repository.error.ValidationError.{ValidationError}
 use Rattle.rpki_cert.specs.Known.{is_memory}
 use Rattle.rpki_valid.specs.ResourceSet.{IsOut}
@@ -145,14 +146,14 @@ module _ (terms : TermParts) (x : Object) where
 
 pub inherited : (m : TypedParts ManifestParts) (checked : Result (Unit {0}) ValidationError)
     (r : Result (Unit {0}) Fault)
-    → ChecksBy (AreInherited m.object.cert.tbs.extensions) (HasReason (codes "resources that are not inherited"))
+    → ChecksBy (AreInherited m.object.cert.tbs.extensions) (HasReason not_inherited_text)
     checked
     → r ≡ by_clause C.Inherited checked → Judges (KeepsResources (FileList m)) (BreaksResources (FileList m)) r
 inherited m checked r h e =
     judged C.Inherited (AreInherited m.object.cert.tbs.extensions)
-    (HasReason (codes "resources that are not inherited")) r
+    (HasReason not_inherited_text) r
     (by-clause C.Inherited (AreInherited m.object.cert.tbs.extensions)
-    (HasReason (codes "resources that are not inherited")) checked r h e)
+    (HasReason not_inherited_text) checked r h e)
 
 module _ (clause : Clause) (P : Type 0) (E : ValidationError → Type 0) where
   own-error : (e : ValidationError) (b : Bool) → is_memory e ≡ b → IsOut e ⊎ ((P → ⊥) × E e)
@@ -198,7 +199,7 @@ module _ (x : Object) where
 
 module _ (terms : TermParts) (x : Object) where
   abbrev AnchorError : ValidationError → Type 0
-  AnchorError e = HasSome (λ c. HasReason verification_text e) (anchor_of terms.issuer x)
+  AnchorError e = HasSome (λ c. HasReason bad_text e) (anchor_of terms.issuer x)
 
   abbrev CertError : ValidationError → Type 0
   CertError e = HasBoth (λ t c. IsCertUnissued t c e) terms.issuer (signer_of x)
@@ -207,7 +208,7 @@ module _ (terms : TermParts) (x : Object) where
   ListError e = HasBoth (λ t l. IsListUnissued t l e) terms.issuer (list_of x)
 
   abbrev SaysAnchor : Wrong
-  SaysAnchor = SaysOf (λ c. HasReason verification_text) (anchor_of terms.issuer x) C.Anchor
+  SaysAnchor = SaysOf (λ c. HasReason bad_text) (anchor_of terms.issuer x) C.Anchor
 
   abbrev SaysCert : Wrong
   SaysCert = SaysBy IsCertUnissued terms.issuer (signer_of x) C.Certificate

@@ -1,12 +1,12 @@
 -- Why nothing is printed of a file.
-use Rattle.std.specs.Prelude.{ℕ, Bool, if◌then◌else◌, List, ◌++◌, codes, bytes_eq, unwrap_or, Option}
+use Rattle.std.specs.Prelude.{ℕ, nat_eq, Bool, if◌then◌else◌, List, [], ◌++◌, codes, unwrap_or, Option}
+use Rattle.std.specs.List.{ends_with}
 use Rattle.rpki_der.specs.declared.error.DecodeError.{DecodeError}
 use Rattle.rpki_der.specs.declared.error.DecodeError.TheVariants.{Truncated, BadTag, BadLength, Unexpected, Content}
 use Rattle.rpki_der.specs.declared.error.DecodeError.TheVariants.{Trailing}
 use Rattle.rpki_der.specs.declared.error.DecodeError.TheVariants as der
 use Rattle.rpki_der.specs.ErrorText.{error_text}
 use Rattle.rpki.specs.ErrorContent.{validation_text}
-use Rattle.rpki.specs.ErrorTexts.{verification_text}
 use Rattle.rpki.specs.declared.repository.error.ValidationError.{ValidationError}
 use Rattle.rpki_fields.specs.declared.kind.Kind.{Kind}
 use Rattle.rpki_fields.specs.Kind.{kind_text}
@@ -21,7 +21,7 @@ use Rattle.rpkicert.specs.declared.fault.Fault.TheVariants.{Unreadable, TooLarge
 use Rattle.rpkicert.specs.declared.fault.Fault.TheVariants.{Violated, Unverified, NoCertificate, OtherAlgorithm}
 use Rattle.rpkicert.specs.declared.fault.Clause.{Clause}
 use Rattle.rpkicert.specs.declared.fault.Clause.TheVariants as C
-use Rattle.rpkicert.specs.Violation.{violation_text}
+use Rattle.rpkicert.specs.Violation.{has_section, violation_text}
 
 -- a file has at most so many octets
 abbrev pub most_octets : ℕ
@@ -54,13 +54,20 @@ clause_text C.Anchor = codes "RFC 8630 2.3"
 clause_text C.Certificate = codes "RFC 6487 7.2"
 clause_text C.List = codes "RFC 5280 6.3.3"
 
+-- the text of a signature that isn't good, behind its section, if that is there
+abbrev pub bad_text : List ℕ
+bad_text = codes "bad signature"
+
+abbrev pub text_in : ValidationError → List ℕ
+text_in e = unwrap_or (validation_text e) []
+
 -- the error is that of a signature that isn't good
 abbrev pub is_bad_signature : ValidationError → Bool
-is_bad_signature e = bytes_eq (unwrap_or (validation_text e) (codes "")) verification_text
+is_bad_signature e = ends_with nat_eq (text_in e) bad_text
 
--- what is wrong with a clause that is broken
-abbrev pub reason_text : ValidationError → List ℕ
-reason_text e = if is_bad_signature e then codes "bad signature" else unwrap_or (validation_text e) (codes "")
+-- what is wrong with a clause that is broken, behind a section: that of the text, or else that of the clause
+abbrev pub clause_told : Clause → List ℕ → List ℕ
+clause_told clause said = if has_section said then said else clause_text clause ++ codes ": " ++ said
 
 abbrev pub fault_text : Fault → List ℕ
 fault_text (Unreadable cause) = unreadable_text cause
@@ -69,7 +76,7 @@ fault_text OutOfMemory = codes "out of memory"
 fault_text Malformed = codes "malformed PEM"
 fault_text (Refused kind place e) = codes "not a " ++ kind_text kind ++ codes ": " ++ place_text place ++ error_text e
 fault_text (Violated v) = codes "violates the profile: " ++ violation_text v
-fault_text (Unverified clause e) = clause_text clause ++ codes ": " ++ reason_text e
+fault_text (Unverified clause e) = clause_told clause (text_in e)
 fault_text NoCertificate = codes "not a certificate"
 fault_text OtherAlgorithm = codes "RFC 7935 2, 3: of an algorithm that the RPKI doesn't use"
 

@@ -7,11 +7,12 @@ use Rattle.jiff.specs.Words.{civil_nanos}
 use Rattle.sha1.specs.Sha1.{sha1}
 use Rattle.sha2.specs.Sha256.{sha256}
 use Rattle.rpki.specs.declared.repository.error.ValidationError.{ValidationError}
-use Rattle.rpki.specs.ErrorTexts.{verification_text}
 use Rattle.rpki.specs.Provider.{Check}
 use Rattle.rpki_rsa.specs.Key.{IsSignatureBy}
 use Rattle.rpki_time.specs.Validity.{Period, HoldsAt}
 use Rattle.rpki_cert.specs.Cert.{TbsParts, CertParts}
+use Rattle.rpki_valid.specs.ErrorTexts.{not_inherited_text}
+use Rattle.rpkicert.specs.Fault.{bad_text}
 use Rattle.rpki_valid.specs.Valid.{HasReason, IsPeriodError, Unless, IsSignedBy, IsIssued, IsUnissued}
 use Rattle.rpki_contents.specs.Manifest.{ManifestParts, period_of}
 use Rattle.rpki_objects.specs.Crl.{CrlParts}
@@ -156,7 +157,7 @@ pub record IsListIssued (issuer : TbsParts) (l : CrlParts) : Type 0 where
 -- the error where one of them doesn't hold: of the first, in this order
 abbrev pub IsListUnissued : TbsParts → CrlParts → ValidationError → Type 0
 IsListUnissued issuer l =
-    Unless (IsSignedBy rsa ecdsa issuer.key l.signed) (HasReason verification_text)
+    Unless (IsSignedBy rsa ecdsa issuer.key l.signed) (HasReason bad_text)
     (Unless (l.list.issuer ≡ issuer.subject) (HasReason (codes "issuer name mismatch"))
     (HasReason (codes "authority key identifier mismatch")))
 
@@ -276,7 +277,7 @@ abbrev pub BreaksResources : Object → Wrong
 BreaksResources (Certificate c) clause e = ⊥
 BreaksResources (RevocationList l) clause e = ⊥
 BreaksResources (FileList m) clause e =
-    (clause ≡ C.Inherited) × HasReason (codes "resources that are not inherited") e
+    (clause ≡ C.Inherited) × HasReason not_inherited_text e
 BreaksResources (RouteOrigins r) clause e = (clause ≡ C.Origins) × IsOwnOriginError r e
 BreaksResources (Providers a) clause e = (clause ≡ C.Customer) × IsOwnAspaError a e
 BreaksResources (OtherContent o) clause e = ⊥
@@ -302,7 +303,7 @@ BreaksIssued terms x =
 
 abbrev pub BreaksIssuer : TermParts → Object → Wrong
 BreaksIssuer terms x =
-    Else (IsAnchored terms x) (SaysOf (λ c. HasReason verification_text) (anchor_of terms.issuer x) C.Anchor)
+    Else (IsAnchored terms x) (SaysOf (λ c. HasReason bad_text) (anchor_of terms.issuer x) C.Anchor)
     (BreaksIssued terms x)
 
 -- the clause that is broken first, in this order, and its error

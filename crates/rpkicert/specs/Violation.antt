@@ -1,5 +1,5 @@
 -- How a certificate violates a profile, in words.
-use Rattle.std.specs.Prelude.{ℕ, nat_eq, Bool, if◌then◌else◌, List, [], ◌++◌, codes, unwrap_or}
+use Rattle.std.specs.Prelude.{◌||◌, ℕ, nat_eq, Bool, if◌then◌else◌, List, [], ◌++◌, codes, unwrap_or}
 use Rattle.std.specs.List.{starts_with}
 use Rattle.rpki.specs.ErrorContent.{validation_text}
 use Rattle.rpki_cert.specs.declared.profile.rule.CertRule.{CertRule}
@@ -35,7 +35,7 @@ part_text rule = []
 
 -- the text begins with a section, as those of rules do
 abbrev pub has_section : List ℕ → Bool
-has_section text = starts_with nat_eq text (codes "RFC ")
+has_section text = starts_with nat_eq text (codes "RFC ") || starts_with nat_eq text (codes "draft-")
 
 -- an error behind the section of its rule: an error that has none is that of a name, or of an extension that is
 -- malformed or not as critical as it has to be

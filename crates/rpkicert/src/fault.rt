@@ -5,10 +5,10 @@ ghost use Rattle.rpki_der.specs.ErrorText.{error_text};
 ghost use Rattle.rpki_fields.specs.Kind.{kind_text};
 ghost use Rattle.rpki_fields.specs.PlaceText.{place_text};
 ghost use Rattle.rpkicert.specs.Fault.{cause_of, unreadable_text, clause_text, fault_text, status_of, refusal};
-ghost use Rattle.rpkicert.specs.Fault.{is_bad_signature, reason_text};
+ghost use Rattle.rpkicert.specs.Fault.{is_bad_signature, clause_told, text_in};
 ghost use Rattle.rpkicert.specs.Violation.{violation_text};
 
-use crate::violation::Violation;
+use crate::violation::{Violation, has_section};
 use rpki::der::DecodeError;
 use rpki::repository::error::ValidationError;
 use rpki_fields::{Kind, Place, text_of_place};
@@ -155,18 +155,20 @@ pub fn is_bad_signature(alloc: Global, e: ValidationError) -> Result<bool, Alloc
     ensures { IfOk result (λ b. b ≡ is_bad_signature e) }
 {
     let said = format!(in alloc; "{e}")?;
-    Ok(said.as_bytes() == b"signature verification failed".as_slice())
+    Ok(said.as_bytes().ends_with(b"bad signature"))
 }
 
-/// That the clause is broken, and how.
+/// That the clause is broken, and how, behind one section: most texts have that of their rule, and others get the
+/// clause's.
 fn unverified_text(alloc: Global, clause: Clause, e: ValidationError) -> Result<String, AllocError>
-    ensures { IfOk result (λ text. string_bytes text ≡ clause_text clause ++ codes ": " ++ reason_text e) }
+    ensures { IfOk result (λ text. string_bytes text ≡ clause_told clause (text_in e)) }
 {
-    let section = clause.text();
-    if is_bad_signature(alloc, e)? {
-        return format!(in alloc; "{section}: bad signature");
+    let said = format!(in alloc; "{e}")?;
+    if has_section(said.as_bytes()) {
+        return Ok(said);
     }
-    format!(in alloc; "{section}: {e}")
+    let section = clause.text();
+    format!(in alloc; "{section}: {said}")
 }
 
 impl Fault {

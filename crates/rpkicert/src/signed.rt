@@ -2,9 +2,9 @@
 
 ghost use Rattle.std.specs.Prelude.{◌≡◌};
 ghost use Rattle.std.specs.Option.{option_copied};
-ghost use Rattle.rpki.specs.ErrorTexts.{verification_text};
 ghost use Rattle.rpki_cert.specs.RuleError.{ChecksBy};
 ghost use Rattle.rpki_valid.specs.Valid.{HasReason, IsSignedBy};
+ghost use Rattle.rpkicert.specs.Fault.{bad_text};
 ghost use Rattle.rpkicert.specs.Terms.{rsa, ecdsa, is_self_issued, IsSelfSigned, IsListIssued, IsListUnissued};
 ghost use Rattle.rpkicert.specs.TermsView.{ChecksOne};
 
@@ -28,16 +28,22 @@ pub fn is_self_issued(cert: &Cert) -> bool
 
 /// Whether its own key has signed the certificate.
 fn verify_self_signed(cert: &Cert) -> Result<(), ValidationError>
-    ensures { ChecksBy (IsSelfSigned cert.now) (HasReason verification_text) result }
+    ensures { ChecksBy (IsSelfSigned cert.now) (HasReason bad_text) result }
 {
     let signed = cert.signed_data();
     let key = cert.tbs().subject_public_key_info();
-    verify_signature(signed.data().as_slice(), signed.signature(), &PROVIDER, key)
+    verify_signature(
+        signed.data().as_slice(),
+        signed.signature(),
+        &PROVIDER,
+        key,
+        "bad signature",
+    )
 }
 
 /// The same where a certificate is there.
 pub fn check_anchor(cert: Option<&Cert>) -> Result<(), ValidationError>
-    ensures { ChecksOne IsSelfSigned (λ _. HasReason verification_text) (option_copied cert.entry) result }
+    ensures { ChecksOne IsSelfSigned (λ _. HasReason bad_text) (option_copied cert.entry) result }
 {
     match cert {
         Some(cert) => verify_self_signed(cert),
@@ -47,16 +53,22 @@ pub fn check_anchor(cert: Option<&Cert>) -> Result<(), ValidationError>
 
 /// Whether the key has signed the list.
 fn verify_list_signed(key: &PublicKey, list: &Crl) -> Result<(), ValidationError>
-    ensures { ChecksBy (IsSignedBy rsa ecdsa key.now list.now.signed) (HasReason verification_text) result }
+    ensures { ChecksBy (IsSignedBy rsa ecdsa key.now list.now.signed) (HasReason bad_text) result }
 {
     let signed = list.signed_data();
-    verify_signature(signed.data().as_slice(), signed.signature(), &PROVIDER, key)
+    verify_signature(
+        signed.data().as_slice(),
+        signed.signature(),
+        &PROVIDER,
+        key,
+        "bad signature",
+    )
 }
 
 /// Whether the key of the certificate has signed the list, which names its subject as the issuer, and the key.
 ///
-/// The error is `Verification` of the first that isn't so: `signature verification failed`; `issuer name mismatch`;
-/// `authority key identifier mismatch`.
+/// The error is `Verification` of the first that isn't so: `bad signature`; `issuer name mismatch`; `authority key
+/// identifier mismatch`.
 pub fn verify_list(issuer: &TbsCert, list: &Crl) -> Result<(), ValidationError>
     ensures { ChecksBy (IsListIssued issuer.now list.now) (IsListUnissued issuer.now list.now) result }
 {

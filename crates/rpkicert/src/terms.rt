@@ -4,8 +4,8 @@ ghost use Rattle.std.specs.Prelude.{◌≡◌, MatchResult, option_map};
 ghost use Rattle.std.specs.Option.{option_copied};
 ghost use Rattle.rpki_time.specs.Validity.{HoldsAt};
 ghost use Rattle.rpki_cert.specs.RuleError.{ChecksBy};
-ghost use Rattle.rpki.specs.ErrorTexts.{verification_text};
 ghost use Rattle.rpki_valid.specs.Valid.{HasReason, IsPeriodError};
+ghost use Rattle.rpkicert.specs.Fault.{bad_text};
 ghost use Rattle.rpkicert.specs.Terms.{signer_of, list_of, signer_period, list_period, manifest_period};
 ghost use Rattle.rpkicert.specs.Terms.{IsCertIssued, IsCertUnissued, IsListIssued, IsListUnissued};
 ghost use Rattle.rpkicert.specs.Terms.{ArePeriodsHeld, BreaksPeriods, HasIssuer, BreaksIssuer, IsSelfSigned};
@@ -203,7 +203,7 @@ pub fn by(clause: Clause, checked: Result<(), ValidationError>) -> Result<(), Fa
 
 /// The clause that a self-issued certificate, where no issuer is asked for, is signed by its own key.
 fn hold_anchor(terms: &Terms<'_>, object: &Object) -> Result<(), Fault>
-    ensures { HoldsOne C.Anchor IsSelfSigned (λ _. HasReason verification_text)
+    ensures { HoldsOne C.Anchor IsSelfSigned (λ _. HasReason bad_text)
         (anchor_of (terms_of terms.now).issuer object.now) result }
 {
     by(Clause::Anchor, check_anchor(anchor(terms.issuer, object)))

@@ -1,7 +1,7 @@
 //! How a certificate violates a profile.
 
 ghost use Rattle.std.specs.Prelude.{◌≡◌, IfOk, string_bytes};
-ghost use Rattle.rpkicert.specs.Violation.{part_text, violation_text};
+ghost use Rattle.rpkicert.specs.Violation.{has_section, part_text, violation_text};
 
 use rpki::repository::error::ValidationError;
 use rpki_cert::CertRule;
@@ -43,6 +43,13 @@ fn part_text(rule: CertRule) -> &'static str
     }
 }
 
+/// Whether the text begins with a section, as those of rules do.
+pub fn has_section(text: &[u8]) -> bool
+    ensures { result ≡ has_section text.now }
+{
+    text.starts_with(b"RFC ") || text.starts_with(b"draft-")
+}
+
 impl Violation {
     /// What a person reads of it: the section of the rule, and what is wrong. The text of a rule has both; the error of
     /// a name, or of an extension that is malformed or not as critical as it has to be, has neither, and is put behind
@@ -54,7 +61,7 @@ impl Violation {
     {
         let error = self.error;
         let said = format!(in alloc; "{error}")?;
-        if said.as_bytes().starts_with(b"RFC ") {
+        if has_section(said.as_bytes()) {
             return Ok(said);
         }
         let part = part_text(self.rule);

@@ -225,10 +225,10 @@ fn inspect_serial(serial: Serial) -> Result<(), ValidationError>
 fn inspect_validity(period: Validity) -> Result<(), ValidationError>
     ensures { ChecksBy (IsOrdered period) (SaysRule CertRule.Validity) result }
 {
-    match period.not_before().verify_not_before(period.not_after()) {
-        Ok(()) => Ok(()),
-        Err(_) => Err(rejected(CertRule::Validity)),
+    if period.not_before() <= period.not_after() {
+        return Ok(());
     }
+    Err(rejected(CertRule::Validity))
 }
 
 /// Whether the key is one of the RPKI's certificates.

@@ -9,7 +9,8 @@ ghost use Rattle.rpki_cert.specs.Known.{certificate_policies};
 ghost use Rattle.rpki_cert.specs.ExtensionContent.{SpellsPolicies};
 ghost use Rattle.rpki_cert.specs.RuleWords.{HasSome};
 ghost use Rattle.rpki_cert.specs.ResourceExtensions.{AreWellFormed, AreOwn};
-ghost use Rattle.rpki_valid.specs.ResourceSet.{AreAddressesOf, AreNumbersOf, IsOnlyClaim, IsSettledBy, AreSettledBy};
+ghost use Rattle.rpki_valid.specs.ResourceSet.{AreAddressesOf, AreNumbersOf, ListsAddresses, ListsNumbers};
+ghost use Rattle.rpki_valid.specs.ResourceSet.{IsOnlyClaim, IsSettledBy, AreSettledBy};
 ghost use Rattle.rpki_valid.specs.ResourceSet.{AreAnchored, IsUnsettled, IsKindUnsettled, IsUnanchored, IsOut};
 ghost use Rattle.rpki_valid.specs.ResourceSet.{SettlesUnder, HasOwnResources, SettlesOwn};
 
@@ -41,13 +42,14 @@ fn out_of_memory() -> ValidationError
 
 /// Keeps addresses that were read in place; where no extension is there, no kind is named.
 ///
-/// Returns `AllocError` if allocation fails.
+/// Returns `AllocError` if allocation fails, only where blocks are listed.
 fn keep_addresses(
     alloc: Global,
     found: Option<IpResourcesView<'_>>,
 ) -> Result<IpResources, AllocError>
     ensures kept { IfOk result (λ v. AreAddressesOf v found.entry) }
     ensures only { IfOk result (λ v. (w : IpResources) → AreAddressesOf w found.entry → w ≡ v) }
+    ensures memory { IfErr result (λ _. ListsAddresses found.entry) }
 {
     match found {
         Some(view) => {
@@ -64,10 +66,11 @@ fn keep_addresses(
 
 /// Keeps numbers that were read in place; where no extension is there, none are named.
 ///
-/// Returns `AllocError` if allocation fails.
+/// Returns `AllocError` if allocation fails, only where blocks are listed.
 fn keep_numbers(alloc: Global, found: Option<ChoiceView<'_>>) -> Result<AsResources, AllocError>
     ensures kept { IfOk result (λ v. AreNumbersOf v found.entry) }
     ensures only { IfOk result (λ v. (w : AsResources) → AreNumbersOf w found.entry → w ≡ v) }
+    ensures memory { IfErr result (λ _. ListsNumbers found.entry) }
 {
     match found {
         Some(view) => {
@@ -192,7 +195,7 @@ pub(crate) fn settle(
 {
     let policy = match cert.overclaim() {
         Ok(Some(policy)) => policy,
-        Ok(None) => return Err(unverified("resources that the issuer does not have")),
+        Ok(None) => return Err(unverified("RFC 6487 7.2: resources that the issuer does not have")),
         Err(e) => return Err(e),
     };
     let claim = match claim_of(cert, alloc) {
@@ -202,7 +205,7 @@ pub(crate) fn settle(
     match claim.settle(alloc, policy, issuer) {
         Ok(resources) => Ok(resources),
         Err(SettleError::Overclaim) => {
-            Err(unverified("resources that the issuer does not have"))
+            Err(unverified("RFC 6487 7.2: resources that the issuer does not have"))
         }
         Err(_) => Err(out_of_memory()),
     }

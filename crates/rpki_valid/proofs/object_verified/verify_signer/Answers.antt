@@ -1,4 +1,4 @@
-use Rattle.std.proofs.Common.{Some, false, sym, codes}
+use Rattle.std.proofs.Common.{Some, false, sym}
 use Rattle.rpki.specs.KeyIdentifier.{SpellsKeyIdentifier}
 use Rattle.rpki_cert.specs.Cert.{find}
 use Rattle.rpki_cert.specs.Known.{subject_key_identifier}
@@ -7,6 +7,7 @@ use Rattle.rpki_cert.proofs.SomeLaws.{not-true}
 use Rattle.rpki_cert.proofs.ProfileLaws.{says-other, says-wrong}
 use Rattle.rpki_valid.proofs.object_verified.verify_signer.Goals as goal
 use Rattle.rpki_cert.specs.ExtensionContent.{WholeFault, subject_content}
+use Rattle.rpki_valid.specs.ErrorTexts.{signer_text}
 
 pub returns-else-is_identifier : goal.returns-else-is_identifier
 returns-else-is_identifier c =
@@ -14,7 +15,7 @@ returns-else-is_identifier c =
     let wanted = rw c.signer_identifier.ensures at c.is_identifier.ensures in
     let extensions = c.args.object.now.cert.tbs.extensions in
     says-other false SpellsKeyIdentifier (WholeFault subject_content)
-    (HasReason (codes "subject key identifier mismatch"))
+    (HasReason signer_text)
     (find subject_key_identifier extensions) _ c.in-Ok.found c.unverified.result found
     (λ k. (
       Some c.args.object.now.signer.identifier,
@@ -28,6 +29,6 @@ returns-in-Err c =
     let wrong = rw (c.tbs.ensures, c.cert.ensures) at c.in-Err.ensures in
     let extensions = c.args.object.now.cert.tbs.extensions in
     says-wrong false SpellsKeyIdentifier (WholeFault subject_content)
-    (HasReason (codes "subject key identifier mismatch"))
+    (HasReason signer_text)
     (find subject_key_identifier extensions) _ c.in-Err.e wrong
     (λ k. (Some c.args.object.now.signer.identifier, k))

@@ -1,4 +1,4 @@
-use Rattle.std.proofs.Common.{Some, false, sym, codes}
+use Rattle.std.proofs.Common.{Some, false, sym}
 use Rattle.rpki_cert.specs.ExtensionContent.{SpellsAuthority}
 use Rattle.rpki_cert.specs.Cert.{find}
 use Rattle.rpki_cert.specs.Known.{authority_key_identifier}
@@ -7,11 +7,12 @@ use Rattle.rpki_cert.proofs.SomeLaws.{not-true}
 use Rattle.rpki_cert.proofs.ProfileLaws.{says-other, says-wrong}
 use Rattle.rpki_valid.proofs.verify.verify_authority.Goals as goal
 use Rattle.rpki_cert.specs.ExtensionContent.{WholeFault, authority_content}
+use Rattle.rpki_valid.specs.ErrorTexts.{authority_text}
 
 pub returns-else-is_identifier : goal.returns-else-is_identifier
 returns-else-is_identifier c =
     says-other false SpellsAuthority (WholeFault authority_content)
-    (HasReason (codes "authority key identifier mismatch"))
+    (HasReason authority_text)
     (find authority_key_identifier c.args.cert.now.extensions) _ c.in-Ok.found c.unverified.result c.in-Ok.ensures
     (λ k. (
       Some c.args.wanted,
@@ -23,6 +24,6 @@ returns-else-is_identifier c =
 pub returns-in-Err : goal.returns-in-Err
 returns-in-Err c =
     says-wrong false SpellsAuthority (WholeFault authority_content)
-    (HasReason (codes "authority key identifier mismatch"))
+    (HasReason authority_text)
     (find authority_key_identifier c.args.cert.now.extensions) _ c.in-Err.e c.in-Err.ensures
     (λ k. (Some c.args.wanted, k))

@@ -10,7 +10,7 @@ returns-in_err-authority-clause-err g c =
     let v = verified_by g.P.Provider.rsa_of g.P.Provider.ecdsa_of g.P.Provider.sha1_of s.issuer in
     let sha256 = g.P.Provider.sha256_of s.issuer.provider in
     tried-error _ _ _ c.from_residual.ensures
-    (authority-refused v sha256 s.at c.list-issued.ensures.issued.period s.list c.args.cert _
+    (authority-refused v sha256 s.at c.in_err-authority.ensures.issued.period s.list c.args.cert _
     c.in_err-authority.ensures.err)
 
 pub returns-clause-ok : goal.returns-clause-ok
@@ -18,4 +18,5 @@ returns-clause-ok g c =
     let s = c.args.list.now in
     let v = verified_by g.P.Provider.rsa_of g.P.Provider.ecdsa_of g.P.Provider.sha1_of s.issuer in
     let sha256 = g.P.Provider.sha256_of s.issuer.provider in
-    cert-found v sha256 s.at c.list-issued.ensures.issued.period s.list c.args.cert Ca _ c.in_ok-authority.ensures.ok
+    cert-found v sha256 s.at c.in_ok-authority.ensures.issued.period s.list c.args.cert Ca _
+    c.in_ok-authority.ensures.ok

@@ -11,10 +11,10 @@ returns-in_err-aspa g c =
     let s = c.args.list.now in
     let v = verified_by g.P.Provider.rsa_of g.P.Provider.ecdsa_of g.P.Provider.sha1_of s.issuer in
     let sha256 = g.P.Provider.sha256_of s.issuer.provider in
-    let none = rw (c.is_strict.ensures, c.issuer.ensures) at c.in_err-aspa.ensures in
+    let none = rw (c.strictness.ensures, c.issuer.ensures.value) at c.in_err-aspa.ensures in
     tried-fault _ _ _ _ c.from_residual.ensures
-    (object-malformed v sha256 s.at c.list-issued.ensures.issued.period s.list
-    (aspa_object s.issuer.terms.strict) KeepsAspaRules
+    (object-malformed v sha256 s.at c.issuer.ensures.issued.period s.list
+    (aspa_object s.issuer.terms.strictness.attributes) KeepsAspaRules
     BreaksAspaRules aspa-broken c.args.octets _ none)
 
 pub returns-in_err-process_aspa : goal.returns-in_err-process_aspa
@@ -22,10 +22,10 @@ returns-in_err-process_aspa g c =
     let s = c.args.list.now in
     let v = verified_by g.P.Provider.rsa_of g.P.Provider.ecdsa_of g.P.Provider.sha1_of s.issuer in
     let sha256 = g.P.Provider.sha256_of s.issuer.provider in
-    let read = rw (c.is_strict.ensures, c.issuer.ensures) at c.in_ok-aspa.ensures in
+    let read = rw (c.strictness.ensures, c.issuer.ensures.value) at c.in_ok-aspa.ensures in
     tried-fault _ _ _ _ c.from_residual-in_err-process_aspa.ensures
-    (object-invalid v sha256 s.at c.list-issued.ensures.issued.period s.list
-    (aspa_object s.issuer.terms.strict) KeepsAspaRules
+    (object-invalid v sha256 s.at c.issuer.ensures.issued.period s.list
+    (aspa_object s.issuer.terms.strictness.attributes) KeepsAspaRules
     BreaksAspaRules aspa-broken c.args.octets c.in_ok-aspa.aspa read _ c.in_err-process_aspa.ensures.exactly)
 
 pub returns : goal.returns
@@ -33,7 +33,7 @@ returns g c =
     let s = c.args.list.now in
     let v = verified_by g.P.Provider.rsa_of g.P.Provider.ecdsa_of g.P.Provider.sha1_of s.issuer in
     let sha256 = g.P.Provider.sha256_of s.issuer.provider in
-    let read = rw (c.is_strict.ensures, c.issuer.ensures) at c.in_ok-aspa.ensures in
-    object-found v sha256 s.at c.list-issued.ensures.issued.period s.list
-    (aspa_object s.issuer.terms.strict) KeepsAspaRules BreaksAspaRules
+    let read = rw (c.strictness.ensures, c.issuer.ensures.value) at c.in_ok-aspa.ensures in
+    object-found v sha256 s.at c.issuer.ensures.issued.period s.list
+    (aspa_object s.issuer.terms.strictness.attributes) KeepsAspaRules BreaksAspaRules
     aspa-broken c.args.octets c.in_ok-aspa.aspa read _ c.in_ok-process_aspa.ensures.exactly

@@ -13,6 +13,6 @@ returns-in_err-view c =
 
 pub returns : goal.returns
 returns c =
-    let v = c.in_ok-numbers.ensures in
+    let v = c.in_ok-numbers.ensures.kept in
     such-read AreAsResourcesOf as_resources (as_of c.in_ok-numbers.numbers) c.in_ok-view.ensures v.0
     (as-only c.in_ok-view.view c.in_ok-numbers.numbers v)

@@ -13,7 +13,7 @@ returns-in_err-view c =
 
 pub returns : goal.returns
 returns c =
-    let v4 = c.in_ok-v4.ensures in
-    let v6 = c.in_ok-v6.ensures in
+    let v4 = c.in_ok-v4.ensures.kept in
+    let v6 = c.in_ok-v6.ensures.kept in
     such-read AreIpResourcesOf ip_resources (ip_of c.in_ok-v4.v4 c.in_ok-v6.v6) c.in_ok-view.ensures (v4.0, v6.0)
     (ip-only c.in_ok-view.view c.in_ok-v4.v4 c.in_ok-v6.v6 v4 v6)

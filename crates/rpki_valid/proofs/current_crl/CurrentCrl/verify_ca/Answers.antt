@@ -6,11 +6,11 @@ use Rattle.rpki_valid.proofs.current_crl.CurrentCrl.verify_ca.Goals as goal
 
 pub returns-in_err-depth-clause-err : goal.returns-in_err-depth-clause-err
 returns-in_err-depth-clause-err g c = tried-error _ _ _ c.from_residual.ensures
-    (inl (rw c.issuer.ensures at c.in_err-depth.ensures.refused))
+    (inl (rw c.issuer.ensures.value at c.in_err-depth.ensures.refused))
 
 pub returns-in_err-resources-clause-err : goal.returns-in_err-resources-clause-err
 returns-in_err-resources-clause-err g c = tried-error _ _ _ c.from_residual-in_err-resources.ensures
-    (inr (rw c.issuer.ensures at c.in_ok-depth.ensures.within, c.in_err-resources.ensures.exactly))
+    (inr (rw c.issuer.ensures.value at c.in_ok-depth.ensures.within, c.in_err-resources.ensures.exactly))
 
 pub of_parts-requires : goal.of_parts-requires
 of_parts-requires g c = λ m h.
@@ -24,13 +24,13 @@ of_parts-requires g c = λ m h.
       c.staleness.ensures,
       c.terms.ensures,
       c.provider.ensures,
-      c.issuer-issuer.ensures,
+      c.issuer-issuer.ensures.value,
     )
     (listed-at v s.at m c.args.cert (Some s.list) c.in_ok-resources.resources c.in_ok-resources.ensures.verified
-    c.in_ok-resources.ensures.exactly above.0 holds.1 c.in_ok-depth.depth (rw c.issuer.ensures at
+    c.in_ok-resources.ensures.exactly above.0 holds.1 c.in_ok-depth.depth (rw c.issuer.ensures.value at
     c.in_ok-depth.ensures.next)
-    (rw c.issuer.ensures at c.in_ok-depth.ensures.below) s.staleness s.list c.in_ok-resources.ensures.issued above.1
-    c.in_ok-resources.ensures.exactly.path.unrevoked)
+    (rw c.issuer.ensures.value at c.in_ok-depth.ensures.below) s.staleness s.list c.in_ok-resources.ensures.issued
+    above.1 c.in_ok-resources.ensures.exactly.path.unrevoked)
 
 pub returns-clause-period : goal.returns-clause-period
 returns-clause-period g c = rw c.of_parts.ensures (λ m.

@@ -7,9 +7,9 @@ use Rattle.rpki_valid.proofs.verified.ResourceCert.check_link.Goals as goal
 
 pub verify_path-requires : goal.verify_path-requires
 verify_path-requires g c =
-    let has = has-policy c.args.self.now.terms.strict c.args.cert.now.tbs c.args.profile (rw (
+    let has = has-policy c.args.self.now.terms.strictness.names c.args.cert.now.tbs c.args.profile (rw (
       c.tbs.ensures,
-      c.is_strict.ensures,
+      c.strictness.ensures,
     )
     at c.in_ok-inspect.ensures) in
     record { policy = has.0; form = has.1 }
@@ -18,7 +18,7 @@ pub returns-clause-exactly : goal.returns-clause-exactly
 returns-clause-exactly g c =
     let v = verified_by g.P.Provider.rsa_of g.P.Provider.ecdsa_of g.P.Provider.sha1_of c.args.self.now in
     profile-then c.args.profile (option_copied c.args.list) v c.args.at c.args.cert.now c.verify_path.result
-    (rw (c.tbs.ensures, c.is_strict.ensures) at c.in_ok-inspect.ensures) c.verify_path.ensures.exactly
+    (rw (c.tbs.ensures, c.strictness.ensures) at c.in_ok-inspect.ensures) c.verify_path.ensures.exactly
 
 pub returns-clause-within : goal.returns-clause-within
 returns-clause-within g c =
@@ -31,4 +31,4 @@ returns-in_err-inspect-clause-exactly g c =
     let v = verified_by g.P.Provider.rsa_of g.P.Provider.ecdsa_of g.P.Provider.sha1_of c.args.self.now in
     tried-fault _ _ _ _ c.from_residual.ensures
     (profile-else c.args.profile (option_copied c.args.list) v c.args.at c.args.cert.now _
-    (rw (c.tbs.ensures, c.is_strict.ensures) at c.in_err-inspect.ensures))
+    (rw (c.tbs.ensures, c.strictness.ensures) at c.in_err-inspect.ensures))

@@ -12,7 +12,7 @@ pub of_parts-requires : goal.of_parts-requires
 of_parts-requires g c = λ m h.
     let p = c.args.provider.now in
     let by = checkers_of (g.P.Provider.rsa_of p) (g.P.Provider.ecdsa_of p) (g.P.Provider.sha1_of p) in
-    let terms = terms_of c.args.terms.key.now c.args.terms.strict c.args.terms.deepest in
+    let terms = terms_of c.args.terms.key.now c.args.terms.strictness c.args.terms.deepest in
     root-at terms (Some Refused) by c.args.at m (holder c.args.cert c.in_ok-resources.resources)
     c.in_ok-resources.ensures
     (rw (c.validity-period.ensures, c.tbs.ensures) at h)
