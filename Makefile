@@ -5,7 +5,8 @@
 #   make install      header, archive, shared library, rpki.pc, the page rpki(3)
 #                     [PREFIX=/usr/local] [LIBDIR=PREFIX/lib] [MANDIR=PREFIX/share/man] [DESTDIR=]
 #   make uninstall    removes these, by the same variables
-#   make install-program     in a clone: rpkicert and the page rpkicert(1) [PROGRAM=where it was built, BINDIR=PREFIX/bin]
+#   make install-program     in a clone: a program and its page [TOOL=rpkicert or rpkivalid, PROGRAM=where it was built,
+#                            BINDIR=PREFIX/bin]
 #   make uninstall-program
 #   make dist         in a clone: the package, in bindings/out/dist [ARCHIVES=FOLDER of archives that were made]
 #
@@ -20,7 +21,8 @@ INCLUDEDIR ?= $(PREFIX)/include
 LIBDIR ?= $(PREFIX)/lib
 MANDIR ?= $(PREFIX)/share/man
 BINDIR ?= $(PREFIX)/bin
-PROGRAM ?= crates/rpkicert/out/rpkicert
+TOOL ?= rpkicert
+PROGRAM ?= crates/$(TOOL)/out/$(TOOL)
 RUN ?=
 
 VERSION := $(shell sed -n 's/^.define RPKI_VERSION_[A-Z]* \([0-9]*\)$$/\1/p' include/rpki.h | paste -s -d .)
@@ -93,14 +95,14 @@ uninstall:
 	rm -f $(INSTALLED)/librpki.so $(INSTALLED)/librpki.so.$(MAJOR) $(INSTALLED)/librpki.so.$(VERSION)
 	rm -f $(DESTDIR)$(MANDIR)/man3/rpki.3
 
-# `rt run` in crates/rpkicert proves and builds it, tests/gate/unproved.py builds it without proof.
+# `rt run` in the program's crate proves and builds it, tests/gate/unproved.py builds it without proof.
 install-program:
 	install -d $(DESTDIR)$(BINDIR) $(DESTDIR)$(MANDIR)/man1
-	install -m 755 $(PROGRAM) $(DESTDIR)$(BINDIR)/rpkicert
-	install -m 644 crates/rpkicert/rpkicert.1 $(DESTDIR)$(MANDIR)/man1/rpkicert.1
+	install -m 755 $(PROGRAM) $(DESTDIR)$(BINDIR)/$(TOOL)
+	install -m 644 crates/$(TOOL)/$(TOOL).1 $(DESTDIR)$(MANDIR)/man1/$(TOOL).1
 
 uninstall-program:
-	rm -f $(DESTDIR)$(BINDIR)/rpkicert $(DESTDIR)$(MANDIR)/man1/rpkicert.1
+	rm -f $(DESTDIR)$(BINDIR)/$(TOOL) $(DESTDIR)$(MANDIR)/man1/$(TOOL).1
 
 dist:
 	bindings/package $(ARCHIVES)

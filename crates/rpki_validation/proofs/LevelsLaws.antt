@@ -1,7 +1,9 @@
 -- A walk by levels looks at exactly what is reached.
-use Rattle.std.proofs.Common.{◌<◌, ◌≤◌, ◌⊎◌, inl, inr, ℕ, suc, arith}
+use Rattle.std.proofs.Common.{◌<◌, ◌≤◌, ◌⊎◌, inl, inr, ℕ, suc, List, arith}
 use Rattle.std.specs.Prelude.{◌↔◌}
-use Rattle.rpki_validation.specs.Levels.{Reached, AreLevels, IsLevelStep, Either, Never}
+use Rattle.rpki_validation.specs.Levels.{Reached, AreLevels, Before, IsLevelStep, Either, Never}
+use Rattle.rpki_validation.specs.Taking.{Adds, Among}
+use Rattle.std.specs.List.{Contains}
 use Rattle.rpki_validation.specs.Levels.Reached.{First, Next}
 
 module _ {N : Type 0} (IsFirst : N → Type 0) (IsBelow : N → N → Type 0) where
@@ -53,7 +55,55 @@ module _ {N : Type 0} (IsFirst : N → Type 0) (IsBelow : N → N → Type 0) wh
       next = next-then;
     }
 
-  -- what was looked at after k levels is what is reached by fewer than k steps
-  pub seen-exactly : (k : ℕ) (Seen Level Met : N → Type 0) → AreLevels IsFirst IsBelow k Seen Level Met → (x : N)
-      → Seen x ↔ ((n : ℕ) × (n < k) × Reached IsFirst IsBelow n x)
-  seen-exactly k Seen Level Met at x = (at.seen x, λ h. at.done h.0 x h.1 h.2)
+  -- those that were looked at are those that are reached by fewer steps
+  pub levels-before : (k : ℕ) (Seen Level Met : N → Type 0) → AreLevels IsFirst IsBelow k Seen Level Met
+      → AreLevels IsFirst IsBelow k (Before IsFirst IsBelow k) Level Met
+  levels-before k Seen Level Met at = record {
+    level = at.level;
+    seen = λ x h. h;
+    met = λ x h. or x (at.met x h);
+    closed = λ above x h b. or x (at.closed above x (at.done h.0 above h.1 h.2) b);
+    done = λ n x short r. (n, short, r);
+    next = λ n x short r. or x (at.next n x short r);
+  } where
+    or : (x : N) → Seen x ⊎ Level x → Before IsFirst IsBelow k x ⊎ Level x
+    or x (inl h) = inl (at.seen x h)
+    or x (inr h) = inr h
+
+  module _ (k : ℕ) (Level Met : N → Type 0)
+      (at : AreLevels IsFirst IsBelow k (Before IsFirst IsBelow k) Level Met) where
+    -- one step more
+    pub before-next : (x : N) → Before IsFirst IsBelow (suc k) x → Before IsFirst IsBelow k x ⊎ Level x
+    before-next x h = at.next h.0 x (omega (arith, h.1)) h.2
+
+    pub before-then : (x : N) → Before IsFirst IsBelow k x ⊎ Level x → Before IsFirst IsBelow (suc k) x
+    before-then x (inl h) = (h.0, omega (arith, h.1), h.2)
+    before-then x (inr h) = (k, omega arith, at.level x h)
+
+    -- where the level has no nodes, all that is reached was looked at
+    pub all-before : ((x : N) → Level x → ⊥) → (n : ℕ) (x : N) → Reached IsFirst IsBelow n x
+        → Before IsFirst IsBelow k x
+    all-before none n x r = by x (reached n x r)
+      where
+        by : (x : N) → Before IsFirst IsBelow k x ⊎ Level x → Before IsFirst IsBelow k x
+        by x (inl h) = h
+        by x (inr h) = absurd (none x h)
+
+        reached : (n : ℕ) (x : N) → Reached IsFirst IsBelow n x → Before IsFirst IsBelow k x ⊎ Level x
+        reached _ _ (First x h) = at.next 0 x (omega arith) (First x h)
+        reached _ _ (Next n above x r h) = at.closed above x (by above (reached n above r)) h
+
+    module _ {V : Type 0} (Says : N → V → Type 0) (old new : List V)
+        (told : (v : V) → Contains old v ↔ Among (Before IsFirst IsBelow k) Says v)
+        (added : Adds (Among Level Says) old new) where
+      -- what the nodes of the level say is added to what those in front of it say
+      pub told-then : (v : V) → Contains new v ↔ Among (Before IsFirst IsBelow (suc k)) Says v
+      told-then v = (λ h. forth ((added v).0 h), λ h. (added v).1 (back h.0 h.2 (before-next h.0 h.1)))
+        where
+          forth : Contains old v ⊎ Among Level Says v → Among (Before IsFirst IsBelow (suc k)) Says v
+          forth (inl h) = let s = (told v).0 h in (s.0, before-then s.0 (inl s.1), s.2)
+          forth (inr h) = (h.0, before-then h.0 (inr h.1), h.2)
+
+          back : (x : N) → Says x v → Before IsFirst IsBelow k x ⊎ Level x → Contains old v ⊎ Among Level Says v
+          back x s (inl h) = inl ((told v).1 (x, h, s))
+          back x s (inr h) = inr (x, h, s)

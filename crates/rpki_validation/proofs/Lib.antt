@@ -8,6 +8,11 @@
 --   PublicationLaws.
 -- The first trust anchor of a locator: AnchorLaws.
 -- A walk by levels looks at exactly what is reached; that is an authority: LevelsLaws, ReachedLaws.
+-- What is alike publishes and issues the same: AlikeLaws.
+-- What is met and taken for the next level, one after another: MetLaws, NextLaws, TakingLaws.
+-- What octets say under a list, what files say, what the point of an authority says is added: HereLaws (names of files:
+--   EndingLaws), AddingLaws, VisitLaws.
+-- The walk, and that what it tells is exactly what is valid: WalkLaws.
 -- Payloads are signed down from the key of the locator; what stands elsewhere has no part in them: SignedDownLaws,
 --   IsolationLaws.
 
@@ -23,5 +28,14 @@ pub mod PublicationLaws
 pub mod AnchorLaws
 pub mod LevelsLaws
 pub mod ReachedLaws
+pub mod AlikeLaws
+pub mod MetLaws
+pub mod TakingLaws
+pub mod NextLaws
+pub mod AddingLaws
+pub mod EndingLaws
+pub mod HereLaws
+pub mod VisitLaws
+pub mod WalkLaws
 pub mod SignedDownLaws
 pub mod IsolationLaws

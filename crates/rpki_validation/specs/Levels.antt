@@ -19,6 +19,10 @@ pub record AreLevels {N : Type 0} (IsFirst : N → Type 0) (IsBelow : N → N �
   pub done : (n : ℕ) (x : N) → n < k → Reached IsFirst IsBelow n x → Seen x
   pub next : (n : ℕ) (x : N) → n ≤ k → Reached IsFirst IsBelow n x → Seen x ⊎ Level x
 
+-- the node is reached by a path of fewer steps
+abbrev pub Before : {N : Type 0} → (N → Type 0) → (N → N → Type 0) → ℕ → N → Type 0
+Before IsFirst IsBelow k x = (n : ℕ) × (n < k) × Reached IsFirst IsBelow n x
+
 -- One level is looked at: what is taken for the next is below a node of it; all that is below its nodes is met
 -- afterwards; and what is met is what was met, and what is taken.
 pub record IsLevelStep {N : Type 0} (IsBelow : N → N → Type 0) (Level Met Below Met' : N → Type 0) : Type 0 where

@@ -10,5 +10,12 @@ pub mod Reached
 pub mod Steps
 pub mod Authorities
 pub mod Payload
+pub mod Said
+pub mod Alike
+pub mod Met
+pub mod Taking
+pub mod Next
+pub mod Adding
+pub mod Validated
 pub mod SignedDown
 pub mod Isolation

@@ -1,6 +1,7 @@
 //! Trust anchors (RFC 8630 3).
 
 ghost use Rattle.std.specs.Prelude.{◌≡◌, IfOk};
+ghost use Rattle.rpki_time.specs.Validity.{HoldsAt};
 ghost use Rattle.rpki_valid.specs.Verified.{terms_in};
 ghost use Rattle.rpki_validation.specs.Steps.{FindsAnchorIn, FindsAnchorAt, FindsAnchor};
 
@@ -25,6 +26,7 @@ fn anchor_in<'p, P: Provider>(
 ) -> Result<ResourceCert<'p, P>, Stop>
     ensures exactly { FindsAnchorIn P.rsa_of P.ecdsa_of P.sha1_of P.sha256_of (terms_in terms.entry)
         provider.entry.now at octets result }
+    ensures period { IfOk result (λ a. HoldsAt a.period at) }
     ensures terms { IfOk result (λ a. a.terms ≡ terms_in terms.entry) }
     ensures depth { IfOk result (λ a. a.depth ≡ 0) }
     ensures provider { IfOk result (λ a. a.provider ≡ provider.entry.now) }
@@ -45,6 +47,7 @@ fn anchor_at<'p, S: Snapshot, P: Provider>(
 ) -> Result<ResourceCert<'p, P>, Stop>
     ensures exactly { FindsAnchorAt P.rsa_of P.ecdsa_of P.sha1_of P.sha256_of (terms_in terms.entry)
         provider.entry.now at (S.holds snapshot.now) uri.now result }
+    ensures period { IfOk result (λ a. HoldsAt a.period at) }
     ensures terms { IfOk result (λ a. a.terms ≡ terms_in terms.entry) }
     ensures depth { IfOk result (λ a. a.depth ≡ 0) }
     ensures provider { IfOk result (λ a. a.provider ≡ provider.entry.now) }
@@ -70,6 +73,7 @@ pub fn anchor_of<'p, S: Snapshot, P: Provider>(
 ) -> Result<ResourceCert<'p, P>, Stop>
     ensures exactly { FindsAnchor P.rsa_of P.ecdsa_of P.sha1_of P.sha256_of (terms_in terms.entry)
         provider.entry.now at (S.holds snapshot.now) uris.now result }
+    ensures period { IfOk result (λ a. HoldsAt a.period at) }
     ensures terms { IfOk result (λ a. a.terms ≡ terms_in terms.entry) }
     ensures depth { IfOk result (λ a. a.depth ≡ 0) }
     ensures provider { IfOk result (λ a. a.provider ≡ provider.entry.now) }

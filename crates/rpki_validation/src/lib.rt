@@ -6,18 +6,25 @@
 mod anchor;
 mod issued;
 pub mod laws;
+mod met;
+mod next;
+mod outcome;
 mod point;
 mod publication;
 mod reason;
 mod router;
 mod snapshot;
 mod stop;
+mod visit;
+mod walk;
 
 pub use anchor::anchor_of;
 pub use issued::{authority_of, cert_in, is_authority, origins_in, providers_in, router_of};
+pub use outcome::{Outcome, Rejection};
 pub use point::{files_of, verify_publication};
 pub use publication::Publication;
 pub use reason::Reason;
 pub use router::RouterCert;
 pub use snapshot::Snapshot;
 pub use stop::Stop;
+pub use walk::validate;

@@ -38,7 +38,7 @@ impl Model for Publication {
 }
 
 /// The folder of the subject.
-fn repository_of(alloc: Global, tbs: &TbsCert) -> Result<Rsync, Stop>
+pub(crate) fn repository_of(alloc: Global, tbs: &TbsCert) -> Result<Rsync, Stop>
     ensures { Finds (λ x. x) (HasRepository tbs.now) (IsNoRepository tbs.now) result }
 {
     match tbs.ca_repository(alloc)? {
@@ -48,7 +48,7 @@ fn repository_of(alloc: Global, tbs: &TbsCert) -> Result<Rsync, Stop>
 }
 
 /// Where the manifest of the subject is.
-fn manifest_place(alloc: Global, tbs: &TbsCert) -> Result<Rsync, Stop>
+pub(crate) fn manifest_place(alloc: Global, tbs: &TbsCert) -> Result<Rsync, Stop>
     ensures { Finds (λ x. x) (HasManifest tbs.now) (IsNoManifestPlace tbs.now) result }
 {
     match tbs.rpki_manifest(alloc)? {
@@ -101,7 +101,7 @@ fn list_file(files: &[FileAndHash]) -> Option<&FileAndHash>
 }
 
 /// The URI of the file in the folder.
-fn file_uri(alloc: Global, folder: &Rsync, file: &FileAndHash) -> Result<Rsync, Stop>
+pub(crate) fn file_uri(alloc: Global, folder: &Rsync, file: &FileAndHash) -> Result<Rsync, Stop>
     ensures exactly { Finds (λ x. x) (IsFileUri folder.now file.now) (IsNoFileUri folder.now file.now) result }
     ensures meaning { IfOk result (λ uri. uri_of uri ≡ joined_uri (uri_of folder.now) file.now.0) }
 {

@@ -11,3 +11,5 @@ pub mod files;
 #[cfg(test)]
 mod objects;
 pub mod repository;
+#[cfg(test)]
+mod walks;

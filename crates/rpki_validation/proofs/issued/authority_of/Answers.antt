@@ -20,3 +20,10 @@ returns-clause-ok g c =
     let sha256 = g.P.Provider.sha256_of s.issuer.provider in
     cert-found v sha256 s.at c.in_ok-authority.ensures.issued.period s.list c.args.cert Ca _
     c.in_ok-authority.ensures.ok
+
+pub returns-clause-period : goal.returns-clause-period
+returns-clause-period g c =
+    let s = c.args.list.now in
+    let issued = c.in_ok-authority.ensures.issued in
+    (c.in_ok-authority.ensures.period s.at).1
+    ((issued.period, (issued.list.out, issued.list.fresh)), c.in_ok-authority.ensures.ok.path.issued.signed.period)

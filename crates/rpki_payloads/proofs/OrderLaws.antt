@@ -1,0 +1,57 @@
+-- That payloads which compare as equal are one; and which are among converted ones.
+use Rattle.std.proofs.Common.{◌≡◌, ◌∙◌, ℕ, zero, suc, List, [], ◌∷◌, ap, refl, sym, map, arith}
+use Rattle.std.specs.Ordering.{nat_cmp}
+use Rattle.std.specs.List.{Contains}
+use Rattle.std.specs.declared.cmp.Ordering.TheVariants.{Less, Equal, Greater}
+use Rattle.std.specs.declared.net.ip_addr.IpAddr.{IpAddr}
+use Rattle.std.specs.declared.net.ip_addr.IpAddr.TheVariants.{V4, V6}
+use Rattle.std.proofs.lemmas.Map.Lookups.{exact_unsigned, exact_bytes, exact_pairs}
+use Rattle.rpki_contents.specs.declared.route_origin.RouteOrigin.{RouteOrigin}
+use Rattle.rpki_payloads.specs.contracts.vrp.VrpOrd.TheImpl.{ghosts}
+use Rattle.rpki_payloads.specs.declared.vrp.Vrp.{Vrp}
+use Rattle.rpki_payloads.specs.Vrp.{IsExact, ip_cmp, vrp_cmp, vrp_of, origin_of}
+
+pub exact-ip : IsExact ip_cmp
+exact-ip (V4 a) (V4 b) h = ap (λ (o : List ℕ). V4 (record { octets = o })) (exact_bytes a.octets b.octets h)
+exact-ip (V6 a) (V6 b) h = ap (λ (o : List ℕ). V6 (record { segments = o })) (exact_bytes a.segments b.segments h)
+exact-ip (V4 a) (V6 b) h = absurd (let k : Less ≡ Equal = h in cc)
+exact-ip (V6 a) (V4 b) h = absurd (let k : Greater ≡ Equal = h in cc)
+
+pub exact-vrp : IsExact vrp_cmp
+exact-vrp v w h =
+    ap (λ (p : IpAddr × (ℕ × (ℕ × ℕ))). record { addr = p.0; len = p.1.0; max_length = p.1.1.0; as_id = p.1.1.1 })
+    (exact_pairs ip_cmp _ exact-ip (exact_pairs nat_cmp _ exact_unsigned
+    (exact_pairs nat_cmp nat_cmp exact_unsigned exact_unsigned))
+    (v.addr, (v.len, (v.max_length, v.as_id))) (w.addr, (w.len, (w.max_length, w.as_id))) h)
+
+-- the order that is derived is the one that is defined
+pub same-cmp : (v w : Vrp) → ghosts.cmp v w ≡ vrp_cmp v w
+same-cmp v w = by v.addr w.addr refl refl where
+  by : (a b : IpAddr) → v.addr ≡ a → w.addr ≡ b → ghosts.cmp v w ≡ vrp_cmp v w
+  by (V4 a) (V4 b) e f = rw (e, f) refl
+  by (V4 a) (V6 b) e f = rw (e, f) refl
+  by (V6 a) (V4 b) e f = rw (e, f) refl
+  by (V6 a) (V6 b) e f = rw (e, f) refl
+
+-- what is among the payloads of route origins
+pub among-map : {A B : Type 0} (f : A → B) (g : B → A) → ((y : B) → f (g y) ≡ y) → ((x : A) → g (f x) ≡ x)
+    → (xs : List A) (y : B) → Contains (map f xs) y → Contains xs (g y)
+among-map f g there back [] y (k, below, is) = absurd (omega (arith, below))
+among-map f g there back (x ∷ xs) y (zero, below, is) = (0, omega arith, sym (back x) ∙ ap g is)
+among-map f g there back (x ∷ xs) y (suc k, below, is) =
+    let h = among-map f g there back xs y (k, omega (arith, below), is) in
+    (suc h.0, omega (arith, h.1), h.2)
+
+pub map-among : {A B : Type 0} (f : A → B) (g : B → A) → ((y : B) → f (g y) ≡ y)
+    → (xs : List A) (y : B) → Contains xs (g y) → Contains (map f xs) y
+map-among f g there [] y (k, below, is) = absurd (omega (arith, below))
+map-among f g there (x ∷ xs) y (zero, below, is) = (0, omega arith, ap f is ∙ there y)
+map-among f g there (x ∷ xs) y (suc k, below, is) =
+    let h = map-among f g there xs y (k, omega (arith, below), is) in
+    (suc h.0, omega (arith, h.1), h.2)
+
+pub origins-from : (os : List RouteOrigin) (v : Vrp) → Contains (map vrp_of os) v → Contains os (origin_of v)
+origins-from os v h = among-map vrp_of origin_of (λ y. refl) (λ x. refl) os v h
+
+pub origins-to : (os : List RouteOrigin) (v : Vrp) → Contains os (origin_of v) → Contains (map vrp_of os) v
+origins-to os v h = map-among vrp_of origin_of (λ y. refl) os v h

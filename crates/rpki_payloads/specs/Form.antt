@@ -1,0 +1,15 @@
+-- The text of payloads in a form.
+use Rattle.std.specs.Prelude.{◌≡◌, ℕ, List}
+use Rattle.rpki_payloads.specs.declared.form.Form.{Form}
+use Rattle.rpki_payloads.specs.declared.form.Form.TheVariants.{Csv, Json, OpenBgpd, Bird}
+use Rattle.rpki_payloads.specs.declared.vrp.Vrp.{Vrp}
+use Rattle.rpki_payloads.specs.Json.{json_text}
+use Rattle.rpki_payloads.specs.Lines.{bird_text, csv_text, openbgpd_text}
+use Rattle.rpki_payloads.specs.Vrp.{AreUnited, PayloadParts}
+
+-- In csv and JSON those of a locator follow those of the one before; in the others there is each once.
+abbrev pub IsTextIn : Form → List PayloadParts → List ℕ → Type 0
+IsTextIn Csv all text = text ≡ csv_text all
+IsTextIn Json all text = text ≡ json_text all
+IsTextIn OpenBgpd all text = (vrps : List Vrp) × AreUnited all vrps × (text ≡ openbgpd_text vrps)
+IsTextIn Bird all text = (vrps : List Vrp) × AreUnited all vrps × (text ≡ bird_text vrps)

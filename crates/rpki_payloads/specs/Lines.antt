@@ -1,0 +1,49 @@
+-- The forms with a line a payload.
+use Rattle.std.specs.Prelude.{ℕ, List, [], ◌∷◌, ◌++◌, codes, decimal}
+use Rattle.std.specs.List.{flat_map}
+use Rattle.std.specs.Net.Text.{ip_text}
+use Rattle.rpki_resources.specs.Text.{as_number_text, prefix_text}
+use Rattle.rpki_payloads.specs.declared.vrp.Vrp.{Vrp}
+use Rattle.rpki_payloads.specs.Vrp.{PayloadParts}
+
+-- its prefix: `10.0.0.0/8`
+abbrev pub vrp_prefix : Vrp → List ℕ
+vrp_prefix v = prefix_text (ip_text v.addr) v.len
+
+-- ---- csv, as of Routinator: `AS64496,10.0.0.0/8,24,example`, under a line of titles
+
+abbrev pub csv_line : List ℕ → Vrp → List ℕ
+csv_line name v =
+    as_number_text v.as_id ++ codes "," ++ vrp_prefix v ++ codes "," ++ decimal v.max_length ++ codes "," ++ name
+    ++ 10 ∷ []
+
+-- those under a locator
+abbrev pub csv_lines : PayloadParts → List ℕ
+csv_lines p = flat_map (csv_line p.name) p.vrps
+
+abbrev pub csv_text : List PayloadParts → List ℕ
+csv_text all = codes "ASN,IP Prefix,Max Length,Trust Anchor\n" ++ flat_map csv_lines all
+
+-- ---- OpenBGPD, bgpd.conf(5): `10.0.0.0/8 maxlen 24 source-as 64496` in a set
+
+unfoldable pub openbgpd_length : Vrp → List ℕ
+openbgpd_length v = codes " maxlen " ++ decimal v.max_length
+
+unfoldable pub openbgpd_number : Vrp → List ℕ
+openbgpd_number v = codes " source-as " ++ decimal v.as_id ++ 10 ∷ []
+
+abbrev pub openbgpd_line : Vrp → List ℕ
+openbgpd_line v = codes "    " ++ vrp_prefix v ++ openbgpd_length v ++ openbgpd_number v
+
+abbrev pub openbgpd_text : List Vrp → List ℕ
+openbgpd_text vrps = codes "roa-set {\n" ++ flat_map openbgpd_line vrps ++ codes "}\n"
+
+-- ---- BIRD 2: `route 10.0.0.0/8 max 24 as 64496;` of the protocol `static`
+
+abbrev pub bird_line : Vrp → List ℕ
+bird_line v =
+    codes "route " ++ vrp_prefix v ++ codes " max " ++ decimal v.max_length ++ codes " as " ++ decimal v.as_id
+    ++ codes ";\n"
+
+abbrev pub bird_text : List Vrp → List ℕ
+bird_text vrps = flat_map bird_line vrps

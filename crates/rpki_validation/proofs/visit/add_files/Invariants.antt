@@ -1,0 +1,19 @@
+use Rattle.std.proofs.Common.{◌≡◌, length}
+use Rattle.std.specs.Vec.Iter.{into_iter_items, into_iter_len}
+use Rattle.rpki_validation.specs.Adding.{found}
+use Rattle.rpki_validation.specs.Next.{AreSistersBelow}
+use Rattle.rpki_validation.proofs.AddingLaws.{AreLeft}
+use Rattle.rpki_validation.proofs.visit.add_files.Given as goal
+
+-- of what all files say, what those say that are left is still to be added
+abbrev pub invariant-octets : goal.invariant-octets
+invariant-octets g l =
+    let p = g.P.Provider in
+    record {
+      next : (goal.iterator-octets g).can_next l.one-iterator;
+      ends : (goal.iterator-octets g).is_finite l.one-iterator;
+      count : into_iter_len l.one-iterator ≡ length (into_iter_items l.one-iterator);
+      sisters : AreSistersBelow l.list.issuer l.list.at l.fn.next.level.items l.next.level.items;
+      said : AreLeft p.rsa_of p.ecdsa_of p.sha1_of p.sha256_of l.list l.fn.files l.rest l.fn.octets.items
+          (into_iter_items l.one-iterator) (found l.fn.next l.fn.outcome) (found l.next l.outcome);
+    }

@@ -1,0 +1,9 @@
+use Rattle.std.proofs.Common.{◌≡◌, ◌++◌, length}
+use Rattle.rpki_validation.proofs.visit.push_origins.Given as goal
+
+-- those that are left are to be added
+abbrev pub invariant-origins : goal.invariant-origins
+invariant-origins l = l.fn.origins.items ++ l.fn.rest ≡ l.origins.items ++ l.rest
+
+abbrev pub decreases-origins : goal.decreases-origins
+decreases-origins l = length l.rest

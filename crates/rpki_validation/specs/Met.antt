@@ -1,0 +1,88 @@
+-- Authorities that were met, by what tells them apart.
+use Rattle.std.specs.Prelude.{◌≡◌, ◌↔◌, ◌++◌, ◌⊎◌, ℕ, Bool, List, [], ◌∷◌, length, map, Option, Some, None, Result}
+use Rattle.std.specs.Prelude.{Ok, Err}
+use Rattle.std.specs.BTreeSet.{BTreeSet}
+use Rattle.std.specs.Bool.{OnFalse}
+use Rattle.std.specs.List.{Contains}
+use Rattle.rpki.specs.declared.crypto.keys.PublicKeyFormat.{PublicKeyFormat}
+use Rattle.rpki.specs.declared.crypto.keys.PublicKeyFormat.TheVariants.{Rsa, EcdsaP256}
+use Rattle.rpki_resources.specs.declared.block.Block.{Block}
+use Rattle.rpki_valid.specs.declared.resource.set.ResourceSet.{ResourceSet}
+use Rattle.rpki_valid.specs.Verified.{Holder}
+use Rattle.rpki_validation.specs.declared.stop.Stop.{Stop}
+use Rattle.rpki_validation.specs.declared.stop.Stop.TheVariants.{Rejected, OutOfMemory}
+use Rattle.rpki_validation.specs.Publication.{HasManifest, HasRepository}
+
+-- ---- numbers
+
+-- the lowest and the highest number of each block
+abbrev pub bounds : List Block → List ℕ
+bounds [] = []
+bounds (b ∷ bs) = b.low ∷ b.high ∷ bounds bs
+
+-- their count in front
+abbrev pub counted : List Block → List ℕ
+counted bs = length bs ∷ bounds bs
+
+-- resources as numbers, which no others have
+abbrev pub numbers_of : ResourceSet → List ℕ
+numbers_of x = counted x.ipv4 ++ counted x.ipv6 ++ counted x.asn
+
+-- an algorithm's
+abbrev pub format_number : PublicKeyFormat → ℕ
+format_number Rsa = 0
+format_number EcdsaP256 = 1
+
+-- ---- marks
+
+-- what tells an authority apart: its name, its key's bits, where it publishes, and numbers
+pub record Mark : Type 0 where
+  pub name : List ℕ
+  pub key : List ℕ
+  pub folder : Option (List ℕ)
+  pub manifest : Option (List ℕ)
+  pub numbers : List ℕ
+
+abbrev pub mark : List ℕ → List ℕ → Option (List ℕ) → Option (List ℕ) → List ℕ → Mark
+mark name key folder manifest numbers =
+    record { name = name; key = key; folder = folder; manifest = manifest; numbers = numbers }
+
+-- the URI is that which is named, or none is
+abbrev pub IsPlace : (List ℕ → Type 0) → Option (List ℕ) → Type 0
+IsPlace Has place = (uri : List ℕ) → Has uri ↔ (place ≡ Some uri)
+
+-- the mark of an authority
+pub record HasMark (x : Holder) (m : Mark) : Type 0 where
+  pub name : m.name ≡ x.cert.tbs.subject
+  pub key : m.key ≡ x.cert.tbs.key.bits.octets
+  pub folder : IsPlace (HasRepository x.cert.tbs) m.folder
+  pub manifest : IsPlace (HasManifest x.cert.tbs) m.manifest
+  pub numbers : m.numbers
+      ≡ format_number x.cert.tbs.key.format ∷ x.cert.tbs.key.bits.unused ∷ numbers_of x.resources
+
+-- of a URI that was found, or not
+abbrev pub IsPlaceOf : Result (List ℕ) Stop → Option (List ℕ) → Type 0
+IsPlaceOf (Ok uri) place = place ≡ Some uri
+IsPlaceOf (Err (Rejected reason)) place = place ≡ None
+IsPlaceOf (Err OutOfMemory) place = ⊥
+
+-- ---- sets of them
+
+module _ {V : Type 0} (numbers : V → List ℕ) where
+  -- what a key of a set is
+  abbrev pub mark_in : List ℕ × List ℕ × Option (List ℕ) × Option (List ℕ) × V → Mark
+  mark_in k = mark k.0 k.1 k.2 k.3 (numbers k.4)
+
+  abbrev pub marks_of : BTreeSet (List ℕ × List ℕ × Option (List ℕ) × Option (List ℕ) × V) → List Mark
+  marks_of s = map mark_in s.keys
+
+-- exactly the mark is added; or it was there, and nothing is
+pub record Inserts (before after : List Mark) (mark : Mark) (is_new : Bool) : Type 0 where
+  pub added : Contains after mark
+  pub kept : (x : Mark) → Contains after x → Contains before x ⊎ (x ≡ mark)
+  pub old : (x : Mark) → Contains before x → Contains after x
+  pub same : OnFalse is_new (after ≡ before)
+
+-- the mark of an authority is so
+abbrev pub InsertsMarkOf : List Mark → List Mark → Holder → Bool → Type 0
+InsertsMarkOf before after x is_new = (m : Mark) × HasMark x m × Inserts before after m is_new

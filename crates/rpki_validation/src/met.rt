@@ -1,0 +1,130 @@
+//! Authorities that were met.
+
+ghost use Rattle.std.specs.Prelude.{◌≡◌, ◌++◌, [], IfOk};
+ghost use Rattle.rpki_validation.specs.Basis.{holder_of};
+ghost use Rattle.rpki_validation.specs.Met.{counted, format_number, numbers_of, mark_in};
+ghost use Rattle.rpki_validation.specs.Met.{HasMark, InsertsMarkOf, IsPlaceOf};
+
+use crate::publication::{manifest_place, repository_of};
+use crate::stop::Stop;
+use bytes::Bytes;
+use rpki::crypto::{Provider, PublicKeyFormat};
+use rpki::uri::Rsync;
+use rpki_resources::Blocks;
+use rpki_valid::{ResourceCert, ResourceSet};
+use std::alloc::{AllocError, Global};
+use std::collections::BTreeSet;
+use std::marker::Model;
+
+/// What tells an authority apart: its name, its key's bits, the URIs of its folder and its manifest, and numbers: the
+/// algorithm of the key, its count of unused bits, and the resources. Octets are compared, and no digests of them.
+type Mark = (Bytes, Bytes, Option<Bytes>, Option<Bytes>, Vec<u128>);
+
+/// Authorities that were met.
+#[derive(Drop)]
+pub(crate) struct Met {
+    marks: BTreeSet<Mark>,
+}
+
+impl Model for Met {
+    ghost use Rattle.std.specs.Prelude.{List};
+    ghost use Rattle.rpki_validation.specs.Met.{Mark, marks_of};
+
+    ghost Value = { List Mark };
+
+    ghost view = { λ x. marks_of (λ v. v.items) x.marks };
+}
+
+/// Adds the blocks to the numbers: their count, then the lowest and the highest number of each.
+fn push_blocks(blocks: &Blocks, numbers: &mut Vec<u128>) -> Result<(), AllocError>
+    ensures { IfOk result (λ _. numbers.new.items ≡ numbers.old.items ++ counted blocks.now) }
+{
+    let mut rest = blocks.as_slice();
+    numbers.push(rest.len() as u128)?;
+    'blocks: while let Some((block, following)) = rest.split_first() {
+        numbers.push(block.low)?;
+        numbers.push(block.high)?;
+        rest = following;
+    }
+    Ok(())
+}
+
+/// Adds the resources to the numbers.
+fn push_resources(resources: &ResourceSet, numbers: &mut Vec<u128>) -> Result<(), AllocError>
+    ensures { IfOk result (λ _. numbers.new.items ≡ numbers.old.items ++ numbers_of resources.now) }
+{
+    push_blocks(&resources.ipv4, numbers)?;
+    push_blocks(&resources.ipv6, numbers)?;
+    push_blocks(&resources.asn, numbers)?;
+    Ok(())
+}
+
+/// The number of a key's algorithm.
+fn format_number(format: PublicKeyFormat) -> u128
+    ensures { result ≡ format_number format }
+{
+    match format {
+        PublicKeyFormat::Rsa => 0,
+        PublicKeyFormat::EcdsaP256 => 1,
+    }
+}
+
+/// The octets of the URI; None where there is none.
+fn place_of(found: Result<Rsync, Stop>) -> Result<Option<Bytes>, AllocError>
+    ensures { IfOk result (IsPlaceOf found) }
+{
+    match found {
+        Ok(uri) => {
+            let octets = uri.to_bytes()?;
+            Ok(Some(octets))
+        }
+        Err(Stop::Rejected(_)) => Ok(None),
+        Err(Stop::OutOfMemory) => Err(AllocError),
+    }
+}
+
+/// The mark of the authority.
+fn mark_of<'p, P: Provider>(
+    alloc: Global,
+    authority: &ResourceCert<'p, P>,
+) -> Result<Mark, AllocError>
+    ensures { IfOk result (λ k. HasMark (holder_of authority.now) (mark_in (λ v. v.items) k)) }
+{
+    let tbs = authority.cert().tbs();
+    let name = Bytes::copy_from_slice(alloc, tbs.subject().as_slice())?;
+    let key = tbs.subject_public_key_info();
+    let bits = key.bits_bytes()?;
+    let folder = place_of(repository_of(alloc, tbs))?;
+    let manifest = place_of(manifest_place(alloc, tbs))?;
+    let mut numbers = Vec::new(alloc);
+    numbers.push(format_number(key.algorithm()))?;
+    numbers.push(u128::from(key.unused()))?;
+    push_resources(authority.resources(), &mut numbers)?;
+    Ok((name, bits, folder, manifest, numbers))
+}
+
+impl Met {
+    /// None.
+    pub(crate) fn new(alloc: Global) -> Met
+        ensures { result ≡ [] }
+    {
+        Met {
+            marks: BTreeSet::new(alloc),
+        }
+    }
+
+    /// Adds the mark of the authority; returns whether it was not among them.
+    ///
+    /// Returns `AllocError` if allocation fails.
+    pub(crate) fn insert<'p, P: Provider>(
+        &mut self,
+        alloc: Global,
+        authority: &ResourceCert<'p, P>,
+    ) -> Result<bool, AllocError>
+        ensures { IfOk result (InsertsMarkOf self.old self.new (holder_of authority.now)) }
+    {
+        let mark = mark_of(alloc, authority)?;
+        let is_new = self.marks.insert(mark)?;
+        Ok(is_new)
+    }
+}

@@ -1,0 +1,11 @@
+-- Which lemma file answers which question.
+--
+-- What is left of arguments, what words ask for: ArgumentLaws, RequestLaws. Paths of objects: PathLaws. Locators in
+-- files: LocatorLaws. What is found under locators: FoundLaws. A run: RunLaws.
+
+mod ArgumentLaws
+mod RequestLaws
+mod PathLaws
+mod LocatorLaws
+mod FoundLaws
+mod RunLaws

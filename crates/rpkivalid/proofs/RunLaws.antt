@@ -1,0 +1,32 @@
+-- A run of what is asked for.
+use Rattle.std.proofs.Common.{◌≡◌, ℕ, List, sym, subst, inl, inr}
+use Rattle.std.specs.Prelude.{Option, Some, None, IfSome}
+use Rattle.jiff.specs.Types.{DateTime}
+use Rattle.rpki.specs.PublicKey.{KeyParts}
+use Rattle.rpki_validation.specs.Basis.{Basis}
+use Rattle.rpkivalid.specs.Locators.{Holds}
+use Rattle.rpkivalid.specs.Moment.{IsMomentOf}
+use Rattle.rpkivalid.specs.Request.{Asked}
+use Rattle.rpkivalid.specs.Run.{IsAnswer, IsRunOf}
+use Rattle.rpkivalid.specs.Run.IsRunOf.{Answered, Denied}
+use Rattle.rpkivalid.specs.RunView.{Gives}
+
+-- what the clock has
+clock-some : (r : Option DateTime) (clock : Option (Option DateTime)) → IfSome clock (λ at. r ≡ at)
+    → IfSome r (λ t. IfSome clock (λ now. now ≡ Some t))
+clock-some None clock h = tt
+clock-some (Some t) None h = tt
+clock-some (Some t) (Some at) h = sym h
+
+pub clock-moment : (word : Option (List ℕ)) (r : Option DateTime) (clock : Option (Option DateTime)) → word ≡ None
+    → IfSome clock (λ at. r ≡ at) → IfSome r (IsMomentOf clock word)
+clock-moment word r clock e h =
+    subst (λ (w : Option (List ℕ)). IfSome r (IsMomentOf clock w)) (sym e) (clock-some r clock h)
+
+-- what is given is a run
+pub given-run : (basis : DateTime → ℕ → KeyParts → Basis) (holds : Holds) (clock : Option (Option DateTime))
+    (old new : Option (List ℕ)) (a : Asked) (text : List ℕ) (wanted status : ℕ)
+    → IsAnswer basis holds clock a text wanted → Gives old new text wanted status
+    → IsRunOf basis holds clock old new status a
+given-run basis holds clock old new a text wanted status h (inl p) = Answered text wanted h p
+given-run basis holds clock old new a text wanted status h (inr k) = Denied k.0 k.1

@@ -1,0 +1,15 @@
+use Rattle.std.proofs.Common.{length, map}
+use Rattle.rpkivalid.specs.Found.{IsFoundIn, basis_with}
+use Rattle.rpkivalid.specs.LocatorsView.{named_of}
+use Rattle.rpkivalid.proofs.FoundLaws.{IsUpTo}
+use Rattle.rpkivalid.proofs.found.found_under_all.Given as goal
+
+-- these payloads are those under the locators in front of those that are left
+abbrev pub invariant-locators : goal.invariant-locators
+invariant-locators g l =
+    IsUpTo (IsFoundIn (g.S.Sources.holds l.sources) l.folder (basis_with g.P.Provider.rsa_of g.P.Provider.ecdsa_of
+    g.P.Provider.sha1_of g.P.Provider.sha256_of l.provider l.strictness l.at l.depth)) (map named_of l.locators)
+    (map named_of l.rest) l.payloads.items l.have_anchors
+
+abbrev pub decreases-locators : goal.decreases-locators
+decreases-locators g l = length l.rest

@@ -1,0 +1,44 @@
+-- Where the objects of a repository are in a local copy.
+use Rattle.std.specs.Prelude.{ℕ, List, [], ◌∷◌, ◌++◌, codes, Option, Some, None}
+use Rattle.std.specs.Option.{option_map, unwrap_or}
+use Rattle.std.specs.Path.{path_file_name}
+use Rattle.std.specs.Str.Lossy.{utf8_lossy}
+use Rattle.rpki_text.specs.declared.uri.error.Error.{Error}
+use Rattle.rpki_text.specs.RsyncText.{RsyncUri, rsync_refusal, uri_of}
+use Rattle.rpki_text.specs.Segments.{path_text}
+use Rattle.rpki_validation.specs.Snapshot.{Published}
+
+-- four parts of a path
+abbrev pub joined : List ℕ → List ℕ → List ℕ → List ℕ → List ℕ
+joined folder first second rest = folder ++ 47 ∷ first ++ 47 ∷ second ++ 47 ∷ rest
+
+-- the object at rsync://HOST/MODULE/PATH is FOLDER/HOST/MODULE/PATH
+abbrev pub object_path : List ℕ → RsyncUri → List ℕ
+object_path folder uri = joined folder uri.authority uri.module_name (path_text uri.segments uri.is_dir)
+
+-- the name of the file that a path leads to; nothing where it leads to none
+abbrev pub file_in : List ℕ → List ℕ
+file_in path = unwrap_or (path_file_name path) []
+
+-- what was fetched for the locator NAME from a URI whose last segment is FILE is FOLDER/ta/NAME/FILE
+abbrev pub fetched_path : List ℕ → List ℕ → List ℕ → List ℕ
+fetched_path folder name text = joined folder (codes "ta") name (file_in (utf8_lossy text))
+
+-- a trust anchor at an rsync URI is the object at that; one at an https URI was fetched
+abbrev pub path_by : Option Error → List ℕ → List ℕ → List ℕ → List ℕ
+path_by None folder name text = object_path folder (uri_of text)
+path_by (Some e) folder name text = fetched_path folder name text
+
+abbrev pub anchor_path : List ℕ → List ℕ → List ℕ → List ℕ
+anchor_path folder name text = path_by (rsync_refusal text) folder name text
+
+-- what the folder has, for the locator of this name
+abbrev pub published_in : List ℕ → List ℕ → (List ℕ → Option (List ℕ)) → Published
+published_in folder name files = record {
+  objects = λ uri. files (object_path folder uri);
+  anchors = λ text. files (anchor_path folder name text);
+}
+
+-- the same, where it is known what files hold
+abbrev pub copy_in : List ℕ → List ℕ → Option (List ℕ → Option (List ℕ)) → Option Published
+copy_in folder name holds = option_map (published_in folder name) holds

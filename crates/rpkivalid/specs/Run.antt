@@ -1,0 +1,54 @@
+-- A run of what is asked for.
+use Rattle.std.specs.Prelude.{◌≡◌, ◌&&◌, ℕ, Bool, true, List, [], Option, IfSome, if◌then◌else◌}
+use Rattle.std.specs.Io.KnownBytes.{Appends}
+use Rattle.jiff.specs.Types.{DateTime}
+use Rattle.rpki.specs.Provider.{Check}
+use Rattle.rpki.specs.PublicKey.{KeyParts}
+use Rattle.rpki_payloads.specs.Form.{IsTextIn}
+use Rattle.rpki_payloads.specs.Vrp.{PayloadParts}
+use Rattle.rpki_validation.specs.Basis.{Basis}
+use Rattle.rpkivalid.specs.Found.{AreFound, IsFoundIn, basis_with}
+use Rattle.rpkivalid.specs.Locators.{AreLocatorsIn, Holds, NamedParts}
+use Rattle.rpkivalid.specs.Moment.{IsDepth, IsMomentOf}
+use Rattle.rpkivalid.specs.Request.{Asked}
+use Rattle.rpkivalid.specs.Words.{Prints}
+
+-- the status where all is written: 1 where a locator has no trust anchor, or a file could not be read
+abbrev pub status_of : (anchored read : Bool) → ℕ
+status_of anchored read = if anchored && read then 0 else 1
+
+-- The text is that of the payloads under the locators that are asked for, at the moment that is asked for; and this is
+-- the status.
+pub record IsAnswer (basis : DateTime → ℕ → KeyParts → Basis) (holds : Holds) (clock : Option (Option DateTime))
+    (a : Asked) (text : List ℕ) (status : ℕ) : Type 0 where
+  pub at : DateTime
+  pub moment : IsMomentOf clock a.moment at
+  pub depth : ℕ
+  pub deep : IsDepth a.depth depth
+  pub locators : List NamedParts
+  pub there : AreLocatorsIn holds a.locators locators
+  pub found : List PayloadParts
+  pub anchored : Bool
+  pub each : AreFound (IsFoundIn holds a.cache (basis at depth)) locators found anchored
+  pub written : IsTextIn a.form found text
+  pub read : Bool
+  pub known : IfSome holds (λ files. read ≡ true)
+  pub status_is : status ≡ status_of anchored read
+
+-- The run of what is asked for: the answer, with its status, of which a beginning is written where the output fails; or
+-- nothing, with the status 2.
+pub data IsRunOf (basis : DateTime → ℕ → KeyParts → Basis) (holds : Holds) (clock : Option (Option DateTime))
+    (old new : Option (List ℕ)) (status : ℕ) (a : Asked) : Type 0 where
+  Answered : (text : List ℕ) (wanted : ℕ) → IsAnswer basis holds clock a text wanted → Prints old new text wanted status
+      → IsRunOf basis holds clock old new status a
+  Denied : Appends old new [] → status ≡ 2 → IsRunOf basis holds clock old new status a
+
+module _ {X : Type 0} (rsa ecdsa : X → Check) (sha1 sha256 : X → List ℕ → List ℕ) (provider : X) (holds : Holds)
+    (clock : Option (Option DateTime)) where
+  -- the answer, by a provider's signatures and digests
+  abbrev pub Answers : Asked → List ℕ → ℕ → Type 0
+  Answers a = IsAnswer (basis_with rsa ecdsa sha1 sha256 provider a.strictness) holds clock a
+
+  -- the run, by a provider's signatures and digests
+  abbrev pub Runs : (old new : Option (List ℕ)) → ℕ → Asked → Type 0
+  Runs old new status a = IsRunOf (basis_with rsa ecdsa sha1 sha256 provider a.strictness) holds clock old new status a

@@ -1,0 +1,90 @@
+//! Why nothing is written.
+
+use crate::words::{NO_DEPTH, NO_MOMENT, OUT_OF_MEMORY};
+use rpki_locator::LocatorError;
+use std::alloc::{AllocError, AllocFailed, Global};
+
+/// Why nothing is written.
+#[derive(Clone, Copy, Debug, Drop)]
+pub enum Denial {
+    /// The word is the text of no moment, or there is no clock.
+    NoMoment,
+    /// The word is no number of authorities.
+    NoDepth,
+    /// There is no file of this number among those of locators, or it can't be read.
+    NoFile(usize),
+    /// What is in the file of this number is no locator.
+    NoLocator(usize, LocatorError),
+    /// Allocation failed.
+    OutOfMemory,
+}
+
+impl From<AllocError> for Denial {
+    ghost from_gives = { λ _ d. d ≡ OutOfMemory };
+
+    ghost use Rattle.std.specs.Prelude.{◌≡◌};
+    ghost use Rattle.rpkivalid.specs.declared.denial.Denial.TheVariants.{OutOfMemory};
+
+    fn from(_: AllocError) -> Denial {
+        Denial::OutOfMemory
+    }
+}
+
+impl<T: Drop> From<AllocFailed<T>> for Denial {
+    ghost from_gives = { λ _ d. d ≡ OutOfMemory };
+
+    ghost use Rattle.std.specs.Prelude.{◌≡◌};
+    ghost use Rattle.rpkivalid.specs.declared.denial.Denial.TheVariants.{OutOfMemory};
+
+    fn from(_: AllocFailed<T>) -> Denial {
+        Denial::OutOfMemory
+    }
+}
+
+/// Which line of a locator is wrong, and what is wrong with it.
+fn fault_of(alloc: Global, e: LocatorError) -> Result<String, AllocError> {
+    match e {
+        LocatorError::OtherUri(line) => format!(in alloc;
+            "line {line}: not a URI of a trust anchor"
+        ),
+        LocatorError::NoUri(line) => format!(in alloc; "line {line}: no URI"),
+        LocatorError::NoKey(line) => format!(in alloc;
+            "line {line}: no empty line in front of the key"
+        ),
+        LocatorError::OtherText(line) => format!(in alloc; "line {line}: not base 64"),
+        LocatorError::OtherKey(line, e) => format!(in alloc; "line {line}: not a public key: {e}"),
+        LocatorError::OutOfMemory => Err(AllocError),
+    }
+}
+
+/// The name of the file of this number.
+fn file_at<'a>(files: &[&'a str], at: usize) -> &'a str {
+    match files.get(at) {
+        Some(file) => *file,
+        None => "",
+    }
+}
+
+impl Denial {
+    /// What a person reads of it, as a line, where these are the files of locators.
+    ///
+    /// Returns `AllocError` if allocation fails.
+    pub fn text(self, alloc: Global, files: &[&str]) -> Result<Vec<u8>, AllocError> {
+        match self {
+            Denial::NoMoment => Vec::from_slice(alloc, NO_MOMENT),
+            Denial::NoDepth => Vec::from_slice(alloc, NO_DEPTH),
+            Denial::NoFile(at) => {
+                let file = file_at(files, at);
+                let text = format!(in alloc; "rpkivalid: {file}: cannot be read\n")?;
+                Ok(text.into_bytes())
+            }
+            Denial::NoLocator(at, e) => {
+                let file = file_at(files, at);
+                let fault = fault_of(alloc, e)?;
+                let text = format!(in alloc; "rpkivalid: {file}: RFC 8630 2.2: {fault}\n")?;
+                Ok(text.into_bytes())
+            }
+            Denial::OutOfMemory => Vec::from_slice(alloc, OUT_OF_MEMORY),
+        }
+    }
+}

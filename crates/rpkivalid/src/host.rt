@@ -1,0 +1,80 @@
+//! The host's files, and its clock.
+
+use crate::sources::Sources;
+use bytes::Bytes;
+use jiff::SignedDuration;
+use rpki::repository::x509::Time;
+use std::alloc::{AllocError, Global};
+use std::cell::Cell;
+use std::fs;
+use std::fs::OpenFile;
+use std::io::{ErrorKind, Read};
+use std::time::{SystemTime, UNIX_EPOCH};
+
+/// How many octets a file has at most.
+const MOST: u64 = 16_777_216;
+
+/// The files of the host, and its clock.
+#[derive(Drop)]
+pub struct Host<'a> {
+    /// The host.
+    pub rt: &'a HostRuntime,
+    /// Whether each file that is there could be read, until now.
+    pub read: Cell<bool>,
+}
+
+impl Host<'_> {
+    /// Nothing, since a file could not be read: of a file that isn't there nothing is noted.
+    fn without(&self, kind: ErrorKind) -> Result<Option<Bytes>, AllocError> {
+        match kind {
+            ErrorKind::OutOfMemory => Err(AllocError),
+            ErrorKind::NotFound | ErrorKind::NotADirectory => Ok(None),
+            _ => {
+                self.read.set(false);
+                Ok(None)
+            }
+        }
+    }
+}
+
+impl Sources for Host<'_> {
+    ghost use Rattle.std.specs.Prelude.{None};
+
+    ghost holds = { λ _. None };
+
+    ghost clock = { λ _. None };
+
+    fn read(&self, alloc: Global, path: &str) -> Result<Option<Bytes>, AllocError> {
+        let mut file = match fs::open(self.rt, path) {
+            Ok(file) => file,
+            Err(e) => return self.without(e.kind()),
+        };
+        let size = match file.metadata() {
+            Ok(metadata) => metadata.len(),
+            Err(e) => return self.without(e.kind()),
+        };
+        if size > MOST {
+            return self.without(ErrorKind::FileTooLarge);
+        }
+        let mut octets = Vec::with_capacity(alloc, size as usize + 1)?;
+        match file.read_to_end(&mut octets) {
+            Ok(_) => match Bytes::from_vec(octets) {
+                Ok(octets) => Ok(Some(octets)),
+                Err(_) => Err(AllocError),
+            },
+            Err(e) => self.without(e.kind()),
+        }
+    }
+
+    fn is_read(&self) -> bool {
+        self.read.get()
+    }
+
+    fn now(&self) -> Option<Time> {
+        let now = SystemTime::now(self.rt).ok()?;
+        let since = now.duration_since(UNIX_EPOCH).ok()?;
+        let seconds = i64::try_from(since.as_secs()).ok()?;
+        let begin = Time::utc(1970, 1, 1, 0, 0, 0)?;
+        begin.checked_add(SignedDuration::from_secs(seconds))
+    }
+}

@@ -1,0 +1,250 @@
+//! A run: words and files in, payloads out.
+
+ghost use Rattle.std.specs.Prelude.{◌≡◌, Some, None, IfOk, IfErr, IfSome, IfNone};
+ghost use Rattle.std.specs.Option.{option_map};
+ghost use Rattle.rpkivalid.specs.Arguments.{wordless_text};
+ghost use Rattle.rpkivalid.specs.Moment.{IsDepth, IsMomentOf, IsNoDepth};
+ghost use Rattle.rpkivalid.specs.Request.{help, version};
+ghost use Rattle.rpkivalid.specs.RequestView.{asked_of, wanted_by, Asks, AskHelp, AskVersion, AskRun, AskNothing};
+ghost use Rattle.rpkivalid.specs.Run.{status_of, Runs};
+ghost use Rattle.rpkivalid.specs.RunView.{AnswersTo, Gives};
+ghost use Rattle.rpkivalid.specs.Words.{Prints, PrintsAlone, usage_text};
+
+use crate::arguments::Wordless;
+use crate::denial::Denial;
+use crate::found::found_under_all;
+use crate::locators::locators_in;
+use crate::moment::named_moment;
+use crate::report::push_counts;
+use crate::request::{Request, is_given, matched};
+use crate::sources::Sources;
+use crate::words::{HELP, OUT_OF_MEMORY, USAGE, VERSION};
+use clap::ArgMatches;
+use rpki::crypto::Provider;
+use rpki::der::write_whole;
+use rpki::repository::x509::Time;
+use std::alloc::{AllocError, Global};
+use std::io::Write;
+
+/// The moment that is asked for; without a word the clock's. None if there is none.
+fn moment_at<S: Sources>(host: &S, word: Option<&str>) -> Option<Time>
+    ensures { IfSome result (IsMomentOf (S.clock host.now) (option_map (λ word. word.now) word.entry)) }
+{
+    match word {
+        Some(word) => named_moment(word),
+        None => host.now(),
+    }
+}
+
+/// How many authorities there are at most below a trust anchor; without a word 32. None if the word is no number below
+/// 2^32.
+fn depth_of(word: Option<&str>) -> Option<u32>
+    ensures some { IfSome result (IsDepth (option_map (λ word. word.now) word.entry)) }
+    ensures none { IfNone result (IsNoDepth (option_map (λ word. word.now) word.entry)) }
+{
+    match word {
+        Some(word) => match word.parse::<u32>() {
+            Ok(depth) => Some(depth),
+            Err(_) => None,
+        },
+        None => Some(32),
+    }
+}
+
+/// The exit status where all is written: 0, or 1 where a locator has no trust anchor or a file could not be read.
+fn status_of(have_anchors: bool, is_read: bool) -> u8
+    ensures { result ≡ status_of have_anchors is_read }
+{
+    if have_anchors && is_read { 0 } else { 1 }
+}
+
+/// What is written, and the exit status.
+#[derive(Drop)]
+pub struct Answer {
+    /// The text.
+    pub text: Vec<u8>,
+    /// The status.
+    pub status: u8,
+}
+
+/// What is asked for, at this moment and to this depth. Adds to the report what is rejected.
+fn answer_at<S: Sources, P: Provider>(
+    alloc: Global,
+    request: &Request<'_, '_>,
+    host: &S,
+    crypto: &P,
+    at: Time,
+    depth: u32,
+    report: &mut Vec<u8>,
+) -> Result<Answer, Denial>
+    requires moment { IsMomentOf (S.clock host.now) (asked_of request.now).moment at }
+    requires depth { IsDepth (asked_of request.now).depth depth }
+    ensures { IfOk result (AnswersTo P.rsa_of P.ecdsa_of P.sha1_of P.sha256_of crypto.now (S.holds host.now)
+        (S.clock host.now) request.now) }
+{
+    let locators = locators_in(alloc, host, request.locators)?;
+    let found = found_under_all(
+        alloc,
+        host,
+        request.cache,
+        crypto,
+        request.strictness,
+        depth,
+        at,
+        locators.as_slice(),
+        report,
+    )?;
+    let text = request.form.text_of(alloc, found.payloads.as_slice())?;
+    push_counts(report, &found)?;
+    let status = status_of(found.have_anchors, host.is_read());
+    Ok(Answer { text, status })
+}
+
+/// What is asked for. Adds to the report what is rejected.
+fn answer_of<S: Sources, P: Provider>(
+    alloc: Global,
+    request: &Request<'_, '_>,
+    host: &S,
+    crypto: &P,
+    report: &mut Vec<u8>,
+) -> Result<Answer, Denial>
+    ensures { IfOk result (AnswersTo P.rsa_of P.ecdsa_of P.sha1_of P.sha256_of crypto.now (S.holds host.now)
+        (S.clock host.now) request.now) }
+{
+    match moment_at(host, request.moment) {
+        Some(at) => match depth_of(request.depth) {
+            Some(depth) => answer_at(alloc, request, host, crypto, at, depth, report),
+            None => Err(Denial::NoDepth),
+        },
+        None => Err(Denial::NoMoment),
+    }
+}
+
+/// Writes a text, and returns this exit status; 2 if the output fails.
+fn print<W: Write>(text: &[u8], out: &mut W, status: u8) -> u8
+    ensures { Prints (W.contents out.old) (W.contents out.new) text.now status result }
+{
+    match write_whole(out, text) {
+        Ok(()) => status,
+        Err(_) => 2,
+    }
+}
+
+/// Writes to the faults why there are no words, and returns the exit status 2.
+pub fn say<F: Write>(wordless: Wordless, err: &mut F) -> u8
+    ensures { Prints (F.contents err.old) (F.contents err.new) (wordless_text wordless) 2 result }
+{
+    print(wordless.text(), err, 2)
+}
+
+/// Writes to the faults that allocation failed, and returns the exit status 2.
+pub fn give_up<F: Write>(err: &mut F) -> u8
+    ensures { Prints (F.contents err.old) (F.contents err.new) OUT_OF_MEMORY.now 2 result }
+{
+    print(OUT_OF_MEMORY, err, 2)
+}
+
+/// Writes to the faults why nothing is written to the output, and returns the exit status 2.
+fn deny<F: Write>(alloc: Global, denial: Denial, files: &[&str], err: &mut F) -> u8
+    ensures { result ≡ 2 }
+{
+    let _ = match denial.text(alloc, files) {
+        Ok(text) => print(text.as_slice(), err, 2),
+        Err(_) => give_up(err),
+    };
+    2
+}
+
+/// Writes the report to the faults, and then the text to the output. Returns the exit status; 2 if either fails.
+fn give<W: Write, F: Write>(answer: &Answer, report: &[u8], out: &mut W, err: &mut F) -> u8
+    ensures { Gives (W.contents out.old) (W.contents out.new) answer.now.text.items answer.now.status result }
+{
+    match write_whole(err, report) {
+        Ok(()) => print(answer.text.as_slice(), out, answer.status),
+        Err(_) => 2,
+    }
+}
+
+/// Writes what is asked for, and what is rejected to the faults; or why there is nothing. Returns the exit status.
+fn validate_all<S: Sources, P: Provider, W: Write, F: Write>(
+    alloc: Global,
+    request: &Request<'_, '_>,
+    host: &S,
+    crypto: &P,
+    out: &mut W,
+    err: &mut F,
+) -> u8
+    ensures { Runs P.rsa_of P.ecdsa_of P.sha1_of P.sha256_of crypto.now (S.holds host.now) (S.clock host.now)
+        (W.contents out.old) (W.contents out.new) result (asked_of request.now) }
+{
+    let mut report = Vec::new(alloc);
+    match answer_of(alloc, request, host, crypto, &mut report) {
+        Ok(answer) => give(&answer, report.as_slice(), out, err),
+        Err(denial) => deny(alloc, denial, request.locators, err),
+    }
+}
+
+/// Does what was asked for by these words, and returns the exit status.
+fn respond<S: Sources, P: Provider, W: Write, F: Write>(
+    alloc: Global,
+    matches: &ArgMatches<'_>,
+    host: &S,
+    crypto: &P,
+    out: &mut W,
+    err: &mut F,
+) -> u8
+    ensures help { wanted_by matches.now ≡ Some help → PrintsAlone (W.contents out.old) (W.contents out.new)
+        HELP.now 0 result (err.new ≡ err.old) }
+    ensures version { wanted_by matches.now ≡ Some version → PrintsAlone (W.contents out.old) (W.contents out.new)
+        VERSION.now 0 result (err.new ≡ err.old) }
+    ensures run { Asks matches.now (Runs P.rsa_of P.ecdsa_of P.sha1_of P.sha256_of crypto.now
+        (S.holds host.now) (S.clock host.now) (W.contents out.old) (W.contents out.new) result) }
+    ensures usage { wanted_by matches.now ≡ None → PrintsAlone (F.contents err.old) (F.contents err.new) usage_text 2
+        result (out.new ≡ out.old) }
+{
+    if is_given(matches, "help") {
+        return print(HELP, out, 0);
+    }
+    if is_given(matches, "version") {
+        return print(VERSION, out, 0);
+    }
+    match Request::of(matches) {
+        Some(request) => validate_all(alloc, &request, host, crypto, out, err),
+        None => print(USAGE, err, 2),
+    }
+}
+
+/// Runs what the words, which are the program's arguments, ask for, and returns the exit status.
+///
+/// `--help` and `--version` print a text. Else what is written to the output are the payloads that are valid at the
+/// moment in the copy, under the locators: exactly these, each once, in order, in the form that is asked for; all of
+/// them or, where the output fails, a beginning. To the faults goes a line for each object that is rejected, or why
+/// there are no payloads. Of other words it is how the program is used.
+///
+/// The status is 0 if all is written; 1 if all is, but a locator has no trust anchor, or a file that is there could not
+/// be read; 2 for other words, without a moment or a locator, if allocation fails, and if the output or the faults
+/// fail. Returns `AllocError` if there is no memory to read the words; then nothing is written.
+pub fn run<S: Sources, P: Provider, W: Write, F: Write>(
+    alloc: Global,
+    words: &[String],
+    host: &S,
+    crypto: &P,
+    out: &mut W,
+    err: &mut F,
+) -> Result<u8, AllocError>
+    ensures help { AskHelp words.now → IfOk result (λ n. PrintsAlone (W.contents out.old) (W.contents out.new)
+        HELP.now 0 n (err.new ≡ err.old)) }
+    ensures version { AskVersion words.now → IfOk result (λ n. PrintsAlone (W.contents out.old) (W.contents out.new)
+        VERSION.now 0 n (err.new ≡ err.old)) }
+    ensures run { AskRun words.now result (Runs P.rsa_of P.ecdsa_of P.sha1_of P.sha256_of crypto.now
+        (S.holds host.now) (S.clock host.now) (W.contents out.old) (W.contents out.new)) }
+    ensures usage { AskNothing words.now → IfOk result (λ n. PrintsAlone (F.contents err.old) (F.contents err.new)
+        usage_text 2 n (out.new ≡ out.old)) }
+    ensures kept { IfErr result (λ _. (out.new ≡ out.old) × (err.new ≡ err.old)) }
+{
+    match matched(alloc, words) {
+        Ok(Some(matches)) => Ok(respond(alloc, &matches, host, crypto, out, err)),
+        Ok(None) => Ok(print(USAGE, err, 2)),
+        Err(e) => Err(e),
+    }
+}

@@ -1,0 +1,31 @@
+//! What a run reads.
+
+use bytes::Bytes;
+use rpki::repository::x509::Time;
+use std::alloc::{AllocError, Global};
+
+/// Files by their paths, and a clock.
+pub trait Sources {
+    ghost use Rattle.std.specs.Prelude.{◌≡◌, ℕ, List, Option, true, IfSome, IfOk};
+    ghost use Rattle.jiff.specs.Types.{DateTime};
+
+    // What there is by a path: the octets, or None where there is no file; or nothing is said of it.
+    ghost holds: { Self → Option (List ℕ → Option (List ℕ)) };
+
+    // The moment that the clock has, or None where there is no clock; or nothing is said of it.
+    ghost clock: { Self → Option (Option DateTime) };
+
+    /// The octets of the file at the path; None where there is none, or it can't be read.
+    ///
+    /// Returns `AllocError` if allocation fails.
+    fn read(&self, alloc: Global, path: &str) -> Result<Option<Bytes>, AllocError>
+        ensures { IfSome (holds self.now) (λ files. IfOk result (λ found. found ≡ files path.now)) };
+
+    /// Whether each file that is there could be read, until now.
+    fn is_read(&self) -> bool
+        ensures { IfSome (holds self.now) (λ _. result ≡ true) };
+
+    /// The moment that the clock has. None where it has none of the years 0 to 9999.
+    fn now(&self) -> Option<Time>
+        ensures { IfSome (clock self.now) (λ at. result ≡ at) };
+}

@@ -1,0 +1,54 @@
+//! The texts of a run that are no payloads.
+
+/// How the program is used.
+pub const USAGE: &[u8] =
+    b"usage: rpkivalid --tal FILE.. --cache FOLDER [--at MOMENT] [--form csv|json|openbgpd|bird] \
+[--output FILE] [--depth N] [--strict]\n";
+
+/// The program's name and version.
+pub const VERSION: &[u8] = b"rpkivalid 0.2.0\n";
+
+/// What is said where allocation fails.
+pub const OUT_OF_MEMORY: &[u8] = b"rpkivalid: out of memory\n";
+
+/// What is said where an argument is not UTF-8.
+pub const NOT_UTF8: &[u8] = b"rpkivalid: an argument is not UTF-8\n";
+
+/// What is said where the word is the text of no moment, or there is no clock.
+pub const NO_MOMENT: &[u8] = b"rpkivalid: no such moment\n";
+
+/// What is said where the word is no number of authorities.
+pub const NO_DEPTH: &[u8] = b"rpkivalid: no such depth\n";
+
+/// What `--help` prints.
+pub const HELP: &[u8] = b"\
+rpkivalid - validate a local copy of a repository of the RPKI
+
+usage: rpkivalid --tal FILE.. --cache FOLDER [--at MOMENT]
+                 [--form csv|json|openbgpd|bird] [--output FILE] [--depth N]
+                 [--strict]
+       rpkivalid -h | --help
+       rpkivalid --version
+
+Writes the payloads that are valid at the moment: which AS may announce which
+prefix. They are signed down from the key of a trust anchor, whose locator (RFC
+8630) is in FILE; --tal may be given several times. Nothing is written before
+all is known. What is rejected, and why, is told on standard error, an object a
+line, and how many payloads there are.
+
+  --tal FILE      the locator of a trust anchor, whose name is that of the file
+  --cache FOLDER  the copy: an object at rsync://HOST/PATH is FOLDER/HOST/PATH, as
+                  rsync, rpki-client and Routinator leave it; a trust anchor at an
+                  https URI is FOLDER/ta/NAME/FILE
+  --at MOMENT     such as 2026-11-27T12:00:00Z (RFC 3339); else the clock's
+  --form F        csv (the default) or json, as of Routinator, with each payload
+                  once for each locator; openbgpd or bird, with each once
+  --output FILE   write to FILE, whole or not at all; else to standard output
+  --depth N       at most N authorities below a trust anchor; 32 by default
+  --strict        hold names to their profile, signed objects to RFC 9589, and
+                  the families of a route origin to their order
+
+Exit status: 0 if all is written; 1 if all is written, but a locator has no trust
+anchor, or a file that is there could not be read; 2 if nothing is written: for a
+wrong usage, without a locator, if memory fails, and if writing fails.
+";
