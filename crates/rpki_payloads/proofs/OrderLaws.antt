@@ -1,14 +1,24 @@
 -- That payloads which compare as equal are one; and which are among converted ones.
-use Rattle.std.proofs.Common.{◌≡◌, ◌∙◌, ℕ, zero, suc, List, [], ◌∷◌, ap, refl, sym, map, arith}
+use Rattle.std.proofs.Common.{◌≡◌, ◌↔◌, ◌∙◌, ℕ, zero, suc, List, [], ◌∷◌, ap, refl, sym, subst, map, arith}
 use Rattle.std.specs.Ordering.{nat_cmp}
+use Rattle.std.specs.Cmp.Lexicographic.{slice_cmp}
 use Rattle.std.specs.List.{Contains}
+use Rattle.std.specs.List.Sorted.{IsStrictlySortedBy}
+use Rattle.std.specs.declared.cmp.Ordering.{Ordering}
 use Rattle.std.specs.declared.cmp.Ordering.TheVariants.{Less, Equal, Greater}
 use Rattle.std.specs.declared.net.ip_addr.IpAddr.{IpAddr}
 use Rattle.std.specs.declared.net.ip_addr.IpAddr.TheVariants.{V4, V6}
 use Rattle.std.proofs.lemmas.Map.Lookups.{exact_unsigned, exact_bytes, exact_pairs}
 use Rattle.rpki_contents.specs.declared.route_origin.RouteOrigin.{RouteOrigin}
+use Rattle.rpki_payloads.specs.contracts.router_key.RouterKeyOrd.TheImpl as key-order
+use Rattle.rpki_payloads.specs.contracts.vap.CustomerProviderOrd.TheImpl as pair-order
 use Rattle.rpki_payloads.specs.contracts.vrp.VrpOrd.TheImpl.{ghosts}
+use Rattle.rpki_payloads.specs.declared.router_key.RouterKey.{RouterKey}
+use Rattle.rpki_payloads.specs.declared.vap.CustomerProvider.{CustomerProvider}
 use Rattle.rpki_payloads.specs.declared.vrp.Vrp.{Vrp}
+use Rattle.rpki_payloads.specs.RouterKey.{key_cmp}
+use Rattle.rpki_payloads.specs.Sets.{IsSetOf}
+use Rattle.rpki_payloads.specs.Vap.{pair_cmp}
 use Rattle.rpki_payloads.specs.Vrp.{IsExact, ip_cmp, vrp_cmp, vrp_of, origin_of}
 
 pub exact-ip : IsExact ip_cmp
@@ -32,6 +42,42 @@ same-cmp v w = by v.addr w.addr refl refl where
   by (V4 a) (V6 b) e f = rw (e, f) refl
   by (V6 a) (V4 b) e f = rw (e, f) refl
   by (V6 a) (V6 b) e f = rw (e, f) refl
+
+pub exact-pair : IsExact pair_cmp
+exact-pair v w h =
+    ap (λ (p : ℕ × ℕ). record { customer = p.0; provider = p.1 })
+    (exact_pairs nat_cmp nat_cmp exact_unsigned exact_unsigned (v.customer, v.provider) (w.customer, w.provider) h)
+
+pub same-pairs : (v w : CustomerProvider) → pair-order.ghosts.cmp v w ≡ pair_cmp v w
+same-pairs v w = refl
+
+pub exact-key : IsExact key_cmp
+exact-key v w h =
+    ap (λ (p : ℕ × (ℕ × (List ℕ × List ℕ))).
+    record { first = p.0; last = p.1.0; identifier = p.1.1.0; info = p.1.1.1 })
+    (exact_pairs nat_cmp _ exact_unsigned (exact_pairs nat_cmp _ exact_unsigned
+    (exact_pairs (slice_cmp nat_cmp) (slice_cmp nat_cmp) exact_bytes exact_bytes))
+    (v.first, (v.last, (v.identifier, v.info))) (w.first, (w.last, (w.identifier, w.info))) h)
+
+pub same-keys : (v w : RouterKey) → key-order.ghosts.cmp v w ≡ key_cmp v w
+same-keys v w = refl
+
+-- what is put in order, each once, is a set
+pub the-set : {A : Type 0} (G R : A → A → Ordering) (old new : List A) → ((v w : A) → G v w ≡ R v w) → IsExact R
+    → IsStrictlySortedBy G new → ((v : A) → Contains new v → Contains old v)
+    → (IsExact G → (v : A) → Contains old v → Contains new v) → IsSetOf R (Contains old) new
+the-set {A} G R old new same exact sorted none all = record {
+  order = subst (λ (S : A → A → Ordering). IsStrictlySortedBy S new) (λ i v w. same v w i) sorted;
+  each = λ v. (none v, all (λ x y e. exact x y (sym (same x y) ∙ e)) v);
+}
+
+-- a set, by another word for what is in it
+pub set-as : {A : Type 0} (R : A → A → Ordering) (P Q : A → Type 0) (all : List A) → ((v : A) → P v ↔ Q v)
+    → IsSetOf R P all → IsSetOf R Q all
+set-as R P Q all same set = record {
+  order = set.order;
+  each = λ v. (λ h. (same v).0 ((set.each v).0 h), λ q. (set.each v).1 ((same v).1 q));
+}
 
 -- what is among the payloads of route origins
 pub among-map : {A B : Type 0} (f : A → B) (g : B → A) → ((y : B) → f (g y) ≡ y) → ((x : A) → g (f x) ≡ x)

@@ -1,20 +1,32 @@
--- The form of an object of JSON (RFC 8259 4), as of Routinator: its member `roas` is an array of objects.
+-- The form of an object of JSON (RFC 8259 4), as of Routinator: each of its members is an array of objects.
 use Rattle.std.specs.Prelude.{ℕ, List, ◌++◌, drop, codes, decimal}
 use Rattle.std.specs.List.{flat_map}
 use Rattle.std.specs.Str.Lossy.{utf8_lossy}
+use Rattle.base64.specs.Engines.{url_safe_no_pad_indifferent}
+use Rattle.base64.specs.GeneralPurpose.{encode_of}
 use Rattle.serde_json.specs.Data.{string}
 use Rattle.serde_json.specs.Written.{compact_text}
+use Rattle.rpki_contents.specs.Aspa.{AspaParts}
 use Rattle.rpki_resources.specs.Text.{as_number_text}
+use Rattle.rpki_text.specs.HexText.{hex_text}
+use Rattle.rpki_payloads.specs.declared.router_key.RouterKey.{RouterKey}
 use Rattle.rpki_payloads.specs.declared.vrp.Vrp.{Vrp}
 use Rattle.rpki_payloads.specs.Lines.{vrp_prefix}
-use Rattle.rpki_payloads.specs.Vrp.{PayloadParts}
+use Rattle.rpki_payloads.specs.Payloads.{PayloadParts}
+use Rattle.rpki_payloads.specs.RouterKey.{numbers_text}
 
 -- A text as a string of JSON, in quotation marks (RFC 8259 7), as `serde_json` writes it. What is not UTF-8 is
 -- replaced, so that the whole is JSON whatever the octets.
 abbrev pub json_string : List ℕ → List ℕ
 json_string text = compact_text (string (utf8_lossy text))
 
--- the members of a payload: its AS number, its prefix, its maximum length, and the name of its locator
+-- the last member of an object: a string of JSON, the name of the locator
+unfoldable pub json_name : List ℕ → List ℕ
+json_name name = codes ", \"ta\": " ++ name ++ codes " }"
+
+-- ---- prefixes that may be announced
+
+-- the members: the AS number, the prefix, and the maximum length
 unfoldable pub json_number : Vrp → List ℕ
 json_number v = codes "{ \"asn\": \"" ++ as_number_text v.as_id ++ codes "\""
 
@@ -24,11 +36,7 @@ json_prefix v = codes ", \"prefix\": \"" ++ vrp_prefix v ++ codes "\""
 unfoldable pub json_length : Vrp → List ℕ
 json_length v = codes ", \"maxLength\": " ++ decimal v.max_length
 
--- a string of JSON
-unfoldable pub json_name : List ℕ → List ℕ
-json_name name = codes ", \"ta\": " ++ name ++ codes " }"
-
--- a payload as an object after a comma
+-- as an object after a comma
 unfoldable pub json_vrp : List ℕ → Vrp → List ℕ
 json_vrp name v = codes ",\n    " ++ json_number v ++ json_prefix v ++ json_length v ++ json_name name
 
@@ -36,6 +44,50 @@ json_vrp name v = codes ",\n    " ++ json_number v ++ json_prefix v ++ json_leng
 abbrev pub json_vrps : PayloadParts → List ℕ
 json_vrps p = flat_map (json_vrp (json_string p.name)) p.vrps
 
--- all, without the first comma
-abbrev pub json_text : List PayloadParts → List ℕ
-json_text all = codes "{\n  \"roas\": [" ++ drop 1 (flat_map json_vrps all) ++ codes "\n  ]\n}\n"
+-- ---- keys of routers
+
+-- the members: the AS number, or the range of AS numbers; the identifier in hexadecimal digits; and the key in base 64
+-- (RFC 4648 5, without padding)
+unfoldable pub json_numbers : RouterKey → List ℕ
+json_numbers k = codes "{ \"asn\": \"" ++ numbers_text k.first k.last ++ codes "\""
+
+unfoldable pub json_identifier : RouterKey → List ℕ
+json_identifier k = codes ", \"SKI\": \"" ++ hex_text k.identifier ++ codes "\""
+
+unfoldable pub json_info : RouterKey → List ℕ
+json_info k = codes ", \"routerPublicKey\": \"" ++ encode_of url_safe_no_pad_indifferent k.info ++ codes "\""
+
+-- as an object after a comma
+unfoldable pub json_key : List ℕ → RouterKey → List ℕ
+json_key name k = codes ",\n    " ++ json_numbers k ++ json_identifier k ++ json_info k ++ json_name name
+
+-- those under a locator
+abbrev pub json_keys : PayloadParts → List ℕ
+json_keys p = flat_map (json_key (json_string p.name)) p.keys
+
+-- ---- providers
+
+-- as a string after a comma
+unfoldable pub json_provider : ℕ → List ℕ
+json_provider n = codes ", \"" ++ as_number_text n ++ codes "\""
+
+unfoldable pub json_customer : ℕ → List ℕ
+json_customer n = codes ",\n    { \"customer\": \"" ++ as_number_text n ++ codes "\", \"providers\": ["
+
+-- a customer and its providers, as an object after a comma
+unfoldable pub json_vap : AspaParts → List ℕ
+json_vap x = json_customer x.customer ++ drop 2 (flat_map json_provider x.providers) ++ codes "] }"
+
+-- ---- the whole
+
+-- objects, without the first comma, after the name of the member
+abbrev pub json_array : List ℕ → List ℕ → List ℕ
+json_array name objects = name ++ codes ": [" ++ drop 1 objects ++ codes "\n  ]"
+
+-- The prefixes and the keys of all locators, those of a locator after those of the one before; and the customers, each
+-- once with its providers under all locators.
+abbrev pub json_text : List PayloadParts → List AspaParts → List ℕ
+json_text all customers =
+    json_array (codes "{\n  \"roas\"") (flat_map json_vrps all)
+    ++ json_array (codes ",\n  \"routerKeys\"") (flat_map json_keys all)
+    ++ json_array (codes ",\n  \"aspas\"") (flat_map json_vap customers) ++ codes "\n}\n"

@@ -1,10 +1,11 @@
--- The forms with a line a payload.
-use Rattle.std.specs.Prelude.{ℕ, List, [], ◌∷◌, ◌++◌, codes, decimal}
+-- The forms with a line a payload. Those of csv and BIRD are prefixes that may be announced alone.
+use Rattle.std.specs.Prelude.{ℕ, List, [], ◌∷◌, ◌++◌, codes, decimal, drop}
 use Rattle.std.specs.List.{flat_map}
 use Rattle.std.specs.Net.Text.{ip_text}
+use Rattle.rpki_contents.specs.Aspa.{AspaParts}
 use Rattle.rpki_resources.specs.Text.{as_number_text, prefix_text}
 use Rattle.rpki_payloads.specs.declared.vrp.Vrp.{Vrp}
-use Rattle.rpki_payloads.specs.Vrp.{PayloadParts}
+use Rattle.rpki_payloads.specs.Payloads.{PayloadParts}
 
 -- its prefix: `10.0.0.0/8`
 abbrev pub vrp_prefix : Vrp → List ℕ
@@ -35,8 +36,30 @@ openbgpd_number v = codes " source-as " ++ decimal v.as_id ++ 10 ∷ []
 abbrev pub openbgpd_line : Vrp → List ℕ
 openbgpd_line v = codes "    " ++ vrp_prefix v ++ openbgpd_length v ++ openbgpd_number v
 
-abbrev pub openbgpd_text : List Vrp → List ℕ
-openbgpd_text vrps = codes "roa-set {\n" ++ flat_map openbgpd_line vrps ++ codes "}\n"
+abbrev pub openbgpd_origins : List Vrp → List ℕ
+openbgpd_origins vrps = codes "roa-set {\n" ++ flat_map openbgpd_line vrps ++ codes "}\n"
+
+-- `customer-as 64496 provider-as { 64499, 64501 }` in a set
+
+unfoldable pub openbgpd_provider : ℕ → List ℕ
+openbgpd_provider n = codes ", " ++ decimal n
+
+unfoldable pub openbgpd_customer : ℕ → List ℕ
+openbgpd_customer n = codes "    customer-as " ++ decimal n ++ codes " provider-as { "
+
+unfoldable pub openbgpd_vap : AspaParts → List ℕ
+openbgpd_vap x = openbgpd_customer x.customer ++ drop 2 (flat_map openbgpd_provider x.providers) ++ codes " }\n"
+
+abbrev pub openbgpd_set : List AspaParts → List ℕ
+openbgpd_set customers = codes "aspa-set {\n" ++ flat_map openbgpd_vap customers ++ codes "}\n"
+
+-- where there is a customer: versions that don't know such sets refuse any
+abbrev pub openbgpd_customers : List AspaParts → List ℕ
+openbgpd_customers [] = []
+openbgpd_customers (x ∷ xs) = openbgpd_set (x ∷ xs)
+
+abbrev pub openbgpd_text : List Vrp → List AspaParts → List ℕ
+openbgpd_text vrps customers = openbgpd_origins vrps ++ openbgpd_customers customers
 
 -- ---- BIRD 2: `route 10.0.0.0/8 max 24 as 64496;` of the protocol `static`
 

@@ -1,6 +1,6 @@
 -- Validated ROA payloads (RFC 6811 2), and their order.
-use Rattle.std.specs.Prelude.{◌≡◌, ◌↔◌, ℕ, List}
-use Rattle.std.specs.List.{Contains, flat_map}
+use Rattle.std.specs.Prelude.{◌≡◌, List}
+use Rattle.std.specs.List.{Contains}
 use Rattle.std.specs.List.Sorted.{IsStrictlySortedBy}
 use Rattle.std.specs.Ordering.{nat_cmp, ordering_then}
 use Rattle.std.specs.Cmp.Lexicographic.{slice_cmp}
@@ -11,6 +11,7 @@ use Rattle.std.specs.declared.net.ip_addr.IpAddr.TheVariants.{V4, V6}
 use Rattle.rpki_resources.specs.declared.ip_text.Prefix.{Prefix}
 use Rattle.rpki_contents.specs.declared.route_origin.RouteOrigin.{RouteOrigin}
 use Rattle.rpki_payloads.specs.declared.vrp.Vrp.{Vrp}
+use Rattle.rpki_payloads.specs.Sets.{IsSetOf}
 
 -- ---- what a payload is
 
@@ -49,29 +50,12 @@ vrp_cmp v w =
 abbrev pub IsExact : {K : Type 0} → (K → K → Ordering) → Type 0
 IsExact {K} R = (x y : K) → R x y ≡ Equal → x ≡ y
 
--- ---- lists of them
+-- ---- sets of them
 
 -- each once, in order
 abbrev pub AreInOrder : List Vrp → Type 0
 AreInOrder vrps = IsStrictlySortedBy vrp_cmp vrps
 
--- exactly those that P is true of, each once, in order
-pub record AreExactly (P : Vrp → Type 0) (vrps : List Vrp) : Type 0 where
-  pub order : AreInOrder vrps
-  pub each : (v : Vrp) → Contains vrps v ↔ P v
-
 -- those of route origins
 abbrev pub AreOrigins : List RouteOrigin → List Vrp → Type 0
-AreOrigins origins = AreExactly (λ v. Contains origins (origin_of v))
-
--- the name of a locator, and the payloads under it
-pub record PayloadParts : Type 0 where
-  pub name : List ℕ
-  pub vrps : List Vrp
-
-abbrev pub payload_parts : List ℕ → List Vrp → PayloadParts
-payload_parts name vrps = record { name = name; vrps = vrps }
-
--- those of all locators
-abbrev pub AreUnited : List PayloadParts → List Vrp → Type 0
-AreUnited all = AreExactly (Contains (flat_map (λ p. p.vrps) all))
+AreOrigins origins = IsSetOf vrp_cmp (λ v. Contains origins (origin_of v))

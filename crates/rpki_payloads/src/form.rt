@@ -5,8 +5,9 @@ ghost use Rattle.rpki_payloads.specs.Form.{IsTextIn};
 
 use crate::json::json_text;
 use crate::lines::{bird_text, csv_text, openbgpd_text};
-use crate::order::united;
+use crate::order::{united, united_pairs};
 use crate::payloads::Payloads;
+use crate::vap::vaps_of;
 use std::alloc::{AllocError, Global};
 
 /// How payloads are written.
@@ -14,17 +15,22 @@ use std::alloc::{AllocError, Global};
 pub enum Form {
     /// A line a payload, under a line of titles: AS number, prefix, maximum length, name of the locator.
     Csv,
-    /// An object of JSON, with an array of objects.
+    /// An object of JSON, with arrays of objects: prefixes, keys of routers, and customers with their providers.
     Json,
-    /// A set of origins, as OpenBGPD reads it.
+    /// A set of origins and a set of customers with their providers, as OpenBGPD reads them.
     OpenBgpd,
     /// Routes of a table of origins, as BIRD reads them.
     Bird,
 }
 
 impl Form {
-    /// The text of the payloads of all locators in this form. In csv and JSON each has the name of its locator, and
-    /// those of a locator follow those of the one before; in the others there is each once.
+    /// The text of the payloads of all locators in this form. In csv and JSON each prefix and each key has the name of
+    /// its locator, and those of a locator follow those of the one before; in the others there is each once.
+    ///
+    /// The providers of a customer are together, whichever attestations say them, and under whichever locators: a
+    /// customer has them all (draft-ietf-sidrops-aspa-verification), for both families of addresses
+    /// (draft-ietf-sidrops-aspa-profile, version 1). So a customer has no locator's name. Csv and BIRD have prefixes
+    /// alone.
     ///
     /// Returns `AllocError` if allocation fails.
     pub fn text_of(self, alloc: Global, all: &[Payloads]) -> Result<Vec<u8>, AllocError>
@@ -32,10 +38,16 @@ impl Form {
     {
         match self {
             Form::Csv => csv_text(alloc, all),
-            Form::Json => json_text(alloc, all),
+            Form::Json => {
+                let pairs = united_pairs(alloc, all)?;
+                let vaps = vaps_of(alloc, pairs.as_slice())?;
+                json_text(alloc, all, vaps.as_slice())
+            }
             Form::OpenBgpd => {
                 let vrps = united(alloc, all)?;
-                openbgpd_text(alloc, vrps.as_slice())
+                let pairs = united_pairs(alloc, all)?;
+                let vaps = vaps_of(alloc, pairs.as_slice())?;
+                openbgpd_text(alloc, vrps.as_slice(), vaps.as_slice())
             }
             Form::Bird => {
                 let vrps = united(alloc, all)?;

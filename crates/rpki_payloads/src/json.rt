@@ -3,9 +3,12 @@
 ghost use Rattle.std.specs.Prelude.{◌≡◌, ◌++◌, OnOk, IfOk, drop, string_bytes};
 ghost use Rattle.std.specs.List.{flat_map};
 ghost use Rattle.rpki_payloads.specs.Json.{json_string, json_number, json_prefix, json_length, json_name};
-ghost use Rattle.rpki_payloads.specs.Json.{json_vrp, json_vrps, json_text};
+ghost use Rattle.rpki_payloads.specs.Json.{json_vrp, json_vrps, json_keys, json_vap, json_array, json_text};
 
+use crate::json_keys::push_keys;
+use crate::json_vaps::vap_objects;
 use crate::payloads::Payloads;
+use crate::vap::Vap;
 use crate::vrp::Vrp;
 use serde_json::Value;
 use std::alloc::{AllocError, Global};
@@ -45,7 +48,7 @@ fn length_text(alloc: Global, vrp: Vrp) -> Result<String, AllocError>
 
 /// Adds the member with the name of the locator, after another one, at the end of an object.
 #[tactic(auto, unfolding(crate::specs::Json::json_name))]
-fn push_name(text: &mut Vec<u8>, name: &[u8]) -> Result<(), AllocError>
+pub(crate) fn push_name(text: &mut Vec<u8>, name: &[u8]) -> Result<(), AllocError>
     ensures { OnOk result (text.new.items ≡ text.old.items ++ json_name name.now) }
 {
     text.extend_from_slice(b", \"ta\": ")?;
@@ -53,7 +56,7 @@ fn push_name(text: &mut Vec<u8>, name: &[u8]) -> Result<(), AllocError>
     text.extend_from_slice(b" }")
 }
 
-/// Adds a payload as an object, after a comma; the name of its locator is a string of JSON.
+/// Adds a prefix that may be announced as an object, after a comma; the name of its locator is a string of JSON.
 #[tactic(auto, unfolding(crate::specs::Json::json_vrp))]
 fn push_vrp(text: &mut Vec<u8>, name: &[u8], vrp: Vrp) -> Result<(), AllocError>
     ensures { OnOk result (text.new.items ≡ text.old.items ++ json_vrp name.now vrp) }
@@ -68,7 +71,7 @@ fn push_vrp(text: &mut Vec<u8>, name: &[u8], vrp: Vrp) -> Result<(), AllocError>
     push_name(text, name)
 }
 
-/// Adds payloads as objects, each after a comma.
+/// Adds prefixes that may be announced as objects, each after a comma.
 fn push_vrps(text: &mut Vec<u8>, name: &[u8], vrps: &[Vrp]) -> Result<(), AllocError>
     ensures { OnOk result (text.new.items ≡ text.old.items ++ flat_map (json_vrp name.now) vrps.now) }
 {
@@ -78,21 +81,40 @@ fn push_vrps(text: &mut Vec<u8>, name: &[u8], vrps: &[Vrp]) -> Result<(), AllocE
     Ok(())
 }
 
-/// Adds the payloads under a locator as objects, each after a comma.
-fn push_payloads(text: &mut Vec<u8>, one: &Payloads) -> Result<(), AllocError>
+/// Adds the prefixes under a locator as objects, each after a comma.
+fn push_prefixes_under(text: &mut Vec<u8>, one: &Payloads) -> Result<(), AllocError>
     ensures { OnOk result (text.new.items ≡ text.old.items ++ json_vrps one.now) }
 {
     let name = json_string(*text.allocator(), one.name())?;
     push_vrps(text, name.as_bytes(), one.vrps())
 }
 
-/// The payloads of all locators as objects, each after a comma.
-fn objects(alloc: Global, all: &[Payloads]) -> Result<Vec<u8>, AllocError>
+/// Adds the keys under a locator as objects, each after a comma.
+fn push_keys_under(text: &mut Vec<u8>, one: &Payloads) -> Result<(), AllocError>
+    ensures { OnOk result (text.new.items ≡ text.old.items ++ json_keys one.now) }
+{
+    let name = json_string(*text.allocator(), one.name())?;
+    push_keys(text, name.as_bytes(), one.keys())
+}
+
+/// The prefixes of all locators as objects, each after a comma.
+fn prefix_objects(alloc: Global, all: &[Payloads]) -> Result<Vec<u8>, AllocError>
     ensures { IfOk result (λ text. text.items ≡ flat_map json_vrps all.now) }
 {
     let mut text = Vec::new(alloc);
     'all: for one in all {
-        push_payloads(&mut text, one)?;
+        push_prefixes_under(&mut text, one)?;
+    }
+    Ok(text)
+}
+
+/// The keys of all locators as objects, each after a comma.
+fn key_objects(alloc: Global, all: &[Payloads]) -> Result<Vec<u8>, AllocError>
+    ensures { IfOk result (λ text. text.items ≡ flat_map json_keys all.now) }
+{
+    let mut text = Vec::new(alloc);
+    'all: for one in all {
+        push_keys_under(&mut text, one)?;
     }
     Ok(text)
 }
@@ -107,13 +129,28 @@ fn after_comma(text: &[u8]) -> &[u8]
     }
 }
 
-/// The payloads of all locators, as an object of JSON.
-pub fn json_text(alloc: Global, all: &[Payloads]) -> Result<Vec<u8>, AllocError>
-    ensures { IfOk result (λ text. text.items ≡ json_text all.now) }
+/// Adds a member, whose name is in quotation marks after what comes in front of it: an array of objects, each of which
+/// is after a comma here.
+fn push_array(text: &mut Vec<u8>, name: &[u8], objects: &[u8]) -> Result<(), AllocError>
+    ensures { OnOk result (text.new.items ≡ text.old.items ++ json_array name.now objects.now) }
 {
-    let objects = objects(alloc, all)?;
-    let mut text = Vec::from_slice(alloc, b"{\n  \"roas\": [")?;
-    text.extend_from_slice(after_comma(objects.as_slice()))?;
-    text.extend_from_slice(b"\n  ]\n}\n")?;
+    text.extend_from_slice(name)?;
+    text.extend_from_slice(b": [")?;
+    text.extend_from_slice(after_comma(objects))?;
+    text.extend_from_slice(b"\n  ]")
+}
+
+/// The payloads of all locators, as an object of JSON, where these are the providers of customers.
+pub fn json_text(alloc: Global, all: &[Payloads], vaps: &[Vap]) -> Result<Vec<u8>, AllocError>
+    ensures { IfOk result (λ text. text.items ≡ json_text all.now vaps.now) }
+{
+    let prefixes = prefix_objects(alloc, all)?;
+    let keys = key_objects(alloc, all)?;
+    let customers = vap_objects(alloc, vaps)?;
+    let mut text = Vec::new(alloc);
+    push_array(&mut text, b"{\n  \"roas\"", prefixes.as_slice())?;
+    push_array(&mut text, b",\n  \"routerKeys\"", keys.as_slice())?;
+    push_array(&mut text, b",\n  \"aspas\"", customers.as_slice())?;
+    text.extend_from_slice(b"\n}\n")?;
     Ok(text)
 }

@@ -1,16 +1,35 @@
 //! Payloads of the RPKI, as validators hand them to routers: each once, in order, and their texts.
 //!
-//! [vrps_of] puts route origins in order, each once; [Form::text_of] makes a text of those of several locators.
+//! [vrps_of] puts route origins in order, each once; [sort_pairs] and [sort_keys] do so with providers and with keys of
+//! routers, and [vaps_of] puts the providers of a customer together. [Form::text_of] makes a text of the payloads of
+//! several locators.
 #![tactic(auto)]
 
+mod covered;
+mod customers;
+mod exceptions;
+mod exceptions_text;
+mod filters;
 mod form;
 mod json;
+mod json_keys;
+mod json_vaps;
+mod key_filters;
 mod lines;
+mod members;
 mod order;
 mod payloads;
+mod router_key;
+mod vap;
 mod vrp;
 
+pub use exceptions::Exceptions;
+pub use exceptions_text::{ExceptionsError, Member};
+pub use filters::PrefixFilter;
 pub use form::Form;
-pub use order::{united, vrps_of};
+pub use key_filters::KeyFilter;
+pub use order::{sort_vrps, united, united_pairs, vrps_of};
 pub use payloads::Payloads;
+pub use router_key::{RouterKey, push_router_keys, sort_keys};
+pub use vap::{CustomerProvider, Vap, push_pairs, sort_pairs, vaps_of};
 pub use vrp::Vrp;

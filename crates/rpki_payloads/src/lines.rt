@@ -2,10 +2,12 @@
 
 ghost use Rattle.std.specs.Prelude.{◌≡◌, ◌++◌, OnOk, IfOk, string_bytes};
 ghost use Rattle.std.specs.List.{flat_map};
-ghost use Rattle.rpki_payloads.specs.Lines.{csv_line, csv_text, openbgpd_length, openbgpd_number};
-ghost use Rattle.rpki_payloads.specs.Lines.{openbgpd_line, openbgpd_text, bird_line, bird_text};
+ghost use Rattle.rpki_payloads.specs.Lines.{csv_line, csv_lines, csv_text, openbgpd_length, openbgpd_number};
+ghost use Rattle.rpki_payloads.specs.Lines.{openbgpd_line, openbgpd_origins, openbgpd_text, bird_line, bird_text};
 
+use crate::customers::push_openbgpd_customers;
 use crate::payloads::Payloads;
+use crate::vap::Vap;
 use crate::vrp::Vrp;
 use std::alloc::{AllocError, Global};
 
@@ -32,14 +34,22 @@ fn push_csv_lines(text: &mut Vec<u8>, name: &[u8], vrps: &[Vrp]) -> Result<(), A
     Ok(())
 }
 
+/// Adds the lines of the payloads of all locators, in csv.
+pub fn push_csv_payloads(text: &mut Vec<u8>, all: &[Payloads]) -> Result<(), AllocError>
+    ensures { OnOk result (text.new.items ≡ text.old.items ++ flat_map csv_lines all.now) }
+{
+    'all: for one in all {
+        push_csv_lines(text, one.name(), one.vrps())?;
+    }
+    Ok(())
+}
+
 /// The payloads of all locators, in csv: a line of titles, and then a line a payload.
 pub fn csv_text(alloc: Global, all: &[Payloads]) -> Result<Vec<u8>, AllocError>
     ensures { IfOk result (λ text. text.items ≡ csv_text all.now) }
 {
     let mut text = Vec::from_slice(alloc, b"ASN,IP Prefix,Max Length,Trust Anchor\n")?;
-    'all: for one in all {
-        push_csv_lines(&mut text, one.name(), one.vrps())?;
-    }
+    push_csv_payloads(&mut text, all)?;
     Ok(text)
 }
 
@@ -73,15 +83,33 @@ fn push_openbgpd_line(text: &mut Vec<u8>, vrp: Vrp) -> Result<(), AllocError>
     text.extend_from_slice(number.as_bytes())
 }
 
-/// The payloads as a set of origins, as OpenBGPD reads it.
-pub fn openbgpd_text(alloc: Global, vrps: &[Vrp]) -> Result<Vec<u8>, AllocError>
-    ensures { IfOk result (λ text. text.items ≡ openbgpd_text vrps.now) }
+/// Adds the lines of payloads, as OpenBGPD reads them.
+fn push_openbgpd_lines(text: &mut Vec<u8>, vrps: &[Vrp]) -> Result<(), AllocError>
+    ensures { OnOk result (text.new.items ≡ text.old.items ++ flat_map openbgpd_line vrps.now) }
 {
-    let mut text = Vec::from_slice(alloc, b"roa-set {\n")?;
     'vrps: for vrp in vrps {
-        push_openbgpd_line(&mut text, *vrp)?;
+        push_openbgpd_line(text, *vrp)?;
     }
-    text.extend_from_slice(b"}\n")?;
+    Ok(())
+}
+
+/// Adds the payloads as a set of origins, as OpenBGPD reads it.
+fn push_openbgpd_origins(text: &mut Vec<u8>, vrps: &[Vrp]) -> Result<(), AllocError>
+    ensures { OnOk result (text.new.items ≡ text.old.items ++ openbgpd_origins vrps.now) }
+{
+    text.extend_from_slice(b"roa-set {\n")?;
+    push_openbgpd_lines(text, vrps)?;
+    text.extend_from_slice(b"}\n")
+}
+
+/// The payloads as OpenBGPD reads them: a set of origins; and a set of customers with their providers, where there are
+/// any.
+pub fn openbgpd_text(alloc: Global, vrps: &[Vrp], vaps: &[Vap]) -> Result<Vec<u8>, AllocError>
+    ensures { IfOk result (λ text. text.items ≡ openbgpd_text vrps.now vaps.now) }
+{
+    let mut text = Vec::new(alloc);
+    push_openbgpd_origins(&mut text, vrps)?;
+    push_openbgpd_customers(&mut text, vaps)?;
     Ok(text)
 }
 

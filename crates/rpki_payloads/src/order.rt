@@ -1,18 +1,20 @@
 //! Payloads in order, each once.
 
-ghost use Rattle.std.specs.Prelude.{◌≡◌, ◌↔◌, IfOk, OnOk, map, ◌++◌};
+ghost use Rattle.std.specs.Prelude.{◌≡◌, IfOk, map};
 ghost use Rattle.std.specs.List.{Contains, flat_map};
 ghost use Rattle.std.specs.List.Sorted.{IsStrictlySortedBy};
-ghost use Rattle.rpki_payloads.specs.declared.vrp.Vrp.{Vrp as V};
-ghost use Rattle.rpki_payloads.specs.Vrp.{IsExact, vrp_cmp, vrp_of, AreOrigins, AreUnited};
+ghost use Rattle.rpki_payloads.specs.Payloads.{AreUnited, AreUnitedPairs};
+ghost use Rattle.rpki_payloads.specs.Sets.{IsSetOf};
+ghost use Rattle.rpki_payloads.specs.Vrp.{IsExact, vrp_cmp, vrp_of, AreOrigins};
 
 use crate::payloads::Payloads;
+use crate::vap::{CustomerProvider, sort_pairs};
 use crate::vrp::Vrp;
 use rpki_contents::RouteOrigin;
 use std::alloc::{AllocError, Global};
 
 /// Puts all in order, each once.
-fn sort_once<T: Ord + Drop>(all: &mut Vec<T>)
+pub(crate) fn sort_once<T: Ord + Drop>(all: &mut Vec<T>)
     ensures order { IsStrictlySortedBy T.cmp all.new.items }
     ensures none { (v : T) → Contains all.new.items v → Contains all.old.items v }
     ensures all { IsExact T.cmp → (v : T) → Contains all.old.items v → Contains all.new.items v }
@@ -22,9 +24,8 @@ fn sort_once<T: Ord + Drop>(all: &mut Vec<T>)
 }
 
 /// Puts the payloads in order, each once.
-fn sort_vrps(vrps: &mut Vec<Vrp>)
-    ensures order { IsStrictlySortedBy vrp_cmp vrps.new.items }
-    ensures each { (v : V) → Contains vrps.new.items v ↔ Contains vrps.old.items v }
+pub fn sort_vrps(vrps: &mut Vec<Vrp>)
+    ensures { IsSetOf vrp_cmp (Contains vrps.old.items) vrps.new.items }
 {
     sort_once(vrps);
 }
@@ -62,7 +63,7 @@ fn joined(alloc: Global, all: &[Payloads]) -> Result<Vec<Vrp>, AllocError>
     Ok(vrps)
 }
 
-/// The payloads of all locators: each once, in order.
+/// The route origins of all locators: each once, in order.
 ///
 /// Returns `AllocError` if allocation fails.
 pub fn united(alloc: Global, all: &[Payloads]) -> Result<Vec<Vrp>, AllocError>
@@ -71,4 +72,26 @@ pub fn united(alloc: Global, all: &[Payloads]) -> Result<Vec<Vrp>, AllocError>
     let mut vrps = joined(alloc, all)?;
     sort_vrps(&mut vrps);
     Ok(vrps)
+}
+
+/// Adds the providers of each locator.
+fn joined_pairs(alloc: Global, all: &[Payloads]) -> Result<Vec<CustomerProvider>, AllocError>
+    ensures { IfOk result (λ pairs. pairs.items ≡ flat_map (λ p. p.pairs) all.now) }
+{
+    let mut pairs = Vec::new(alloc);
+    'all: for one in all {
+        pairs.extend_from_slice(one.pairs())?;
+    }
+    Ok(pairs)
+}
+
+/// The providers of all locators: each once, in order.
+///
+/// Returns `AllocError` if allocation fails.
+pub fn united_pairs(alloc: Global, all: &[Payloads]) -> Result<Vec<CustomerProvider>, AllocError>
+    ensures { IfOk result (λ pairs. AreUnitedPairs all.now pairs.items) }
+{
+    let mut pairs = joined_pairs(alloc, all)?;
+    sort_pairs(&mut pairs);
+    Ok(pairs)
 }

@@ -1,9 +1,12 @@
 //! The payloads under one locator.
 
-ghost use Rattle.std.specs.Prelude.{◌≡◌, string_bytes};
-ghost use Rattle.rpki_payloads.specs.Vrp.{payload_parts};
+ghost use Rattle.std.specs.Prelude.{◌≡◌, IfOk, string_bytes};
+ghost use Rattle.rpki_payloads.specs.Payloads.{payload_parts};
 
+use crate::router_key::RouterKey;
+use crate::vap::CustomerProvider;
 use crate::vrp::Vrp;
+use std::alloc::{AllocError, Global};
 use std::marker::Model;
 
 /// The payloads under the locator of a trust anchor, with the name of that.
@@ -11,23 +14,35 @@ use std::marker::Model;
 pub struct Payloads {
     name: String,
     vrps: Vec<Vrp>,
+    pairs: Vec<CustomerProvider>,
+    keys: Vec<RouterKey>,
 }
 
 impl Model for Payloads {
     ghost use Rattle.std.specs.Prelude.{string_bytes};
-    ghost use Rattle.rpki_payloads.specs.Vrp.{PayloadParts, payload_parts};
+    ghost use Rattle.rpki_payloads.specs.Payloads.{PayloadParts, payload_parts};
 
     ghost Value = { PayloadParts };
 
-    ghost view = { λ p. payload_parts (string_bytes p.name) p.vrps.items };
+    ghost view = { λ p. payload_parts (string_bytes p.name) p.vrps.items p.pairs.items p.keys.items };
 }
 
 impl Payloads {
     /// These payloads, under the locator of this name.
-    pub fn new(name: String, vrps: Vec<Vrp>) -> Payloads
-        ensures { result ≡ payload_parts (string_bytes name) vrps.items }
+    pub fn new(
+        name: String,
+        vrps: Vec<Vrp>,
+        pairs: Vec<CustomerProvider>,
+        keys: Vec<RouterKey>,
+    ) -> Payloads
+        ensures { result ≡ payload_parts (string_bytes name) vrps.items pairs.items keys.items }
     {
-        Payloads { name, vrps }
+        Payloads {
+            name,
+            vrps,
+            pairs,
+            keys,
+        }
     }
 
     /// The name of the locator.
@@ -37,10 +52,33 @@ impl Payloads {
         self.name.as_bytes()
     }
 
-    /// The payloads.
+    /// A copy of the name of the locator.
+    ///
+    /// Returns `AllocError` if allocation fails.
+    pub fn copied_name(&self, alloc: Global) -> Result<String, AllocError>
+        ensures { IfOk result (λ name. string_bytes name ≡ self.now.name) }
+    {
+        String::from_str(alloc, self.name.as_str())
+    }
+
+    /// The prefixes that may be announced.
     pub fn vrps(&self) -> &[Vrp]
         ensures { result.now ≡ self.now.vrps }
     {
         self.vrps.as_slice()
+    }
+
+    /// The providers of autonomous systems.
+    pub fn pairs(&self) -> &[CustomerProvider]
+        ensures { result.now ≡ self.now.pairs }
+    {
+        self.pairs.as_slice()
+    }
+
+    /// The keys of routers.
+    pub fn keys(&self) -> &[RouterKey]
+        ensures { result.now ≡ self.now.keys }
+    {
+        self.keys.as_slice()
     }
 }

@@ -1,14 +1,14 @@
 -- What octets say under a list that counts is added.
-use Rattle.std.proofs.Common.{◌≡◌, ◌++◌, ◌∙◌, ℕ, Bool, true, false, List, [], ◌∷◌, Result, Ok, Err, codes}
-use Rattle.std.proofs.Common.{nat_eq, subst}
-use Rattle.std.proofs.Common.{sym}
+use Rattle.std.proofs.Common.{◌≡◌, ◌++◌, ◌∙◌, ◌<◌, ◌+◌, ℕ, Bool, true, false, List, [], ◌∷◌, Result, Ok, Err, codes}
+use Rattle.std.proofs.Common.{Option, arith, inl, inr, nat_eq, subst, sym}
 use Rattle.std.specs.List.{Contains, ends_with}
 use Rattle.std.specs.Bool.{MatchBool}
-use Rattle.std.specs.Prelude.{IsErr, IsErrAnd}
+use Rattle.std.specs.Prelude.{IfErr, IsErr, IsErrAnd}
 use Rattle.rpki.specs.Provider.{Check}
 use Rattle.rpki_cert.specs.declared.profile.Profile.{Profile}
 use Rattle.rpki_cert.specs.declared.profile.Profile.TheVariants.{Ca, Router}
 use Rattle.rpki_cert.specs.Cert.{CertParts, SpellsCert}
+use Rattle.rpki_cert.specs.CertFault.{IsDecodedPart}
 use Rattle.rpki_cert.specs.Profile.{HasProfile}
 use Rattle.rpki_contents.specs.Aspa.{AspaParts}
 use Rattle.rpki_contents.specs.ListedFile.{ListedFile}
@@ -16,9 +16,14 @@ use Rattle.rpki_contents.specs.Roa.{AttestationParts}
 use Rattle.rpki_contents.specs.RouteOrigin.{origins}
 use Rattle.rpki_contents.specs.declared.route_origin.RouteOrigin.{RouteOrigin}
 use Rattle.rpki_objects.specs.TypedObject.{TypedParts}
+use Rattle.jiff.specs.Types.{DateTime}
+use Rattle.rpki_time.specs.Validity.{HoldsAt}
 use Rattle.rpki_valid.specs.declared.resource.set.ResourceSet.{ResourceSet}
 use Rattle.rpki_valid.specs.CrlIssued.{InForce}
-use Rattle.rpki_valid.specs.Verified.{Authority, Holder}
+use Rattle.rpki_valid.specs.Verified.{Authority, Checkers, Holder, IsAuthorityAt, IsVerified, Terms, checkers_by}
+use Rattle.rpki_valid.specs.Verified.{verified_by}
+use Rattle.rpki_valid.specs.Verified.IsAuthorityAt.{Issued as IssuedBelow, Root}
+use Rattle.rpki_valid.specs.declared.staleness.Staleness.{Staleness}
 use Rattle.rpki_validation.specs.declared.next.Next.{Next}
 use Rattle.rpki_validation.specs.declared.reason.Reason.{Reason}
 use Rattle.rpki_validation.specs.declared.stop.Stop.{Stop}
@@ -29,14 +34,20 @@ use Rattle.rpki_validation.specs.Adding.{Found, IsCertHere, IsSaidBy, MayIssue, 
 use Rattle.rpki_validation.specs.Adding.{UnlessMemory, WhereMemory}
 use Rattle.rpki_validation.specs.Alike.{Alike, AreAlike}
 use Rattle.rpki_validation.specs.Basis.{basis_in, holder_of}
-use Rattle.rpki_validation.specs.Finding.{IsNone, IsSole, StopsAt}
-use Rattle.rpki_validation.specs.Issued.{AreOriginsIn, AreProvidersIn}
+use Rattle.rpki_validation.specs.Finding.{IsCertReason, IsNone, IsRejected, IsSole, StopsAt}
+use Rattle.rpki_validation.specs.Issued.{AreOriginsIn, AreProvidersIn, HasWrongConstraints, IsCountedCert, IsNoCertIn}
+use Rattle.rpki_validation.specs.Issued.{IsNoRouterIn}
+use Rattle.rpki_validation.specs.Issued.IsNoCertIn.{NoAuthority, NoRouter, Unread, WrongConstraints}
 use Rattle.rpki_validation.specs.Next.{IsMet, IsOf}
+use Rattle.rpki_validation.specs.Rejected.IsWrongFile.{NoCert, NoOrigins, NoProviders}
+use Rattle.rpki_validation.specs.Rejecting.{IsRightHere, IsSettled, IsWrongHere, SettlesCert, SettlesFile}
+use Rattle.rpki_validation.specs.Rejecting.{SettlesOrigins, SettlesProviders}
 use Rattle.rpki_validation.specs.Steps.{IsIssuedHere, IsNoAuthorityHere}
 use Rattle.rpki_validation.specs.Taking.{Adds, IsTaking}
 use Rattle.rpki_validation.proofs.AddingLaws.{adds-list, alike-none, adds-sole, stops-none}
 use Rattle.rpki_validation.proofs.EndingLaws.{adds-never, adds-where, asa-cer, roa-asa, roa-cer, taking-never}
 use Rattle.rpki_validation.proofs.EndingLaws.{taking-where}
+use Rattle.rpki_validation.proofs.FindingLaws.{stops-later}
 use Rattle.rpki_validation.proofs.TakingLaws.{adds-none, taking-none, taking-same}
 
 -- ---- steps
@@ -61,6 +72,16 @@ pub where-always : {R : Type 0} (A : Type 0) (r : Result R Stop) → A → Where
 where-always A (Ok x) a = a
 where-always A (Err (Rejected reason)) a = a
 where-always A (Err OutOfMemory) a = tt
+
+pub err-always : {R : Type 0} (A : Type 0) (r : Result R Stop) → A → IfErr r (UnlessMemory A)
+err-always A (Ok x) a = tt
+err-always A (Err (Rejected reason)) a = a
+err-always A (Err OutOfMemory) a = tt
+
+pub err-memory : {R : Type 0} (A : Type 0) (d : Stop) (r : Result R Stop) → IsErr r × IsErrAnd r (λ e. e ≡ d)
+    → UnlessMemory A d → IfErr r (UnlessMemory A)
+err-memory A d (Ok x) h k = absurd h.1
+err-memory A d (Err e) h k = subst (UnlessMemory A) (sym h.1) k
 
 pub where-both : {R : Type 0} (A B D : Type 0) (r : Result R Stop) → (A → B → D) → WhereMemory r A → WhereMemory r B
     → WhereMemory r D
@@ -128,6 +149,18 @@ module _ {X : Type 0} (rsa ecdsa : X → Check) (sha1 sha256 : X → List ℕ �
         stops-none Spelled K (Takes' next next) s
         (λ none may. taking-none _ _ _ (alike-none (IsCert Ca) (λ x k. none x.cert k.spells))) h
 
+    pub unread-cert : (s : Stop) → StopsAt Spelled (IsCertReason (IsDecodedPart octets) (λ e. ⊥)) s
+        → StopsAt (IsCountedCert c.issuer.depth (basis_in rsa ecdsa sha1 sha256 c) (holder_of c.issuer) c.list octets)
+        (IsNoCertIn c.issuer.depth (basis_in rsa ecdsa sha1 sha256 c) (holder_of c.issuer) c.list octets) s
+    unread-cert s h =
+        stops-later _ _ Spelled (IsCertReason (IsDecodedPart octets) (λ e. ⊥)) s h (λ none. none-of none)
+        (λ reason k. Unread k) where
+          none-of : IsNone Spelled
+              → IsNone (IsCountedCert c.issuer.depth (basis_in rsa ecdsa sha1 sha256 c) (holder_of c.issuer) c.list
+              octets)
+          none-of none x (inl h) = none x.cert h.spells
+          none-of none x (inr h) = none x.cert h.1.spells
+
     module _ (cert : CertParts) (read : IsSole Spelled cert) where
       abbrev Issued : Profile → ResourceSet → Type 0
       Issued profile = IsIssuedHere rsa ecdsa sha1 sha256 c profile cert
@@ -182,6 +215,55 @@ module _ {X : Type 0} (rsa ecdsa : X → Check) (sha1 sha256 : X → List ℕ �
       pub routers-found : (x : Holder) → x.cert ≡ cert → IsSole (Issued Router) x.resources → (xs : List Holder)
           → AddsRouters' xs (xs ++ x ∷ [])
       routers-found x e h xs = adds-sole (IsCert Router) x (held Router x e h) xs
+
+      -- ---- whether it counts
+
+      abbrev Counted : Holder → Type 0
+      Counted =
+          IsCountedCert c.issuer.depth (basis_in rsa ecdsa sha1 sha256 c) (holder_of c.issuer) c.list octets
+
+      abbrev Why : Reason → Type 0
+      Why = IsNoCertIn c.issuer.depth (basis_in rsa ecdsa sha1 sha256 c) (holder_of c.issuer) c.list octets
+
+      none-counted : IsNone (IsCert Router) → (MayIssue rsa ecdsa sha1 sha256 c → IsNone (IsCert Ca)) → IsNone Counted
+      none-counted router ca x (inl h) = router x h
+      none-counted router ca x (inr h) = ca h.0 x h.1
+
+      pub wrong-constraints : (s : Stop) → ((strict : Bool) → HasProfile Router strict cert.tbs → ⊥)
+          → ((strict : Bool) → HasProfile Ca strict cert.tbs → ⊥) → IsRejected (HasWrongConstraints cert.tbs) s
+          → StopsAt Counted Why s
+      wrong-constraints (Rejected reason) router ca h =
+          (none-counted (other Router router) (λ may. other Ca ca), WrongConstraints cert read.holds h)
+      wrong-constraints OutOfMemory router ca h = tt
+
+      pub no-authority : (s : Stop) → ((strict : Bool) → HasProfile Router strict cert.tbs → ⊥)
+          → IsNoAuthorityHere rsa ecdsa sha1 sha256 c cert s → StopsAt Counted Why s
+      no-authority s router h =
+          stops-later Counted Why (λ (r : ResourceSet). MayIssue rsa ecdsa sha1 sha256 c × Issued Ca r) _ s h
+          (λ none. none-counted (other Router router) (λ may x k. none x.resources (may, issued Ca x k)))
+          (λ reason k. NoAuthority cert read.holds router k)
+
+      pub no-router : (s : Stop) → ((strict : Bool) → HasProfile Ca strict cert.tbs → ⊥)
+          → StopsAt (Issued Router) (IsCertReason (λ q. ⊥)
+          (IsNoRouterIn (basis_in rsa ecdsa sha1 sha256 c) (holder_of c.issuer) c.list cert)) s
+          → StopsAt Counted Why s
+      no-router s ca h =
+          stops-later Counted Why (Issued Router) _ s h
+          (λ none. none-counted (λ x k. none x.resources (issued Router x k)) (λ may. other Ca ca))
+          (λ reason k. NoRouter cert read.holds ca k)
+
+      pub router-counts : (x : Holder) → x.cert ≡ cert → IsSole (Issued Router) x.resources → (y : Holder) × Counted y
+      router-counts x e h = (x, inl (held Router x e h).holds)
+
+      pub authority-counts : (a : Authority X) → a.cert ≡ cert → IsSole (Issued Ca) a.resources
+          → MayIssue rsa ecdsa sha1 sha256 c → (y : Holder) × Counted y
+      authority-counts a e h may = (holder_of a, inr (may, (held Ca (holder_of a) e h).holds))
+
+      pub authority-said : (a : Authority X) → a.cert ≡ cert → IsSole (Issued Ca) a.resources → IsCert Ca (holder_of a)
+      authority-said a e h = (held Ca (holder_of a) e h).holds
+
+      pub router-said : (x : Holder) → x.cert ≡ cert → IsSole (Issued Router) x.resources → IsCert Router x
+      router-said x e h = (held Router x e h).holds
 
       pub below-found : (a : Authority X) → a.cert ≡ cert → IsSole (Issued Ca) a.resources → (old new : Next X)
           → IsTaking (AreAlike (holder_of a)) (IsMet old.met) (IsMet new.met) (IsOf old.level.items)
@@ -256,6 +338,80 @@ module _ {X : Type 0} (rsa ecdsa : X → Check) (sha1 sha256 : X → List ℕ �
       routers = adds-never _ _ never xs.routers;
       below = λ may. taking-never _ _ never _ _;
     }
+
+    -- ---- whether it counts
+
+    abbrev Right : Type 0
+    Right = IsRightHere rsa ecdsa sha1 sha256 c file octets
+
+    abbrev Wrong : Reason → Type 0
+    Wrong = IsWrongHere rsa ecdsa sha1 sha256 c file octets
+
+    abbrev Settled : {R : Type 0} → Result R Stop → Type 0
+    Settled = SettlesFile rsa ecdsa sha1 sha256 c file octets
+
+    settled : {R V : Type 0} (P : V → Type 0) (K : Reason → Type 0) (r : Result R Stop)
+        → (((v : V) × P v) → Right) → ((reason : Reason) → IsNone P → K reason → Wrong reason) → IsSettled P K r
+        → Settled r
+    settled P K (Ok x) right wrong h = right h
+    settled P K (Err (Rejected reason)) right wrong h = wrong reason h.0 h.1
+    settled P K (Err OutOfMemory) right wrong h = tt
+
+    pub origins-settled : {R : Type 0} (r : Result R Stop) → End (codes ".roa")
+        → SettlesOrigins rsa ecdsa sha1 sha256 c octets r → Settled r
+    origins-settled r roa =
+        settled _ _ r
+        (λ h. record {
+          origins = λ e. h;
+          providers = λ e. absurd (roa-asa file.0 roa e);
+          cert = λ e. absurd (roa-cer file.0 roa e);
+        })
+        (λ reason none k. NoOrigins roa none k)
+
+    pub providers-settled : {R : Type 0} (r : Result R Stop) → End (codes ".asa")
+        → SettlesProviders rsa ecdsa sha1 sha256 c octets r → Settled r
+    providers-settled r asa =
+        settled _ _ r
+        (λ h. record {
+          origins = λ e. absurd (roa-asa file.0 e asa);
+          providers = λ e. h;
+          cert = λ e. absurd (asa-cer file.0 asa e);
+        })
+        (λ reason none k. NoProviders asa none k)
+
+    pub cert-settled : {R : Type 0} (r : Result R Stop) → End (codes ".cer")
+        → SettlesCert rsa ecdsa sha1 sha256 c octets r → Settled r
+    cert-settled r cer =
+        settled _ _ r
+        (λ h. record {
+          origins = λ e. absurd (roa-cer file.0 e cer);
+          providers = λ e. absurd (asa-cer file.0 e cer);
+          cert = λ e. h;
+        })
+        (λ reason none k. NoCert cer none k)
+
+    pub other-settled : (End (codes ".roa") → ⊥) → (End (codes ".asa") → ⊥) → (End (codes ".cer") → ⊥) → Right
+    other-settled roa asa cer = record {
+      origins = λ e. absurd (roa e);
+      providers = λ e. absurd (asa e);
+      cert = λ e. absurd (cer e);
+    }
+
+-- ---- paths
+
+-- an authority below another has a path that may be so long
+deep-enough : (terms : Terms) (asked : Option Staleness) (by : Checkers) (at : DateTime) (n : ℕ) (x : Holder)
+    → IsAuthorityAt terms asked by at n x → (k : ℕ) → n ≡ k + 1 → k < terms.deepest
+deep-enough terms asked by at _ _ (Root x h) k is = absurd (omega (arith, is))
+deep-enough terms asked by at _ _ (IssuedBelow n m issuer x up e low link) k is = omega (arith, e, low, is)
+
+pub may-issue : {X : Type 0} (rsa ecdsa : X → Check) (sha1 sha256 : X → List ℕ → List ℕ) (c : InForce X)
+    (a : Authority X) → IsVerified (verified_by rsa ecdsa sha1 a) → HoldsAt a.period c.at
+    → a.depth ≡ c.issuer.depth + 1 → a.terms ≡ c.issuer.terms → MayIssue rsa ecdsa sha1 sha256 c
+may-issue rsa ecdsa sha1 sha256 c a verified period deep same =
+    subst (λ (t : Terms). c.issuer.depth < t.deepest) same
+    (deep-enough a.terms a.asked (checkers_by rsa ecdsa sha1 a.provider) c.at a.depth (holder_of a)
+    (verified c.at period) c.issuer.depth deep)
 
 -- ---- answers of tests
 

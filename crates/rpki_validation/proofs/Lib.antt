@@ -12,6 +12,8 @@
 -- What is met and taken for the next level, one after another: MetLaws, NextLaws, TakingLaws.
 -- What octets say under a list, what files say, what the point of an authority says is added: HereLaws (names of files:
 --   EndingLaws), AddingLaws, VisitLaws.
+-- Notes of pairs, one after another: NotingLaws. What is rejected of files and of a point, and of authorities one after
+--   another: RejectedLaws, RejectsLaws. How long payloads hold: HeldLaws.
 -- The walk, and that what it tells is exactly what is valid: WalkLaws.
 -- Payloads are signed down from the key of the locator; what stands elsewhere has no part in them: SignedDownLaws,
 --   IsolationLaws.
@@ -31,11 +33,15 @@ pub mod ReachedLaws
 pub mod AlikeLaws
 pub mod MetLaws
 pub mod TakingLaws
+pub mod NotingLaws
 pub mod NextLaws
 pub mod AddingLaws
 pub mod EndingLaws
 pub mod HereLaws
 pub mod VisitLaws
+pub mod RejectedLaws
+pub mod HeldLaws
+pub mod RejectsLaws
 pub mod WalkLaws
 pub mod SignedDownLaws
 pub mod IsolationLaws

@@ -1,7 +1,7 @@
 -- A certificate says one URI at most of where its subject publishes; and no certificate is of an authority and of a
 -- router.
 use Rattle.std.proofs.Common.{◌≡◌, ◌∙◌, ◌++◌, ℕ, suc, Bool, true, false, List, [], ◌∷◌, Option, Some, None, sym, ap}
-use Rattle.std.proofs.Common.{refl, arith}
+use Rattle.std.proofs.Common.{refl, arith, subst}
 use Rattle.std.specs.Bool.{MatchBool}
 use Rattle.std.specs.Prelude.{All}
 use Rattle.rpki_der.specs.declared.error.DecodeError.{DecodeError}
@@ -25,6 +25,7 @@ use Rattle.rpki_cert.specs.Profile.{HasProfile, common_rules, subject_rules, rep
 use Rattle.rpki_cert.specs.Rule.{Obeys}
 use Rattle.rpki_validation.specs.declared.reason.Reason.{Reason}
 use Rattle.rpki_validation.specs.Finding.{IsCertReason, IsNone, IsRejected, IsSole, invalid_stop_of}
+use Rattle.rpki_validation.specs.Met.{IsPlace}
 use Rattle.rpki_validation.specs.Publication.{SaysNoUri, SaysOther}
 
 module _ (G : Option (List ℕ) → List ℕ → Type 0) (t : TbsParts) where
@@ -102,3 +103,20 @@ pub rejected-wrong : (t : TbsParts) (e : ValidationError) → IsOther t e
 rejected-wrong t (Decoding e) h = decoded-wrong t e h
 rejected-wrong t (Inspection e) h = h
 rejected-wrong t (Verification e) h = h
+
+-- ---- places
+
+-- the one that was found
+pub place-found : (Has : List ℕ → Type 0) (uri : List ℕ) → IsSole Has uri → IsPlace Has (Some uri)
+place-found Has uri h other = (
+  λ s. ap (λ (u : List ℕ). Some u) (sym (h.sole other s)),
+  λ k. subst Has (some-is uri other k) h.holds,
+) where
+  some-is : (a b : List ℕ) → Some a ≡ Some b → a ≡ b
+  some-is a b e = cc
+
+-- none
+pub place-none : (Has : List ℕ → Type 0) → IsNone Has → IsPlace Has None
+place-none Has none uri = (λ s. absurd (none uri s), λ k. absurd (none-is uri k)) where
+  none-is : (a : List ℕ) → None ≡ Some a → ⊥
+  none-is a e = absurd (cc)

@@ -23,7 +23,7 @@ use Rattle.rpki_valid.specs.Verified.{holder}
 use Rattle.rpki_validation.specs.declared.reason.Reason.{Reason}
 use Rattle.rpki_validation.specs.Basis.{Basis}
 use Rattle.rpki_validation.specs.Finding.{IsSole, IsNone, StopsAt, IsCertReason, stop_of, invalid_stop_of}
-use Rattle.rpki_validation.specs.Issued.{IsObjectIn, IsNoObjectIn, IsIssuedCert}
+use Rattle.rpki_validation.specs.Issued.{IsObjectIn, IsNoAuthorityIn, IsNoObjectIn, IsIssuedCert}
 use Rattle.rpki_validation.proofs.FindingLaws.{stops-invalid, stops-malformed, unless-here, unless-then, unless-valid}
 use Rattle.rpki_validation.specs.Point.{HoldsAtMoment, IsNoMoment}
 use Rattle.rpki_validation.specs.Publication.{PublicationParts}
@@ -141,10 +141,14 @@ module _ (v : Verified) (sha256 : List ℕ → List ℕ) (at : DateTime) (period
       none-issued profile e h =
           unless-valid e (λ none held k. none held (cert-then v sha256 at period profile (Some list) x held k)) h.0
 
+      link-now : (profile : Profile) (e : ValidationError) → IsRefusedLink profile (Some list) v at x e
+          → IsRefusedLink profile (Some list) (now v sha256 at) at x e
+      link-now profile e h = (none-issued profile e h, unverified-now profile x e h.1)
+
       pub cert-refused : (profile : Profile) (e : ValidationError) → IsRefusedLink profile (Some list) v at x e
-          → StopsAt (Issued profile) (IsCertReason (λ q. ⊥) (IsRefusedLink profile (Some list) v at x))
+          → StopsAt (Issued profile) (IsCertReason (λ q. ⊥) (IsRefusedLink profile (Some list) (now v sha256 at) at x))
           (invalid_stop_of e)
-      cert-refused profile e h = stops-invalid (Issued profile) _ e (none-issued profile e h) h
+      cert-refused profile e h = stops-invalid (Issued profile) _ e (none-issued profile e h) (link-now profile e h)
 
       -- an authority, which is no deeper than its path may be
       abbrev Below : ResourceSet → Type 0
@@ -160,9 +164,16 @@ module _ (v : Verified) (sha256 : List ℕ → List ℕ) (at : DateTime) (period
       none-below e (inl h) = unless-here e (λ held k. h.0 k.0)
       none-below e (inr h) = unless-valid e (λ none held k. none held k.1) (none-issued Ca e h.1)
 
+      abbrev NoAuthority : ValidationError → Type 0
+      NoAuthority = IsNoAuthorityIn v.depth Basis' (holder v.cert v.resources) list x
+
+      authority-now : (e : ValidationError) → IsRefusedAuthority (Some list) v at x e → NoAuthority e
+      authority-now e (inl h) = inl h
+      authority-now e (inr h) = inr (h.0, link-now Ca e h.1)
+
       pub authority-refused : (e : ValidationError) → IsRefusedAuthority (Some list) v at x e
-          → StopsAt Below (IsCertReason (λ q. ⊥) (IsRefusedAuthority (Some list) v at x)) (invalid_stop_of e)
-      authority-refused e h = stops-invalid Below _ e (none-below e h) h
+          → StopsAt Below (IsCertReason (λ q. ⊥) NoAuthority) (invalid_stop_of e)
+      authority-refused e h = stops-invalid Below _ e (none-below e h) (authority-now e h)
 
 -- ---- the list and the manifest of a publication
 

@@ -39,7 +39,7 @@ module _ (published : Published) (sha256 : List ℕ → List ℕ) (folder : List
   same-octets : (o : Option (List ℕ)) (a b : List ℕ) → o ≡ Some a → o ≡ Some b → a ≡ b
   same-octets o a b e d = let s : ◌≡◌ {A = Option (List ℕ)} (Some a) (Some b) = sym e ∙ d in cc
 
-  one-stands : (file : ListedFile) (a b : List ℕ) → Stands file a → Stands file b → a ≡ b
+  pub one-stands : (file : ListedFile) (a b : List ℕ) → Stands file a → Stands file b → a ≡ b
   one-stands file a b h k = same-octets _ a b h.stands k.stands
 
   all-there : (files : List ListedFile) (os : List (List ℕ)) → Are files os → (file : ListedFile) → Contains files file
@@ -139,7 +139,7 @@ module _ (published : Published) (basis : Basis) (x : Holder) where
         none all.0 all.1
 
     module _ (holds : HoldsAtMoment basis x p) (os : List (List ℕ)) (are : Octets os) where
-      the-point : Point p
+      pub the-point : Point p
       the-point = record {
         there = sole.holds;
         valid = holds;

@@ -16,10 +16,12 @@ use Rattle.rpki_valid.specs.CrlIssued.{InForce}
 use Rattle.rpki_valid.specs.Verified.{Authority, Holder}
 use Rattle.rpki_validation.specs.declared.next.Next.{Next}
 use Rattle.rpki_validation.specs.declared.outcome.Outcome.{Outcome}
+use Rattle.rpki_validation.specs.declared.payload.Payload.{Payload}
 use Rattle.rpki_validation.specs.declared.stop.Stop.{Stop}
 use Rattle.rpki_validation.specs.declared.stop.Stop.TheVariants.{Rejected, OutOfMemory}
 use Rattle.rpki_validation.specs.Alike.{Alike}
 use Rattle.rpki_validation.specs.Basis.{basis_in, basis_of, holder_of}
+use Rattle.rpki_validation.specs.Holding.{values}
 use Rattle.rpki_validation.specs.Issued.{AreOriginsIn, AreProvidersIn, IsCertIn}
 use Rattle.rpki_validation.specs.Reached.{IsBelow}
 use Rattle.rpki_validation.specs.Said.{SaysOrigin, SaysProviders, SaysRouter}
@@ -50,9 +52,9 @@ pub record Found (X : Type 0) : Type 0 where
 
 abbrev pub found : {X : Type 0} → Next X → Outcome → Found X
 found next outcome = record {
-  origins = outcome.origins.items;
-  providers = outcome.providers.items;
-  routers = outcome.routers.items;
+  origins = values outcome.origins.items;
+  providers = values outcome.providers.items;
+  routers = values outcome.routers.items;
   level = next.level.items;
   met = next.met;
 }
@@ -151,21 +153,24 @@ module _ {X : Type 0} (rsa ecdsa : X → Check) (sha1 sha256 : X → List ℕ �
       (IsBelow published basis x) old new))
 
   -- the same, one after another, of a walk that ends where allocation fails
-  abbrev pub AddsOrigins : {E : Type 0} → List RouteOrigin → List RouteOrigin → Result (Unit {0}) E → Type 0
+  abbrev pub AddsOrigins : {E : Type 0} → List (Payload RouteOrigin) → List (Payload RouteOrigin)
+      → Result (Unit {0}) E → Type 0
   AddsOrigins old new r =
       Where known (λ published. IfOk r (λ _. Adds
-      (SaysOrigin published (basis_of rsa ecdsa sha1 sha256 issuer at) (holder_of issuer)) old new))
+      (SaysOrigin published (basis_of rsa ecdsa sha1 sha256 issuer at) (holder_of issuer)) (values old) (values new)))
 
-  abbrev pub AddsProviders : {E : Type 0} → List (TypedParts AspaParts) → List (TypedParts AspaParts)
+  abbrev pub AddsProviders : {E : Type 0} → List (Payload (TypedParts AspaParts))
+      → List (Payload (TypedParts AspaParts))
       → Result (Unit {0}) E → Type 0
   AddsProviders old new r =
       Where known (λ published. IfOk r (λ _. Adds
-      (SaysProviders published (basis_of rsa ecdsa sha1 sha256 issuer at) (holder_of issuer)) old new))
+      (SaysProviders published (basis_of rsa ecdsa sha1 sha256 issuer at) (holder_of issuer)) (values old)
+      (values new)))
 
-  abbrev pub AddsRouters : {E : Type 0} → List Holder → List Holder → Result (Unit {0}) E → Type 0
+  abbrev pub AddsRouters : {E : Type 0} → List (Payload Holder) → List (Payload Holder) → Result (Unit {0}) E → Type 0
   AddsRouters old new r =
       Where known (λ published. IfOk r (λ _. Adds
-      (SaysRouter published (basis_of rsa ecdsa sha1 sha256 issuer at) (holder_of issuer)) old new))
+      (SaysRouter published (basis_of rsa ecdsa sha1 sha256 issuer at) (holder_of issuer)) (values old) (values new)))
 
   abbrev pub TakesBelow : {E : Type 0} → Next X → Next X → Result (Unit {0}) E → Type 0
   TakesBelow old new r =

@@ -1,22 +1,29 @@
 -- What the files of a point say: route origins, providers, routers and authorities, each valid at the moment.
-use Rattle.std.specs.Prelude.{ℕ, List, Some}
+use Rattle.std.specs.Prelude.{◌⊎◌, ◌<◌, ℕ, Bool, true, List, Some}
 use Rattle.rpki_der.specs.Prelude.{Format, IsWholeFault}
 use Rattle.rpki.specs.declared.repository.error.ValidationError.{ValidationError}
 use Rattle.rpki_contents.specs.Aspa.{AspaParts}
 use Rattle.rpki_contents.specs.Roa.{AttestationParts}
 use Rattle.rpki_cert.specs.declared.profile.Profile.{Profile}
-use Rattle.rpki_cert.specs.Cert.{CertParts, SpellsCert}
+use Rattle.rpki_cert.specs.declared.profile.Profile.TheVariants.{Ca, Router}
+use Rattle.rpki_cert.specs.Cert.{CertParts, SpellsCert, TbsParts, find}
+use Rattle.rpki_cert.specs.CertFault.{IsDecodedPart}
+use Rattle.rpki_cert.specs.ExtensionContent.{SpellsConstraints, WholeFault, constraints_content}
+use Rattle.rpki_cert.specs.Known.{basic_constraints, IsFoundWrong}
+use Rattle.rpki_cert.specs.Profile.{HasProfile}
 use Rattle.rpki_objects.specs.Crl.{CrlParts}
 use Rattle.rpki_objects.specs.SignedObject.{ObjectParts}
 use Rattle.rpki_objects.specs.TypedObject.{TypedParts, origin_object, aspa_object}
 use Rattle.rpki_valid.specs.declared.resource.set.ResourceSet.{ResourceSet}
+use Rattle.rpki_valid.specs.ErrorTexts.{too_long_text}
 use Rattle.rpki_valid.specs.ObjectVerified.{IsValidObject, IsInvalidObject}
 use Rattle.rpki_valid.specs.Processed.{IsProcessed, IsUnprocessed, KeepsOriginRules, BreaksOriginRules}
 use Rattle.rpki_valid.specs.Processed.{KeepsAspaRules, BreaksAspaRules}
-use Rattle.rpki_valid.specs.Verified.{Holder, IsVerifiedBy}
+use Rattle.rpki_valid.specs.Valid.{HasReason, Unless}
+use Rattle.rpki_valid.specs.Verified.{Holder, IsRefusedLink, IsVerifiedBy}
 use Rattle.rpki_validation.specs.declared.reason.Reason.{Reason}
 use Rattle.rpki_validation.specs.Basis.{Basis, verified_at}
-use Rattle.rpki_validation.specs.Finding.{IsObjectReason}
+use Rattle.rpki_validation.specs.Finding.{IsCertReason, IsObjectReason}
 
 -- ---- signed objects
 
@@ -69,3 +76,42 @@ pub record IsCertIn (profile : Profile) (basis : Basis) (issuer : Holder) (list 
     (x : Holder) : Type 0 where
   pub spells : SpellsCert x.cert octets
   pub valid : IsIssuedCert profile basis issuer list x.cert x.resources
+
+-- ---- certificates that count, of authorities and routers
+
+-- why a certificate is not that of an authority below an issuer so many steps below the trust anchor: a path may not be
+-- longer; or the issuer has issued no such authority
+abbrev pub IsNoAuthorityIn : ℕ → Basis → Holder → CrlParts → CertParts → ValidationError → Type 0
+IsNoAuthorityIn depth basis issuer list x =
+    Unless (depth < basis.terms.deepest) (HasReason too_long_text)
+    (IsRefusedLink Ca (Some list) (verified_at basis issuer) basis.at x)
+
+-- why it is not that of a router
+abbrev pub IsNoRouterIn : Basis → Holder → CrlParts → CertParts → ValidationError → Type 0
+IsNoRouterIn basis issuer list = IsRefusedLink Router (Some list) (verified_at basis issuer) basis.at
+
+-- octets that are a certificate that counts: that of a router, or of an authority where a path may be longer
+abbrev pub IsCountedCert : ℕ → Basis → Holder → CrlParts → List ℕ → Holder → Type 0
+IsCountedCert depth basis issuer list octets x =
+    IsCertIn Router basis issuer list octets x
+    ⊎ ((depth < basis.terms.deepest) × IsCertIn Ca basis issuer list octets x)
+
+-- basic constraints that are malformed, or not as critical as they have to be
+abbrev pub HasWrongConstraints : TbsParts → Reason → Type 0
+HasWrongConstraints t =
+    IsCertReason (λ _. ⊥)
+    (IsFoundWrong true SpellsConstraints (WholeFault constraints_content) (find basic_constraints t.extensions))
+
+-- Why octets are none: no certificate; or one whose basic constraints are wrong, or which can only be that of an
+-- authority, or of a router, and isn't valid as that.
+pub data IsNoCertIn (depth : ℕ) (basis : Basis) (issuer : Holder) (list : CrlParts) (octets : List ℕ) (reason : Reason)
+    : Type 0 where
+  Unread : IsCertReason (IsDecodedPart octets) (λ e. ⊥) reason → IsNoCertIn depth basis issuer list octets reason
+  WrongConstraints : (x : CertParts) → SpellsCert x octets → HasWrongConstraints x.tbs reason
+      → IsNoCertIn depth basis issuer list octets reason
+  NoAuthority : (x : CertParts) → SpellsCert x octets → ((strict : Bool) → HasProfile Router strict x.tbs → ⊥)
+      → IsCertReason (λ q. ⊥) (IsNoAuthorityIn depth basis issuer list x) reason
+      → IsNoCertIn depth basis issuer list octets reason
+  NoRouter : (x : CertParts) → SpellsCert x octets → ((strict : Bool) → HasProfile Ca strict x.tbs → ⊥)
+      → IsCertReason (λ q. ⊥) (IsNoRouterIn basis issuer list x) reason
+      → IsNoCertIn depth basis issuer list octets reason

@@ -15,7 +15,12 @@ pub mod Alike
 pub mod Met
 pub mod Taking
 pub mod Next
+pub mod Noting
+pub mod Rejected
+pub mod Holding
 pub mod Adding
+pub mod Rejecting
+pub mod Held
 pub mod Validated
 pub mod SignedDown
 pub mod Isolation

@@ -1,10 +1,8 @@
 -- What the steps of a validator promise.
-use Rattle.std.specs.Prelude.{◌<◌, Bool, true, List, ℕ, Option, Some, Result}
+use Rattle.std.specs.Prelude.{◌<◌, Bool, List, ℕ, Option, Result}
 use Rattle.jiff.specs.Types.{DateTime}
 use Rattle.rpki.specs.Provider.{Check}
-use Rattle.rpki_cert.specs.Cert.{CertParts, TbsParts, find}
-use Rattle.rpki_cert.specs.ExtensionContent.{SpellsConstraints, WholeFault, constraints_content}
-use Rattle.rpki_cert.specs.Known.{basic_constraints, IsFoundWrong}
+use Rattle.rpki_cert.specs.Cert.{CertParts, TbsParts}
 use Rattle.rpki_cert.specs.declared.profile.Profile.{Profile}
 use Rattle.rpki_cert.specs.declared.profile.Profile.TheVariants.{Ca, Router}
 use Rattle.rpki_contents.specs.Aspa.{AspaParts}
@@ -17,13 +15,13 @@ use Rattle.rpki_objects.specs.TypedObject.{TypedParts, manifest_object}
 use Rattle.rpki_text.specs.RsyncText.{RsyncUri}
 use Rattle.rpki_valid.specs.declared.resource.set.ResourceSet.{ResourceSet}
 use Rattle.rpki_valid.specs.CrlIssued.{InForce}
-use Rattle.rpki_valid.specs.Verified.{Authority, Terms, verified_by, IsRefusedAuthority, IsRefusedLink}
-use Rattle.rpki_validation.specs.declared.reason.Reason.{Reason}
+use Rattle.rpki_valid.specs.Verified.{Authority, Terms}
 use Rattle.rpki_validation.specs.declared.router.RouterCert.{RouterCert}
 use Rattle.rpki_validation.specs.declared.stop.Stop.{Stop}
 use Rattle.rpki_validation.specs.Basis.{basis_by, basis_in, holder_of}
 use Rattle.rpki_validation.specs.Finding.{Finds, IsCertReason, IsSole, StopsAt}
 use Rattle.rpki_validation.specs.Issued.{AreOriginsIn, AreNoOriginsIn, AreProvidersIn, AreNoProvidersIn, IsIssuedCert}
+use Rattle.rpki_validation.specs.Issued.{IsNoAuthorityIn, IsNoRouterIn}
 use Rattle.rpki_validation.specs.Point.{AreOctetsOf, IsIncomplete}
 use Rattle.rpki_validation.specs.Publication.{IsListOn, IsNoFile, IsNoListOn, IsNoPublication, IsNoValue, IsPublication}
 use Rattle.rpki_validation.specs.Publication.{PublicationParts, StandsAs, ValueAt}
@@ -115,16 +113,11 @@ module _ {X : Type 0} (rsa ecdsa : X → Check) (sha1 sha256 : X → List ℕ �
   abbrev pub IsNoAuthorityHere : CertParts → Stop → Type 0
   IsNoAuthorityHere cert =
       StopsAt (λ (r : ResourceSet). (c.issuer.depth < c.issuer.terms.deepest) × IsIssuedHere Ca cert r)
-      (IsCertReason (λ _. ⊥) (IsRefusedAuthority (Some c.list) (verified_by rsa ecdsa sha1 c.issuer) c.at cert))
+      (IsCertReason (λ _. ⊥)
+      (IsNoAuthorityIn c.issuer.depth (basis_in rsa ecdsa sha1 sha256 c) (holder_of c.issuer) c.list cert))
 
   -- of a router
   abbrev pub FindsRouter : CertParts → Result RouterCert Stop → Type 0
   FindsRouter cert =
       Finds (λ x. x.resources) (IsIssuedHere Router cert)
-      (IsCertReason (λ _. ⊥) (IsRefusedLink Router (Some c.list) (verified_by rsa ecdsa sha1 c.issuer) c.at cert))
-
--- basic constraints that are malformed, or not as critical as they have to be
-abbrev pub HasWrongConstraints : TbsParts → Reason → Type 0
-HasWrongConstraints t =
-    IsCertReason (λ _. ⊥)
-    (IsFoundWrong true SpellsConstraints (WholeFault constraints_content) (find basic_constraints t.extensions))
+      (IsCertReason (λ _. ⊥) (IsNoRouterIn (basis_in rsa ecdsa sha1 sha256 c) (holder_of c.issuer) c.list cert))

@@ -27,6 +27,7 @@ fn anchor_in<'p, P: Provider>(
     ensures exactly { FindsAnchorIn P.rsa_of P.ecdsa_of P.sha1_of P.sha256_of (terms_in terms.entry)
         provider.entry.now at octets result }
     ensures period { IfOk result (λ a. HoldsAt a.period at) }
+    ensures own { IfOk result (λ a. a.period ≡ a.cert.tbs.validity) }
     ensures terms { IfOk result (λ a. a.terms ≡ terms_in terms.entry) }
     ensures depth { IfOk result (λ a. a.depth ≡ 0) }
     ensures provider { IfOk result (λ a. a.provider ≡ provider.entry.now) }
@@ -48,6 +49,7 @@ fn anchor_at<'p, S: Snapshot, P: Provider>(
     ensures exactly { FindsAnchorAt P.rsa_of P.ecdsa_of P.sha1_of P.sha256_of (terms_in terms.entry)
         provider.entry.now at (S.holds snapshot.now) uri.now result }
     ensures period { IfOk result (λ a. HoldsAt a.period at) }
+    ensures own { IfOk result (λ a. a.period ≡ a.cert.tbs.validity) }
     ensures terms { IfOk result (λ a. a.terms ≡ terms_in terms.entry) }
     ensures depth { IfOk result (λ a. a.depth ≡ 0) }
     ensures provider { IfOk result (λ a. a.provider ≡ provider.entry.now) }
@@ -74,6 +76,7 @@ pub fn anchor_of<'p, S: Snapshot, P: Provider>(
     ensures exactly { FindsAnchor P.rsa_of P.ecdsa_of P.sha1_of P.sha256_of (terms_in terms.entry)
         provider.entry.now at (S.holds snapshot.now) uris.now result }
     ensures period { IfOk result (λ a. HoldsAt a.period at) }
+    ensures own { IfOk result (λ a. a.period ≡ a.cert.tbs.validity) }
     ensures terms { IfOk result (λ a. a.terms ≡ terms_in terms.entry) }
     ensures depth { IfOk result (λ a. a.depth ≡ 0) }
     ensures provider { IfOk result (λ a. a.provider ≡ provider.entry.now) }

@@ -7,8 +7,11 @@ ghost use Rattle.rpki_cert.specs.Cert.{SpellsCert};
 ghost use Rattle.rpki_cert.specs.CertFault.{IsDecodedPart};
 ghost use Rattle.rpki_cert.specs.Profile.{HasProfile};
 ghost use Rattle.rpki_time.specs.Validity.{HoldsAt};
+ghost use Rattle.rpki_valid.specs.CrlIssued.{CountsAt};
 ghost use Rattle.rpki_validation.specs.Finding.{Finds, IsCertReason, IsRejected};
-ghost use Rattle.rpki_validation.specs.Steps.{FindsOrigins, FindsProviders, FindsRouter, HasWrongConstraints};
+ghost use Rattle.rpki_validation.specs.Holding.{IsPeriodUnder};
+ghost use Rattle.rpki_validation.specs.Issued.{HasWrongConstraints};
+ghost use Rattle.rpki_validation.specs.Steps.{FindsOrigins, FindsProviders, FindsRouter};
 ghost use Rattle.rpki_validation.specs.Steps.{IsAuthorityHere, IsNoAuthorityHere};
 
 use crate::router::RouterCert;
@@ -91,8 +94,9 @@ pub fn authority_of<'a, 'p, P: Provider>(
         a.resources) }
     ensures err { IfErr result (IsNoAuthorityHere P.rsa_of P.ecdsa_of P.sha1_of P.sha256_of list.now cert) }
     ensures cert { IfOk result (λ a. a.cert ≡ cert) }
-    // All of its path is valid at the moment.
+    // All of its path is valid at the moment, and in this period.
     ensures period { IfOk result (λ a. HoldsAt a.period list.now.at) }
+    ensures holds { IfOk result (λ a. IsPeriodUnder (CountsAt list.now) cert a.period) }
     ensures terms { IfOk result (λ a. a.terms ≡ list.now.issuer.terms) }
     ensures depth { IfOk result (λ a. a.depth ≡ list.now.issuer.depth + 1) }
     ensures provider { IfOk result (λ a. a.provider ≡ list.now.issuer.provider) }

@@ -1,6 +1,7 @@
 //! Authorities that were met.
 
 ghost use Rattle.std.specs.Prelude.{◌≡◌, ◌++◌, [], IfOk};
+ghost use Rattle.rpki_valid.specs.Verified.{IsVerified, verified_by};
 ghost use Rattle.rpki_validation.specs.Basis.{holder_of};
 ghost use Rattle.rpki_validation.specs.Met.{counted, format_number, numbers_of, mark_in};
 ghost use Rattle.rpki_validation.specs.Met.{HasMark, InsertsMarkOf, IsPlaceOf};
@@ -88,7 +89,9 @@ fn mark_of<'p, P: Provider>(
     alloc: Global,
     authority: &ResourceCert<'p, P>,
 ) -> Result<Mark, AllocError>
-    ensures { IfOk result (λ k. HasMark (holder_of authority.now) (mark_in (λ v. v.items) k)) }
+    ensures mark { IfOk result (λ k. HasMark (holder_of authority.now) (mark_in (λ v. v.items) k)) }
+    // It was verified.
+    ensures verified { IfOk result (λ _. IsVerified (verified_by P.rsa_of P.ecdsa_of P.sha1_of authority.now)) }
 {
     let tbs = authority.cert().tbs();
     let name = Bytes::copy_from_slice(alloc, tbs.subject().as_slice())?;
@@ -121,7 +124,9 @@ impl Met {
         alloc: Global,
         authority: &ResourceCert<'p, P>,
     ) -> Result<bool, AllocError>
-        ensures { IfOk result (InsertsMarkOf self.old self.new (holder_of authority.now)) }
+        ensures inserted { IfOk result (InsertsMarkOf self.old self.new (holder_of authority.now)) }
+        // It was verified.
+        ensures verified { IfOk result (λ _. IsVerified (verified_by P.rsa_of P.ecdsa_of P.sha1_of authority.now)) }
     {
         let mark = mark_of(alloc, authority)?;
         let is_new = self.marks.insert(mark)?;

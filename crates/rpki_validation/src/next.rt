@@ -2,7 +2,7 @@
 
 ghost use Rattle.std.specs.Prelude.{◌≡◌, ◌⊎◌, IfOk};
 ghost use Rattle.std.specs.List.{Contains};
-ghost use Rattle.rpki_valid.specs.Verified.{Authority};
+ghost use Rattle.rpki_valid.specs.Verified.{Authority, IsVerified, verified_by};
 ghost use Rattle.rpki_validation.specs.Validated.{TakesOne};
 
 use crate::met::Met;
@@ -31,6 +31,8 @@ impl<'p, P: Provider> Next<'p, P> {
         ensures taking { IfOk result (λ _. TakesOne authority.entry self.old self.new) }
         ensures level { IfOk result (λ _. (a : Authority P) → Contains self.new.level.items a
             → Contains self.old.level.items a ⊎ (authority.entry ≡ a)) }
+        // It was verified.
+        ensures verified { IfOk result (λ _. IsVerified (verified_by P.rsa_of P.ecdsa_of P.sha1_of authority.entry)) }
     {
         if self.met.insert(alloc, &authority)? {
             self.level.push(authority)?;

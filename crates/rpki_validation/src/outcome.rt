@@ -2,6 +2,7 @@
 
 ghost use Rattle.std.specs.Prelude.{◌≡◌, []};
 
+use crate::payload::Payload;
 use crate::reason::Reason;
 use crate::router::RouterCert;
 use rpki::uri::Rsync;
@@ -21,16 +22,16 @@ pub struct Rejection {
     pub reason: Reason,
 }
 
-/// What is valid below a trust anchor, and what is rejected, in the order in which it was met. A payload stands there
-/// as often as it was found.
+/// What is valid below a trust anchor, and what is rejected, in the order in which it was met. A payload is there as
+/// often as it was found, each time with the period of the path by which it was.
 #[derive(Drop)]
 pub struct Outcome {
     /// The prefixes that may be announced, each with its AS number.
-    pub origins: Vec<RouteOrigin>,
+    pub origins: Vec<Payload<RouteOrigin>>,
     /// The attestations of providers.
-    pub providers: Vec<Aspa>,
+    pub providers: Vec<Payload<Aspa>>,
     /// The certificates of routers.
-    pub routers: Vec<RouterCert>,
+    pub routers: Vec<Payload<RouterCert>>,
     /// What is rejected.
     pub rejections: Vec<Rejection>,
 }
@@ -41,6 +42,7 @@ impl Outcome {
         ensures origins { result.origins.items ≡ [] }
         ensures providers { result.providers.items ≡ [] }
         ensures routers { result.routers.items ≡ [] }
+        ensures rejections { result.rejections.items ≡ [] }
     {
         Outcome {
             origins: Vec::new(alloc),

@@ -1,37 +1,61 @@
 //! What stands in the point of one authority.
 
-ghost use Rattle.std.specs.Prelude.{◌≡◌, ◌++◌, IfOk};
+ghost use Rattle.std.specs.Prelude.{◌≡◌, ◌++◌, map, IfOk, IfErr};
+ghost use Rattle.rpki_valid.specs.CrlIssued.{CountsAt};
 ghost use Rattle.rpki_time.specs.Validity.{HoldsAt};
 ghost use Rattle.rpki_validation.specs.Adding.{AddsFile, AddsFiles, AddsOrigins, AddsOriginsHere, AddsPoint};
 ghost use Rattle.rpki_validation.specs.Adding.{AddsProviders, AddsProvidersHere, AddsRouters, AddsRoutersHere};
-ghost use Rattle.rpki_validation.specs.Adding.{TakesBelow, TakesHere, WhereMemory, found};
+ghost use Rattle.rpki_validation.specs.Held.{AddsHeldFile, AddsHeldFiles, AddsHeldOf, IsSaidHere};
+ghost use Rattle.rpki_validation.specs.Holding.{IsPeriodUnder, SaysOriginBy, SaysProvidersBy, SaysRouterBy};
+ghost use Rattle.rpki_validation.specs.Holding.{in_period, values};
+ghost use Rattle.rpki_validation.specs.Adding.{TakesBelow, TakesHere, UnlessMemory, WhereMemory, found};
+ghost use Rattle.rpki_validation.specs.Met.{IsPlace};
 ghost use Rattle.rpki_validation.specs.Next.{AreSistersBelow};
+ghost use Rattle.rpki_validation.specs.Noting.{AddsOnly};
+ghost use Rattle.rpki_validation.specs.Publication.{HasManifest};
+ghost use Rattle.rpki_validation.specs.Rejecting.{AddsBelow, AddsChildren, AddsNote, IsChildHere, IsChildOf};
+ghost use Rattle.rpki_validation.specs.Rejecting.{IsFileNote, IsPointNote};
+ghost use Rattle.rpki_validation.specs.Rejecting.{RejectsAll, RejectsIn, SettlesCert, SettlesFile, SettlesOrigins};
+ghost use Rattle.rpki_validation.specs.Rejecting.{SettlesPoint, SettlesProviders};
 
 use crate::issued::{authority_of, cert_in, is_authority, origins_in, providers_in, router_of};
 use crate::next::Next;
 use crate::outcome::{Outcome, Rejection};
+use crate::payload::Payload;
 use crate::point::{files_of, verify_publication};
-use crate::publication::{Publication, file_uri};
+use crate::publication::{Publication, file_uri, manifest_place};
 use crate::reason::Reason;
 use crate::router::RouterCert;
 use crate::snapshot::Snapshot;
 use crate::stop::Stop;
 use bytes::Bytes;
 use rpki::crypto::Provider;
-use rpki::repository::x509::Time;
+use rpki::repository::x509::{Time, Validity};
 use rpki::uri::Rsync;
+use rpki_cert::{Cert, TbsCert};
 use rpki_contents::{FileAndHash, RouteOrigin, RouteOrigins};
 use rpki_objects::Aspa;
 use rpki_valid::{CurrentCrl, ResourceCert};
 use std::alloc::{AllocError, Global};
 
-/// Adds the prefixes.
-fn push_origins(rest: RouteOrigins<'_>, origins: &mut Vec<RouteOrigin>) -> Result<(), AllocError>
-    ensures { IfOk result (λ _. origins.new.items ≡ origins.old.items ++ rest.entry) }
+/// The period in which the path of the list's authority holds, the list counts, and the certificate is valid.
+fn period_of<'a, 'p, P: Provider>(list: &CurrentCrl<'a, 'p, P>, cert: &Cert) -> Validity
+    ensures { IsPeriodUnder (CountsAt list.now) cert.now result }
+{
+    list.period().trim(cert.tbs().validity())
+}
+
+/// Adds the prefixes, each in this period.
+fn push_origins(
+    rest: RouteOrigins<'_>,
+    period: Validity,
+    origins: &mut Vec<Payload<RouteOrigin>>,
+) -> Result<(), AllocError>
+    ensures { IfOk result (λ _. origins.new.items ≡ origins.old.items ++ map (in_period period) rest.entry) }
 {
     let mut rest = rest;
-    'origins: while let Some(origin) = rest.next_origin() {
-        origins.push(origin)?;
+    'origins: while let Some(value) = rest.next_origin() {
+        origins.push(Payload { value, period })?;
     }
     Ok(())
 }
@@ -41,13 +65,17 @@ fn add_origins<'a, 'p, P: Provider>(
     alloc: Global,
     list: &CurrentCrl<'a, 'p, P>,
     octets: Bytes,
-    origins: &mut Vec<RouteOrigin>,
+    origins: &mut Vec<Payload<RouteOrigin>>,
 ) -> Result<(), Stop>
-    ensures { WhereMemory result (AddsOriginsHere P.rsa_of P.ecdsa_of P.sha1_of P.sha256_of list.now octets
-        origins.old.items origins.new.items) }
+    ensures said { WhereMemory result (AddsOriginsHere P.rsa_of P.ecdsa_of P.sha1_of P.sha256_of list.now octets
+        (values origins.old.items) (values origins.new.items)) }
+    ensures held { WhereMemory result (AddsOnly (IsSaidHere P.rsa_of P.ecdsa_of P.sha1_of P.sha256_of list.now
+        SaysOriginBy octets) origins.old.items origins.new.items) }
+    ensures why { SettlesOrigins P.rsa_of P.ecdsa_of P.sha1_of P.sha256_of list.now octets result }
 {
     let roa = origins_in(alloc, list, octets)?;
-    push_origins(roa.content().origins(), origins)?;
+    let period = period_of(list, roa.object().cert());
+    push_origins(roa.content().origins(), period, origins)?;
     Ok(())
 }
 
@@ -56,13 +84,17 @@ fn add_providers<'a, 'p, P: Provider>(
     alloc: Global,
     list: &CurrentCrl<'a, 'p, P>,
     octets: Bytes,
-    providers: &mut Vec<Aspa>,
+    providers: &mut Vec<Payload<Aspa>>,
 ) -> Result<(), Stop>
-    ensures { WhereMemory result (AddsProvidersHere P.rsa_of P.ecdsa_of P.sha1_of P.sha256_of list.now octets
-        providers.old.items providers.new.items) }
+    ensures said { WhereMemory result (AddsProvidersHere P.rsa_of P.ecdsa_of P.sha1_of P.sha256_of list.now octets
+        (values providers.old.items) (values providers.new.items)) }
+    ensures held { WhereMemory result (AddsOnly (IsSaidHere P.rsa_of P.ecdsa_of P.sha1_of P.sha256_of list.now
+        SaysProvidersBy octets) providers.old.items providers.new.items) }
+    ensures why { SettlesProviders P.rsa_of P.ecdsa_of P.sha1_of P.sha256_of list.now octets result }
 {
-    let aspa = providers_in(alloc, list, octets)?;
-    providers.push(aspa)?;
+    let value = providers_in(alloc, list, octets)?;
+    let period = period_of(list, value.object().cert());
+    providers.push(Payload { value, period })?;
     Ok(())
 }
 
@@ -73,14 +105,19 @@ fn add_cert<'a, 'p, P: Provider>(
     list: &CurrentCrl<'a, 'p, P>,
     octets: Bytes,
     next: &mut Next<'p, P>,
-    routers: &mut Vec<RouterCert>,
+    routers: &mut Vec<Payload<RouterCert>>,
 ) -> Result<(), Stop>
     ensures routers { WhereMemory result (AddsRoutersHere P.rsa_of P.ecdsa_of P.sha1_of P.sha256_of list.now octets
-        routers.old.items routers.new.items) }
+        (values routers.old.items) (values routers.new.items)) }
+    ensures held { WhereMemory result (AddsOnly (IsSaidHere P.rsa_of P.ecdsa_of P.sha1_of P.sha256_of list.now
+        SaysRouterBy octets) routers.old.items routers.new.items) }
     ensures below { WhereMemory result (TakesHere P.rsa_of P.ecdsa_of P.sha1_of P.sha256_of list.now octets
         next.old next.new) }
     ensures sisters { WhereMemory result (AreSistersBelow list.now.issuer list.now.at next.old.level.items
         next.new.level.items) }
+    ensures children { WhereMemory result (AddsOnly (IsChildHere P.rsa_of P.ecdsa_of P.sha1_of P.sha256_of list.now
+        octets) next.old.level.items next.new.level.items) }
+    ensures why { SettlesCert P.rsa_of P.ecdsa_of P.sha1_of P.sha256_of list.now octets result }
 {
     let cert = cert_in(alloc, octets)?;
     if is_authority(&cert)? {
@@ -88,8 +125,9 @@ fn add_cert<'a, 'p, P: Provider>(
         next.add(alloc, authority)?;
         return Ok(());
     }
-    let router = router_of(alloc, list, cert)?;
-    routers.push(router)?;
+    let value = router_of(alloc, list, cert)?;
+    let period = period_of(list, &value.cert);
+    routers.push(Payload { value, period })?;
     Ok(())
 }
 
@@ -106,6 +144,12 @@ fn add_file<'a, 'p, P: Provider>(
         (found next.old outcome.old) (found next.new outcome.new)) }
     ensures sisters { WhereMemory result (AreSistersBelow list.now.issuer list.now.at next.old.level.items
         next.new.level.items) }
+    ensures children { WhereMemory result (AddsOnly (IsChildOf P.rsa_of P.ecdsa_of P.sha1_of P.sha256_of list.now
+        file.now octets) next.old.level.items next.new.level.items) }
+    ensures held { WhereMemory result (AddsHeldFile P.rsa_of P.ecdsa_of P.sha1_of P.sha256_of list.now file.now octets
+        outcome.old outcome.new) }
+    ensures why { SettlesFile P.rsa_of P.ecdsa_of P.sha1_of P.sha256_of list.now file.now octets result }
+    ensures rejections { WhereMemory result (outcome.new.rejections.items ≡ outcome.old.rejections.items) }
 {
     let name = file.file();
     if name.ends_with(b".roa") {
@@ -127,7 +171,10 @@ fn reject_file(
     file: &FileAndHash,
     reason: Reason,
     rejections: &mut Vec<Rejection>,
-) -> Result<(), AllocError> {
+) -> Result<(), AllocError>
+    ensures { IfOk result (λ _. AddsNote (IsFileNote folder.now file.now reason) rejections.old.items
+        rejections.new.items) }
+{
     let uri = match file_uri(alloc, folder, file) {
         Ok(uri) => Some(uri),
         Err(Stop::OutOfMemory) => return Err(AllocError),
@@ -155,6 +202,12 @@ fn add_files<'a, 'p, P: Provider>(
         octets.items (found next.old outcome.old) (found next.new outcome.new)) }
     ensures sisters { IfOk result (λ _. AreSistersBelow list.now.issuer list.now.at next.old.level.items
         next.new.level.items) }
+    ensures children { IfOk result (λ _. AddsChildren P.rsa_of P.ecdsa_of P.sha1_of P.sha256_of list.now files.now
+        octets.items next.old.level.items next.new.level.items) }
+    ensures held { IfOk result (λ _. AddsHeldFiles P.rsa_of P.ecdsa_of P.sha1_of P.sha256_of list.now files.now
+        octets.items outcome.old outcome.new) }
+    ensures rejected { IfOk result (λ _. RejectsAll P.rsa_of P.ecdsa_of P.sha1_of P.sha256_of list.now folder.now
+        files.now octets.items outcome.old outcome.new) }
 {
     let mut rest = files;
     'octets: for one in octets {
@@ -187,6 +240,13 @@ fn add_point<'p, S: Snapshot, P: Provider>(
     ensures said { AddsPoint P.rsa_of P.ecdsa_of P.sha1_of P.sha256_of (S.holds snapshot.now) issuer.now at
         (found next.old outcome.old) (found next.new outcome.new) result }
     ensures sisters { WhereMemory result (AreSistersBelow issuer.now at next.old.level.items next.new.level.items) }
+    ensures children { WhereMemory result (AddsBelow P.rsa_of P.ecdsa_of P.sha1_of P.sha256_of (S.holds snapshot.now)
+        issuer.now at next.old.level.items next.new.level.items) }
+    ensures held { WhereMemory result (AddsHeldOf P.rsa_of P.ecdsa_of P.sha1_of P.sha256_of (S.holds snapshot.now)
+        issuer.now at outcome.old outcome.new) }
+    ensures rejected { SettlesPoint P.rsa_of P.ecdsa_of P.sha1_of P.sha256_of (S.holds snapshot.now) issuer.now at
+        outcome.old.rejections.items outcome.new.rejections.items result }
+    ensures same { IfErr result (UnlessMemory (outcome.new.rejections.items ≡ outcome.old.rejections.items)) }
 {
     let publication = Publication::of(alloc, snapshot, issuer)?;
     let list = verify_publication(alloc, issuer, &publication, at)?;
@@ -197,20 +257,28 @@ fn add_point<'p, S: Snapshot, P: Provider>(
     Ok(())
 }
 
+/// Where the manifest of the subject is; None where the certificate says no place.
+fn manifest_uri(alloc: Global, tbs: &TbsCert) -> Result<Option<Rsync>, AllocError>
+    ensures { IfOk result (IsPlace (HasManifest tbs.now)) }
+{
+    match manifest_place(alloc, tbs) {
+        Ok(uri) => Ok(Some(uri)),
+        Err(Stop::OutOfMemory) => Err(AllocError),
+        Err(Stop::Rejected(_)) => Ok(None),
+    }
+}
+
 /// Notes that all that the authority publishes is rejected.
 fn reject_point<'p, P: Provider>(
     alloc: Global,
     issuer: &ResourceCert<'p, P>,
     reason: Reason,
     rejections: &mut Vec<Rejection>,
-) -> Result<(), AllocError> {
-    let uri = match issuer.cert().tbs().rpki_manifest(alloc) {
-        Ok(uri) => uri,
-        Err(e) => match Stop::from(e) {
-            Stop::OutOfMemory => return Err(AllocError),
-            Stop::Rejected(_) => None,
-        },
-    };
+) -> Result<(), AllocError>
+    ensures { IfOk result (λ _. AddsNote (IsPointNote issuer.now.cert.tbs reason) rejections.old.items
+        rejections.new.items) }
+{
+    let uri = manifest_uri(alloc, issuer.cert().tbs())?;
     rejections.push(Rejection {
         uri,
         is_point: true,
@@ -241,6 +309,12 @@ pub(crate) fn visit<'p, S: Snapshot, P: Provider>(
     ensures taking { TakesBelow P.rsa_of P.ecdsa_of P.sha1_of P.sha256_of (S.holds snapshot.now) issuer.now at
         next.old next.new result }
     ensures sisters { IfOk result (λ _. AreSistersBelow issuer.now at next.old.level.items next.new.level.items) }
+    ensures children { IfOk result (λ _. AddsBelow P.rsa_of P.ecdsa_of P.sha1_of P.sha256_of (S.holds snapshot.now)
+        issuer.now at next.old.level.items next.new.level.items) }
+    ensures held { IfOk result (λ _. AddsHeldOf P.rsa_of P.ecdsa_of P.sha1_of P.sha256_of (S.holds snapshot.now)
+        issuer.now at outcome.old outcome.new) }
+    ensures rejected { IfOk result (λ _. RejectsIn P.rsa_of P.ecdsa_of P.sha1_of P.sha256_of (S.holds snapshot.now)
+        issuer.now at outcome.old outcome.new) }
 {
     match add_point(alloc, snapshot, issuer, at, next, outcome) {
         Ok(()) => Ok(()),

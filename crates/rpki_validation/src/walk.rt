@@ -4,7 +4,9 @@ ghost use Rattle.std.specs.Prelude.{◌≡◌, IfOk};
 ghost use Rattle.std.specs.List.{Contains};
 ghost use Rattle.rpki_time.specs.Validity.{HoldsAt};
 ghost use Rattle.rpki_valid.specs.Verified.{Authority, terms_in};
-ghost use Rattle.rpki_validation.specs.Validated.{AddsSisters, SaysLevel, TakesLevel, TellsBelow, Validates};
+ghost use Rattle.rpki_validation.specs.Validated.{AddsChildrenOf, AddsSisters, HoldsBelow, HoldsLevel};
+ghost use Rattle.rpki_validation.specs.Validated.{RejectsBelow, RejectsLevel, SaysLevel};
+ghost use Rattle.rpki_validation.specs.Validated.{TakesLevel, TellsBelow, Validates};
 
 use crate::anchor::anchor_of;
 use crate::met::Met;
@@ -37,6 +39,12 @@ fn visit_all<'p, S: Snapshot, P: Provider>(
     ensures taking { IfOk result (λ _. TakesLevel P.rsa_of P.ecdsa_of P.sha1_of P.sha256_of (S.holds snapshot.now) at
         level.now next.old next.new) }
     ensures sisters { IfOk result (λ _. AddsSisters at level.now next.old.level.items next.new.level.items) }
+    ensures children { IfOk result (λ _. AddsChildrenOf P.rsa_of P.ecdsa_of P.sha1_of P.sha256_of
+        (S.holds snapshot.now) at level.now next.old.level.items next.new.level.items) }
+    ensures held { IfOk result (λ _. HoldsLevel P.rsa_of P.ecdsa_of P.sha1_of P.sha256_of (S.holds snapshot.now) at
+        level.now outcome.old outcome.new) }
+    ensures rejected { IfOk result (λ _. RejectsLevel P.rsa_of P.ecdsa_of P.sha1_of P.sha256_of
+        (S.holds snapshot.now) at level.now outcome.old outcome.new) }
 {
     'level: for issuer in level {
         visit(alloc, snapshot, issuer, at, next, outcome)?;
@@ -54,8 +62,13 @@ fn walk<'p, S: Snapshot, P: Provider>(
     at: Time,
 ) -> Result<Outcome, AllocError>
     requires period { HoldsAt anchor.period at }
+    requires own { anchor.period ≡ anchor.cert.tbs.validity }
     requires depth { anchor.depth ≡ 0 }
-    ensures { IfOk result (TellsBelow P.rsa_of P.ecdsa_of P.sha1_of P.sha256_of (S.holds snapshot.now) at
+    ensures told { IfOk result (TellsBelow P.rsa_of P.ecdsa_of P.sha1_of P.sha256_of (S.holds snapshot.now) at
+        anchor.entry) }
+    ensures held { IfOk result (HoldsBelow P.rsa_of P.ecdsa_of P.sha1_of P.sha256_of (S.holds snapshot.now) at
+        anchor.entry) }
+    ensures rejected { IfOk result (RejectsBelow P.rsa_of P.ecdsa_of P.sha1_of P.sha256_of (S.holds snapshot.now) at
         anchor.entry) }
 {
     let mut outcome = Outcome::new(alloc);

@@ -3,11 +3,11 @@
 use crate::authorities::{cert_of, terms_of};
 use crate::files::{Change, Files};
 use crate::repository as made;
-use rpki::repository::x509::Time;
+use rpki::repository::x509::{Time, Validity};
 use rpki::uri::Rsync;
 use rpki_digests::RsaProvider;
 use rpki_locator::AnchorUri;
-use rpki_validation::{Outcome, Stop, validate};
+use rpki_validation::{Outcome, Payload, Stop, validate};
 use std::alloc::{AllocError, Global};
 use std::test::Fail;
 
@@ -174,11 +174,11 @@ fn rows() -> &'static [Row] {
 
 /// Adds the payloads.
 fn push_payloads(alloc: Global, outcome: &Outcome, text: &mut String) -> Result<(), AllocError> {
-    for origin in &outcome.origins {
+    for Payload { value: origin, .. } in &outcome.origins {
         let one = format!(in alloc; "{origin}; ")?;
         text.push_str(one.as_str())?;
     }
-    for aspa in &outcome.providers {
+    for Payload { value: aspa, .. } in &outcome.providers {
         let customer = aspa.content().customer_as();
         let one = format!(in alloc; "AS{customer}:")?;
         text.push_str(one.as_str())?;
@@ -258,5 +258,39 @@ fn walks_find_what_is_valid(rt: HostRuntime) -> Result<(), Fail> {
         assert_eq!(rt; valid.as_str(), row.5, "{}", row.0);
         assert_eq!(rt; rejected.as_str(), row.6, "{}", row.0);
     }
+    Ok(())
+}
+
+/// Whether the period is that of all certificates and lists of `tests/validation/make`.
+fn is_whole(period: Validity) -> bool {
+    Some(period.not_before()) == Time::utc(2026, 1, 1, 0, 0, 0)
+        && Some(period.not_after()) == Time::utc(2036, 1, 1, 0, 0, 0)
+}
+
+/// How many payloads there are, and whether each holds in that period.
+fn held(outcome: &Outcome) -> (usize, bool) {
+    let mut are_whole = true;
+    for Payload { period, .. } in &outcome.origins {
+        are_whole = are_whole && is_whole(*period);
+    }
+    for Payload { period, .. } in &outcome.providers {
+        are_whole = are_whole && is_whole(*period);
+    }
+    for Payload { period, .. } in &outcome.routers {
+        are_whole = are_whole && is_whole(*period);
+    }
+    let count = outcome.origins.len() + outcome.providers.len() + outcome.routers.len();
+    (count, are_whole)
+}
+
+#[test]
+fn payloads_hold_while_their_path_does(rt: HostRuntime) -> Result<(), Fail> {
+    let mut seen = (0, false);
+    if let Some(row) = rows().first() {
+        if let Ok(outcome) = walked(rt.alloc(), row) {
+            seen = held(&outcome);
+        }
+    }
+    assert_eq!(rt; seen, (7, true));
     Ok(())
 }

@@ -1,9 +1,13 @@
 -- A run of what is asked for.
 use Rattle.std.proofs.Common.{◌≡◌, ℕ, List, sym, subst, inl, inr}
+use Rattle.rpki_payloads.specs.Exceptions.{AreExcepted}
 use Rattle.std.specs.Prelude.{Option, Some, None, IfSome}
 use Rattle.jiff.specs.Types.{DateTime}
 use Rattle.rpki.specs.PublicKey.{KeyParts}
 use Rattle.rpki_validation.specs.Basis.{Basis}
+use Rattle.rpki_payloads.specs.Payloads.{PayloadParts}
+use Rattle.rpkivalid.specs.declared.excepted.Local.{Local}
+use Rattle.rpkivalid.specs.Excepted.{AreShown, Excepts, IsLocal}
 use Rattle.rpkivalid.specs.Locators.{Holds}
 use Rattle.rpkivalid.specs.Moment.{IsMomentOf}
 use Rattle.rpkivalid.specs.Request.{Asked}
@@ -30,3 +34,12 @@ pub given-run : (basis : DateTime → ℕ → KeyParts → Basis) (holds : Holds
     → IsRunOf basis holds clock old new status a
 given-run basis holds clock old new a text wanted status h (inl p) = Answered text wanted h p
 given-run basis holds clock old new a text wanted status h (inr k) = Denied k.0 k.1
+
+-- what is written is what is found, with the exceptions that are asked for
+pub shown-by : (holds : Holds) (word : Option (List ℕ)) (local : Option Local) (found shown : List PayloadParts)
+    → IsLocal holds word local → Excepts local found shown → AreShown holds word found shown
+shown-by holds None None found shown h e = e
+shown-by holds None (Some local) found shown h e = absurd h
+shown-by holds (Some path) None found shown h e = absurd h
+shown-by holds (Some path) (Some local) found shown h e =
+    (local.exceptions, h.1, subst (λ (n : List ℕ). AreExcepted local.exceptions n found shown) h.0 e)

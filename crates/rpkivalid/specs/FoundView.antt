@@ -3,7 +3,7 @@ use Rattle.std.specs.Prelude.{ℕ, Bool, List, map}
 use Rattle.jiff.specs.Types.{DateTime}
 use Rattle.rpki.specs.Provider.{Check}
 use Rattle.rpki_objects.specs.declared.strictness.Strictness.{Strictness}
-use Rattle.rpki_payloads.specs.Vrp.{PayloadParts}
+use Rattle.rpki_payloads.specs.Payloads.{PayloadParts}
 use Rattle.rpkivalid.specs.declared.found.Found.{Found}
 use Rattle.rpkivalid.specs.declared.locators.Named.{Named}
 use Rattle.rpkivalid.specs.Found.{AreFound, IsFoundIn, basis_with}

@@ -6,6 +6,7 @@ pub mod Moment
 pub mod Paths
 pub mod Locators
 pub mod Found
+pub mod Excepted
 pub mod Run
 pub mod RequestView
 pub mod LocatorsView

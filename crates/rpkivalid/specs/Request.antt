@@ -35,9 +35,10 @@ command_alone =
 
 abbrev pub command_app : App
 command_app =
-    with_rule (with_rule (with_rule (with_rule (with_rule (with_rule (with_rule (with_rule (with_rule command_alone
-    help_flag) (flag (codes "version"))) (flag (codes "strict"))) (valued (codes "cache"))) (valued (codes "at")))
-    (valued (codes "form"))) (valued (codes "output"))) (valued (codes "depth"))) (repeated (codes "tal"))
+    with_rule (with_rule (with_rule (with_rule (with_rule (with_rule (with_rule (with_rule (with_rule (with_rule
+    command_alone help_flag) (flag (codes "version"))) (flag (codes "strict"))) (valued (codes "cache")))
+    (valued (codes "at"))) (valued (codes "form"))) (valued (codes "output"))) (valued (codes "depth")))
+    (valued (codes "exceptions"))) (repeated (codes "tal"))
 
 -- what `clap` matches in the words; None where it finds a fault in them
 abbrev pub matched : List (List ℕ) → Option (List Row)
@@ -71,7 +72,7 @@ strictness_of true = all_strict
 strictness_of false = none_strict
 
 -- how payloads are written, which rules are asked strictly, the folder of the copy, the text of the moment,
--- the file to write, the text of the depth, and the files of locators
+-- the file to write, the text of the depth, the file of local exceptions, and the files of locators
 pub record Asked : Type 0 where
   pub form : Form
   pub strictness : Strictness
@@ -79,26 +80,28 @@ pub record Asked : Type 0 where
   pub moment : Option (List ℕ)
   pub output : Option (List ℕ)
   pub depth : Option (List ℕ)
+  pub exceptions : Option (List ℕ)
   pub locators : List (List ℕ)
 
-abbrev pub asked : Strictness → Option (List ℕ) → Option (List ℕ) → Option (List ℕ) → Form → List ℕ → List (List ℕ)
-    → Asked
-asked strictness moment output depth form cache locators = record {
+abbrev pub asked : Strictness → Option (List ℕ) → Option (List ℕ) → Option (List ℕ) → Option (List ℕ) → Form → List ℕ
+    → List (List ℕ) → Asked
+asked strictness moment output depth exceptions form cache locators = record {
   form = form;
   strictness = strictness;
   cache = cache;
   moment = moment;
   output = output;
   depth = depth;
+  exceptions = exceptions;
   locators = locators;
 }
 
--- a form, a folder, and locators; `--strict`, a moment, a file and a depth, perhaps
+-- a form, a folder, and locators; `--strict`, a moment, a file, a depth and local exceptions, perhaps
 abbrev pub request_of : List Row → Option Asked
 request_of rows =
     option_and_then (λ form. option_and_then (λ cache. option_map
     (asked (strictness_of (is_given (codes "strict") rows)) (first_of (codes "at") rows)
-    (first_of (codes "output") rows) (first_of (codes "depth") rows) form cache)
+    (first_of (codes "output") rows) (first_of (codes "depth") rows) (first_of (codes "exceptions") rows) form cache)
     (some_files (all_of (codes "tal") rows)))
     (first_of (codes "cache") rows)) (form_of (first_of (codes "form") rows))
 

@@ -5,8 +5,9 @@ use Rattle.jiff.specs.Types.{DateTime}
 use Rattle.rpki.specs.Provider.{Check}
 use Rattle.rpki.specs.PublicKey.{KeyParts}
 use Rattle.rpki_payloads.specs.Form.{IsTextIn}
-use Rattle.rpki_payloads.specs.Vrp.{PayloadParts}
+use Rattle.rpki_payloads.specs.Payloads.{PayloadParts}
 use Rattle.rpki_validation.specs.Basis.{Basis}
+use Rattle.rpkivalid.specs.Excepted.{AreShown}
 use Rattle.rpkivalid.specs.Found.{AreFound, IsFoundIn, basis_with}
 use Rattle.rpkivalid.specs.Locators.{AreLocatorsIn, Holds, NamedParts}
 use Rattle.rpkivalid.specs.Moment.{IsDepth, IsMomentOf}
@@ -17,8 +18,8 @@ use Rattle.rpkivalid.specs.Words.{Prints}
 abbrev pub status_of : (anchored read : Bool) → ℕ
 status_of anchored read = if anchored && read then 0 else 1
 
--- The text is that of the payloads under the locators that are asked for, at the moment that is asked for; and this is
--- the status.
+-- The text is that of the payloads under the locators that are asked for, at the moment that is asked for, with the
+-- local exceptions that are asked for; and this is the status.
 pub record IsAnswer (basis : DateTime → ℕ → KeyParts → Basis) (holds : Holds) (clock : Option (Option DateTime))
     (a : Asked) (text : List ℕ) (status : ℕ) : Type 0 where
   pub at : DateTime
@@ -30,7 +31,9 @@ pub record IsAnswer (basis : DateTime → ℕ → KeyParts → Basis) (holds : H
   pub found : List PayloadParts
   pub anchored : Bool
   pub each : AreFound (IsFoundIn holds a.cache (basis at depth)) locators found anchored
-  pub written : IsTextIn a.form found text
+  pub shown : List PayloadParts
+  pub excepted : AreShown holds a.exceptions found shown
+  pub written : IsTextIn a.form shown text
   pub read : Bool
   pub known : IfSome holds (λ files. read ≡ true)
   pub status_is : status ≡ status_of anchored read

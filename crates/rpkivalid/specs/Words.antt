@@ -19,4 +19,4 @@ memory_text = codes "rpkivalid: out of memory\n"
 abbrev pub usage_text : List ℕ
 usage_text =
     codes "usage: rpkivalid --tal FILE.. --cache FOLDER [--at MOMENT] [--form csv|json|openbgpd|bird] "
-    ++ codes "[--output FILE] [--depth N] [--strict]\n"
+    ++ codes "[--output FILE] [--exceptions FILE] [--depth N] [--strict]\n"

@@ -2,6 +2,7 @@
 
 use crate::words::{NO_DEPTH, NO_MOMENT, OUT_OF_MEMORY};
 use rpki_locator::LocatorError;
+use rpki_payloads::ExceptionsError;
 use std::alloc::{AllocError, AllocFailed, Global};
 
 /// Why nothing is written.
@@ -15,6 +16,10 @@ pub enum Denial {
     NoFile(usize),
     /// What is in the file of this number is no locator.
     NoLocator(usize, LocatorError),
+    /// There is no file of local exceptions, or it can't be read.
+    NoExceptions,
+    /// What is in that file is no file of local exceptions.
+    OtherExceptions(ExceptionsError),
     /// Allocation failed.
     OutOfMemory,
 }
@@ -65,11 +70,36 @@ fn file_at<'a>(files: &[&'a str], at: usize) -> &'a str {
     }
 }
 
+/// What is wrong with local exceptions.
+fn deviation_of(alloc: Global, e: ExceptionsError) -> Result<String, AllocError> {
+    match e {
+        ExceptionsError::Json => String::from_str(alloc, "not JSON"),
+        ExceptionsError::Members => String::from_str(
+            alloc,
+            "not an object of slurmVersion, validationOutputFilters and locallyAddedAssertions",
+        ),
+        ExceptionsError::Missing(member) => format!(in alloc;
+            "not such a member: {}",
+            member.name()
+        ),
+        ExceptionsError::Element(member, at) => format!(in alloc;
+            "{}: not such an element: number {at}",
+            member.name()
+        ),
+        ExceptionsError::OutOfMemory => Err(AllocError),
+    }
+}
+
 impl Denial {
-    /// What a person reads of it, as a line, where these are the files of locators.
+    /// What a person reads of it, as a line, where these are the files of locators, and that of local exceptions.
     ///
     /// Returns `AllocError` if allocation fails.
-    pub fn text(self, alloc: Global, files: &[&str]) -> Result<Vec<u8>, AllocError> {
+    pub fn text(
+        self,
+        alloc: Global,
+        files: &[&str],
+        exceptions: Option<&str>,
+    ) -> Result<Vec<u8>, AllocError> {
         match self {
             Denial::NoMoment => Vec::from_slice(alloc, NO_MOMENT),
             Denial::NoDepth => Vec::from_slice(alloc, NO_DEPTH),
@@ -82,6 +112,17 @@ impl Denial {
                 let file = file_at(files, at);
                 let fault = fault_of(alloc, e)?;
                 let text = format!(in alloc; "rpkivalid: {file}: RFC 8630 2.2: {fault}\n")?;
+                Ok(text.into_bytes())
+            }
+            Denial::NoExceptions => {
+                let file = exceptions.unwrap_or("");
+                let text = format!(in alloc; "rpkivalid: {file}: cannot be read\n")?;
+                Ok(text.into_bytes())
+            }
+            Denial::OtherExceptions(e) => {
+                let file = exceptions.unwrap_or("");
+                let fault = deviation_of(alloc, e)?;
+                let text = format!(in alloc; "rpkivalid: {file}: RFC 8416 3: {fault}\n")?;
                 Ok(text.into_bytes())
             }
             Denial::OutOfMemory => Vec::from_slice(alloc, OUT_OF_MEMORY),

@@ -1,31 +1,20 @@
 //! What is found under locators.
 
 ghost use Rattle.std.specs.Prelude.{◌≡◌, ◌&&◌, IfOk};
-ghost use Rattle.rpki_payloads.specs.Vrp.{AreOrigins};
 ghost use Rattle.rpkivalid.specs.FoundView.{AreFoundBy, IsFoundBy};
 
 use crate::cache::Cache;
+use crate::gathered::payloads_of;
 use crate::locators::Named;
 use crate::report::{push_missing, push_rejections};
 use crate::sources::Sources;
 use rpki::crypto::Provider;
 use rpki::repository::x509::Time;
-use rpki_contents::RouteOrigin;
 use rpki_objects::Strictness;
-use rpki_payloads::{Payloads, vrps_of};
+use rpki_payloads::Payloads;
 use rpki_valid::Terms;
 use rpki_validation::{Stop, validate};
 use std::alloc::{AllocError, Global};
-
-/// The payloads of these route origins, under the locator of this name.
-fn payloads_of(alloc: Global, name: &str, origins: &[RouteOrigin]) -> Result<Payloads, AllocError>
-    ensures name { IfOk result (λ p. p.name ≡ name.now) }
-    ensures vrps { IfOk result (λ p. AreOrigins origins.now p.vrps) }
-{
-    let vrps = vrps_of(alloc, origins)?;
-    let name = String::from_str(alloc, name)?;
-    Ok(Payloads::new(name, vrps))
-}
 
 /// The payloads under the locator, and whether it has a trust anchor. Adds to the report what is rejected.
 fn found_under<S: Sources, P: Provider>(
@@ -56,12 +45,19 @@ fn found_under<S: Sources, P: Provider>(
     match validate(alloc, &cache, provider, uris, terms, at) {
         Ok(outcome) => {
             push_rejections(report, outcome.rejections.as_slice())?;
-            let payloads = payloads_of(alloc, named.name.as_str(), outcome.origins.as_slice())?;
+            let payloads = payloads_of(
+                alloc,
+                provider,
+                named.name.as_str(),
+                outcome.origins.as_slice(),
+                outcome.providers.as_slice(),
+                outcome.routers.as_slice(),
+            )?;
             Ok((payloads, true))
         }
         Err(Stop::Rejected(reason)) => {
             push_missing(report, named.name.as_str(), &reason)?;
-            let payloads = payloads_of(alloc, named.name.as_str(), &[])?;
+            let payloads = payloads_of(alloc, provider, named.name.as_str(), &[], &[], &[])?;
             Ok((payloads, false))
         }
         Err(Stop::OutOfMemory) => Err(AllocError),

@@ -20,7 +20,7 @@ pub struct Named {
 }
 
 /// The name of the locator in a file: that of the file, without what follows the last full stop.
-fn name_of(file: &str) -> &str
+pub fn name_of(file: &str) -> &str
     ensures { result.now ≡ name_of file.now }
 {
     match Path::new(file).file_stem() {

@@ -4,7 +4,9 @@
 mod arguments;
 mod cache;
 mod denial;
+mod excepted;
 mod found;
+mod gathered;
 mod host;
 mod locators;
 mod moment;

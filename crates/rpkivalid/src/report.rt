@@ -1,6 +1,5 @@
 //! What is told of rejections.
 
-use crate::found::Found;
 use rpki_payloads::Payloads;
 use rpki_validation::{Reason, Rejection};
 use std::alloc::AllocError;
@@ -36,19 +35,23 @@ pub fn push_missing(report: &mut Vec<u8>, name: &str, reason: &Reason) -> Result
     report.extend_from_slice(text.as_bytes())
 }
 
-/// Adds a line for a locator, with the number of its payloads.
+/// Adds a line for a locator, with the numbers of its payloads.
 fn push_count(report: &mut Vec<u8>, one: &Payloads) -> Result<(), AllocError> {
     let alloc = *report.allocator();
-    let count = one.vrps().len();
-    let text = format!(in alloc; ": {count} route origins\n")?;
+    let origins = one.vrps().len();
+    let providers = one.pairs().len();
+    let keys = one.keys().len();
+    let text = format!(in alloc;
+        ": {origins} route origins, {providers} providers, {keys} router keys\n"
+    )?;
     report.extend_from_slice(b"rpkivalid: ")?;
     report.extend_from_slice(one.name())?;
     report.extend_from_slice(text.as_bytes())
 }
 
-/// Adds a line for each locator, with the number of its payloads.
-pub fn push_counts(report: &mut Vec<u8>, found: &Found) -> Result<(), AllocError> {
-    'payloads: for one in &found.payloads {
+/// Adds a line for each locator, with the numbers of its payloads; and for what local exceptions add.
+pub fn push_counts(report: &mut Vec<u8>, all: &[Payloads]) -> Result<(), AllocError> {
+    'payloads: for one in all {
         push_count(report, one)?;
     }
     Ok(())

@@ -27,6 +27,8 @@ pub struct Request<'m, 'a> {
     pub output: Option<&'a str>,
     /// The text of the number of authorities that a path has at most below a trust anchor.
     pub depth: Option<&'a str>,
+    /// The name of the file of local exceptions.
+    pub exceptions: Option<&'a str>,
     /// The names of the files of locators.
     pub locators: &'m [&'a str],
 }
@@ -81,6 +83,7 @@ fn command<'a>(alloc: Global) -> Result<Command<'a>, AllocError>
         .arg(valued(alloc, "form"))?
         .arg(valued(alloc, "output"))?
         .arg(valued(alloc, "depth"))?
+        .arg(valued(alloc, "exceptions"))?
         .arg(repeated(alloc, "tal"))
 }
 
@@ -156,8 +159,8 @@ fn strictness_of(strict: bool) -> Strictness
 }
 
 impl<'m, 'a> Request<'m, 'a> {
-    /// What is asked for: a form, the folder of a copy, and locators; and a moment, a file, and a depth, perhaps. None
-    /// if there is no folder, no locator, or no such form.
+    /// What is asked for: a form, the folder of a copy, and locators; and a moment, a file, a depth, and local
+    /// exceptions, perhaps. None if there is no folder, no locator, or no such form.
     pub fn of(matches: &'m ArgMatches<'a>) -> Option<Request<'m, 'a>>
         ensures { option_map asked_of result ≡ request_of (rows_in matches.entry.now) }
     {
@@ -171,6 +174,7 @@ impl<'m, 'a> Request<'m, 'a> {
             moment: matches.get_str("at"),
             output: matches.get_str("output"),
             depth: matches.get_str("depth"),
+            exceptions: matches.get_str("exceptions"),
             locators,
         })
     }

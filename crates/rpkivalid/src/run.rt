@@ -12,7 +12,8 @@ ghost use Rattle.rpkivalid.specs.Words.{Prints, PrintsAlone, usage_text};
 
 use crate::arguments::Wordless;
 use crate::denial::Denial;
-use crate::found::found_under_all;
+use crate::excepted::{exceptions_in, shown_of};
+use crate::found::{Found, found_under_all};
 use crate::locators::locators_in;
 use crate::moment::named_moment;
 use crate::report::push_counts;
@@ -83,6 +84,7 @@ fn answer_at<S: Sources, P: Provider>(
         (S.clock host.now) request.now) }
 {
     let locators = locators_in(alloc, host, request.locators)?;
+    let local = exceptions_in(alloc, host, request.exceptions)?;
     let found = found_under_all(
         alloc,
         host,
@@ -94,9 +96,14 @@ fn answer_at<S: Sources, P: Provider>(
         locators.as_slice(),
         report,
     )?;
-    let text = request.form.text_of(alloc, found.payloads.as_slice())?;
-    push_counts(report, &found)?;
-    let status = status_of(found.have_anchors, host.is_read());
+    let Found {
+        payloads,
+        have_anchors,
+    } = found;
+    let shown = shown_of(alloc, local, payloads)?;
+    let text = request.form.text_of(alloc, shown.as_slice())?;
+    push_counts(report, shown.as_slice())?;
+    let status = status_of(have_anchors, host.is_read());
     Ok(Answer { text, status })
 }
 
@@ -145,10 +152,10 @@ pub fn give_up<F: Write>(err: &mut F) -> u8
 }
 
 /// Writes to the faults why nothing is written to the output, and returns the exit status 2.
-fn deny<F: Write>(alloc: Global, denial: Denial, files: &[&str], err: &mut F) -> u8
+fn deny<F: Write>(alloc: Global, denial: Denial, request: &Request<'_, '_>, err: &mut F) -> u8
     ensures { result ≡ 2 }
 {
-    let _ = match denial.text(alloc, files) {
+    let _ = match denial.text(alloc, request.locators, request.exceptions) {
         Ok(text) => print(text.as_slice(), err, 2),
         Err(_) => give_up(err),
     };
@@ -180,7 +187,7 @@ fn validate_all<S: Sources, P: Provider, W: Write, F: Write>(
     let mut report = Vec::new(alloc);
     match answer_of(alloc, request, host, crypto, &mut report) {
         Ok(answer) => give(&answer, report.as_slice(), out, err),
-        Err(denial) => deny(alloc, denial, request.locators, err),
+        Err(denial) => deny(alloc, denial, request, err),
     }
 }
 
@@ -217,13 +224,14 @@ fn respond<S: Sources, P: Provider, W: Write, F: Write>(
 /// Runs what the words, which are the program's arguments, ask for, and returns the exit status.
 ///
 /// `--help` and `--version` print a text. Else what is written to the output are the payloads that are valid at the
-/// moment in the copy, under the locators: exactly these, each once, in order, in the form that is asked for; all of
-/// them or, where the output fails, a beginning. To the faults goes a line for each object that is rejected, or why
-/// there are no payloads. Of other words it is how the program is used.
+/// moment in the copy, under the locators, with the local exceptions that are asked for: exactly these, each once, in
+/// order, in the form that is asked for; all of them or, where the output fails, a beginning. To the faults goes a line
+/// for each object that is rejected, or why there are no payloads. Of other words it is how the program is used.
 ///
 /// The status is 0 if all is written; 1 if all is, but a locator has no trust anchor, or a file that is there could not
-/// be read; 2 for other words, without a moment or a locator, if allocation fails, and if the output or the faults
-/// fail. Returns `AllocError` if there is no memory to read the words; then nothing is written.
+/// be read; 2 for other words, without a moment or a locator, if allocation fails, if the output or the faults fail,
+/// and where the file of local exceptions can't be read, or is none. Returns `AllocError` if there is no memory to read
+/// the words; then nothing is written.
 pub fn run<S: Sources, P: Provider, W: Write, F: Write>(
     alloc: Global,
     words: &[String],

@@ -3,7 +3,7 @@
 /// How the program is used.
 pub const USAGE: &[u8] =
     b"usage: rpkivalid --tal FILE.. --cache FOLDER [--at MOMENT] [--form csv|json|openbgpd|bird] \
-[--output FILE] [--depth N] [--strict]\n";
+[--output FILE] [--exceptions FILE] [--depth N] [--strict]\n";
 
 /// The program's name and version.
 pub const VERSION: &[u8] = b"rpkivalid 0.2.0\n";
@@ -25,13 +25,14 @@ pub const HELP: &[u8] = b"\
 rpkivalid - validate a local copy of a repository of the RPKI
 
 usage: rpkivalid --tal FILE.. --cache FOLDER [--at MOMENT]
-                 [--form csv|json|openbgpd|bird] [--output FILE] [--depth N]
-                 [--strict]
+                 [--form csv|json|openbgpd|bird] [--output FILE]
+                 [--exceptions FILE] [--depth N] [--strict]
        rpkivalid -h | --help
        rpkivalid --version
 
 Writes the payloads that are valid at the moment: which AS may announce which
-prefix. They are signed down from the key of a trust anchor, whose locator (RFC
+prefix; in JSON also the providers of ASes and the keys of routers, in OpenBGPD's
+form the providers. They are signed down from the key of a trust anchor, whose locator (RFC
 8630) is in FILE; --tal may be given several times. Nothing is written before
 all is known. What is rejected, and why, is told on standard error, an object a
 line, and how many payloads there are.
@@ -44,11 +45,15 @@ line, and how many payloads there are.
   --form F        csv (the default) or json, as of Routinator, with each payload
                   once for each locator; openbgpd or bird, with each once
   --output FILE   write to FILE, whole or not at all; else to standard output
+  --exceptions FILE
+                  local exceptions (RFC 8416): take away what its filters match,
+                  and add its assertions, under the name of the file
   --depth N       at most N authorities below a trust anchor; 32 by default
   --strict        hold names to their profile, signed objects to RFC 9589, and
                   the families of a route origin to their order
 
 Exit status: 0 if all is written; 1 if all is written, but a locator has no trust
 anchor, or a file that is there could not be read; 2 if nothing is written: for a
-wrong usage, without a locator, if memory fails, and if writing fails.
+wrong usage, without a locator or the local exceptions, if memory fails, and if
+writing fails.
 ";

@@ -27,3 +27,6 @@ returns-clause-period g c =
     let issued = c.in_ok-authority.ensures.issued in
     (c.in_ok-authority.ensures.period s.at).1
     ((issued.period, (issued.list.out, issued.list.fresh)), c.in_ok-authority.ensures.ok.path.issued.signed.period)
+
+pub returns-clause-holds : goal.returns-clause-holds
+returns-clause-holds g c = c.in_ok-authority.ensures.period

@@ -1,4 +1,4 @@
-use Rattle.std.proofs.Common.{◌≡◌, ◌++◌, List, [], ◌∷◌, ℕ, Option, Some, None, Ok, Err, Result, ap, sym, subst, ◌∙◌}
+use Rattle.std.proofs.Common.{◌++◌, List, [], ◌∷◌, ℕ, Option, Ok, Err, Result, ap, sym, subst, ◌∙◌}
 use Rattle.rpki.specs.PublicKey.{KeyParts}
 use Rattle.rpki.specs.declared.crypto.keys.PublicKeyFormat.{PublicKeyFormat}
 use Rattle.rpki_valid.specs.declared.resource.set.ResourceSet.{ResourceSet}
@@ -9,27 +9,18 @@ use Rattle.rpki_validation.specs.declared.stop.Stop.TheVariants.{Rejected, OutOf
 use Rattle.rpki_validation.specs.Finding.{Finds}
 use Rattle.rpki_validation.specs.Met.{IsPlace, IsPlaceOf, format_number, numbers_of}
 use Rattle.rpki_validation.specs.Publication.{HasManifest, HasRepository, IsNoManifestPlace, IsNoRepository}
+use Rattle.rpki_validation.proofs.PlaceLaws.{place-found, place-none}
 use Rattle.rpki_validation.proofs.met.mark_of.Goals as goal
 
 -- where a URI was found, it is that which is named
 named : (Has : List ℕ → Type 0) (Why : Reason → Type 0) (r : Result (List ℕ) Stop) (place : Option (List ℕ))
     → Finds (λ x. x) Has Why r → IsPlaceOf r place → IsPlace Has place
-named Has Why (Ok found) place h e uri = (
-  λ s. e ∙ ap (λ (u : List ℕ). Some u) (sym (h.sole uri s)),
-  λ k. subst Has (some-is found uri (sym e ∙ k)) h.holds,
-) where
-  some-is : (a b : List ℕ) → Some a ≡ Some b → a ≡ b
-  some-is a b e = cc
-named Has Why (Err (Rejected reason)) place h e uri = (
-  λ s. absurd (h.0 uri s),
-  λ k. absurd (none-is uri (sym e ∙ k)),
-) where
-  none-is : (a : List ℕ) → None ≡ Some a → ⊥
-  none-is a e = absurd (cc)
-named Has Why (Err OutOfMemory) place h e uri = absurd e
+named Has Why (Ok found) place h e = subst (IsPlace Has) (sym e) (place-found Has found h)
+named Has Why (Err (Rejected reason)) place h e = subst (IsPlace Has) (sym e) (place-none Has h.0)
+named Has Why (Err OutOfMemory) place h e = absurd e
 
-pub returns : goal.returns
-returns g c =
+pub returns-clause-mark : goal.returns-clause-mark
+returns-clause-mark g c =
     let tbs = c.args.authority.now.cert.tbs in
     let is = c.tbs-tbs.ensures ∙ ap (λ (x : CertParts). x.tbs) c.cert.ensures.value in
     let key = c.subject_public_key_info-key.ensures ∙ ap (λ (t : TbsParts). t.key) is in

@@ -1,4 +1,21 @@
+use Rattle.rpki_cert.proofs.TriedLaws.{tried-fault}
+use Rattle.std.proofs.Common.{◌∙◌, List, [], ◌∷◌, ap, refl, subst, sym}
+use Rattle.rpki_cert.specs.Cert.{CertParts}
+use Rattle.rpki_valid.specs.CrlIssued.{CountsAt}
+use Rattle.rpki_valid.specs.Verified.{Holder}
+use Rattle.rpki_validation.specs.declared.payload.Payload.{Payload}
+use Rattle.rpki_validation.specs.Adding.{AddsRoutersHere}
+use Rattle.rpki_validation.specs.Held.{IsSaidHere}
+use Rattle.rpki_validation.specs.Holding.{IsPeriodUnder, SaysRouterBy, in_period, values}
+use Rattle.rpki_validation.specs.Noting.{AddsOnly}
+use Rattle.rpki_validation.specs.Rejecting.{IsChildHere}
+use Rattle.rpki_validation.proofs.HeldLaws.{values-push}
+use Rattle.rpki_validation.proofs.HereLaws.{router-said, where-always}
+use Rattle.rpki_validation.proofs.NotingLaws.{adds-nothing, adds-one}
 use Rattle.rpki_validation.proofs.AddingLaws.{sisters-one}
+use Rattle.rpki_validation.proofs.HereLaws.{authority-counts, authority-said, may-issue, no-authority, no-router}
+use Rattle.rpki_validation.proofs.HereLaws.{router-counts, unread-cert, wrong-constraints}
+use Rattle.rpki_validation.proofs.NotingLaws.{adds-from}
 use Rattle.rpki_validation.proofs.HereLaws.{below-found, memory-here, no-below, no-routers, other-below, other-routers}
 use Rattle.rpki_validation.proofs.HereLaws.{routers-found, told-authority, told-router, tried-memory, unread-below}
 use Rattle.rpki_validation.proofs.HereLaws.{unread-routers}
@@ -9,7 +26,7 @@ returns-in_err-cert-clause-routers g c =
     let p = g.P.Provider in
     tried-memory _ _ _ c.from_residual.ensures
     (unread-routers p.rsa_of p.ecdsa_of p.sha1_of p.sha256_of c.args.list.now c.args.octets _ _
-    c.args.routers.now.items c.in_err-cert.ensures)
+    (values c.args.routers.now.items) c.in_err-cert.ensures)
 
 pub returns-in_err-cert-clause-below : goal.returns-in_err-cert-clause-below
 returns-in_err-cert-clause-below g c =
@@ -24,7 +41,7 @@ returns-in_err-is_authority-clause-routers g c =
     tried-memory _ _ _ c.from_residual-in_err-is_authority.ensures
     (memory-here _ _ (other-routers p.rsa_of p.ecdsa_of p.sha1_of p.sha256_of c.args.list.now c.args.octets
     c.in_ok-cert.cert c.in_ok-cert.ensures (λ strict. (c.in_err-is_authority.ensures.err strict).0)
-    c.args.routers.now.items))
+    (values c.args.routers.now.items)))
 
 pub returns-in_err-is_authority-clause-below : goal.returns-in_err-is_authority-clause-below
 returns-in_err-is_authority-clause-below g c =
@@ -40,7 +57,7 @@ returns-then-branch-clause-routers g c =
     other-routers p.rsa_of p.ecdsa_of p.sha1_of p.sha256_of c.args.list.now c.args.octets c.in_ok-cert.cert
     c.in_ok-cert.ensures
     (told-authority c.in_ok-cert.cert c.in_ok-is_authority.field-0 c.if-branch.true c.in_ok-is_authority.ensures.ok)
-    c.args.routers.now.items
+    (values c.args.routers.now.items)
 
 pub returns-then-branch-clause-below : goal.returns-then-branch-clause-below
 returns-then-branch-clause-below g c =
@@ -63,10 +80,47 @@ returns-then-branch-clause-sisters g c =
 pub returns-clause-routers : goal.returns-clause-routers
 returns-clause-routers g c =
     let p = g.P.Provider in
-    rw c.in_ok-push.ensures.items
-    (routers-found p.rsa_of p.ecdsa_of p.sha1_of p.sha256_of c.args.list.now c.args.octets c.in_ok-cert.cert
-    c.in_ok-cert.ensures c.in_ok-router.router c.in_ok-router.ensures.cert c.in_ok-router.ensures.exactly
-    c.args.routers.now.items)
+    let old = c.args.routers.now.items in
+    let found = routers-found p.rsa_of p.ecdsa_of p.sha1_of p.sha256_of c.args.list.now c.args.octets c.in_ok-cert.cert
+    c.in_ok-cert.ensures c.in_ok-value.value c.in_ok-value.ensures.cert c.in_ok-value.ensures.exactly (values old) in
+    subst
+    (λ (l : List Holder). AddsRoutersHere p.rsa_of p.ecdsa_of p.sha1_of p.sha256_of c.args.list.now c.args.octets
+    (values old) l)
+    (sym (ap (λ (l : List (Payload Holder)). values l) c.in_ok-push.ensures.items
+    ∙ values-push c.period_of-period.result old (c.in_ok-value.value ∷ []))) found
+
+pub returns-clause-held : goal.returns-clause-held
+returns-clause-held g c =
+    let p = g.P.Provider in
+    let old = c.args.routers.now.items in
+    let value = c.in_ok-value.value in
+    let Said = IsSaidHere p.rsa_of p.ecdsa_of p.sha1_of p.sha256_of c.args.list.now SaysRouterBy c.args.octets in
+    subst (λ (l : List (Payload Holder)). AddsOnly Said old l) (sym c.in_ok-push.ensures.items)
+    (adds-one Said old (in_period c.period_of-period.result value) (
+      value.cert,
+      (
+        router-said p.rsa_of p.ecdsa_of p.sha1_of p.sha256_of c.args.list.now c.args.octets c.in_ok-cert.cert
+            c.in_ok-cert.ensures value c.in_ok-value.ensures.cert c.in_ok-value.ensures.exactly,
+        refl,
+      ),
+      subst (λ (x : Holder). IsPeriodUnder (CountsAt c.args.list.now) x.cert c.period_of-period.result)
+          c.value.view_is c.period_of-period.ensures,
+    ))
+
+pub returns-in_err-cert-clause-held : goal.returns-in_err-cert-clause-held
+returns-in_err-cert-clause-held g c = where-always _ _ (adds-nothing _ c.args.routers.now.items)
+
+pub returns-in_err-is_authority-clause-held : goal.returns-in_err-is_authority-clause-held
+returns-in_err-is_authority-clause-held g c = where-always _ _ (adds-nothing _ c.args.routers.now.items)
+
+pub returns-in_err-authority-clause-held : goal.returns-in_err-authority-clause-held
+returns-in_err-authority-clause-held g c = where-always _ _ (adds-nothing _ c.args.routers.now.items)
+
+pub returns-in_err-value-clause-held : goal.returns-in_err-value-clause-held
+returns-in_err-value-clause-held g c = where-always _ _ (adds-nothing _ c.args.routers.now.items)
+
+pub returns-then-branch-clause-held : goal.returns-then-branch-clause-held
+returns-then-branch-clause-held g c = adds-nothing _ c.args.routers.now.items
 
 pub returns-clause-below : goal.returns-clause-below
 returns-clause-below g c =
@@ -83,7 +137,7 @@ returns-in_err-authority-clause-routers g c =
     (memory-here _ _ (other-routers p.rsa_of p.ecdsa_of p.sha1_of p.sha256_of c.args.list.now c.args.octets
     c.in_ok-cert.cert c.in_ok-cert.ensures
     (told-authority c.in_ok-cert.cert c.in_ok-is_authority.field-0 c.if-branch.true c.in_ok-is_authority.ensures.ok)
-    c.args.routers.now.items))
+    (values c.args.routers.now.items)))
 
 pub returns-in_err-authority-clause-below : goal.returns-in_err-authority-clause-below
 returns-in_err-authority-clause-below g c =
@@ -92,18 +146,80 @@ returns-in_err-authority-clause-below g c =
     (no-below p.rsa_of p.ecdsa_of p.sha1_of p.sha256_of c.args.list.now c.args.octets c.in_ok-cert.cert
     c.in_ok-cert.ensures _ c.args.next.now c.in_err-authority.ensures.err)
 
-pub returns-in_err-router-clause-routers : goal.returns-in_err-router-clause-routers
-returns-in_err-router-clause-routers g c =
+pub returns-in_err-value-clause-routers : goal.returns-in_err-value-clause-routers
+returns-in_err-value-clause-routers g c =
     let p = g.P.Provider in
-    tried-memory _ _ _ c.from_residual-in_err-router.ensures
+    tried-memory _ _ _ c.from_residual-in_err-value.ensures
     (no-routers p.rsa_of p.ecdsa_of p.sha1_of p.sha256_of c.args.list.now c.args.octets c.in_ok-cert.cert
-    c.in_ok-cert.ensures _ _ c.args.routers.now.items c.in_err-router.ensures.exactly)
+    c.in_ok-cert.ensures _ _ (values c.args.routers.now.items) c.in_err-value.ensures.exactly)
 
-pub returns-in_err-router-clause-below : goal.returns-in_err-router-clause-below
-returns-in_err-router-clause-below g c =
+pub returns-in_err-value-clause-below : goal.returns-in_err-value-clause-below
+returns-in_err-value-clause-below g c =
     let p = g.P.Provider in
-    tried-memory _ _ _ c.from_residual-in_err-router.ensures
+    tried-memory _ _ _ c.from_residual-in_err-value.ensures
     (memory-here _ _ (other-below p.rsa_of p.ecdsa_of p.sha1_of p.sha256_of c.args.list.now c.args.octets
     c.in_ok-cert.cert c.in_ok-cert.ensures
     (told-router c.in_ok-cert.cert c.in_ok-is_authority.field-0 c.if-branch.false c.in_ok-is_authority.ensures.ok)
     c.args.next.now))
+
+-- ---- the authorities that are added
+
+pub returns-then-branch-clause-children : goal.returns-then-branch-clause-children
+returns-then-branch-clause-children g c =
+    let p = g.P.Provider in
+    adds-from (IsChildHere p.rsa_of p.ecdsa_of p.sha1_of p.sha256_of c.args.list.now c.args.octets)
+    c.args.next.now.level.items c.add.new.self.level.items c.in_ok-authority.authority c.in_ok-add.ensures.level (
+      authority-said p.rsa_of p.ecdsa_of p.sha1_of p.sha256_of c.args.list.now c.args.octets c.in_ok-cert.cert
+          c.in_ok-cert.ensures c.in_ok-authority.authority c.in_ok-authority.ensures.cert c.in_ok-authority.ensures.ok,
+      subst (λ (x : CertParts). IsPeriodUnder (CountsAt c.args.list.now) x c.in_ok-authority.authority.period)
+          (sym c.in_ok-authority.ensures.cert) c.in_ok-authority.ensures.holds,
+    )
+
+-- ---- whether it counts
+
+pub returns-in_err-cert-clause-why : goal.returns-in_err-cert-clause-why
+returns-in_err-cert-clause-why g c =
+    let p = g.P.Provider in
+    tried-fault _ _ _ _ c.from_residual.ensures
+    (unread-cert p.rsa_of p.ecdsa_of p.sha1_of p.sha256_of c.args.list.now c.args.octets _ c.in_err-cert.ensures)
+
+pub returns-in_err-is_authority-clause-why : goal.returns-in_err-is_authority-clause-why
+returns-in_err-is_authority-clause-why g c =
+    let p = g.P.Provider in
+    tried-fault _ _ _ _ c.from_residual-in_err-is_authority.ensures
+    (wrong-constraints p.rsa_of p.ecdsa_of p.sha1_of p.sha256_of c.args.list.now c.args.octets c.in_ok-cert.cert
+    c.in_ok-cert.ensures _ (λ strict. (c.in_err-is_authority.ensures.err strict).0)
+    (λ strict. (c.in_err-is_authority.ensures.err strict).1) c.in_err-is_authority.ensures.reason)
+
+pub returns-in_err-authority-clause-why : goal.returns-in_err-authority-clause-why
+returns-in_err-authority-clause-why g c =
+    let p = g.P.Provider in
+    tried-fault _ _ _ _ c.from_residual-in_err-authority.ensures
+    (no-authority p.rsa_of p.ecdsa_of p.sha1_of p.sha256_of c.args.list.now c.args.octets c.in_ok-cert.cert
+    c.in_ok-cert.ensures _
+    (told-authority c.in_ok-cert.cert c.in_ok-is_authority.field-0 c.if-branch.true c.in_ok-is_authority.ensures.ok)
+    c.in_err-authority.ensures.err)
+
+pub returns-in_err-value-clause-why : goal.returns-in_err-value-clause-why
+returns-in_err-value-clause-why g c =
+    let p = g.P.Provider in
+    tried-fault _ _ _ _ c.from_residual-in_err-value.ensures
+    (no-router p.rsa_of p.ecdsa_of p.sha1_of p.sha256_of c.args.list.now c.args.octets c.in_ok-cert.cert
+    c.in_ok-cert.ensures _
+    (told-router c.in_ok-cert.cert c.in_ok-is_authority.field-0 c.if-branch.false c.in_ok-is_authority.ensures.ok)
+    c.in_err-value.ensures.exactly)
+
+pub returns-then-branch-clause-why : goal.returns-then-branch-clause-why
+returns-then-branch-clause-why g c =
+    let p = g.P.Provider in
+    authority-counts p.rsa_of p.ecdsa_of p.sha1_of p.sha256_of c.args.list.now c.args.octets c.in_ok-cert.cert
+    c.in_ok-cert.ensures c.in_ok-authority.authority c.in_ok-authority.ensures.cert c.in_ok-authority.ensures.ok
+    (may-issue p.rsa_of p.ecdsa_of p.sha1_of p.sha256_of c.args.list.now c.in_ok-authority.authority
+    c.in_ok-add.ensures.verified c.in_ok-authority.ensures.period c.in_ok-authority.ensures.depth
+    c.in_ok-authority.ensures.terms)
+
+pub returns-clause-why : goal.returns-clause-why
+returns-clause-why g c =
+    let p = g.P.Provider in
+    router-counts p.rsa_of p.ecdsa_of p.sha1_of p.sha256_of c.args.list.now c.args.octets c.in_ok-cert.cert
+    c.in_ok-cert.ensures c.in_ok-value.value c.in_ok-value.ensures.cert c.in_ok-value.ensures.exactly

@@ -2,7 +2,10 @@ use Rattle.std.proofs.Common.{◌≡◌, length}
 use Rattle.std.specs.Vec.Iter.{into_iter_items, into_iter_len}
 use Rattle.rpki_validation.specs.Adding.{found}
 use Rattle.rpki_validation.specs.Next.{AreSistersBelow}
+use Rattle.rpki_validation.specs.Rejecting.{IsChildOf, IsNotedHere, IsRightHere}
 use Rattle.rpki_validation.proofs.AddingLaws.{AreLeft}
+use Rattle.rpki_validation.proofs.HeldLaws.{HeldUpTo}
+use Rattle.rpki_validation.proofs.NotingLaws.{AddsUpTo, NotesUpTo}
 use Rattle.rpki_validation.proofs.visit.add_files.Given as goal
 
 -- of what all files say, what those say that are left is still to be added
@@ -16,4 +19,12 @@ invariant-octets g l =
       sisters : AreSistersBelow l.list.issuer l.list.at l.fn.next.level.items l.next.level.items;
       said : AreLeft p.rsa_of p.ecdsa_of p.sha1_of p.sha256_of l.list l.fn.files l.rest l.fn.octets.items
           (into_iter_items l.one-iterator) (found l.fn.next l.fn.outcome) (found l.next l.outcome);
+      children : AddsUpTo (IsChildOf p.rsa_of p.ecdsa_of p.sha1_of p.sha256_of l.list) l.fn.files l.rest
+          l.fn.octets.items (into_iter_items l.one-iterator) l.fn.next.level.items l.next.level.items;
+      held : HeldUpTo p.rsa_of p.ecdsa_of p.sha1_of p.sha256_of l.list l.fn.files l.fn.octets.items l.rest
+          (into_iter_items l.one-iterator) l.fn.outcome l.outcome;
+      rejected : NotesUpTo (IsRightHere p.rsa_of p.ecdsa_of p.sha1_of p.sha256_of l.list)
+          (IsNotedHere p.rsa_of p.ecdsa_of p.sha1_of p.sha256_of l.list l.folder) l.fn.files l.rest
+          l.fn.octets.items (into_iter_items l.one-iterator) l.fn.outcome.rejections.items
+          l.outcome.rejections.items;
     }

@@ -2,7 +2,8 @@ use Rattle.std.proofs.Common.{List, ℕ, suc, ◌+◌, ◌≡◌, ◌∷◌, ◌
 use Rattle.std.proofs.Common.{length-drop, drop-cons}
 use Rattle.std.proofs.Common.{◌<◌, get_or}
 use Rattle.rpki_valid.specs.Verified.{Authority}
-use Rattle.rpki_validation.proofs.WalkLaws.{IsUpTo, all-said, all-taken, up-to-start, up-to-step}
+use Rattle.rpki_validation.proofs.WalkLaws.{IsUpTo, all-children, all-held, all-rejected, all-said, all-taken}
+use Rattle.rpki_validation.proofs.WalkLaws.{up-to-start, up-to-step}
 use Rattle.rpki_validation.proofs.walk.visit_all.Goals as goal
 
 pub level-init : goal.level-init
@@ -34,7 +35,8 @@ level-preserved g c =
     level c.args.outcome.now next.met next.level.items a (drop (k + 1) level) o c.visit.new.outcome c.level.next.met
     c.visit.new.next.met c.level.next.level.items c.visit.new.next.level.items before c.in_ok-visit.ensures.origins
     c.in_ok-visit.ensures.providers c.in_ok-visit.ensures.routers c.in_ok-visit.ensures.taking
-    c.in_ok-visit.ensures.sisters
+    c.in_ok-visit.ensures.sisters c.in_ok-visit.ensures.children c.in_ok-visit.ensures.held
+    c.in_ok-visit.ensures.rejected
 
 pub returns-clause-said : goal.returns-clause-said
 returns-clause-said g c =
@@ -50,6 +52,33 @@ returns-clause-taking g c =
     let level = c.args.level.now in
     let k = c.level.issuer-index in
     all-taken g.P.Provider.rsa_of g.P.Provider.ecdsa_of g.P.Provider.sha1_of g.P.Provider.sha256_of
+    (g.S.Snapshot.holds c.args.snapshot.now) c.args.at level c.args.outcome.now c.args.next.now.met
+    c.args.next.now.level.items (drop k level) c.level.outcome c.level.next.met c.level.next.level.items
+    (length-drop k level ∙ omega (arith, c.level-test.false)) c.level.invariant
+
+pub returns-clause-children : goal.returns-clause-children
+returns-clause-children g c =
+    let level = c.args.level.now in
+    let k = c.level.issuer-index in
+    all-children g.P.Provider.rsa_of g.P.Provider.ecdsa_of g.P.Provider.sha1_of g.P.Provider.sha256_of
+    (g.S.Snapshot.holds c.args.snapshot.now) c.args.at level c.args.outcome.now c.args.next.now.met
+    c.args.next.now.level.items (drop k level) c.level.outcome c.level.next.met c.level.next.level.items
+    (length-drop k level ∙ omega (arith, c.level-test.false)) c.level.invariant
+
+pub returns-clause-rejected : goal.returns-clause-rejected
+returns-clause-rejected g c =
+    let level = c.args.level.now in
+    let k = c.level.issuer-index in
+    all-rejected g.P.Provider.rsa_of g.P.Provider.ecdsa_of g.P.Provider.sha1_of g.P.Provider.sha256_of
+    (g.S.Snapshot.holds c.args.snapshot.now) c.args.at level c.args.outcome.now c.args.next.now.met
+    c.args.next.now.level.items (drop k level) c.level.outcome c.level.next.met c.level.next.level.items
+    (length-drop k level ∙ omega (arith, c.level-test.false)) c.level.invariant
+
+pub returns-clause-held : goal.returns-clause-held
+returns-clause-held g c =
+    let level = c.args.level.now in
+    let k = c.level.issuer-index in
+    all-held g.P.Provider.rsa_of g.P.Provider.ecdsa_of g.P.Provider.sha1_of g.P.Provider.sha256_of
     (g.S.Snapshot.holds c.args.snapshot.now) c.args.at level c.args.outcome.now c.args.next.now.met
     c.args.next.now.level.items (drop k level) c.level.outcome c.level.next.met c.level.next.level.items
     (length-drop k level ∙ omega (arith, c.level-test.false)) c.level.invariant

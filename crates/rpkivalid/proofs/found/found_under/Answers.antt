@@ -1,33 +1,54 @@
 use Rattle.std.proofs.Common.{◌∙◌, List, subst, sym}
+use Rattle.std.specs.List.{Contains, flat_map}
+use Rattle.rpki_contents.specs.Aspa.{AspaParts}
 use Rattle.rpki_contents.specs.declared.route_origin.RouteOrigin.{RouteOrigin}
+use Rattle.rpki_objects.specs.TypedObject.{TypedParts}
+use Rattle.rpki_payloads.specs.RouterKey.{key_cmp}
+use Rattle.rpki_payloads.specs.Sets.{IsSetOf}
+use Rattle.rpki_payloads.specs.Vap.{pair_cmp, pairs_of}
 use Rattle.rpki_payloads.specs.Vrp.{AreOrigins}
-use Rattle.rpkivalid.specs.Found.{basis_with}
+use Rattle.rpki_valid.specs.Verified.{Holder}
+use Rattle.rpki_validation.specs.declared.payload.Payload.{Payload}
+use Rattle.rpki_validation.specs.Holding.{values}
+use Rattle.rpkivalid.specs.Found.{basis_with, router_keys}
 use Rattle.rpkivalid.specs.LocatorsView.{named_of}
-use Rattle.rpkivalid.proofs.FoundLaws.{found-valid, found-none}
+use Rattle.rpkivalid.proofs.FoundLaws.{flat-values, found-valid, found-none}
 use Rattle.rpkivalid.proofs.found.found_under.Goals as goal
 
 pub returns-in_ok-payloads-in-Ok : goal.returns-in_ok-payloads-in-Ok
 returns-in_ok-payloads-in-Ok g c =
     let payloads = c.in_ok-payloads-in-Ok.payloads in
-    let named = c.in_ok-payloads-in-Ok.ensures.name ∙ c.as_str-in-Ok.ensures.value ∙ sym c.as_str.ensures.value in
+    let told = c.in_ok-payloads-in-Ok.ensures in
+    let named = told.name ∙ c.as_str-in-Ok.ensures.value ∙ sym c.as_str.ensures.value in
     found-valid (g.S.Sources.holds c.args.sources.now) c.args.folder.now
     (basis_with g.P.Provider.rsa_of g.P.Provider.ecdsa_of g.P.Provider.sha1_of g.P.Provider.sha256_of
     c.args.provider.now c.args.strictness c.args.at c.args.depth)
     (named_of c.args.named.now) payloads _ _ c.as_str.ensures.value c.as_slice-uris.ensures.value named
-    c.in-Ok.outcome.origins.items
-    (subst (λ (o : List RouteOrigin). AreOrigins o payloads.vrps) c.as_slice-in-Ok.ensures.value
-    c.in_ok-payloads-in-Ok.ensures.vrps)
+    (values c.in-Ok.outcome.origins.items) (values c.in-Ok.outcome.providers.items)
+    (values c.in-Ok.outcome.routers.items)
+    (subst (λ (o : List (Payload RouteOrigin)). AreOrigins (values o) payloads.vrps) c.as_slice-in-Ok.ensures.value
+    told.vrps)
+    (subst (λ w. IsSetOf pair_cmp (Contains w) payloads.pairs)
+    (flat-values (λ x. pairs_of x.content) c.in-Ok.outcome.providers.items)
+    (subst (λ (o : List (Payload (TypedParts AspaParts))). IsSetOf pair_cmp (Contains (flat_map (λ p.
+    pairs_of p.value.content) o)) payloads.pairs) c.as_slice-in-Ok-2.ensures.value told.pairs))
+    (subst (λ w. IsSetOf key_cmp (Contains w) payloads.keys)
+    (flat-values (router_keys (g.P.Provider.sha1_of c.args.provider.now)) c.in-Ok.outcome.routers.items)
+    (subst (λ (o : List (Payload Holder)). IsSetOf key_cmp (Contains (flat_map (λ p. router_keys
+    (g.P.Provider.sha1_of c.args.provider.now) p.value) o)) payloads.keys) c.as_slice-in-Ok-3.ensures.value told.keys))
     (λ published k. (c.in-Ok.ensures published k).origins)
+    (λ published k. (c.in-Ok.ensures published k).providers)
+    (λ published k. (c.in-Ok.ensures published k).routers)
     (λ published k. let v = c.in-Ok.ensures published k in (v.anchor, v.first))
 
 pub returns-in_ok-payloads-in-Err-Rejected : goal.returns-in_ok-payloads-in-Err-Rejected
 returns-in_ok-payloads-in-Err-Rejected g c =
     let payloads = c.in_ok-payloads-in-Err-Rejected.payloads in
-    let named = c.in_ok-payloads-in-Err-Rejected.ensures.name ∙ c.as_str-in-Err-Rejected-2.ensures.value
-    ∙ sym c.as_str.ensures.value in
+    let told = c.in_ok-payloads-in-Err-Rejected.ensures in
+    let named = told.name ∙ c.as_str-in-Err-Rejected-2.ensures.value ∙ sym c.as_str.ensures.value in
     found-none (g.S.Sources.holds c.args.sources.now) c.args.folder.now
     (basis_with g.P.Provider.rsa_of g.P.Provider.ecdsa_of g.P.Provider.sha1_of g.P.Provider.sha256_of
     c.args.provider.now c.args.strictness c.args.at c.args.depth)
-    (named_of c.args.named.now) payloads _ _ c.as_str.ensures.value c.as_slice-uris.ensures.value named
-    c.in_ok-payloads-in-Err-Rejected.ensures.vrps
+    (named_of c.args.named.now) payloads _ _ c.as_str.ensures.value c.as_slice-uris.ensures.value named told.vrps
+    told.pairs told.keys
     (λ published k. let h = rw c.in-Err-Rejected.field-0-is at c.in-Err-Rejected.ensures published k in h.0)

@@ -21,5 +21,7 @@ returns c =
     let form = c.in_ok-arg-6.ensures.shape c.valued-3.ensures.local ∙ ap₂ with_rule moment c.valued-3.ensures.rule in
     let output = c.in_ok-arg-7.ensures.shape c.valued-4.ensures.local ∙ ap₂ with_rule form c.valued-4.ensures.rule in
     let depth = c.in_ok-arg-8.ensures.shape c.valued-5.ensures.local ∙ ap₂ with_rule output c.valued-5.ensures.rule in
-    IfOk-weaker c.arg-9.result _ _ (λ r h. h.shape c.repeated.ensures.local
-    ∙ ap₂ with_rule depth c.repeated.ensures.rule) c.arg-9.ensures
+    let exceptions = c.in_ok-arg-9.ensures.shape c.valued-6.ensures.local
+    ∙ ap₂ with_rule depth c.valued-6.ensures.rule in
+    IfOk-weaker c.arg-10.result _ _ (λ r h. h.shape c.repeated.ensures.local
+    ∙ ap₂ with_rule exceptions c.repeated.ensures.rule) c.arg-10.ensures

@@ -1,5 +1,6 @@
 use Rattle.std.proofs.Common.{map}
 use Rattle.rpkivalid.specs.LocatorsView.{named_of}
+use Rattle.rpkivalid.proofs.RunLaws.{shown-by}
 use Rattle.rpkivalid.proofs.run.answer_at.Goals as goal
 
 pub returns : goal.returns
@@ -13,6 +14,8 @@ returns g c = record {
   found = c.in_ok-found.found.payloads.items;
   anchored = c.in_ok-found.found.have_anchors;
   each = rw c.as_slice.ensures.value at c.in_ok-found.ensures;
+  shown = c.in_ok-shown.shown.items;
+  excepted = shown-by _ _ _ _ _ c.in_ok-local.ensures c.in_ok-shown.ensures;
   written = rw c.as_slice-2.ensures.value at c.in_ok-text.ensures;
   read = c.is_read.result;
   known = c.is_read.ensures;

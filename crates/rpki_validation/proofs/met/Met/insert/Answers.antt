@@ -9,14 +9,14 @@ use Rattle.rpki_validation.proofs.met.Met.insert.Goals as goal
 abbrev numbers : Vec ℕ Global → List ℕ
 numbers v = v.items
 
-pub returns : goal.returns
-returns g c =
+pub returns-clause-inserted : goal.returns-clause-inserted
+returns-clause-inserted g c =
     let new = marks_of numbers c.insert.new.self in
     let is_new = c.in_ok-is_new.is_new in
     let k = c.in_ok-mark.mark in
     subst (λ (old : List Mark). InsertsMarkOf old new (holder_of c.args.authority.now) is_new) c.self.view_is (
       mark_in numbers k,
-      c.in_ok-mark.ensures,
+      c.in_ok-mark.ensures.mark,
       inserts numbers c.self.inside.marks c.insert.new.self k is_new
           c.in_ok-is_new.ensures.keys c.in_ok-is_new.ensures.unchanged,
     )

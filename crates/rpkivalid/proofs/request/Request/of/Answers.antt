@@ -54,7 +54,8 @@ returns c =
     let moment = c.get_str-3.ensures ∙ first_value-rows (found_of c.args.matches.now) (codes "at") in
     let output = c.get_str-4.ensures ∙ first_value-rows (found_of c.args.matches.now) (codes "output") in
     let depth = c.get_str-5.ensures ∙ first_value-rows (found_of c.args.matches.now) (codes "depth") in
-    of-all rows _ _ _ _ c.in_ok-form.form c.in_ok-cache.cache.now
+    let exceptions = c.get_str-6.ensures ∙ first_value-rows (found_of c.args.matches.now) (codes "exceptions") in
+    of-all rows _ _ _ _ _ c.in_ok-form.form c.in_ok-cache.cache.now
     (map (λ file. file.now) c.in_ok-locators.locators.now)
-    (c.strictness_of.ensures ∙ ap strictness_of c.is_given.ensures) moment output depth
+    (c.strictness_of.ensures ∙ ap strictness_of c.is_given.ensures) moment output depth exceptions
     (sym form ∙ named) (rw cache at folder) (rw files at all)

@@ -1,0 +1,13 @@
+use Rattle.std.proofs.Common.{◌∙◌}
+use Rattle.rpki_payloads.proofs.ExceptionLaws.{is-without, kept-set, left-set}
+use Rattle.rpki_payloads.proofs.exceptions.Exceptions.without.Goals as goal
+
+pub returns : goal.returns
+returns c =
+    is-without c.args.self.now c.args.one.now c.new.result _ c.sort_vrps.new.vrps.items c.in_ok-pairs.pairs.items
+    c.sort_keys.new.keys.items c.new.ensures c.in_ok-name.ensures
+    (kept-set _ _ _ _ c.in_ok-vrps.vrps.items c.sort_vrps.new.vrps.items c.as_slice.ensures.value c.vrps.ensures
+    c.in_ok-vrps.ensures c.sort_vrps.ensures)
+    (c.in_ok-pairs.ensures ∙ c.pairs.ensures)
+    (left-set _ _ _ _ c.in_ok-keys.keys.items c.sort_keys.new.keys.items c.as_slice-2.ensures.value c.keys.ensures
+    c.in_ok-keys.ensures c.sort_keys.ensures)

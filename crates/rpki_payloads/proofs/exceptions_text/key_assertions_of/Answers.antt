@@ -1,0 +1,11 @@
+use Rattle.serde_json.specs.View.{view}
+use Rattle.rpki_payloads.specs.ExceptionsText.{IsKeyAssertion}
+use Rattle.rpki_payloads.proofs.ExceptionLaws.{each-next}
+use Rattle.rpki_payloads.proofs.exceptions_text.key_assertions_of.Goals as goal
+
+pub values-preserved : goal.values-preserved
+values-preserved c =
+    rw c.in_ok-push.ensures.items
+    (each-next (λ v. IsKeyAssertion (view v)) c.args.values.now c.values.all.items c.values.value-index
+    c.value-item.result _ c.values-test.true c.value-item.is c.values.invariant
+    (rw c.in-Some.is at c.in_ok-one.ensures))

@@ -1,8 +1,0 @@
-use Rattle.std.proofs.Common.{◌≡◌, ◌++◌, take}
-use Rattle.std.specs.Prelude.{codes}
-use Rattle.std.specs.List.{flat_map}
-use Rattle.rpki_payloads.specs.Lines.{openbgpd_line}
-use Rattle.rpki_payloads.proofs.lines.openbgpd_text.Given as goal
-
-abbrev pub invariant-vrps : goal.invariant-vrps
-invariant-vrps l = l.text.items ≡ codes "roa-set {\n" ++ flat_map openbgpd_line (take l.vrp-index l.vrps)

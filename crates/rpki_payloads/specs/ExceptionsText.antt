@@ -1,0 +1,147 @@
+-- Files of local exceptions (RFC 8416 3): an object of JSON, of which each member is said.
+use Rattle.std.specs.Prelude.{◌≡◌, ◌≤◌, ◌<◌, ◌+◌, ◌^◌, ℕ, suc, List, [], ◌∷◌, codes, length, Option, Some, None}
+use Rattle.std.specs.Prelude.{if◌then◌else◌, IfSome, IsSome, Ok, option_and_then}
+use Rattle.std.specs.Option.{unwrap_or, is_some}
+use Rattle.base64.specs.Engines.{url_safe_no_pad_indifferent}
+use Rattle.base64.specs.GeneralPurpose.{decode_of}
+use Rattle.serde_json.specs.Data.{Data, Members, no_members, member}
+use Rattle.serde_json.specs.Find.{as_array, as_number, as_object, as_str, as_u64, get}
+use Rattle.serde_json.specs.Read.{read as read_text}
+use Rattle.serde_json.specs.View.{items_of}
+use Rattle.rpki_resources.specs.declared.ip_text.Prefix.{Prefix}
+use Rattle.rpki_resources.specs.IpRead.{IsPrefixText, address_width}
+use Rattle.rpki_payloads.specs.declared.exceptions.Exceptions.{Exceptions}
+use Rattle.rpki_payloads.specs.declared.filters.PrefixFilter.{PrefixFilter}
+use Rattle.rpki_payloads.specs.declared.key_filters.KeyFilter.{KeyFilter}
+use Rattle.rpki_payloads.specs.declared.router_key.RouterKey.{RouterKey}
+use Rattle.rpki_payloads.specs.declared.vrp.Vrp.{Vrp}
+use Rattle.rpki_payloads.specs.Exceptions.{AreEach}
+use Rattle.rpki_payloads.specs.Vrp.{prefix_of}
+
+-- ---- members
+
+-- how many members there are: each name has one, the last that the text has of it
+abbrev pub size : Members → ℕ
+size no_members = 0
+size (member name d ms) = suc (size ms)
+
+-- how many of these names are members
+abbrev pub count_in : List (List ℕ) → Data → ℕ
+count_in [] d = 0
+count_in (name ∷ names) d = (if is_some (get name d) then 1 else 0) + count_in names d
+
+-- an object, all of whose members have one of these names
+abbrev pub HasSize : ℕ → Data → Type 0
+HasSize count d = (ms : Members) × (as_object d ≡ Some ms) × (size ms ≡ count)
+
+abbrev pub HasOnly : List (List ℕ) → Data → Type 0
+HasOnly names d = HasSize (count_in names d) d
+
+-- the member of this name is R of x
+abbrev pub IsMember : {X : Type 0} → List ℕ → (Data → X → Type 0) → Data → X → Type 0
+IsMember name R d x = (m : Data) × (get name d ≡ Some m) × R m x
+
+-- the same, where there is one
+abbrev pub MayBeMember : {X : Type 0} → List ℕ → (Data → X → Type 0) → Data → Option X → Type 0
+MayBeMember name R d None = get name d ≡ None
+MayBeMember name R d (Some x) = IsMember name R d x
+
+-- the member of this name is an array, whose elements are R of these, one by one
+abbrev pub AreListed : {X : Type 0} → List ℕ → (Data → X → Type 0) → Data → List X → Type 0
+AreListed name R d xs =
+    (ds : List Data) × (option_and_then as_array (get name d) ≡ Some (items_of ds)) × AreEach R ds xs
+
+-- a comment, if there is one, is a text
+abbrev pub HasComment : Data → Type 0
+HasComment d = IfSome (get (codes "comment") d) (λ m. IsSome (as_str m))
+
+-- ---- values
+
+-- a number below 2^32
+abbrev pub IsNumberIn : Data → ℕ → Type 0
+IsNumberIn d n = (option_and_then as_u64 (as_number d) ≡ Some n) × (n < 2 ^ 32)
+
+-- the text of a prefix (RFC 8416 3.3.1, 3.4.1)
+abbrev pub IsPrefixIn : Data → Prefix → Type 0
+IsPrefixIn d p = (text : List ℕ) × (as_str d ≡ Some text) × IsPrefixText text p
+
+-- octets in base 64 (RFC 4648 5, without padding)
+abbrev pub AreOctetsIn : Data → List ℕ → Type 0
+AreOctetsIn d octets =
+    (text : List ℕ) × (as_str d ≡ Some text) × (decode_of url_safe_no_pad_indifferent text ≡ Ok octets)
+
+-- those of the identifier of a key, of which there are twenty (RFC 6487 4.8.2)
+abbrev pub IsIdentifierIn : Data → List ℕ → Type 0
+IsIdentifierIn d identifier = AreOctetsIn d identifier × (length identifier ≡ 20)
+
+-- ---- filters (3.3)
+
+pub record IsPrefixFilter (d : Data) (f : PrefixFilter) : Type 0 where
+  pub only : HasOnly (codes "prefix" ∷ codes "asn" ∷ codes "comment" ∷ []) d
+  pub prefix : MayBeMember (codes "prefix") IsPrefixIn d f.prefix
+  pub asn : MayBeMember (codes "asn") IsNumberIn d f.asn
+  pub some : f.prefix ≡ None → f.asn ≡ None → ⊥
+  pub comment : HasComment d
+
+pub record IsKeyFilter (d : Data) (f : KeyFilter) : Type 0 where
+  pub only : HasOnly (codes "asn" ∷ codes "SKI" ∷ codes "comment" ∷ []) d
+  pub asn : MayBeMember (codes "asn") IsNumberIn d f.asn
+  pub identifier : MayBeMember (codes "SKI") IsIdentifierIn d f.identifier
+  pub some : f.asn ≡ None → f.identifier ≡ None → ⊥
+  pub comment : HasComment d
+
+-- ---- assertions (3.4)
+
+-- the payload of a prefix: its maximum length is that of the prefix where it is left out, none below it, and none
+-- above the length of addresses
+pub record IsVrpWith (p : Prefix) (longest : Option ℕ) (asn : ℕ) (v : Vrp) : Type 0 where
+  pub prefix : prefix_of v ≡ p
+  pub most : v.max_length ≡ unwrap_or longest p.len
+  pub order : p.len ≤ v.max_length
+  pub fits : v.max_length ≤ address_width p.addr
+  pub asn_is : v.as_id ≡ asn
+
+pub record IsPrefixAssertion (d : Data) (v : Vrp) : Type 0 where
+  pub only : HasOnly (codes "asn" ∷ codes "prefix" ∷ codes "maxPrefixLength" ∷ codes "comment" ∷ []) d
+  pub asn : ℕ
+  pub asn_there : IsMember (codes "asn") IsNumberIn d asn
+  pub prefix : Prefix
+  pub prefix_there : IsMember (codes "prefix") IsPrefixIn d prefix
+  pub longest : Option ℕ
+  pub longest_there : MayBeMember (codes "maxPrefixLength") IsNumberIn d longest
+  pub payload : IsVrpWith prefix longest asn v
+  pub comment : HasComment d
+
+pub record IsKeyAssertion (d : Data) (k : RouterKey) : Type 0 where
+  pub only : HasOnly (codes "asn" ∷ codes "SKI" ∷ codes "routerPublicKey" ∷ codes "comment" ∷ []) d
+  pub asn : IsMember (codes "asn") IsNumberIn d k.first
+  pub one : k.last ≡ k.first
+  pub identifier : IsMember (codes "SKI") IsIdentifierIn d k.identifier
+  pub info : IsMember (codes "routerPublicKey") AreOctetsIn d k.info
+  pub comment : HasComment d
+
+-- ---- the whole (3.2)
+
+pub record AreFilters (d : Data) (prefixes : List PrefixFilter) (keys : List KeyFilter) : Type 0 where
+  pub only : HasOnly (codes "prefixFilters" ∷ codes "bgpsecFilters" ∷ []) d
+  pub of_prefixes : AreListed (codes "prefixFilters") IsPrefixFilter d prefixes
+  pub of_keys : AreListed (codes "bgpsecFilters") IsKeyFilter d keys
+
+pub record AreAssertions (d : Data) (vrps : List Vrp) (keys : List RouterKey) : Type 0 where
+  pub only : HasOnly (codes "prefixAssertions" ∷ codes "bgpsecAssertions" ∷ []) d
+  pub of_prefixes : AreListed (codes "prefixAssertions") IsPrefixAssertion d vrps
+  pub of_keys : AreListed (codes "bgpsecAssertions") IsKeyAssertion d keys
+
+pub record AreExceptionsIn (d : Data) (e : Exceptions) : Type 0 where
+  pub only : HasOnly (codes "slurmVersion" ∷ codes "validationOutputFilters" ∷ codes "locallyAddedAssertions" ∷ []) d
+  pub version : option_and_then as_u64 (option_and_then as_number (get (codes "slurmVersion") d)) ≡ Some 1
+  pub filters : Data
+  pub filters_there : get (codes "validationOutputFilters") d ≡ Some filters
+  pub filters_are : AreFilters filters e.prefix_filters.items e.key_filters.items
+  pub assertions : Data
+  pub assertions_there : get (codes "locallyAddedAssertions") d ≡ Some assertions
+  pub assertions_are : AreAssertions assertions e.vrps.items e.keys.items
+
+-- the octets are the text of an object that says these exceptions
+abbrev pub AreExceptions : List ℕ → Exceptions → Type 0
+AreExceptions octets e = (d : Data) × (read_text octets ≡ Some d) × AreExceptionsIn d e
